@@ -1,0 +1,70 @@
+use Rattle.std.proofs.Common.{◌≡◌, ℕ, ◌<◌, ◌≤◌, inl, inr, true, false, List, length, nat_le, arith, ◌==◌, if◌then◌else◌, Some, None}
+use Rattle.std.specs.Prelude.{Option, IfSome}
+use Rattle.std.proofs.lemmas.Bool.Decides.{nat_tests}
+use Rattle.std.proofs.lemmas.Bool.{cases_eq}
+use Rattle.label_lattice.specs.declared.pairings.Pair.{Pair}
+use Rattle.label_lattice.specs.Label.{LabelValue, level, IsStored}
+use Rattle.label_lattice.specs.Placed.{placed, with_level}
+use Rattle.label_lattice.proofs.LabelLemmas.{bool_cases}
+use Rattle.label_lattice.proofs.PlacedLemmas.{placed-here, placed-other, placed-IsRising, placed-DiffersFrom, eq_false}
+use Rattle.std.proofs.Common.{eq-eqb}
+use Rattle.label_lattice.proofs.OrderLemmas.{le_means}
+
+pub le_true : (m n : ℕ) → m ≤ n → nat_le m n ≡ true
+le_true m n h = grind (arith, nat_tests)
+
+pub le_false : (m n : ℕ) → n < m → nat_le m n ≡ false
+le_false m n h = grind (arith, nat_tests)
+
+-- each category's level after one was given
+pub with_level-level : (l : LabelValue) (p : Pair) (c : ℕ) → IsStored l → level (with_level l p) c ≡ (if c == p.category.0 then p.level else level l c)
+with_level-level l p c stored =
+    elim (cases_eq c p.category.0) [
+      | inl same ↦ rw (eq-eqb c p.category.0 same, same) (placed-here l.default_level p l.exceptions stored.rising)
+      | inr other ↦ rw (eq_false c p.category.0 other) (placed-other l.default_level p l.exceptions c other)
+    ]
+
+-- and it can be stored where it has room
+pub with_level-IsStored : (l : LabelValue) (p : Pair) → IsStored l → length (with_level l p).exceptions ≤ 16 → IsStored (with_level l p)
+with_level-IsStored l p stored room = record {
+  owned_by_none = stored.owned_by_none;
+  few = room;
+  rising = placed-IsRising l.default_level p l.exceptions stored.rising;
+  differing = placed-DiffersFrom l.default_level p l.exceptions stored.differing;
+}
+
+-- what `with` answers
+pub with-levels : (l : LabelValue) (p : Pair) (r : Option LabelValue) → IsStored l
+    → r ≡ (if nat_le (length (with_level l p).exceptions) 16 then Some (with_level l p) else None)
+    → IfSome r (λ m. (c : ℕ) → level m c ≡ (if c == p.category.0 then p.level else level l c))
+with-levels l p r stored e =
+    rw e
+    (elim (bool_cases (nat_le (length (with_level l p).exceptions) 16)) [
+      | inl room ↦ rw room (λ c. with_level-level l p c stored)
+      | inr full ↦ rw full tt
+    ])
+
+-- the exceptions that were found can be stored
+pub stored_from_placed : (l : LabelValue) (p : Pair) (es : List Pair) → IsStored l
+    → Some es ≡ (if nat_le (length (placed l.default_level p l.exceptions)) 16 then Some (placed l.default_level p l.exceptions) else None)
+    → IsStored (record { default_level = l.default_level; exceptions = es })
+stored_from_placed l p es stored e =
+    elim (bool_cases (nat_le (length (placed l.default_level p l.exceptions)) 16)) [
+      | inl room ↦
+          let found : Some es ≡ Some (placed l.default_level p l.exceptions) = rw room at e in
+          let same : es ≡ placed l.default_level p l.exceptions = (cc) in
+          rw same (with_level-IsStored l p stored (le_means (length (placed l.default_level p l.exceptions)) 16 room))
+      | inr full ↦
+          let none : Some es ≡ None = rw full at e in
+          absurd (cc)
+    ]
+
+pub with-stored : (l : LabelValue) (p : Pair) (r : Option LabelValue) → IsStored l
+    → r ≡ (if nat_le (length (with_level l p).exceptions) 16 then Some (with_level l p) else None)
+    → IfSome r IsStored
+with-stored l p r stored e =
+    rw e
+    (elim (bool_cases (nat_le (length (with_level l p).exceptions) 16)) [
+      | inl room ↦ rw room (with_level-IsStored l p stored (le_means (length (with_level l p).exceptions) 16 room))
+      | inr full ↦ rw full tt
+    ])

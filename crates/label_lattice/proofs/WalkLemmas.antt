@@ -1,0 +1,121 @@
+use Rattle.std.proofs.Common.{◌≡◌, ◌≢◌, ℕ, zero, suc, ◌+◌, ◌<◌, ◌≤◌, inl, inr, Bool, IsTrue, List, [], ◌∷◌, length, drop, get_or, refl, ◌∙◌, subst, arith, max}
+use Rattle.std.proofs.lemmas.Bool.Decides.{nat_tests}
+use Rattle.std.proofs.lemmas.Bool.{cases_eq}
+use Rattle.base.specs.declared.levels.Level.{Level}
+use Rattle.label_lattice.specs.declared.pairings.Pair.{Pair}
+use Rattle.label_lattice.specs.Levels.{level_at, next_of, IsRising, IsAbove}
+use Rattle.label_lattice.specs.Walk.{Takes, HoldsEverywhere}
+
+-- what is above a number is above a smaller one
+pub IsAbove-lower : (ps : List Pair) (m n : ℕ) → m ≤ n → IsAbove n ps → IsAbove m ps
+IsAbove-lower [] m n h above = tt
+IsAbove-lower (p ∷ ps) m n h above = (omega (arith, above.0), IsAbove-lower ps m n h above.1)
+
+-- a category below all of the list has the default
+pub level_at-above : (default : Level) (ps : List Pair) (m : ℕ) → IsAbove m ps → level_at default ps m ≡ default
+level_at-above default [] m above = refl
+level_at-above default (p ∷ ps) m above =
+    let rest : level_at default ps m ≡ default = level_at-above default ps m above.1 in
+    let below : m < p.category.0 = above.0 in
+    grind (arith, nat_tests)
+
+-- the first pair's category has its level
+pub level_at-same : (default : Level) (p : Pair) (ps : List Pair) (m : ℕ) → p.category.0 ≡ m → level_at default (p ∷ ps) m ≡ p.level
+level_at-same default p ps m e = grind (arith, nat_tests)
+
+-- another category has the level of the rest
+pub level_at-other : (default : Level) (p : Pair) (ps : List Pair) (m : ℕ) → m ≢ p.category.0 → level_at default (p ∷ ps) m ≡ level_at default ps m
+level_at-other default p ps m ne = grind (arith, nat_tests)
+
+-- the first pair is taken
+pub Takes-head : (default : Level) (p : Pair) (ps : List Pair) (m : ℕ) → IsAbove p.category.0 ps → p.category.0 ≡ m → Takes default (p ∷ ps) m p.level ps
+Takes-head default p ps m above e = record {
+  here = level_at-same default p ps m e;
+  gone = level_at-above default ps m (subst (λ k. IsAbove k ps) e above);
+  others = λ k ne. level_at-other default p ps k (λ same. ne (same ∙ e));
+}
+
+-- nothing is taken
+pub Takes-none : (default : Level) (ps : List Pair) (m : ℕ) → IsAbove m ps → Takes default ps m default ps
+Takes-none default ps m above = record {
+  here = level_at-above default ps m above;
+  gone = level_at-above default ps m above;
+  others = λ k ne. refl;
+}
+
+-- the pair at a place is taken
+pub Takes-at : (default : Level) (ps : List Pair) (i m : ℕ) (p : Pair) → IsRising ps → i < length ps → (get_or ps i p).category.0 ≡ m
+    → Takes default (drop i ps) m (get_or ps i p).level (drop (suc i) ps)
+Takes-at default [] i m p rising within same = absurd (omega (arith, within))
+Takes-at default (q ∷ qs) zero m p rising within same = Takes-head default q qs m rising.0 same
+Takes-at default (q ∷ qs) (suc i) m p rising within same =
+    Takes-at default qs i m p rising.1 (omega (arith, within)) same
+
+-- a number that is not above the place's category and not it is below all that is left
+pub IsAbove-drop : (ps : List Pair) (i m : ℕ) (p : Pair) → IsRising ps → m ≤ next_of (drop i ps) → (i < length ps → (get_or ps i p).category.0 ≢ m)
+    → IsAbove m (drop i ps)
+IsAbove-drop [] zero m p rising least other = tt
+IsAbove-drop [] (suc i) m p rising least other = tt
+IsAbove-drop (q ∷ qs) zero m p rising least other =
+    let ne : q.category.0 ≢ m = other (omega arith) in
+    let low : m ≤ q.category.0 = least in
+    let lt : m < q.category.0 = omega arith in
+    (lt, IsAbove-lower qs m q.category.0 (omega arith) rising.0)
+IsAbove-drop (q ∷ qs) (suc i) m p rising least other =
+    IsAbove-drop qs i m p rising.1 least (λ h. other (omega arith))
+
+-- a number above each category of the list
+pub past : List Pair → ℕ
+past [] = 0
+past (p ∷ ps) = max (suc p.category.0) (past ps)
+
+-- from there on each category has the default
+pub level_at-past : (default : Level) (ps : List Pair) (k : ℕ) → past ps ≤ k → level_at default ps k ≡ default
+unfolding past
+level_at-past default [] k h = refl
+level_at-past default (p ∷ ps) k h =
+    level_at-other default p ps k (omega arith) ∙ level_at-past default ps k (omega arith)
+
+module _ (t : Level → Level → Level → Bool) (da db dc : Level) where
+  -- a step whose test holds leaves the question as it was
+  pub step_forth : (m : ℕ) (a a' b b' c c' : List Pair) (x y z : Level)
+      → Takes da a m x a' → Takes db b m y b' → Takes dc c m z c' → IsTrue (t x y z)
+      → HoldsEverywhere t da a' db b' dc c' → HoldsEverywhere t da a db b dc c
+  step_forth m a a' b b' c c' x y z ta tb tc holds rest k =
+      elim (cases_eq k m) [
+        | inl same ↦ rw (same, ta.here, tb.here, tc.here) holds
+        | inr other ↦ rw (ta.others k other, tb.others k other, tc.others k other) (rest k)
+      ]
+
+  pub step_back : (m : ℕ) (a a' b b' c c' : List Pair) (x y z : Level)
+      → Takes da a m x a' → Takes db b m y b' → Takes dc c m z c' → IsTrue (t da db dc)
+      → HoldsEverywhere t da a db b dc c → HoldsEverywhere t da a' db b' dc c'
+  step_back m a a' b b' c c' x y z ta tb tc rest_holds whole k =
+      elim (cases_eq k m) [
+        | inl same ↦ rw (same, ta.gone, tb.gone, tc.gone) rest_holds
+        | inr other ↦ rw (← ta.others k other, ← tb.others k other, ← tc.others k other) (whole k)
+      ]
+
+  -- where everything holds, so does the test of the defaults
+  pub default_test : (a b c : List Pair) → HoldsEverywhere t da a db b dc c → IsTrue (t da db dc)
+  default_test a b c whole =
+      let k : ℕ = past a + past b + past c in
+      let ea : level_at da a k ≡ da = level_at-past da a k (omega arith) in
+      let eb : level_at db b k ≡ db = level_at-past db b k (omega arith) in
+      let ec : level_at dc c k ≡ dc = level_at-past dc c k (omega arith) in
+      rw (ea, eb, ec) at (whole k)
+
+  -- where everything holds, so does the step's test
+  pub step_test : (m : ℕ) (a a' b b' c c' : List Pair) (x y z : Level)
+      → Takes da a m x a' → Takes db b m y b' → Takes dc c m z c'
+      → HoldsEverywhere t da a db b dc c → IsTrue (t x y z)
+  step_test m a a' b b' c c' x y z ta tb tc whole =
+      rw (← ta.here, ← tb.here, ← tc.here) (whole m)
+
+-- what the walk keeps: what is left of the lists decides the answer
+pub record WalkGoesOn (t : Level → Level → Level → Bool) (da db dc : Level) (a b c : List Pair) (i j k : ℕ) : Type 0 where
+  pub a_within : i ≤ length a
+  pub b_within : j ≤ length b
+  pub c_within : k ≤ length c
+  pub forth : HoldsEverywhere t da (drop i a) db (drop j b) dc (drop k c) → HoldsEverywhere t da a db b dc c
+  pub back : HoldsEverywhere t da a db b dc c → HoldsEverywhere t da (drop i a) db (drop j b) dc (drop k c)

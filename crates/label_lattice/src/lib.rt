@@ -1,0 +1,14 @@
+//! Labels: each category has a level, all but finitely many of them the label's default (HiStar, OSDI 2006).
+//!
+//! Each function gives the pointwise rule over all categories, and counts one scan on the meter that is handed in. A
+//! label's content is reached through these functions alone. Which labels a thread may use is left to the crates above.
+#![tactic(auto)]
+
+mod labels;
+mod pairings;
+mod raw_labels;
+mod walk;
+
+pub use labels::Label;
+pub use pairings::{Pair, Pairs};
+pub use raw_labels::RawLabel;
