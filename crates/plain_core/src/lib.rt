@@ -1,0 +1,6 @@
+//! The plain machine.
+#![tactic(auto)]
+
+mod calls;
+
+pub use calls::{Call, Entry, Query, Reply};
