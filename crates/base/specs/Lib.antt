@@ -4,3 +4,4 @@ pub mod Counts
 pub mod Padded
 pub mod Limits
 pub mod Sets
+pub mod Live
