@@ -2,5 +2,13 @@
 #![tactic(auto)]
 
 mod calls;
+mod label_rules;
+mod least;
+mod lists;
+mod objects;
+mod records;
 
 pub use calls::{Call, Entry, Query, Reply};
+pub use lists::{Bytes, IdList, Packets, Slots};
+pub use objects::{Body, Gate, Mapping, Object, Thread};
+pub use records::Records;

@@ -1,0 +1,40 @@
+-- The state at boot, and whole runs from a state.
+use Rattle.std.specs.Prelude.{ℕ, List, [], ◌∷◌}
+use Rattle.base.specs.declared.levels.Level.{Level}
+use Rattle.base.specs.declared.levels.Level.TheVariants.{L1, L2, L3}
+use Rattle.base.specs.declared.ranges.Limits.{Limits}
+use Rattle.label_lattice.specs.Label.{LabelValue}
+use Rattle.plain_core.specs.State.{State}
+use Rattle.plain_core.specs.Changes.{fresh_object}
+use Rattle.plain_core.specs.Step.{answer, next}
+use Rattle.plain_core.specs.declared.calls.Call.{Call}
+use Rattle.plain_core.specs.declared.calls.Reply.{Reply}
+use Rattle.plain_core.specs.declared.objects.Body.TheVariants as is
+
+-- the label that gives each category this level
+abbrev pub uniform : Level → LabelValue
+uniform level = record { default_level = level; exceptions = [] }
+
+-- the newly booted state: the root container 1, the boot thread 2 and the device 3, both in the root
+abbrev pub booted : Limits → State
+booted l = record {
+  limits = l;
+  objects =
+    (1, fresh_object (uniform L1) l.pages (is.Container (record { 0 = 0 }) (2 ∷ 3 ∷ [])))
+    ∷ (2, fresh_object (uniform L1) 1 (is.Thread (record {
+        clearance = uniform L2; verify = uniform L3; space = record { container = 0; object = 0 }; entry_point = 0; closure = 0 })))
+    ∷ (3, fresh_object (uniform l.device) 2 (is.Device []))
+    ∷ [];
+  next_id = l.next_id;
+  next_category = l.next_category;
+}
+
+-- the state after calls, each by a thread, one after another
+abbrev pub state_after : State → List (ℕ × Call) → State
+state_after s [] = s
+state_after s (c ∷ calls) = state_after (next s c.0 c.1) calls
+
+-- their replies, in order
+abbrev pub replies_to : State → List (ℕ × Call) → List Reply
+replies_to s [] = []
+replies_to s (c ∷ calls) = answer s c.0 c.1 ∷ replies_to (next s c.0 c.1) calls

@@ -1,0 +1,6 @@
+-- The state that a kernel's records are.
+use Rattle.plain_core.specs.State.{State}
+use Rattle.plain_core.specs.declared.records.Records.{Records}
+
+abbrev pub state_of : Records → State
+state_of r = record { limits = r.limits; objects = r.objects.entries; next_id = r.next_id; next_category = r.next_category }
