@@ -6,3 +6,4 @@ pub mod Changes
 pub mod Step
 pub mod Runs
 pub mod StateOf
+pub mod Undo

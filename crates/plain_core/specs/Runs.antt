@@ -20,11 +20,19 @@ abbrev pub booted : Limits → State
 booted l = record {
   limits = l;
   objects =
-    (1, fresh_object (uniform L1) l.pages (is.Container (record { 0 = 0 }) (2 ∷ 3 ∷ [])))
-    ∷ (2, fresh_object (uniform L1) 1 (is.Thread (record {
-        clearance = uniform L2; verify = uniform L3; space = record { container = 0; object = 0 }; entry_point = 0; closure = 0 })))
-    ∷ (3, fresh_object (uniform l.device) 2 (is.Device []))
-    ∷ [];
+      (1, fresh_object (uniform L1) l.pages (is.Container (record { 0 = 0 }) (2 ∷ 3 ∷ [])))
+      ∷ (
+        2,
+        fresh_object (uniform L1) 1 (is.Thread (record {
+          clearance = uniform L2;
+          verify = uniform L3;
+          space = record { container = 0; object = 0 };
+          entry_point = 0;
+          closure = 0;
+        })),
+      )
+      ∷ (3, fresh_object (uniform l.device) 2 (is.Device []))
+      ∷ [];
   next_id = l.next_id;
   next_category = l.next_category;
 }

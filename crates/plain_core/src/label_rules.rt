@@ -74,12 +74,20 @@ pub fn names_unmade(raw: &RawLabel, next: u64) -> bool
 pub fn names_star(raw: &RawLabel) -> bool
     ensures { result ≡ has_star raw.now }
 {
-    raw.pairs.as_slice().iter().any(|pair| pair.level.rank() == 0)
+    raw.pairs
+        .as_slice()
+        .iter()
+        .any(|pair| pair.level.rank() == 0)
 }
 
 /// The label with a category at a level, where it has room for it.
 #[tactic(auto, unfolding(crate::specs::Labels::with_category))]
-pub fn with_category(label: &Label, category: Category, level: Level, meter: &mut Meter) -> Option<Label>
+pub fn with_category(
+    label: &Label,
+    category: Category,
+    level: Level,
+    meter: &mut Meter,
+) -> Option<Label>
     ensures value { result ≡ with_category label.now category level }
     ensures fit { IfSome result IsStored }
 {

@@ -2,6 +2,7 @@
 #![tactic(auto)]
 
 mod calls;
+mod changes;
 mod label_rules;
 mod least;
 mod lists;
