@@ -1,3 +1,5 @@
 pub mod ChangeLaws
 pub mod GrowLaws
 pub mod RecordLaws
+pub mod RowLaws
+pub mod WellFormedLaws

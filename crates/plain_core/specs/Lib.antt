@@ -7,3 +7,5 @@ pub mod Step
 pub mod Runs
 pub mod StateOf
 pub mod Undo
+pub mod WellFormed
+pub mod Kernel

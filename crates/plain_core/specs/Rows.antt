@@ -31,6 +31,11 @@ abbrev pub refusal_of : Row → Option Refusal
 refusal_of [] = None
 refusal_of (c ∷ row) = if c.1 then Some (lesser_of c.0 (refusal_of row)) else refusal_of row
 
+-- of two refusals that may not be there, the one with the smaller number
+abbrev pub least_of : Option Refusal → Option Refusal → Option Refusal
+least_of None q = q
+least_of (Some r) q = Some (lesser_of r q)
+
 -- 1 to 64 bytes from a on, which lie in one page of 256
 abbrev pub is_shape : ℕ → ℕ → Bool
 is_shape a n = nat_le 1 n && nat_le n 64 && nat_le (a % 256 + n) 256

@@ -1,6 +1,6 @@
 //! The refusal of a row of conditions.
 ghost use Rattle.std.specs.Prelude.{◌≡◌};
-ghost use Rattle.plain_core.specs.Rows.{lesser_of, refusal_of};
+ghost use Rattle.plain_core.specs.Rows.{lesser_of, least_of, refusal_of};
 
 use base::Refusal;
 
@@ -27,5 +27,15 @@ pub fn least(row: &[(Refusal, bool)]) -> Option<Refusal>
                 later
             }
         }
+    }
+}
+
+/// Of two refusals that may not be there, the one with the smaller number.
+pub fn least_of(first: Option<Refusal>, second: Option<Refusal>) -> Option<Refusal>
+    ensures { result ≡ least_of first second }
+{
+    match first {
+        None => second,
+        Some(refusal) => Some(lesser_of(refusal, second)),
     }
 }

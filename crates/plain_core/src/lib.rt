@@ -3,6 +3,7 @@
 
 mod calls;
 mod changes;
+mod kernel;
 mod label_rules;
 mod least;
 mod lists;
@@ -10,6 +11,7 @@ mod objects;
 mod records;
 
 pub use calls::{Call, Entry, Query, Reply};
+pub use kernel::PlainKernel;
 pub use lists::{Bytes, IdList, Packets, Slots};
 pub use objects::{Body, Gate, Mapping, Object, Thread};
 pub use records::Records;

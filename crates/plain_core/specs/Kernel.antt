@@ -1,0 +1,7 @@
+-- The state of a plain kernel.
+use Rattle.plain_core.specs.State.{State}
+use Rattle.plain_core.specs.StateOf.{state_of}
+use Rattle.plain_core.specs.declared.kernel.PlainKernel.{PlainKernel}
+
+abbrev pub kernel_state : PlainKernel → State
+kernel_state k = state_of k.records

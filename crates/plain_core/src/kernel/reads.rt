@@ -1,0 +1,232 @@
+//! What calls look at.
+ghost use Rattle.std.specs.Prelude.{◌≡◌, ◌≤◌, ◌<◌, ◌+◌, ◌*◌, ◌^◌, length, option_copied, sum_by, nat_le, nat_lt, ◌&&◌};
+ghost use Rattle.base.specs.Live.{has};
+ghost use Rattle.plain_core.specs.State.{object_at, is_kind, is_kind_at, is_live_kind, is_accessible, observes, flows_to, holds, bytes_at, label_at, clearance_at, is_immutable, quota_at, list_at, cost_at, use_of, avoids_at, page_count};
+ghost use Rattle.plain_core.specs.Rows.{is_shape};
+ghost use Rattle.plain_core.specs.StateOf.{state_of};
+ghost use Rattle.base.specs.declared.kinds.Kind.TheVariants as kinds;
+
+use super::PlainKernel;
+use crate::calls::Entry;
+use crate::label_rules::{is_below, is_visible};
+use crate::objects::{Body, Object};
+use base::{Kind, Meter, ObjectId};
+use label_lattice::Label;
+
+fn has_kind(object: &Object, kind: Kind) -> bool
+    ensures { result ≡ is_kind kind object.now }
+{
+    match &object.body {
+        Body::Container(_, _) => kind == Kind::Container,
+        Body::Segment(_) => kind == Kind::Segment,
+        Body::AddressSpace(_) => kind == Kind::AddressSpace,
+        Body::Thread(_) => kind == Kind::Thread,
+        Body::Gate(_) => kind == Kind::Gate,
+        Body::Device(_) => kind == Kind::Device,
+    }
+}
+
+/// Whether 1 to 64 bytes from `at` on lie in one page.
+pub fn has_shape(at: u64, count: u64) -> bool
+    ensures { result ≡ is_shape at count }
+{
+    1 <= count && count <= 64 && at % 256 + count <= 256
+}
+
+impl PlainKernel {
+    pub fn object(&self, id: ObjectId) -> Option<&Object>
+        ensures { option_copied result ≡ object_at (state_of self.now.records) id }
+    {
+        self.records.objects.get(&id)
+    }
+
+    pub fn is_kind(&self, kind: Kind, id: ObjectId) -> bool
+        ensures { result ≡ is_kind_at (state_of self.now.records) kind id }
+    {
+        match self.object(id) {
+            None => false,
+            Some(object) => has_kind(object, kind),
+        }
+    }
+
+    pub fn label(&self, id: ObjectId) -> Option<&Label>
+        ensures { option_copied result ≡ label_at (state_of self.now.records) id }
+    {
+        match self.object(id) {
+            None => None,
+            Some(object) => Some(&object.label),
+        }
+    }
+
+    pub fn clearance(&self, thread: ObjectId) -> Option<&Label>
+        ensures { option_copied result ≡ clearance_at (state_of self.now.records) thread }
+    {
+        match self.object(thread) {
+            Some(
+                Object {
+                    body: Body::Thread(thread),
+                    ..
+                },
+            ) => Some(&thread.clearance),
+            _ => None,
+        }
+    }
+
+    /// Each record is live, so an object of the kind is a live one.
+    pub fn is_live_kind(&self, kind: Kind, id: ObjectId) -> bool
+        ensures { result ≡ is_live_kind (state_of self.now.records) kind id }
+    {
+        let _ = &self.records;
+        self.is_kind(kind, id)
+    }
+
+    pub fn observes(&self, thread: ObjectId, id: ObjectId, meter: &mut Meter) -> bool
+        ensures { result ≡ observes (state_of self.now.records) thread id }
+    {
+        is_visible(self.label(id), self.label(thread), meter)
+    }
+
+    pub fn flows_to(&self, thread: ObjectId, id: ObjectId, meter: &mut Meter) -> bool
+        ensures { result ≡ flows_to (state_of self.now.records) thread id }
+    {
+        is_below(self.label(thread), self.label(id), meter)
+    }
+
+    pub fn is_accessible(&self, thread: ObjectId, container: ObjectId, meter: &mut Meter) -> bool
+        ensures { result ≡ is_accessible (state_of self.now.records) thread container }
+    {
+        self.is_live_kind(Kind::Container, container) && self.observes(thread, container, meter)
+    }
+
+    /// What a container lists.
+    pub fn list(&self, id: ObjectId) -> &[ObjectId]
+        ensures { result.now ≡ list_at (state_of self.now.records) id }
+    {
+        match self.object(id) {
+            Some(
+                Object {
+                    body: Body::Container(_, list),
+                    ..
+                },
+            ) => list.as_slice(),
+            _ => &[],
+        }
+    }
+
+    fn is_listed(&self, container: ObjectId, id: ObjectId) -> bool
+        ensures { result ≡ has (list_at (state_of self.now.records) container) id }
+    {
+        self.list(container).iter().any(|listed| id == *listed)
+    }
+
+    pub fn holds(&self, entry: &Entry) -> bool
+        ensures { result ≡ holds (state_of self.now.records) entry.now }
+    {
+        self.is_kind(Kind::Container, entry.container)
+            && (self.is_listed(entry.container, entry.object) || entry.object == entry.container)
+    }
+
+    /// A segment's bytes.
+    pub fn bytes(&self, id: ObjectId) -> &[u8]
+        ensures { result.now ≡ bytes_at (state_of self.now.records) id }
+    {
+        match self.object(id) {
+            Some(
+                Object {
+                    body: Body::Segment(bytes),
+                    ..
+                },
+            ) => bytes.as_slice(),
+            _ => &[],
+        }
+    }
+
+    /// Whether so many bytes from `offset` on go past the whole pages of a segment.
+    pub fn is_past(&self, id: ObjectId, offset: u32, count: u32) -> bool
+        ensures { result ≡ nat_lt (256 * page_count (state_of self.now.records) id) (offset + count) }
+    {
+        let pages = self.bytes(id).len() / 256;
+        256 * (pages as u64) < u64::from(offset) + u64::from(count)
+    }
+
+    pub fn is_immutable(&self, id: ObjectId) -> bool
+        ensures { result ≡ is_immutable (state_of self.now.records) id }
+    {
+        match self.object(id) {
+            None => false,
+            Some(object) => object.immutable,
+        }
+    }
+
+    pub fn quota(&self, id: ObjectId) -> u32
+        ensures { result ≡ quota_at (state_of self.now.records) id }
+    {
+        match self.object(id) {
+            None => 0,
+            Some(object) => object.quota,
+        }
+    }
+
+    /// The declared quotas of these together.
+    fn quotas(&self, ids: &[ObjectId]) -> u128
+        ensures sum { result ≡ sum_by (quota_at (state_of self.now.records)) ids.now }
+        ensures small { result ≤ 2 ^ 32 * length ids.now }
+    {
+        match ids {
+            [] => 0,
+            [first, rest @ ..] => u128::from(self.quota(*first)) + self.quotas(rest),
+        }
+    }
+
+    fn cost(&self, id: ObjectId) -> u64
+        ensures value { result ≡ cost_at (state_of self.now.records) id }
+        ensures small { result < 2 ^ 63 }
+    {
+        match self.object(id) {
+            None => 0,
+            Some(
+                Object {
+                    body: Body::Device(_),
+                    ..
+                },
+            ) => 2,
+            Some(
+                Object {
+                    body: Body::Segment(bytes),
+                    ..
+                },
+            ) => 1 + bytes.as_slice().len() as u64 / 256,
+            Some(_) => 1,
+        }
+    }
+
+    /// What an object uses, in pages.
+    pub fn used(&self, id: ObjectId) -> u128
+        ensures value { result ≡ use_of (state_of self.now.records) id }
+        ensures small { result < 2 ^ 100 }
+    {
+        u128::from(self.cost(id)) + self.quotas(self.list(id))
+    }
+
+    /// Whether so many pages more are above the container's quota.
+    pub fn is_over(&self, container: ObjectId, pages: u32) -> bool
+        ensures { result ≡ nat_lt (quota_at (state_of self.now.records) container)
+            (use_of (state_of self.now.records) container + pages) }
+    {
+        u128::from(self.quota(container)) < self.used(container) + u128::from(pages)
+    }
+
+    pub fn avoids(&self, kind: Kind, id: ObjectId) -> bool
+        ensures { result ≡ avoids_at (state_of self.now.records) kind id }
+    {
+        match self.object(id) {
+            Some(
+                Object {
+                    body: Body::Container(avoid, _),
+                    ..
+                },
+            ) => avoid.has(kind),
+            _ => false,
+        }
+    }
+}
