@@ -64,20 +64,20 @@ grows-insert k (e ∷ es) x absent a b h =
       ]
     ] absent
 
-all_weaker : (p q : ℕ → Bool) (es : List (ℕ × Object)) → ((o : ℕ) → p o ≡ true → q o ≡ true) → list_all (λ e. p e.0) (lists_of es) ≡ true → list_all (λ e. q e.0) (lists_of es) ≡ true
+pub all_weaker : (p q : ℕ → Bool) (es : List (ℕ × Object)) → ((o : ℕ) → p o ≡ true → q o ≡ true) → list_all (λ e. p e.0) (lists_of es) ≡ true → list_all (λ e. q e.0) (lists_of es) ≡ true
 all_weaker p q [] w h = refl
 all_weaker p q (e ∷ es) w h =
     let both : (p e.0 ≡ true) × (list_all (λ e. p e.0) (lists_of es) ≡ true) = and_parts (p e.0) (list_all (λ e. p e.0) (lists_of es)) h in
     and_from (q e.0) (list_all (λ e. q e.0) (lists_of es)) (w e.0 both.0) (all_weaker p q es w both.1)
 
-all-set_value : (p : ℕ → Bool) (d : ℕ) (es : List (ℕ × Object)) (y : Object) → list_all (λ e. p e.0) (lists_of (set_value (is_at (nat_cmp d)) es y)) ≡ list_all (λ e. p e.0) (lists_of es)
+pub all-set_value : (p : ℕ → Bool) (d : ℕ) (es : List (ℕ × Object)) (y : Object) → list_all (λ e. p e.0) (lists_of (set_value (is_at (nat_cmp d)) es y)) ≡ list_all (λ e. p e.0) (lists_of es)
 all-set_value p d [] y = refl
 all-set_value p d (e ∷ es) y = elim (is_at (nat_cmp d) e.0) as (λ v. list_all (λ e. p e.0) (lists_of (cond v ((e.0, y) ∷ es) (e ∷ set_value (is_at (nat_cmp d)) es y))) ≡ list_all (λ e. p e.0) (lists_of (e ∷ es))) [
   | true ↦ refl
   | false ↦ ap (λ b. p e.0 && b) (all-set_value p d es y)
 ]
 
-all-insert : (p : ℕ → Bool) (k : ℕ) (es : List (ℕ × Object)) (x : Object) → p k ≡ true → list_all (λ e. p e.0) (lists_of es) ≡ true → list_all (λ e. p e.0) (lists_of (insert_entry nat_cmp es k x)) ≡ true
+pub all-insert : (p : ℕ → Bool) (k : ℕ) (es : List (ℕ × Object)) (x : Object) → p k ≡ true → list_all (λ e. p e.0) (lists_of es) ≡ true → list_all (λ e. p e.0) (lists_of (insert_entry nat_cmp es k x)) ≡ true
 all-insert p k [] x new old = and_from (p k) true new refl
 all-insert p k (e ∷ es) x new old =
     let both : (p e.0 ≡ true) × (list_all (λ e. p e.0) (lists_of es) ≡ true) = and_parts (p e.0) (list_all (λ e. p e.0) (lists_of es)) old in

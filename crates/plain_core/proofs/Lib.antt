@@ -1,5 +1,7 @@
 pub mod ChangeLaws
 pub mod GrowLaws
+pub mod MadeLaws
 pub mod RecordLaws
 pub mod RowLaws
+pub mod StepLaws
 pub mod WellFormedLaws

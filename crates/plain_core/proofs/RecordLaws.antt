@@ -77,7 +77,7 @@ lists_of-changed s o f same = elim (object_at s o) as (λ v. object_at s o ≡ v
 pub restricted_live : (s : State) → are_live (lists_of s.objects) ≡ true → restricted s ≡ s
 restricted_live s h = (λ i. record s { objects = live_part-all s.objects h i })
 
-listed-rebyte : (f : List ℕ → List ℕ) (b : body.Body) → listed (rebyte f b) ≡ listed b
+pub listed-rebyte : (f : List ℕ → List ℕ) (b : body.Body) → listed (rebyte f b) ≡ listed b
 listed-rebyte f (is.Segment bytes) = refl
 listed-rebyte f (is.Container avoid list) = refl
 listed-rebyte f (is.AddressSpace slots) = refl
@@ -85,11 +85,7 @@ listed-rebyte f (is.Thread t) = refl
 listed-rebyte f (is.Gate g) = refl
 listed-rebyte f (is.Device packets) = refl
 
--- new bytes in a segment
-pub rebyte_live : (s : State) (o : ℕ) (f : List ℕ → List ℕ) → are_live (lists_of s.objects) ≡ true → are_live (lists_of (changed s o (with_body (rebyte f))).objects) ≡ true
-rebyte_live s o f h = subst (λ l. are_live l ≡ true) (sym (lists_of-changed s o (with_body (rebyte f)) (λ x. listed-rebyte f x.body))) h
-
-listed-rethread : (f : thread.Thread → thread.Thread) (b : body.Body) → listed (rethread f b) ≡ listed b
+pub listed-rethread : (f : thread.Thread → thread.Thread) (b : body.Body) → listed (rethread f b) ≡ listed b
 listed-rethread f (is.Thread t) = refl
 listed-rethread f (is.Segment bytes) = refl
 listed-rethread f (is.Container avoid list) = refl
@@ -97,6 +93,5 @@ listed-rethread f (is.AddressSpace slots) = refl
 listed-rethread f (is.Gate g) = refl
 listed-rethread f (is.Device packets) = refl
 
--- a thread's new label and clearance
-pub owning_live : (s : State) (o : ℕ) (l c : LabelValue) → are_live (lists_of s.objects) ≡ true → are_live (lists_of (changed s o (owning l c)).objects) ≡ true
-owning_live s o l c h = subst (λ l. are_live l ≡ true) (sym (lists_of-changed s o (owning l c) (λ x. listed-rethread (λ r. record r { clearance = c }) x.body))) h
+pub next_id-changed : (s : State) (o : ℕ) (f : Object → Object) → (changed s o f).next_id ≡ s.next_id
+next_id-changed s o f = elim (object_at s o) as (λ v. (of_object s (λ x. put s o (f x)) v).next_id ≡ s.next_id) [ None ↦ refl | Some x ↦ refl ]

@@ -2,6 +2,7 @@ pub mod Written
 pub mod Labels
 pub mod State
 pub mod Rows
+pub mod Fitting
 pub mod Changes
 pub mod Step
 pub mod Runs

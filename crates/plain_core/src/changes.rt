@@ -3,13 +3,14 @@ ghost use Rattle.std.specs.Prelude.{◌≡◌, ◌≤◌, ◌<◌, ◌+◌, ◌^
 ghost use Rattle.label_lattice.specs.Label.{LabelValue};
 ghost use Rattle.plain_core.specs.Written.{written};
 ghost use Rattle.plain_core.specs.State.{bytes_of, bytes_at};
-ghost use Rattle.plain_core.specs.Changes.{changed, with_body, rebyte, owning, listing, made};
+ghost use Rattle.plain_core.specs.Changes.{changed, with_body, rebyte, owning, listing, made, fresh_object};
 ghost use Rattle.plain_core.specs.StateOf.{state_of};
+ghost use Rattle.plain_core.specs.Step.{owned};
 ghost use Rattle.plain_core.specs.Undo.{unlisting};
 
 use crate::objects::{Body, Object};
 use crate::records::Records;
-use base::{NoMemory, ObjectId};
+use base::{Data, NoMemory, ObjectId};
 use label_lattice::Label;
 
 fn write(object: &mut Object, at: usize, data: &[u8])
@@ -41,17 +42,29 @@ fn own(object: &mut Object, label: Label, clearance: Label)
     }
 }
 
-/// A thread gets this label and clearance, and the next category is given away.
-pub fn own_category(records: &mut Records, thread: ObjectId, label: Label, clearance: Label)
-    requires { records.old.next_category < 2 ^ 61 }
-    ensures { state_of records.new
-        ≡ record (changed (state_of records.old) thread (owning label clearance)) {
-          next_category = records.old.next_category + 1;
-        } }
+fn own_in(records: &mut Records, thread: ObjectId, label: Label, clearance: Label)
+    ensures { state_of records.new ≡ changed (state_of records.old) thread (owning label clearance) }
 {
-    records.next_category += 1;
     if let Some(object) = records.objects.get_mut(&thread) {
         own(object, label, clearance);
+    }
+}
+
+/// A thread gets this label and clearance, where both are there, and the next category is given away.
+pub fn own_category(
+    records: &mut Records,
+    thread: ObjectId,
+    label: Option<Label>,
+    clearance: Option<Label>,
+)
+    requires { records.old.next_category < 2 ^ 61 }
+    ensures { state_of records.new ≡ owned (state_of records.old) thread label clearance }
+{
+    if let Some(label) = label {
+        if let Some(clearance) = clearance {
+            own_in(records, thread, label, clearance);
+            records.next_category += 1;
+        }
     }
 }
 
@@ -90,6 +103,20 @@ fn unlist_in(records: &mut Records, container: ObjectId)
 {
     if let Some(object) = records.objects.get_mut(&container) {
         unlist_last(object);
+    }
+}
+
+/// A new object: nothing fixed, not immutable, its metadata 64 bytes of 0.
+pub fn fresh_object(label: Label, quota: u32, body: Body) -> Object
+    ensures { result ≡ fresh_object label quota body }
+{
+    Object {
+        label,
+        quota,
+        fixed: false,
+        immutable: false,
+        metadata: Data::from_slice(&[0; 64]),
+        body,
     }
 }
 

@@ -8,6 +8,7 @@ use std::alloc::Global;
 
 mod reads;
 mod rows;
+mod steps;
 
 /// A label kernel that keeps nothing but its records, and computes liveness, use and label rules anew at each call.
 #[derive(Drop)]

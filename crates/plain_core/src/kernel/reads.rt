@@ -3,6 +3,7 @@ ghost use Rattle.std.specs.Prelude.{◌≡◌, ◌≤◌, ◌<◌, ◌+◌, ◌*
 ghost use Rattle.base.specs.Live.{has};
 ghost use Rattle.plain_core.specs.State.{object_at, is_kind, is_kind_at, is_live_kind, is_accessible, observes, flows_to, holds, bytes_at, label_at, clearance_at, is_immutable, quota_at, list_at, cost_at, use_of, avoids_at, page_count};
 ghost use Rattle.plain_core.specs.Rows.{is_shape};
+ghost use Rattle.plain_core.specs.Changes.{joined_at};
 ghost use Rattle.plain_core.specs.StateOf.{state_of};
 ghost use Rattle.base.specs.declared.kinds.Kind.TheVariants as kinds;
 
@@ -10,7 +11,7 @@ use super::PlainKernel;
 use crate::calls::Entry;
 use crate::label_rules::{is_below, is_visible};
 use crate::objects::{Body, Object};
-use base::{Kind, Meter, ObjectId};
+use base::{Kind, Meter, ObjectId, TypeSet};
 use label_lattice::Label;
 
 fn has_kind(object: &Object, kind: Kind) -> bool
@@ -227,6 +228,19 @@ impl PlainKernel {
                 },
             ) => avoid.has(kind),
             _ => false,
+        }
+    }
+
+    /// What a new container in this one avoids.
+    pub fn joined(&self, container: ObjectId, kinds: TypeSet) -> TypeSet
+        ensures { result ≡ joined_at (state_of self.now.records) kinds container }
+    {
+        match self.object(container) {
+            Some(Object {
+                body: Body::Container(avoid, _),
+                ..
+            }) => kinds.with(*avoid),
+            _ => kinds,
         }
     }
 }

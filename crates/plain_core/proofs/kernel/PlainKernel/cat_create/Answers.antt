@@ -1,0 +1,33 @@
+use Rattle.std.proofs.Common.{sym, ◌∙◌, subst, ◌≡◌, true, ap, ◌||◌, is_none, Option}
+use Rattle.label_lattice.specs.Label.{LabelValue}
+use Rattle.plain_core.specs.Rows.{own_label, own_clearance}
+use Rattle.plain_core.specs.State.{State}
+use Rattle.plain_core.specs.StateOf.{state_of}
+use Rattle.plain_core.specs.Step.{owned}
+use Rattle.plain_core.specs.WellFormed.{is_well_formed}
+use Rattle.plain_core.proofs.StepLaws.{step_refused, step_done, step_sound, category_left}
+use Rattle.plain_core.proofs.WellFormedLaws.{owned_well_formed}
+use Rattle.plain_core.proofs.kernel.PlainKernel.cat_create.Goals as goal
+
+pub own_category-requires : goal.own_category-requires
+own_category-requires c = category_left _ _ (sym c.refused_cat_create.ensures ∙ c.in-None.is)
+
+pub invariant_of-self : goal.invariant_of-self
+invariant_of-self c = record { well_formed = subst (λ (s : State) . is_well_formed s ≡ true) (sym c.own_category.ensures)
+    (owned_well_formed (state_of c.args.self.now.records) c.args.thread _ _ c.args.self.now.well_formed) }
+
+pub returns-in-Some-clause-reply : goal.returns-in-Some-clause-reply
+returns-in-Some-clause-reply c = sym (step_refused _ _ _ _ (sym c.refused_cat_create.ensures ∙ c.in-Some.is)).0
+
+pub returns-in-Some-clause-state : goal.returns-in-Some-clause-state
+returns-in-Some-clause-state c = sym (step_refused _ _ _ _ (sym c.refused_cat_create.ensures ∙ c.in-Some.is)).1
+
+pub returns-in-None-clause-reply : goal.returns-in-None-clause-reply
+returns-in-None-clause-reply c = sym (step_done _ _ _ (sym c.refused_cat_create.ensures ∙ c.in-None.is)).0
+
+pub returns-in-None-clause-state : goal.returns-in-None-clause-state
+returns-in-None-clause-state c =
+    c.own_category.ensures
+    ∙ (λ i. owned (state_of c.args.self.now.records) c.args.thread (c.own_label-label.ensures.value i) (c.own_clearance-clearance.ensures.value i))
+    ∙ sym (step_sound _ _ _ (sym c.refused_cat_create.ensures ∙ c.in-None.is)
+        (owned_well_formed (state_of c.args.self.now.records) c.args.thread _ _ c.args.self.now.well_formed))
