@@ -64,9 +64,9 @@ not_given k (e ∷ es) h =
     let both : (nat_lt e.0 k ≡ true) × (list_all (λ e. nat_lt e.0 k) (lists_of es) ≡ true) = and_parts (nat_lt e.0 k) (list_all (λ e. nat_lt e.0 k) (lists_of es)) h in
     elim (is_at (nat_cmp k) e.0) as (λ v. is_at (nat_cmp k) e.0 ≡ v → cond v (Some e.1) (lookup (is_at (nat_cmp k)) es) ≡ None) [
       | true ↦ λ is.
-        let same : k ≡ e.0 = same_id k e.0 is in
-        let less : e.0 < k = ltb-true e.0 k both.0 in
-        absurd (omega arith)
+          let same : k ≡ e.0 = same_id k e.0 is in
+          let less : e.0 < k = ltb-true e.0 k both.0 in
+          absurd (omega arith)
       | false ↦ λ is. not_given k es both.1
     ] refl
 
@@ -90,16 +90,16 @@ made_well_formed s d l q b fits h =
     let at : IsContainerAt s d = container_at s d fits.container in
     let given : are_given s ≡ true = well_formed_given s h in
     let objects : (made s d (fresh_object l q b)).objects ≡ insert_entry nat_cmp (set_value (is_at (nat_cmp d)) s.objects (listing s.next_id at.object)) s.next_id (fresh_object l q b)
-      = made_objects s d (fresh_object l q b) at.object at.found in
+    = made_objects s d (fresh_object l q b) at.object at.found in
     let id : (made s d (fresh_object l q b)).next_id ≡ s.next_id + 1 = made_next_id s d (fresh_object l q b) at.object at.found in
     well_formed_from (made s d (fresh_object l q b))
-      (ap (λ es. are_live (lists_of es)) objects
-        ∙ make_live d s.next_id s.objects at.object (listing s.next_id at.object) (fresh_object l q b) at.found (not_given s.next_id s.objects given)
-          (λ o. listing_wider at.object s.next_id o) (listing_has at.object s.next_id at.kind) (well_formed_live s h))
-      ((λ i. list_all (λ e. nat_lt e.0 (id i)) (lists_of (objects i)))
-        ∙ all-insert (λ o. nat_lt o (s.next_id + 1)) s.next_id (set_value (is_at (nat_cmp d)) s.objects (listing s.next_id at.object)) (fresh_object l q b) (next_below s.next_id)
-          (all-set_value (λ o. nat_lt o (s.next_id + 1)) d s.objects (listing s.next_id at.object)
-            ∙ all_weaker (λ o. nat_lt o s.next_id) (λ o. nat_lt o (s.next_id + 1)) s.objects (below_next s.next_id) given))
+    (ap (λ es. are_live (lists_of es)) objects
+    ∙ make_live d s.next_id s.objects at.object (listing s.next_id at.object) (fresh_object l q b) at.found (not_given s.next_id s.objects given)
+    (λ o. listing_wider at.object s.next_id o) (listing_has at.object s.next_id at.kind) (well_formed_live s h))
+    ((λ i. list_all (λ e. nat_lt e.0 (id i)) (lists_of (objects i)))
+    ∙ all-insert (λ o. nat_lt o (s.next_id + 1)) s.next_id (set_value (is_at (nat_cmp d)) s.objects (listing s.next_id at.object)) (fresh_object l q b) (next_below s.next_id)
+    (all-set_value (λ o. nat_lt o (s.next_id + 1)) d s.objects (listing s.next_id at.object)
+    ∙ all_weaker (λ o. nat_lt o s.next_id) (λ o. nat_lt o (s.next_id + 1)) s.objects (below_next s.next_id) given))
 
 -- a change that may have failed for want of memory
 pub sound_after : {A E : Type 0} (r : Result A E) (new edit old : State) → OnOk r (new ≡ edit) → OnErr r (new ≡ old)

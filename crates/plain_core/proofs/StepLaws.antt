@@ -88,28 +88,32 @@ pub container_fits : (s : State) (t d : ℕ) (x : RawLabel) (q : ℕ) (avoid kin
     → IsFitting s d q (is.Container kinds []) × (is_none (stored x) ≡ false)
 unfolding refused
 container_fits s t d x q avoid kinds h =
-    let none = none_hold (halted s t ++ row s t (call.ContainerCreate d x q avoid)) h in
-    (record {
-      container = (and_parts _ _ (and_parts _ _ (not-false _ none.1.0)).0).0;
-      enough = ltb-false _ _ none.1.1.1.1.1.0;
-      room = ltb-false _ _ none.1.1.1.1.1.1.0;
-      left = leb-false _ _ none.1.1.1.1.1.1.1.1.0;
-      empty = refl;
-    }, or_false_left _ _ (or_false_left _ _ none.1.1.1.1.1.1.1.1.1.0))
+    let none = none_hold (halted s t ++ row s t (call.ContainerCreate d x q avoid)) h in (
+      record {
+        container = (and_parts _ _ (and_parts _ _ (not-false _ none.1.0)).0).0;
+        enough = ltb-false _ _ none.1.1.1.1.1.0;
+        room = ltb-false _ _ none.1.1.1.1.1.1.0;
+        left = leb-false _ _ none.1.1.1.1.1.1.1.1.0;
+        empty = refl;
+      },
+      or_false_left _ _ (or_false_left _ _ none.1.1.1.1.1.1.1.1.1.0),
+    )
 
 -- what a segment is made of fits, where nothing refuses it
 pub segment_fits : (s : State) (t d : ℕ) (x : RawLabel) (q pages : ℕ) → refused s t (call.SegmentCreate d x q pages) ≡ None
     → IsFitting s d q (is.Segment (replicate (256 * pages) 0)) × (is_none (stored x) ≡ false)
 unfolding refused
 segment_fits s t d x q pages h =
-    let none = none_hold (halted s t ++ row s t (call.SegmentCreate d x q pages)) h in
-    (record {
-      container = (and_parts _ _ (and_parts _ _ (not-false _ none.1.0)).0).0;
-      enough = cost_zeroed pages q (ltb-false _ _ none.1.1.1.1.1.0);
-      room = ltb-false _ _ none.1.1.1.1.1.1.0;
-      left = leb-false _ _ none.1.1.1.1.1.1.1.1.0;
-      empty = refl;
-    }, or_false_left _ _ (or_false_left _ _ none.1.1.1.1.1.1.1.1.1.0))
+    let none = none_hold (halted s t ++ row s t (call.SegmentCreate d x q pages)) h in (
+      record {
+        container = (and_parts _ _ (and_parts _ _ (not-false _ none.1.0)).0).0;
+        enough = cost_zeroed pages q (ltb-false _ _ none.1.1.1.1.1.0);
+        room = ltb-false _ _ none.1.1.1.1.1.1.0;
+        left = leb-false _ _ none.1.1.1.1.1.1.1.1.0;
+        empty = refl;
+      },
+      or_false_left _ _ (or_false_left _ _ none.1.1.1.1.1.1.1.1.1.0),
+    )
 
 pub then_on : {A E X : Type 0} (r : Result A E) (a b c : X) → OnOk r (a ≡ b) → b ≡ c → OnOk r (a ≡ c)
 then_on (Ok x) a b c h e = h ∙ e

@@ -34,8 +34,8 @@ live_kind s k o h = kind_live s k o (well_formed_live s h)
 pub same_lists : (s n : State) → lists_of n.objects ≡ lists_of s.objects → n.next_id ≡ s.next_id → is_well_formed s ≡ true → is_well_formed n ≡ true
 same_lists s n lists id h =
     well_formed_from n
-      (ap are_live lists ∙ well_formed_live s h)
-      ((λ i. list_all (λ e. nat_lt e.0 (id i)) (lists i)) ∙ well_formed_given s h)
+    (ap are_live lists ∙ well_formed_live s h)
+    ((λ i. list_all (λ e. nat_lt e.0 (id i)) (lists i)) ∙ well_formed_given s h)
 
 -- an edit of one object that leaves its list
 pub changed_well_formed : (s : State) (o : ℕ) (f : Object → Object) → ((x : Object) → listed (f x).body ≡ listed x.body) → is_well_formed s ≡ true → is_well_formed (changed s o f) ≡ true

@@ -1,6 +1,7 @@
 //! The plain machine.
 #![tactic(auto)]
 
+mod boots;
 mod calls;
 mod changes;
 mod kernel;
@@ -11,6 +12,7 @@ mod machine;
 mod objects;
 mod records;
 
+pub use boots::BootRefusal;
 pub use calls::{Call, Entry, Query, Reply};
 pub use kernel::PlainKernel;
 pub use lists::{Bytes, IdList, Packets, Slots};

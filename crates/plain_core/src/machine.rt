@@ -42,7 +42,7 @@ pub fn run<M: Machine>(
     let mut replies = Vec::with_capacity(alloc, calls.len())?;
     for call in calls {
         let reply = machine.step(call.0, &call.1, &mut meter)?;
-        replies.push(reply)?;
+        replies.push_reserved(reply);
     }
     Ok(replies)
 }

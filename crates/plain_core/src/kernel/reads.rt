@@ -236,10 +236,12 @@ impl PlainKernel {
         ensures { result ≡ joined_at (state_of self.now.records) kinds container }
     {
         match self.object(container) {
-            Some(Object {
-                body: Body::Container(avoid, _),
-                ..
-            }) => kinds.with(*avoid),
+            Some(
+                Object {
+                    body: Body::Container(avoid, _),
+                    ..
+                },
+            ) => kinds.with(*avoid),
             _ => kinds,
         }
     }

@@ -59,7 +59,12 @@ impl PlainKernel {
         match self.refused_segment_write(thread, entry, offset, data, meter) {
             Some(refusal) => Reply::Refused(refusal),
             None => {
-                write_bytes(&mut self.records, entry.object, offset as usize, data.as_slice());
+                write_bytes(
+                    &mut self.records,
+                    entry.object,
+                    offset as usize,
+                    data.as_slice(),
+                );
                 Reply::Done
             }
         }
@@ -98,7 +103,11 @@ impl PlainKernel {
         ensures err { OnErr result (state_of self.new.records ≡ state_of self.old.records) }
     {
         let id = ObjectId::new(self.records.next_id);
-        make(&mut self.records, container, fresh_object(label, quota, body))?;
+        make(
+            &mut self.records,
+            container,
+            fresh_object(label, quota, body),
+        )?;
         Ok(Reply::Object(id))
     }
 

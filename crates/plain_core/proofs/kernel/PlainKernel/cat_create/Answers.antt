@@ -13,8 +13,10 @@ pub own_category-requires : goal.own_category-requires
 own_category-requires c = category_left _ _ (sym c.refused_cat_create.ensures ∙ c.in-None.is)
 
 pub invariant_of-self : goal.invariant_of-self
-invariant_of-self c = record { well_formed = subst (λ (s : State) . is_well_formed s ≡ true) (sym c.own_category.ensures)
-    (owned_well_formed (state_of c.args.self.now.records) c.args.thread _ _ c.args.self.now.well_formed) }
+invariant_of-self c = record {
+  well_formed = subst (λ (s : State). is_well_formed s ≡ true) (sym c.own_category.ensures)
+      (owned_well_formed (state_of c.args.self.now.records) c.args.thread _ _ c.args.self.now.well_formed);
+}
 
 pub returns-in-Some-clause-reply : goal.returns-in-Some-clause-reply
 returns-in-Some-clause-reply c = sym (step_refused _ _ _ _ (sym c.refused_cat_create.ensures ∙ c.in-Some.is)).0
@@ -30,4 +32,4 @@ returns-in-None-clause-state c =
     c.own_category.ensures
     ∙ (λ i. owned (state_of c.args.self.now.records) c.args.thread (c.own_label-label.ensures.value i) (c.own_clearance-clearance.ensures.value i))
     ∙ sym (step_sound _ _ _ (sym c.refused_cat_create.ensures ∙ c.in-None.is)
-        (owned_well_formed (state_of c.args.self.now.records) c.args.thread _ _ c.args.self.now.well_formed))
+    (owned_well_formed (state_of c.args.self.now.records) c.args.thread _ _ c.args.self.now.well_formed))

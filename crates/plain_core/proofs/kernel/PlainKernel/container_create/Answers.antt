@@ -16,14 +16,14 @@ use Rattle.plain_core.proofs.kernel.PlainKernel.container_create.Goals as goal
 pub unreachable-requires : goal.unreachable-requires
 unreachable-requires c =
     not_both (stored c.args.raw.now) (sym c.stored_of-label.ensures.stored ∙ c.in_default.is)
-      (container_fits _ _ _ _ _ _ c.args.avoid (sym (c.refused_container_create.ensures c.args.avoid) ∙ c.in-None.is)).1
+    (container_fits _ _ _ _ _ _ c.args.avoid (sym (c.refused_container_create.ensures c.args.avoid) ∙ c.in-None.is)).1
 
 pub create-requires : goal.create-requires
 create-requires c =
     let P : List ℕ → Type 0 = λ ids. IsFitting (state_of c.args.self.now.records) c.args.container c.args.quota (is.Container c.joined-avoid.result ids) in
     subst P (sym c.new.ensures)
-      (container_fits (state_of c.args.self.now.records) c.args.thread c.args.container c.args.raw.now c.args.quota c.args.avoid c.joined-avoid.result
-        (sym (c.refused_container_create.ensures c.args.avoid) ∙ c.in-None.is)).0
+    (container_fits (state_of c.args.self.now.records) c.args.thread c.args.container c.args.raw.now c.args.quota c.args.avoid c.joined-avoid.result
+    (sym (c.refused_container_create.ensures c.args.avoid) ∙ c.in-None.is)).0
 
 pub returns-in-Some-clause-reply : goal.returns-in-Some-clause-reply
 returns-in-Some-clause-reply c = sym (step_refused _ _ _ _ (sym (c.refused_container_create.ensures c.args.avoid) ∙ c.in-Some.is)).0
@@ -37,21 +37,21 @@ returns-in-Some-label-clause-reply c = then_if _ _ _ c.create.ensures.reply (sym
 pub returns-in-Some-label-clause-ok : goal.returns-in-Some-label-clause-ok
 returns-in-Some-label-clause-ok c =
     let none : refused (state_of c.args.self.now.records) c.args.thread (call.ContainerCreate c.args.container c.args.raw.now c.args.quota c.args.avoid) ≡ None
-      = sym (c.refused_container_create.ensures c.args.avoid) ∙ c.in-None.is in
+    = sym (c.refused_container_create.ensures c.args.avoid) ∙ c.in-None.is in
     let stores : with_label (state_of c.args.self.now.records) (stored c.args.raw.now)
-          (λ l. made (state_of c.args.self.now.records) c.args.container (fresh_object l c.args.quota
-            (is.Container (joined_at (state_of c.args.self.now.records) c.args.avoid c.args.container) [])))
-        ≡ made (state_of c.args.self.now.records) c.args.container (fresh_object c.in-Some-label.label c.args.quota
-            (is.Container (joined_at (state_of c.args.self.now.records) c.args.avoid c.args.container) []))
-      = with_stored _ _ _ _ (sym c.stored_of-label.ensures.stored ∙ c.in-Some-label.is) in
+    (λ l. made (state_of c.args.self.now.records) c.args.container (fresh_object l c.args.quota
+    (is.Container (joined_at (state_of c.args.self.now.records) c.args.avoid c.args.container) [])))
+    ≡ made (state_of c.args.self.now.records) c.args.container (fresh_object c.in-Some-label.label c.args.quota
+    (is.Container (joined_at (state_of c.args.self.now.records) c.args.avoid c.args.container) []))
+    = with_stored _ _ _ _ (sym c.stored_of-label.ensures.stored ∙ c.in-Some-label.is) in
     then_on _ _ _ _ c.create.ensures.ok
-      ((λ i. made (state_of c.args.self.now.records) c.args.container (fresh_object c.in-Some-label.label c.args.quota
-          (is.Container (c.joined-avoid.ensures i) (c.new.ensures i))))
-        ∙ sym stores
-        ∙ sym (step_sound (state_of c.args.self.now.records) c.args.thread (call.ContainerCreate c.args.container c.args.raw.now c.args.quota c.args.avoid) none
-          (ap is_well_formed stores
-            ∙ made_well_formed (state_of c.args.self.now.records) c.args.container c.in-Some-label.label c.args.quota
-              (is.Container (joined_at (state_of c.args.self.now.records) c.args.avoid c.args.container) [])
-              (container_fits (state_of c.args.self.now.records) c.args.thread c.args.container c.args.raw.now c.args.quota c.args.avoid
-                (joined_at (state_of c.args.self.now.records) c.args.avoid c.args.container) none).0
-              c.args.self.now.well_formed)))
+    ((λ i. made (state_of c.args.self.now.records) c.args.container (fresh_object c.in-Some-label.label c.args.quota
+    (is.Container (c.joined-avoid.ensures i) (c.new.ensures i))))
+    ∙ sym stores
+    ∙ sym (step_sound (state_of c.args.self.now.records) c.args.thread (call.ContainerCreate c.args.container c.args.raw.now c.args.quota c.args.avoid) none
+    (ap is_well_formed stores
+    ∙ made_well_formed (state_of c.args.self.now.records) c.args.container c.in-Some-label.label c.args.quota
+    (is.Container (joined_at (state_of c.args.self.now.records) c.args.avoid c.args.container) [])
+    (container_fits (state_of c.args.self.now.records) c.args.thread c.args.container c.args.raw.now c.args.quota c.args.avoid
+    (joined_at (state_of c.args.self.now.records) c.args.avoid c.args.container) none).0
+    c.args.self.now.well_formed)))

@@ -12,7 +12,7 @@ pub write_bytes-requires : goal.write_bytes-requires
 write_bytes-requires c = rw c.as_slice.ensures.value (write_fits _ _ _ _ _ (sym c.refused_segment_write.ensures ∙ c.in-None.is))
 
 pub invariant_of-self : goal.invariant_of-self
-invariant_of-self c = record { well_formed = subst (λ (s : State) . is_well_formed s ≡ true) (sym c.write_bytes.ensures) (rebyte_well_formed (state_of c.args.self.now.records) c.args.entry.now.object (written c.args.offset c.as_slice.result.now) c.args.self.now.well_formed) }
+invariant_of-self c = record { well_formed = subst (λ (s : State). is_well_formed s ≡ true) (sym c.write_bytes.ensures) (rebyte_well_formed (state_of c.args.self.now.records) c.args.entry.now.object (written c.args.offset c.as_slice.result.now) c.args.self.now.well_formed) }
 
 pub returns-in-Some-clause-reply : goal.returns-in-Some-clause-reply
 returns-in-Some-clause-reply c = sym (step_refused _ _ _ _ (sym c.refused_segment_write.ensures ∙ c.in-Some.is)).0
