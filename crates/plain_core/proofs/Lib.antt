@@ -1,3 +1,4 @@
+pub mod BootLaws
 pub mod ChangeLaws
 pub mod GrowLaws
 pub mod MadeLaws

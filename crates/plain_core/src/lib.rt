@@ -19,3 +19,6 @@ pub use lists::{Bytes, IdList, Packets, Slots};
 pub use machine::{Machine, run};
 pub use objects::{Body, Gate, Mapping, Object, Thread};
 pub use records::Records;
+
+#[cfg(test)]
+mod tests;
