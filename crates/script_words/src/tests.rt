@@ -1,0 +1,104 @@
+//! What the command line takes and refuses.
+use super::*;
+use base::{Level, Limits};
+use std::test::Fail;
+
+#[test]
+fn reads_the_options(rt: HostRuntime) -> Result<(), Fail> {
+    let words = ["histar", "run", "a.histar"];
+    let told = read_words(rt.alloc(), words.as_slice())?;
+    assert!(rt; told.script == "a.histar" && told.options == DEFAULTS);
+    let words = [
+        "histar",
+        "run",
+        "a.histar",
+        "--pages",
+        "512",
+        "--device",
+        "3",
+        "--next-id",
+        "2305843009213693952",
+        "--next-category",
+        "2305843009213693952",
+    ];
+    let told = read_words(rt.alloc(), words.as_slice())?;
+    let spent = 1u64 << 61;
+    let limits = Limits {
+        pages: 512,
+        device: Level::L3,
+        next_id: spent,
+        next_category: spent,
+    };
+    assert!(rt; told.options.limits == limits && limits.is_in_range());
+    let words = [
+        "histar",
+        "run",
+        "--pages",
+        "8",
+        "--device",
+        "0",
+        "--next-id",
+        "4",
+        "--next-category",
+        "1",
+        "b",
+    ];
+    let told = read_words(rt.alloc(), words.as_slice())?;
+    let limits = Limits {
+        pages: 8,
+        device: Level::L0,
+        next_id: 4,
+        next_category: 1,
+    };
+    assert!(rt; told.script == "b" && told.options.limits == limits && limits.is_in_range());
+    Ok(())
+}
+
+#[test]
+fn refuses_what_is_out_of_range(rt: HostRuntime) -> Result<(), Fail> {
+    let cases = [
+        ["--pages", "7"],
+        ["--pages", "513"],
+        ["--device", "4"],
+        ["--next-id", "3"],
+        ["--next-id", "2305843009213693953"],
+        ["--next-category", "0"],
+        ["--next-category", "2305843009213693953"],
+        ["--pages", "x"],
+        ["--dump", "d"],
+    ];
+    for case in cases {
+        let words = ["histar", "run", "a.histar", case[0], case[1]];
+        match read_words(rt.alloc(), words.as_slice()) {
+            Ok(_) => assert!(rt; false, "{case:?}"),
+            Err(error) => assert!(rt; error.exit_code() == 2 && error.use_stderr(), "{case:?}"),
+        }
+    }
+    Ok(())
+}
+
+#[test]
+fn tells_what_is_wrong(rt: HostRuntime) -> Result<(), Fail> {
+    let words = ["histar", "run", "a.histar", "--pages", "7"];
+    match read_words(rt.alloc(), words.as_slice()) {
+        Ok(_) => assert!(rt; false),
+        Err(error) => {
+            let text = format!(in rt.alloc(); "{error}")?;
+            assert_eq!(rt;
+                text.as_str(),
+                "error: invalid value '7' for '--pages <N>': 7 is not in 8..=512\n\nFor more information, try '--help'.\n"
+            );
+        }
+    }
+    let words = ["histar", "--help"];
+    match read_words(rt.alloc(), words.as_slice()) {
+        Ok(_) => assert!(rt; false),
+        Err(error) => assert!(rt; error.exit_code() == 0 && !error.use_stderr()),
+    }
+    let words = ["histar"];
+    match read_words(rt.alloc(), words.as_slice()) {
+        Ok(_) => assert!(rt; false),
+        Err(error) => assert!(rt; error.exit_code() == 2),
+    }
+    Ok(())
+}

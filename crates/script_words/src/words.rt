@@ -1,0 +1,114 @@
+//! The command line of `histar`.
+use base::{Level, Limits};
+use clap::{Arg, ArgAction, ArgMatches, Command, Error, value_parser};
+use std::alloc::Global;
+use std::convert::AsStr;
+
+/// How a script is played.
+#[derive(Clone, Copy, Debug, PartialEq, Eq)]
+pub struct Options {
+    /// What the kernel is booted with.
+    pub limits: Limits,
+}
+
+/// The options of a run that is told none: 64 pages, a device of level 1, the first id 4 and the first category 1.
+pub const DEFAULTS: Options = Options {
+    limits: Limits {
+        pages: 64,
+        device: Level::L1,
+        next_id: 4,
+        next_category: 1,
+    },
+};
+
+/// What the words say.
+#[derive(Clone, Copy)]
+pub struct Told<'a> {
+    pub options: Options,
+    /// The path of the script.
+    pub script: &'a str,
+}
+
+fn number<'a>(alloc: Global, name: &'a str, default: &'a str, help: &'a str) -> Arg<'a> {
+    Arg::new(alloc, name)
+        .long(name)
+        .value_name("N")
+        .default_value(default)
+        .help(help)
+}
+
+fn command<'a>(alloc: Global) -> Result<Command<'a>, Error> {
+    let script = Arg::new(alloc, "SCRIPT")
+        .required(true)
+        .action(ArgAction::Set)
+        .help("The script to play");
+    let pages = number(
+        alloc,
+        "pages",
+        "64",
+        "The quota of the root, in pages of 256 bytes",
+    )
+    .value_parser(value_parser!(u64).range(8..513));
+    let device = number(alloc, "device", "1", "The level of the device's label")
+        .value_name("L")
+        .value_parser(value_parser!(u64).range(0..4));
+    let next_id = number(alloc, "next-id", "4", "The first id that a call gives").value_parser(
+        value_parser!(u64).range(4..2305843009213693953),
+    );
+    let next_category = number(
+        alloc,
+        "next-category",
+        "1",
+        "The first category that a call gives",
+    )
+    .value_parser(value_parser!(u64).range(1..2305843009213693953));
+    let run = Command::new(alloc, "run")
+        .about("Plays a script on a newly booted kernel, and prints its replies")
+        .arg(script)?
+        .arg(pages)?
+        .arg(device)?
+        .arg(next_id)?
+        .arg(next_category)?;
+    Ok(
+        Command::new(alloc, "histar")
+            .about("A kernel of labels, containers, segments, address spaces, threads and gates")
+            .subcommand_required(true)
+            .subcommand(run)?,
+    )
+}
+
+fn level_of(number: u64) -> Level {
+    match number {
+        0 => Level::L0,
+        1 => Level::L1,
+        2 => Level::L2,
+        _ => Level::L3,
+    }
+}
+
+fn limits_of(run: &ArgMatches<'_>) -> Limits {
+    let pages = run.get_one::<u64>("pages").unwrap_or(64);
+    Limits {
+        pages: u32::try_from(pages).unwrap_or(64),
+        device: level_of(run.get_one::<u64>("device").unwrap_or(1)),
+        next_id: run.get_one::<u64>("next-id").unwrap_or(4),
+        next_category: run.get_one::<u64>("next-category").unwrap_or(1),
+    }
+}
+
+/// What the words say, the first of them being the program's name, or what `clap` answers to them: help, a fault of
+/// usage, or want of memory.
+pub fn read_words<'a, S: AsStr>(alloc: Global, words: &'a [S]) -> Result<Told<'a>, Error> {
+    let matches = command(alloc)?.try_get_matches_from(words)?;
+    let Some((_name, run)) = matches.subcommand() else {
+        return Ok(Told {
+            options: DEFAULTS,
+            script: "",
+        });
+    };
+    let options = Options {
+        limits: limits_of(run),
+    };
+    let script = run.get_str("SCRIPT").unwrap_or("");
+    Ok(Told { options, script })
+}
