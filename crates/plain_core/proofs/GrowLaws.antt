@@ -87,7 +87,7 @@ all-insert p k (e ∷ es) x new old =
       | Greater ↦ and_from (p e.0) (list_all (λ e. p e.0) (lists_of (insert_entry nat_cmp es k x))) both.0 (all-insert p k es x new both.1)
     ]
 
-absent-set_value : (d k : ℕ) (es : List (ℕ × Object)) (y : Object) → lookup (is_at (nat_cmp k)) es ≡ None → lookup (is_at (nat_cmp k)) (set_value (is_at (nat_cmp d)) es y) ≡ None
+pub absent-set_value : (d k : ℕ) (es : List (ℕ × Object)) (y : Object) → lookup (is_at (nat_cmp k)) es ≡ None → lookup (is_at (nat_cmp k)) (set_value (is_at (nat_cmp d)) es y) ≡ None
 absent-set_value d k [] y h = refl
 absent-set_value d k (e ∷ es) y h = elim (is_at (nat_cmp k) e.0) as (λ v. is_at (nat_cmp k) e.0 ≡ v → cond v (Some e.1) (lookup (is_at (nat_cmp k)) es) ≡ None → lookup (is_at (nat_cmp k)) (set_value (is_at (nat_cmp d)) (e ∷ es) y) ≡ None) [
   | true ↦ λ is f. absurd (cc)

@@ -1,9 +1,13 @@
 pub mod BootLaws
 pub mod ChangeLaws
+pub mod EditLaws
 pub mod GrowLaws
+pub mod KeptLaws
+pub mod LookupLaws
 pub mod MadeLaws
 pub mod RecordLaws
 pub mod RowLaws
 pub mod RunLaws
 pub mod StepLaws
+pub mod StoredLaws
 pub mod WellFormedLaws

@@ -1,6 +1,6 @@
 -- What an answer is, once it is known what refuses the call.
-use Rattle.std.proofs.Common.{◌≡◌, ◌≢◌, ◌≤◌, ◌<◌, ◌+◌, ◌*◌, ◌/◌, ◌%◌, ◌^◌, ℕ, Bool, true, false, ◌&&◌, ◌||◌, nat_le, List, [], ◌∷◌, ◌++◌, length, replicate, Option, Some, None, is_none, Result, Ok, Err, OnOk, IfOk, refl, sym, ◌∙◌, ap, subst, arith}
-use Rattle.std.proofs.lemmas.Bool.{and_parts, not-false, leb-true, leb-false, ltb-false, both_ways}
+use Rattle.std.proofs.Common.{◌≡◌, ◌≢◌, ◌≤◌, ◌<◌, ◌+◌, ◌*◌, ◌/◌, ◌%◌, ◌^◌, ℕ, Bool, true, false, ◌&&◌, ◌||◌, ◌==◌, nat_le, List, [], ◌∷◌, ◌++◌, length, replicate, Option, Some, None, is_none, Result, Ok, Err, OnOk, IfOk, refl, sym, ◌∙◌, ap, subst, arith}
+use Rattle.std.proofs.lemmas.Bool.{and_parts, and_from, eq-eqb, not-false, leb-true, leb-false, ltb-false, both_ways}
 use Rattle.std.proofs.lemmas.List.{length-replicate}
 use Rattle.base.specs.declared.kinds.Kind.TheVariants as kinds
 use Rattle.base.specs.declared.refusals.Refusal.{Refusal}
@@ -20,8 +20,8 @@ use Rattle.plain_core.specs.declared.calls.Query.{Query}
 use Rattle.plain_core.specs.declared.calls.Query.TheVariants as query
 use Rattle.plain_core.specs.declared.calls.Reply.TheVariants.{Refused}
 use Rattle.plain_core.proofs.RecordLaws.{restricted_live}
-use Rattle.plain_core.specs.WellFormed.{is_well_formed}
-use Rattle.plain_core.proofs.WellFormedLaws.{well_formed_live}
+use Rattle.plain_core.specs.WellFormed.{is_well_formed, is_whole_body}
+use Rattle.plain_core.proofs.WellFormedLaws.{soundness_of}
 use Rattle.plain_core.proofs.RowLaws.{NoneHold, none_hold}
 
 pub ask_refused : (s : State) (t : ℕ) (q : Query) (r : Refusal) → query_refused s t q ≡ Some r → query_answer s t q ≡ Refused r
@@ -42,7 +42,7 @@ step_done s t c h = (ap (λ o. or_refused o (accepted s t c)) h, ap (λ o. or_sa
 
 -- a call that is not refused, whose edit is well formed
 pub step_sound : (s : State) (t : ℕ) (c : Call) → refused s t c ≡ None → is_well_formed (edit s t c) ≡ true → next s t c ≡ edit s t c
-step_sound s t c h sound = (step_done s t c h).1 ∙ restricted_live (edit s t c) (well_formed_live (edit s t c) sound)
+step_sound s t c h sound = (step_done s t c h).1 ∙ restricted_live (edit s t c) (soundness_of (edit s t c) sound).live
 
 -- 1 to 64 bytes that lie within so many
 pub record IsWithin (a n len : ℕ) : Type 0 where
@@ -79,6 +79,12 @@ category_left s t h = leb-false _ _ (none_hold (halted s t ++ row s t call.CatCr
 cost_zeroed : (pages q : ℕ) → 1 + pages ≤ q → 1 + length {A = ℕ} (replicate (256 * pages) 0) / 256 ≤ q
 cost_zeroed pages q h = rw (length-replicate {A = ℕ} (256 * pages) 0) (omega arith)
 
+whole_zeroed : (pages : ℕ) → pages ≤ 16 → is_whole_body (is.Segment (replicate (256 * pages) 0)) ≡ true
+whole_zeroed pages few = rw (length-replicate {A = ℕ} (256 * pages) 0) (whole_pages pages few)
+  where
+    whole_pages : (p : ℕ) → p ≤ 16 → (256 * p == 256 * (256 * p / 256) && nat_le (256 * p) 4096) ≡ true
+    whole_pages p few = and_from (256 * p == 256 * (256 * p / 256)) (nat_le (256 * p) 4096) (eq-eqb (256 * p) (256 * (256 * p / 256)) (omega arith)) (grind arith)
+
 or_false_left : (a b : Bool) → a || b ≡ false → a ≡ false
 or_false_left true b h = h
 or_false_left false b h = refl
@@ -95,6 +101,7 @@ container_fits s t d x q avoid kinds h =
         room = ltb-false _ _ none.1.1.1.1.1.1.0;
         left = leb-false _ _ none.1.1.1.1.1.1.1.1.0;
         empty = refl;
+        whole = refl;
       },
       or_false_left _ _ (or_false_left _ _ none.1.1.1.1.1.1.1.1.1.0),
     )
@@ -111,6 +118,7 @@ segment_fits s t d x q pages h =
         room = ltb-false _ _ none.1.1.1.1.1.1.0;
         left = leb-false _ _ none.1.1.1.1.1.1.1.1.0;
         empty = refl;
+        whole = whole_zeroed pages (ltb-false _ _ none.1.1.1.1.1.1.1.1.1.1.1.0);
       },
       or_false_left _ _ (or_false_left _ _ none.1.1.1.1.1.1.1.1.1.0),
     )

@@ -1,52 +1,45 @@
 -- What a well-formed state gives, and what keeps it well formed.
-use Rattle.std.proofs.Common.{◌≡◌, ℕ, ◌+◌, Bool, true, ◌&&◌, nat_lt, List, Option, Some, None, refl, ◌∙◌, ap}
+use Rattle.std.proofs.Common.{◌≡◌, ℕ, ◌+◌, Bool, true, ◌&&◌, nat_lt, List, refl, ◌∙◌, ap}
+use Rattle.std.specs.List.{list_all}
 use Rattle.std.proofs.lemmas.Bool.{and_parts, and_from}
 use Rattle.base.specs.Live.{are_live, is_live}
-use Rattle.plain_core.specs.State.{State, lists_of, is_kind_at, is_live_kind}
-use Rattle.plain_core.specs.WellFormed.{is_well_formed, are_given}
-use Rattle.plain_core.proofs.RecordLaws.{kind_live}
 use Rattle.base.specs.declared.kinds.Kind as kind
-use Rattle.std.specs.List.{list_all}
-use Rattle.label_lattice.specs.Label.{LabelValue}
-use Rattle.plain_core.specs.State.{listed}
-use Rattle.plain_core.specs.Changes.{changed, with_body, rebyte, owning}
-use Rattle.plain_core.specs.Step.{owned}
+use Rattle.plain_core.specs.State.{State, lists_of, is_kind_at, is_live_kind}
+use Rattle.plain_core.specs.WellFormed.{is_well_formed, are_given, ids_rise, is_kept}
 use Rattle.plain_core.specs.declared.objects.Object.{Object}
-use Rattle.plain_core.proofs.RecordLaws.{lists_of-changed, next_id-changed, listed-rebyte, listed-rethread}
+use Rattle.plain_core.proofs.RecordLaws.{kind_live}
 
-pub well_formed_live : (s : State) → is_well_formed s ≡ true → are_live (lists_of s.objects) ≡ true
-unfolding is_well_formed
-well_formed_live s h = (and_parts (are_live (lists_of s.objects)) (are_given s) h).0
+-- the parts of a well-formed state
+pub record Soundness (s : State) : Type 0 where
+  pub begun : nat_lt 3 s.next_id ≡ true
+  pub live : are_live (lists_of s.objects) ≡ true
+  pub given : are_given s ≡ true
+  pub rise : ids_rise s.objects ≡ true
+  pub kept : list_all (λ e. is_kept s e.0 e.1) s.objects ≡ true
 
-pub well_formed_given : (s : State) → is_well_formed s ≡ true → are_given s ≡ true
-unfolding is_well_formed
-well_formed_given s h = (and_parts (are_live (lists_of s.objects)) (are_given s) h).1
+four : (a b c d e : Bool) → (a && b && c && d && e) ≡ true → (a ≡ true) × (b ≡ true) × (c ≡ true) × (d ≡ true) × (e ≡ true)
+four a b c d e h =
+    let last : ((a && b && c && d) ≡ true) × (e ≡ true) = and_parts (a && b && c && d) e h in
+    let third : ((a && b && c) ≡ true) × (d ≡ true) = and_parts (a && b && c) d last.0 in
+    let second : ((a && b) ≡ true) × (c ≡ true) = and_parts (a && b) c third.0 in
+    let first : (a ≡ true) × (b ≡ true) = and_parts a b second.0 in
+    (first.0, first.1, second.1, third.1, last.1)
 
-pub well_formed_from : (s : State) → are_live (lists_of s.objects) ≡ true → are_given s ≡ true → is_well_formed s ≡ true
+pub soundness_of : (s : State) → is_well_formed s ≡ true → Soundness s
 unfolding is_well_formed
-well_formed_from s live given = and_from (are_live (lists_of s.objects)) (are_given s) live given
+soundness_of s h =
+    let parts = four (nat_lt 3 s.next_id) (are_live (lists_of s.objects)) (are_given s) (ids_rise s.objects) (list_all (λ e. is_kept s e.0 e.1) s.objects) h in
+    record { begun = parts.0; live = parts.1; given = parts.2; rise = parts.3; kept = parts.4 }
+
+pub well_formed_from : (s : State) → Soundness s → is_well_formed s ≡ true
+unfolding is_well_formed
+well_formed_from s h =
+    and_from (nat_lt 3 s.next_id && are_live (lists_of s.objects) && are_given s && ids_rise s.objects) (list_all (λ e. is_kept s e.0 e.1) s.objects)
+    (and_from (nat_lt 3 s.next_id && are_live (lists_of s.objects) && are_given s) (ids_rise s.objects)
+    (and_from (nat_lt 3 s.next_id && are_live (lists_of s.objects)) (are_given s)
+    (and_from (nat_lt 3 s.next_id) (are_live (lists_of s.objects)) h.begun h.live) h.given) h.rise)
+    h.kept
 
 -- each record is live
 pub live_kind : (s : State) (k : kind.Kind) (o : ℕ) → is_well_formed s ≡ true → is_kind_at s k o ≡ is_live_kind s k o
-live_kind s k o h = kind_live s k o (well_formed_live s h)
-
--- a state whose objects list what those of a well-formed one list, under the same next id
-pub same_lists : (s n : State) → lists_of n.objects ≡ lists_of s.objects → n.next_id ≡ s.next_id → is_well_formed s ≡ true → is_well_formed n ≡ true
-same_lists s n lists id h =
-    well_formed_from n
-    (ap are_live lists ∙ well_formed_live s h)
-    ((λ i. list_all (λ e. nat_lt e.0 (id i)) (lists i)) ∙ well_formed_given s h)
-
--- an edit of one object that leaves its list
-pub changed_well_formed : (s : State) (o : ℕ) (f : Object → Object) → ((x : Object) → listed (f x).body ≡ listed x.body) → is_well_formed s ≡ true → is_well_formed (changed s o f) ≡ true
-changed_well_formed s o f same h = same_lists s (changed s o f) (lists_of-changed s o f same) (next_id-changed s o f) h
-
-pub rebyte_well_formed : (s : State) (o : ℕ) (f : List ℕ → List ℕ) → is_well_formed s ≡ true → is_well_formed (changed s o (with_body (rebyte f))) ≡ true
-rebyte_well_formed s o f h = changed_well_formed s o (with_body (rebyte f)) (λ x. listed-rebyte f x.body) h
-
-pub owned_well_formed : (s : State) (t : ℕ) (l c : Option LabelValue) → is_well_formed s ≡ true → is_well_formed (owned s t l c) ≡ true
-owned_well_formed s t None c h = h
-owned_well_formed s t (Some l) None h = h
-owned_well_formed s t (Some l) (Some c) h =
-    let mid : is_well_formed (changed s t (owning l c)) ≡ true = changed_well_formed s t (owning l c) (λ x. listed-rethread (λ r. record r { clearance = c }) x.body) h in
-    same_lists (changed s t (owning l c)) (record (changed s t (owning l c)) { next_category = s.next_category + 1 }) refl refl mid
+live_kind s k o h = kind_live s k o (soundness_of s h).live

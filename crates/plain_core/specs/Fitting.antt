@@ -3,6 +3,7 @@ use Rattle.std.specs.Prelude.{◌≡◌, ℕ, ◌+◌, ◌≤◌, ◌<◌, true,
 use Rattle.base.specs.Limits.{spent}
 use Rattle.base.specs.declared.kinds.Kind.TheVariants as kinds
 use Rattle.plain_core.specs.State.{State, is_kind_at, listed, own_cost, quota_at, use_of}
+use Rattle.plain_core.specs.WellFormed.{is_whole_body}
 use Rattle.plain_core.specs.declared.objects.Body.{Body}
 
 -- an object of quota q with this body fits into container d
@@ -12,3 +13,4 @@ pub record IsFitting (s : State) (d q : ℕ) (b : Body) : Type 0 where
   pub room : use_of s d + q ≤ quota_at s d
   pub left : s.next_id < spent
   pub empty : listed b ≡ []
+  pub whole : is_whole_body b ≡ true

@@ -2,11 +2,11 @@ pub mod Written
 pub mod Labels
 pub mod State
 pub mod Rows
+pub mod WellFormed
 pub mod Fitting
 pub mod Changes
 pub mod Step
 pub mod Runs
 pub mod StateOf
 pub mod Undo
-pub mod WellFormed
 pub mod Kernel

@@ -1,6 +1,6 @@
 //! The plain machine on its happy path, and without memory.
 use super::*;
-use base::{Category, Data, Level, Limits, Meter, ObjectId, TypeSet};
+use base::{Category, Data, Level, Limits, Meter, NoMemory, ObjectId, TypeSet};
 use label_lattice::{Pair, Pairs, RawLabel};
 use std::test::Fail;
 
@@ -88,4 +88,80 @@ fn a_write_is_read(rt: HostRuntime) -> Result<(), Fail> {
     };
     assert_eq!(rt; refusal.number(), 18);
     Ok(())
+}
+
+/// A call that is made again where there was no memory, which answers what it would have.
+fn step_again(kernel: &mut PlainKernel, call: &Call, meter: &mut Meter) -> Result<Reply, NoMemory> {
+    let boot = ObjectId::new(2);
+    match kernel.step(boot, call, meter) {
+        Ok(reply) => Ok(reply),
+        Err(_) => kernel.step(boot, call, meter),
+    }
+}
+
+fn booted(rt: &HostRuntime) -> Result<PlainKernel, BootRefusal> {
+    match PlainKernel::boot(rt.alloc(), &LIMITS) {
+        Ok(kernel) => Ok(kernel),
+        Err(_) => PlainKernel::boot(rt.alloc(), &LIMITS),
+    }
+}
+
+// Where an allocation is refused, the value before stands: the call that is made again answers as if nothing had been.
+#[test]
+fn want_of_memory_changes_nothing(rt: HostRuntime) -> Result<(), Fail> {
+    let mut meter = match Meter::new(rt.alloc()) {
+        Ok(meter) => meter,
+        Err(_) => Meter::new(rt.alloc())?,
+    };
+    let mut kernel = booted(&rt)?;
+    let made = step_again(&mut kernel, &Call::CatCreate, &mut meter)?;
+    assert!(rt; matches!(made, Reply::Category(Category(1))));
+    let segment = Call::SegmentCreate {
+        container: ObjectId::root(),
+        label: secret(),
+        quota: 2,
+        pages: 1,
+    };
+    let made = step_again(&mut kernel, &segment, &mut meter)?;
+    assert!(rt; matches!(made, Reply::Object(id) if id.number() == 4));
+    let made = step_again(&mut kernel, &segment, &mut meter)?;
+    assert!(rt; matches!(made, Reply::Object(id) if id.number() == 5));
+    let container = Call::ContainerCreate {
+        container: ObjectId::root(),
+        label: plain(),
+        quota: 60,
+        avoid: TypeSet::none(),
+    };
+    let made = step_again(&mut kernel, &container, &mut meter)?;
+    assert!(rt; matches!(made, Reply::Refused(refusal) if refusal.number() == 12));
+    let write = Call::SegmentWrite {
+        entry: Entry {
+            container: ObjectId::root(),
+            object: ObjectId::new(5),
+        },
+        offset: 0,
+        data: Data::from_slice(b"ok"),
+    };
+    let boot = ObjectId::new(2);
+    let calls = [(boot, write), (boot, Call::CatCreate)];
+    let replies = match run(rt.alloc(), &mut kernel, &calls) {
+        Ok(replies) => replies,
+        Err(_) => run(rt.alloc(), &mut kernel, &calls)?,
+    };
+    assert_eq!(rt; replies.len(), 2);
+    assert!(rt;
+        matches!(replies[0], Reply::Done) && matches!(replies[1], Reply::Category(Category(2)))
+    );
+    Ok(())
+}
+
+#[test]
+fn limits_are_tested(rt: HostRuntime) {
+    let mut limits = LIMITS;
+    limits.pages = 7;
+    match PlainKernel::boot(rt.alloc(), &limits) {
+        Ok(_) => assert!(rt; false),
+        Err(refusal) => assert_eq!(rt; refusal.refusal().number(), 31),
+    }
+    assert!(rt; BootRefusal::Unavailable.refusal().name() == "Unavailable");
 }

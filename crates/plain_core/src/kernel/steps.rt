@@ -1,5 +1,6 @@
 //! One function for each call: what refuses it, or what it changes and answers.
 ghost use Rattle.std.specs.Prelude.{◌≡◌, IfOk, OnOk, OnErr};
+ghost use Rattle.label_lattice.specs.Label.{IsStored};
 ghost use Rattle.plain_core.specs.Changes.{fresh_object, made};
 ghost use Rattle.plain_core.specs.Fitting.{IsFitting};
 ghost use Rattle.plain_core.specs.Step.{answer, next, query_answer};
@@ -96,7 +97,8 @@ impl PlainKernel {
         quota: u32,
         body: Body,
     ) -> Result<Reply, NoMemory>
-        requires { IsFitting (state_of self.old.records) container quota body }
+        requires fitting { IsFitting (state_of self.old.records) container quota body }
+        requires label { IsStored label }
         ensures reply { IfOk result (λ reply. reply ≡ Reply.Object self.old.records.next_id) }
         ensures ok { OnOk result (state_of self.new.records
             ≡ made (state_of self.old.records) container (fresh_object label quota body)) }

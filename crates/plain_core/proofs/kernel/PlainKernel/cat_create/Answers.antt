@@ -1,12 +1,12 @@
-use Rattle.std.proofs.Common.{sym, ◌∙◌, subst, ◌≡◌, true, ap, ◌||◌, is_none, Option}
-use Rattle.label_lattice.specs.Label.{LabelValue}
+use Rattle.std.proofs.Common.{sym, ◌∙◌, subst, ◌≡◌, true, ap, ◌||◌, is_none, Option, IfSome}
+use Rattle.label_lattice.specs.Label.{LabelValue, IsStored}
 use Rattle.plain_core.specs.Rows.{own_label, own_clearance}
 use Rattle.plain_core.specs.State.{State}
 use Rattle.plain_core.specs.StateOf.{state_of}
 use Rattle.plain_core.specs.Step.{owned}
 use Rattle.plain_core.specs.WellFormed.{is_well_formed}
 use Rattle.plain_core.proofs.StepLaws.{step_refused, step_done, step_sound, category_left}
-use Rattle.plain_core.proofs.WellFormedLaws.{owned_well_formed}
+use Rattle.plain_core.proofs.EditLaws.{owned_well_formed}
 use Rattle.plain_core.proofs.kernel.PlainKernel.cat_create.Goals as goal
 
 pub own_category-requires : goal.own_category-requires
@@ -15,7 +15,8 @@ own_category-requires c = category_left _ _ (sym c.refused_cat_create.ensures �
 pub invariant_of-self : goal.invariant_of-self
 invariant_of-self c = record {
   well_formed = subst (λ (s : State). is_well_formed s ≡ true) (sym c.own_category.ensures)
-      (owned_well_formed (state_of c.args.self.now.records) c.args.thread _ _ c.args.self.now.well_formed);
+      (owned_well_formed (state_of c.args.self.now.records) c.args.thread c.own_label-label.result c.own_clearance-clearance.result
+      c.own_label-label.ensures.fit c.own_clearance-clearance.ensures.fit c.args.self.now.well_formed);
 }
 
 pub returns-in-Some-clause-reply : goal.returns-in-Some-clause-reply
@@ -32,4 +33,7 @@ returns-in-None-clause-state c =
     c.own_category.ensures
     ∙ (λ i. owned (state_of c.args.self.now.records) c.args.thread (c.own_label-label.ensures.value i) (c.own_clearance-clearance.ensures.value i))
     ∙ sym (step_sound _ _ _ (sym c.refused_cat_create.ensures ∙ c.in-None.is)
-    (owned_well_formed (state_of c.args.self.now.records) c.args.thread _ _ c.args.self.now.well_formed))
+    (owned_well_formed (state_of c.args.self.now.records) c.args.thread (own_label (state_of c.args.self.now.records) c.args.thread) (own_clearance (state_of c.args.self.now.records) c.args.thread)
+    (subst (λ (v : Option LabelValue). IfSome v IsStored) c.own_label-label.ensures.value c.own_label-label.ensures.fit)
+    (subst (λ (v : Option LabelValue). IfSome v IsStored) c.own_clearance-clearance.ensures.value c.own_clearance-clearance.ensures.fit)
+    c.args.self.now.well_formed))

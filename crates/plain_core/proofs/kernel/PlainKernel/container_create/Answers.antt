@@ -1,5 +1,5 @@
-use Rattle.std.proofs.Common.{ℕ, sym, ◌∙◌, ap, subst, [], ◌≡◌, true, List, Some, None}
-use Rattle.label_lattice.specs.Label.{LabelValue}
+use Rattle.std.proofs.Common.{ℕ, sym, ◌∙◌, ap, subst, [], ◌≡◌, true, List, Some, None, Option, IfSome}
+use Rattle.label_lattice.specs.Label.{LabelValue, IsStored}
 use Rattle.plain_core.specs.Changes.{made, fresh_object, joined_at}
 use Rattle.plain_core.specs.Fitting.{IsFitting}
 use Rattle.plain_core.specs.Labels.{stored}
@@ -11,6 +11,7 @@ use Rattle.plain_core.specs.declared.calls.Call.TheVariants as call
 use Rattle.plain_core.specs.declared.objects.Body.TheVariants as is
 use Rattle.plain_core.proofs.StepLaws.{step_refused, step_done, step_sound, container_fits, then_on, then_if, with_stored, not_both}
 use Rattle.plain_core.proofs.MadeLaws.{made_well_formed}
+use Rattle.plain_core.proofs.StoredLaws.{stored_test}
 use Rattle.plain_core.proofs.kernel.PlainKernel.container_create.Goals as goal
 
 pub unreachable-requires : goal.unreachable-requires
@@ -18,8 +19,8 @@ unreachable-requires c =
     not_both (stored c.args.raw.now) (sym c.stored_of-label.ensures.stored ∙ c.in_default.is)
     (container_fits _ _ _ _ _ _ c.args.avoid (sym (c.refused_container_create.ensures c.args.avoid) ∙ c.in-None.is)).1
 
-pub create-requires : goal.create-requires
-create-requires c =
+pub create-requires-clause-fitting : goal.create-requires-clause-fitting
+create-requires-clause-fitting c =
     let P : List ℕ → Type 0 = λ ids. IsFitting (state_of c.args.self.now.records) c.args.container c.args.quota (is.Container c.joined-avoid.result ids) in
     subst P (sym c.new.ensures)
     (container_fits (state_of c.args.self.now.records) c.args.thread c.args.container c.args.raw.now c.args.quota c.args.avoid c.joined-avoid.result
@@ -54,4 +55,5 @@ returns-in-Some-label-clause-ok c =
     (is.Container (joined_at (state_of c.args.self.now.records) c.args.avoid c.args.container) [])
     (container_fits (state_of c.args.self.now.records) c.args.thread c.args.container c.args.raw.now c.args.quota c.args.avoid
     (joined_at (state_of c.args.self.now.records) c.args.avoid c.args.container) none).0
+    (stored_test c.in-Some-label.label (subst (λ (v : Option LabelValue). IfSome v IsStored) c.in-Some-label.is c.stored_of-label.ensures.fit))
     c.args.self.now.well_formed)))

@@ -1,5 +1,5 @@
-use Rattle.std.proofs.Common.{ℕ, sym, ◌∙◌, ap, subst, ◌≡◌, ◌*◌, replicate, true, List, Some, None}
-use Rattle.label_lattice.specs.Label.{LabelValue}
+use Rattle.std.proofs.Common.{ℕ, sym, ◌∙◌, ap, subst, ◌≡◌, ◌*◌, replicate, true, List, Some, None, Option, IfSome}
+use Rattle.label_lattice.specs.Label.{LabelValue, IsStored}
 use Rattle.plain_core.specs.Changes.{made, fresh_object}
 use Rattle.plain_core.specs.Fitting.{IsFitting}
 use Rattle.plain_core.specs.Labels.{stored}
@@ -11,6 +11,7 @@ use Rattle.plain_core.specs.declared.calls.Call.TheVariants as call
 use Rattle.plain_core.specs.declared.objects.Body.TheVariants as is
 use Rattle.plain_core.proofs.StepLaws.{step_refused, step_done, step_sound, segment_fits, then_on, then_if, with_stored, not_both}
 use Rattle.plain_core.proofs.MadeLaws.{made_well_formed}
+use Rattle.plain_core.proofs.StoredLaws.{stored_test}
 use Rattle.plain_core.proofs.kernel.PlainKernel.segment_create.Goals as goal
 
 pub unreachable-requires : goal.unreachable-requires
@@ -18,8 +19,8 @@ unreachable-requires c =
     not_both (stored c.args.raw.now) (sym c.stored_of-label.ensures.stored ∙ c.in_default.is)
     (segment_fits _ _ _ _ _ _ (sym c.refused_segment_create.ensures ∙ c.in-None.is)).1
 
-pub create-requires : goal.create-requires
-create-requires c =
+pub create-requires-clause-fitting : goal.create-requires-clause-fitting
+create-requires-clause-fitting c =
     let P : List ℕ → Type 0 = λ bytes. IsFitting (state_of c.args.self.now.records) c.args.container c.args.quota (is.Segment bytes) in
     subst P (sym c.in_ok-bytes-in-None.ensures)
     (segment_fits (state_of c.args.self.now.records) c.args.thread c.args.container c.args.raw.now c.args.quota c.args.pages
@@ -53,4 +54,5 @@ returns-in_ok-bytes-in-None-clause-ok c =
     ∙ made_well_formed (state_of c.args.self.now.records) c.args.container c.in-Some-label.label c.args.quota
     (is.Segment (replicate (256 * c.args.pages) 0))
     (segment_fits (state_of c.args.self.now.records) c.args.thread c.args.container c.args.raw.now c.args.quota c.args.pages none).0
+    (stored_test c.in-Some-label.label (subst (λ (v : Option LabelValue). IfSome v IsStored) c.in-Some-label.is c.stored_of-label.ensures.fit))
     c.args.self.now.well_formed)))
