@@ -27,11 +27,11 @@ abbrev pub IsApart : List Pair → List Pair → Type 0
 IsApart [] rest = Unit {0}
 IsApart (e ∷ es) rest = (any_at e.category.0 rest ≡ false) × IsApart es rest
 
-or_false_left : (x y : Bool) → (x || y) ≡ false → x ≡ false
+pub or_false_left : (x y : Bool) → (x || y) ≡ false → x ≡ false
 or_false_left true y h = h
 or_false_left false y h = refl
 
-or_false_right : (x y : Bool) → (x || y) ≡ false → y ≡ false
+pub or_false_right : (x y : Bool) → (x || y) ≡ false → y ≡ false
 or_false_right true y h = absurd (let e : true ≡ false = h in cc)
 or_false_right false y h = h
 
@@ -155,7 +155,7 @@ collected-level d (p ∷ ps) es c r once =
           rest ∙ rw (differs, placed-other d p es c other) refl
     ]
 
-none_at : (d : Level) (ps : List Pair) (c : ℕ) → any_at c ps ≡ false → level_at d ps c ≡ d
+pub none_at : (d : Level) (ps : List Pair) (c : ℕ) → any_at c ps ≡ false → level_at d ps c ≡ d
 none_at d [] c h = refl
 none_at d (p ∷ ps) c h =
     rw (or_false_left (p.category.0 == c) (any_at c ps) h) (none_at d ps c (or_false_right (p.category.0 == c) (any_at c ps) h))

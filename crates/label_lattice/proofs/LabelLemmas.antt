@@ -72,7 +72,7 @@ same_labels a b sa sb e =
     let L : Level → List Pair → LabelValue = λ d es. record { default_level = d; exceptions = es } in
     ap (λ (d : Level). L d a.exceptions) default_e ∙ ap (λ (es : List Pair). L b.default_level es) rest
 
-star_test : (x : Level) → (rank_of x == 0) ≡ true → x ≡ Star
+pub star_test : (x : Level) → (rank_of x == 0) ≡ true → x ≡ Star
 star_test x h = rank_of-injective x Star (eqb-true (rank_of x) 0 h)
 
 pub bool_cases : (b : Bool) → (b ≡ true) ⊎ (b ≡ false)

@@ -6,10 +6,11 @@ use Rattle.base.specs.declared.levels.Level.{Level}
 use Rattle.base.specs.Level.{rank_of}
 use Rattle.label_lattice.specs.declared.pairings.Pair.{Pair}
 use Rattle.label_lattice.specs.Levels.{level_at}
-use Rattle.label_lattice.specs.Label.{LabelValue}
+use Rattle.label_lattice.specs.Label.{LabelValue, level, IsStored}
 use Rattle.label_lattice.specs.Rule.{up_rank, down_rank}
-use Rattle.label_lattice.specs.Order.{Levels, Leq, leq_test, levels, join, up, down}
+use Rattle.label_lattice.specs.Order.{Levels, Leq, leq_test, levels, join, up, down, IsOutside, IsDescribed}
 use Rattle.label_lattice.proofs.WalkLemmas.{level_at-other}
+use Rattle.label_lattice.proofs.LabelLemmas.{same_labels, rank_of-injective}
 
 -- the test of two numbers says what it means
 pub le_means : (m n : ℕ) → IsTrue (nat_le m n) → m ≤ n
@@ -22,11 +23,6 @@ le_tests m n h = grind (arith, nat_tests)
 pub Leq-from_tests : (a b : Levels) (r : Bool) → IsTrue r ↔ ((c : ℕ) → IsTrue (nat_le (a.at c) (b.at c))) → IsTrue r ↔ Leq a b
 Leq-from_tests a b r h =
     (λ holds c. le_means (a.at c) (b.at c) (h.0 holds c), λ leq. h.1 (λ c. le_tests (a.at c) (b.at c) (leq c)))
-
--- a number is none of the list's
-abbrev pub IsOutside : ℕ → List ℕ → Type 0
-IsOutside c [] = Unit {0}
-IsOutside c (p ∷ ps) = (c ≢ p) × IsOutside c ps
 
 pub IsOutside-append_left : (c : ℕ) (ps qs : List ℕ) → IsOutside c (ps ++ qs) → IsOutside c ps
 IsOutside-append_left c [] qs h = tt
@@ -70,10 +66,6 @@ all_tests : (t : ℕ → Bool) (ps : List ℕ) → ((c : ℕ) → IsTrue (t c)) 
 all_tests t [] h = refl
 all_tests t (p ∷ ps) h = and_both (t p) (list_all t ps) (h p) (all_tests t ps h)
 
--- outside its points the rank is the rest's
-pub record IsDescribed (a : Levels) : Type 0 where
-  pub outside : (c : ℕ) → IsOutside c a.points → a.at c ≡ a.rest
-
 level_at-outside : (default : Level) (ps : List Pair) (c : ℕ) → IsOutside c (map (λ p. p.category.0) ps) → level_at default ps c ≡ default
 level_at-outside default [] c h = refl
 level_at-outside default (p ∷ ps) c h = level_at-other default p ps c h.0 ∙ level_at-outside default ps c h.1
@@ -109,6 +101,18 @@ leq_test-Leq a b ha hb = (
       (all_tests (λ c. nat_le (a.at c) (b.at c)) (a.points ++ b.points) (λ c. le_tests (a.at c) (b.at c) (leq c))),
 )
 
--- so an answer that tells the order is the test's
-pub leq_test-from_Leq : (a b : Levels) (r : Bool) → IsDescribed a → IsDescribed b → IsTrue r ↔ Leq a b → r ≡ leq_test a b
-leq_test-from_Leq a b r ha hb h = same_from_decides r (leq_test a b) h (leq_test-Leq a b ha hb)
+-- so an answer that tests each category is the test's
+pub leq_test-from_tests : (a b : Levels) (r : Bool) → IsDescribed a → IsDescribed b
+    → IsTrue r ↔ ((c : ℕ) → IsTrue (nat_le (a.at c) (b.at c))) → r ≡ leq_test a b
+leq_test-from_tests a b r ha hb h =
+    same_from_decides r (leq_test a b) (Leq-from_tests a b r h) (leq_test-Leq a b ha hb)
+
+-- stored labels that are at most each other are one
+pub Leq-antisymmetric : (a b : LabelValue) → IsStored a → IsStored b
+    → Leq (levels a) (levels b) → Leq (levels b) (levels a) → a ≡ b
+Leq-antisymmetric a b sa sb ab ba =
+    same_labels a b sa sb
+    (λ c.
+    let up_to : rank_of (level a c) ≤ rank_of (level b c) = ab c in
+    let down_to : rank_of (level b c) ≤ rank_of (level a c) = ba c in
+    rank_of-injective (level a c) (level b c) (omega arith))

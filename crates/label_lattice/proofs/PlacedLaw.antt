@@ -1,14 +1,20 @@
 use Rattle.std.proofs.Common.{◌≡◌, ℕ, ◌<◌, ◌≤◌, inl, inr, true, false, List, length, nat_le, arith, ◌==◌, if◌then◌else◌, Some, None}
-use Rattle.std.specs.Prelude.{Option, IfSome}
+use Rattle.std.proofs.Common.{suc, ◌↔◌, refl, [], ◌∷◌}
+use Rattle.std.specs.Prelude.{Option, IfSome, IsNone}
+use Rattle.base.specs.declared.levels.Level.{Level}
+use Rattle.base.specs.Level.{rank_of}
 use Rattle.std.proofs.lemmas.Bool.Decides.{nat_tests}
-use Rattle.std.proofs.lemmas.Bool.{cases_eq}
+use Rattle.std.proofs.lemmas.Bool.{cases_eq, cases_order}
 use Rattle.label_lattice.specs.declared.pairings.Pair.{Pair}
 use Rattle.label_lattice.specs.Label.{LabelValue, level, IsStored}
-use Rattle.label_lattice.specs.Placed.{placed, with_level}
+use Rattle.label_lattice.specs.Placed.{kept, placed, with_level}
 use Rattle.label_lattice.proofs.LabelLemmas.{bool_cases}
-use Rattle.label_lattice.proofs.PlacedLemmas.{placed-here, placed-other, placed-IsRising, placed-DiffersFrom, eq_false}
+use Rattle.label_lattice.proofs.PlacedLemmas.{placed-here, placed-other, placed-IsRising, placed-DiffersFrom, eq_false, lt_true, lt_false}
 use Rattle.std.proofs.Common.{eq-eqb}
 use Rattle.label_lattice.proofs.OrderLemmas.{le_means}
+
+pub le_fails : (m n : ℕ) → nat_le m n ≡ false → n < m
+le_fails m n h = grind (arith, nat_tests)
 
 pub le_true : (m n : ℕ) → m ≤ n → nat_le m n ≡ true
 le_true m n h = grind (arith, nat_tests)
@@ -67,4 +73,41 @@ with-stored l p r stored e =
     (elim (bool_cases (nat_le (length (with_level l p).exceptions) 16)) [
       | inl room ↦ rw room (with_level-IsStored l p stored (le_means (length (with_level l p).exceptions) 16 room))
       | inr full ↦ rw full tt
+    ])
+
+-- a category adds at most one exception
+length-kept_le : (d : Level) (p : Pair) (rest : List Pair) → length (kept d p rest) ≤ suc (length rest)
+length-kept_le d p rest =
+    elim (bool_cases (rank_of p.level == rank_of d)) [ inl same ↦ rw same (omega arith) | inr other ↦ rw other (omega arith) ]
+
+pub length-placed_le : (d : Level) (p : Pair) (ps : List Pair) → length (placed d p ps) ≤ suc (length ps)
+length-placed_le d p [] = length-kept_le d p []
+length-placed_le d p (q ∷ qs) =
+    elim (cases_order q.category.0 p.category.0) [
+      | inl same ↦
+          rw (lt_false q.category.0 p.category.0 (omega arith), eq-eqb q.category.0 p.category.0 same)
+          (omega (arith, length-kept_le d p qs))
+      | inr apart ↦ elim apart [
+        | inl below ↦ rw (lt_true q.category.0 p.category.0 below) (omega (arith, length-placed_le d p qs))
+        | inr gt ↦
+            rw (lt_false q.category.0 p.category.0 (omega arith), eq_false q.category.0 p.category.0 (omega arith))
+            (length-kept_le d p (q ∷ qs))
+      ]
+    ]
+
+-- `with` answers None exactly where there would be 17
+pub with-full : (l : LabelValue) (p : Pair) (r : Option LabelValue) → IsStored l
+    → r ≡ (if nat_le (length (with_level l p).exceptions) 16 then Some (with_level l p) else None)
+    → IsNone r ↔ (length (with_level l p).exceptions ≡ 17)
+with-full l p r stored e =
+    let most : length (with_level l p).exceptions ≤ suc (length l.exceptions) = length-placed_le l.default_level p l.exceptions in
+    let few : length l.exceptions ≤ 16 = stored.few in
+    rw e
+    (elim (bool_cases (nat_le (length (with_level l p).exceptions) 16)) [
+      | inl room ↦
+          let low : length (with_level l p).exceptions ≤ 16 = le_means (length (with_level l p).exceptions) 16 room in
+          rw room (λ none. absurd (let f : true ≡ false = none in cc), λ many. absurd (omega arith))
+      | inr full ↦
+          let high : 16 < length (with_level l p).exceptions = le_fails (length (with_level l p).exceptions) 16 full in
+          rw full (λ none. omega arith, λ many. refl)
     ])

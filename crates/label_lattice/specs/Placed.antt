@@ -1,3 +1,4 @@
+-- A label after one category was given a level.
 use Rattle.std.specs.Prelude.{ℕ, ◌==◌, suc, nat_lt, List, [], ◌∷◌, if◌then◌else◌}
 use Rattle.base.specs.declared.levels.Level.{Level}
 use Rattle.base.specs.Level.{rank_of}
@@ -22,4 +23,7 @@ placed default p (q ∷ qs) =
 
 -- the label after a category was given a level
 abbrev pub with_level : LabelValue → Pair → LabelValue
-with_level l p = record { default_level = l.default_level; exceptions = placed l.default_level p l.exceptions }
+with_level l p = record {
+  default_level = l.default_level;
+  exceptions = placed l.default_level p l.exceptions;
+}
