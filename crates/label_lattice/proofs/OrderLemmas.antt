@@ -42,11 +42,11 @@ unfolding above_all
 IsOutside-above_all c [] h = tt
 IsOutside-above_all c (p ∷ ps) h = ((omega (arith, h)), IsOutside-above_all c ps (omega (arith, h)))
 
-and_parts : (x y : Bool) → IsTrue (x && y) → IsTrue x × IsTrue y
+pub and_parts : (x y : Bool) → IsTrue (x && y) → IsTrue x × IsTrue y
 and_parts true y h = (refl, h)
 and_parts false y h = absurd (let e : false ≡ true = h in cc)
 
-and_both : (x y : Bool) → IsTrue x → IsTrue y → IsTrue (x && y)
+pub and_both : (x y : Bool) → IsTrue x → IsTrue y → IsTrue (x && y)
 and_both true y hx hy = hy
 and_both false y hx hy = hx
 

@@ -1,11 +1,14 @@
 -- The laws of labels that hold for all of them at once.
-use Rattle.std.specs.Prelude.{◌≡◌, ◌≢◌, ℕ, ◌↔◌, IsTrue, false}
+use Rattle.std.specs.Prelude.{◌≡◌, ◌≢◌, ℕ, ◌≤◌, ◌↔◌, List, IsTrue, false}
 use Rattle.base.specs.Level.{rank_of}
 use Rattle.base.specs.declared.levels.Level.TheVariants.{Star}
+use Rattle.label_lattice.specs.declared.pairings.Pair.{Pair}
 use Rattle.label_lattice.specs.declared.raw_labels.RawLabel.{RawLabel}
 use Rattle.label_lattice.specs.Label.{LabelValue, level, has_star, IsStored}
 use Rattle.label_lattice.specs.Order.{Levels, levels, Leq, leq_test, join, up, down, IsDescribed}
-use Rattle.label_lattice.specs.Raw.{is_bad, raw_has_star, raw_of, stored_of}
+use Rattle.label_lattice.specs.Placed.{with_level}
+use Rattle.label_lattice.specs.Raw.{is_bad, is_made, all_made, raw_has_star}
+use Rattle.label_lattice.specs.Raw.{raw_of, stored_of}
 use Rattle.label_lattice.specs.Rule.{top_rank}
 
 -- stored labels that agree at each category are one
@@ -24,6 +27,24 @@ RawFormGivesBack = (l : LabelValue) → IsStored l → stored_of (raw_of l) ≡ 
 -- a label has star where its raw label does
 abbrev pub StarIsKept : Type 0
 StarIsKept = (raw : RawLabel) → is_bad raw ≡ false → has_star (stored_of raw) ≡ raw_has_star raw
+
+-- where the categories of a raw label were made, so were those of the label that is stored
+abbrev pub MadeIsStored : Type 0
+MadeIsStored =
+    (next : ℕ) (raw : RawLabel) → IsTrue (all_made next raw.pairs)
+    → IsTrue (all_made next (stored_of raw).exceptions)
+
+-- a level for a category that was made adds no other
+abbrev pub MadeIsPlaced : Type 0
+MadeIsPlaced =
+    (next : ℕ) (l : LabelValue) (p : Pair) → IsTrue (all_made next l.exceptions)
+    → IsTrue (is_made next p) → IsTrue (all_made next (with_level l p).exceptions)
+
+-- what was made stays so as the next category rises
+abbrev pub MadeStaysMade : Type 0
+MadeStaysMade =
+    (next later : ℕ) (ps : List Pair) → next ≤ later → IsTrue (all_made next ps)
+    → IsTrue (all_made later ps)
 
 -- everything is at most itself
 abbrev pub OrderIsReflexive : Type 0

@@ -3,6 +3,7 @@
 //! definitions.
 ghost use Rattle.label_lattice.specs.Laws.{AgreeingAreOne, RawFormIsGood, RawFormGivesBack};
 ghost use Rattle.label_lattice.specs.Laws.{StarIsKept};
+ghost use Rattle.label_lattice.specs.Laws.{MadeIsStored, MadeIsPlaced, MadeStaysMade};
 ghost use Rattle.label_lattice.specs.Laws.{OrderIsReflexive, OrderIsTransitive};
 ghost use Rattle.label_lattice.specs.Laws.{OrderIsAntisymmetric, JoinIsAbove, JoinIsLeast};
 ghost use Rattle.label_lattice.specs.Laws.{UpRaisesStar, UpKeepsOthers};
@@ -24,6 +25,14 @@ pub fn raw_form_gives_back()
 /// A label has star exactly where the raw label that it was stored from does.
 pub fn star_is_kept()
     ensures { StarIsKept }
+{}
+
+/// Categories that were made stay so: as a raw label is stored, as a label gets a level for one that
+/// was made, and as the next category rises.
+pub fn made_categories_stay_made()
+    ensures stored { MadeIsStored }
+    ensures placed { MadeIsPlaced }
+    ensures later { MadeStaysMade }
 {}
 
 /// The order is reflexive and transitive, and antisymmetric on stored labels.

@@ -166,6 +166,7 @@ fn laws_can_be_called() {
     laws::agreeing_labels_are_one();
     laws::raw_form_gives_back();
     laws::star_is_kept();
+    laws::made_categories_stay_made();
     laws::order_is_partial();
     laws::join_is_least_upper_bound();
     laws::up_and_down_move_one_level();
