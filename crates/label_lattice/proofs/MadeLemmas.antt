@@ -11,6 +11,7 @@ use Rattle.label_lattice.specs.Placed.{kept, placed, with_level}
 use Rattle.label_lattice.specs.Raw.{is_made, all_made, collected, stored_of}
 use Rattle.label_lattice.proofs.LabelLemmas.{bool_cases}
 use Rattle.label_lattice.proofs.OrderLemmas.{and_parts, and_both}
+use Rattle.label_lattice.proofs.PlacedLemmas.{placed-same, placed-after, placed-before}
 use Rattle.label_lattice.proofs.PlacedLemmas.{eq_false, lt_true, lt_false}
 
 module _ (next : ℕ) (d : Level) (p : Pair) where
@@ -30,18 +31,15 @@ module _ (next : ℕ) (d : Level) (p : Pair) where
       and_parts (is_made next q) (all_made next qs) made in
       elim (cases_order q.category.0 p.category.0) [
         | inl same ↦
-            rw (lt_false q.category.0 p.category.0 (omega arith), eq-eqb q.category.0 p.category.0 same)
+            rw (placed-same d p q qs same)
             (made-kept qs here parts.1)
         | inr apart ↦ elim apart [
           | inl below ↦
-              rw (lt_true q.category.0 p.category.0 below)
+              rw (placed-after d p q qs below)
               (and_both (is_made next q) (all_made next (placed d p qs)) parts.0
               (made-placed qs here parts.1))
           | inr gt ↦
-              rw (
-                lt_false q.category.0 p.category.0 (omega arith),
-                eq_false q.category.0 p.category.0 (omega arith),
-              )
+              rw (placed-before d p q qs gt)
               (made-kept (q ∷ qs) here made)
         ]
       ]

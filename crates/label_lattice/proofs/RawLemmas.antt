@@ -1,5 +1,7 @@
-use Rattle.std.proofs.Common.{◌≡◌, ◌≢◌, ℕ, ◌<◌, ◌≤◌, ◌⊎◌, ◌↔◌, inl, inr, Bool, IsTrue, true, false, ◌||◌, ◌&&◌}
-use Rattle.std.proofs.Common.{List, [], ◌∷◌, length, refl, sym, ap, ◌∙◌, nat_lt, arith, ◌==◌, eq-eqb}
+use Rattle.std.proofs.Common.{◌≡◌, ◌≢◌, ℕ, ◌<◌, ◌≤◌, ◌⊎◌, ◌↔◌, inl, inr, Bool, IsTrue, true, false}
+use Rattle.std.proofs.Common.{◌||◌, ◌&&◌}
+use Rattle.std.proofs.Common.{List, [], ◌∷◌, length, refl, sym, ap, ◌∙◌, nat_lt, arith, ◌==◌}
+use Rattle.std.proofs.Common.{eq-eqb}
 use Rattle.std.specs.Prelude.{All, Any}
 use Rattle.std.specs.List.{list_any}
 use Rattle.std.proofs.lemmas.Bool.{eqb-true, cases_eq}
@@ -14,11 +16,15 @@ use Rattle.label_lattice.specs.declared.pairings.Pair.{Pair}
 use Rattle.label_lattice.specs.declared.raw_labels.RawLabel.{RawLabel}
 use Rattle.label_lattice.specs.Levels.{level_at, any_star, IsRising, IsAbove, DiffersFrom}
 use Rattle.label_lattice.specs.Label.{LabelValue, IsStored, has_star}
-use Rattle.label_lattice.specs.Raw.{has_twice, differing, collected, is_bad, is_made, all_made, raw_has_star, raw_of, stored_of}
+use Rattle.label_lattice.specs.Raw.{has_twice, differing, collected, is_bad, is_made, all_made}
+use Rattle.label_lattice.specs.Raw.{raw_has_star, raw_of, stored_of}
 use Rattle.label_lattice.proofs.WalkLemmas.{level_at-same, level_at-other}
-use Rattle.label_lattice.proofs.LabelLemmas.{bool_cases, rank_of-injective, same_exceptions, star_test, star_back, star_forth}
+use Rattle.label_lattice.proofs.LabelLemmas.{bool_cases, rank_of-injective, same_exceptions}
+use Rattle.label_lattice.proofs.LabelLemmas.{star_test, star_back, star_forth}
 use Rattle.label_lattice.proofs.PlacedLemmas.{eq_false, lt_false}
-use Rattle.label_lattice.proofs.CollectLemmas.{any_at, or_false_left, or_false_right, none_at, collected-IsRising, collected-DiffersFrom, collected-levels}
+use Rattle.label_lattice.proofs.CollectLemmas.{any_at, or_false_left, or_false_right, none_at}
+use Rattle.label_lattice.proofs.CollectLemmas.{collected-IsRising, collected-DiffersFrom}
+use Rattle.label_lattice.proofs.CollectLemmas.{collected-levels}
 
 -- the test of star says what it means
 pub any_star-Any : (ps : List Pair) → IsTrue (any_star ps) → Any (λ p. p.level ≡ Star) ps
@@ -32,10 +38,12 @@ any_star-from_Any ps h =
     (h.0, h.1, h.2, h.3, eq-eqb (rank_of h.1.level) 0 (ap rank_of h.4))
 
 -- the test of a made category says what it means
-is_made-means : (next : ℕ) (p : Pair) → is_made next p ≡ true → (1 ≤ p.category.0) × (p.category.0 < next)
+is_made-means : (next : ℕ) (p : Pair) → is_made next p ≡ true
+    → (1 ≤ p.category.0) × (p.category.0 < next)
 is_made-means next p h = (grind (arith, nat_tests), grind (arith, nat_tests))
 
-is_made-tests : (next : ℕ) (p : Pair) → (1 ≤ p.category.0) × (p.category.0 < next) → is_made next p ≡ true
+is_made-tests : (next : ℕ) (p : Pair) → (1 ≤ p.category.0) × (p.category.0 < next)
+    → is_made next p ≡ true
 is_made-tests next p h = grind (arith, nat_tests)
 
 pub all_made-All : (next : ℕ) (ps : List Pair) → IsTrue (all_made next ps)
@@ -49,17 +57,21 @@ all_made-All next ps = (
 )
 
 -- where no category stands twice and a pair has star, a category does
-star_forth-once : (d : Level) (ps : List Pair) → d ≢ Star → has_twice ps ≡ false → any_star ps ≡ true
+star_forth-once : (d : Level) (ps : List Pair) → d ≢ Star → has_twice ps ≡ false
+    → any_star ps ≡ true
     → (c : ℕ) × (level_at d ps c ≡ Star)
 star_forth-once d [] nd once h = absurd (let e : false ≡ true = h in cc)
 star_forth-once d (p ∷ ps) nd once h =
     elim (bool_cases (rank_of p.level == 0)) [
-      | inl starred ↦ (p.category.0, level_at-same d p ps p.category.0 refl ∙ star_test p.level starred)
+      | inl starred ↦
+          (p.category.0, level_at-same d p ps p.category.0 refl ∙ star_test p.level starred)
       | inr plain ↦
           let more : any_star ps ≡ true = rw plain at h in
           let found : (c : ℕ) × (level_at d ps c ≡ Star) =
-          star_forth-once d ps nd (or_false_right (any_at p.category.0 ps) (has_twice ps) once) more in
-          let fresh : any_at p.category.0 ps ≡ false = or_false_left (any_at p.category.0 ps) (has_twice ps) once in (
+          star_forth-once d ps nd (or_false_right (any_at p.category.0 ps) (has_twice ps) once) more
+          in
+          let fresh : any_at p.category.0 ps ≡ false =
+          or_false_left (any_at p.category.0 ps) (has_twice ps) once in (
             found.0,
             level_at-other d p ps found.0
                 (λ here. nd (sym (rw here (none_at d ps p.category.0 fresh)) ∙ found.1)) ∙ found.1,
@@ -82,13 +94,15 @@ other_rank : (x y : Level) → x ≢ y → (rank_of x == rank_of y) ≡ false
 other_rank x y ne = eq_false (rank_of x) (rank_of y) (λ e. ne (rank_of-injective x y e))
 
 -- where each pair differs from the default, all are counted
-pub differing-DiffersFrom : (d : Level) (ps : List Pair) → DiffersFrom d ps → differing d ps ≡ length ps
+pub differing-DiffersFrom : (d : Level) (ps : List Pair) → DiffersFrom d ps
+    → differing d ps ≡ length ps
 differing-DiffersFrom d [] differs = refl
 differing-DiffersFrom d (p ∷ ps) differs =
     rw (other_rank p.level d differs.0, differing-DiffersFrom d ps differs.1) refl
 
 -- exceptions are collected as they are
-pub collected-exceptions : (d : Level) (ps : List Pair) → IsRising ps → DiffersFrom d ps → collected d ps [] ≡ ps
+pub collected-exceptions : (d : Level) (ps : List Pair) → IsRising ps → DiffersFrom d ps
+    → collected d ps [] ≡ ps
 collected-exceptions d ps rising differs =
     same_exceptions d (collected d ps []) ps (collected-IsRising d ps [] tt) rising
     (collected-DiffersFrom d ps [] tt) differs
@@ -107,13 +121,16 @@ raw_of-good l stored =
 
 pub raw_of-stored : (l : LabelValue) → IsStored l → stored_of (raw_of l) ≡ l
 raw_of-stored l stored =
-    let L : List Pair → LabelValue = λ es. record { default_level = l.default_level; exceptions = es } in
+    let L : List Pair → LabelValue =
+    λ es. record { default_level = l.default_level; exceptions = es } in
     ap L (collected-exceptions l.default_level l.exceptions stored.rising stored.differing)
 
 -- a raw label that is not bad
-pub good_parts : (raw : RawLabel) → is_bad raw ≡ false → (raw.default ≢ Star) × (has_twice raw.pairs ≡ false)
+pub good_parts : (raw : RawLabel) → is_bad raw ≡ false
+    → (raw.default ≢ Star) × (has_twice raw.pairs ≡ false)
 good_parts raw good =
-    let low : (rank_of raw.default == 0) ≡ false = or_false_left (rank_of raw.default == 0) _ good in
+    let low : (rank_of raw.default == 0) ≡ false =
+    or_false_left (rank_of raw.default == 0) _ good in
     let rest : (has_twice raw.pairs || nat_lt 16 (differing raw.default raw.pairs)) ≡ false =
     or_false_right (rank_of raw.default == 0) _ good in (
       λ star. let high : (rank_of raw.default == 0) ≡ true = eq-eqb _ _ (ap rank_of star) in

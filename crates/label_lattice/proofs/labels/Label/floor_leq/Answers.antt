@@ -1,6 +1,7 @@
 use Rattle.label_lattice.specs.Order.{Levels, levels, join, up, down, IsDescribed}
 use Rattle.label_lattice.proofs.OrderLemmas.{leq_test-from_tests}
-use Rattle.label_lattice.proofs.OrderLemmas.{IsDescribed-levels, IsDescribed-up, IsDescribed-down, IsDescribed-join}
+use Rattle.label_lattice.proofs.OrderLemmas.{IsDescribed-levels, IsDescribed-up, IsDescribed-down}
+use Rattle.label_lattice.proofs.OrderLemmas.{IsDescribed-join}
 use Rattle.label_lattice.proofs.labels.Label.floor_leq.Goals as goal
 
 pub returns-clause-test : goal.returns-clause-test

@@ -1,5 +1,6 @@
 use Rattle.label_lattice.specs.Order.{Levels, levels, join}
-use Rattle.label_lattice.proofs.OrderLemmas.{leq_test-from_tests, IsDescribed-levels, IsDescribed-join}
+use Rattle.label_lattice.proofs.OrderLemmas.{leq_test-from_tests, IsDescribed-levels}
+use Rattle.label_lattice.proofs.OrderLemmas.{IsDescribed-join}
 use Rattle.label_lattice.proofs.labels.Label.leq_join.Goals as goal
 
 pub returns-clause-test : goal.returns-clause-test

@@ -1,5 +1,6 @@
 use Rattle.label_lattice.specs.Order.{levels, up}
-use Rattle.label_lattice.proofs.OrderLemmas.{leq_test-from_tests, IsDescribed-levels, IsDescribed-up}
+use Rattle.label_lattice.proofs.OrderLemmas.{leq_test-from_tests, IsDescribed-levels}
+use Rattle.label_lattice.proofs.OrderLemmas.{IsDescribed-up}
 use Rattle.label_lattice.proofs.labels.Label.leq_up.Goals as goal
 
 pub returns-clause-test : goal.returns-clause-test
