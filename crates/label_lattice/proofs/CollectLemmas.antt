@@ -1,4 +1,6 @@
-use Rattle.std.proofs.Common.{◌≡◌, ℕ, ◌+◌, ◌<◌, ◌≤◌, inl, inr, Bool, true, false, ◌||◌, List, []}
+-- Exceptions that are made of pairs in any order, one pair after the other.
+use Rattle.std.proofs.Common.{◌≡◌, ◌≢◌, ℕ, ◌+◌, ◌<◌, ◌≤◌, inl, inr, Bool, true, false, ◌||◌, List}
+use Rattle.std.proofs.Common.{[]}
 use Rattle.std.proofs.Common.{◌∷◌, length, drop, get_or, refl, sym, ◌∙◌, subst, nat_lt, arith, ◌==◌}
 use Rattle.std.proofs.Common.{if◌then◌else◌, eq-eqb, nat_le, Some, None}
 use Rattle.std.proofs.Common.{add-one, take, ◌-◌, length-drop}
@@ -6,17 +8,17 @@ use Rattle.std.proofs.lemmas.List.{take_all}
 use Rattle.std.proofs.Math.ListN.{drop_of_length-le}
 use Rattle.std.proofs.Math.Seq.{drop-cons}
 use Rattle.std.specs.List.{list_any}
-use Rattle.std.specs.Prelude.{Option}
 use Rattle.label_lattice.specs.Pairs.{filler}
-use Rattle.label_lattice.proofs.OrderLemmas.{le_means}
-use Rattle.std.proofs.lemmas.Bool.Decides.{nat_tests}
+use Rattle.label_lattice.proofs.OrderLemmas.{le_means, le_fails}
 use Rattle.std.proofs.lemmas.Bool.{cases_eq, cases_order}
 use Rattle.base.specs.declared.levels.Level.{Level}
+use Rattle.base.specs.declared.levels.Level.TheVariants.{Star}
 use Rattle.base.specs.Level.{rank_of}
 use Rattle.label_lattice.specs.declared.pairings.Pair.{Pair}
 use Rattle.label_lattice.specs.Levels.{level_at, IsRising, DiffersFrom}
-use Rattle.label_lattice.specs.Placed.{kept, placed}
-use Rattle.label_lattice.specs.Raw.{has_twice, differing, collected}
+use Rattle.label_lattice.specs.Label.{IsStored}
+use Rattle.label_lattice.specs.Placed.{kept, placed, fitting}
+use Rattle.label_lattice.specs.Raw.{has_twice, differing, collected, collected_all}
 use Rattle.label_lattice.proofs.LabelLemmas.{bool_cases}
 use Rattle.label_lattice.proofs.PlacedLemmas.{placed-same, placed-after, placed-before}
 use Rattle.label_lattice.proofs.PlacedLemmas.{placed-here, placed-other, placed-IsRising}
@@ -85,8 +87,8 @@ module _ (d : Level) (p : Pair) (rest : List Pair) where
             absurd (let e : true ≡ false = sym t ∙ f in cc)
         | inr apart ↦ elim apart [
           | inl below ↦ rw (placed-after d p q qs below)
-              (let more : length (placed d p qs) + differing d rest ≡ length qs + differing d
-              (p ∷ rest) = length-placed qs h.1 in omega arith)
+              (let more : length (placed d p qs) + differing d rest
+              ≡ length qs + differing d (p ∷ rest) = length-placed qs h.1 in omega arith)
           | inr gt ↦ rw (placed-before d p q qs gt) (length-kept (q ∷ qs))
         ]
       ]
@@ -118,8 +120,8 @@ collect_step d pairs i es p on head fresh room =
           subst (λ (r : List Pair). collected d r es ≡ collected d pairs []) head on.collects;
       twice = rw fresh at twice;
       count =
-          length-placed d p (drop (i + 1) pairs) es apart ∙ subst
-          (λ (r : List Pair). length es + differing d r ≡ differing d pairs) head on.count;
+          length-placed d p (drop (i + 1) pairs) es apart
+          ∙ subst (λ (r : List Pair). length es + differing d r ≡ differing d pairs) head on.count;
     }
 
 or_true : (x : Bool) → (x || true) ≡ true
@@ -134,8 +136,8 @@ collect_full d pairs i es p on head full =
     let apart : IsApart es (p ∷ drop (i + 1) pairs) =
     subst (λ (r : List Pair). IsApart es r) head on.apart in
     let count : length (placed d p es) + differing d (drop (i + 1) pairs) ≡ differing d pairs =
-    length-placed d p (drop (i + 1) pairs) es apart ∙ subst
-    (λ (r : List Pair). length es + differing d r ≡ differing d pairs) head on.count in
+    length-placed d p (drop (i + 1) pairs) es apart
+    ∙ subst (λ (r : List Pair). length es + differing d r ≡ differing d pairs) head on.count in
     rw (lt_true 16 (differing d pairs) (omega arith)) (or_true (has_twice pairs))
 
 -- where a step finds the category again, it stands twice
@@ -182,8 +184,8 @@ collected-level d [] es c r once = refl
 collected-level d (p ∷ ps) es c r once =
     let fresh : any_at p.category.0 ps ≡ false =
     or_false_left (any_at p.category.0 ps) (has_twice ps) once in
-    let rest : level_at d (collected d ps (placed d p es)) c ≡
-    (if any_at c ps then level_at d ps c else level_at d (placed d p es) c) =
+    let rest : level_at d (collected d ps (placed d p es)) c
+    ≡ (if any_at c ps then level_at d ps c else level_at d (placed d p es) c) =
     collected-level d ps (placed d p es) c (placed-IsRising d p es r)
     (or_false_right (any_at p.category.0 ps) (has_twice ps) once) in
     elim (cases_eq c p.category.0) [
@@ -217,27 +219,18 @@ head_at pairs i h = rw add-one (drop-cons pairs i filler h)
 rest_whole : (pairs : List Pair) (i : ℕ) → take (length pairs - i) (drop i pairs) ≡ drop i pairs
 rest_whole pairs i = take_all (length pairs - i) (drop i pairs) (rw length-drop (omega arith))
 
-le_fails : (m n : ℕ) → nat_le m n ≡ false → n < m
-le_fails m n h = grind (arith, nat_tests)
-
 -- the answer where a pair finds no room
 pub collect_none : (d : Level) (pairs : List Pair) (i : ℕ) (es view : List Pair)
     → CollectGoesOn d pairs i es → i < length pairs → view ≡ es
-    → ◌≡◌ {A = Option (List Pair)} None
-    (if nat_le (length (placed d (get_or pairs i filler) view)) 16 then Some
-    (placed d (get_or pairs i filler) view) else None)
-    → ◌≡◌ {A = Option (List Pair)} None
-    (if has_twice pairs || nat_lt 16 (differing d pairs) then None else Some
-    (collected d pairs []))
+    → None ≡ fitting (placed d (get_or pairs i filler) view)
+    → None ≡ collected_all d pairs
 collect_none d pairs i es view on within same none =
     let p : Pair = get_or pairs i filler in
-    let none' : ◌≡◌ {A = Option (List Pair)} None
-    (if nat_le (length (placed d (get_or pairs i filler) es)) 16 then Some
-    (placed d (get_or pairs i filler) es) else None) = rw same at none in
+    let none' : None ≡ fitting (placed d (get_or pairs i filler) es) = rw same at none in
     elim (bool_cases (nat_le (length (placed d (get_or pairs i filler) es)) 16)) [
       | inl room ↦
-          absurd (let e : ◌≡◌ {A = Option (List Pair)} None
-          (Some (placed d (get_or pairs i filler) es)) = rw room at none' in cc)
+          absurd
+          (let e : None ≡ Some (placed d (get_or pairs i filler) es) = rw room at none' in cc)
       | inr full ↦
           rw (collect_full d pairs i es (get_or pairs i filler) on (head_at pairs i within)
           (le_fails (length (placed d (get_or pairs i filler) es)) 16 full)) refl
@@ -248,9 +241,7 @@ pub collect_again : (d : Level) (pairs : List Pair) (i : ℕ) (es : List Pair)
     → CollectGoesOn d pairs i es → i < length pairs
     → true ≡ any_at (get_or pairs i filler).category.0
     (take (length pairs - (i + 1)) (drop (i + 1) pairs))
-    → ◌≡◌ {A = Option (List Pair)} None
-    (if has_twice pairs || nat_lt 16 (differing d pairs) then None else Some
-    (collected d pairs []))
+    → None ≡ collected_all d pairs
 collect_again d pairs i es on within again =
     rw (collect_twice d pairs i es (get_or pairs i filler) on (head_at pairs i within)
     (sym (rw (rest_whole pairs (i + 1)) at again))) refl
@@ -260,15 +251,12 @@ pub collect_some : (d : Level) (pairs : List Pair) (i : ℕ) (es view next : Lis
     → CollectGoesOn d pairs i es → i < length pairs → view ≡ es
     → false ≡ any_at (get_or pairs i filler).category.0
     (take (length pairs - (i + 1)) (drop (i + 1) pairs))
-    → Some next ≡ (if nat_le (length (placed d (get_or pairs i filler) view)) 16 then Some
-    (placed d (get_or pairs i filler) view) else None)
+    → Some next ≡ fitting (placed d (get_or pairs i filler) view)
     → CollectGoesOn d pairs (i + 1) next
 collect_some d pairs i es view next on within same fresh some =
     let fresh' : any_at (get_or pairs i filler).category.0 (drop (i + 1) pairs) ≡ false =
     sym (rw (rest_whole pairs (i + 1)) at fresh) in
-    let some' : Some next ≡
-    (if nat_le (length (placed d (get_or pairs i filler) es)) 16 then Some
-    (placed d (get_or pairs i filler) es) else None) = rw same at some in
+    let some' : Some next ≡ fitting (placed d (get_or pairs i filler) es) = rw same at some in
     elim (bool_cases (nat_le (length (placed d (get_or pairs i filler) es)) 16)) [
       | inl room ↦
           let found : Some next ≡ Some (placed d (get_or pairs i filler) es) = rw room at some' in
@@ -281,16 +269,14 @@ collect_some d pairs i es view next on within same fresh some =
 -- the answer at the end
 pub collect_end : (d : Level) (pairs : List Pair) (i : ℕ) (es : List Pair)
     → CollectGoesOn d pairs i es → length pairs ≤ i
-    → Some es ≡ (if has_twice pairs || nat_lt 16 (differing d pairs) then None else Some
-    (collected d pairs []))
+    → Some es ≡ collected_all d pairs
 collect_end d pairs i es on past =
     let done = collect_done d pairs i es on (drop_of_length-le pairs past) in
     rw (done.0, ← done.1) refl
 
 -- what was collected, from the answer
 pub collected_from : (d : Level) (pairs es : List Pair)
-    → Some es ≡ (if has_twice pairs || nat_lt 16 (differing d pairs) then None else Some
-    (collected d pairs []))
+    → Some es ≡ collected_all d pairs
     → (has_twice pairs ≡ false) × (es ≡ collected d pairs [])
 collected_from d pairs es some =
     elim (bool_cases (has_twice pairs || nat_lt 16 (differing d pairs))) [
@@ -299,3 +285,15 @@ collected_from d pairs es some =
           let found : Some es ≡ Some (collected d pairs []) = rw good at some in
           (or_false_left (has_twice pairs) _ good, (cc))
     ]
+
+-- so it can be stored
+pub stored_from_collected : (d : Level) (pairs es : List Pair) → d ≢ Star → length es ≤ 16
+    → Some es ≡ collected_all d pairs → IsStored (record { default_level = d; exceptions = es })
+stored_from_collected d pairs es plain few some =
+    let found = collected_from d pairs es some in
+    record {
+      owned_by_none = plain;
+      few = few;
+      rising = rw found.1 (collected-IsRising d pairs [] tt);
+      differing = rw found.1 (collected-DiffersFrom d pairs [] tt);
+    }

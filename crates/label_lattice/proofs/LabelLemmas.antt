@@ -1,3 +1,4 @@
+-- Labels that agree at each category are one, and which of them have star.
 use Rattle.std.proofs.Common.{◌≡◌, ◌≢◌, ℕ, ◌+◌, ◌⊎◌, inl, inr, Bool, true, false, List, [], ◌∷◌}
 use Rattle.std.proofs.Common.{refl, sym, ap, ◌∙◌, subst, arith, ◌==◌, if◌then◌else◌}
 use Rattle.std.specs.List.{list_any}
@@ -36,8 +37,8 @@ pairs_equal p q ec el =
     ap (λ (n : ℕ). P n p.level) ec ∙ ap (λ (x : Level). P q.category.0 x) el
 
 -- lists of exceptions that agree at each category are one
-pub same_exceptions : (d : Level) (ps qs : List Pair) → IsRising ps → IsRising qs → DiffersFrom d ps
-    → DiffersFrom d qs
+pub same_exceptions : (d : Level) (ps qs : List Pair) → IsRising ps → IsRising qs
+    → DiffersFrom d ps → DiffersFrom d qs
     → ((c : ℕ) → level_at d ps c ≡ level_at d qs c) → ps ≡ qs
 same_exceptions d [] [] rp rq dp dq e = refl
 same_exceptions d [] (q ∷ qs) rp rq dp dq e =
@@ -48,8 +49,8 @@ same_exceptions d (p ∷ ps) (q ∷ qs) rp rq dp dq e =
     elim (cases_order p.category.0 q.category.0) [
       | inl same ↦
           let level_e : p.level ≡ q.level =
-          sym (level_at-same d p ps p.category.0 refl) ∙ e p.category.0 ∙ level_at-same d q qs
-          p.category.0 (sym same) in
+          sym (level_at-same d p ps p.category.0 refl) ∙ e p.category.0
+          ∙ level_at-same d q qs p.category.0 (sym same) in
           let rest : ps ≡ qs = same_exceptions d ps qs rp.1 rq.1 dp.1 dq.1
           (λ k. elim (cases_eq k p.category.0) [
             | inl here ↦ level_at-above d ps k (subst (λ m. IsAbove m ps) (sym here) rp.0)
@@ -74,16 +75,16 @@ pub same_labels : (a b : LabelValue) → IsStored a → IsStored b → ((c : ℕ
 same_labels a b sa sb e =
     let far : ℕ = past a.exceptions + past b.exceptions in
     let default_e : a.default_level ≡ b.default_level =
-    sym (level_at-past a.default_level a.exceptions far (omega arith)) ∙ e far ∙ level_at-past
-    b.default_level b.exceptions far (omega arith) in
+    sym (level_at-past a.default_level a.exceptions far (omega arith)) ∙ e far
+    ∙ level_at-past b.default_level b.exceptions far (omega arith) in
     let rest : a.exceptions ≡ b.exceptions =
     same_exceptions a.default_level a.exceptions b.exceptions sa.rising sb.rising sa.differing
     (subst (λ d. DiffersFrom d b.exceptions) (sym default_e) sb.differing)
     (λ c. e c ∙ ap (λ (d : Level). level_at d b.exceptions c) (sym default_e)) in
     let L : Level → List Pair → LabelValue =
     λ d es. record { default_level = d; exceptions = es } in
-    ap (λ (d : Level). L d a.exceptions) default_e ∙ ap (λ (es : List Pair). L b.default_level es)
-    rest
+    ap (λ (d : Level). L d a.exceptions) default_e
+    ∙ ap (λ (es : List Pair). L b.default_level es) rest
 
 pub star_test : (x : Level) → (rank_of x == 0) ≡ true → x ≡ Star
 star_test x h = rank_of-injective x Star (eqb-true (rank_of x) 0 h)

@@ -1,5 +1,6 @@
-use Rattle.std.proofs.Common.{◌≡◌, ℕ, ◌≤◌, inl, inr, IsTrue, true, ◌&&◌, List, [], ◌∷◌, refl, arith}
-use Rattle.std.proofs.Common.{nat_lt, ◌==◌, eq-eqb}
+-- Categories that were made before the next one stay so.
+use Rattle.std.proofs.Common.{ℕ, ◌≤◌, inl, inr, IsTrue, List, [], ◌∷◌, refl, arith}
+use Rattle.std.proofs.Common.{◌==◌}
 use Rattle.std.proofs.lemmas.Bool.{cases_order}
 use Rattle.std.proofs.lemmas.Bool.Decides.{nat_tests}
 use Rattle.base.specs.declared.levels.Level.{Level}
@@ -12,7 +13,6 @@ use Rattle.label_lattice.specs.Raw.{is_made, all_made, collected, stored_of}
 use Rattle.label_lattice.proofs.LabelLemmas.{bool_cases}
 use Rattle.label_lattice.proofs.OrderLemmas.{and_parts, and_both}
 use Rattle.label_lattice.proofs.PlacedLemmas.{placed-same, placed-after, placed-before}
-use Rattle.label_lattice.proofs.PlacedLemmas.{eq_false, lt_true, lt_false}
 
 module _ (next : ℕ) (d : Level) (p : Pair) where
   made-kept : (rest : List Pair) → IsTrue (is_made next p) → IsTrue (all_made next rest)

@@ -1,4 +1,5 @@
-use Rattle.std.proofs.Common.{◌≡◌, ◌≢◌, ℕ, suc, ◌+◌, ◌≤◌, ◌↔◌, ◌++◌, ◌⊎◌, inl, inr, Bool, IsTrue}
+-- The order over all categories, its test that computes, and what the walk says of both.
+use Rattle.std.proofs.Common.{◌≡◌, ℕ, suc, ◌+◌, ◌<◌, ◌≤◌, ◌↔◌, ◌++◌, ◌⊎◌, inl, inr, Bool, IsTrue}
 use Rattle.std.proofs.Common.{true, false, ◌&&◌, nat_le, arith, List, [], ◌∷◌, map, refl, ap, ◌∙◌}
 use Rattle.std.specs.List.{list_all}
 use Rattle.std.proofs.lemmas.Bool.Decides.{nat_tests, same_from_decides}
@@ -17,6 +18,9 @@ use Rattle.label_lattice.proofs.LabelLemmas.{same_labels, rank_of-injective}
 -- the test of two numbers says what it means
 pub le_means : (m n : ℕ) → IsTrue (nat_le m n) → m ≤ n
 le_means m n h = grind (arith, nat_tests)
+
+pub le_fails : (m n : ℕ) → nat_le m n ≡ false → n < m
+le_fails m n h = grind (arith, nat_tests)
 
 pub le_tests : (m n : ℕ) → m ≤ n → IsTrue (nat_le m n)
 le_tests m n h = grind (arith, nat_tests)

@@ -1,29 +1,20 @@
+-- Labels after a category was given a level: when there is room, and what is stored.
 use Rattle.std.proofs.Common.{◌≡◌, ℕ, ◌<◌, ◌≤◌, inl, inr, true, false, List, length, nat_le, arith}
 use Rattle.std.proofs.Common.{◌==◌, if◌then◌else◌, Some, None}
 use Rattle.std.proofs.Common.{suc, ◌↔◌, refl, [], ◌∷◌}
 use Rattle.std.specs.Prelude.{Option, IfSome, IsNone}
 use Rattle.base.specs.declared.levels.Level.{Level}
 use Rattle.base.specs.Level.{rank_of}
-use Rattle.std.proofs.lemmas.Bool.Decides.{nat_tests}
 use Rattle.std.proofs.lemmas.Bool.{cases_eq, cases_order}
 use Rattle.label_lattice.specs.declared.pairings.Pair.{Pair}
 use Rattle.label_lattice.specs.Label.{LabelValue, level, IsStored}
-use Rattle.label_lattice.specs.Placed.{kept, placed, with_level}
+use Rattle.label_lattice.specs.Placed.{kept, placed, fitting, with_level}
 use Rattle.label_lattice.proofs.LabelLemmas.{bool_cases}
 use Rattle.label_lattice.proofs.PlacedLemmas.{placed-same, placed-after, placed-before}
 use Rattle.label_lattice.proofs.PlacedLemmas.{placed-here, placed-other, placed-IsRising}
-use Rattle.label_lattice.proofs.PlacedLemmas.{placed-DiffersFrom, eq_false, lt_true, lt_false}
+use Rattle.label_lattice.proofs.PlacedLemmas.{placed-DiffersFrom, eq_false}
 use Rattle.std.proofs.Common.{eq-eqb}
-use Rattle.label_lattice.proofs.OrderLemmas.{le_means}
-
-pub le_fails : (m n : ℕ) → nat_le m n ≡ false → n < m
-le_fails m n h = grind (arith, nat_tests)
-
-pub le_true : (m n : ℕ) → m ≤ n → nat_le m n ≡ true
-le_true m n h = grind (arith, nat_tests)
-
-pub le_false : (m n : ℕ) → n < m → nat_le m n ≡ false
-le_false m n h = grind (arith, nat_tests)
+use Rattle.label_lattice.proofs.OrderLemmas.{le_means, le_fails}
 
 -- each category's level after one was given
 pub with_level-level : (l : LabelValue) (p : Pair) (c : ℕ) → IsStored l
@@ -60,8 +51,7 @@ with-levels l p r stored e =
 
 -- the exceptions that were found can be stored
 pub stored_from_placed : (l : LabelValue) (p : Pair) (es : List Pair) → IsStored l
-    → Some es ≡ (if nat_le (length (placed l.default_level p l.exceptions)) 16 then Some
-    (placed l.default_level p l.exceptions) else None)
+    → Some es ≡ fitting (placed l.default_level p l.exceptions)
     → IsStored (record { default_level = l.default_level; exceptions = es })
 stored_from_placed l p es stored e =
     elim (bool_cases (nat_le (length (placed l.default_level p l.exceptions)) 16)) [

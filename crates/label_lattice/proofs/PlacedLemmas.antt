@@ -1,3 +1,4 @@
+-- Exceptions after a category was given a level: their levels, their order, their parts.
 use Rattle.std.proofs.Common.{◌≡◌, ◌≢◌, ℕ, suc, ◌<◌, ◌≤◌, inl, inr, true, false, List, [], ◌∷◌}
 use Rattle.std.proofs.Common.{◌++◌, length, drop, take, get_or, refl, sym, ap, ◌∙◌, subst, nat_lt}
 use Rattle.std.proofs.Common.{arith, ◌==◌, eq-eqb}

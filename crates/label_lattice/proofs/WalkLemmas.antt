@@ -1,3 +1,4 @@
+-- One step of the walk leaves what is asked of all categories as it was.
 use Rattle.std.proofs.Common.{◌≡◌, ◌≢◌, ℕ, zero, suc, ◌+◌, ◌<◌, ◌≤◌, inl, inr, Bool, IsTrue, List}
 use Rattle.std.proofs.Common.{[], ◌∷◌, length, drop, get_or, refl, ◌∙◌, subst, arith, max}
 use Rattle.std.proofs.lemmas.Bool.Decides.{nat_tests}

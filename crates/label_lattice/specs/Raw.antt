@@ -1,6 +1,6 @@
 -- Labels as callers hand them in: which are bad, and as what label the others are stored.
 use Rattle.std.specs.Prelude.{ℕ, ◌==◌, ◌||◌, ◌&&◌, not, Bool, false, suc, nat_lt, List, [], ◌∷◌}
-use Rattle.std.specs.Prelude.{if◌then◌else◌}
+use Rattle.std.specs.Prelude.{Option, Some, None, if◌then◌else◌}
 use Rattle.std.specs.List.{list_all, list_any}
 use Rattle.base.specs.declared.levels.Level.{Level}
 use Rattle.base.specs.Level.{rank_of}
@@ -47,6 +47,12 @@ raw_has_star raw = rank_of raw.default == 0 || any_star raw.pairs
 abbrev pub collected : Level → List Pair → List Pair → List Pair
 collected default [] found = found
 collected default (p ∷ ps) found = collected default ps (placed default p found)
+
+-- the exceptions of the pairs, where no category stands twice and at most 16 pairs differ
+abbrev pub collected_all : Level → List Pair → Option (List Pair)
+collected_all default ps =
+    if has_twice ps || nat_lt 16 (differing default ps) then None
+    else Some (collected default ps [])
 
 -- the label that is stored
 abbrev pub stored_of : RawLabel → LabelValue

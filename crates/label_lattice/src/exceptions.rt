@@ -5,8 +5,8 @@ ghost use Rattle.std.specs.List.{list_any};
 ghost use Rattle.base.specs.declared.levels.Level.{Level};
 ghost use Rattle.label_lattice.specs.declared.pairings.Pair.{Pair};
 ghost use Rattle.label_lattice.specs.Levels.{level_at, any_star};
-ghost use Rattle.label_lattice.specs.Placed.{place_in, placed, kept};
-ghost use Rattle.label_lattice.specs.Raw.{has_twice, differing, collected};
+ghost use Rattle.label_lattice.specs.Placed.{place_in, placed, kept, fitting};
+ghost use Rattle.label_lattice.specs.Raw.{collected_all};
 
 use crate::pairings::{Pair, Pairs};
 use base::{Category, Level};
@@ -73,8 +73,7 @@ fn after_of(pairs: &[Pair], place: usize, category: u64) -> usize
 /// The exceptions with a category at a level, where they have room.
 pub fn placed_in(default: Level, old: &[Pair], pair: Pair) -> Option<Pairs<16>>
     requires { length old.now ≤ 16 }
-    ensures { let new = placed default pair old.now in
-        result ≡ (if nat_le (length new) 16 then Some new else None) }
+    ensures { result ≡ fitting (placed default pair old.now) }
 {
     let place = place_of(old, pair.category.0);
     let after = after_of(old, place, pair.category.0);
@@ -93,9 +92,7 @@ pub fn placed_in(default: Level, old: &[Pair], pair: Pair) -> Option<Pairs<16>>
 /// The exceptions of pairs in any order, unless a category stands there twice or too many differ
 /// from the default.
 pub fn collect(default: Level, pairs: &[Pair]) -> Option<Pairs<16>>
-    ensures value { result ≡
-        (if has_twice pairs.now || nat_lt 16 (differing default pairs.now) then None
-        else Some (collected default pairs.now [])) }
+    ensures value { result ≡ collected_all default pairs.now }
     ensures few { IfSome result (λ es. length es ≤ 16) }
 {
     let mut found = Pairs::new();

@@ -65,8 +65,8 @@ impl Label {
     }
 
     /// The label that a raw label says, where that is good and names only categories from 1 and
-    /// below the next category that a counter gives (1 to 2^61). Otherwise the refusal is
-    /// `BadLabel`. It adds one scan.
+    /// below the next category that a counter gives, 1 to 2^61 (this profile's rule). Otherwise the
+    /// refusal is `BadLabel`. It adds one scan.
     pub fn from_raw_below(
         raw: &RawLabel,
         next_category: u64,
@@ -88,10 +88,11 @@ impl Label {
     }
 
     /// The label as its holder would hand it in: the same default, and the exceptions by rising
-    /// category. It adds one scan.
+    /// category. It is good, and is stored as this label. It adds one scan.
     pub fn to_raw(&self, meter: &mut Meter) -> RawLabel
         ensures scan { meter.new ≡ scanned 1 meter.old }
         ensures raw { result ≡ raw_of self.now }
+        ensures stored { IsStored self.now }
     {
         meter.scan();
         let mut pairs = Pairs::new();
@@ -102,7 +103,7 @@ impl Label {
         }
     }
 
-    /// The level of a category, be it an exception or not. It adds one scan.
+    /// The level of a category, be it an exception or not (HiStar, OSDI 2006). It adds one scan.
     pub fn level(&self, category: Category, meter: &mut Meter) -> Level
         ensures scan { meter.new ≡ scanned 1 meter.old }
         ensures level { result ≡ level self.now category.0 }
@@ -121,8 +122,8 @@ impl Label {
         has_star_in(self.exceptions.as_slice())
     }
 
-    /// Whether the labels are equal, which they are where each category has one level in both. It
-    /// adds one scan.
+    /// Whether the labels are equal, which they are where each category has the same level in both
+    /// (HiStar, OSDI 2006). It adds one scan.
     pub fn same(&self, other: &Label, meter: &mut Meter) -> bool
         ensures scan { meter.new ≡ scanned 1 meter.old }
         ensures equal { IsTrue result ↔ (self.now ≡ other.now) }
@@ -134,7 +135,7 @@ impl Label {
     }
 
     /// The label with one category at another level, and `None` exactly where that would have 17
-    /// exceptions. The label itself stays as it is. It adds one scan.
+    /// exceptions (this profile's limit). The label itself stays as it is. It adds one scan.
     pub fn with(&self, category: Category, level: Level, meter: &mut Meter) -> Option<Label>
         ensures scan { meter.new ≡ scanned 1 meter.old }
         ensures value { let pair : Pair = record { category = category; level = level } in

@@ -27,8 +27,8 @@ pub fn star_is_kept()
     ensures { StarIsKept }
 {}
 
-/// Categories that were made stay so: as a raw label is stored, as a label gets a level for one that
-/// was made, and as the next category rises.
+/// Categories that were made stay so: as a raw label is stored, as a label gets a level for one
+/// that was made, and as the next category rises.
 pub fn made_categories_stay_made()
     ensures stored { MadeIsStored }
     ensures placed { MadeIsPlaced }

@@ -4,7 +4,7 @@ ghost use Rattle.std.specs.Prelude.{◌≡◌, ◌<◌, ◌+◌, ◌≤◌, [], 
 use base::{Category, Level};
 use std::marker::Model;
 
-/// A category with its level.
+/// A category with its level. Whether the category was made is told by `RawLabel::all_made`.
 #[derive(Clone, Copy, PartialEq, Eq, Debug)]
 pub struct Pair {
     pub category: Category,

@@ -41,7 +41,7 @@ impl RawLabel {
     }
 
     /// Whether each category was made: it is from 1 and below the next category that a counter
-    /// gives (1 to 2^61). It reads no stored label, so it counts no scan.
+    /// gives, 1 to 2^61 (this profile's rule). It reads no stored label, so it counts no scan.
     pub fn all_made(&self, next_category: u64) -> bool
         ensures made { IsTrue result ↔
             All (λ p. (1 ≤ p.category.0) × (p.category.0 < next_category)) self.now.pairs }
