@@ -15,7 +15,7 @@ abbrev pub has_twice : List Pair → Bool
 has_twice [] = false
 has_twice (p ∷ ps) = list_any (λ q. q.category.0 == p.category.0) ps || has_twice ps
 
--- the pairs that differ from the default
+-- how many pairs differ from the default
 abbrev pub differing : Level → List Pair → ℕ
 differing default [] = 0
 differing default (p ∷ ps) =
@@ -48,7 +48,7 @@ abbrev pub collected : Level → List Pair → List Pair → List Pair
 collected default [] found = found
 collected default (p ∷ ps) found = collected default ps (placed default p found)
 
--- the exceptions of the pairs, where no category stands twice and at most 16 pairs differ
+-- the exceptions of the pairs, unless a category stands twice or more than 16 pairs differ
 abbrev pub collected_all : Level → List Pair → Option (List Pair)
 collected_all default ps =
     if has_twice ps || nat_lt 16 (differing default ps) then None
