@@ -1,22 +1,28 @@
-use Rattle.std.proofs.Common.{◌≡◌, ℕ, ◌+◌, ◌<◌, ◌≤◌, inl, inr, Bool, true, false, ◌||◌, List, [], ◌∷◌, length, drop, get_or, refl, sym, ◌∙◌, subst, nat_lt, arith, ◌==◌, if◌then◌else◌, eq-eqb, nat_le, Some, None}
+-- Exceptions that are made of pairs in any order, one pair after the other.
+use Rattle.std.proofs.Common.{◌≡◌, ◌≢◌, ℕ, ◌+◌, ◌<◌, ◌≤◌, inl, inr, Bool, true, false, ◌||◌, List}
+use Rattle.std.proofs.Common.{[]}
+use Rattle.std.proofs.Common.{◌∷◌, length, drop, get_or, refl, sym, ◌∙◌, subst, nat_lt, arith, ◌==◌}
+use Rattle.std.proofs.Common.{if◌then◌else◌, eq-eqb, nat_le, Some, None}
 use Rattle.std.proofs.Common.{add-one, take, ◌-◌, length-drop}
 use Rattle.std.proofs.lemmas.List.{take_all}
 use Rattle.std.proofs.Math.ListN.{drop_of_length-le}
 use Rattle.std.proofs.Math.Seq.{drop-cons}
 use Rattle.std.specs.List.{list_any}
-use Rattle.std.specs.Prelude.{Option}
 use Rattle.label_lattice.specs.Pairs.{filler}
-use Rattle.label_lattice.proofs.OrderLemmas.{le_means}
-use Rattle.std.proofs.lemmas.Bool.Decides.{nat_tests}
+use Rattle.label_lattice.proofs.OrderLemmas.{le_means, le_fails}
 use Rattle.std.proofs.lemmas.Bool.{cases_eq, cases_order}
 use Rattle.base.specs.declared.levels.Level.{Level}
+use Rattle.base.specs.declared.levels.Level.TheVariants.{Star}
 use Rattle.base.specs.Level.{rank_of}
 use Rattle.label_lattice.specs.declared.pairings.Pair.{Pair}
 use Rattle.label_lattice.specs.Levels.{level_at, IsRising, DiffersFrom}
-use Rattle.label_lattice.specs.Placed.{kept, placed}
-use Rattle.label_lattice.specs.Raw.{has_twice, differing, collected}
+use Rattle.label_lattice.specs.Label.{IsStored}
+use Rattle.label_lattice.specs.Placed.{kept, placed, fitting}
+use Rattle.label_lattice.specs.Raw.{has_twice, differing, collected, collected_all}
 use Rattle.label_lattice.proofs.LabelLemmas.{bool_cases}
-use Rattle.label_lattice.proofs.PlacedLemmas.{placed-here, placed-other, placed-IsRising, placed-DiffersFrom, eq_false, lt_true, lt_false}
+use Rattle.label_lattice.proofs.PlacedLemmas.{placed-same, placed-after, placed-before}
+use Rattle.label_lattice.proofs.PlacedLemmas.{placed-here, placed-other, placed-IsRising}
+use Rattle.label_lattice.proofs.PlacedLemmas.{placed-DiffersFrom, eq_false, lt_true, lt_false}
 
 -- a pair of the list has the category
 abbrev pub any_at : ℕ → List Pair → Bool
@@ -27,51 +33,63 @@ abbrev pub IsApart : List Pair → List Pair → Type 0
 IsApart [] rest = Unit {0}
 IsApart (e ∷ es) rest = (any_at e.category.0 rest ≡ false) × IsApart es rest
 
-or_false_left : (x y : Bool) → (x || y) ≡ false → x ≡ false
+pub or_false_left : (x y : Bool) → (x || y) ≡ false → x ≡ false
 or_false_left true y h = h
 or_false_left false y h = refl
 
-or_false_right : (x y : Bool) → (x || y) ≡ false → y ≡ false
+pub or_false_right : (x y : Bool) → (x || y) ≡ false → y ≡ false
 or_false_right true y h = absurd (let e : true ≡ false = h in cc)
 or_false_right false y h = h
 
-IsApart-rest : (es : List Pair) (p : Pair) (rest : List Pair) → IsApart es (p ∷ rest) → IsApart es rest
+IsApart-rest : (es : List Pair) (p : Pair) (rest : List Pair) → IsApart es (p ∷ rest)
+    → IsApart es rest
 IsApart-rest [] p rest h = tt
-IsApart-rest (e ∷ es) p rest h =
-    (or_false_right (p.category.0 == e.category.0) (any_at e.category.0 rest) h.0, IsApart-rest es p rest h.1)
+IsApart-rest (e ∷ es) p rest h = (
+  or_false_right (p.category.0 == e.category.0) (any_at e.category.0 rest) h.0,
+  IsApart-rest es p rest h.1,
+)
 
 module _ (d : Level) (p : Pair) (rest : List Pair) where
-  IsApart-kept : (es : List Pair) → any_at p.category.0 rest ≡ false → IsApart es rest → IsApart (kept d p es) rest
+  IsApart-kept : (es : List Pair) → any_at p.category.0 rest ≡ false → IsApart es rest
+      → IsApart (kept d p es) rest
   IsApart-kept es fresh h =
-      elim (bool_cases (rank_of p.level == rank_of d)) [ inl same ↦ rw same h | inr other ↦ rw other (fresh, h) ]
+      elim (bool_cases (rank_of p.level == rank_of d))
+      [ inl same ↦ rw same h | inr other ↦ rw other (fresh, h) ]
 
-  IsApart-placed : (es : List Pair) → any_at p.category.0 rest ≡ false → IsApart es rest → IsApart (placed d p es) rest
+  IsApart-placed : (es : List Pair) → any_at p.category.0 rest ≡ false → IsApart es rest
+      → IsApart (placed d p es) rest
   IsApart-placed [] fresh h = IsApart-kept [] fresh tt
   IsApart-placed (q ∷ qs) fresh h =
       elim (cases_order q.category.0 p.category.0) [
-        | inl same ↦ rw (lt_false q.category.0 p.category.0 (omega arith), eq-eqb q.category.0 p.category.0 same) (IsApart-kept qs fresh h.1)
+        | inl same ↦ rw (placed-same d p q qs same) (IsApart-kept qs fresh h.1)
         | inr apart ↦ elim apart [
-          | inl below ↦ rw (lt_true q.category.0 p.category.0 below) (h.0, IsApart-placed qs fresh h.1)
-          | inr gt ↦ rw (lt_false q.category.0 p.category.0 (omega arith), eq_false q.category.0 p.category.0 (omega arith)) (IsApart-kept (q ∷ qs) fresh h)
+          | inl below ↦ rw (placed-after d p q qs below) (h.0, IsApart-placed qs fresh h.1)
+          | inr gt ↦ rw (placed-before d p q qs gt) (IsApart-kept (q ∷ qs) fresh h)
         ]
       ]
 
-  length-kept : (es : List Pair) → length (kept d p es) + differing d rest ≡ length es + differing d (p ∷ rest)
+  length-kept : (es : List Pair)
+      → length (kept d p es) + differing d rest ≡ length es + differing d (p ∷ rest)
   length-kept es =
-      elim (bool_cases (rank_of p.level == rank_of d)) [ inl same ↦ rw same (omega arith) | inr other ↦ rw other (omega arith) ]
+      elim (bool_cases (rank_of p.level == rank_of d))
+      [ inl same ↦ rw same (omega arith) | inr other ↦ rw other (omega arith) ]
 
-  length-placed : (es : List Pair) → IsApart es (p ∷ rest) → length (placed d p es) + differing d rest ≡ length es + differing d (p ∷ rest)
+  length-placed : (es : List Pair) → IsApart es (p ∷ rest)
+      → length (placed d p es) + differing d rest ≡ length es + differing d (p ∷ rest)
   length-placed [] h = length-kept []
   length-placed (q ∷ qs) h =
       elim (cases_order q.category.0 p.category.0) [
         | inl same ↦
-            let f : (p.category.0 == q.category.0) ≡ false = or_false_left (p.category.0 == q.category.0) (any_at q.category.0 rest) h.0 in
-            let t : (p.category.0 == q.category.0) ≡ true = eq-eqb p.category.0 q.category.0 (sym same) in
+            let f : (p.category.0 == q.category.0) ≡ false =
+            or_false_left (p.category.0 == q.category.0) (any_at q.category.0 rest) h.0 in
+            let t : (p.category.0 == q.category.0) ≡ true =
+            eq-eqb p.category.0 q.category.0 (sym same) in
             absurd (let e : true ≡ false = sym t ∙ f in cc)
         | inr apart ↦ elim apart [
-          | inl below ↦ rw (lt_true q.category.0 p.category.0 below)
-              (let more : length (placed d p qs) + differing d rest ≡ length qs + differing d (p ∷ rest) = length-placed qs h.1 in omega arith)
-          | inr gt ↦ rw (lt_false q.category.0 p.category.0 (omega arith), eq_false q.category.0 p.category.0 (omega arith)) (length-kept (q ∷ qs))
+          | inl below ↦ rw (placed-after d p q qs below)
+              (let more : length (placed d p qs) + differing d rest
+              ≡ length qs + differing d (p ∷ rest) = length-placed qs h.1 in omega arith)
+          | inr gt ↦ rw (placed-before d p q qs gt) (length-kept (q ∷ qs))
         ]
       ]
 
@@ -84,17 +102,26 @@ pub record CollectGoesOn (d : Level) (pairs : List Pair) (i : ℕ) (es : List Pa
   pub count : length es + differing d (drop i pairs) ≡ differing d pairs
 
 -- a step
-pub collect_step : (d : Level) (pairs : List Pair) (i : ℕ) (es : List Pair) (p : Pair) → CollectGoesOn d pairs i es → drop i pairs ≡ p ∷ drop (i + 1) pairs
-    → any_at p.category.0 (drop (i + 1) pairs) ≡ false → length (placed d p es) ≤ 16 → CollectGoesOn d pairs (i + 1) (placed d p es)
+pub collect_step : (d : Level) (pairs : List Pair) (i : ℕ) (es : List Pair) (p : Pair)
+    → CollectGoesOn d pairs i es → drop i pairs ≡ p ∷ drop (i + 1) pairs
+    → any_at p.category.0 (drop (i + 1) pairs) ≡ false → length (placed d p es) ≤ 16
+    → CollectGoesOn d pairs (i + 1) (placed d p es)
 collect_step d pairs i es p on head fresh room =
-    let apart : IsApart es (p ∷ drop (i + 1) pairs) = subst (λ (r : List Pair). IsApart es r) head on.apart in
-    let twice : has_twice (p ∷ drop (i + 1) pairs) ≡ has_twice pairs = subst (λ (r : List Pair). has_twice r ≡ has_twice pairs) head on.twice in
+    let apart : IsApart es (p ∷ drop (i + 1) pairs) =
+    subst (λ (r : List Pair). IsApart es r) head on.apart in
+    let twice : has_twice (p ∷ drop (i + 1) pairs) ≡ has_twice pairs =
+    subst (λ (r : List Pair). has_twice r ≡ has_twice pairs) head on.twice in
     record {
       few = room;
-      apart = IsApart-placed d p (drop (i + 1) pairs) es fresh (IsApart-rest es p (drop (i + 1) pairs) apart);
-      collects = subst (λ (r : List Pair). collected d r es ≡ collected d pairs []) head on.collects;
+      apart =
+          IsApart-placed d p (drop (i + 1) pairs) es fresh
+          (IsApart-rest es p (drop (i + 1) pairs) apart);
+      collects =
+          subst (λ (r : List Pair). collected d r es ≡ collected d pairs []) head on.collects;
       twice = rw fresh at twice;
-      count = length-placed d p (drop (i + 1) pairs) es apart ∙ subst (λ (r : List Pair). length es + differing d r ≡ differing d pairs) head on.count;
+      count =
+          length-placed d p (drop (i + 1) pairs) es apart
+          ∙ subst (λ (r : List Pair). length es + differing d r ≡ differing d pairs) head on.count;
     }
 
 or_true : (x : Bool) → (x || true) ≡ true
@@ -102,123 +129,154 @@ or_true true = refl
 or_true false = refl
 
 -- where a step finds no room, too many differ
-pub collect_full : (d : Level) (pairs : List Pair) (i : ℕ) (es : List Pair) (p : Pair) → CollectGoesOn d pairs i es → drop i pairs ≡ p ∷ drop (i + 1) pairs
+pub collect_full : (d : Level) (pairs : List Pair) (i : ℕ) (es : List Pair) (p : Pair)
+    → CollectGoesOn d pairs i es → drop i pairs ≡ p ∷ drop (i + 1) pairs
     → 16 < length (placed d p es) → (has_twice pairs || nat_lt 16 (differing d pairs)) ≡ true
 collect_full d pairs i es p on head full =
-    let apart : IsApart es (p ∷ drop (i + 1) pairs) = subst (λ (r : List Pair). IsApart es r) head on.apart in
+    let apart : IsApart es (p ∷ drop (i + 1) pairs) =
+    subst (λ (r : List Pair). IsApart es r) head on.apart in
     let count : length (placed d p es) + differing d (drop (i + 1) pairs) ≡ differing d pairs =
-    length-placed d p (drop (i + 1) pairs) es apart ∙ subst (λ (r : List Pair). length es + differing d r ≡ differing d pairs) head on.count in
+    length-placed d p (drop (i + 1) pairs) es apart
+    ∙ subst (λ (r : List Pair). length es + differing d r ≡ differing d pairs) head on.count in
     rw (lt_true 16 (differing d pairs) (omega arith)) (or_true (has_twice pairs))
 
 -- where a step finds the category again, it stands twice
-pub collect_twice : (d : Level) (pairs : List Pair) (i : ℕ) (es : List Pair) (p : Pair) → CollectGoesOn d pairs i es → drop i pairs ≡ p ∷ drop (i + 1) pairs
-    → any_at p.category.0 (drop (i + 1) pairs) ≡ true → (has_twice pairs || nat_lt 16 (differing d pairs)) ≡ true
+pub collect_twice : (d : Level) (pairs : List Pair) (i : ℕ) (es : List Pair) (p : Pair)
+    → CollectGoesOn d pairs i es → drop i pairs ≡ p ∷ drop (i + 1) pairs
+    → any_at p.category.0 (drop (i + 1) pairs) ≡ true
+    → (has_twice pairs || nat_lt 16 (differing d pairs)) ≡ true
 collect_twice d pairs i es p on head again =
-    let twice : has_twice (p ∷ drop (i + 1) pairs) ≡ has_twice pairs = subst (λ (r : List Pair). has_twice r ≡ has_twice pairs) head on.twice in
+    let twice : has_twice (p ∷ drop (i + 1) pairs) ≡ has_twice pairs =
+    subst (λ (r : List Pair). has_twice r ≡ has_twice pairs) head on.twice in
     let found : true ≡ has_twice pairs = rw again at twice in
     rw (← found) refl
 
 -- at the end all is collected
-pub collect_done : (d : Level) (pairs : List Pair) (i : ℕ) (es : List Pair) → CollectGoesOn d pairs i es → drop i pairs ≡ []
+pub collect_done : (d : Level) (pairs : List Pair) (i : ℕ) (es : List Pair)
+    → CollectGoesOn d pairs i es → drop i pairs ≡ []
     → ((has_twice pairs || nat_lt 16 (differing d pairs)) ≡ false) × (es ≡ collected d pairs [])
 collect_done d pairs i es on done =
-    let twice : false ≡ has_twice pairs = subst (λ (r : List Pair). has_twice r ≡ has_twice pairs) done on.twice in
-    let count : length es + 0 ≡ differing d pairs = subst (λ (r : List Pair). length es + differing d r ≡ differing d pairs) done on.count in
+    let twice : false ≡ has_twice pairs =
+    subst (λ (r : List Pair). has_twice r ≡ has_twice pairs) done on.twice in
+    let count : length es + 0 ≡ differing d pairs =
+    subst (λ (r : List Pair). length es + differing d r ≡ differing d pairs) done on.count in
     let few : length es ≤ 16 = on.few in (
       rw (← twice, lt_false 16 (differing d pairs) (omega arith)) refl,
       subst (λ (r : List Pair). collected d r es ≡ collected d pairs []) done on.collects,
     )
 
-pub collected-IsRising : (d : Level) (ps es : List Pair) → IsRising es → IsRising (collected d ps es)
+pub collected-IsRising : (d : Level) (ps es : List Pair) → IsRising es
+    → IsRising (collected d ps es)
 collected-IsRising d [] es h = h
-collected-IsRising d (p ∷ ps) es h = collected-IsRising d ps (placed d p es) (placed-IsRising d p es h)
+collected-IsRising d (p ∷ ps) es h =
+    collected-IsRising d ps (placed d p es) (placed-IsRising d p es h)
 
-pub collected-DiffersFrom : (d : Level) (ps es : List Pair) → DiffersFrom d es → DiffersFrom d (collected d ps es)
+pub collected-DiffersFrom : (d : Level) (ps es : List Pair) → DiffersFrom d es
+    → DiffersFrom d (collected d ps es)
 collected-DiffersFrom d [] es h = h
-collected-DiffersFrom d (p ∷ ps) es h = collected-DiffersFrom d ps (placed d p es) (placed-DiffersFrom d p es h)
+collected-DiffersFrom d (p ∷ ps) es h =
+    collected-DiffersFrom d ps (placed d p es) (placed-DiffersFrom d p es h)
 
 -- the levels of what was collected
 collected-level : (d : Level) (ps es : List Pair) (c : ℕ) → IsRising es → has_twice ps ≡ false
     → level_at d (collected d ps es) c ≡ (if any_at c ps then level_at d ps c else level_at d es c)
 collected-level d [] es c r once = refl
 collected-level d (p ∷ ps) es c r once =
-    let fresh : any_at p.category.0 ps ≡ false = or_false_left (any_at p.category.0 ps) (has_twice ps) once in
-    let rest : level_at d (collected d ps (placed d p es)) c ≡ (if any_at c ps then level_at d ps c else level_at d (placed d p es) c) =
-    collected-level d ps (placed d p es) c (placed-IsRising d p es r) (or_false_right (any_at p.category.0 ps) (has_twice ps) once) in
+    let fresh : any_at p.category.0 ps ≡ false =
+    or_false_left (any_at p.category.0 ps) (has_twice ps) once in
+    let rest : level_at d (collected d ps (placed d p es)) c
+    ≡ (if any_at c ps then level_at d ps c else level_at d (placed d p es) c) =
+    collected-level d ps (placed d p es) c (placed-IsRising d p es r)
+    (or_false_right (any_at p.category.0 ps) (has_twice ps) once) in
     elim (cases_eq c p.category.0) [
       | inl here ↦
           let fresh_c : any_at c ps ≡ false = rw here fresh in
-          let found : level_at d (collected d ps (placed d p es)) c ≡ level_at d (placed d p es) c = rw fresh_c at rest in
+          let found : level_at d (collected d ps (placed d p es)) c ≡ level_at d (placed d p es) c =
+          rw fresh_c at rest in
           found ∙ rw (eq-eqb p.category.0 c (sym here)) (rw here (placed-here d p es r))
       | inr other ↦
           let differs : (p.category.0 == c) ≡ false = eq_false p.category.0 c (omega arith) in
           rest ∙ rw (differs, placed-other d p es c other) refl
     ]
 
-none_at : (d : Level) (ps : List Pair) (c : ℕ) → any_at c ps ≡ false → level_at d ps c ≡ d
+pub none_at : (d : Level) (ps : List Pair) (c : ℕ) → any_at c ps ≡ false → level_at d ps c ≡ d
 none_at d [] c h = refl
 none_at d (p ∷ ps) c h =
-    rw (or_false_left (p.category.0 == c) (any_at c ps) h) (none_at d ps c (or_false_right (p.category.0 == c) (any_at c ps) h))
+    rw (or_false_left (p.category.0 == c) (any_at c ps) h)
+    (none_at d ps c (or_false_right (p.category.0 == c) (any_at c ps) h))
 
-pub collected-levels : (d : Level) (ps : List Pair) (c : ℕ) → has_twice ps ≡ false → level_at d (collected d ps []) c ≡ level_at d ps c
+pub collected-levels : (d : Level) (ps : List Pair) (c : ℕ) → has_twice ps ≡ false
+    → level_at d (collected d ps []) c ≡ level_at d ps c
 collected-levels d ps c once =
     collected-level d ps [] c tt once
-    ∙ elim (bool_cases (any_at c ps)) [ inl found ↦ rw found refl | inr absent ↦ rw (absent, none_at d ps c absent) refl ]
+    ∙ elim (bool_cases (any_at c ps))
+    [ inl found ↦ rw found refl | inr absent ↦ rw (absent, none_at d ps c absent) refl ]
 
-head_at : (pairs : List Pair) (i : ℕ) → i < length pairs → drop i pairs ≡ get_or pairs i filler ∷ drop (i + 1) pairs
+head_at : (pairs : List Pair) (i : ℕ) → i < length pairs
+    → drop i pairs ≡ get_or pairs i filler ∷ drop (i + 1) pairs
 head_at pairs i h = rw add-one (drop-cons pairs i filler h)
 
 rest_whole : (pairs : List Pair) (i : ℕ) → take (length pairs - i) (drop i pairs) ≡ drop i pairs
 rest_whole pairs i = take_all (length pairs - i) (drop i pairs) (rw length-drop (omega arith))
 
-le_fails : (m n : ℕ) → nat_le m n ≡ false → n < m
-le_fails m n h = grind (arith, nat_tests)
-
 -- the answer where a pair finds no room
-pub collect_none : (d : Level) (pairs : List Pair) (i : ℕ) (es view : List Pair) → CollectGoesOn d pairs i es → i < length pairs → view ≡ es
-    → ◌≡◌ {A = Option (List Pair)} None (if nat_le (length (placed d (get_or pairs i filler) view)) 16 then Some (placed d (get_or pairs i filler) view) else None)
-    → ◌≡◌ {A = Option (List Pair)} None (if has_twice pairs || nat_lt 16 (differing d pairs) then None else Some (collected d pairs []))
+pub collect_none : (d : Level) (pairs : List Pair) (i : ℕ) (es view : List Pair)
+    → CollectGoesOn d pairs i es → i < length pairs → view ≡ es
+    → None ≡ fitting (placed d (get_or pairs i filler) view)
+    → None ≡ collected_all d pairs
 collect_none d pairs i es view on within same none =
     let p : Pair = get_or pairs i filler in
-    let none' : ◌≡◌ {A = Option (List Pair)} None (if nat_le (length (placed d (get_or pairs i filler) es)) 16 then Some (placed d (get_or pairs i filler) es) else None) = rw same at none in
+    let none' : None ≡ fitting (placed d (get_or pairs i filler) es) = rw same at none in
     elim (bool_cases (nat_le (length (placed d (get_or pairs i filler) es)) 16)) [
-      | inl room ↦ absurd (let e : ◌≡◌ {A = Option (List Pair)} None (Some (placed d (get_or pairs i filler) es)) = rw room at none' in cc)
+      | inl room ↦
+          absurd
+          (let e : None ≡ Some (placed d (get_or pairs i filler) es) = rw room at none' in cc)
       | inr full ↦
-          rw (collect_full d pairs i es (get_or pairs i filler) on (head_at pairs i within) (le_fails (length (placed d (get_or pairs i filler) es)) 16 full)) refl
+          rw (collect_full d pairs i es (get_or pairs i filler) on (head_at pairs i within)
+          (le_fails (length (placed d (get_or pairs i filler) es)) 16 full)) refl
     ]
 
 -- the answer where a pair's category comes again
-pub collect_again : (d : Level) (pairs : List Pair) (i : ℕ) (es : List Pair) → CollectGoesOn d pairs i es → i < length pairs
-    → true ≡ any_at (get_or pairs i filler).category.0 (take (length pairs - (i + 1)) (drop (i + 1) pairs))
-    → ◌≡◌ {A = Option (List Pair)} None (if has_twice pairs || nat_lt 16 (differing d pairs) then None else Some (collected d pairs []))
+pub collect_again : (d : Level) (pairs : List Pair) (i : ℕ) (es : List Pair)
+    → CollectGoesOn d pairs i es → i < length pairs
+    → true ≡ any_at (get_or pairs i filler).category.0
+    (take (length pairs - (i + 1)) (drop (i + 1) pairs))
+    → None ≡ collected_all d pairs
 collect_again d pairs i es on within again =
-    rw (collect_twice d pairs i es (get_or pairs i filler) on (head_at pairs i within) (sym (rw (rest_whole pairs (i + 1)) at again))) refl
+    rw (collect_twice d pairs i es (get_or pairs i filler) on (head_at pairs i within)
+    (sym (rw (rest_whole pairs (i + 1)) at again))) refl
 
 -- a step that found room
-pub collect_some : (d : Level) (pairs : List Pair) (i : ℕ) (es view next : List Pair) → CollectGoesOn d pairs i es → i < length pairs → view ≡ es
-    → false ≡ any_at (get_or pairs i filler).category.0 (take (length pairs - (i + 1)) (drop (i + 1) pairs))
-    → Some next ≡ (if nat_le (length (placed d (get_or pairs i filler) view)) 16 then Some (placed d (get_or pairs i filler) view) else None)
+pub collect_some : (d : Level) (pairs : List Pair) (i : ℕ) (es view next : List Pair)
+    → CollectGoesOn d pairs i es → i < length pairs → view ≡ es
+    → false ≡ any_at (get_or pairs i filler).category.0
+    (take (length pairs - (i + 1)) (drop (i + 1) pairs))
+    → Some next ≡ fitting (placed d (get_or pairs i filler) view)
     → CollectGoesOn d pairs (i + 1) next
 collect_some d pairs i es view next on within same fresh some =
-    let fresh' : any_at (get_or pairs i filler).category.0 (drop (i + 1) pairs) ≡ false = sym (rw (rest_whole pairs (i + 1)) at fresh) in
-    let some' : Some next ≡ (if nat_le (length (placed d (get_or pairs i filler) es)) 16 then Some (placed d (get_or pairs i filler) es) else None) = rw same at some in
+    let fresh' : any_at (get_or pairs i filler).category.0 (drop (i + 1) pairs) ≡ false =
+    sym (rw (rest_whole pairs (i + 1)) at fresh) in
+    let some' : Some next ≡ fitting (placed d (get_or pairs i filler) es) = rw same at some in
     elim (bool_cases (nat_le (length (placed d (get_or pairs i filler) es)) 16)) [
       | inl room ↦
           let found : Some next ≡ Some (placed d (get_or pairs i filler) es) = rw room at some' in
           let e : next ≡ placed d (get_or pairs i filler) es = (cc) in
-          rw e (collect_step d pairs i es (get_or pairs i filler) on (head_at pairs i within) fresh' (le_means (length (placed d (get_or pairs i filler) es)) 16 room))
+          rw e (collect_step d pairs i es (get_or pairs i filler) on (head_at pairs i within) fresh'
+          (le_means (length (placed d (get_or pairs i filler) es)) 16 room))
       | inr full ↦ absurd (let e : Some next ≡ None = rw full at some' in cc)
     ]
 
 -- the answer at the end
-pub collect_end : (d : Level) (pairs : List Pair) (i : ℕ) (es : List Pair) → CollectGoesOn d pairs i es → length pairs ≤ i
-    → Some es ≡ (if has_twice pairs || nat_lt 16 (differing d pairs) then None else Some (collected d pairs []))
+pub collect_end : (d : Level) (pairs : List Pair) (i : ℕ) (es : List Pair)
+    → CollectGoesOn d pairs i es → length pairs ≤ i
+    → Some es ≡ collected_all d pairs
 collect_end d pairs i es on past =
     let done = collect_done d pairs i es on (drop_of_length-le pairs past) in
     rw (done.0, ← done.1) refl
 
 -- what was collected, from the answer
-pub collected_from : (d : Level) (pairs es : List Pair) → Some es ≡ (if has_twice pairs || nat_lt 16 (differing d pairs) then None else Some (collected d pairs []))
+pub collected_from : (d : Level) (pairs es : List Pair)
+    → Some es ≡ collected_all d pairs
     → (has_twice pairs ≡ false) × (es ≡ collected d pairs [])
 collected_from d pairs es some =
     elim (bool_cases (has_twice pairs || nat_lt 16 (differing d pairs))) [
@@ -227,3 +285,15 @@ collected_from d pairs es some =
           let found : Some es ≡ Some (collected d pairs []) = rw good at some in
           (or_false_left (has_twice pairs) _ good, (cc))
     ]
+
+-- so it can be stored
+pub stored_from_collected : (d : Level) (pairs es : List Pair) → d ≢ Star → length es ≤ 16
+    → Some es ≡ collected_all d pairs → IsStored (record { default_level = d; exceptions = es })
+stored_from_collected d pairs es plain few some =
+    let found = collected_from d pairs es some in
+    record {
+      owned_by_none = plain;
+      few = few;
+      rising = rw found.1 (collected-IsRising d pairs [] tt);
+      differing = rw found.1 (collected-DiffersFrom d pairs [] tt);
+    }

@@ -1,4 +1,6 @@
-use Rattle.std.proofs.Common.{◌≡◌, ◌≢◌, ℕ, zero, suc, ◌+◌, ◌<◌, ◌≤◌, inl, inr, Bool, IsTrue, List, [], ◌∷◌, length, drop, get_or, refl, ◌∙◌, subst, arith, max}
+-- One step of the walk leaves what is asked of all categories as it was.
+use Rattle.std.proofs.Common.{◌≡◌, ◌≢◌, ℕ, zero, suc, ◌+◌, ◌<◌, ◌≤◌, inl, inr, Bool, IsTrue, List}
+use Rattle.std.proofs.Common.{[], ◌∷◌, length, drop, get_or, refl, ◌∙◌, subst, arith, max}
 use Rattle.std.proofs.lemmas.Bool.Decides.{nat_tests}
 use Rattle.std.proofs.lemmas.Bool.{cases_eq}
 use Rattle.base.specs.declared.levels.Level.{Level}
@@ -12,7 +14,8 @@ IsAbove-lower [] m n h above = tt
 IsAbove-lower (p ∷ ps) m n h above = (omega (arith, above.0), IsAbove-lower ps m n h above.1)
 
 -- a category below all of the list has the default
-pub level_at-above : (default : Level) (ps : List Pair) (m : ℕ) → IsAbove m ps → level_at default ps m ≡ default
+pub level_at-above : (default : Level) (ps : List Pair) (m : ℕ) → IsAbove m ps
+    → level_at default ps m ≡ default
 level_at-above default [] m above = refl
 level_at-above default (p ∷ ps) m above =
     let rest : level_at default ps m ≡ default = level_at-above default ps m above.1 in
@@ -20,15 +23,18 @@ level_at-above default (p ∷ ps) m above =
     grind (arith, nat_tests)
 
 -- the first pair's category has its level
-pub level_at-same : (default : Level) (p : Pair) (ps : List Pair) (m : ℕ) → p.category.0 ≡ m → level_at default (p ∷ ps) m ≡ p.level
+pub level_at-same : (default : Level) (p : Pair) (ps : List Pair) (m : ℕ) → p.category.0 ≡ m
+    → level_at default (p ∷ ps) m ≡ p.level
 level_at-same default p ps m e = grind (arith, nat_tests)
 
 -- another category has the level of the rest
-pub level_at-other : (default : Level) (p : Pair) (ps : List Pair) (m : ℕ) → m ≢ p.category.0 → level_at default (p ∷ ps) m ≡ level_at default ps m
+pub level_at-other : (default : Level) (p : Pair) (ps : List Pair) (m : ℕ) → m ≢ p.category.0
+    → level_at default (p ∷ ps) m ≡ level_at default ps m
 level_at-other default p ps m ne = grind (arith, nat_tests)
 
 -- the first pair is taken
-pub Takes-head : (default : Level) (p : Pair) (ps : List Pair) (m : ℕ) → IsAbove p.category.0 ps → p.category.0 ≡ m → Takes default (p ∷ ps) m p.level ps
+pub Takes-head : (default : Level) (p : Pair) (ps : List Pair) (m : ℕ) → IsAbove p.category.0 ps
+    → p.category.0 ≡ m → Takes default (p ∷ ps) m p.level ps
 Takes-head default p ps m above e = record {
   here = level_at-same default p ps m e;
   gone = level_at-above default ps m (subst (λ k. IsAbove k ps) e above);
@@ -36,7 +42,8 @@ Takes-head default p ps m above e = record {
 }
 
 -- nothing is taken
-pub Takes-none : (default : Level) (ps : List Pair) (m : ℕ) → IsAbove m ps → Takes default ps m default ps
+pub Takes-none : (default : Level) (ps : List Pair) (m : ℕ) → IsAbove m ps
+    → Takes default ps m default ps
 Takes-none default ps m above = record {
   here = level_at-above default ps m above;
   gone = level_at-above default ps m above;
@@ -44,7 +51,8 @@ Takes-none default ps m above = record {
 }
 
 -- the pair at a place is taken
-pub Takes-at : (default : Level) (ps : List Pair) (i m : ℕ) (p : Pair) → IsRising ps → i < length ps → (get_or ps i p).category.0 ≡ m
+pub Takes-at : (default : Level) (ps : List Pair) (i m : ℕ) (p : Pair) → IsRising ps → i < length ps
+    → (get_or ps i p).category.0 ≡ m
     → Takes default (drop i ps) m (get_or ps i p).level (drop (suc i) ps)
 Takes-at default [] i m p rising within same = absurd (omega (arith, within))
 Takes-at default (q ∷ qs) zero m p rising within same = Takes-head default q qs m rising.0 same
@@ -52,7 +60,8 @@ Takes-at default (q ∷ qs) (suc i) m p rising within same =
     Takes-at default qs i m p rising.1 (omega (arith, within)) same
 
 -- a number that is not above the place's category and not it is below all that is left
-pub IsAbove-drop : (ps : List Pair) (i m : ℕ) (p : Pair) → IsRising ps → m ≤ next_of (drop i ps) → (i < length ps → (get_or ps i p).category.0 ≢ m)
+pub IsAbove-drop : (ps : List Pair) (i m : ℕ) (p : Pair) → IsRising ps → m ≤ next_of (drop i ps)
+    → (i < length ps → (get_or ps i p).category.0 ≢ m)
     → IsAbove m (drop i ps)
 IsAbove-drop [] zero m p rising least other = tt
 IsAbove-drop [] (suc i) m p rising least other = tt
@@ -70,7 +79,8 @@ past [] = 0
 past (p ∷ ps) = max (suc p.category.0) (past ps)
 
 -- from there on each category has the default
-pub level_at-past : (default : Level) (ps : List Pair) (k : ℕ) → past ps ≤ k → level_at default ps k ≡ default
+pub level_at-past : (default : Level) (ps : List Pair) (k : ℕ) → past ps ≤ k
+    → level_at default ps k ≡ default
 unfolding past
 level_at-past default [] k h = refl
 level_at-past default (p ∷ ps) k h =
@@ -113,9 +123,12 @@ module _ (t : Level → Level → Level → Bool) (da db dc : Level) where
       rw (← ta.here, ← tb.here, ← tc.here) (whole m)
 
 -- what the walk keeps: what is left of the lists decides the answer
-pub record WalkGoesOn (t : Level → Level → Level → Bool) (da db dc : Level) (a b c : List Pair) (i j k : ℕ) : Type 0 where
+pub record WalkGoesOn (t : Level → Level → Level → Bool) (da db dc : Level) (a b c : List Pair)
+    (i j k : ℕ) : Type 0 where
   pub a_within : i ≤ length a
   pub b_within : j ≤ length b
   pub c_within : k ≤ length c
-  pub forth : HoldsEverywhere t da (drop i a) db (drop j b) dc (drop k c) → HoldsEverywhere t da a db b dc c
-  pub back : HoldsEverywhere t da a db b dc c → HoldsEverywhere t da (drop i a) db (drop j b) dc (drop k c)
+  pub forth : HoldsEverywhere t da (drop i a) db (drop j b) dc (drop k c)
+      → HoldsEverywhere t da a db b dc c
+  pub back : HoldsEverywhere t da a db b dc c
+      → HoldsEverywhere t da (drop i a) db (drop j b) dc (drop k c)

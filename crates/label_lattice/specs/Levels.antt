@@ -1,4 +1,7 @@
-use Rattle.std.specs.Prelude.{ℕ, ◌==◌, ◌<◌, ◌≢◌, ◌-◌, ◌^◌, List, [], ◌∷◌, if◌then◌else◌}
+-- What a list of pairs says of categories: their levels, which have star, and which are exceptions.
+use Rattle.std.specs.Prelude.{ℕ, ◌==◌, ◌<◌, ◌≢◌, ◌-◌, ◌^◌, Bool, List, [], ◌∷◌, if◌then◌else◌}
+use Rattle.std.specs.List.{list_any}
+use Rattle.base.specs.Level.{rank_of}
 use Rattle.base.specs.declared.levels.Level.{Level}
 use Rattle.label_lattice.specs.declared.pairings.Pair.{Pair}
 
@@ -6,6 +9,10 @@ use Rattle.label_lattice.specs.declared.pairings.Pair.{Pair}
 abbrev pub level_at : Level → List Pair → ℕ → Level
 level_at default [] c = default
 level_at default (p ∷ ps) c = if p.category.0 == c then p.level else level_at default ps c
+
+-- a pair has star
+abbrev pub any_star : List Pair → Bool
+any_star ps = list_any (λ p. rank_of p.level == 0) ps
 
 -- every category of the list is above a number
 abbrev pub IsAbove : ℕ → List Pair → Type 0

@@ -1,3 +1,4 @@
+-- How a short list of pairs lies in an array.
 use Rattle.std.specs.Prelude.{◌≡◌, ℕ, ◌-◌, ◌++◌, List, length, take, replicate, refl}
 use Rattle.base.specs.declared.levels.Level.TheVariants.{Star}
 use Rattle.label_lattice.specs.declared.pairings.Pair.{Pair}
@@ -21,5 +22,10 @@ pub record IsFilled (n len : ℕ) (cells : List Pair) : Type 0 where
   pub fill : cells_of n (take len cells) ≡ cells
 
 -- the fields come back from the items
-pub cells_of-items_of : (n : ℕ) (p : Inside n) → IsFilled n p.len p.cells → record { len = length (items_of p.len p.cells); cells = cells_of n (items_of p.len p.cells) } ≡ p
+pub cells_of-items_of : (n : ℕ) (p : Inside n) → IsFilled n p.len p.cells
+    → record {
+      len = length (items_of p.len p.cells);
+      cells = cells_of n (items_of p.len p.cells);
+    }
+    ≡ p
 cells_of-items_of n p kept = rw (kept.fill, kept.within) refl

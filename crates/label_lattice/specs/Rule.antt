@@ -1,16 +1,22 @@
+-- What each order test asks of the levels of one category.
 use Rattle.std.specs.Prelude.{ℕ, ◌==◌, Bool, nat_le, max, if◌then◌else◌}
 use Rattle.base.specs.Level.{rank_of}
 use Rattle.base.specs.declared.levels.Level.{Level}
 use Rattle.label_lattice.specs.declared.walk.Rule.{Rule}
-use Rattle.label_lattice.specs.declared.walk.Rule.TheVariants.{Leq, LeqUp, LeqUpUp, LeqJoin, LeqJoinUp, Floor, Same}
+use Rattle.label_lattice.specs.declared.walk.Rule.TheVariants.{Leq, LeqUp, LeqUpUp, LeqJoin}
+use Rattle.label_lattice.specs.declared.walk.Rule.TheVariants.{LeqJoinUp, Floor, Same}
+
+-- the rank of J, above each level: it stands only inside checks
+abbrev pub top_rank : ℕ
+top_rank = 5
 
 -- star raised to J
 abbrev pub up_rank : ℕ → ℕ
-up_rank r = if r == 0 then 5 else r
+up_rank r = if r == 0 then top_rank else r
 
 -- J lowered to star
 abbrev pub down_rank : ℕ → ℕ
-down_rank r = if r == 5 then 0 else r
+down_rank r = if r == top_rank then 0 else r
 
 -- what a rule asks of three levels
 abbrev pub rule_test : Rule → Level → Level → Level → Bool
@@ -19,5 +25,6 @@ rule_test LeqUp a b c = nat_le (rank_of a) (up_rank (rank_of b))
 rule_test LeqUpUp a b c = nat_le (up_rank (rank_of a)) (up_rank (rank_of b))
 rule_test LeqJoin a b c = nat_le (rank_of a) (max (rank_of b) (rank_of c))
 rule_test LeqJoinUp a b c = nat_le (rank_of a) (max (rank_of b) (up_rank (rank_of c)))
-rule_test Floor a b c = nat_le (down_rank (max (up_rank (rank_of a)) (up_rank (rank_of b)))) (rank_of c)
+rule_test Floor a b c =
+    nat_le (down_rank (max (up_rank (rank_of a)) (up_rank (rank_of b)))) (rank_of c)
 rule_test Same a b c = rank_of a == rank_of b

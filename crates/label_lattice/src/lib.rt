@@ -1,10 +1,16 @@
-//! Labels: each category has a level, all but finitely many of them the label's default (HiStar, OSDI 2006).
+//! Labels: each category has a level, all but finitely many of them the label's default (HiStar,
+//! OSDI 2006).
 //!
-//! Each function gives the pointwise rule over all categories, and counts one scan on the meter that is handed in. A
-//! label's content is reached through these functions alone. Which labels a thread may use is left to the crates above.
+//! Each function gives the pointwise rule over all categories, by a clause over all of them and by
+//! a test that computes, and counts one scan on the meter that is handed in. A stored label has one
+//! form, and its content is reached through these functions alone. Which labels a thread may use is
+//! left to the crates above.
 #![tactic(auto)]
 
+mod exceptions;
 mod labels;
+pub mod laws;
+mod orders;
 mod pairings;
 mod raw_labels;
 mod walk;
@@ -12,3 +18,6 @@ mod walk;
 pub use labels::Label;
 pub use pairings::{Pair, Pairs};
 pub use raw_labels::RawLabel;
+
+#[cfg(test)]
+mod tests;

@@ -4,20 +4,20 @@ ghost use Rattle.std.specs.Prelude.{◌≡◌, ◌<◌, ◌+◌, ◌≤◌, [], 
 use base::{Category, Level};
 use std::marker::Model;
 
-/// A category with its level.
+/// A category with its level. Whether the category was made is told by `RawLabel::all_made`.
 #[derive(Clone, Copy, PartialEq, Eq, Debug)]
 pub struct Pair {
     pub category: Category,
     pub level: Level,
 }
 
-/// What stands past the end.
+// Equal lists have equal cells, so what stands past the end is the same everywhere.
 const FILLER: Pair = Pair {
     category: Category(0),
     level: Level::Star,
 };
 
-/// A list of at most N pairs, which takes no memory.
+/// A list of 0 to N pairs, which takes no memory. A contract sees the list.
 #[derive(Clone, Copy)]
 pub struct Pairs<const N: usize> {
     len: usize,
@@ -42,6 +42,7 @@ impl<const N: usize> Model for Pairs<N> {
 }
 
 impl<const N: usize> Pairs<N> {
+    /// The list of no pairs.
     pub fn new() -> Self
         ensures { result ≡ [] }
     {
@@ -51,12 +52,15 @@ impl<const N: usize> Pairs<N> {
         }
     }
 
+    /// The pairs, in their order.
     pub fn as_slice(&self) -> &[Pair]
         ensures { result.now ≡ self.now }
     {
         &self.cells[..self.len]
     }
 
+    /// Puts a pair at the end, where fewer than N stand. Whether there is room is told by the
+    /// length of the slice.
     pub fn push(&mut self, pair: Pair)
         requires { length self.old < N }
         ensures { self.new ≡ self.old ++ pair ∷ [] }
@@ -65,6 +69,7 @@ impl<const N: usize> Pairs<N> {
         self.len += 1;
     }
 
+    /// Puts pairs at the end, in their order, where there is room for all of them.
     pub fn extend(&mut self, pairs: &[Pair])
         requires { length self.old + length pairs.now ≤ N }
         ensures { self.new ≡ self.old ++ pairs.now }

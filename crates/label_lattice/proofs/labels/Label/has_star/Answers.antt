@@ -9,6 +9,8 @@ returns-clause-star c =
     let e : c.has_star_in.result ≡ list_any (λ p. rank_of p.level == 0) c.self.inside.exceptions =
     rw c.as_slice.ensures at c.has_star_in.ensures in
     rw (← c.self.view_is) (
-      λ r. star_forth c.self.inside.default c.self.inside.exceptions c.self.invariant.owned_by_none c.self.invariant.rising (sym e ∙ r),
-      λ s. e ∙ star_back c.self.inside.default c.self.inside.exceptions s.0 c.self.invariant.owned_by_none s.1,
+      λ r. star_forth c.self.inside.default c.self.inside.exceptions c.self.invariant.owned_by_none
+          c.self.invariant.rising (sym e ∙ r),
+      λ s. e ∙ star_back c.self.inside.default c.self.inside.exceptions s.0
+          c.self.invariant.owned_by_none s.1,
     )

@@ -1,11 +1,10 @@
 use Rattle.label_lattice.specs.Order.{levels}
-use Rattle.label_lattice.proofs.OrderLemmas.{Leq-from_tests, leq_test-from_Leq, IsDescribed-levels}
+use Rattle.label_lattice.proofs.OrderLemmas.{leq_test-from_tests, IsDescribed-levels}
 use Rattle.label_lattice.proofs.labels.Label.leq.Goals as goal
-
-pub returns-clause-order : goal.returns-clause-order
-returns-clause-order c = Leq-from_tests (levels c.args.self.now) (levels c.args.other.now) _ c.holds.ensures
 
 pub returns-clause-test : goal.returns-clause-test
 returns-clause-test c =
-    leq_test-from_Leq (levels c.args.self.now) (levels c.args.other.now) _ (IsDescribed-levels _) (IsDescribed-levels _)
-    (Leq-from_tests (levels c.args.self.now) (levels c.args.other.now) _ c.holds.ensures)
+    leq_test-from_tests (levels c.args.self.now) (levels c.args.other.now) _
+    (IsDescribed-levels _)
+    (IsDescribed-levels _)
+    c.holds.ensures

@@ -1,11 +1,13 @@
-use Rattle.label_lattice.specs.Order.{levels, join}
-use Rattle.label_lattice.proofs.OrderLemmas.{Leq-from_tests, leq_test-from_Leq, IsDescribed-levels, IsDescribed-join}
+use Rattle.label_lattice.specs.Order.{Levels, levels, join}
+use Rattle.label_lattice.proofs.OrderLemmas.{leq_test-from_tests, IsDescribed-levels}
+use Rattle.label_lattice.proofs.OrderLemmas.{IsDescribed-join}
 use Rattle.label_lattice.proofs.labels.Label.leq_join.Goals as goal
-
-pub returns-clause-order : goal.returns-clause-order
-returns-clause-order c = Leq-from_tests (levels c.args.self.now) (join (levels c.args.one.now) (levels c.args.two.now)) _ c.holds.ensures
 
 pub returns-clause-test : goal.returns-clause-test
 returns-clause-test c =
-    leq_test-from_Leq (levels c.args.self.now) (join (levels c.args.one.now) (levels c.args.two.now)) _ (IsDescribed-levels _) (IsDescribed-join (levels c.args.one.now) (levels c.args.two.now) (IsDescribed-levels _) (IsDescribed-levels _))
-    (Leq-from_tests (levels c.args.self.now) (join (levels c.args.one.now) (levels c.args.two.now)) _ c.holds.ensures)
+    let one : Levels = levels c.args.one.now in
+    let two : Levels = levels c.args.two.now in
+    leq_test-from_tests (levels c.args.self.now) (join one two) _
+    (IsDescribed-levels _)
+    (IsDescribed-join one two (IsDescribed-levels _) (IsDescribed-levels _))
+    c.holds.ensures

@@ -1,0 +1,16 @@
+use Rattle.std.proofs.Common.{◌≡◌, inl, inr, sym, ap, ◌∙◌}
+use Rattle.base.specs.Level.{rank_of}
+use Rattle.label_lattice.specs.Levels.{any_star}
+use Rattle.label_lattice.proofs.RawLemmas.{any_star-Any, any_star-from_Any}
+use Rattle.label_lattice.proofs.raw_labels.RawLabel.has_star.Goals as goal
+
+pub returns-else-rank-eq0-clause-star : goal.returns-else-rank-eq0-clause-star
+returns-else-rank-eq0-clause-star c =
+    let e : c.has_star_in.result ≡ any_star c.args.self.now.pairs =
+    rw c.as_slice.ensures at c.has_star_in.ensures in (
+      λ h. inr (any_star-Any c.args.self.now.pairs (sym e ∙ h)),
+      λ s. elim s [
+        | inl star ↦ absurd (c.if-rank-eq0.false (c.rank.ensures ∙ ap rank_of star))
+        | inr some ↦ e ∙ any_star-from_Any c.args.self.now.pairs some
+      ],
+    )
