@@ -1,0 +1,5 @@
+pub mod Split
+pub mod WordLemmas
+pub mod LackLemmas
+pub mod LabelLemmas
+pub mod TypeLemmas
