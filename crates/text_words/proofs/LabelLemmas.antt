@@ -22,13 +22,13 @@ level_lacks_comma L2 = refl
 level_lacks_comma L3 = refl
 
 pair_lacks : (p : SpokenPair) → IsPair p → lacks 44 (pair_text p) ≡ true
-pair_lacks p fits = lacks-append 44 (reference_text p.category) (58 ∷ level_text p.level) (reference_lacks 44 p.category (omega arith) (λ e. omega arith) refl fits) (level_lacks_comma p.level)
+pair_lacks p fits = lacks-append 44 (reference_text p.category) (58 ∷ level_text p.level) (reference_lacks 44 p.category (λ d lt e. omega arith) (λ e. omega arith) refl fits) (level_lacks_comma p.level)
 
 parts_lack : (ps : List SpokenPair) (l : Level) → AllByRecursion IsPair ps → AllLack 44 (map pair_text ps ++ level_text l ∷ [])
 parts_lack [] l h = (level_lacks_comma l, tt)
 parts_lack (p ∷ ps) l h = (pair_lacks p h.0, parts_lack ps l h.1)
 
-parts_split : (ps : List SpokenPair) (l : Level) → AllByRecursion IsPair ps → slice_split (λ b. eqb b 44) (join_with_byte 44 (map pair_text ps ++ level_text l ∷ [])) ≡ map pair_text ps ++ level_text l ∷ []
+pub parts_split : (ps : List SpokenPair) (l : Level) → AllByRecursion IsPair ps → slice_split (λ b. eqb b 44) (join_with_byte 44 (map pair_text ps ++ level_text l ∷ [])) ≡ map pair_text ps ++ level_text l ∷ []
 parts_split [] l h = split_join 44 (level_text l) [] (parts_lack [] l h)
 parts_split (p ∷ ps) l h = split_join 44 (pair_text p) (map pair_text ps ++ level_text l ∷ []) (parts_lack (p ∷ ps) l h)
 

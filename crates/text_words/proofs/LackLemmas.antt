@@ -23,8 +23,14 @@ pub lacks-append : (c : ℕ) (xs ys : List ℕ) → lacks c xs ≡ true → lack
 lacks-append c [] ys h k = k
 lacks-append c (x ∷ xs) ys h k = let p = cond_false (eqb x c) (lacks c xs) h in rw p.0 (lacks-append c xs ys p.1 k)
 
+-- a byte that is no digit
+pub decimal_lacks_byte : (c n : ℕ) → ((d : ℕ) → d < 10 → 48 + d ≡ c → ⊥) → n < 2 ^ 64 → lacks c (decimal n) ≡ true
+decimal_lacks_byte c n away small =
+    decimal_by_steps (λ m ds. lacks c ds ≡ true) (λ m lt. lacks_one c (48 + m) (away m lt))
+      (λ m ds ge h. lacks-append c ds ((48 + m % 10) ∷ []) h (lacks_one c (48 + m % 10) (away (m % 10) (omega arith)))) n small
+
 pub decimal_lacks : (c n : ℕ) → c < 48 → n < 2 ^ 64 → lacks c (decimal n) ≡ true
-decimal_lacks c n low small = decimal_by_steps (λ m ds. lacks c ds ≡ true) (λ m lt. lacks_one c (48 + m) (λ e. omega arith)) (λ m ds ge h. lacks-append c ds ((48 + m % 10) ∷ []) h (lacks_one c (48 + m % 10) (λ e. omega arith))) n small
+decimal_lacks c n low small = decimal_lacks_byte c n (λ d lt e. omega arith) small
 
 pub lacks_at : (c : ℕ) (xs : List ℕ) (k : ℕ) → lacks c xs ≡ true → k < length xs → eqb (get_or xs k 0) c ≡ false
 lacks_at c [] k h lt = absurd (omega arith)
@@ -71,6 +77,6 @@ name_lacks c (b ∷ bytes) none is =
     let q = both_true (is_letter b) _ p.0 in
     name_bytes_lack c (b ∷ bytes) none (rw (letter_is_name_byte b q.0) p.1)
 
-pub reference_lacks : (c : ℕ) (r : Reference) → c < 48 → (35 ≡ c → ⊥) → is_name_byte c ≡ false → IsReference r → lacks c (reference_text r) ≡ true
-reference_lacks c (references.Number n) low hash none is = rw (ne_eqb 35 c hash) (decimal_lacks c n low is)
-reference_lacks c (references.Name name) low hash none is = name_lacks c name none is
+pub reference_lacks : (c : ℕ) (r : Reference) → ((d : ℕ) → d < 10 → 48 + d ≡ c → ⊥) → (35 ≡ c → ⊥) → is_name_byte c ≡ false → IsReference r → lacks c (reference_text r) ≡ true
+reference_lacks c (references.Number n) away hash none is = rw (ne_eqb 35 c hash) (decimal_lacks_byte c n away is)
+reference_lacks c (references.Name name) away hash none is = name_lacks c name none is

@@ -3,3 +3,5 @@ pub mod WordLemmas
 pub mod LackLemmas
 pub mod LabelLemmas
 pub mod TypeLemmas
+pub mod OneLemmas
+pub mod Outside
