@@ -5,3 +5,5 @@ pub mod LabelLemmas
 pub mod TypeLemmas
 pub mod OneLemmas
 pub mod Outside
+pub mod ReadLemmas
+pub mod NameLemmas

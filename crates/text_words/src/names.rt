@@ -31,6 +31,19 @@ impl Model for Name {
 }
 
 impl Name {
+    /// The name with these bytes.
+    pub fn from_slice(bytes: &[u8]) -> Name
+        requires { IsName bytes.now }
+        ensures { result ≡ bytes.now }
+    {
+        let mut all = [0; 16];
+        all[..bytes.len()].copy_from_slice(bytes);
+        Name {
+            len: bytes.len() as u8,
+            bytes: all,
+        }
+    }
+
     /// Its bytes.
     pub fn as_slice(&self) -> &[u8]
         ensures value { result.now ≡ self.now }
@@ -76,12 +89,7 @@ pub fn read_name(word: &[u8]) -> Option<Name>
     if !is_name(word) {
         return None;
     }
-    let mut bytes = [0; 16];
-    bytes[..word.len()].copy_from_slice(word);
-    Some(Name {
-        len: word.len() as u8,
-        bytes,
-    })
+    Some(Name::from_slice(word))
 }
 
 /// Adds the name.
