@@ -1,0 +1,11 @@
+//! Scripts and replies as text: which bytes are a script, what its words name, and how a reply is printed.
+//!
+//! A script has one spelling. It is read as that value, or the first line at which the bytes stop being the beginning of
+//! a script is told, and it is written as those bytes again. What the names of a script are bound to is the caller's, and
+//! so is playing it.
+#![tactic(auto)]
+
+mod lines;
+mod parting;
+
+pub use lines::{Written, read_line};
