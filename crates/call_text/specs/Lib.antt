@@ -1,1 +1,6 @@
 pub mod Line
+pub mod Text
+pub mod Script
+pub mod Names
+pub mod Reading
+pub mod Refused

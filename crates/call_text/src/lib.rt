@@ -5,7 +5,13 @@
 //! so is playing it.
 #![tactic(auto)]
 
+mod errors;
 mod lines;
 mod parting;
+mod phases;
+mod scripts;
 
 pub use lines::{Written, read_line};
+pub use errors::ScriptError;
+pub use phases::{Line, Phase, Script};
+pub use scripts::{one_reading, read_script};

@@ -1,0 +1,9 @@
+-- The refusals of texts.
+use Rattle.base.specs.declared.refusals.Refusal.{Refusal}
+use Rattle.base.specs.declared.refusals.Refusal.TheVariants.{TextFault, TextMemory}
+use Rattle.call_text.specs.declared.errors.ScriptError.{ScriptError}
+use Rattle.call_text.specs.declared.errors.ScriptError.TheVariants as errors
+
+abbrev pub refusal_of : ScriptError → Refusal
+refusal_of (errors.Line n) = TextFault
+refusal_of errors.Memory = TextMemory
