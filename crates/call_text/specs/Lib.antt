@@ -4,3 +4,5 @@ pub mod Script
 pub mod Names
 pub mod Reading
 pub mod Refused
+pub mod Known
+pub mod Reply

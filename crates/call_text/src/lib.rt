@@ -6,12 +6,18 @@
 #![tactic(auto)]
 
 mod errors;
+mod known;
 mod lines;
 mod parting;
 mod phases;
+mod replies;
+mod script_writing;
 mod scripts;
 
 pub use lines::{Written, read_line};
+pub use known::{Known, NameList, Named, Value};
+pub use replies::{put_reply, write_reply};
+pub use script_writing::write_script;
 pub use errors::ScriptError;
 pub use phases::{Line, Phase, Script};
 pub use scripts::{one_reading, read_script};
