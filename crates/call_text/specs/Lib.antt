@@ -6,3 +6,5 @@ pub mod Reading
 pub mod Refused
 pub mod Known
 pub mod Reply
+pub mod Place
+pub mod Resolve

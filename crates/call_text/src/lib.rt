@@ -10,12 +10,15 @@ mod known;
 mod lines;
 mod parting;
 mod phases;
+mod places;
 mod replies;
+mod resolving;
 mod script_writing;
 mod scripts;
 
 pub use lines::{Written, read_line};
 pub use known::{Known, NameList, Named, Value};
+pub use resolving::{Asked, resolve};
 pub use replies::{put_reply, write_reply};
 pub use script_writing::write_script;
 pub use errors::ScriptError;
