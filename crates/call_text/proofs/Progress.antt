@@ -57,14 +57,14 @@ progress_more bytes bound later phases more lines lasts count rest l after Break
     let p : more ≡ phases ++ lines ∷ [] = ap (λ x. x.0) e in
     let q : lasts ≡ [] = ap (λ x. x.1) e in
     step bytes bound later phases more lines lasts count rest l after Break at h fits is admits
-      (rw (p, q) (lines_of-phase phases lines)) (rw (p, q) (numbers_phase 1 phases lines at.numbers))
+    (rw (p, q) (lines_of-phase phases lines)) (rw (p, q) (numbers_phase 1 phases lines at.numbers))
 progress_more bytes bound later phases more lines lasts count rest l after (Said binds worker call) at h fits is admits e =
     let one : Line = record { number = count + 1; binds = binds; worker = worker; call = call } in
     let p : more ≡ phases = ap (λ x. x.0) e in
     let q : lasts ≡ lines ++ one ∷ [] = ap (λ x. x.1) e in
     let n = at.counted in
     step bytes bound later phases more lines lasts count rest l after (Said binds worker call) at h fits is admits
-      (rw (p, q) (lines_of-line phases lines one)) (rw (p, q) (numbers_line 1 phases lines one at.numbers (omega arith)))
+    (rw (p, q) (lines_of-line phases lines one)) (rw (p, q) (numbers_line 1 phases lines one at.numbers (omega arith)))
 
 -- the last line lacks its end
 pub fault_at_end : (bytes : List ℕ) (bound : BTreeSet (List ℕ)) (phases : List (List Line)) (lines : List Line) (count : ℕ) (rest : List ℕ)
@@ -77,14 +77,14 @@ pub fault_unread : (bytes : List ℕ) (bound : BTreeSet (List ℕ)) (phases : Li
     → Progress bytes bound phases lines count rest → rest ≡ l ++ 10 ∷ after → lacks 10 l ≡ true → r ≡ None → Reads written_text FitsWritten l r → ScriptFaultsAt bytes (count + 1)
 fault_unread bytes bound phases lines count rest l after r at h lack none read =
     fault_line written_text FitsWritten next ends start bytes (lines_of (phases ++ lines ∷ [])) _ rest (count + 1) l after script_grammar at.came (ap (λ n. n + 1) at.counted) h lack
-      (λ v f s e. read_not written_text FitsWritten l r none read v f e)
+    (λ v f s e. read_not written_text FitsWritten l r none read v f e)
 
 -- a line that may not stand there
 pub fault_refused : (bytes : List ℕ) (bound later : BTreeSet (List ℕ)) (phases : List (List Line)) (lines : List Line) (count : ℕ) (rest l after : List ℕ) (v : Written)
     → Progress bytes bound phases lines count rest → rest ≡ l ++ 10 ∷ after → lacks 10 l ≡ true → FitsWritten v → l ≡ written_text v → Admits count v bound later false → ScriptFaultsAt bytes (count + 1)
 fault_refused bytes bound later phases lines count rest l after v at h lack fits is admits =
     fault_state written_text FitsWritten next ends start bytes (lines_of (phases ++ lines ∷ [])) _ rest (count + 1) l after v script_grammar at.came (ap (λ n. n + 1) at.counted) h lack fits is
-      (admits at.names at.holds)
+    (admits at.names at.holds)
 
 some_phase : (phases : List (List Line)) (lines : List Line) → 1 ≤ length (phases ++ lines ∷ [])
 some_phase phases lines = omega (arith, length-append phases (lines ∷ []))
@@ -96,7 +96,10 @@ progress_end bytes bound phases lines count rest at none = record {
   some = some_phase phases lines;
   numbers = at.numbers;
   spelled = record {
-    fit = at.came.fit; state = record { lines = count; bound = at.names }; ran = at.came.ran; ended = refl;
+    fit = at.came.fit;
+    state = record { lines = count; bound = at.names };
+    ran = at.came.ran;
+    ended = refl;
     bytes_are = at.came.parts ∙ rw (none, append-nil _) refl;
   };
 }

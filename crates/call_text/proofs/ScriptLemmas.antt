@@ -33,15 +33,15 @@ name_same k q = both_ways (is_eq (name_cmp k q)) (bytes_eq q k)
 any_push : (q : List ℕ) (names : List (List ℕ)) (k : List ℕ) → is_bound q (names ++ k ∷ []) ≡ cond (bytes_eq q k) true (is_bound q names)
 any_push q [] k = last (bytes_eq q k)
   where
-  last : (b : Bool) → (b || false) ≡ cond b true false
-  last true = refl
-  last false = refl
+    last : (b : Bool) → (b || false) ≡ cond b true false
+    last true = refl
+    last false = refl
 any_push q (n ∷ names) k = more (bytes_eq q n) (bytes_eq q k) (is_bound q (names ++ k ∷ [])) (is_bound q names) (any_push q names k)
   where
-  more : (a b x y : Bool) → x ≡ cond b true y → (a || x) ≡ cond b true (a || y)
-  more true true x y e = refl
-  more true false x y e = refl
-  more false b x y e = e
+    more : (a b x y : Bool) → x ≡ cond b true y → (a || x) ≡ cond b true (a || y)
+    more true true x y e = refl
+    more true false x y e = refl
+    more false b x y e = e
 
 -- the new set has the key, and of other keys what the old one has
 abbrev pub AddsKey : BTreeSet (List ℕ) → BTreeSet (List ℕ) → List ℕ → Type 0
@@ -56,9 +56,9 @@ holds_more old new names k up holds q = up q ∙ (λ i. cond (name_same k q i) t
 not_free : (lines : ℕ) → lines < 65536 → leb 65536 lines ≡ false
 not_free lines lt = no (leb 65536 lines) refl
   where
-  no : (b : Bool) → leb 65536 lines ≡ b → b ≡ false
-  no true e = let k = leb-true 65536 lines e in absurd (omega arith)
-  no false e = refl
+    no : (b : Bool) → leb 65536 lines ≡ b → b ≡ false
+    no true e = let k = leb-true 65536 lines e in absurd (omega arith)
+    no false e = refl
 
 -- a line that binds nothing
 next_none : (lines : ℕ) (names : List (List ℕ)) (l : Written) → lines < 65536 → binds_of l ≡ None → next (record { lines = lines; bound = names }) l ≡ Some (record { lines = lines + 1; bound = names })
@@ -76,9 +76,9 @@ next_old lines names l k lt e known = rw (not_free lines lt, e, known) refl
 full : (lines : ℕ) → 65536 ≤ lines → leb 65536 lines ≡ true
 full lines le = yes (leb 65536 lines) refl
   where
-  yes : (b : Bool) → leb 65536 lines ≡ b → b ≡ true
-  yes true e = refl
-  yes false e = let k = leb-false 65536 lines e in absurd (omega arith)
+    yes : (b : Bool) → leb 65536 lines ≡ b → b ≡ true
+    yes true e = refl
+    yes false e = let k = leb-false 65536 lines e in absurd (omega arith)
 
 pub admits_full : (lines : ℕ) (l : Written) (old new : BTreeSet (List ℕ)) → 65536 ≤ lines → Admits lines l old new false
 unfolding next
@@ -88,18 +88,21 @@ pub admits_none : (lines : ℕ) (l : Written) (set : BTreeSet (List ℕ)) → li
 admits_none lines l set lt e = (lt, λ names holds. (rw e (next_none lines names l lt e), rw e holds))
 
 pub admits_name : (lines : ℕ) (l : Written) (k : List ℕ) (old new : BTreeSet (List ℕ)) (fresh : Bool) → lines < 65536 → binds_of l ≡ Some k → fresh ≡ not (contains name_cmp old k) → AddsKey old new k → Admits lines l old new fresh
-admits_name lines l k old new true lt e fresh up = (lt, λ names holds.
-    let free : is_bound k names ≡ false = sym (holds k) ∙ flipped (contains name_cmp old k) fresh in
-    (rw e (next_new lines names l k lt e free), rw e (holds_more old new names k up holds)))
+admits_name lines l k old new true lt e fresh up = (
+  lt,
+  λ names holds.
+      let free : is_bound k names ≡ false = sym (holds k) ∙ flipped (contains name_cmp old k) fresh in
+      (rw e (next_new lines names l k lt e free), rw e (holds_more old new names k up holds)),
+)
   where
-  flipped : (b : Bool) → true ≡ not b → b ≡ false
-  flipped true e = absurd cc
-  flipped false e = refl
+    flipped : (b : Bool) → true ≡ not b → b ≡ false
+    flipped true e = absurd cc
+    flipped false e = refl
 admits_name lines l k old new false lt e fresh up = λ names holds. next_old lines names l k lt e (sym (holds k) ∙ flipped (contains name_cmp old k) fresh)
   where
-  flipped : (b : Bool) → false ≡ not b → b ≡ true
-  flipped true e = refl
-  flipped false e = absurd cc
+    flipped : (b : Bool) → false ≡ not b → b ≡ true
+    flipped true e = refl
+    flipped false e = absurd cc
 
 -- one more line of the last phase
 pub lines_of-line : (phases : List (List Line)) (ls : List Line) (l : Line) → lines_of (phases ++ (ls ++ l ∷ []) ∷ []) ≡ lines_of (phases ++ ls ∷ []) ++ said_of l ∷ []
@@ -148,7 +151,7 @@ phases_again n (l ∷ p) ps h =
     let e : n + suc (length p) + 1 ≡ n + 1 + length p + 1 = omega arith in
     let rest = phases_again (n + 1) p ps (h.0.1, subst (λ m. ArePhasesNumbered m ps) e h.1) in
     ap (onto_first (record { number = n; binds = l.binds; worker = l.worker; call = l.call })) rest
-      ∙ (λ i. (let m : Line = record { number = sym h.0.0 i; binds = l.binds; worker = l.worker; call = l.call } in m ∷ p) ∷ ps)
+    ∙ (λ i. (let m : Line = record { number = sym h.0.0 i; binds = l.binds; worker = l.worker; call = l.call } in m ∷ p) ∷ ps)
 
 -- one list of phases makes one list of lines
 pub phases_are_one : (a b : List (List Line)) → 1 ≤ length a → 1 ≤ length b → ArePhasesNumbered 1 a → ArePhasesNumbered 1 b → lines_of a ≡ lines_of b → a ≡ b

@@ -28,7 +28,7 @@ flat_more text (w ∷ vs) v = ap (λ (rest : List ℕ). line text w ++ rest) (fl
 pub lines_more : {V : Type 0} (text : V → List ℕ) (vs : List V) (v : V) (bytes rest after : List ℕ) → bytes ≡ lines_text text vs ++ rest → rest ≡ text v ++ 10 ∷ after → bytes ≡ lines_text text (vs ++ v ∷ []) ++ after
 lines_more text vs v bytes rest after e h =
     let k : (lines_text text vs ++ (text v ++ 10 ∷ [])) ++ after ≡ lines_text text vs ++ (text v ++ 10 ∷ after) =
-      append_assoc (lines_text text vs) (text v ++ 10 ∷ []) after ∙ ap (λ (x : List ℕ). lines_text text vs ++ x) (append_assoc (text v) (10 ∷ []) after) in
+    append_assoc (lines_text text vs) (text v ++ 10 ∷ []) after ∙ ap (λ (x : List ℕ). lines_text text vs ++ x) (append_assoc (text v) (10 ∷ []) after) in
     e ∙ ap (λ (x : List ℕ). lines_text text vs ++ x) h ∙ sym k ∙ ap (λ (x : List ℕ). x ++ after) (sym (flat_more text vs v))
 
 pub fit_more : {V : Type 0} (Fits : V → Type 0) (vs : List V) (v : V) → AllByRecursion Fits vs → Fits v → AllByRecursion Fits (vs ++ v ∷ [])
@@ -56,7 +56,13 @@ not_some (Some s) e h = cc
 pub fault_no_end : {S V : Type 0} (text : V → List ℕ) (Fits : V → Type 0) (next : S → V → Option S) (ends : S → Bool) (start : S) (bytes : List ℕ) (vs : List V) (state : S) (rest : List ℕ) (n : ℕ)
     → Came text Fits next start bytes vs state rest → n ≡ length vs + 1 → lacks 10 rest ≡ true → (rest ≡ [] → ends state ≡ false) → FaultsAt text Fits next ends start bytes n
 fault_no_end text Fits next ends start bytes vs state rest n came count none whole = record {
-  before = vs; fit = came.fit; state = state; ran = came.ran; rest = rest; bytes_are = came.parts; number = count;
+  before = vs;
+  fit = came.fit;
+  state = state;
+  ran = came.ran;
+  rest = rest;
+  bytes_are = came.parts;
+  number = count;
   no_more = λ v more f s e. not_in 10 (text v) more (subst (λ (x : List ℕ). lacks 10 x ≡ true) e none);
   not_whole = whole;
 }
@@ -64,7 +70,13 @@ fault_no_end text Fits next ends start bytes vs state rest n came count none who
 pub fault_line : {S V : Type 0} (text : V → List ℕ) (Fits : V → Type 0) (next : S → V → Option S) (ends : S → Bool) (start : S) (bytes : List ℕ) (vs : List V) (state : S) (rest : List ℕ) (n : ℕ) (l after : List ℕ)
     → IsGrammar text Fits → Came text Fits next start bytes vs state rest → n ≡ length vs + 1 → rest ≡ l ++ 10 ∷ after → lacks 10 l ≡ true → ((v : V) → Fits v → IsSome (next state v) → l ≡ text v → ⊥) → FaultsAt text Fits next ends start bytes n
 fault_line text Fits next ends start bytes vs state rest n l after g came count h lack none = record {
-  before = vs; fit = came.fit; state = state; ran = came.ran; rest = rest; bytes_are = came.parts; number = count;
+  before = vs;
+  fit = came.fit;
+  state = state;
+  ran = came.ran;
+  rest = rest;
+  bytes_are = came.parts;
+  number = count;
   no_more = λ v more f s e. none v f s (first_part 10 l (text v) after more lack (g.lacks_end v f) (sym h ∙ e)).0;
   not_whole = λ e. absurd (empty_no_line l after rest h e);
 }
@@ -73,8 +85,8 @@ pub fault_state : {S V : Type 0} (text : V → List ℕ) (Fits : V → Type 0) (
     → IsGrammar text Fits → Came text Fits next start bytes vs state rest → n ≡ length vs + 1 → rest ≡ l ++ 10 ∷ after → lacks 10 l ≡ true → Fits w → l ≡ text w → next state w ≡ None → FaultsAt text Fits next ends start bytes n
 fault_state text Fits next ends start bytes vs state rest n l after w g came count h lack fw is none =
     fault_line text Fits next ends start bytes vs state rest n l after g came count h lack (λ v f s e.
-      let same : v ≡ w = g.one v w f fw (sym e ∙ is) in
-      not_some (next state v) (ap (next state) same ∙ none) s)
+    let same : v ≡ w = g.one v w f fw (sym e ∙ is) in
+    not_some (next state v) (ap (next state) same ∙ none) s)
 
 -- what is spelled has no faulty line
 stuck : {S V : Type 0} (next : S → V → Option S) (o : Option S) (vs : List V) (t : S) → run next o vs ≡ Some t → IsSome o
@@ -94,7 +106,7 @@ never_both text Fits next ends g (Some s) [] (b ∷ before) t u rest fv fb rv en
     empty_no_line (text b) (lines_text text before ++ rest) [] (e ∙ append_assoc (text b ++ 10 ∷ []) (lines_text text before) rest ∙ append_assoc (text b) (10 ∷ []) (lines_text text before ++ rest)) refl
 never_both text Fits next ends g (Some s) (v ∷ vs) (b ∷ before) t u rest fv fb rv end rb e none whole =
     let k : text v ++ 10 ∷ lines_text text vs ≡ text b ++ 10 ∷ (lines_text text before ++ rest) =
-      sym (append_assoc (text v) (10 ∷ []) (lines_text text vs)) ∙ e ∙ append_assoc (text b ++ 10 ∷ []) (lines_text text before) rest ∙ append_assoc (text b) (10 ∷ []) (lines_text text before ++ rest) in
+    sym (append_assoc (text v) (10 ∷ []) (lines_text text vs)) ∙ e ∙ append_assoc (text b ++ 10 ∷ []) (lines_text text before) rest ∙ append_assoc (text b) (10 ∷ []) (lines_text text before ++ rest) in
     let p = first_part 10 (text v) (text b) (lines_text text vs) (lines_text text before ++ rest) (g.lacks_end v fv.0) (g.lacks_end b fb.0) k in
     let same : b ≡ v = sym (g.one v b fv.0 fb.0 p.0) in
     never_both text Fits next ends g (next s v) vs before t u rest fv.1 fb.1 rv end (subst (λ x. run next (next s x) before ≡ Some u) same rb) p.1 none whole

@@ -1,5 +1,5 @@
 -- What names are bound to.
-use Rattle.std.specs.Prelude.{ℕ, ◌==◌, Bool, true, false, List, [], ◌∷◌, Option, Some, None, if◌then◌else◌}
+use Rattle.std.specs.Prelude.{ℕ, ◌==◌, Bool, true, false, List, [], ◌∷◌, codes, Option, Some, None, if◌then◌else◌}
 use Rattle.std.specs.Str.{bytes_eq}
 use Rattle.call_text.specs.declared.known.Named.{Named}
 use Rattle.call_text.specs.declared.known.Value.{Value}
@@ -21,3 +21,11 @@ is_value (Category c) (Category d) = c.0 == d.0
 abbrev pub name_of : Value → List Named → Option (List ℕ)
 name_of value [] = None
 name_of value (n ∷ named) = if is_value n.value value then Some n.name else name_of value named
+
+-- the names that are known at the start of each script, with their values
+abbrev pub start_values : List Named
+start_values =
+    record { name = codes "root"; value = Object 1 }
+    ∷ record { name = codes "boot"; value = Object 2 }
+    ∷ record { name = codes "dev"; value = Object 3 }
+    ∷ []

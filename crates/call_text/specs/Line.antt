@@ -10,6 +10,7 @@ use Rattle.call_text.specs.declared.lines.Written.TheVariants.{Break, Said}
 abbrev pub said_text : List ℕ × Spoken → List ℕ
 said_text said = name_text said.0 ++ codes ": " ++ row_text said.1
 
+-- a name, and a call in its ranges
 abbrev pub IsSaid : List ℕ × Spoken → Type 0
 IsSaid said = IsName said.0 × IsRow said.1
 
@@ -27,6 +28,7 @@ written_text Break = codes "--"
 written_text (Said None worker call) = said_text (worker, call)
 written_text (Said (Some name) worker call) = bound_text (name, worker, call)
 
+-- each word is in its range
 abbrev pub IsWritten : Written → Type 0
 IsWritten Break = Unit {0}
 IsWritten (Said None worker call) = IsSaid (worker, call)

@@ -14,9 +14,12 @@ abbrev pub names_after : List (List ℕ) → Option (List ℕ) → List (List �
 names_after names None = names
 names_after names (Some name) = names ++ name ∷ []
 
--- whether the line may stand after so many lines, where the old set has the names bound: the new set has those after it
+-- Whether the line may stand after so many lines, where the old set has the names bound.
+-- The new set then has those after it.
 abbrev pub Admits : ℕ → Written → BTreeSet (List ℕ) → BTreeSet (List ℕ) → Bool → Type 0
 Admits lines l old new true = (lines < 65536) × ((names : List (List ℕ)) → Holds old names →
-    (next (record { lines = lines; bound = names }) l ≡ Some (record { lines = lines + 1; bound = names_after names (binds_of l) }))
+    (next (record { lines = lines; bound = names }) l
+    ≡ Some (record { lines = lines + 1; bound = names_after names (binds_of l) }))
     × Holds new (names_after names (binds_of l)))
-Admits lines l old new false = (names : List (List ℕ)) → Holds old names → next (record { lines = lines; bound = names }) l ≡ None
+Admits lines l old new false =
+    (names : List (List ℕ)) → Holds old names → next (record { lines = lines; bound = names }) l ≡ None

@@ -1,4 +1,5 @@
--- What stands at the places of a call, with the names that are known. A place of another kind has 0, or nothing.
+-- What stands at the places of a call, with the names that are known.
+-- A place of another kind has 0, or nothing.
 use Rattle.std.specs.Prelude.{ℕ, ◌+◌, List, [], map, slice_get, Option, Some, None}
 use Rattle.base.specs.declared.ids.Category.{Category as Cat}
 use Rattle.base.specs.declared.levels.Level.TheVariants.{Star}
@@ -39,6 +40,7 @@ abbrev pub category_of : Reference → List Named → Cat
 category_of (Number n) names = record { 0 = n }
 category_of (Name name) names = as_category (value_of name names)
 
+-- a pair that is meant
 abbrev pub pair_of : List Named → SpokenPair → Pair
 pair_of names p = record { category = category_of p.category names; level = p.level }
 
@@ -46,6 +48,7 @@ pair_of names p = record { category = category_of p.category names; level = p.le
 abbrev pub raw_of : LabelValue → List Named → RawLabel
 raw_of l names = record { default = l.default; pairs = map (pair_of names) l.pairs }
 
+-- an object where one stands, and so for each kind
 abbrev pub object_in : Option Arg → List Named → ℕ
 object_in (Some (args.Object r)) names = object_of r names
 object_in (Some _) names = 0
@@ -71,6 +74,7 @@ types_in (Some (args.Types s)) = s
 types_in (Some _) = record { 0 = 0 }
 types_in None = record { 0 = 0 }
 
+-- the object at a place, and so for each kind
 abbrev pub object_at : ℕ → List Arg → List Named → ℕ
 object_at i xs names = object_in (slice_get xs i) names
 
@@ -88,4 +92,5 @@ types_at i xs = types_in (slice_get xs i)
 
 -- a container, and after it an object
 abbrev pub entry_at : ℕ → List Arg → List Named → Entry
-entry_at i xs names = record { container = object_at i xs names; object = object_at (i + 1) xs names }
+entry_at i xs names =
+    record { container = object_at i xs names; object = object_at (i + 1) xs names }

@@ -30,10 +30,12 @@ unless_category name (Some (Category c)) = None
 unless_category name (Some (Object id)) = Some name
 unless_category name None = Some name
 
+-- the name, unless it is known as an object's; a number has none
 abbrev pub unbound_object : Reference → List Named → Option (List ℕ)
 unbound_object (Number n) names = None
 unbound_object (Name name) names = unless_object name (value_of name names)
 
+-- the name, unless it is known as a category's
 abbrev pub unbound_category : Reference → List Named → Option (List ℕ)
 unbound_category (Number n) names = None
 unbound_category (Name name) names = unless_category name (value_of name names)
@@ -64,11 +66,16 @@ first_unbound (a ∷ more) names = or_else (unbound_in a names) (first_unbound m
 -- the table of what verbs ask
 abbrev pub asked_of : Verb → List Arg → List Named → Asked
 asked_of verbs.CatCreate xs names = Write calls.CatCreate
-asked_of verbs.ContainerCreate xs names = Write (calls.ContainerCreate (object_at 0 xs names) (label_at 1 xs names) (number_at 2 xs) (types_at 3 xs))
-asked_of verbs.SegmentCreate xs names = Write (calls.SegmentCreate (object_at 0 xs names) (label_at 1 xs names) (number_at 2 xs) (number_at 3 xs))
-asked_of verbs.SegmentWrite xs names = Write (calls.SegmentWrite (entry_at 0 xs names) (number_at 2 xs) (data_at 3 xs))
-asked_of verbs.SegmentRead xs names = Read (queries.SegmentRead (entry_at 0 xs names) (number_at 2 xs) (number_at 3 xs))
+asked_of verbs.ContainerCreate xs names =
+    Write (calls.ContainerCreate (object_at 0 xs names) (label_at 1 xs names) (number_at 2 xs) (types_at 3 xs))
+asked_of verbs.SegmentCreate xs names =
+    Write (calls.SegmentCreate (object_at 0 xs names) (label_at 1 xs names) (number_at 2 xs) (number_at 3 xs))
+asked_of verbs.SegmentWrite xs names =
+    Write (calls.SegmentWrite (entry_at 0 xs names) (number_at 2 xs) (data_at 3 xs))
+asked_of verbs.SegmentRead xs names =
+    Read (queries.SegmentRead (entry_at 0 xs names) (number_at 2 xs) (number_at 3 xs))
 
+-- an unbound name, or else what is asked
 abbrev pub or_unbound : Option (List ℕ) → Asked → Result Asked (List ℕ)
 or_unbound (Some name) asked = Err name
 or_unbound None asked = Ok asked

@@ -26,10 +26,11 @@ abbrev pub AreNumbered : ℕ → List Line → Type 0
 AreNumbered n [] = Unit {0}
 AreNumbered n (l ∷ ls) = (l.number ≡ n) × AreNumbered (n + 1) ls
 
--- each line's number is its place in the text, where a -- takes a place too, and the first phase begins at n
+-- Each line's number is its place in the text. A -- takes a place too, and the first phase begins at n.
 abbrev pub ArePhasesNumbered : ℕ → List (List Line) → Type 0
 ArePhasesNumbered n [] = Unit {0}
-ArePhasesNumbered n (phase ∷ more) = AreNumbered n phase × ArePhasesNumbered (n + length phase + 1) more
+ArePhasesNumbered n (phase ∷ more) =
+    AreNumbered n phase × ArePhasesNumbered (n + length phase + 1) more
 
 -- the names that are known at the start of each script
 abbrev pub known_names : List (List ℕ)
@@ -40,6 +41,7 @@ pub record Earlier : Type 0 where
   pub lines : ℕ
   pub bound : List (List ℕ)
 
+-- before the first line
 abbrev pub start : Earlier
 start = record { lines = 0; bound = known_names }
 
@@ -57,13 +59,16 @@ abbrev pub bind : List (List ℕ) → Option (List ℕ) → Option (List (List �
 bind bound None = Some bound
 bind bound (Some name) = if is_bound name bound then None else Some (bound ++ name ∷ [])
 
+-- so many lines, where the names could be bound
 abbrev pub with_bound : ℕ → Option (List (List ℕ)) → Option Earlier
 with_bound lines None = None
 with_bound lines (Some bound) = Some (record { lines = lines; bound = bound })
 
--- after one more line, None where it may not stand there: a script has at most 65,536 lines, and binds no name twice
+-- After one more line, None where it may not stand there.
+-- A script has at most 65,536 lines, and binds no name twice.
 unfoldable pub next : Earlier → Written → Option Earlier
-next s l = if nat_le 65536 s.lines then None else with_bound (s.lines + 1) (bind s.bound (binds_of l))
+next s l =
+    if nat_le 65536 s.lines then None else with_bound (s.lines + 1) (bind s.bound (binds_of l))
 
 -- each text of such lines may end there
 abbrev pub ends : Earlier → Bool

@@ -17,16 +17,19 @@ abbrev pub lines_text : {V : Type 0} → (V → List ℕ) → List V → List �
 lines_text text vs = flat_map (line text) vs
 
 -- the bytes are these lines, and they may stand so, and end there
-pub record Spells {S V : Type 0} (text : V → List ℕ) (Fits : V → Type 0) (next : S → V → Option S) (ends : S → Bool) (start : S) (bytes : List ℕ) (vs : List V) : Type 0 where
+pub record Spells {S V : Type 0} (text : V → List ℕ) (Fits : V → Type 0) (next : S → V → Option S)
+    (ends : S → Bool) (start : S) (bytes : List ℕ) (vs : List V) : Type 0 where
   pub fit : AllByRecursion Fits vs
   pub state : S
   pub ran : run next (Some start) vs ≡ Some state
   pub ended : ends state ≡ true
   pub bytes_are : bytes ≡ lines_text text vs
 
--- Line n is the first at which the bytes stop being the beginning of a text: the n - 1 lines before it are one,
--- no line that may stand after them comes next, and where nothing comes they aren't a whole text.
-pub record FaultsAt {S V : Type 0} (text : V → List ℕ) (Fits : V → Type 0) (next : S → V → Option S) (ends : S → Bool) (start : S) (bytes : List ℕ) (n : ℕ) : Type 0 where
+-- Line n is the first at which the bytes stop being the beginning of a text.
+-- The n - 1 lines before it are the beginning of one, and no line that may stand after them comes next.
+-- Where nothing comes after them they aren't a whole text.
+pub record FaultsAt {S V : Type 0} (text : V → List ℕ) (Fits : V → Type 0) (next : S → V → Option S)
+    (ends : S → Bool) (start : S) (bytes : List ℕ) (n : ℕ) : Type 0 where
   pub before : List V
   pub fit : AllByRecursion Fits before
   pub state : S
@@ -34,5 +37,6 @@ pub record FaultsAt {S V : Type 0} (text : V → List ℕ) (Fits : V → Type 0)
   pub rest : List ℕ
   pub bytes_are : bytes ≡ lines_text text before ++ rest
   pub number : n ≡ length before + 1
-  pub no_more : (v : V) (more : List ℕ) → Fits v → IsSome (next state v) → rest ≡ text v ++ 10 ∷ more → ⊥
+  pub no_more : (v : V) (more : List ℕ) → Fits v → IsSome (next state v)
+      → rest ≡ text v ++ 10 ∷ more → ⊥
   pub not_whole : rest ≡ [] → ends state ≡ false

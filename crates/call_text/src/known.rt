@@ -2,7 +2,7 @@
 ghost use Rattle.std.specs.Prelude.{◌≡◌, List};
 ghost use Rattle.std.specs.Str.{bytes_eq};
 ghost use Rattle.call_text.specs.declared.known.Named.{Named as NamedValue};
-ghost use Rattle.call_text.specs.Known.{value_of, name_of, is_value};
+ghost use Rattle.call_text.specs.Known.{value_of, name_of, is_value, start_values};
 
 use base::{Category, ObjectId};
 use text_words::Name;
@@ -19,6 +19,27 @@ pub enum Value {
 pub struct Named {
     pub name: Name,
     pub value: Value,
+}
+
+/// The names that are known at the start of each script: root, boot and dev, with the ids of the root container, the
+/// first thread and the device.
+pub fn start_names() -> [Named; 3]
+    ensures { result ≡ start_values }
+{
+    [
+        Named {
+            name: Name::from_slice(b"root"),
+            value: Value::Object(ObjectId::new(1)),
+        },
+        Named {
+            name: Name::from_slice(b"boot"),
+            value: Value::Object(ObjectId::new(2)),
+        },
+        Named {
+            name: Name::from_slice(b"dev"),
+            value: Value::Object(ObjectId::new(3)),
+        },
+    ]
 }
 
 /// Names that are known. Where a name or a value stands in their list twice, the first counts.

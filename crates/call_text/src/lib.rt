@@ -16,11 +16,14 @@ mod resolving;
 mod script_writing;
 mod scripts;
 
-pub use lines::{Written, read_line};
-pub use known::{Known, NameList, Named, Value};
-pub use resolving::{Asked, resolve};
-pub use replies::{put_reply, write_reply};
-pub use script_writing::write_script;
 pub use errors::ScriptError;
+pub use known::{Known, NameList, Named, Value, start_names};
+pub use lines::{Written, read_line};
 pub use phases::{Line, Phase, Script};
+pub use replies::{put_reply, write_reply};
+pub use resolving::{Asked, resolve};
+pub use script_writing::write_script;
 pub use scripts::{one_reading, read_script};
+
+#[cfg(test)]
+mod tests;

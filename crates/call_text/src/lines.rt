@@ -107,10 +107,18 @@ pub fn read_line(alloc: Global, text: &[u8]) -> Result<Option<Written>, AllocErr
         return Ok(Some(Written::Break));
     }
     if let Some((worker, call)) = read_said(alloc, text)? {
-        return Ok(Some(Written::Said { binds: None, worker, call }));
+        return Ok(Some(Written::Said {
+            binds: None,
+            worker,
+            call,
+        }));
     }
     let Some((name, worker, call)) = read_bound(alloc, text)? else {
         return Ok(None);
     };
-    Ok(Some(Written::Said { binds: Some(name), worker, call }))
+    Ok(Some(Written::Said {
+        binds: Some(name),
+        worker,
+        call,
+    }))
 }

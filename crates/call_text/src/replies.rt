@@ -84,9 +84,7 @@ fn put_words<K: Known>(
     more: &[Word],
     names: &K,
 ) -> Result<(), AllocError>
-    ensures {
-        OnOk result (out.new.items ≡ out.old.items ++ words_text (K.names names.now) first more.now)
-    }
+    ensures { OnOk result (out.new.items ≡ out.old.items ++ words_text (K.names names.now) first more.now) }
 {
     out.extend_from_slice(first.text().as_bytes())?;
     for word in more {

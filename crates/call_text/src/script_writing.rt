@@ -29,7 +29,8 @@ fn put_line(out: &mut Vec<u8>, line: &Line) -> Result<(), AllocError>
 
 /// Adds the lines of the phase.
 fn put_phase(out: &mut Vec<u8>, phase: &Phase) -> Result<(), AllocError>
-    ensures { OnOk result (out.new.items ≡ out.old.items ++ lines_text written_text (map said_of phase.now)) }
+    ensures { OnOk result (out.new.items
+        ≡ out.old.items ++ lines_text written_text (map said_of phase.now)) }
 {
     for line in phase.lines.as_slice() {
         put_line(out, line)?;
@@ -39,10 +40,8 @@ fn put_phase(out: &mut Vec<u8>, phase: &Phase) -> Result<(), AllocError>
 
 /// Adds the lines of the phases, each after a line `--`.
 fn put_more(out: &mut Vec<u8>, phases: &[Phase]) -> Result<(), AllocError>
-    ensures {
-        OnOk result (out.new.items ≡ out.old.items
-            ++ lines_text written_text (flat_map (λ p. Break ∷ map said_of p) phases.now))
-    }
+    ensures { OnOk result (out.new.items ≡ out.old.items
+        ++ lines_text written_text (flat_map (λ p. Break ∷ map said_of p) phases.now)) }
 {
     for phase in phases {
         out.extend_from_slice(b"--\n")?;

@@ -61,16 +61,19 @@ fn add(
     number: u32,
     written: Written,
 ) -> Result<(), AllocError>
-    ensures {
-        OnOk result ((phases.new.items, lines.new.items) ≡ added number written phases.old.items lines.old.items)
-    }
+    ensures { OnOk result ((phases.new.items, lines.new.items)
+        ≡ added number written phases.old.items lines.old.items) }
 {
     match written {
         Written::Break => {
             let lines = mem::replace(lines, Vec::new(alloc));
             phases.push(Phase { lines })?;
         }
-        Written::Said { binds, worker, call } => lines.push(Line {
+        Written::Said {
+            binds,
+            worker,
+            call,
+        } => lines.push(Line {
             number,
             binds,
             worker,
@@ -110,8 +113,6 @@ pub fn read_script(alloc: Global, bytes: &[u8]) -> Result<Script, ScriptError>
 /// Bytes spell one script, and what spells one has no faulty line.
 pub fn one_reading()
     ensures value { (bytes : List ℕ) (a b : List (List LineValue)) → IsScript bytes a → IsScript bytes b → a ≡ b }
-    ensures fault {
-        (bytes : List ℕ) (n : ℕ) (a : List (List LineValue)) → ScriptFaultsAt bytes n → IsScript bytes a → ⊥
-    }
-{
-}
+    ensures fault { (bytes : List ℕ) (n : ℕ) (a : List (List LineValue))
+        → ScriptFaultsAt bytes n → IsScript bytes a → ⊥ }
+{}

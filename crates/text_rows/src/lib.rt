@@ -13,3 +13,6 @@ pub use args::{Arg, Kind};
 pub use rows::{Row, read_row};
 pub use verbs::Verb;
 pub use writing::put_row;
+
+#[cfg(test)]
+mod tests;

@@ -27,7 +27,7 @@ lacks-append c (x ∷ xs) ys h k = let p = cond_false (eqb x c) (lacks c xs) h i
 pub decimal_lacks_byte : (c n : ℕ) → ((d : ℕ) → d < 10 → 48 + d ≡ c → ⊥) → n < 2 ^ 64 → lacks c (decimal n) ≡ true
 decimal_lacks_byte c n away small =
     decimal_by_steps (λ m ds. lacks c ds ≡ true) (λ m lt. lacks_one c (48 + m) (away m lt))
-      (λ m ds ge h. lacks-append c ds ((48 + m % 10) ∷ []) h (lacks_one c (48 + m % 10) (away (m % 10) (omega arith)))) n small
+    (λ m ds ge h. lacks-append c ds ((48 + m % 10) ∷ []) h (lacks_one c (48 + m % 10) (away (m % 10) (omega arith)))) n small
 
 pub decimal_lacks : (c n : ℕ) → c < 48 → n < 2 ^ 64 → lacks c (decimal n) ≡ true
 decimal_lacks c n low small = decimal_lacks_byte c n (λ d lt e. omega arith) small

@@ -47,7 +47,7 @@ reference_is_one (references.Name a) (references.Name b) ir is e = ap references
 pair_is_one : (p q : SpokenPair) → IsPair p → IsPair q → pair_text p ≡ pair_text q → p ≡ q
 pair_is_one p q ip iq e =
     let parts = first_part 58 (reference_text p.category) (reference_text q.category) (level_text p.level) (level_text q.level)
-      (reference_lacks 58 p.category (λ d lt k. omega arith) (λ k. omega arith) refl ip) (reference_lacks 58 q.category (λ d lt k. omega arith) (λ k. omega arith) refl iq) e in
+    (reference_lacks 58 p.category (λ d lt k. omega arith) (λ k. omega arith) refl ip) (reference_lacks 58 q.category (λ d lt k. omega arith) (λ k. omega arith) refl iq) e in
     let c = reference_is_one p.category q.category ip iq parts.0 in
     let l = level_is_one p.level q.level parts.1 in
     (λ i. record { category = c i; level = l i })
@@ -67,7 +67,7 @@ label_is_one a b ia ib e =
     let jb : List ℕ = join_with_byte 44 (map pair_text b.pairs ++ level_text b.default ∷ []) in
     let k : ja ++ 125 ∷ [] ≡ jb ++ 125 ∷ [] = cc in
     let parts : map pair_text a.pairs ++ level_text a.default ∷ [] ≡ map pair_text b.pairs ++ level_text b.default ∷ [] =
-      sym (parts_split a.pairs a.default ia.pairs) ∙ ap (slice_split (λ x. eqb x 44)) (before_last ja jb 125 k) ∙ parts_split b.pairs b.default ib.pairs in
+    sym (parts_split a.pairs a.default ia.pairs) ∙ ap (slice_split (λ x. eqb x 44)) (before_last ja jb 125 k) ∙ parts_split b.pairs b.default ib.pairs in
     let p = pairs_are_one a.pairs b.pairs a.default b.default ia.pairs ib.pairs parts in
     (λ i. record { pairs = p.0 i; default = p.1 i })
 

@@ -16,12 +16,14 @@ pub record LabelValue : Type 0 where
 abbrev pub pair_text : SpokenPair → List ℕ
 pair_text p = reference_text p.category ++ 58 ∷ level_text p.level
 
+-- the category has a spelling
 abbrev pub IsPair : SpokenPair → Type 0
 IsPair p = IsReference p.category
 
 -- the pairs and the default's level, parted by commas, in braces
 abbrev pub label_text : LabelValue → List ℕ
-label_text l = 123 ∷ (join_with_byte 44 (map pair_text l.pairs ++ level_text l.default ∷ []) ++ 125 ∷ [])
+label_text l =
+    123 ∷ (join_with_byte 44 (map pair_text l.pairs ++ level_text l.default ∷ []) ++ 125 ∷ [])
 
 -- at most 24 pairs
 pub record IsLabel (l : LabelValue) : Type 0 where
@@ -31,4 +33,5 @@ pub record IsLabel (l : LabelValue) : Type 0 where
 -- what is read of the words of the pairs
 abbrev pub ReadsPairs : List (List ℕ) → Option (Vec SpokenPair) → Type 0
 ReadsPairs words (Some v) = AllByRecursion IsPair v.items × (words ≡ map pair_text v.items)
-ReadsPairs words None = (ps : List SpokenPair) → AllByRecursion IsPair ps → words ≡ map pair_text ps → ⊥
+ReadsPairs words None =
+    (ps : List SpokenPair) → AllByRecursion IsPair ps → words ≡ map pair_text ps → ⊥

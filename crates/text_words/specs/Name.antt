@@ -29,4 +29,5 @@ name_text bytes = bytes
 
 -- the order of names as keys: by length, and then by bytes
 abbrev pub name_cmp : List ℕ → List ℕ → Ordering
-name_cmp a b = ordering_then (nat_cmp (length a) (length b)) (slice_cmp nat_cmp (padded 16 0 a) (padded 16 0 b))
+name_cmp a b =
+    ordering_then (nat_cmp (length a) (length b)) (slice_cmp nat_cmp (padded 16 0 a) (padded 16 0 b))

@@ -8,12 +8,14 @@ use Rattle.base.specs.Sets.{has_kind, bit_of_kind}
 
 -- the letters csatgd, in the order in which they are written, each with its kind
 abbrev pub letters : List (ℕ × Kind)
-letters = (99, Container) ∷ (115, Segment) ∷ (97, AddressSpace) ∷ (116, Thread) ∷ (103, Gate) ∷ (100, Device) ∷ []
+letters =
+    (99, Container) ∷ (115, Segment) ∷ (97, AddressSpace) ∷ (116, Thread) ∷ (103, Gate) ∷ (100, Device) ∷ []
 
 -- the letters of the kinds in the set
 abbrev pub letters_of : TypeSet → List (ℕ × Kind) → List ℕ
 letters_of set [] = []
-letters_of set (l ∷ more) = if has_kind set l.1 then l.0 ∷ letters_of set more else letters_of set more
+letters_of set (l ∷ more) =
+    if has_kind set l.1 then l.0 ∷ letters_of set more else letters_of set more
 
 -- the text, or a dash where it is empty
 abbrev pub or_dash : List ℕ → List ℕ

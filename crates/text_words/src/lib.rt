@@ -21,3 +21,6 @@ pub use numbers::{put_number, read_number};
 pub use references::{Reference, put_reference, read_reference};
 pub use spoken_labels::{SpokenLabel, SpokenPair, put_label, read_label};
 pub use type_words::{put_types, read_types};
+
+#[cfg(test)]
+mod tests;

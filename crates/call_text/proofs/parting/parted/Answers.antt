@@ -15,5 +15,6 @@ returns c =
       shorter = rw k (omega (arith, length-drop (c.in-Some.end + 1) rest));
       none = tt;
     }
+
 pub returns-in_default : goal.returns-in_default
 returns-in_default c = record { parts = tt; first = tt; shorter = tt; none = no_end c.args.byte c.args.text.now (sym c.place_of.ensures ∙ c.in_default.is) }

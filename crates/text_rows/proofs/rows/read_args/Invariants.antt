@@ -6,5 +6,5 @@ use Rattle.text_rows.proofs.rows.read_args.Given as goal
 abbrev pub invariant-loop-i : goal.invariant-loop-i
 invariant-loop-i l = record {
   kinds : AreArgs (take l.i l.kinds) l.args.items;
-  words : map (λ w. w.now) (take l.i l.words) ≡ map arg_text l.args.items
+  words : map (λ w. w.now) (take l.i l.words) ≡ map arg_text l.args.items;
 }
