@@ -1,0 +1,114 @@
+-- The parts of a line, and no two lines of one spelling.
+use Rattle.std.proofs.Common.{◌≡◌, ℕ, ◌-◌, ◌+◌, ◌≤◌, Bool, true, false, eqb, leb, ◌&&◌, List, [], ◌∷◌, ◌++◌, length, take, drop, get_or, Option, Some, None, refl, ap, ◌∙◌, sym, arith, subst, append_assoc, length-append}
+use Rattle.std.specs.List.{list_all}
+use Rattle.std.proofs.lemmas.Bool.{leb-true}
+use Rattle.text_words.specs.Lacks.{lacks}
+use Rattle.text_words.specs.Name.{IsName, is_letter, is_name_byte}
+use Rattle.text_words.proofs.Split.{both_true}
+use Rattle.text_words.proofs.LackLemmas.{lacks-append, name_lacks}
+use Rattle.text_words.proofs.LabelLemmas.{before_last}
+use Rattle.text_words.proofs.OneLemmas.{first_part}
+use Rattle.text_words.proofs.Outside.{name_outside, space_outside, end_outside}
+use Rattle.text_rows.specs.Row.{Spoken, IsRow, row_text}
+use Rattle.text_rows.proofs.RowLemmas.{row_is_one, row_lacks_end}
+use Rattle.call_text.proofs.PartLemmas.{not_in}
+use Rattle.call_text.proofs.TextLemmas.{IsGrammar}
+use Rattle.call_text.specs.declared.lines.Written.{Written}
+use Rattle.call_text.specs.declared.lines.Written.TheVariants.{Break, Said}
+use Rattle.call_text.specs.Line.{said_text, IsSaid, bound_text, IsBound, written_text, IsWritten, FitsWritten}
+
+said_is : (w row : List ℕ) → (w ++ 58 ∷ 32 ∷ []) ++ row ≡ (w ++ 58 ∷ []) ++ 32 ∷ row
+said_is w row = append_assoc w (58 ∷ 32 ∷ []) row ∙ sym (append_assoc w (58 ∷ []) (32 ∷ row))
+
+pub said_first : (text : List ℕ) (v : List ℕ × Spoken) → text ≡ said_text v → text ≡ (v.0 ++ 58 ∷ []) ++ 32 ∷ row_text v.1
+said_first text v e = e ∙ said_is v.0 (row_text v.1)
+
+worker_lacks : (w : List ℕ) → IsName w → lacks 32 (w ++ 58 ∷ []) ≡ true
+worker_lacks w is = lacks-append 32 w (58 ∷ []) (name_outside 32 w space_outside is) refl
+
+-- the first word of a worker's call, and its other words
+pub said_parts : (text first words : List ℕ) (v : List ℕ × Spoken) → text ≡ first ++ 32 ∷ words → lacks 32 first ≡ true → IsSaid v → text ≡ said_text v → (first ≡ v.0 ++ 58 ∷ []) × (words ≡ row_text v.1)
+said_parts text first words v h lack is e = first_part 32 first (v.0 ++ 58 ∷ []) words (row_text v.1) lack (worker_lacks v.0 is.0) (sym h ∙ said_first text v e)
+
+-- a worker's call has one spelling
+pub said_is_one : (v w : List ℕ × Spoken) → IsSaid v → IsSaid w → said_text v ≡ said_text w → v ≡ w
+said_is_one v w iv iw e =
+    let p = said_parts (said_text w) (v.0 ++ 58 ∷ []) (row_text v.1) w (sym e ∙ said_first (said_text v) v refl) (worker_lacks v.0 iv.0) iw refl in
+    let name : v.0 ≡ w.0 = before_last v.0 w.0 58 p.0 in
+    let row : v.1 ≡ w.1 = row_is_one v.1 w.1 iv.1 iw.1 p.1 in
+    (λ i. (name i, row i))
+
+bound_is : (name said : List ℕ) → (name ++ 32 ∷ 61 ∷ 32 ∷ []) ++ said ≡ name ++ 32 ∷ 61 ∷ 32 ∷ said
+bound_is name said = append_assoc name (32 ∷ 61 ∷ 32 ∷ []) said
+
+pub bound_first : (text : List ℕ) (v : List ℕ × List ℕ × Spoken) → text ≡ bound_text v → text ≡ v.0 ++ 32 ∷ 61 ∷ 32 ∷ said_text (v.1, v.2)
+bound_first text v e = e ∙ bound_is v.0 (said_text (v.1, v.2))
+
+-- the first word of a line that binds a name, and what is after it
+pub bound_parts : (text first after : List ℕ) (v : List ℕ × List ℕ × Spoken) → text ≡ first ++ 32 ∷ after → lacks 32 first ≡ true → IsBound v → text ≡ bound_text v
+    → (first ≡ v.0) × (after ≡ 61 ∷ 32 ∷ said_text (v.1, v.2))
+bound_parts text first after v h lack is e =
+    first_part 32 first v.0 after (61 ∷ 32 ∷ said_text (v.1, v.2)) lack (name_outside 32 v.0 space_outside is.0) (sym h ∙ bound_first text v e)
+
+-- what no reader took for a call, with a name or without, is no line
+pub no_line : (text : List ℕ) → (text ≡ 45 ∷ 45 ∷ [] → ⊥) → ((v : List ℕ × Spoken) → IsSaid v → text ≡ said_text v → ⊥) → ((v : List ℕ × List ℕ × Spoken) → IsBound v → text ≡ bound_text v → ⊥)
+    → (v : Written) → FitsWritten v → text ≡ written_text v → ⊥
+no_line text dash said bound Break fits e = dash e
+no_line text dash said bound (Said None worker call) fits e = said (worker, call) fits.written e
+no_line text dash said bound (Said (Some name) worker call) fits e = bound (name, worker, call) fits.written e
+
+-- a name begins with a letter
+name_begins : (name rest tail : List ℕ) (b : ℕ) → IsName name → name ++ rest ≡ b ∷ tail → 97 ≤ b
+name_begins [] rest tail b is e = absurd cc
+name_begins (x ∷ name) rest tail b is e =
+    let p = both_true _ (list_all is_name_byte name) is in
+    let low = leb-true 97 x (both_true (leb 97 x) _ (both_true (is_letter x) _ p.0).0).0 in
+    let same : x ≡ b = cc in omega arith
+
+said_begins : (v : List ℕ × Spoken) (tail : List ℕ) → IsSaid v → said_text v ≡ 45 ∷ tail → ⊥
+said_begins v tail is e =
+    let k = name_begins v.0 (58 ∷ 32 ∷ row_text v.1) tail 45 is.0 (sym (append_assoc v.0 (58 ∷ 32 ∷ []) (row_text v.1)) ∙ e) in omega arith
+
+bound_no_dash : (v : List ℕ × List ℕ × Spoken) (tail : List ℕ) → IsBound v → bound_text v ≡ 45 ∷ tail → ⊥
+bound_no_dash v tail is e =
+    let k = name_begins v.0 (32 ∷ 61 ∷ 32 ∷ said_text (v.1, v.2)) tail 45 is.0 (sym (bound_is v.0 (said_text (v.1, v.2))) ∙ e) in omega arith
+
+-- a worker's call is no line that binds a name
+said_no_bound : (v : List ℕ × Spoken) (w : List ℕ × List ℕ × Spoken) → IsSaid v → IsBound w → said_text v ≡ bound_text w → ⊥
+said_no_bound v w iv iw e =
+    let p = bound_parts (said_text v) (v.0 ++ 58 ∷ []) (row_text v.1) w (said_first (said_text v) v refl) (worker_lacks v.0 iv.0) iw e in
+    not_in 58 v.0 [] (subst (λ (x : List ℕ). lacks 58 x ≡ true) (sym p.0) (name_lacks 58 w.0 refl iw.0))
+
+bound_is_one : (v w : List ℕ × List ℕ × Spoken) → IsBound v → IsBound w → bound_text v ≡ bound_text w → v ≡ w
+bound_is_one v w iv iw e =
+    let p = bound_parts (bound_text w) v.0 (61 ∷ 32 ∷ said_text (v.1, v.2)) w (sym e ∙ bound_first (bound_text v) v refl) (name_outside 32 v.0 space_outside iv.0) iw refl in
+    let texts : said_text (v.1, v.2) ≡ said_text (w.1, w.2) = (let k = p.1 in cc) in
+    let s = said_is_one (v.1, v.2) (w.1, w.2) iv.1 iw.1 texts in
+    (λ i. (p.0 i, (s i).0, (s i).1))
+
+-- no two lines have one spelling
+written_is_one : (a b : Written) → IsWritten a → IsWritten b → written_text a ≡ written_text b → a ≡ b
+written_is_one Break Break ia ib e = refl
+written_is_one Break (Said None w c) ia ib e = absurd (said_begins (w, c) (45 ∷ []) ib (sym e))
+written_is_one Break (Said (Some n) w c) ia ib e = absurd (bound_no_dash (n, w, c) (45 ∷ []) ib (sym e))
+written_is_one (Said None w c) Break ia ib e = absurd (said_begins (w, c) (45 ∷ []) ia e)
+written_is_one (Said (Some n) w c) Break ia ib e = absurd (bound_no_dash (n, w, c) (45 ∷ []) ia e)
+written_is_one (Said None w c) (Said None x d) ia ib e = let s = said_is_one (w, c) (x, d) ia ib e in (λ i. Said None (s i).0 (s i).1)
+written_is_one (Said None w c) (Said (Some n) x d) ia ib e = absurd (said_no_bound (w, c) (n, x, d) ia ib e)
+written_is_one (Said (Some m) w c) (Said None x d) ia ib e = absurd (said_no_bound (x, d) (m, w, c) ib ia (sym e))
+written_is_one (Said (Some m) w c) (Said (Some n) x d) ia ib e = let s = bound_is_one (m, w, c) (n, x, d) ia ib e in (λ i. Said (Some (s i).0) (s i).1 (s i).2)
+
+said_lacks_end : (v : List ℕ × Spoken) → IsSaid v → lacks 10 (said_text v) ≡ true
+said_lacks_end v is = lacks-append 10 (v.0 ++ 58 ∷ 32 ∷ []) (row_text v.1) (lacks-append 10 v.0 (58 ∷ 32 ∷ []) (name_outside 10 v.0 end_outside is.0) refl) (row_lacks_end v.1 is.1)
+
+written_lacks_end : (a : Written) → IsWritten a → lacks 10 (written_text a) ≡ true
+written_lacks_end Break is = refl
+written_lacks_end (Said None w c) is = said_lacks_end (w, c) is
+written_lacks_end (Said (Some n) w c) is =
+    lacks-append 10 (n ++ 32 ∷ 61 ∷ 32 ∷ []) (said_text (w, c)) (lacks-append 10 n (32 ∷ 61 ∷ 32 ∷ []) (name_outside 10 n end_outside is.0) refl) (said_lacks_end (w, c) is.1)
+
+pub script_grammar : IsGrammar written_text FitsWritten
+script_grammar = record {
+  lacks_end = λ v f. written_lacks_end v f.written;
+  one = λ v w fv fw e. written_is_one v w fv.written fw.written e;
+}

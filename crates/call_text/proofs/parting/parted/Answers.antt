@@ -1,0 +1,20 @@
+use Rattle.std.proofs.Common.{◌≡◌, ◌∙◌, ◌+◌, ◌-◌, List, ℕ, length, take, drop, sym, arith}
+use Rattle.std.proofs.lemmas.List.{take_all, length-drop}
+use Rattle.call_text.proofs.PartLemmas.{end_at, no_end}
+use Rattle.call_text.proofs.parting.parted.Goals as goal
+
+pub returns : goal.returns
+returns c =
+    let h = end_at c.args.byte c.args.text.now c.in-Some.end (sym c.place_of.ensures ∙ c.in-Some.is) in
+    let w = h.within in
+    let rest = c.args.text.now in
+    let k : take (length rest - (c.in-Some.end + 1)) (drop (c.in-Some.end + 1) rest) ≡ drop (c.in-Some.end + 1) rest = take_all _ _ (omega (arith, length-drop (c.in-Some.end + 1) rest)) in
+    record {
+      parts = rw k h.parts;
+      first = h.lacks_it;
+      shorter = rw k (omega (arith, length-drop (c.in-Some.end + 1) rest));
+      none = tt;
+    }
+
+pub returns-in_default : goal.returns-in_default
+returns-in_default c = record { parts = tt; first = tt; shorter = tt; none = no_end c.args.byte c.args.text.now (sym c.place_of.ensures ∙ c.in_default.is) }

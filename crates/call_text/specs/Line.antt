@@ -1,0 +1,40 @@
+-- The spelling of a script's line.
+use Rattle.std.specs.Prelude.{◌≡◌, ◌≤◌, ℕ, List, ◌++◌, length, codes, Option, Some, None, true}
+use Rattle.text_words.specs.Name.{IsName, name_text}
+use Rattle.text_rows.specs.Verb.{makes}
+use Rattle.text_rows.specs.Row.{Spoken, IsRow, row_text}
+use Rattle.call_text.specs.declared.lines.Written.{Written}
+use Rattle.call_text.specs.declared.lines.Written.TheVariants.{Break, Said}
+
+-- WORKER: CALL
+abbrev pub said_text : List ℕ × Spoken → List ℕ
+said_text said = name_text said.0 ++ codes ": " ++ row_text said.1
+
+-- a name, and a call in its ranges
+abbrev pub IsSaid : List ℕ × Spoken → Type 0
+IsSaid said = IsName said.0 × IsRow said.1
+
+-- NAME = WORKER: CALL
+abbrev pub bound_text : List ℕ × List ℕ × Spoken → List ℕ
+bound_text bound = name_text bound.0 ++ codes " = " ++ said_text (bound.1, bound.2)
+
+-- a name stands only before a call that makes something
+abbrev pub IsBound : List ℕ × List ℕ × Spoken → Type 0
+IsBound bound = IsName bound.0 × IsSaid (bound.1, bound.2) × (makes bound.2.verb ≡ true)
+
+-- --, or a call with its worker, and with the name that it binds
+abbrev pub written_text : Written → List ℕ
+written_text Break = codes "--"
+written_text (Said None worker call) = said_text (worker, call)
+written_text (Said (Some name) worker call) = bound_text (name, worker, call)
+
+-- each word is in its range
+abbrev pub IsWritten : Written → Type 0
+IsWritten Break = Unit {0}
+IsWritten (Said None worker call) = IsSaid (worker, call)
+IsWritten (Said (Some name) worker call) = IsBound (name, worker, call)
+
+-- at most 4,096 bytes
+pub record FitsWritten (line : Written) : Type 0 where
+  pub written : IsWritten line
+  pub short : length (written_text line) ≤ 4096

@@ -1,0 +1,29 @@
+//! Scripts and replies as text: which bytes are a script, what its words name, and how a reply is printed.
+//!
+//! A script has one spelling. It is read as that value, or the first line at which the bytes stop being the beginning of
+//! a script is told, and it is written as those bytes again. What the names of a script are bound to is the caller's, and
+//! so is playing it.
+#![tactic(auto)]
+
+mod errors;
+mod known;
+mod lines;
+mod parting;
+mod phases;
+mod places;
+mod replies;
+mod resolving;
+mod script_writing;
+mod scripts;
+
+pub use errors::ScriptError;
+pub use known::{Known, NameList, Named, Value, start_names};
+pub use lines::{Written, read_line};
+pub use phases::{Line, Phase, Script};
+pub use replies::{put_reply, write_reply};
+pub use resolving::{Asked, resolve};
+pub use script_writing::write_script;
+pub use scripts::{one_reading, read_script};
+
+#[cfg(test)]
+mod tests;

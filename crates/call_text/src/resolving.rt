@@ -1,0 +1,121 @@
+//! What a spoken call asks, with the names that are known.
+ghost use Rattle.std.specs.Prelude.{◌≡◌};
+ghost use Rattle.call_text.specs.Resolve.{unbound_object, unbound_category, unbound_pair, unbound_in, first_unbound, asked_of, resolved};
+
+use crate::known::{Known, Value};
+use crate::places::{data_at, label_at, make_entry, number_at, object_at, types_at};
+use plain_core::{Call, Query};
+use text_rows::{Arg, Row, Verb};
+use text_words::{Name, Reference, SpokenPair};
+
+/// What a call asks of a machine.
+#[derive(Clone, Copy)]
+pub enum Asked {
+    /// To change its state.
+    Write(Call),
+    /// To tell of it.
+    Read(Query),
+}
+
+/// The name, where it is not known as an object's.
+fn unbound_object<K: Known>(reference: &Reference, names: &K) -> Option<Name>
+    ensures { result ≡ unbound_object reference.now (K.names names.now) }
+{
+    match reference {
+        Reference::Number(_) => None,
+        Reference::Name(name) => match names.value_of(name) {
+            Some(Value::Object(_)) => None,
+            _ => Some(*name),
+        },
+    }
+}
+
+/// The name, where it is not known as a category's.
+fn unbound_category<K: Known>(reference: &Reference, names: &K) -> Option<Name>
+    ensures { result ≡ unbound_category reference.now (K.names names.now) }
+{
+    match reference {
+        Reference::Number(_) => None,
+        Reference::Name(name) => match names.value_of(name) {
+            Some(Value::Category(_)) => None,
+            _ => Some(*name),
+        },
+    }
+}
+
+/// The first name of the pairs that is not known as a category's.
+fn unbound_pair<K: Known>(pairs: &[SpokenPair], names: &K) -> Option<Name>
+    ensures { result ≡ unbound_pair pairs.now (K.names names.now) }
+{
+    for pair in pairs {
+        if let Some(name) = unbound_category(&pair.category, names) {
+            return Some(name);
+        }
+    }
+    None
+}
+
+/// The first name of the argument that is not known, or known as the other kind.
+fn unbound_in<K: Known>(arg: &Arg, names: &K) -> Option<Name>
+    ensures { result ≡ unbound_in arg.now (K.names names.now) }
+{
+    match arg {
+        Arg::Object(reference) => unbound_object(reference, names),
+        Arg::Label(label) => unbound_pair(label.pairs(), names),
+        Arg::Number(_) | Arg::Data(_) | Arg::Types(_) => None,
+    }
+}
+
+/// The first name of the arguments that is not known, or known as the other kind.
+fn first_unbound<K: Known>(args: &[Arg], names: &K) -> Option<Name>
+    ensures { result ≡ first_unbound args.now (K.names names.now) }
+{
+    for arg in args {
+        if let Some(name) = unbound_in(arg, names) {
+            return Some(name);
+        }
+    }
+    None
+}
+
+/// What the verb asks with these arguments.
+fn make_asked<K: Known>(verb: Verb, args: &[Arg], names: &K) -> Asked
+    ensures { result ≡ asked_of verb args.now (K.names names.now) }
+{
+    match verb {
+        Verb::CatCreate => Asked::Write(Call::CatCreate),
+        Verb::ContainerCreate => Asked::Write(Call::ContainerCreate {
+            container: object_at(args, 0, names),
+            label: label_at(args, 1, names),
+            quota: number_at(args, 2),
+            avoid: types_at(args, 3),
+        }),
+        Verb::SegmentCreate => Asked::Write(Call::SegmentCreate {
+            container: object_at(args, 0, names),
+            label: label_at(args, 1, names),
+            quota: number_at(args, 2),
+            pages: number_at(args, 3),
+        }),
+        Verb::SegmentWrite => Asked::Write(Call::SegmentWrite {
+            entry: make_entry(args, 0, names),
+            offset: number_at(args, 2),
+            data: data_at(args, 3),
+        }),
+        Verb::SegmentRead => Asked::Read(Query::SegmentRead {
+            entry: make_entry(args, 0, names),
+            offset: number_at(args, 2),
+            count: number_at(args, 3),
+        }),
+    }
+}
+
+/// What the call asks, where each of its names is known as what stands there, or the first name, in the order of the
+/// words, that is not known or known as the other kind. A number stands for itself.
+pub fn resolve<K: Known>(row: &Row, names: &K) -> Result<Asked, Name>
+    ensures { result ≡ resolved row.now (K.names names.now) }
+{
+    if let Some(name) = first_unbound(row.args(), names) {
+        return Err(name);
+    }
+    Ok(make_asked(row.verb(), row.args(), names))
+}

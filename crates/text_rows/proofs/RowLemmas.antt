@@ -1,0 +1,183 @@
+-- Rows: their words one by one, and no two rows of one spelling.
+use Rattle.std.proofs.Common.{◌≡◌, ℕ, zero, suc, ◌+◌, ◌^◌, ◌<◌, ◌≤◌, Bool, true, false, cond, eqb, List, [], ◌∷◌, ◌++◌, length, Option, Some, None, subst, get_or, take, drop, ◌-◌, map, refl, ap, ◌∙◌, sym, arith}
+use Rattle.text_words.specs.Lacks.{lacks, AllLack}
+use Rattle.text_rows.specs.declared.verbs.Verb.{Verb}
+use Rattle.text_rows.specs.declared.verbs.Verb.TheVariants as verbs
+use Rattle.text_rows.specs.declared.args.Kind.{Kind}
+use Rattle.text_rows.specs.declared.args.Kind.TheVariants as kinds
+use Rattle.text_rows.specs.declared.args.Arg.{Arg}
+use Rattle.text_rows.specs.declared.args.Arg.TheVariants as args
+use Rattle.text_rows.specs.Verb.{name_of, kinds_of}
+use Rattle.text_rows.specs.Arg.{arg_text, kind_of, IsArg}
+use Rattle.text_rows.specs.Row.{AreArgs, ReadsArgs, Spoken, IsRow, row_text, words_of}
+use Rattle.std.specs.Global.{Vec}
+use Rattle.std.specs.List.{slice_split, join_with_byte, flat_map}
+use Rattle.std.proofs.lemmas.List.{take_more, get_or-map, map_push, length-map, append-nil}
+use Rattle.std.proofs.lemmas.List.Splits.{join_with_byte-slice_split}
+use Rattle.std.proofs.Math.Seq.{take-length}
+use Rattle.text_words.proofs.Split.{split_join}
+use Rattle.text_words.proofs.LackLemmas.{join_lacks}
+use Rattle.text_words.proofs.Outside.{IsOutside, number_outside, reference_outside, label_outside, data_outside, space_outside, end_outside}
+use Rattle.text_words.proofs.WordLemmas.{data_is_one}
+use Rattle.text_words.proofs.OneLemmas.{reference_is_one, label_is_one, types_are_one}
+use Rattle.std.proofs.lemmas.Fmt.{decimal_injective}
+
+pub same_length : (ks : List Kind) (found : List Arg) → AreArgs ks found → length ks ≡ length found
+same_length [] [] h = refl
+same_length [] (a ∷ more) h = absurd h
+same_length (k ∷ ks) [] h = absurd h
+same_length (k ∷ ks) (a ∷ more) h = ap suc (same_length ks more h.1)
+
+pub AreArgs-push : (ks : List Kind) (found : List Arg) (k : Kind) (a : Arg) → AreArgs ks found → IsArg k a → AreArgs (ks ++ k ∷ []) (found ++ a ∷ [])
+AreArgs-push [] [] k a h is = (is, tt)
+AreArgs-push [] (b ∷ more) k a h is = absurd h
+AreArgs-push (j ∷ ks) [] k a h is = absurd h
+AreArgs-push (j ∷ ks) (b ∷ more) k a h is = (h.0, AreArgs-push ks more k a h.1 is)
+
+-- a word that is no argument at its place
+pub no_args : (ks : List Kind) (found : List Arg) (i : ℕ) (d : Kind) → AreArgs ks found → i < length ks → ((a : Arg) → IsArg (get_or ks i d) a → get_or (map arg_text found) i [] ≡ arg_text a → ⊥) → ⊥
+no_args [] found i d h lt none = absurd (omega arith)
+no_args (k ∷ ks) [] i d h lt none = absurd h
+no_args (k ∷ ks) (a ∷ more) zero d h lt none = none a h.0 refl
+no_args (k ∷ ks) (a ∷ more) (suc i) d h lt none = no_args ks more i d h.1 (omega arith) none
+
+pub arg_outside : (c : ℕ) (k : Kind) (a : Arg) → IsOutside c → IsArg k a → lacks c (arg_text a) ≡ true
+arg_outside c k (args.Object r) out is = reference_outside c r out is.fits
+arg_outside c k (args.Number n) out is = let small : n < 2 ^ 32 = is.fits in number_outside c n out (omega arith)
+arg_outside c k (args.Label l) out is = label_outside c l out is.fits
+arg_outside c k (args.Data d) out is = data_outside c d out is.fits
+arg_outside c k (args.Types s) out is = out.types s is.fits
+
+-- a byte that no call's words have
+pub record IsParting (c : ℕ) : Type 0 where
+  pub outside : IsOutside c
+  pub verbs : (v : Verb) → lacks c (name_of v) ≡ true
+
+name_lacks_space : (v : Verb) → lacks 32 (name_of v) ≡ true
+name_lacks_space verbs.CatCreate = refl
+name_lacks_space verbs.ContainerCreate = refl
+name_lacks_space verbs.SegmentCreate = refl
+name_lacks_space verbs.SegmentWrite = refl
+name_lacks_space verbs.SegmentRead = refl
+
+name_lacks_end : (v : Verb) → lacks 10 (name_of v) ≡ true
+name_lacks_end verbs.CatCreate = refl
+name_lacks_end verbs.ContainerCreate = refl
+name_lacks_end verbs.SegmentCreate = refl
+name_lacks_end verbs.SegmentWrite = refl
+name_lacks_end verbs.SegmentRead = refl
+
+pub space_parting : IsParting 32
+space_parting = record { outside = space_outside; verbs = name_lacks_space }
+
+pub end_parting : IsParting 10
+end_parting = record { outside = end_outside; verbs = name_lacks_end }
+
+args_lack : (c : ℕ) (ks : List Kind) (found : List Arg) → IsParting c → AreArgs ks found → AllLack c (map arg_text found)
+args_lack c [] [] p h = tt
+args_lack c [] (a ∷ more) p h = absurd h
+args_lack c (k ∷ ks) [] p h = absurd h
+args_lack c (k ∷ ks) (a ∷ more) p h = (arg_outside c k a p.outside h.0, args_lack c ks more p h.1)
+
+-- the words of a line that spells a call are the call's
+pub row_split : (line : List ℕ) (v : Spoken) → IsRow v → line ≡ row_text v → slice_split (λ b. eqb b 32) line ≡ words_of v
+row_split line v is e =
+    ap (slice_split (λ b. eqb b 32)) e ∙ split_join 32 (name_of v.verb) (map arg_text v.args) (name_lacks_space v.verb, args_lack 32 (kinds_of v.verb) v.args space_parting is)
+
+same_text : List ℕ → List ℕ → Bool
+same_text [] [] = true
+same_text [] (y ∷ ys) = false
+same_text (x ∷ xs) [] = false
+same_text (x ∷ xs) (y ∷ ys) = cond (eqb x y) (same_text xs ys) false
+
+all_verbs : List Verb
+all_verbs = verbs.CatCreate ∷ verbs.ContainerCreate ∷ verbs.SegmentCreate ∷ verbs.SegmentWrite ∷ verbs.SegmentRead ∷ []
+
+first_named : List ℕ → List Verb → Verb
+first_named word [] = verbs.CatCreate
+first_named word (v ∷ vs) = cond (same_text (name_of v) word) v (first_named word vs)
+
+verb_again : (v : Verb) → first_named (name_of v) all_verbs ≡ v
+unfolding same_text first_named all_verbs
+verb_again verbs.CatCreate = refl
+verb_again verbs.ContainerCreate = refl
+verb_again verbs.SegmentCreate = refl
+verb_again verbs.SegmentWrite = refl
+verb_again verbs.SegmentRead = refl
+
+pub verb_is : (v w : Verb) → name_of v ≡ name_of w → v ≡ w
+verb_is v w e = sym (verb_again v) ∙ ap (λ (x : List ℕ). first_named x all_verbs) e ∙ verb_again w
+
+-- as the code sees the words
+
+pub not_at : {A : Type 0} (f : A → List ℕ) (ks : List Kind) (found : List Arg) (ws : List A) (i : ℕ) (d : Kind) (e : A) → AreArgs ks found → map f ws ≡ map arg_text found → i < length ks → length ks ≡ length ws
+    → ((a : Arg) → IsArg (get_or ks i d) a → f (get_or ws i e) ≡ arg_text a → ⊥) → ⊥
+not_at f ks found ws i d e are texts lt same none =
+    no_args ks found i d are lt (λ a is h. none a is (sym (get_or-map f ws i e [] (omega arith)) ∙ ap (λ (x : List (List ℕ)). get_or x i []) texts ∙ h))
+
+pub not_as_many : {A : Type 0} (f : A → List ℕ) (ks : List Kind) (found : List Arg) (ws : List A) → AreArgs ks found → map f ws ≡ map arg_text found → length ks ≡ length ws
+not_as_many f ks found ws are texts = same_length ks found are ∙ sym (length-map found arg_text) ∙ ap length (sym texts) ∙ length-map ws f
+
+pub kinds_more : (ks : List Kind) (found : List Arg) (items : List Arg) (i : ℕ) (d : Kind) (a : Arg) → AreArgs (take i ks) found → IsArg (get_or ks i d) a → i < length ks → items ≡ found ++ a ∷ [] → AreArgs (take (i + 1) ks) items
+kinds_more ks found items i d a are is lt e = rw (e, take_more ks i d lt) (AreArgs-push (take i ks) found (get_or ks i d) a are is)
+
+pub words_more : {A : Type 0} (f : A → List ℕ) (ws : List A) (found items : List Arg) (i : ℕ) (d : A) (a : Arg) → map f (take i ws) ≡ map arg_text found → f (get_or ws i d) ≡ arg_text a → i < length ws → items ≡ found ++ a ∷ []
+    → map f (take (i + 1) ws) ≡ map arg_text items
+words_more f ws found items i d a texts is lt e =
+    rw (e, take_more ws i d lt, map_push f (take i ws) (get_or ws i d), map_push arg_text found a, texts, is) refl
+
+front : {A : Type 0} (f : A → List ℕ) (ws : List A) (d : A) → 1 ≤ length ws → map f ws ≡ f (get_or ws 0 d) ∷ map f (take (length ws - 1) (drop 1 ws))
+front f [] d lt = absurd (omega arith)
+front f (w ∷ ws) d lt = let k : length (w ∷ ws) - 1 ≡ length ws = omega arith in rw (k, take-length ws) refl
+
+-- the words of a line that spells a call, one by one
+pub row_parts : {A : Type 0} (f : A → List ℕ) (ws : List A) (d : A) (line : List ℕ) (v : Spoken) → map f ws ≡ slice_split (λ b. eqb b 32) line → 1 ≤ length ws → IsRow v → line ≡ row_text v
+    → (f (get_or ws 0 d) ≡ name_of v.verb) × (map f (take (length ws - 1) (drop 1 ws)) ≡ map arg_text v.args)
+row_parts f ws d line v split lt is e =
+    let k : f (get_or ws 0 d) ∷ map f (take (length ws - 1) (drop 1 ws)) ≡ name_of v.verb ∷ map arg_text v.args = sym (front f ws d lt) ∙ split ∙ row_split line v is e in
+    (cc, cc)
+
+pub row_whole : {A : Type 0} (f : A → List ℕ) (ws : List A) (d : A) (line name : List ℕ) (texts : List (List ℕ)) → map f ws ≡ slice_split (λ b. eqb b 32) line → 1 ≤ length ws
+    → f (get_or ws 0 d) ≡ name → map f (take (length ws - 1) (drop 1 ws)) ≡ texts → line ≡ join_with_byte 32 (name ∷ texts)
+row_whole f ws d line name texts split lt first rest =
+    let k : slice_split (λ b. eqb b 32) line ≡ name ∷ texts = sym split ∙ front f ws d lt ∙ rw (first, rest) refl in
+    sym (join_with_byte-slice_split 32 line) ∙ ap (join_with_byte 32) k
+
+pub read_none : (ks : List Kind) (words : List (List ℕ)) (r : Option (Vec Arg)) → r ≡ None → ReadsArgs ks words r → (found : List Arg) → AreArgs ks found → words ≡ map arg_text found → ⊥
+read_none ks words r e h = subst (λ (x : Option (Vec Arg)). ReadsArgs ks words x) e h
+
+pub read_some : (ks : List Kind) (words : List (List ℕ)) (r : Option (Vec Arg)) (v : Vec Arg) → r ≡ Some v → ReadsArgs ks words r → AreArgs ks v.items × (words ≡ map arg_text v.items)
+read_some ks words r v e h = subst (λ (x : Option (Vec Arg)). ReadsArgs ks words x) e h
+
+-- no line's end stands in a row
+pub row_lacks_end : (v : Spoken) → IsRow v → lacks 10 (row_text v) ≡ true
+row_lacks_end v is = join_lacks 10 32 (name_of v.verb) (map arg_text v.args) (λ e. cc) (name_lacks_end v.verb, args_lack 10 (kinds_of v.verb) v.args end_parting is)
+
+arg_is_one : (k : Kind) (a b : Arg) → IsArg k a → IsArg k b → arg_text a ≡ arg_text b → a ≡ b
+arg_is_one k (args.Object m) (args.Object n) ia ib e = ap args.Object (reference_is_one m n ia.fits ib.fits e)
+arg_is_one k (args.Number m) (args.Number n) ia ib e = let p : m < 2 ^ 32 = ia.fits in let q : n < 2 ^ 32 = ib.fits in ap args.Number (decimal_injective m n (omega arith) (omega arith) e)
+arg_is_one k (args.Label m) (args.Label n) ia ib e = ap args.Label (label_is_one m n ia.fits ib.fits e)
+arg_is_one k (args.Data m) (args.Data n) ia ib e = ap args.Data (data_is_one m n ia.fits ib.fits e)
+arg_is_one k (args.Types m) (args.Types n) ia ib e = ap args.Types (types_are_one m n ia.fits ib.fits e)
+arg_is_one k _ _ ia ib e = absurd (let p = ia.kind_is in let q = ib.kind_is in cc)
+
+args_are_one : (ks : List Kind) (xs ys : List Arg) → AreArgs ks xs → AreArgs ks ys → map arg_text xs ≡ map arg_text ys → xs ≡ ys
+args_are_one [] [] [] hx hy e = refl
+args_are_one [] (x ∷ xs) ys hx hy e = absurd hx
+args_are_one [] [] (y ∷ ys) hx hy e = absurd hy
+args_are_one (k ∷ ks) [] ys hx hy e = absurd hx
+args_are_one (k ∷ ks) (x ∷ xs) [] hx hy e = absurd hy
+args_are_one (k ∷ ks) (x ∷ xs) (y ∷ ys) hx hy e =
+    let p = arg_is_one k x y hx.0 hy.0 cc in let q = args_are_one ks xs ys hx.1 hy.1 cc in cc
+
+pub row_is_one : (v w : Spoken) → IsRow v → IsRow w → row_text v ≡ row_text w → v ≡ w
+row_is_one v w iv iw e =
+    let k : name_of v.verb ∷ map arg_text v.args ≡ name_of w.verb ∷ map arg_text w.args = sym (row_split (row_text v) v iv refl) ∙ row_split (row_text v) w iw e in
+    let p : v.verb ≡ w.verb = verb_is v.verb w.verb cc in
+    let q : v.args ≡ w.args = args_are_one (kinds_of w.verb) v.args w.args (subst (λ (u : Verb). AreArgs (kinds_of u) v.args) p iv) iw cc in
+    ap (λ (x : Verb). let r : Spoken = record { verb = x; args = v.args } in r) p ∙ ap (λ (y : List Arg). let r : Spoken = record { verb = w.verb; args = y } in r) q
+
+-- as the code writes it
+pub row_text_is : (name : List ℕ) (xs : List Arg) → name ++ flat_map (λ a. 32 ∷ arg_text a) xs ≡ join_with_byte 32 (name ∷ map arg_text xs)
+row_text_is name [] = append-nil name
+row_text_is name (x ∷ xs) = ap (λ (rest : List ℕ). name ++ 32 ∷ rest) (row_text_is (arg_text x) xs)

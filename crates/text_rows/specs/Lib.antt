@@ -1,0 +1,3 @@
+pub mod Verb
+pub mod Arg
+pub mod Row

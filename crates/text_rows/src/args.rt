@@ -1,0 +1,93 @@
+//! Arguments of calls.
+ghost use Rattle.std.specs.Prelude.{◌≡◌, IfOk};
+ghost use Rattle.text_words.specs.Reading.{Reads};
+ghost use Rattle.text_rows.specs.Arg.{arg_text, IsArg};
+
+use base::{Data, TypeSet};
+use std::alloc::{AllocError, Global};
+use text_words::{
+    Reference, SpokenLabel, read_data, read_label, read_number, read_reference, read_types,
+};
+
+/// What stands at a place of a call.
+#[derive(Clone, Copy, PartialEq, Eq)]
+pub enum Kind {
+    /// An object.
+    Object,
+    /// A number below 2^32.
+    Number,
+    /// A label.
+    Label,
+    /// 0 to 64 bytes.
+    Data,
+    /// A set of kinds of objects.
+    Types,
+}
+
+/// A value at a place of a call.
+#[derive(Drop)]
+pub enum Arg {
+    Object(Reference),
+    Number(u32),
+    Label(SpokenLabel),
+    Data(Data),
+    Types(TypeSet),
+}
+
+fn read_object(word: &[u8]) -> Option<Arg>
+    ensures { Reads arg_text (IsArg Kind.Object) word.now result }
+{
+    let Some(reference) = read_reference(word) else {
+        return None;
+    };
+    Some(Arg::Object(reference))
+}
+
+fn read_short(word: &[u8]) -> Option<Arg>
+    ensures { Reads arg_text (IsArg Kind.Number) word.now result }
+{
+    let Some(number) = read_number(word, u32::MAX as u64) else {
+        return None;
+    };
+    Some(Arg::Number(number as u32))
+}
+
+fn read_bytes(word: &[u8]) -> Option<Arg>
+    ensures { Reads arg_text (IsArg Kind.Data) word.now result }
+{
+    let Some(bytes) = read_data(word) else {
+        return None;
+    };
+    Some(Arg::Data(bytes))
+}
+
+fn read_kinds(word: &[u8]) -> Option<Arg>
+    ensures { Reads arg_text (IsArg Kind.Types) word.now result }
+{
+    let Some(set) = read_types(word) else {
+        return None;
+    };
+    Some(Arg::Types(set))
+}
+
+fn read_spoken(alloc: Global, word: &[u8]) -> Result<Option<Arg>, AllocError>
+    ensures { IfOk result (λ found. Reads arg_text (IsArg Kind.Label) word.now found) }
+{
+    let Some(label) = read_label(alloc, word)? else {
+        return Ok(None);
+    };
+    Ok(Some(Arg::Label(label)))
+}
+
+/// The value of a kind that the word spells.
+pub fn read_arg(alloc: Global, kind: Kind, word: &[u8]) -> Result<Option<Arg>, AllocError>
+    ensures { IfOk result (λ found. Reads arg_text (IsArg kind) word.now found) }
+{
+    match kind {
+        Kind::Object => Ok(read_object(word)),
+        Kind::Number => Ok(read_short(word)),
+        Kind::Label => read_spoken(alloc, word),
+        Kind::Data => Ok(read_bytes(word)),
+        Kind::Types => Ok(read_kinds(word)),
+    }
+}

@@ -1,0 +1,97 @@
+use super::*;
+use base::Level;
+use std::alloc::Global;
+use std::test::Fail;
+
+/// What the writers make of the values that the words spell, joined by spaces.
+fn again(alloc: Global) -> Result<Vec<u8>, Fail> {
+    let mut out = Vec::new(alloc);
+    if let Some(number) = read_number(b"1024", 1024) {
+        put_number(&mut out, number)?;
+    }
+    out.push(b' ')?;
+    if let Some(level) = read_level(b"*") {
+        put_level(&mut out, level)?;
+    }
+    out.push(b' ')?;
+    if let Some(bytes) = read_data(b"00ff1a") {
+        put_data(&mut out, &bytes)?;
+    }
+    out.push(b' ')?;
+    if let Some(reference) = read_reference(b"#18446744073709551615") {
+        put_reference(&mut out, &reference)?;
+    }
+    out.push(b' ')?;
+    if let Some(set) = read_types(b"csatgd") {
+        put_types(&mut out, set)?;
+    }
+    out.push(b' ')?;
+    if let Some(label) = read_label(alloc, b"{c:3,#7:*,1}")? {
+        put_label(&mut out, &label)?;
+    }
+    Ok(out)
+}
+
+#[test]
+fn words_are_read_and_written(rt: HostRuntime) -> Result<(), Fail> {
+    let out = again(rt.alloc())?;
+    assert!(rt;
+        is_same(
+            out.as_slice(),
+            b"1024 * 00ff1a #18446744073709551615 csatgd {c:3,#7:*,1}"
+        )
+    );
+    Ok(())
+}
+
+#[test]
+fn other_words_are_none(rt: HostRuntime) -> Result<(), Fail> {
+    for word in ["", "01", "+1", "-1", "1 ", "18446744073709551616"] {
+        assert!(rt;
+            read_number(word.as_bytes(), u64::MAX).is_none(),
+            "number {word}"
+        );
+    }
+    for word in ["", "0", "0F", "0f0", "0g", "--"] {
+        assert!(rt; read_data(word.as_bytes()).is_none(), "data {word}");
+    }
+    for word in ["", "1a", "_a", "Ab", "a-b", "abcdefghijklmnopq"] {
+        assert!(rt; read_name(word.as_bytes()).is_none(), "name {word}");
+    }
+    for word in ["", "sc", "cc", "x", "c-"] {
+        assert!(rt; read_types(word.as_bytes()).is_none(), "kinds {word}");
+    }
+    for word in ["", "#", "#01", "# 1", "7"] {
+        assert!(rt;
+            read_reference(word.as_bytes()).is_none(),
+            "reference {word}"
+        );
+    }
+    for word in [
+        "", "{}", "{4}", "{1", "{c:3 ,1}", "{c:3,}", "{,1}", "{c3,1}", "{#7:5,1}",
+    ] {
+        assert!(rt;
+            read_label(rt.alloc(), word.as_bytes())?.is_none(),
+            "label {word}"
+        );
+    }
+    Ok(())
+}
+
+#[test]
+fn a_name_has_up_to_16_bytes(rt: HostRuntime) -> Result<(), Fail> {
+    let name = read_name(b"abcdefghijklmn_0").expect(&rt, "a name");
+    let mut out = Vec::new(rt.alloc());
+    put_name(&mut out, &name)?;
+    assert!(rt; is_same(out.as_slice(), b"abcdefghijklmn_0"));
+    assert!(rt; is_same(Name::from_slice(b"dev").as_slice(), b"dev"));
+    Ok(())
+}
+
+#[test]
+fn a_label_keeps_its_pairs(rt: HostRuntime) -> Result<(), Fail> {
+    let label = read_label(rt.alloc(), b"{#5:0,#5:3,2}")?.expect(&rt, "a label");
+    assert_eq!(rt; label.pairs().len(), 2);
+    assert!(rt; label.default() == Level::L2);
+    Ok(())
+}
