@@ -1,0 +1,43 @@
+//! Why a script is not played.
+use base::NoMemory;
+use plain_core::BootRefusal;
+use std::alloc::{AllocError, AllocFailed};
+use thiserror::Error;
+
+/// Why a script is not played. Nothing of it is printed then.
+#[derive(Clone, Copy, PartialEq, Eq, Debug, Error)]
+pub enum PlayFault {
+    /// The kernel did not boot.
+    #[error("the kernel did not boot")]
+    Boot(BootRefusal),
+    /// There was no memory.
+    #[error("out of memory")]
+    Memory,
+    /// The line, from 1, parts phases or is another worker's than `boot`.
+    #[error("line {0}: script fault")]
+    Line(u32),
+}
+
+impl From<AllocError> for PlayFault {
+    fn from(_: AllocError) -> PlayFault {
+        PlayFault::Memory
+    }
+}
+
+impl<T: Drop> From<AllocFailed<T>> for PlayFault {
+    fn from(_: AllocFailed<T>) -> PlayFault {
+        PlayFault::Memory
+    }
+}
+
+impl From<NoMemory> for PlayFault {
+    fn from(_: NoMemory) -> PlayFault {
+        PlayFault::Memory
+    }
+}
+
+impl From<BootRefusal> for PlayFault {
+    fn from(refusal: BootRefusal) -> PlayFault {
+        PlayFault::Boot(refusal)
+    }
+}
