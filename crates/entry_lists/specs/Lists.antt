@@ -1,5 +1,6 @@
 -- What a contract sees of lists of cells.
-use Rattle.std.specs.Prelude.{◌≡◌, ℕ, ◌<◌, ◌≤◌, List, [], length, slice_index, slice_index_or, slice_set, replicate, refl}
+use Rattle.std.specs.Prelude.{◌≡◌, ℕ, ◌<◌, ◌≤◌, List, [], length, slice_index, slice_index_or}
+use Rattle.std.specs.Prelude.{slice_set, replicate, refl}
 use Rattle.std.specs.Coded.{Coded, code_by, coded×, coded_ℕ, coded_list}
 
 -- how many cells there are, and for each head its list of cells
@@ -43,11 +44,14 @@ with_cells r family head xs = slice_set r family (with_list (family_at r family)
 -- a list is stored as the pair of its fields
 abbrev pub lists_code : Coded Lists
 lists_code =
-    code_by (ℕ × List (List ℕ)) (coded× coded_ℕ (coded_list (coded_list coded_ℕ))) (λ l. (l.cells, l.lists)) (λ p. record { cells = p.0; lists = p.1 }) (λ _. refl)
+    code_by (ℕ × List (List ℕ)) (coded× coded_ℕ (coded_list (coded_list coded_ℕ)))
+    (λ l. (l.cells, l.lists)) (λ p. record { cells = p.0; lists = p.1 }) (λ _. refl)
 
 -- no cell stands twice, and each is in range
 pub record IsWellFormed (r : Lists) : Type 0 where
   pub in_range : (head place cell : ℕ) → StandsAt (list_at r head) place cell → cell < r.cells
-  pub one_head : (head other j k cell : ℕ) → StandsAt (list_at r head) j cell → StandsAt (list_at r other) k cell → head ≡ other
-  pub one_place : (head j k cell : ℕ) → StandsAt (list_at r head) j cell → StandsAt (list_at r head) k cell → j ≡ k
+  pub one_head : (head other j k cell : ℕ) → StandsAt (list_at r head) j cell
+      → StandsAt (list_at r other) k cell → head ≡ other
+  pub one_place : (head j k cell : ℕ) → StandsAt (list_at r head) j cell
+      → StandsAt (list_at r head) k cell → j ≡ k
   pub short : (head : ℕ) → length (list_at r head) ≤ r.cells

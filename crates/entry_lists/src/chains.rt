@@ -31,7 +31,10 @@ impl Model for Chains {
 
     ghost use Rattle.entry_lists.specs.Chain.{IsSound, lists_from};
 
-    ghost view = { λ a. record { cells = a.cells; lists = lists_from a.next.items a.cells a.lens.items } };
+    ghost view = { λ a. record {
+      cells = a.cells;
+      lists = lists_from a.next.items a.cells a.lens.items;
+    } };
 
     ghost invariant = { λ a. IsSound a.cells a.next.items a.prev.items a.heads.items a.lens.items };
 }
@@ -113,7 +116,8 @@ impl Chains {
     /// The head in whose list a cell stands.
     pub fn head_of(&self, cell: usize, meter: &mut Meter) -> usize
         requires { IsLinked self.now cell }
-        ensures value { (head place : ℕ) → StandsAt (list_at self.now head) place cell → result ≡ head }
+        ensures value { (head place : ℕ) → StandsAt (list_at self.now head) place cell
+            → result ≡ head }
         ensures within { result < length self.now.lists }
         ensures counted { meter.new ≡ probed 1 meter.old }
     {

@@ -11,5 +11,6 @@ pub record ChangesPair (old new : Table) (at other there here : ℕ) : Type 0 wh
   pub width : new.width ≡ old.width
   pub forth : cell new at other ≡ there
   pub back : cell new other at ≡ here
-  pub others : (i j : ℕ) → j < old.width → (((i ≡ at) × (j ≡ other)) → ⊥) → (((i ≡ other) × (j ≡ at)) → ⊥)
+  pub others : (i j : ℕ) → j < old.width → (((i ≡ at) × (j ≡ other)) → ⊥)
+      → (((i ≡ other) × (j ≡ at)) → ⊥)
       → cell new i j ≡ cell old i j

@@ -1,6 +1,7 @@
 //! What walks the places of a pool, by index from 0.
 ghost use Rattle.std.specs.Prelude.{◌≡◌, ◌<◌, ◌+◌, ◌*◌, ◌^◌, None, IfSome, IfNone, length};
-ghost use Rattle.label_intern.specs.Held.{held_at, stored, fewer, raised, owners_in, HasLabel, LacksLabel};
+ghost use Rattle.label_intern.specs.Held.{held_at, stored, fewer, raised, owners_in, HasLabel};
+ghost use Rattle.label_intern.specs.Held.{LacksLabel};
 ghost use Rattle.label_intern.specs.Fill.{IsFilled};
 ghost use Rattle.base.specs.Counts.{ScansAtMost};
 

@@ -94,7 +94,8 @@ impl Labels {
         requires { owned self.old < length self.old }
         ensures within { result.0 < length self.old }
         ensures label { IfSome (held_at self.old result.0) (λ held. held.label ≡ label.now) }
-        ensures after { self.new ≡ slice_set self.old result.0 (raised (held_at self.old result.0) label.now) }
+        ensures after { self.new
+            ≡ slice_set self.old result.0 (raised (held_at self.old result.0) label.now) }
         ensures owners { owned self.new ≡ owned self.old + 1 }
         ensures growth { stored self.new ≤ stored self.old + 1 }
         ensures interned { IsInterned self.new }

@@ -57,7 +57,11 @@ no_objects size = record { ids = []; slots = []; cells = replicate size None }
 -- the objects but for the one at this place of the directory, in this slot
 abbrev pub without : {T : Type 0} → Objects T → ℕ → ℕ → Objects T
 without a place slot =
-    record { ids = remove a.ids place; slots = remove a.slots place; cells = slice_set a.cells slot None }
+    record {
+      ids = remove a.ids place;
+      slots = remove a.slots place;
+      cells = slice_set a.cells slot None;
+    }
 
 -- how many binary digits a number has
 abbrev pub binary_digits : ℕ → ℕ

@@ -9,8 +9,10 @@ pub record IsKept {T : Type 0} (ids slots spare : List ℕ) (cells : List (Optio
   pub total : length slots + length spare ≡ length cells
   pub rising : Rises ids
   pub used : (k : ℕ) → k < length slots
-      → (slice_index slots k < length cells) × IsSome (slice_index_or cells (slice_index slots k) None)
+      → (slice_index slots k < length cells)
+      × IsSome (slice_index_or cells (slice_index slots k) None)
   pub unused : (k : ℕ) → k < length spare
-      → (slice_index spare k < length cells) × (slice_index_or cells (slice_index spare k) None ≡ None)
+      → (slice_index spare k < length cells)
+      × (slice_index_or cells (slice_index spare k) None ≡ None)
   pub slots_apart : Apart slots
   pub spare_apart : Apart spare

@@ -1,5 +1,6 @@
 //! The arena: a sorted directory from id to slot, and the slots.
-ghost use Rattle.std.specs.Prelude.{◌≡◌, ◌≢◌, ℕ, ◌+◌, ◌<◌, ◌≤◌, [], ◌∷◌, ◌++◌, length, All, Some, None};
+ghost use Rattle.std.specs.Prelude.{◌≡◌, ◌≢◌, ℕ, ◌+◌, ◌<◌, ◌≤◌, [], ◌∷◌, ◌++◌, length, All, Some};
+ghost use Rattle.std.specs.Prelude.{None};
 ghost use Rattle.std.specs.Prelude.{IfOk, IfSome, IfNone, IsSome, slice_index, slice_set, remove};
 ghost use Rattle.base.specs.Counts.{probed, ProbesAtMost};
 ghost use Rattle.object_arena.specs.Objects.{object_at, binary_digits};
@@ -31,10 +32,15 @@ impl<T> Model for Arena<T> {
     ghost use Rattle.std.specs.Prelude.{◌≤◌, length, vec_capacity};
     ghost use Rattle.object_arena.specs.Slots.{IsKept};
 
-    ghost view = { λ a. record { ids = a.ids.items; slots = a.slots.items; cells = a.cells.items } };
+    ghost view = { λ a. record {
+      ids = a.ids.items;
+      slots = a.slots.items;
+      cells = a.cells.items;
+    } };
 
     ghost invariant = { λ a. IsKept a.ids.items a.slots.items a.spare.items a.cells.items
-        × (length a.cells.items ≤ vec_capacity a.ids) × (length a.cells.items ≤ vec_capacity a.slots)
+        × (length a.cells.items ≤ vec_capacity a.ids)
+        × (length a.cells.items ≤ vec_capacity a.slots)
         × (length a.cells.items ≤ vec_capacity a.spare) };
 }
 
@@ -99,7 +105,8 @@ impl<T: Drop> Arena<T> {
         ensures found { IfSome result (λ slot. (place : ℕ) × IsEntry self.now place id slot.0) }
         ensures there { IfSome result (λ slot. IsSome (object_at self.now slot.0)) }
         ensures absent { IfNone result (IsAbsent self.now id) }
-        ensures cost { ProbesAtMost (binary_digits (length self.now.cells) + 1) meter.old meter.new }
+        ensures cost { ProbesAtMost (binary_digits
+            (length self.now.cells) + 1) meter.old meter.new }
     {
         match place_of(&self.ids, id.number(), meter) {
             Some(place) => {
@@ -159,7 +166,8 @@ impl<T: Drop> Arena<T> {
             → object_at self.old slot ≡ Some result }
         ensures removed { (place slot : ℕ) → IsEntry self.old place id slot
             → self.new ≡ without self.old place slot }
-        ensures cost { ProbesAtMost (binary_digits (length self.old.cells) + 1) meter.old meter.new }
+        ensures cost { ProbesAtMost (binary_digits
+            (length self.old.cells) + 1) meter.old meter.new }
     {
         match place_of(&self.ids, id.number(), meter) {
             Some(place) => {

@@ -1,5 +1,6 @@
 //! The search for an id by halves.
-ghost use Rattle.std.specs.Prelude.{◌≡◌, ◌≢◌, ℕ, ◌+◌, ◌*◌, ◌<◌, length, IfSome, IfNone, slice_index};
+ghost use Rattle.std.specs.Prelude.{◌≡◌, ◌≢◌, ℕ, ◌+◌, ◌*◌, ◌<◌, length, IfSome, IfNone};
+ghost use Rattle.std.specs.Prelude.{slice_index};
 ghost use Rattle.object_arena.specs.Objects.{Rises};
 ghost use Rattle.object_arena.specs.Search.{IsSearched};
 
@@ -8,7 +9,8 @@ use base::Meter;
 /// The place of an id in a rising list. Each read is counted.
 pub fn place_of(ids: &[u64], id: u64, meter: &mut Meter) -> Option<usize>
     requires { Rises ids.now }
-    ensures found { IfSome result (λ place. (place < length ids.now) × (slice_index ids.now place ≡ id)) }
+    ensures found { IfSome result (λ place. (place < length ids.now)
+        × (slice_index ids.now place ≡ id)) }
     ensures absent { IfNone result ((k : ℕ) → k < length ids.now → slice_index ids.now k ≢ id) }
     ensures cost { IsSearched meter.old meter.new (2 * length ids.now + 1) }
     ensures cost_found { IfSome result (λ _. IsSearched meter.old meter.new (2 * length ids.now)) }
