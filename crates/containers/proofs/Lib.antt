@@ -17,3 +17,4 @@ pub mod Creates
 pub mod Lives
 pub mod Spares
 pub mod Asked
+pub mod WellFormeds

@@ -1,5 +1,6 @@
 pub mod Live
 pub mod Tree
+pub mod WellFormed
 pub mod Visits
 pub mod Lends
 pub mod Cells

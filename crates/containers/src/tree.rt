@@ -54,6 +54,7 @@ impl<T: Drop> Containers<T> {
     ghost use Rattle.containers.specs.Tree.{ids_in, list_of};
     ghost use Rattle.containers.specs.Tree.{record_at, HasSlot, IsRoot};
     ghost use Rattle.containers.specs.Lends.{lends_record};
+    ghost use Rattle.containers.specs.WellFormed.{IsWellFormed};
     ghost use Rattle.containers.specs.Visits.{IsHanded, IsTold};
 
     /// The root alone, under the id 1 and with this record, in a pool of so many slots and as many links. Only this takes
@@ -78,7 +79,8 @@ impl<T: Drop> Containers<T> {
 
     /// How many objects there are.
     pub fn len(&self) -> usize
-        ensures { result ≡ length (ids_in self.now.lists) }
+        ensures count { result ≡ length (ids_in self.now.lists) }
+        ensures well_formed { IsWellFormed self.now }
     {
         self.arena.len()
     }
