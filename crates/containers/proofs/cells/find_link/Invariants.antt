@@ -1,0 +1,12 @@
+use Rattle.std.proofs.Common.{◌≡◌, ◌<◌, ℕ}
+use Rattle.std.specs.Prelude.{slice_get}
+use Rattle.entry_lists.specs.Lists.{cells_at, StandsAt}
+use Rattle.containers.specs.Cells.{Stands}
+use Rattle.containers.proofs.cells.find_link.Given as goal
+
+abbrev pub invariant-loop-place : goal.invariant-loop-place
+invariant-loop-place l = record {
+  next : l.next ≡ slice_get (cells_at l.rings 0 l.container) l.place;
+  before : (k c : ℕ) → k < l.place → StandsAt (cells_at l.rings 0 l.container) k c → Stands l.rings 1 l.object c → ⊥;
+  scans : l.meter.scans ≡ l.initial.meter.scans;
+}

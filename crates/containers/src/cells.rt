@@ -1,0 +1,225 @@
+//! The cells of links, by slots.
+ghost use Rattle.std.specs.Prelude.{◌≡◌, ◌≢◌, ℕ, ◌+◌, ◌*◌, ◌<◌, ◌^◌, [], ◌∷◌, ◌++◌, length, IfOk};
+ghost use Rattle.std.specs.Prelude.{IfSome, IfNone};
+ghost use Rattle.entry_lists.specs.Lists.{family_at};
+ghost use Rattle.containers.specs.Cells.{Stands, IsShifted, IsFreed, IsDropped, IsPaired};
+ghost use Rattle.containers.specs.Cells.{IsLink, Lists', IsSound, IsDying, IsAdded, IsRecorded};
+ghost use Rattle.containers.specs.Sweep.{IsSweeping, IsSwept, IsTree, IsSimple, IsCut};
+ghost use Rattle.containers.specs.Directory.{IsDirectory};
+ghost use Rattle.containers.specs.View.{spare_below};
+ghost use Rattle.containers.specs.Visits.{IsTold, place_of, named, named_one};
+ghost use Rattle.object_arena.specs.Objects.{object_at};
+
+use crate::visitor::{Place, Visitor};
+use base::{Meter, NoMemory, ObjectId, Slot};
+use entry_lists::Rings;
+use object_arena::Arena;
+use std::alloc::Global;
+
+/// Rings in which each cell is spare.
+pub fn spare_rings(alloc: Global, size: usize) -> Result<Rings<2>, NoMemory>
+    requires { 2 * size + 2 < 2 ^ 64 }
+    ensures { IfOk result (λ rings. rings ≡ spare_below size size) }
+{
+    let mut meter = Meter::new(alloc)?;
+    let mut rings = Rings::new(alloc, &[size + 2, size + 2], size)?;
+    for cell in 0..size {
+        rings.push_back(0, size, cell, &mut meter);
+        rings.push_back(1, size, cell, &mut meter);
+    }
+    Ok(rings)
+}
+
+// Takes a cell from its list of a family to the end of another.
+fn shift(rings: &mut Rings<2>, family: usize, to: usize, cell: usize, meter: &mut Meter)
+    requires family { family < 2 }
+    requires to { to < length (family_at rings.old family).lists }
+    requires from { (head : ℕ) × (head ≢ to) × Stands rings.old family head cell }
+    ensures shifted { IsShifted rings.old rings.new family to cell }
+    ensures scans { meter.new.scans ≡ meter.old.scans }
+{
+    rings.unlink(family, cell, meter);
+    rings.push_back(family, to, cell, meter);
+}
+
+// Makes a cell spare.
+fn free(rings: &mut Rings<2>, size: usize, cell: usize, meter: &mut Meter)
+    requires paired { IsPaired size rings.old }
+    requires holder { (head : ℕ) × (head ≢ size) × Stands rings.old 0 head cell }
+    ensures freed { IsFreed size rings.old rings.new cell }
+    ensures scans { meter.new.scans ≡ meter.old.scans }
+{
+    shift(rings, 0, size, cell, meter);
+    shift(rings, 1, size, cell, meter);
+}
+
+// Takes a link out of its container. The last link to a slot is kept among the dying.
+fn drop_link(rings: &mut Rings<2>, size: usize, object: usize, cell: usize, meter: &mut Meter)
+    requires fits { size + 2 < 2 ^ 64 }
+    requires paired { IsPaired size rings.old }
+    requires object { object < size }
+    requires holder { (head : ℕ) × (head < size) × Stands rings.old 0 head cell }
+    requires names { Stands rings.old 1 object cell }
+    ensures dropped { IsDropped size rings.old rings.new object cell }
+    ensures scans { meter.new.scans ≡ meter.old.scans }
+{
+    if rings.len(1, object, meter) == 1 {
+        shift(rings, 0, size + 1, cell, meter);
+    } else {
+        free(rings, size, cell, meter);
+    }
+}
+
+// The place of a slot under its name.
+fn place(names: &[u64], slot: usize) -> Place
+    requires { slot < length names.now }
+    ensures { result ≡ place_of names.now slot }
+{
+    Place {
+        id: ObjectId::new(names[slot]),
+        slot: Slot(slot),
+    }
+}
+
+// Takes out what the dying slots list, and then these slots, until none is dying.
+fn sweep<T: Drop, V: Visitor>(
+    rings: &mut Rings<2>,
+    arena: &mut Arena<T>,
+    size: usize,
+    root: usize,
+    names: &[u64],
+    visitor: &mut V,
+    meter: &mut Meter,
+)
+    ghost rank: { ℕ → ℕ }
+    requires fits { size + 2 < 2 ^ 64 }
+    requires names { length names.now ≡ size }
+    requires sweeping { IsSweeping size root rings.old rings.old [] [] }
+    requires tree { IsTree size rings.old rank }
+    requires simple { IsSimple size rings.old }
+    requires directory { IsDirectory size root rings.old names.now arena.old.ids arena.old.slots }
+    ensures swept { (links : _) × (objects : _)
+        × IsSwept size root rings.old rings.new links objects
+        × IsTold V.link_gives V.object_gives visitor.old visitor.new
+        (named names.now links) (named_one names.now objects) }
+    ensures directory { IsDirectory size root rings.new names.now arena.new.ids arena.new.slots }
+    ensures kept { (slot : ℕ) → IsRecorded size root rings.new slot
+        → object_at arena.new slot ≡ object_at arena.old slot }
+    ensures pool { length arena.new.cells ≡ length arena.old.cells }
+    ensures scans { meter.new.scans ≡ meter.old.scans }
+{
+    let _root = root;
+    while let Some(last) = rings.first(0, size + 1, meter) {
+        let object = rings.head_of(1, last, meter);
+        match rings.first(0, object, meter) {
+            Some(cell) => {
+                let entry = rings.head_of(1, cell, meter);
+                drop_link(rings, size, entry, cell, meter);
+                visitor.link(place(names, object), place(names, entry));
+            }
+            None => {
+                free(rings, size, last, meter);
+                let dead = place(names, object);
+                let _record = arena.remove(dead.id, meter);
+                visitor.object(dead);
+            }
+        }
+    }
+}
+
+/// The cell by which a container lists an object, if it does.
+pub fn find_link(
+    rings: &Rings<2>,
+    size: usize,
+    container: usize,
+    object: usize,
+    meter: &mut Meter,
+) -> Option<usize>
+    requires paired { IsPaired size rings.now }
+    requires container { container < size }
+    requires object { object < size }
+    ensures found { IfSome result (λ c. IsLink size rings.now container object c) }
+    ensures absent { IfNone result (Lists' size rings.now container object → ⊥) }
+    ensures scans { meter.new.scans ≡ meter.old.scans }
+{
+    let len = rings.len(0, container, meter);
+    let mut next = rings.first(0, container, meter);
+    for place in 0..len {
+        let _place = place;
+        match next {
+            Some(cell) => {
+                if rings.head_of(1, cell, meter) == object {
+                    return Some(cell);
+                }
+                next = rings.next(0, cell, meter);
+            }
+            None => unreachable!(),
+        }
+    }
+    None
+}
+
+/// Makes a spare cell a link, the last of the container's entries.
+pub fn add_link(
+    rings: &mut Rings<2>,
+    size: usize,
+    container: usize,
+    object: usize,
+    meter: &mut Meter,
+)
+    requires paired { IsPaired size rings.old }
+    requires container { container < size }
+    requires object { object < size }
+    requires spare { (cell : ℕ) × Stands rings.old 0 size cell }
+    ensures added { IsAdded size rings.old rings.new container object }
+    ensures scans { meter.new.scans ≡ meter.old.scans }
+{
+    match rings.first(0, size, meter) {
+        Some(cell) => {
+            shift(rings, 0, container, cell, meter);
+            shift(rings, 1, object, cell, meter);
+        }
+        None => unreachable!(),
+    }
+}
+
+/// Takes a link out of its container, and then all that no path leads to any more.
+pub fn cut_link<T: Drop, V: Visitor>(
+    rings: &mut Rings<2>,
+    arena: &mut Arena<T>,
+    size: usize,
+    root: usize,
+    names: &[u64],
+    container: usize,
+    object: usize,
+    visitor: &mut V,
+    meter: &mut Meter,
+)
+    ghost rank: { ℕ → ℕ }
+    requires fits { size + 2 < 2 ^ 64 }
+    requires names { length names.now ≡ size }
+    requires sound { IsSound size root rings.old }
+    requires calm { (o : ℕ) → IsDying size rings.old o → ⊥ }
+    requires tree { IsTree size rings.old rank }
+    requires simple { IsSimple size rings.old }
+    requires directory { IsDirectory size root rings.old names.now arena.old.ids arena.old.slots }
+    requires listed { Lists' size rings.old container object }
+    ensures cut { (links : _) × (objects : _)
+        × IsCut size root rings.old rings.new container object links objects
+        × IsTold V.link_gives V.object_gives visitor.old visitor.new
+        (named names.now ((container, object) ∷ links)) (named_one names.now objects) }
+    ensures directory { IsDirectory size root rings.new names.now arena.new.ids arena.new.slots }
+    ensures kept { (slot : ℕ) → IsRecorded size root rings.new slot
+        → object_at arena.new slot ≡ object_at arena.old slot }
+    ensures pool { length arena.new.cells ≡ length arena.old.cells }
+    ensures scans { meter.new.scans ≡ meter.old.scans }
+{
+    match find_link(rings, size, container, object, meter) {
+        Some(cell) => {
+            drop_link(rings, size, object, cell, meter);
+            visitor.link(place(names, container), place(names, object));
+            sweep(rings, arena, size, root, names, visitor, meter);
+        }
+        None => unreachable!(),
+    }
+}

@@ -1,0 +1,289 @@
+//! Containers and what they list, by ids.
+ghost use Rattle.std.specs.Prelude.{◌≡◌, ◌≢◌, ℕ, ◌+◌, ◌-◌, ◌*◌, ◌^◌, ◌<◌, ◌≤◌, ◌++◌, ◌∷◌, []};
+ghost use Rattle.std.specs.Prelude.{length, min};
+ghost use Rattle.std.specs.Prelude.{true, false, Some, None, slice_index, slice_set, All};
+ghost use Rattle.std.specs.Prelude.{IfOk, IfSome, IfNone, IsSome};
+ghost use Rattle.std.specs.Borrow.{sem};
+ghost use Rattle.base.specs.Counts.{probed, ProbesAtMost};
+ghost use Rattle.object_arena.specs.Objects.{binary_digits};
+ghost use Rattle.containers.specs.Live.{has, links};
+
+use crate::cells::{add_link, cut_link, find_link, spare_rings};
+use crate::visitor::Visitor;
+use crate::windows::fill_window;
+use base::{Meter, NoMemory, ObjectId, Slot};
+use entry_lists::Rings;
+use object_arena::Arena;
+use std::alloc::Global;
+use std::marker::Model;
+
+/// Objects under rising ids, each with a slot, a record, and the list of what it links. A contract sees the lists by
+/// id, the slot of each id, and for each slot its record.
+#[derive(Drop)]
+pub struct Containers<T> {
+    size: usize,
+    root: usize,
+    // Of each slot that has an object, the object's id.
+    names: Vec<u64>,
+    rings: Rings<2>,
+    arena: Arena<T>,
+}
+
+impl<T> Model for Containers<T> {
+    ghost use Rattle.containers.specs.Tree.{Tree, tree_code};
+
+    ghost Value = { Tree T };
+
+    ghost coded = { tree_code T.code };
+
+    ghost use Rattle.std.specs.Prelude.{◌≡◌, length};
+    ghost use Rattle.containers.specs.View.{lists_of, IsKept};
+
+    ghost view = { λ a. record {
+      lists = lists_of a.rings a.names.items a.arena.ids a.arena.slots;
+      slots = a.arena.slots;
+      cells = a.arena.cells;
+    } };
+
+    ghost invariant = { λ a. IsKept a.size a.root a.rings a.names.items a.arena.ids a.arena.slots
+        × (length a.arena.cells ≡ a.size) };
+}
+
+impl<T: Drop> Containers<T> {
+    ghost use Rattle.containers.specs.Tree.{Tree, add_lists, cut_lists, live_part, link_count};
+    ghost use Rattle.containers.specs.Tree.{ids_in, list_of};
+    ghost use Rattle.containers.specs.Tree.{record_at, HasSlot, IsRoot};
+    ghost use Rattle.containers.specs.Lends.{lends_record};
+    ghost use Rattle.containers.specs.WellFormed.{IsWellFormed};
+    ghost use Rattle.containers.specs.Visits.{IsHanded, IsTold};
+
+    /// The root alone, under the id 1 and with this record, in a pool of so many slots and as many links. Only this takes
+    /// memory; the error is want of it.
+    pub fn boot(alloc: Global, pool: usize, root: T) -> Result<Self, NoMemory>
+        requires some { 0 < pool }
+        requires fits { 2 * pool + 2 < 2 ^ 64 }
+        ensures { IfOk result (IsRoot pool root) }
+    {
+        let rings = spare_rings(alloc, pool)?;
+        let names = vec![in alloc; 1; pool]?;
+        let mut arena = Arena::boot(alloc, pool)?;
+        let slot = arena.insert(ObjectId::root(), root);
+        Ok(Containers {
+            size: pool,
+            root: slot.0,
+            names,
+            rings,
+            arena,
+        })
+    }
+
+    /// How many objects there are.
+    pub fn len(&self) -> usize
+        ensures count { result ≡ length (ids_in self.now.lists) }
+        ensures well_formed { IsWellFormed self.now }
+    {
+        self.arena.len()
+    }
+
+    /// The id at a place among the live ids, from 0 to `len` - 1, in which ids rise. One probe.
+    pub fn live(&self, place: usize, meter: &mut Meter) -> ObjectId
+        requires { place < length (ids_in self.now.lists) }
+        ensures value { result ≡ slice_index (ids_in self.now.lists) place }
+        ensures counted { meter.new ≡ probed 1 meter.old }
+    {
+        self.arena.id_at(place, meter)
+    }
+
+    /// The slot of an id, none where no object has it. Adds at most as many probes as the pool has binary digits, plus one.
+    pub fn find(&self, id: ObjectId, meter: &mut Meter) -> Option<Slot>
+        ensures found { IfSome result (λ slot. HasSlot self.now id slot.0) }
+        ensures there { IfSome result (λ slot. IsSome (record_at self.now slot.0)) }
+        ensures absent { IfNone result (has (ids_in self.now.lists) id ≡ false) }
+        ensures cost { ProbesAtMost (binary_digits
+            (length self.now.cells) + 1) meter.old meter.new }
+    {
+        self.arena.find(id, meter)
+    }
+
+    /// The record in a slot that has one.
+    pub fn get(&self, slot: Slot) -> &T
+        requires { IsSome (record_at self.now slot.0) }
+        ensures { record_at self.now slot.0 ≡ Some result.now }
+    {
+        self.arena.get(slot)
+    }
+
+    /// The record in a slot that has one, for writing. All else stays.
+    pub fn get_mut(&mut self, slot: Slot) -> &mut T
+        requires { IsSome (record_at self.old slot.0) }
+        ensures* writes_back { sem 𝓛 (lends_record T.row self.entry slot.0 result) }
+        ensures value { record_at self.old slot.0 ≡ Some result.now }
+    {
+        self.arena.get_mut(slot)
+    }
+
+    /// The container that lists an object first of all that list it, none for the root, which none lists.
+    pub fn parent(&self, object: ObjectId, meter: &mut Meter) -> Option<ObjectId>
+        requires { has (ids_in self.now.lists) object ≡ true }
+        ensures listed { IfSome result (λ container. links self.now.lists container object ≡ true) }
+        ensures none { IfNone result ((a : ℕ) → links self.now.lists a object ≡ false) }
+        ensures scans { meter.new.scans ≡ meter.old.scans }
+    {
+        match self.arena.find(object, meter) {
+            Some(o) => match self.rings.first(1, o.0, meter) {
+                Some(cell) => {
+                    let container = self.rings.head_of(0, cell, meter);
+                    Some(ObjectId::new(self.names[container]))
+                }
+                None => None,
+            },
+            None => unreachable!(),
+        }
+    }
+
+    /// How many entries a container has.
+    pub fn entry_count(&self, container: ObjectId, meter: &mut Meter) -> usize
+        requires { has (ids_in self.now.lists) container ≡ true }
+        ensures count { result ≡ length (list_of self.now.lists container) }
+        ensures scans { meter.new.scans ≡ meter.old.scans }
+    {
+        match self.arena.find(container, meter) {
+            Some(d) => self.rings.len(0, d.0, meter),
+            None => unreachable!(),
+        }
+    }
+
+    /// Writes the entries of a container from a place on, where 0 is the first, into a window, as far as both go, and tells
+    /// how many that are. The rest of the window stays.
+    pub fn entries(
+        &self,
+        container: ObjectId,
+        from: usize,
+        window: &mut [ObjectId],
+        meter: &mut Meter,
+    ) -> usize
+        requires { has (ids_in self.now.lists) container ≡ true }
+        ensures count { result ≡ min (length window.old)
+            (length (list_of self.now.lists container) - from) }
+        ensures listed { (k : ℕ) → k < result
+            → slice_index window.new k ≡ slice_index (list_of self.now.lists container) (from + k) }
+        ensures rest { (k : ℕ) → result ≤ k → slice_index window.new k ≡ slice_index window.old k }
+        ensures scans { meter.new.scans ≡ meter.old.scans }
+    {
+        match self.arena.find(container, meter) {
+            Some(d) => fill_window(
+                &self.rings,
+                self.size,
+                &self.names,
+                d.0,
+                from,
+                window,
+                meter,
+            ),
+            None => unreachable!(),
+        }
+    }
+
+    /// Whether a container lists an object.
+    pub fn is_listed(&self, container: ObjectId, object: ObjectId, meter: &mut Meter) -> bool
+        ensures value { result ≡ links self.now.lists container object }
+        ensures scans { meter.new.scans ≡ meter.old.scans }
+    {
+        match self.arena.find(container, meter) {
+            Some(d) => match self.arena.find(object, meter) {
+                Some(o) => find_link(&self.rings, self.size, d.0, o.0, meter).is_some(),
+                None => false,
+            },
+            None => false,
+        }
+    }
+
+    /// Adds an object with its first link, which stands at the end of a container's list, under an id above all others,
+    /// and tells its slot. It lists nothing. All else stays.
+    pub fn create(&mut self, container: ObjectId, id: ObjectId, value: T, meter: &mut Meter) -> Slot
+        requires container { has (ids_in self.old.lists) container ≡ true }
+        requires rises { All (λ i. i < id) (ids_in self.old.lists) }
+        requires slots { length (ids_in self.old.lists) < length self.old.cells }
+        requires room { link_count self.old.lists < length self.old.cells }
+        ensures lists { self.new.lists ≡ add_lists self.old.lists container id ++ (id, []) ∷ [] }
+        ensures slots { self.new.slots ≡ self.old.slots ++ result.0 ∷ [] }
+        ensures within { result.0 < length self.old.cells }
+        ensures vacant { record_at self.old result.0 ≡ None }
+        ensures cells { self.new.cells ≡ slice_set self.old.cells result.0 (Some value) }
+        ensures scans { meter.new.scans ≡ meter.old.scans }
+    {
+        match self.arena.find(container, meter) {
+            Some(d) => {
+                let slot = self.arena.insert(id, value);
+                self.names[slot.0] = id.number();
+                add_link(&mut self.rings, self.size, d.0, slot.0, meter);
+                slot
+            }
+            None => unreachable!(),
+        }
+    }
+
+    /// Adds a link at the end of a container's list. That it is a container, and an older one where the object is a
+    /// container too, is the caller's to know. All else stays.
+    pub fn link(&mut self, container: ObjectId, object: ObjectId, meter: &mut Meter)
+        requires container { has (ids_in self.old.lists) container ≡ true }
+        requires object { has (ids_in self.old.lists) object ≡ true }
+        requires not_root { object ≢ 1 }
+        requires fresh { links self.old.lists container object ≡ false }
+        requires room { link_count self.old.lists < length self.old.cells }
+        ensures linked { self.new
+            ≡ record self.old { lists = add_lists self.old.lists container object } }
+        ensures scans { meter.new.scans ≡ meter.old.scans }
+    {
+        match self.arena.find(container, meter) {
+            Some(d) => match self.arena.find(object, meter) {
+                Some(o) => add_link(&mut self.rings, self.size, d.0, o.0, meter),
+                None => unreachable!(),
+            },
+            None => unreachable!(),
+        }
+    }
+
+    /// Takes a link out of a container's list, and then all objects to which no path of entries leads any more from the
+    /// root, with their lists. The visitor is handed each link and each object that went, once. What is left keeps its
+    /// slot, its record and the order of its entries.
+    pub fn unref<V: Visitor>(
+        &mut self,
+        container: ObjectId,
+        object: ObjectId,
+        visitor: &mut V,
+        meter: &mut Meter,
+    )
+        requires listed { links self.old.lists container object ≡ true }
+        requires tree { (a b c : ℕ) → links self.old.lists a b ≡ true
+            → links self.old.lists b c ≡ true
+            → a < b }
+        ensures lists { self.new.lists ≡ live_part (cut_lists self.old.lists container object) }
+        ensures kept { (id slot : ℕ) → HasSlot self.new id slot
+            → HasSlot self.old id slot × (record_at self.new slot ≡ record_at self.old slot) }
+        ensures pool { length self.new.cells ≡ length self.old.cells }
+        ensures handed { (went : _) × (dead : _) × IsHanded self.old self.new went dead
+            × IsTold V.link_gives V.object_gives visitor.old visitor.new went dead }
+        ensures scans { meter.new.scans ≡ meter.old.scans }
+    {
+        match self.arena.find(container, meter) {
+            Some(d) => match self.arena.find(object, meter) {
+                Some(o) => {
+                    cut_link(
+                        &mut self.rings,
+                        &mut self.arena,
+                        self.size,
+                        self.root,
+                        &self.names,
+                        d.0,
+                        o.0,
+                        visitor,
+                        meter,
+                    );
+                }
+                None => unreachable!(),
+            },
+            None => unreachable!(),
+        }
+    }
+}

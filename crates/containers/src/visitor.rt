@@ -1,0 +1,27 @@
+//! Who is told of what goes.
+ghost use Rattle.containers.specs.declared.visitor.Place.{Place};
+
+use base::{ObjectId, Slot};
+
+/// Where an object lies: its id and its slot.
+#[derive(Clone, Copy, PartialEq, Eq, Debug)]
+pub struct Place {
+    pub id: ObjectId,
+    pub slot: Slot,
+}
+
+/// Is handed each link and each object that goes. What it makes of them is its own to say: `link_gives` and
+/// `object_gives` relate the visitor before a call, what it is handed, and the visitor after.
+pub trait Visitor {
+    ghost link_gives: { Self → Place → Place → Self → Type 0 };
+
+    ghost object_gives: { Self → Place → Self → Type 0 };
+
+    /// A link went: this container listed this object.
+    fn link(&mut self, container: Place, object: Place)
+        ensures { link_gives self.old container object self.new };
+
+    /// An object went, and listed nothing any more.
+    fn object(&mut self, object: Place)
+        ensures { object_gives self.old object self.new };
+}

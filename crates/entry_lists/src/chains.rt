@@ -1,0 +1,166 @@
+//! One family of lists: each cell stands in at most one of them.
+ghost use Rattle.std.specs.Prelude.{◌≡◌, ℕ, ◌+◌, ◌-◌, ◌^◌, ◌<◌, ◌≤◌, [], ◌∷◌, ◌++◌, length};
+ghost use Rattle.std.specs.Prelude.{IfOk, slice_index, slice_get, remove, replicate, vec_len};
+ghost use Rattle.std.specs.Prelude.{option_copied, Some, None};
+ghost use Rattle.std.specs.List.{range_with_len};
+ghost use Rattle.base.specs.Counts.{probed};
+
+use base::{Meter, NoMemory};
+use std::alloc::Global;
+use std::marker::Model;
+
+/// The lists of one family, in rings: the sentinel of a head leads to the first cell of its list, and the last cell
+/// back to it.
+#[derive(Drop)]
+pub struct Chains {
+    cells: usize,
+    next: Vec<usize>,
+    prev: Vec<usize>,
+    // Of a cell in a list, that list's head.
+    heads: Vec<usize>,
+    // Of each head, the length of its list.
+    lens: Vec<usize>,
+}
+
+impl Model for Chains {
+    ghost use Rattle.entry_lists.specs.Lists.{Lists, lists_code};
+
+    ghost Value = { Lists };
+
+    ghost coded = { lists_code };
+
+    ghost use Rattle.entry_lists.specs.Chain.{IsSound, lists_from};
+
+    ghost view = { λ a. record {
+      cells = a.cells;
+      lists = lists_from a.next.items a.cells a.lens.items;
+    } };
+
+    ghost invariant = { λ a. IsSound a.cells a.next.items a.prev.items a.heads.items a.lens.items };
+}
+
+// Reads one cell, and counts it.
+fn read(cells: &[usize], at: usize, meter: &mut Meter) -> usize
+    requires { at < length cells.now }
+    ensures value { result ≡ slice_index cells.now at }
+    ensures counted { meter.new ≡ probed 1 meter.old }
+{
+    meter.probe();
+    cells[at]
+}
+
+// Each number below `len`, in order: in nodes, each leads to itself.
+fn each_below(alloc: Global, len: usize) -> Result<Vec<usize>, NoMemory>
+    ensures { IfOk result (λ v. v.items ≡ range_with_len 0 len) }
+{
+    let mut v = Vec::with_capacity(alloc, len)?;
+    for i in 0..len {
+        v.push(i)?;
+    }
+    Ok(v)
+}
+
+impl Chains {
+    ghost use Rattle.entry_lists.specs.Lists.{empty_lists, list_at, with_list};
+    ghost use Rattle.entry_lists.specs.Lists.{StandsAt, IsLinked, IsWellFormed};
+
+    /// Lists with no cell yet, one for each head. Only this takes memory.
+    pub fn new(alloc: Global, heads: usize, cells: usize) -> Result<Self, NoMemory>
+        requires { cells + heads < 2 ^ 64 }
+        ensures { IfOk result (λ r. r ≡ empty_lists cells heads) }
+    {
+        let next = each_below(alloc, cells + heads)?;
+        let prev = each_below(alloc, cells + heads)?;
+        let owners = vec![in alloc; 0; cells]?;
+        let lens = vec![in alloc; 0; heads]?;
+        Ok(Chains {
+            cells,
+            next,
+            prev,
+            heads: owners,
+            lens,
+        })
+    }
+
+    /// The first cell of a head's list, none where the list is empty.
+    pub fn first(&self, head: usize, meter: &mut Meter) -> Option<usize>
+        requires { head < length self.now.lists }
+        ensures value { result ≡ slice_get (list_at self.now head) 0 }
+        ensures counted { meter.new ≡ probed 1 meter.old }
+    {
+        let node = read(&self.next, self.cells + head, meter);
+        if node < self.cells { Some(node) } else { None }
+    }
+
+    /// The cell after a cell that stands in a list, none where it is the last.
+    pub fn next(&self, cell: usize, meter: &mut Meter) -> Option<usize>
+        requires { IsLinked self.now cell }
+        ensures value { (head place : ℕ) → StandsAt (list_at self.now head) place cell
+            → result ≡ slice_get (list_at self.now head) (place + 1) }
+        ensures counted { meter.new ≡ probed 1 meter.old }
+    {
+        let node = read(&self.next, cell, meter);
+        if node < self.cells { Some(node) } else { None }
+    }
+
+    /// The length of a head's list.
+    pub fn len(&self, head: usize, meter: &mut Meter) -> usize
+        requires { head < length self.now.lists }
+        ensures value { result ≡ length (list_at self.now head) }
+        ensures counted { meter.new ≡ probed 1 meter.old }
+        ensures well_formed { IsWellFormed self.now }
+    {
+        read(&self.lens, head, meter)
+    }
+
+    /// The head in whose list a cell stands.
+    pub fn head_of(&self, cell: usize, meter: &mut Meter) -> usize
+        requires { IsLinked self.now cell }
+        ensures value { (head place : ℕ) → StandsAt (list_at self.now head) place cell
+            → result ≡ head }
+        ensures within { result < length self.now.lists }
+        ensures counted { meter.new ≡ probed 1 meter.old }
+    {
+        read(&self.heads, cell, meter)
+    }
+
+    /// Puts a cell that stands in no list at the end of a head's list.
+    pub fn push_back(&mut self, head: usize, cell: usize, meter: &mut Meter)
+        requires head { head < length self.old.lists }
+        requires cell { cell < self.old.cells }
+        requires free { ¬ IsLinked self.old cell }
+        ensures appended { self.new ≡ with_list self.old head (list_at self.old head ++ cell ∷ []) }
+        ensures was_well_formed { IsWellFormed self.old }
+        ensures well_formed { IsWellFormed self.new }
+        ensures counted { meter.new ≡ probed 2 meter.old }
+    {
+        let sentinel = self.cells + head;
+        let last = read(&self.prev, sentinel, meter);
+        let len = read(&self.lens, head, meter);
+        self.next[last] = cell;
+        self.next[cell] = sentinel;
+        self.prev[sentinel] = cell;
+        self.prev[cell] = last;
+        self.heads[cell] = head;
+        self.lens[head] = len + 1;
+    }
+
+    /// Takes a cell out of its list.
+    pub fn unlink(&mut self, cell: usize, meter: &mut Meter)
+        requires { IsLinked self.old cell }
+        ensures removed { (head place : ℕ) → StandsAt (list_at self.old head) place cell
+            → self.new ≡ with_list self.old head (remove (list_at self.old head) place) }
+        ensures free { ¬ IsLinked self.new cell }
+        ensures was_well_formed { IsWellFormed self.old }
+        ensures well_formed { IsWellFormed self.new }
+        ensures counted { meter.new ≡ probed 4 meter.old }
+    {
+        let before = read(&self.prev, cell, meter);
+        let after = read(&self.next, cell, meter);
+        let head = read(&self.heads, cell, meter);
+        let len = read(&self.lens, head, meter);
+        self.next[before] = after;
+        self.prev[after] = before;
+        self.lens[head] = len - 1;
+    }
+}

@@ -1,0 +1,5 @@
+pub mod Bits
+pub mod Held
+pub mod Table
+pub mod Fill
+pub mod Kept

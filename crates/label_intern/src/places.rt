@@ -1,0 +1,90 @@
+//! What walks the places of a pool, by index from 0.
+ghost use Rattle.std.specs.Prelude.{◌≡◌, ◌<◌, ◌+◌, ◌*◌, ◌^◌, None, IfSome, IfNone, length};
+ghost use Rattle.label_intern.specs.Held.{held_at, stored, fewer, raised, owners_in, HasLabel};
+ghost use Rattle.label_intern.specs.Held.{LacksLabel};
+ghost use Rattle.label_intern.specs.Fill.{IsFilled};
+ghost use Rattle.base.specs.Counts.{ScansAtMost};
+
+use crate::held::Held;
+use crate::order::bits;
+use crate::table::Table;
+use base::Meter;
+use label_lattice::Label;
+
+/// The index of an equal label, none where there is none. At most one scan for each stored label.
+pub fn place_of(slots: &[Option<Held>], label: &Label, meter: &mut Meter) -> Option<usize>
+    ensures scans { ScansAtMost (stored slots.now) meter.old meter.new }
+    ensures found { IfSome result (λ i. HasLabel slots.now i label.now) }
+    ensures none { IfNone result (LacksLabel slots.now label.now) }
+{
+    for i in 0..slots.len() {
+        if let Some(held) = &slots[i] {
+            if held.label.same(label, meter) {
+                return Some(i);
+            }
+        }
+    }
+    None
+}
+
+/// A free index, where not all are taken.
+pub fn free_place(slots: &[Option<Held>]) -> usize
+    requires { stored slots.now < length slots.now }
+    ensures within { result < length slots.now }
+    ensures free { held_at slots.now result ≡ None }
+{
+    for i in 0..slots.len() {
+        if slots[i].is_none() {
+            return i;
+        }
+    }
+    unreachable!()
+}
+
+/// Writes the order of a label against itself and every stored label, and of these against it. All other cells of the
+/// table stay. At most three scans, and six for each stored label.
+pub fn fill(table: &mut Table, slots: &[Option<Held>], at: usize, label: &Label, meter: &mut Meter)
+    requires width { table.old.width ≡ length slots.now }
+    requires within { at < length slots.now }
+    requires free { held_at slots.now at ≡ None }
+    ensures scans { ScansAtMost (3 + 6 * stored slots.now) meter.old meter.new }
+    ensures filled { IsFilled slots.now at label.now (length slots.now) table.old table.new }
+{
+    let own = bits(label, label, meter);
+    table.put(at, at, own);
+    for j in 0..slots.len() {
+        if let Some(held) = &slots[j] {
+            let forth = bits(label, &held.label, meter);
+            let back = bits(&held.label, label, meter);
+            table.put_both(at, j, forth, back);
+        }
+    }
+}
+
+/// A place with one owner less, free where it was the last.
+pub fn with_fewer(place: Option<Held>) -> Option<Held>
+    ensures { result ≡ fewer place }
+{
+    match place {
+        Some(held) if held.owners > 1 => Some(Held {
+            label: held.label,
+            owners: held.owners - 1,
+        }),
+        _ => None,
+    }
+}
+
+/// A place with a label, whose owners are one more.
+pub fn with_more(place: Option<Held>, label: &Label) -> Option<Held>
+    requires { owners_in place + 1 < 2 ^ 32 }
+    ensures { result ≡ raised place label.now }
+{
+    let owners = match place {
+        Some(held) => held.owners,
+        None => 0,
+    };
+    Some(Held {
+        label: *label,
+        owners: owners + 1,
+    })
+}

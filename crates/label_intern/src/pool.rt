@@ -1,0 +1,128 @@
+//! The pool of stored labels.
+ghost use Rattle.std.specs.Prelude.{◌≡◌, ◌<◌, ◌≤◌, ◌+◌, ◌*◌, ◌^◌, ◌↔◌, None, IsTrue, IsSome};
+ghost use Rattle.std.specs.Prelude.{IfOk, IfSome, length, replicate, slice_set};
+
+use crate::held::Held;
+use crate::order::OrderBits;
+use crate::places::{fill, free_place, place_of, with_fewer, with_more};
+use crate::table::Table;
+use base::{Meter, NoMemory};
+use label_lattice::Label;
+use std::alloc::Global;
+use std::marker::Model;
+
+/// The index of a stored label, from 0, below the pool's size.
+#[derive(Clone, Copy, PartialEq, Eq, Debug)]
+pub struct LabelIx(pub u16);
+
+/// The stored labels by index, with their owners. A contract sees, for each index, its label and how many owners it
+/// has, or nothing.
+#[derive(Drop)]
+pub struct Labels {
+    slots: Vec<Option<Held>>,
+    table: Table,
+}
+
+impl Model for Labels {
+    ghost use Rattle.std.specs.Prelude.{List, Option};
+    ghost use Rattle.label_intern.specs.declared.held.Held.{Held};
+
+    ghost Value = { List (Option Held) };
+
+    ghost use Rattle.label_intern.specs.Kept.{IsKept};
+
+    ghost view = { λ l. l.slots.items };
+
+    ghost invariant = { λ l. IsKept l.slots.items l.table };
+}
+
+impl Labels {
+    ghost use Rattle.label_intern.specs.Bits.{bits_of};
+    ghost use Rattle.label_intern.specs.Held.{held_at, stored, owned, fewer, raised, IsInterned};
+    ghost use Rattle.base.specs.Counts.{ScansAtMost};
+
+    /// A pool of so many indexes, with no label. Only this takes memory; the error is want of it.
+    pub fn boot(alloc: Global, pool: usize) -> Result<Labels, NoMemory>
+        requires { pool < 2 ^ 16 }
+        ensures { IfOk result (λ labels. labels ≡ replicate pool None) }
+    {
+        let slots = vec![in alloc; None; pool]?;
+        let table = Table::new(alloc, pool)?;
+        Ok(Labels { slots, table })
+    }
+
+    /// How many labels are stored.
+    pub fn len(&self) -> usize
+        ensures count { result ≡ stored self.now }
+        ensures interned { IsInterned self.now }
+    {
+        self.slots.iter().filter(|slot| slot.is_some()).count()
+    }
+
+    /// Whether an index has a label.
+    pub fn holds(&self, at: LabelIx) -> bool
+        ensures { IsTrue result ↔ IsSome (held_at self.now at.0) }
+    {
+        let at = usize::from(at.0);
+        at < self.slots.len() && self.slots[at].is_some()
+    }
+
+    /// The label of an index that has one.
+    pub fn get(&self, at: LabelIx) -> &Label
+        requires { IsSome (held_at self.now at.0) }
+        ensures { IfSome (held_at self.now at.0) (λ held. result.now ≡ held.label) }
+    {
+        match &self.slots[usize::from(at.0)] {
+            Some(held) => &held.label,
+            None => unreachable!(),
+        }
+    }
+
+    /// How the label of an index compares with that of another, both having one. It scans nothing.
+    pub fn order(&self, a: LabelIx, b: LabelIx) -> OrderBits
+        requires a_stored { IsSome (held_at self.now a.0) }
+        requires b_stored { IsSome (held_at self.now b.0) }
+        ensures { IfSome (held_at self.now a.0) (λ one. IfSome (held_at self.now b.0) (λ two.
+            result.0 ≡ bits_of one.label two.label)) }
+    {
+        OrderBits(self.table.at(usize::from(a.0), usize::from(b.0)))
+    }
+
+    /// The index of a label, which has one owner more: the index of the equal label where one is stored, a free one
+    /// where none is. All other indexes stay. At most three scans, and seven for each label that was stored.
+    pub fn intern(&mut self, label: &Label, meter: &mut Meter) -> LabelIx
+        requires { owned self.old < length self.old }
+        ensures within { result.0 < length self.old }
+        ensures label { IfSome (held_at self.old result.0) (λ held. held.label ≡ label.now) }
+        ensures after { self.new
+            ≡ slice_set self.old result.0 (raised (held_at self.old result.0) label.now) }
+        ensures owners { owned self.new ≡ owned self.old + 1 }
+        ensures growth { stored self.new ≤ stored self.old + 1 }
+        ensures interned { IsInterned self.new }
+        ensures scans { ScansAtMost (7 * stored self.old + 3) meter.old meter.new }
+    {
+        let at = match place_of(&self.slots, label, meter) {
+            Some(at) => at,
+            None => {
+                let at = free_place(&self.slots);
+                fill(&mut self.table, &self.slots, at, label, meter);
+                at
+            }
+        };
+        self.slots[at] = with_more(self.slots[at], label);
+        LabelIx(at as u16)
+    }
+
+    /// Takes an owner from the label of an index that has one. With the last owner gone the index is free. All other
+    /// indexes stay.
+    pub fn release(&mut self, at: LabelIx)
+        requires { IsSome (held_at self.old at.0) }
+        ensures after { self.new ≡ slice_set self.old at.0 (fewer (held_at self.old at.0)) }
+        ensures owners { owned self.old ≡ owned self.new + 1 }
+        ensures growth { stored self.new ≤ stored self.old }
+        ensures interned { IsInterned self.new }
+    {
+        let at = usize::from(at.0);
+        self.slots[at] = with_fewer(self.slots[at]);
+    }
+}

@@ -1,0 +1,28 @@
+use Rattle.std.proofs.Common.{◌≡◌, ◌++◌, ◌∷◌, [], ℕ, List, length, replicate, Option, None, sym, ap, ◌∙◌, arith}
+use Rattle.std.specs.List.{range_with_len}
+use Rattle.std.proofs.lemmas.List.{replicate_more, length-replicate}
+use Rattle.object_arena.proofs.Kept.{kept_empty, kept_as, range_push}
+use Rattle.object_arena.proofs.arena.Arena.boot.Goals as goal
+
+pub loop-slot-preserved : goal.loop-slot-preserved
+loop-slot-preserved g c =
+    let at = c.loop-slot in
+    let given = c.push_reserved.ensures in
+    let emptied = c.push_reserved-in-loop-slot.ensures in
+    record {
+      given = given.items ∙ ap (λ (xs : List ℕ). xs ++ at.slot ∷ []) at.invariant.given ∙ sym (range_push at.slot);
+      empty = emptied.items ∙ ap (λ (os : List (Option g.row.T.Denot)). os ++ None ∷ []) at.invariant.empty ∙ replicate_more at.slot None;
+      room_given = omega (arith, at.invariant.room_given, given.capacity);
+      room_empty = omega (arith, at.invariant.room_empty, emptied.capacity);
+      len_given = omega (arith, at.invariant.len_given, given.len);
+      len_empty = omega (arith, at.invariant.len_empty, emptied.len);
+    }
+
+pub invariant_of-result : goal.invariant_of-result
+invariant_of-result g c =
+    let at = c.loop-slot in
+    let done : at.slot ≡ c.args.size = omega (arith, c.loop-slot-test.false, at.auto.slot-end) in
+    let cells : at.cells.items ≡ replicate c.args.size None = at.invariant.empty ∙ ap (λ (n : ℕ). replicate n None) done in
+    let spare = at.invariant.given ∙ ap (λ (n : ℕ). range_with_len 0 n) done in
+    let long : length at.cells.items ≡ c.args.size = ap (λ (os : List (Option g.row.T.Denot)). length os) cells ∙ length-replicate c.args.size None in
+    (kept_as _ _ _ _ _ _ _ _ (kept_empty c.args.size) c.in_ok-ids.ensures.items c.in_ok-slots.ensures.items spare cells, omega (arith, long, c.in_ok-ids.ensures.capacity), omega (arith, long, c.in_ok-slots.ensures.capacity), omega (arith, long, at.invariant.room_given))

@@ -1,0 +1,68 @@
+use Rattle.std.proofs.Common.{◌≡◌, ◌<◌, ◌≤◌, ℕ, List, length, get_or, set, Option, None, ap, sym, ◌∙◌, subst, arith, length-set}
+use Rattle.std.specs.Prelude.{remove}
+use Rattle.object_arena.specs.Objects.{Objects, object_at, IsEntry, without}
+use Rattle.object_arena.proofs.SearchSteps.{IsSearched-more, searched_digits}
+use Rattle.object_arena.proofs.Kept.{kept_remove, kept_as, one_place}
+use Rattle.std.proofs.lemmas.List.{get_or_read}
+use Rattle.object_arena.proofs.arena.Arena.remove.Goals as goal
+
+pub returns-clause-cost : goal.returns-clause-cost
+returns-clause-cost g c =
+    let kept = c.self.invariant.0 in
+    let size = ap (λ (a : Objects g.row.T.Denot). length a.cells) c.self.view_is in
+    let fewer : length c.deref.result.now ≤ length c.args.self.now.cells = omega (arith, size, kept.beside, kept.total, ap length c.deref.ensures.value) in
+    searched_digits _ _ _ (IsSearched-more _ _ _ _ _ c.in-Some.ensures.cost_found c.probe.ensures fewer)
+
+pub invariant_of-self : goal.invariant_of-self
+invariant_of-self g c =
+    let kept = c.self.invariant.0 in
+    let rooms = c.self.invariant in
+    let ids = c.self.inside.ids.items in
+    let slots = c.self.inside.slots.items in
+    let within : c.in-Some.place < length ids = omega (arith, c.in-Some.ensures.found.0, ap length c.deref.ensures.value) in
+    let inside : c.in-Some.place < length slots = omega (arith, kept.beside) in
+    let is = get_or_read slots c.in-Some.place c.remove-slot.result inside c.remove-slot.ensures.value 0 in
+    let lay = kept_remove ids slots _ _ c.in-Some.place c.remove-slot.result kept within is in
+    let long = length-set c.self.inside.cells.items c.remove-slot.result None in
+    let cells = ap (λ (o : Option g.row.T.Denot). set c.self.inside.cells.items c.remove-slot.result o) c.take.ensures.after in
+    let same = ap (λ (os : List (Option g.row.T.Denot)). length os) cells in
+    (kept_as _ _ _ _ _ _ _ _ lay c.remove-id.ensures.items c.remove-slot.ensures.items c.push_reserved.ensures.items cells, omega (arith, same, long, rooms.1, c.remove-id.ensures.capacity), omega (arith, same, long, rooms.2, c.remove-slot.ensures.capacity), omega (arith, same, long, rooms.3, c.push_reserved.ensures.capacity))
+
+pub returns-clause-value : goal.returns-clause-value
+returns-clause-value g c = λ place slot e.
+    let kept = c.self.invariant.0 in
+    let ids = c.self.inside.ids.items in
+    let slots = c.self.inside.slots.items in
+    let entry = subst (λ (a : Objects g.row.T.Denot). IsEntry a place c.args.id slot) (sym c.self.view_is) e in
+    let within : c.in-Some.place < length ids = omega (arith, c.in-Some.ensures.found.0, ap length c.deref.ensures.value) in
+    let inside : c.in-Some.place < length slots = omega (arith, kept.beside) in
+    let here : get_or ids c.in-Some.place 0 ≡ c.args.id = ap (λ (xs : List ℕ). get_or xs c.in-Some.place 0) (sym c.deref.ensures.value) ∙ c.in-Some.ensures.found.1 ∙ c.number.ensures in
+    let same : c.in-Some.place ≡ place = one_place ids c.in-Some.place place kept.rising within entry.within (here ∙ sym entry.id_is) in
+    let is = get_or_read slots c.in-Some.place c.remove-slot.result inside c.remove-slot.ensures.value 0 in
+    let slot_same : c.remove-slot.result ≡ slot = is ∙ ap (λ (k : ℕ). get_or slots k 0) same ∙ entry.slot_is in
+    let cells = c.self.inside.cells.items in
+    let used = kept.used c.in-Some.place inside in
+    let read = get_or_read cells c.remove-slot.result c.index_mut.result.now (omega (arith, used.0, is)) c.index_mut.ensures.value None in
+    ap (λ (a : Objects g.row.T.Denot). object_at a slot) (sym c.self.view_is) ∙ ap (λ (k : ℕ). get_or cells k None) (sym slot_same) ∙ sym read ∙ sym c.in-Some-take.ensures.value
+
+pub returns-clause-removed : goal.returns-clause-removed
+returns-clause-removed g c = λ place slot e.
+    let kept = c.self.invariant.0 in
+    let ids = c.self.inside.ids.items in
+    let slots = c.self.inside.slots.items in
+    let entry = subst (λ (a : Objects g.row.T.Denot). IsEntry a place c.args.id slot) (sym c.self.view_is) e in
+    let within : c.in-Some.place < length ids = omega (arith, c.in-Some.ensures.found.0, ap length c.deref.ensures.value) in
+    let inside : c.in-Some.place < length slots = omega (arith, kept.beside) in
+    let here : get_or ids c.in-Some.place 0 ≡ c.args.id = ap (λ (xs : List ℕ). get_or xs c.in-Some.place 0) (sym c.deref.ensures.value) ∙ c.in-Some.ensures.found.1 ∙ c.number.ensures in
+    let same : c.in-Some.place ≡ place = one_place ids c.in-Some.place place kept.rising within entry.within (here ∙ sym entry.id_is) in
+    let is = get_or_read slots c.in-Some.place c.remove-slot.result inside c.remove-slot.ensures.value 0 in
+    let slot_same : c.remove-slot.result ≡ slot = is ∙ ap (λ (k : ℕ). get_or slots k 0) same ∙ entry.slot_is in
+    let cells = c.self.inside.cells.items in
+    let left = c.remove-id.ensures.items ∙ ap (λ (k : ℕ). remove ids k) same in
+    let left_slots = c.remove-slot.ensures.items ∙ ap (λ (k : ℕ). remove slots k) same in
+    let left_cells = ap (λ (o : Option g.row.T.Denot). set cells c.remove-slot.result o) c.take.ensures.after ∙ ap (λ (k : ℕ). set cells k None) slot_same in
+    let make : List ℕ → List ℕ → List (Option g.row.T.Denot) → Objects g.row.T.Denot = λ a b os. record { ids = a; slots = b; cells = os } in
+    let changed = ap (λ (os : List (Option g.row.T.Denot)). make c.remove-id.new.self.items c.remove-slot.new.self.items os) left_cells
+    ∙ ap (λ (xs : List ℕ). make c.remove-id.new.self.items xs (set cells slot None)) left_slots
+    ∙ ap (λ (xs : List ℕ). make xs (remove slots place) (set cells slot None)) left in
+    changed ∙ ap (λ (a : Objects g.row.T.Denot). without a place slot) c.self.view_is

@@ -1,0 +1,4 @@
+pub mod Objects
+pub mod Search
+pub mod Slots
+pub mod Lends

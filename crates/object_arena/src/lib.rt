@@ -1,0 +1,15 @@
+//! Objects under serial ids, in a fixed number of slots.
+//!
+//! A contract sees a map from id to object, as a directory of rising ids, the slot of each, and what each slot has. An
+//! object keeps its slot as long as it is there, and no other has that slot. Only `boot` takes memory. Finding an id
+//! adds at most as many probes as the number of slots has binary digits, plus one. Which ids are given, and when an
+//! object goes, is left to the crates above.
+#![tactic(auto)]
+
+mod arena;
+mod search;
+
+pub use arena::Arena;
+
+#[cfg(test)]
+mod tests;
