@@ -4,7 +4,7 @@ use Rattle.std.specs.Prelude.{slice_get, IfSome, IfNone}
 use Rattle.std.proofs.lemmas.Bool.{cases_eq}
 use Rattle.entry_lists.specs.Lists.{Lists, family_at, cells_at, StandsAt, IsLinked, IsWellFormed}
 use Rattle.object_arena.specs.Objects.{Objects, IsEntry, IsAbsent}
-use Rattle.containers.specs.Live.{has, links}
+use Rattle.base.specs.Live.{has, links}
 use Rattle.containers.specs.Tree.{Tree, HasSlot, ids_in, list_of}
 use Rattle.containers.specs.View.{head_in, ids_of, lists_of, IsKept}
 use Rattle.std.proofs.lemmas.List.{get_or-map, length-map}

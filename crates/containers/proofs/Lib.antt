@@ -11,7 +11,6 @@ pub mod Views
 pub mod Unrefs
 pub mod Links
 pub mod Orders
-pub mod LiveLaw
 pub mod Counts
 pub mod Creates
 pub mod Lives

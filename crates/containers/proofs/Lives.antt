@@ -4,12 +4,12 @@ use Rattle.std.specs.List.{filter}
 use Rattle.std.proofs.lemmas.Bool.{or_cases, eqb-true, eq-eqb, cases_Bool, both_ways}
 use Rattle.object_arena.specs.Objects.{Rises}
 use Rattle.entry_lists.specs.Lists.{Lists}
-use Rattle.containers.specs.Live.{has, is_live}
+use Rattle.base.specs.Live.{has, is_live}
 use Rattle.containers.specs.Sweep.{IsCut}
 use Rattle.containers.specs.Directory.{IsDirectory}
 use Rattle.containers.specs.Tree.{ids_in, list_of, cut_lists, live_part}
 use Rattle.containers.specs.View.{lists_of, IsKept}
-use Rattle.containers.proofs.LiveLaw.{path_from_live, live_from_path}
+use Rattle.base.proofs.LiveLaw.{path_from_live, live_from_path}
 use Rattle.containers.proofs.Views.{or_left, or_right, at_has, ids_are}
 use Rattle.containers.proofs.Unrefs.{stays, goes, was_id}
 use Rattle.containers.proofs.Orders.{order}

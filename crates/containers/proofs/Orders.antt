@@ -5,7 +5,7 @@ use Rattle.std.proofs.lemmas.Bool.{cases_Bool, eqb-true, eq-eqb, both_ways}
 use Rattle.std.proofs.lemmas.List.{get_or-map, length-map}
 use Rattle.entry_lists.specs.Lists.{Lists, family_at, cells_at, list_at, StandsAt}
 use Rattle.containers.specs.Cells.{Stands, IsDropped, IsRecorded}
-use Rattle.containers.specs.Live.{has}
+use Rattle.base.specs.Live.{has}
 use Rattle.containers.specs.Sweep.{IsCut}
 use Rattle.containers.specs.Directory.{IsDirectory}
 use Rattle.containers.specs.Tree.{without, cut_lists, ids_in, list_of}

@@ -3,7 +3,7 @@ use Rattle.std.proofs.Common.{◌≡◌, ℕ, inl, inr, true, List, length, refl
 use Rattle.entry_lists.specs.Lists.{Lists}
 use Rattle.object_arena.specs.Objects.{Objects, Rises, IsWellFormed as IsArenaWellFormed}
 use Rattle.containers.specs.Cells.{Stands, IsRecorded}
-use Rattle.containers.specs.Live.{has, links}
+use Rattle.base.specs.Live.{has, links}
 use Rattle.containers.specs.Tree.{Tree, ids_in}
 use Rattle.containers.specs.View.{lists_of, IsKept}
 use Rattle.containers.specs.WellFormed.{IsWellFormed}

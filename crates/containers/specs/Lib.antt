@@ -1,4 +1,3 @@
-pub mod Live
 pub mod Tree
 pub mod WellFormed
 pub mod Visits
@@ -7,3 +6,4 @@ pub mod Cells
 pub mod Sweep
 pub mod Directory
 pub mod View
+pub use Rattle.base.specs.Live

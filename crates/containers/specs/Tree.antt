@@ -5,7 +5,7 @@ use Rattle.std.specs.Prelude.{Option, Some, None, replicate, slice_index_or, sli
 use Rattle.std.specs.Prelude.{refl}
 use Rattle.std.specs.List.{filter}
 use Rattle.std.specs.Coded.{Coded, code_by, coded×, coded_ℕ, coded_list, coded_option}
-use Rattle.containers.specs.Live.{is_live}
+use Rattle.base.specs.Live.{is_live}
 
 -- each id, rising, with the ids that it lists, in the order of linking; beside each id its slot; and for each slot the
 -- record there, if there is one

@@ -3,7 +3,7 @@ use Rattle.std.specs.Prelude.{◌≡◌, ℕ, suc, ◌+◌, ◌<◌, cond, List,
 use Rattle.std.specs.Prelude.{sum_by}
 use Rattle.std.specs.List.{range_with_len}
 use Rattle.entry_lists.specs.Lists.{Lists, family_at, cells_at, with_list, empty_lists}
-use Rattle.containers.specs.Live.{has}
+use Rattle.base.specs.Live.{has}
 use Rattle.containers.specs.Cells.{IsSound, IsDying}
 use Rattle.containers.specs.Sweep.{IsSimple}
 use Rattle.containers.specs.Directory.{IsDirectory}

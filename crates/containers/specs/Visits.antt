@@ -2,7 +2,7 @@
 use Rattle.std.specs.Prelude.{◌≡◌, ◌⊎◌, ℕ, true, List, [], ◌∷◌, map, slice_index, Contains}
 use Rattle.std.proofs.Common.{inl, inr}
 use Rattle.containers.specs.declared.visitor.Place.{Place}
-use Rattle.containers.specs.Live.{has, links}
+use Rattle.base.specs.Live.{has, links}
 use Rattle.containers.specs.Tree.{Tree, HasSlot, ids_in}
 use Rattle.containers.specs.Sweep.{IsOnce}
 

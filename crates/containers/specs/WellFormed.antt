@@ -1,7 +1,7 @@
 -- What is true of all containers.
 use Rattle.std.specs.Prelude.{◌≡◌, ℕ, ◌<◌, true, length, slice_index, IsSome}
 use Rattle.object_arena.specs.Objects.{Rises, Apart}
-use Rattle.containers.specs.Live.{has, links}
+use Rattle.base.specs.Live.{has, links}
 use Rattle.containers.specs.Tree.{Tree, ids_in, record_at}
 
 -- ids rise, each has a slot of its own with a record, each that is listed is there, and none lists the root

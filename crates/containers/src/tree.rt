@@ -6,7 +6,7 @@ ghost use Rattle.std.specs.Prelude.{IfOk, IfSome, IfNone, IsSome};
 ghost use Rattle.std.specs.Borrow.{sem};
 ghost use Rattle.base.specs.Counts.{probed, ProbesAtMost};
 ghost use Rattle.object_arena.specs.Objects.{binary_digits};
-ghost use Rattle.containers.specs.Live.{has, links};
+ghost use Rattle.base.specs.Live.{has, links};
 
 use crate::cells::{add_link, cut_link, find_link, spare_rings};
 use crate::visitor::Visitor;

@@ -1,6 +1,6 @@
 use Rattle.std.proofs.Common.{◌≡◌, ℕ, ◌<◌, List, [], ◌∷◌, ◌++◌, length, get_or, set, Option, Some, true, sym, ap, ◌∙◌, subst, arith, length-set}
 use Rattle.std.specs.Prelude.{All}
-use Rattle.containers.specs.Live.{has}
+use Rattle.base.specs.Live.{has}
 use Rattle.containers.specs.Tree.{Tree, add_lists, ids_in, link_count}
 use Rattle.containers.specs.View.{lists_of, IsKept}
 use Rattle.containers.specs.Cells.{IsRecorded}

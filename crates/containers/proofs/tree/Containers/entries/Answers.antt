@@ -1,5 +1,5 @@
 use Rattle.std.proofs.Common.{◌≡◌, ℕ, ◌+◌, ◌-◌, List, length, min, get_or, true, sym, ap, ◌∙◌, subst}
-use Rattle.containers.specs.Live.{has}
+use Rattle.base.specs.Live.{has}
 use Rattle.containers.specs.Tree.{Tree, ids_in, list_of}
 use Rattle.containers.specs.View.{ids_of}
 use Rattle.containers.proofs.Views.{at_has, ids_are}

@@ -1,7 +1,7 @@
 use Rattle.std.proofs.Common.{◌≡◌, false, subst}
 use Rattle.std.proofs.lemmas.Option.{IfSome_then}
 use Rattle.object_arena.specs.Objects.{IsAbsent}
-use Rattle.containers.specs.Live.{has}
+use Rattle.base.specs.Live.{has}
 use Rattle.containers.specs.Tree.{Tree, HasSlot, ids_in}
 use Rattle.containers.proofs.Asked.{entry_slot, absent_id, IfNone-weaker}
 use Rattle.containers.proofs.tree.Containers.find.Goals as goal

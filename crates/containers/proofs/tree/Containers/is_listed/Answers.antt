@@ -1,6 +1,6 @@
 use Rattle.std.proofs.Common.{◌≡◌, false, sym, ap, ◌∙◌}
 use Rattle.std.proofs.lemmas.Option.{IfSome_then}
-use Rattle.containers.specs.Live.{links}
+use Rattle.base.specs.Live.{links}
 use Rattle.containers.specs.Tree.{Tree}
 use Rattle.containers.specs.View.{lists_of}
 use Rattle.containers.specs.Cells.{Lists'}

@@ -1,6 +1,6 @@
 use Rattle.std.proofs.Common.{◌≡◌, ◌≢◌, ℕ, ◌<◌, List, length, get_or, true, sym, ap, ◌∙◌, subst, arith}
 use Rattle.std.proofs.lemmas.Bool.{both_ways}
-use Rattle.containers.specs.Live.{has, links}
+use Rattle.base.specs.Live.{has, links}
 use Rattle.containers.specs.Tree.{Tree, add_lists, ids_in, link_count}
 use Rattle.containers.specs.View.{lists_of}
 use Rattle.containers.proofs.Counts.{some_spare}

@@ -1,5 +1,5 @@
 use Rattle.std.proofs.Common.{◌≡◌, ℕ, List, get_or, true, sym, ap, ◌∙◌, subst, arith, lit<}
-use Rattle.containers.specs.Live.{has, links}
+use Rattle.base.specs.Live.{has, links}
 use Rattle.containers.specs.Tree.{Tree, ids_in}
 use Rattle.containers.proofs.Views.{at_has, ids_are}
 use Rattle.std.proofs.lemmas.List.{get_or_read}

@@ -1,5 +1,5 @@
 use Rattle.std.proofs.Common.{rules, ◌≡◌, ℕ, ◌<◌, List, ◌∷◌, length, get_or, true, sym, ap, ◌∙◌, subst}
-use Rattle.containers.specs.Live.{links}
+use Rattle.base.specs.Live.{links}
 use Rattle.containers.specs.Tree.{Tree, HasSlot, record_at, cut_lists, live_part}
 use Rattle.containers.specs.View.{lists_of}
 use Rattle.containers.specs.Sweep.{IsTree}
