@@ -17,7 +17,8 @@ pub record Soundness (s : State) : Type 0 where
   pub rise : ids_rise s.objects ≡ true
   pub kept : list_all (λ e. is_kept s e.0 e.1) s.objects ≡ true
 
-four : (a b c d e : Bool) → (a && b && c && d && e) ≡ true → (a ≡ true) × (b ≡ true) × (c ≡ true) × (d ≡ true) × (e ≡ true)
+four : (a b c d e : Bool) → (a && b && c && d && e) ≡ true
+    → (a ≡ true) × (b ≡ true) × (c ≡ true) × (d ≡ true) × (e ≡ true)
 four a b c d e h =
     let last : ((a && b && c && d) ≡ true) × (e ≡ true) = and_parts (a && b && c && d) e h in
     let third : ((a && b && c) ≡ true) × (d ≡ true) = and_parts (a && b && c) d last.0 in
@@ -28,18 +29,22 @@ four a b c d e h =
 pub soundness_of : (s : State) → is_well_formed s ≡ true → Soundness s
 unfolding is_well_formed
 soundness_of s h =
-    let parts = four (nat_lt 3 s.next_id) (are_live (lists_of s.objects)) (are_given s) (ids_rise s.objects) (list_all (λ e. is_kept s e.0 e.1) s.objects) h in
+    let parts =
+        four (nat_lt 3 s.next_id) (are_live (lists_of s.objects)) (are_given s) (ids_rise s.objects)
+            (list_all (λ e. is_kept s e.0 e.1) s.objects) h in
     record { begun = parts.0; live = parts.1; given = parts.2; rise = parts.3; kept = parts.4 }
 
 pub well_formed_from : (s : State) → Soundness s → is_well_formed s ≡ true
 unfolding is_well_formed
 well_formed_from s h =
-    and_from (nat_lt 3 s.next_id && are_live (lists_of s.objects) && are_given s && ids_rise s.objects) (list_all (λ e. is_kept s e.0 e.1) s.objects)
+    and_from (nat_lt 3 s.next_id && are_live (lists_of s.objects) && are_given s && ids_rise s.objects)
+        (list_all (λ e. is_kept s e.0 e.1) s.objects)
     (and_from (nat_lt 3 s.next_id && are_live (lists_of s.objects) && are_given s) (ids_rise s.objects)
     (and_from (nat_lt 3 s.next_id && are_live (lists_of s.objects)) (are_given s)
     (and_from (nat_lt 3 s.next_id) (are_live (lists_of s.objects)) h.begun h.live) h.given) h.rise)
     h.kept
 
 -- each record is live
-pub live_kind : (s : State) (k : kind.Kind) (o : ℕ) → is_well_formed s ≡ true → is_kind_at s k o ≡ is_live_kind s k o
+pub live_kind : (s : State) (k : kind.Kind) (o : ℕ) → is_well_formed s ≡ true
+    → is_kind_at s k o ≡ is_live_kind s k o
 live_kind s k o h = kind_live s k o (soundness_of s h).live

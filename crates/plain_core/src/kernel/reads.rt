@@ -1,7 +1,11 @@
 //! What calls look at.
-ghost use Rattle.std.specs.Prelude.{◌≡◌, ◌≤◌, ◌<◌, ◌+◌, ◌*◌, ◌^◌, length, option_copied, sum_by, nat_le, nat_lt, ◌&&◌};
+ghost use Rattle.std.specs.Prelude.{◌≡◌, ◌≤◌, ◌<◌, ◌+◌, ◌*◌, ◌^◌, length, option_copied, sum_by};
+ghost use Rattle.std.specs.Prelude.{nat_le, nat_lt, ◌&&◌};
 ghost use Rattle.base.specs.Live.{has};
-ghost use Rattle.plain_core.specs.State.{object_at, is_kind, is_kind_at, is_live_kind, is_accessible, observes, flows_to, holds, bytes_at, label_at, clearance_at, is_immutable, quota_at, list_at, cost_at, use_of, avoids_at, page_count};
+ghost use Rattle.plain_core.specs.State.{object_at, is_kind, is_kind_at, is_live_kind};
+ghost use Rattle.plain_core.specs.State.{is_accessible, observes, flows_to, holds, bytes_at};
+ghost use Rattle.plain_core.specs.State.{label_at, clearance_at, is_immutable, quota_at, list_at};
+ghost use Rattle.plain_core.specs.State.{cost_at, use_of, avoids_at, page_count};
 ghost use Rattle.plain_core.specs.Rows.{is_shape};
 ghost use Rattle.plain_core.specs.Changes.{joined_at};
 ghost use Rattle.plain_core.specs.StateOf.{state_of};
@@ -144,7 +148,8 @@ impl PlainKernel {
 
     /// Whether so many bytes from `offset` on go past the whole pages of a segment.
     pub fn is_past(&self, id: ObjectId, offset: u32, count: u32) -> bool
-        ensures { result ≡ nat_lt (256 * page_count (state_of self.now.records) id) (offset + count) }
+        ensures { result
+            ≡ nat_lt (256 * page_count (state_of self.now.records) id) (offset + count) }
     {
         let pages = self.bytes(id).len() / 256;
         256 * (pages as u64) < u64::from(offset) + u64::from(count)
