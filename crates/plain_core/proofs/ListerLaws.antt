@@ -24,23 +24,23 @@ counts o e = cond (has e.1 o) 1 0
 pub count_put : (d k o : ℕ) (es : List (ℕ × Object)) (y : Object) → o ≢ k → lookup (is_at (nat_cmp d)) es ≡ Some y
     → is_kind kinds.Container y ≡ true
     → sum_by (counts o) (lists_of (set_value (is_at (nat_cmp d)) es (listing k y)))
-        ≡ sum_by (counts o) (lists_of es)
+    ≡ sum_by (counts o) (lists_of es)
 count_put d k o [] y other found kind = absurd (cc)
 count_put d k o (e ∷ es) y other found kind =
     elim (is_at (nat_cmp d) e.0) as (λ v. cond v (Some e.1) (lookup (is_at (nat_cmp d)) es) ≡ Some y
     → sum_by (counts o)
-        (lists_of (cond v ((e.0, listing k y) ∷ es) (e ∷ set_value (is_at (nat_cmp d)) es (listing k y))))
-            ≡ sum_by (counts o) (lists_of (e ∷ es))) [
+    (lists_of (cond v ((e.0, listing k y) ∷ es) (e ∷ set_value (is_at (nat_cmp d)) es (listing k y))))
+    ≡ sum_by (counts o) (lists_of (e ∷ es))) [
       | true ↦ λ f.
           let is_y : e.1 ≡ y = cc in
           sum_by-cons (counts o) (e.0, listed (listing k y).body) (lists_of es)
           ∙ ap (λ b. cond b 1 0 + sum_by (counts o) (lists_of es))
           (ap (λ l. has l o) (listed-listing y k kind) ∙ has-append_other (listed y.body) k o other
-              ∙ ap (λ (z : Object). has (listed z.body) o) (sym is_y))
+          ∙ ap (λ (z : Object). has (listed z.body) o) (sym is_y))
           ∙ sym (sum_by-cons (counts o) (e.0, listed e.1.body) (lists_of es))
       | false ↦ λ f.
           sum_by-cons (counts o) (e.0, listed e.1.body)
-              (lists_of (set_value (is_at (nat_cmp d)) es (listing k y)))
+          (lists_of (set_value (is_at (nat_cmp d)) es (listing k y)))
           ∙ ap (λ n. cond (has (listed e.1.body) o) 1 0 + n) (count_put d k o es y other f kind)
           ∙ sym (sum_by-cons (counts o) (e.0, listed e.1.body) (lists_of es))
     ] found
@@ -51,9 +51,9 @@ count_none : (k : ℕ) (es : List (ℕ × Object)) → list_all (λ e. not (has 
 count_none k [] h = refl
 count_none k (e ∷ es) h =
     let both : (not (has (listed e.1.body) k) ≡ true)
-            × (list_all (λ e. not (has (listed e.1.body) k)) es ≡ true) =
-                and_parts (not (has (listed e.1.body) k)) (list_all (λ e. not (has (listed e.1.body) k)) es) h
-                    in
+    × (list_all (λ e. not (has (listed e.1.body) k)) es ≡ true) =
+    and_parts (not (has (listed e.1.body) k)) (list_all (λ e. not (has (listed e.1.body) k)) es) h
+    in
     sum_by-cons (counts k) (e.0, listed e.1.body) (lists_of es)
     ∙ (λ i. cond (not_true (has (listed e.1.body) k) both.0 i) 1 0 + count_none k es both.1 i)
   where
@@ -68,19 +68,18 @@ pub count_new : (d k : ℕ) (es : List (ℕ × Object)) (y : Object) → lookup 
 count_new d k [] y found kind h = absurd (cc)
 count_new d k (e ∷ es) y found kind h =
     let both : (not (has (listed e.1.body) k) ≡ true)
-            × (list_all (λ e. not (has (listed e.1.body) k)) es ≡ true) =
-                and_parts (not (has (listed e.1.body) k)) (list_all (λ e. not (has (listed e.1.body) k)) es) h
-                    in
+    × (list_all (λ e. not (has (listed e.1.body) k)) es ≡ true) =
+    and_parts (not (has (listed e.1.body) k)) (list_all (λ e. not (has (listed e.1.body) k)) es) h
+    in
     elim (is_at (nat_cmp d) e.0) as (λ v. cond v (Some e.1) (lookup (is_at (nat_cmp d)) es) ≡ Some y
     → sum_by (counts k)
-        (lists_of (cond v ((e.0, listing k y) ∷ es) (e ∷ set_value (is_at (nat_cmp d)) es (listing k y)))) ≡ 1)
-            [
+    (lists_of (cond v ((e.0, listing k y) ∷ es) (e ∷ set_value (is_at (nat_cmp d)) es (listing k y)))) ≡ 1) [
       | true ↦ λ f.
           sum_by-cons (counts k) (e.0, listed (listing k y).body) (lists_of es)
           ∙ (λ i. cond (has_new y k kind i) 1 0 + count_none k es both.1 i)
       | false ↦ λ f.
           sum_by-cons (counts k) (e.0, listed e.1.body)
-              (lists_of (set_value (is_at (nat_cmp d)) es (listing k y)))
+          (lists_of (set_value (is_at (nat_cmp d)) es (listing k y)))
           ∙ (λ i. cond (not_true (has (listed e.1.body) k) both.0 i) 1 0 + count_new d k es y f kind both.1 i)
     ] found
   where
@@ -99,33 +98,33 @@ pub record IsKept (s : State) (o : ℕ) (x : Object) : Type 0 where
 pub kept_parts : (s : State) (o : ℕ) (x : Object) → is_kept s o x ≡ true → IsKept s o x
 kept_parts s o x h =
     let last : ((is_distinct (listed x.body) && list_all (λ i. is_some (object_at s i)) (listed x.body)
-        && nat_le (use_of s o) x.quota && is_listed_rightly (listers s o) o x) ≡ true) × (is_whole x ≡ true)
+    && nat_le (use_of s o) x.quota && is_listed_rightly (listers s o) o x) ≡ true) × (is_whole x ≡ true)
     = and_parts (is_distinct (listed x.body) && list_all (λ i. is_some (object_at s i)) (listed x.body)
-        && nat_le (use_of s o) x.quota && is_listed_rightly (listers s o) o x) (is_whole x) h in
+    && nat_le (use_of s o) x.quota && is_listed_rightly (listers s o) o x) (is_whole x) h in
     let third : ((is_distinct (listed x.body) && list_all (λ i. is_some (object_at s i)) (listed x.body)
-        && nat_le (use_of s o) x.quota) ≡ true) × (is_listed_rightly (listers s o) o x ≡ true)
+    && nat_le (use_of s o) x.quota) ≡ true) × (is_listed_rightly (listers s o) o x ≡ true)
     = and_parts (is_distinct (listed x.body) && list_all (λ i. is_some (object_at s i)) (listed x.body)
-        && nat_le (use_of s o) x.quota) (is_listed_rightly (listers s o) o x) last.0 in
+    && nat_le (use_of s o) x.quota) (is_listed_rightly (listers s o) o x) last.0 in
     let second : ((is_distinct (listed x.body) && list_all (λ i. is_some (object_at s i)) (listed x.body))
-        ≡ true) × (nat_le (use_of s o) x.quota ≡ true)
+    ≡ true) × (nat_le (use_of s o) x.quota ≡ true)
     = and_parts (is_distinct (listed x.body) && list_all (λ i. is_some (object_at s i)) (listed x.body))
-        (nat_le (use_of s o) x.quota) third.0 in
+    (nat_le (use_of s o) x.quota) third.0 in
     let first : (is_distinct (listed x.body) ≡ true)
-            × (list_all (λ i. is_some (object_at s i)) (listed x.body) ≡ true)
+    × (list_all (λ i. is_some (object_at s i)) (listed x.body) ≡ true)
     = and_parts (is_distinct (listed x.body)) (list_all (λ i. is_some (object_at s i)) (listed x.body)) second.0
-        in
+    in
     record { distinct = first.0; recorded = first.1; within = second.1; rightly = third.1; whole = last.1 }
 
 pub kept_from : (s : State) (o : ℕ) (x : Object) → IsKept s o x → is_kept s o x ≡ true
 kept_from s o x k =
     and_from (is_distinct (listed x.body) && list_all (λ i. is_some (object_at s i)) (listed x.body)
-        && nat_le (use_of s o) x.quota && is_listed_rightly (listers s o) o x) (is_whole x)
+    && nat_le (use_of s o) x.quota && is_listed_rightly (listers s o) o x) (is_whole x)
     (and_from (is_distinct (listed x.body) && list_all (λ i. is_some (object_at s i)) (listed x.body)
-        && nat_le (use_of s o) x.quota) (is_listed_rightly (listers s o) o x)
+    && nat_le (use_of s o) x.quota) (is_listed_rightly (listers s o) o x)
     (and_from (is_distinct (listed x.body) && list_all (λ i. is_some (object_at s i)) (listed x.body))
-        (nat_le (use_of s o) x.quota)
+    (nat_le (use_of s o) x.quota)
     (and_from (is_distinct (listed x.body)) (list_all (λ i. is_some (object_at s i)) (listed x.body)) k.distinct
-        k.recorded) k.within) k.rightly)
+    k.recorded) k.within) k.rightly)
     k.whole
 
 -- no list of a well-formed state has the next id
@@ -135,7 +134,7 @@ pub unlisted_next : (s : State) (es : List (ℕ × Object)) → object_at s s.ne
 unlisted_next s [] absent h = refl
 unlisted_next s (e ∷ es) absent h =
     let both : (is_kept s e.0 e.1 ≡ true) × (list_all (λ e. is_kept s e.0 e.1) es ≡ true) =
-        and_parts (is_kept s e.0 e.1) (list_all (λ e. is_kept s e.0 e.1) es) h in
+    and_parts (is_kept s e.0 e.1) (list_all (λ e. is_kept s e.0 e.1) es) h in
     and_from (not (has (listed e.1.body) s.next_id)) (list_all (λ e. not (has (listed e.1.body) s.next_id)) es)
     (ap not (not_listed s s.next_id (listed e.1.body) absent (kept_parts s e.0 e.1 both.0).recorded))
     (unlisted_next s es absent both.1)
@@ -147,14 +146,14 @@ lists-append k x (e ∷ es) = ap (λ l. (e.0, listed e.1.body) ∷ l) (lists-app
 
 pub listers_of : (s : State) (d : ℕ) (y x : Object) → listed x.body ≡ [] → (o : ℕ)
     → listers (grown s d y x) o
-        ≡ sum_by (counts o) (lists_of (set_value (is_at (nat_cmp d)) s.objects (listing s.next_id y)))
+    ≡ sum_by (counts o) (lists_of (set_value (is_at (nat_cmp d)) s.objects (listing s.next_id y)))
 listers_of s d y x empty o =
     ap (sum_by (counts o))
-        (lists-append s.next_id x (set_value (is_at (nat_cmp d)) s.objects (listing s.next_id y)))
+    (lists-append s.next_id x (set_value (is_at (nat_cmp d)) s.objects (listing s.next_id y)))
     ∙ sum_by-append (counts o) (lists_of (set_value (is_at (nat_cmp d)) s.objects (listing s.next_id y)))
-        ((s.next_id, listed x.body) ∷ [])
+    ((s.next_id, listed x.body) ∷ [])
     ∙ ap (λ l. sum_by (counts o) (lists_of (set_value (is_at (nat_cmp d)) s.objects (listing s.next_id y)))
-        + sum_by (counts o) ((s.next_id, l) ∷ [])) empty
+    + sum_by (counts o) ((s.next_id, l) ∷ [])) empty
     ∙ none (sum_by (counts o) (lists_of (set_value (is_at (nat_cmp d)) s.objects (listing s.next_id y))))
   where
     none : (n : ℕ) → n + 0 ≡ n

@@ -1,5 +1,5 @@
 -- A container with one id more in its list.
-use Rattle.std.proofs.Common.{◌≡◌, ◌≢◌, ℕ, ◌+◌, Bool, true, false, not, ◌&&◌, ◌||◌, ◌==◌, List, []}
+use Rattle.std.proofs.Common.{◌≡◌, ◌≢◌, ℕ, Bool, true, false, not, ◌&&◌, ◌||◌, ◌==◌, List, []}
 use Rattle.std.proofs.Common.{◌∷◌, ◌++◌, length, Some, None, is_some, refl, sym, ◌∙◌, ap, subst}
 use Rattle.std.specs.List.{list_all}
 use Rattle.std.proofs.lemmas.Bool.{and_parts, and_from, both_ways, eqb-true, eq-eqb}
@@ -24,10 +24,10 @@ pub record IsContainerAt (s : State) (d : ℕ) : Type 0 where
 pub container_at : (s : State) (d : ℕ) → is_kind_at s kinds.Container d ≡ true → IsContainerAt s d
 container_at s d h =
     elim (object_at s d)
-        as (λ v. object_at s d ≡ v → of_object false (is_kind kinds.Container) v ≡ true → IsContainerAt s d) [
-  | None ↦ λ is k. absurd (both_ways false refl k)
-  | Some x ↦ λ is k. record { object = x; found = is; kind = k }
-] refl h
+    as (λ v. object_at s d ≡ v → of_object false (is_kind kinds.Container) v ≡ true → IsContainerAt s d) [
+      | None ↦ λ is k. absurd (both_ways false refl k)
+      | Some x ↦ λ is k. record { object = x; found = is; kind = k }
+    ] refl h
 
 -- a container with one id more, in words of its body
 pub listed-listing : (x : Object) (k : ℕ) → is_kind kinds.Container x ≡ true
@@ -70,7 +70,7 @@ kind-listing x k = body_kind x.body
   where
     body_kind : (y : body.Body)
         → is_kind kinds.Container (record x { body = relist (λ ids. ids ++ k ∷ []) y })
-            ≡ is_kind kinds.Container (record x { body = y })
+        ≡ is_kind kinds.Container (record x { body = y })
     body_kind (is.Container avoid list) = refl
     body_kind (is.Segment bytes) = refl
     body_kind (is.AddressSpace slots) = refl
@@ -83,12 +83,12 @@ pub has_wider : (x : Object) (k b : ℕ) → is_kind kinds.Container x ≡ true 
     → has (listed (listing k x).body) b ≡ true
 has_wider x k b kind h =
     ap (λ l. has l b) (listed-listing x k kind) ∙ list_any-append (λ i. b == i) (listed x.body) (k ∷ [])
-        ∙ or_left _ _ h
+    ∙ or_left _ _ h
 
 pub has_new : (x : Object) (k : ℕ) → is_kind kinds.Container x ≡ true → has (listed (listing k x).body) k ≡ true
 has_new x k kind =
     ap (λ l. has l k) (listed-listing x k kind) ∙ list_any-append (λ i. k == i) (listed x.body) (k ∷ [])
-        ∙ or_right _ _ (or_left _ _ (eq-eqb k k refl))
+    ∙ or_right _ _ (or_left _ _ (eq-eqb k k refl))
 
 pub has-append_other : (ids : List ℕ) (k b : ℕ) → b ≢ k → has (ids ++ k ∷ []) b ≡ has ids b
 has-append_other ids k b other = list_any-append (λ i. b == i) ids (k ∷ []) ∙
@@ -106,15 +106,15 @@ pub distinct-append : (ids : List ℕ) (k : ℕ) → is_distinct ids ≡ true �
 distinct-append [] k d h = refl
 distinct-append (i ∷ ids) k d h =
     let both : (not (has ids i) ≡ true) × (is_distinct ids ≡ true) =
-        and_parts (not (has ids i)) (is_distinct ids) d in
+    and_parts (not (has ids i)) (is_distinct ids) d in
     elim (k == i)
-        as (λ v. (k == i) ≡ v → (v || has ids k) ≡ false
-            → (not (has (ids ++ k ∷ []) i) && is_distinct (ids ++ k ∷ [])) ≡ true) [
+    as (λ v. (k == i) ≡ v → (v || has ids k) ≡ false
+    → (not (has (ids ++ k ∷ []) i) && is_distinct (ids ++ k ∷ [])) ≡ true) [
       | true ↦ λ is n. absurd (both_ways true n refl)
       | false ↦ λ is n.
           let other : i ≢ k = (λ e. both_ways (k == i) is (eq-eqb k i (sym e))) in
           and_from (not (has (ids ++ k ∷ []) i)) (is_distinct (ids ++ k ∷ []))
-              (ap not (has-append_other ids k i other) ∙ both.0) (distinct-append ids k both.1 n)
+          (ap not (has-append_other ids k i other) ∙ both.0) (distinct-append ids k both.1 n)
     ] refl h
 
 -- a listed id was given: k, which was not, is in no list
@@ -123,10 +123,10 @@ pub not_listed : (s : State) (k : ℕ) (ids : List ℕ) → object_at s k ≡ No
 not_listed s k [] absent h = refl
 not_listed s k (i ∷ ids) absent h =
     let both : (is_some (object_at s i) ≡ true) × (list_all (λ i. is_some (object_at s i)) ids ≡ true) =
-        and_parts (is_some (object_at s i)) (list_all (λ i. is_some (object_at s i)) ids) h in
+    and_parts (is_some (object_at s i)) (list_all (λ i. is_some (object_at s i)) ids) h in
     elim (k == i) as (λ v. (k == i) ≡ v → (v || has ids k) ≡ false) [
       | true ↦ λ is. absurd
           (both_ways (is_some (object_at s i))
-              (subst (λ j. is_some (object_at s j) ≡ false) (eqb-true k i is) (ap is_some absent)) both.0)
+          (subst (λ j. is_some (object_at s j) ≡ false) (eqb-true k i is) (ap is_some absent)) both.0)
       | false ↦ λ is. not_listed s k ids absent both.1
     ] refl

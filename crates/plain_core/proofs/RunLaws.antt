@@ -1,8 +1,7 @@
 -- Runs of calls, one call after another.
-use Rattle.std.proofs.Common.{◌≡◌, ℕ, ◌+◌, ◌<◌, ◌≤◌, List, [], ◌∷◌, ◌++◌, length, take, drop}
-use Rattle.std.proofs.Common.{get_or, refl, sym, ◌∙◌, ap, subst, arith, add-one, length-append}
-use Rattle.std.proofs.Common.{append_assoc}
-use Rattle.std.proofs.Math.Seq.{take-suc, drop-cons}
+use Rattle.std.proofs.Common.{◌≡◌, ℕ, ◌+◌, ◌<◌, ◌≤◌, List, [], ◌∷◌, ◌++◌, length, take}
+use Rattle.std.proofs.Common.{get_or, refl, sym, ◌∙◌, ap, add-one, length-append}
+use Rattle.std.proofs.Math.Seq.{take-suc}
 use Rattle.plain_core.specs.State.{State}
 use Rattle.plain_core.specs.Step.{answer, next}
 use Rattle.plain_core.specs.Runs.{state_after, replies_to}
@@ -35,7 +34,7 @@ pub one_more : (old now then : State) (calls : List (ℕ × Call)) (i : ℕ) (re
     → IsRunSoFar old then calls (i + 1) (replies ++ r ∷ []) room
 one_more old now then calls i replies room c r h less at reply state =
     let more : take (i + 1) calls ≡ take i calls ++ c ∷ [] =
-        rw (add-one i) (take-suc calls i c less ∙ ap (λ x. take i calls ++ x ∷ []) (sym at)) in
+    rw (add-one i) (take-suc calls i c less ∙ ap (λ x. take i calls ++ x ∷ []) (sym at)) in
     record {
       state = state ∙ ap (λ s. next s c.0 c.1) h.state ∙ sym (state_after-append old (take i calls) c)
           ∙ ap (state_after old) (sym more);

@@ -1,21 +1,19 @@
 -- What an answer is, once it is known what refuses the call.
-use Rattle.std.proofs.Common.{◌≡◌, ◌≢◌, ◌≤◌, ◌<◌, ◌+◌, ◌*◌, ◌/◌, ◌%◌, ◌^◌, ℕ, Bool, true, false}
-use Rattle.std.proofs.Common.{◌&&◌, ◌||◌, ◌==◌, nat_le, List, [], ◌∷◌, ◌++◌, length, replicate}
-use Rattle.std.proofs.Common.{Option, Some, None, is_none, Result, Ok, Err, OnOk, IfOk, refl, sym}
-use Rattle.std.proofs.Common.{◌∙◌, ap, subst, arith}
+use Rattle.std.proofs.Common.{◌≡◌, ◌≤◌, ◌<◌, ◌+◌, ◌*◌, ◌/◌, ◌%◌, ◌^◌, ℕ, Bool, true, false}
+use Rattle.std.proofs.Common.{◌&&◌, ◌||◌, ◌==◌, nat_le, List, [], ◌++◌, length, replicate}
+use Rattle.std.proofs.Common.{Option, Some, None, is_none, Result, Ok, Err, OnOk, IfOk, refl}
+use Rattle.std.proofs.Common.{◌∙◌, ap, arith}
 use Rattle.std.proofs.lemmas.Bool.{and_parts, and_from, eq-eqb, not-false, leb-true, leb-false}
 use Rattle.std.proofs.lemmas.Bool.{ltb-false, both_ways}
 use Rattle.std.proofs.lemmas.List.{length-replicate}
-use Rattle.base.specs.declared.kinds.Kind.TheVariants as kinds
 use Rattle.base.specs.declared.refusals.Refusal.{Refusal}
 use Rattle.base.specs.declared.sets.TypeSet.{TypeSet}
 use Rattle.label_lattice.specs.Label.{LabelValue}
 use Rattle.label_lattice.specs.declared.raw_labels.RawLabel.{RawLabel}
 use Rattle.plain_core.specs.Labels.{stored}
-use Rattle.plain_core.specs.State.{State, lists_of, bytes_at, is_kind_at, is_live_kind, observes}
-use Rattle.plain_core.specs.State.{quota_at, use_of, avoids_at, page_count}
-use Rattle.plain_core.specs.Rows.{Row, refusal_of, refused, query_refused, halted, row, query_row}
-use Rattle.plain_core.specs.Rows.{new_object, is_shape}
+use Rattle.plain_core.specs.State.{State, bytes_at}
+use Rattle.plain_core.specs.Rows.{refused, query_refused, halted, row, query_row}
+use Rattle.plain_core.specs.Rows.{is_shape}
 use Rattle.plain_core.specs.Fitting.{IsFitting}
 use Rattle.plain_core.proofs.StoredLaws.{stored_none}
 use Rattle.plain_core.specs.declared.objects.Body.TheVariants as is
@@ -30,7 +28,7 @@ use Rattle.plain_core.specs.declared.calls.Reply.TheVariants.{Refused}
 use Rattle.plain_core.proofs.RecordLaws.{restricted_live}
 use Rattle.plain_core.specs.WellFormed.{is_well_formed, is_whole_body}
 use Rattle.plain_core.proofs.WellFormedLaws.{soundness_of}
-use Rattle.plain_core.proofs.RowLaws.{NoneHold, none_hold}
+use Rattle.plain_core.proofs.RowLaws.{none_hold}
 
 pub ask_refused : (s : State) (t : ℕ) (q : Query) (r : Refusal) → query_refused s t q ≡ Some r
     → query_answer s t q ≡ Refused r
@@ -80,8 +78,11 @@ unfolding query_refused
 read_fits s t e a n h =
     let none = none_hold (halted s t ++ query_row s t (query.SegmentRead e a n)) h in
     let shape : (1 ≤ n) × (n ≤ 64) = shape_parts a n (not-false (is_shape a n) none.1.1.1.1.1.0) in
-    record { some = shape.0; few = shape.1;
-        inside = within_pages (length (bytes_at s e.object)) a n (ltb-false _ _ none.1.1.1.1.1.1.0) }
+    record {
+      some = shape.0;
+      few = shape.1;
+      inside = within_pages (length (bytes_at s e.object)) a n (ltb-false _ _ none.1.1.1.1.1.1.0);
+    }
 
 pub write_fits : (s : State) (t : ℕ) (e : Entry) (a : ℕ) (bytes : List ℕ)
     → refused s t (call.SegmentWrite e a bytes) ≡ None → a + length bytes ≤ length (bytes_at s e.object)
@@ -103,7 +104,7 @@ whole_zeroed pages few = rw (length-replicate {A = ℕ} (256 * pages) 0) (whole_
     whole_pages : (p : ℕ) → p ≤ 16 → (256 * p == 256 * (256 * p / 256) && nat_le (256 * p) 4096) ≡ true
     whole_pages p few =
         and_from (256 * p == 256 * (256 * p / 256)) (nat_le (256 * p) 4096)
-            (eq-eqb (256 * p) (256 * (256 * p / 256)) (omega arith)) (grind arith)
+        (eq-eqb (256 * p) (256 * (256 * p / 256)) (omega arith)) (grind arith)
 
 or_false_left : (a b : Bool) → a || b ≡ false → a ≡ false
 or_false_left true b h = h

@@ -1,10 +1,8 @@
 -- The label rules of calls, over labels that may not be there.
-use Rattle.std.specs.Prelude.{ℕ, Bool, false, ◌||◌, ◌==◌, nat_le, Option, Some, None, is_none}
+use Rattle.std.specs.Prelude.{Bool, false, nat_le, Option, Some, None}
 use Rattle.std.specs.Prelude.{if◌then◌else◌}
-use Rattle.std.specs.List.{list_any}
 use Rattle.base.specs.declared.levels.Level.{Level}
 use Rattle.base.specs.declared.ids.Category.{Category}
-use Rattle.base.specs.Level.{rank_of}
 use Rattle.label_lattice.specs.declared.raw_labels.RawLabel.{RawLabel}
 use Rattle.label_lattice.specs.Label.{LabelValue}
 use Rattle.label_lattice.specs.Order.{levels, leq_test, up}

@@ -1,5 +1,5 @@
 -- What a call changes, and what it answers.
-use Rattle.std.specs.Prelude.{ℕ, ◌+◌, ◌*◌, List, [], length, replicate, slice_range, Option, Some}
+use Rattle.std.specs.Prelude.{ℕ, ◌+◌, ◌*◌, [], replicate, slice_range, Option, Some}
 use Rattle.std.specs.Prelude.{None}
 use Rattle.base.specs.declared.refusals.Refusal.{Refusal}
 use Rattle.label_lattice.specs.Label.{LabelValue}
@@ -35,10 +35,10 @@ abbrev pub edit : State → ℕ → Call → State
 edit s t call.CatCreate = owned s t (own_label s t) (own_clearance s t)
 edit s t (call.ContainerCreate d x q avoid) =
     with_label s (stored x) (λ l.
-        made s d (fresh_object l q (is.Container (joined_at s avoid d) [])))
+    made s d (fresh_object l q (is.Container (joined_at s avoid d) [])))
 edit s t (call.SegmentCreate d x q pages) =
     with_label s (stored x) (λ l.
-        made s d (fresh_object l q (is.Segment (replicate (256 * pages) 0))))
+    made s d (fresh_object l q (is.Segment (replicate (256 * pages) 0))))
 edit s t (call.SegmentWrite e a bytes) = changed s e.object (with_body (rebyte (written a bytes)))
 
 -- what the call answers where it is not refused

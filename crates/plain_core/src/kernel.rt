@@ -29,8 +29,8 @@ impl PlainKernel {
     ghost use Rattle.plain_core.specs.Runs.{booted};
 
     /// A newly booted kernel: the root container 1, the boot thread 2 and the device 3. The error
-    /// is `BadLimits` exactly where a limit is out of its range, and else `Unavailable`, where there
-    /// is no memory.
+    /// is `BadLimits` exactly where a limit is out of its range, and else, for want of memory,
+    /// `Unavailable`.
     pub fn boot(alloc: Global, limits: &Limits) -> Result<PlainKernel, BootRefusal>
         ensures state { IfOk result (λ kernel. kernel_state kernel ≡ booted limits.now) }
         ensures limits { IsErrOf result BootRefusal.BadLimits ↔ (in_range limits.now ≡ false) }

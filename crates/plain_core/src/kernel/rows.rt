@@ -22,11 +22,13 @@ use label_lattice::{Label, RawLabel};
 /// What a call asks for that makes an object.
 #[derive(Clone, Copy)]
 pub struct NewObject {
+    /// Its kind.
     pub kind: Kind,
+    /// Where it is listed.
     pub container: ObjectId,
-    /// Its quota, in pages.
+    /// Its quota, in pages of 256 bytes.
     pub quota: u32,
-    /// What it uses at first, in pages.
+    /// What it uses at first, in pages of 256 bytes.
     pub pages: u64,
 }
 

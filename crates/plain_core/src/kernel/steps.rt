@@ -20,14 +20,7 @@ use label_lattice::{Label, RawLabel};
 
 impl PlainKernel {
     /// Bytes of a segment.
-    #[tactic(
-        auto,
-        using(
-            crate::proofs::StepLaws::ask_refused,
-            crate::proofs::StepLaws::ask_found,
-            crate::proofs::StepLaws::read_fits
-        )
-    )]
+    #[tactic(auto, using(crate::proofs::StepLaws::ask_refused, crate::proofs::StepLaws::ask_found, crate::proofs::StepLaws::read_fits))]
     pub fn segment_read(
         &self,
         thread: ObjectId,
@@ -136,7 +129,7 @@ impl PlainKernel {
             (call.ContainerCreate container raw.now quota avoid)) }
         ensures ok { OnOk result (state_of self.new.records
             ≡ next (state_of self.old.records) thread
-                (call.ContainerCreate container raw.now quota avoid)) }
+            (call.ContainerCreate container raw.now quota avoid)) }
         ensures err { OnErr result (state_of self.new.records ≡ state_of self.old.records) }
     {
         let new = NewObject {
@@ -171,7 +164,7 @@ impl PlainKernel {
             (call.SegmentCreate container raw.now quota pages)) }
         ensures ok { OnOk result (state_of self.new.records
             ≡ next (state_of self.old.records) thread
-                (call.SegmentCreate container raw.now quota pages)) }
+            (call.SegmentCreate container raw.now quota pages)) }
         ensures err { OnErr result (state_of self.new.records ≡ state_of self.old.records) }
     {
         let new = NewObject {

@@ -1,4 +1,4 @@
-use Rattle.std.proofs.Common.{ℕ, sym, ◌∙◌, ap, subst, ◌≡◌, ◌*◌, replicate, true, List, Some, None}
+use Rattle.std.proofs.Common.{ℕ, sym, ◌∙◌, ap, subst, ◌≡◌, ◌*◌, replicate, List, None}
 use Rattle.std.proofs.Common.{Option, IfSome}
 use Rattle.label_lattice.specs.Label.{LabelValue, IsStored}
 use Rattle.plain_core.specs.Changes.{made, fresh_object}
@@ -24,11 +24,11 @@ unreachable-requires c =
 pub create-requires-clause-fitting : goal.create-requires-clause-fitting
 create-requires-clause-fitting c =
     let P : List ℕ → Type 0 =
-        λ bytes. IsFitting (state_of c.args.self.now.records) c.args.container c.args.quota (is.Segment bytes)
-            in
+    λ bytes. IsFitting (state_of c.args.self.now.records) c.args.container c.args.quota (is.Segment bytes)
+    in
     subst P (sym c.in_ok-bytes-in-None.ensures)
     (segment_fits (state_of c.args.self.now.records) c.args.thread c.args.container c.args.raw.now c.args.quota
-        c.args.pages
+    c.args.pages
     (sym c.refused_segment_create.ensures ∙ c.in-None.is)).0
 
 pub returns-in-Some-clause-reply : goal.returns-in-Some-clause-reply
@@ -41,12 +41,12 @@ returns-in-Some-clause-ok c = sym (step_refused _ _ _ _ (sym c.refused_segment_c
 pub returns-in_ok-bytes-in-None-clause-reply : goal.returns-in_ok-bytes-in-None-clause-reply
 returns-in_ok-bytes-in-None-clause-reply c =
     then_if _ _ _ c.create.ensures.reply
-        (sym (step_done _ _ _ (sym c.refused_segment_create.ensures ∙ c.in-None.is)).0)
+    (sym (step_done _ _ _ (sym c.refused_segment_create.ensures ∙ c.in-None.is)).0)
 
 pub returns-in_ok-bytes-in-None-clause-ok : goal.returns-in_ok-bytes-in-None-clause-ok
 returns-in_ok-bytes-in-None-clause-ok c =
     let none : refused (state_of c.args.self.now.records) c.args.thread
-        (call.SegmentCreate c.args.container c.args.raw.now c.args.quota c.args.pages) ≡ None
+    (call.SegmentCreate c.args.container c.args.raw.now c.args.quota c.args.pages) ≡ None
     = sym c.refused_segment_create.ensures ∙ c.in-None.is in
     let stores : with_label (state_of c.args.self.now.records) (stored c.args.raw.now)
     (λ l. made (state_of c.args.self.now.records) c.args.container (fresh_object l c.args.quota
@@ -56,16 +56,16 @@ returns-in_ok-bytes-in-None-clause-ok c =
     = with_stored _ _ _ _ (sym c.stored_of-label.ensures.stored ∙ c.in-Some-label.is) in
     then_on _ _ _ _ c.create.ensures.ok
     ((λ i. made (state_of c.args.self.now.records) c.args.container
-        (fresh_object c.in-Some-label.label c.args.quota
+    (fresh_object c.in-Some-label.label c.args.quota
     (is.Segment (c.in_ok-bytes-in-None.ensures i))))
     ∙ sym stores
     ∙ sym (step_sound (state_of c.args.self.now.records) c.args.thread
-        (call.SegmentCreate c.args.container c.args.raw.now c.args.quota c.args.pages) none
+    (call.SegmentCreate c.args.container c.args.raw.now c.args.quota c.args.pages) none
     (ap is_well_formed stores
     ∙ made_well_formed (state_of c.args.self.now.records) c.args.container c.in-Some-label.label c.args.quota
     (is.Segment (replicate (256 * c.args.pages) 0))
     (segment_fits (state_of c.args.self.now.records) c.args.thread c.args.container c.args.raw.now c.args.quota
-        c.args.pages none).0
+    c.args.pages none).0
     (stored_test c.in-Some-label.label
-        (subst (λ (v : Option LabelValue). IfSome v IsStored) c.in-Some-label.is c.stored_of-label.ensures.fit))
+    (subst (λ (v : Option LabelValue). IfSome v IsStored) c.in-Some-label.is c.stored_of-label.ensures.fit))
     c.args.self.now.well_formed)))
