@@ -2,7 +2,10 @@ pub mod BootLaws
 pub mod ChangeLaws
 pub mod EditLaws
 pub mod GrowLaws
+pub mod GrownLaws
 pub mod KeptLaws
+pub mod ListerLaws
+pub mod ListingLaws
 pub mod LookupLaws
 pub mod MadeLaws
 pub mod RecordLaws

@@ -1,5 +1,6 @@
 -- What rows of conditions give.
-use Rattle.std.proofs.Common.{◌≡◌, ◌≤◌, ◌<◌, ℕ, Bool, true, false, cond, nat_le, List, [], ◌∷◌, ◌++◌, Option, Some, None, refl, sym, ◌∙◌, ap, subst, arith}
+use Rattle.std.proofs.Common.{◌≡◌, ◌≤◌, ◌<◌, ℕ, Bool, true, false, cond, nat_le, [], ◌∷◌}
+use Rattle.std.proofs.Common.{◌++◌, Option, Some, None, refl, sym, ◌∙◌, ap, subst, arith}
 use Rattle.std.proofs.lemmas.Bool.{leb-true, leb-false}
 use Rattle.base.specs.declared.refusals.Refusal.{Refusal}
 use Rattle.base.specs.Refusal.{row_of, lesser}
@@ -16,7 +17,8 @@ choice n a b c = elim (nat_le (n a) (n b)) as (λ v. nat_le (n a) (n b) ≡ v �
           cond (nat_le (n a) (n c)) a c ≡ cond (nat_le (n a) (n (cond v b c))) a (cond v b c)) [
             | true ↦ λ bc.
                 let le : n a ≤ n c = omega (arith, leb-true (n a) (n b) ab, leb-true (n b) (n c) bc) in
-                subst (λ v. cond (nat_le (n a) (n c)) a c ≡ cond v a b) (sym ab) (subst (λ v. cond v a c ≡ a) (sym (le_test (n a) (n c) le)) refl)
+                subst (λ v. cond (nat_le (n a) (n c)) a c ≡ cond v a b) (sym ab)
+                (subst (λ v. cond v a c ≡ a) (sym (le_test (n a) (n c) le)) refl)
             | false ↦ λ bc. refl
           ] refl
       | false ↦ λ ab. elim (nat_le (n b) (n c)) as (λ v. nat_le (n b) (n c) ≡ v →
@@ -43,11 +45,14 @@ least_of-least_of (Some x) None c = refl
 least_of-least_of (Some x) (Some y) None = refl
 least_of-least_of (Some x) (Some y) (Some z) = ap Some (lesser-lesser x y z)
 
-refusal_of-cons : (c : Refusal × Bool) (row : Row) → refusal_of (c ∷ row) ≡ least_of (cond c.1 (Some c.0) None) (refusal_of row)
-refusal_of-cons c row = elim c.1 as (λ v. cond v (Some (lesser_of c.0 (refusal_of row))) (refusal_of row) ≡ least_of (cond v (Some c.0) None) (refusal_of row)) [
-  | true ↦ refl
-  | false ↦ refl
-]
+refusal_of-cons : (c : Refusal × Bool) (row : Row)
+    → refusal_of (c ∷ row) ≡ least_of (cond c.1 (Some c.0) None) (refusal_of row)
+refusal_of-cons c row =
+    elim c.1 as (λ v. cond v (Some (lesser_of c.0 (refusal_of row))) (refusal_of row)
+    ≡ least_of (cond v (Some c.0) None) (refusal_of row)) [
+      | true ↦ refl
+      | false ↦ refl
+    ]
 
 -- the refusal of two rows, one after the other
 pub appended : (xs ys : Row) → refusal_of (xs ++ ys) ≡ least_of (refusal_of xs) (refusal_of ys)
@@ -65,7 +70,9 @@ NoneHold (c ∷ row) = (c.1 ≡ false) × NoneHold row
 -- a row gives no refusal only where none of its conditions holds
 pub none_hold : (row : Row) → refusal_of row ≡ None → NoneHold row
 none_hold [] h = tt
-none_hold (c ∷ row) h = elim c.1 as (λ v. cond v (Some (lesser_of c.0 (refusal_of row))) (refusal_of row) ≡ None → (v ≡ false) × NoneHold row) [
-  | true ↦ λ e. absurd (cc)
-  | false ↦ λ e. (refl, none_hold row e)
-] h
+none_hold (c ∷ row) h =
+    elim c.1 as (λ v. cond v (Some (lesser_of c.0 (refusal_of row))) (refusal_of row) ≡ None → (v ≡ false)
+    × NoneHold row) [
+      | true ↦ λ e. absurd (cc)
+      | false ↦ λ e. (refl, none_hold row e)
+    ] h

@@ -1,12 +1,11 @@
 -- What a well-formed state gives, and what keeps it well formed.
-use Rattle.std.proofs.Common.{◌≡◌, ℕ, ◌+◌, Bool, true, ◌&&◌, nat_lt, List, refl, ◌∙◌, ap}
+use Rattle.std.proofs.Common.{◌≡◌, ℕ, Bool, true, ◌&&◌, nat_lt}
 use Rattle.std.specs.List.{list_all}
 use Rattle.std.proofs.lemmas.Bool.{and_parts, and_from}
-use Rattle.base.specs.Live.{are_live, is_live}
+use Rattle.base.specs.Live.{are_live}
 use Rattle.base.specs.declared.kinds.Kind as kind
 use Rattle.plain_core.specs.State.{State, lists_of, is_kind_at, is_live_kind}
 use Rattle.plain_core.specs.WellFormed.{is_well_formed, are_given, ids_rise, is_kept}
-use Rattle.plain_core.specs.declared.objects.Object.{Object}
 use Rattle.plain_core.proofs.RecordLaws.{kind_live}
 
 -- the parts of a well-formed state
@@ -17,7 +16,8 @@ pub record Soundness (s : State) : Type 0 where
   pub rise : ids_rise s.objects ≡ true
   pub kept : list_all (λ e. is_kept s e.0 e.1) s.objects ≡ true
 
-four : (a b c d e : Bool) → (a && b && c && d && e) ≡ true → (a ≡ true) × (b ≡ true) × (c ≡ true) × (d ≡ true) × (e ≡ true)
+four : (a b c d e : Bool) → (a && b && c && d && e) ≡ true
+    → (a ≡ true) × (b ≡ true) × (c ≡ true) × (d ≡ true) × (e ≡ true)
 four a b c d e h =
     let last : ((a && b && c && d) ≡ true) × (e ≡ true) = and_parts (a && b && c && d) e h in
     let third : ((a && b && c) ≡ true) × (d ≡ true) = and_parts (a && b && c) d last.0 in
@@ -28,18 +28,22 @@ four a b c d e h =
 pub soundness_of : (s : State) → is_well_formed s ≡ true → Soundness s
 unfolding is_well_formed
 soundness_of s h =
-    let parts = four (nat_lt 3 s.next_id) (are_live (lists_of s.objects)) (are_given s) (ids_rise s.objects) (list_all (λ e. is_kept s e.0 e.1) s.objects) h in
+    let parts =
+    four (nat_lt 3 s.next_id) (are_live (lists_of s.objects)) (are_given s) (ids_rise s.objects)
+    (list_all (λ e. is_kept s e.0 e.1) s.objects) h in
     record { begun = parts.0; live = parts.1; given = parts.2; rise = parts.3; kept = parts.4 }
 
 pub well_formed_from : (s : State) → Soundness s → is_well_formed s ≡ true
 unfolding is_well_formed
 well_formed_from s h =
-    and_from (nat_lt 3 s.next_id && are_live (lists_of s.objects) && are_given s && ids_rise s.objects) (list_all (λ e. is_kept s e.0 e.1) s.objects)
+    and_from (nat_lt 3 s.next_id && are_live (lists_of s.objects) && are_given s && ids_rise s.objects)
+    (list_all (λ e. is_kept s e.0 e.1) s.objects)
     (and_from (nat_lt 3 s.next_id && are_live (lists_of s.objects) && are_given s) (ids_rise s.objects)
     (and_from (nat_lt 3 s.next_id && are_live (lists_of s.objects)) (are_given s)
     (and_from (nat_lt 3 s.next_id) (are_live (lists_of s.objects)) h.begun h.live) h.given) h.rise)
     h.kept
 
 -- each record is live
-pub live_kind : (s : State) (k : kind.Kind) (o : ℕ) → is_well_formed s ≡ true → is_kind_at s k o ≡ is_live_kind s k o
+pub live_kind : (s : State) (k : kind.Kind) (o : ℕ) → is_well_formed s ≡ true
+    → is_kind_at s k o ≡ is_live_kind s k o
 live_kind s k o h = kind_live s k o (soundness_of s h).live

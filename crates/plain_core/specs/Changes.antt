@@ -1,5 +1,5 @@
 -- How a state changes, one object at a time.
-use Rattle.std.specs.Prelude.{ℕ, ◌+◌, Bool, false, List, [], ◌∷◌, ◌++◌, replicate}
+use Rattle.std.specs.Prelude.{ℕ, ◌+◌, false, List, [], ◌∷◌, ◌++◌, replicate}
 use Rattle.std.specs.Ordering.{nat_cmp}
 use Rattle.std.specs.Map.{set_value}
 use Rattle.std.specs.BTreeMap.{insert_entry, is_at}
@@ -20,6 +20,7 @@ put s o x = record s { objects = set_value (is_at (nat_cmp o)) s.objects x }
 abbrev pub changed : State → ℕ → (Object → Object) → State
 changed s o f = of_object s (λ x. put s o (f x)) (object_at s o)
 
+-- the object with its body changed
 abbrev pub with_body : (body.Body → body.Body) → Object → Object
 with_body f x = record x { body = f x.body }
 
@@ -52,7 +53,14 @@ rethread f (is.Device packets) = is.Device packets
 
 -- a new object: nothing fixed, not immutable, its metadata 64 bytes of 0
 abbrev pub fresh_object : LabelValue → ℕ → body.Body → Object
-fresh_object l q b = record { label = l; quota = q; fixed = false; immutable = false; metadata = replicate 64 0; body = b }
+fresh_object l q b = record {
+  label = l;
+  quota = q;
+  fixed = false;
+  immutable = false;
+  metadata = replicate 64 0;
+  body = b;
+}
 
 -- the thread with this label and clearance
 abbrev pub owning : LabelValue → LabelValue → Object → Object
@@ -64,13 +72,16 @@ listing o = with_body (relist (λ ids. ids ++ o ∷ []))
 
 -- x is the object of the next id
 abbrev pub with_new : State → Object → State
-with_new s x = record s { objects = insert_entry nat_cmp s.objects s.next_id x; next_id = s.next_id + 1 }
+with_new s x = record s {
+  objects = insert_entry nat_cmp s.objects s.next_id x;
+  next_id = s.next_id + 1;
+}
 
 -- x is the object of the next id, last in d's list
 abbrev pub made : State → ℕ → Object → State
 made s d x = with_new (changed s d (listing s.next_id)) x
 
--- what a new container in this one avoids: the kinds given, and those that this one avoids
+-- what a new container in one of this body avoids: the kinds given, and those that this one avoids
 abbrev pub joined : TypeSet → body.Body → TypeSet
 joined kinds (is.Container avoid list) = record { 0 = bit_or kinds.0 avoid.0 }
 joined kinds (is.Segment bytes) = kinds
@@ -79,5 +90,6 @@ joined kinds (is.Thread t) = kinds
 joined kinds (is.Gate g) = kinds
 joined kinds (is.Device packets) = kinds
 
+-- what a new container in container d avoids, which is asked to avoid these kinds
 abbrev pub joined_at : State → TypeSet → ℕ → TypeSet
 joined_at s kinds d = of_object kinds (λ x. joined kinds x.body) (object_at s d)

@@ -1,9 +1,8 @@
 -- The label rules of calls, over labels that may not be there.
-use Rattle.std.specs.Prelude.{ℕ, Bool, false, ◌||◌, ◌==◌, nat_le, Option, Some, None, is_none, if◌then◌else◌}
-use Rattle.std.specs.List.{list_any}
+use Rattle.std.specs.Prelude.{Bool, false, nat_le, Option, Some, None}
+use Rattle.std.specs.Prelude.{if◌then◌else◌}
 use Rattle.base.specs.declared.levels.Level.{Level}
 use Rattle.base.specs.declared.ids.Category.{Category}
-use Rattle.base.specs.Level.{rank_of}
 use Rattle.label_lattice.specs.declared.raw_labels.RawLabel.{RawLabel}
 use Rattle.label_lattice.specs.Label.{LabelValue}
 use Rattle.label_lattice.specs.Order.{levels, leq_test, up}
@@ -28,18 +27,6 @@ visible a b = leq_test (levels a) (up (levels b))
 -- the one stored label of a raw label, where it has one
 unfoldable pub stored : RawLabel → Option LabelValue
 stored raw = if is_bad raw then None else Some (stored_of raw)
-
--- a category of the raw label is 0, or not below the next category
-abbrev pub has_unmade : ℕ → RawLabel → Bool
-has_unmade next raw = list_any (λ p. p.category.0 == 0 || nat_le next p.category.0) raw.pairs
-
--- the raw label has star
-abbrev pub has_star : RawLabel → Bool
-has_star raw = list_any (λ p. rank_of p.level == 0) raw.pairs
-
--- the raw label cannot be stored, or names a category that was not made
-abbrev pub is_unfit : ℕ → RawLabel → Bool
-is_unfit next raw = is_none (stored raw) || has_unmade next raw
 
 -- the label with a category at a level, where it has room for it
 unfoldable pub with_category : LabelValue → Category → Level → Option LabelValue

@@ -24,6 +24,7 @@ uniform level = record { default_level = level; exceptions = [] }
 abbrev pub root_object : Limits → Object
 root_object l = fresh_object (uniform L1) l.pages (is.Container (record { 0 = 0 }) (2 ∷ 3 ∷ []))
 
+-- the boot thread, whose address space is none
 abbrev pub boot_thread : Object
 boot_thread = fresh_object (uniform L1) 1 (is.Thread (record {
   clearance = uniform L2;
@@ -33,6 +34,7 @@ boot_thread = fresh_object (uniform L1) 1 (is.Thread (record {
   closure = 0;
 }))
 
+-- the device, of the label that the limits give
 abbrev pub device_object : Limits → Object
 device_object l = fresh_object (uniform l.device) 2 (is.Device [])
 

@@ -1,5 +1,6 @@
 -- The kernel's state, and the words in which the rules are said.
-use Rattle.std.specs.Prelude.{ℕ, ◌+◌, ◌*◌, ◌/◌, Bool, false, ◌&&◌, ◌||◌, ◌==◌, List, [], map, length, Option, Some, None, sum_by}
+use Rattle.std.specs.Prelude.{ℕ, ◌+◌, ◌/◌, Bool, false, ◌&&◌, ◌||◌, ◌==◌, List, [], map}
+use Rattle.std.specs.Prelude.{length, Option, Some, None, sum_by}
 use Rattle.std.specs.List.{filter}
 use Rattle.std.specs.Option.{option_map, option_and_then}
 use Rattle.std.specs.Ordering.{nat_cmp}
@@ -17,7 +18,7 @@ use Rattle.plain_core.specs.declared.objects.Object.{Object}
 use Rattle.plain_core.specs.declared.objects.Body as body
 use Rattle.plain_core.specs.declared.objects.Body.TheVariants as is
 
--- the objects stand by rising ids
+-- the limits of the boot, the objects by rising ids, and the id and the category to be given next
 pub record State : Type 0 where
   pub limits : Limits
   pub objects : List (ℕ × Object)
@@ -33,6 +34,7 @@ abbrev pub of_object : {X : Type 0} → X → (Object → X) → Option Object �
 of_object d f None = d
 of_object d f (Some x) = f x
 
+-- the kind of an object of this body
 abbrev pub kind_of : body.Body → kind.Kind
 kind_of (is.Container avoid list) = kinds.Container
 kind_of (is.Segment bytes) = kinds.Segment
@@ -41,6 +43,7 @@ kind_of (is.Thread t) = kinds.Thread
 kind_of (is.Gate g) = kinds.Gate
 kind_of (is.Device packets) = kinds.Device
 
+-- the kinds in the order of the table
 abbrev pub kind_number : kind.Kind → ℕ
 kind_number kinds.Container = 0
 kind_number kinds.Segment = 1
@@ -49,6 +52,7 @@ kind_number kinds.Thread = 3
 kind_number kinds.Gate = 4
 kind_number kinds.Device = 5
 
+-- the object has this kind
 abbrev pub is_kind : kind.Kind → Object → Bool
 is_kind k x = kind_number (kind_of x.body) == kind_number k
 
@@ -97,33 +101,43 @@ clearance_of (is.AddressSpace slots) = None
 clearance_of (is.Gate g) = None
 clearance_of (is.Device packets) = None
 
+-- o has kind k
 abbrev pub is_kind_at : State → kind.Kind → ℕ → Bool
 is_kind_at s k o = of_object false (is_kind k) (object_at s o)
 
+-- the label of o
 abbrev pub label_at : State → ℕ → Option LabelValue
 label_at s o = option_map (λ x. x.label) (object_at s o)
 
+-- the clearance of thread t
 abbrev pub clearance_at : State → ℕ → Option LabelValue
 clearance_at s t = option_and_then (λ x. clearance_of x.body) (object_at s t)
 
+-- the quota of o, in pages of 256 bytes
 abbrev pub quota_at : State → ℕ → ℕ
 quota_at s o = of_object 0 (λ x. x.quota) (object_at s o)
 
+-- the ids that container o lists
 abbrev pub list_at : State → ℕ → List ℕ
 list_at s o = of_object [] (λ x. listed x.body) (object_at s o)
 
+-- the bytes of segment o
 abbrev pub bytes_at : State → ℕ → List ℕ
 bytes_at s o = of_object [] (λ x. bytes_of x.body) (object_at s o)
 
+-- the own cost of o, in pages of 256 bytes
 abbrev pub cost_at : State → ℕ → ℕ
 cost_at s o = of_object 0 (λ x. own_cost x.body) (object_at s o)
 
+-- container d avoids kind k
 abbrev pub avoids_at : State → kind.Kind → ℕ → Bool
 avoids_at s k d = of_object false (λ x. avoids k x.body) (object_at s d)
 
+-- o is immutable
 abbrev pub is_immutable : State → ℕ → Bool
 is_immutable s o = of_object false (λ x. x.immutable) (object_at s o)
 
+-- the whole pages of segment o
 abbrev pub page_count : State → ℕ → ℕ
 page_count s o = length (bytes_at s o) / 256
 
@@ -133,7 +147,9 @@ use_of s o = cost_at s o + sum_by (quota_at s) (list_at s o)
 
 -- the entry stands: the object is in the container's list, or is the container
 abbrev pub holds : State → Entry → Bool
-holds s e = is_kind_at s kinds.Container e.container && (has (list_at s e.container) e.object || e.object == e.container)
+holds s e =
+    is_kind_at s kinds.Container e.container
+    && (has (list_at s e.container) e.object || e.object == e.container)
 
 -- what each id lists
 abbrev pub lists_of : List (ℕ × Object) → List (ℕ × List ℕ)

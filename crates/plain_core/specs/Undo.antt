@@ -1,5 +1,5 @@
 -- A linking that is taken back.
-use Rattle.std.specs.Prelude.{ℕ, ◌-◌, List, length, take}
+use Rattle.std.specs.Prelude.{◌-◌, length, take}
 use Rattle.plain_core.specs.declared.objects.Object.{Object}
 use Rattle.plain_core.specs.Changes.{with_body, relist}
 

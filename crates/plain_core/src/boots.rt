@@ -2,7 +2,8 @@
 ghost use Rattle.std.specs.Prelude.{◌≡◌, ◌==◌, true, false, IfOk};
 ghost use Rattle.base.specs.Level.{rank_of};
 ghost use Rattle.base.specs.Limits.{in_range};
-ghost use Rattle.plain_core.specs.Runs.{booted, uniform, root_object, boot_thread, device_object, boot_refusal};
+ghost use Rattle.plain_core.specs.Runs.{booted, uniform, root_object, boot_thread, device_object};
+ghost use Rattle.plain_core.specs.Runs.{boot_refusal};
 ghost use Rattle.plain_core.specs.StateOf.{state_of};
 
 use crate::calls::Entry;

@@ -3,7 +3,8 @@ ghost use Rattle.std.specs.Prelude.{◌≡◌, ◌≤◌, ◌<◌, ◌+◌, ◌^
 ghost use Rattle.label_lattice.specs.Label.{LabelValue};
 ghost use Rattle.plain_core.specs.Written.{written};
 ghost use Rattle.plain_core.specs.State.{bytes_of, bytes_at};
-ghost use Rattle.plain_core.specs.Changes.{changed, with_body, rebyte, owning, listing, made, fresh_object};
+ghost use Rattle.plain_core.specs.Changes.{changed, with_body, rebyte, owning, listing, made};
+ghost use Rattle.plain_core.specs.Changes.{fresh_object};
 ghost use Rattle.plain_core.specs.StateOf.{state_of};
 ghost use Rattle.plain_core.specs.Step.{owned};
 ghost use Rattle.plain_core.specs.Undo.{unlisting};
@@ -43,14 +44,16 @@ fn own(object: &mut Object, label: Label, clearance: Label)
 }
 
 fn own_in(records: &mut Records, thread: ObjectId, label: Label, clearance: Label)
-    ensures { state_of records.new ≡ changed (state_of records.old) thread (owning label clearance) }
+    ensures { state_of records.new
+        ≡ changed (state_of records.old) thread (owning label clearance) }
 {
     if let Some(object) = records.objects.get_mut(&thread) {
         own(object, label, clearance);
     }
 }
 
-/// A thread gets this label and clearance, where both are there, and the next category is given away.
+/// A thread gets this label and clearance, where both are there, and the next category is given
+/// away.
 pub fn own_category(
     records: &mut Records,
     thread: ObjectId,
@@ -81,7 +84,8 @@ fn list_last(object: &mut Object, id: ObjectId) -> Result<(), NoMemory>
 
 #[tactic(auto, using(std::proofs::lemmas::Map::Steps::set_value_same))]
 fn list_in(records: &mut Records, container: ObjectId, id: ObjectId) -> Result<(), NoMemory>
-    ensures ok { OnOk result (state_of records.new ≡ changed (state_of records.old) container (listing id)) }
+    ensures ok { OnOk result
+        (state_of records.new ≡ changed (state_of records.old) container (listing id)) }
     ensures err { OnErr result (state_of records.new ≡ state_of records.old) }
 {
     match records.objects.get_mut(&container) {

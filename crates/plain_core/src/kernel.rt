@@ -15,8 +15,8 @@ mod reads;
 mod rows;
 mod steps;
 
-/// A label kernel that keeps nothing but its records, and computes liveness, use and label rules anew at each call. What
-/// it holds is seen as its state; that the state is well formed is kept with it.
+/// A label kernel that keeps nothing but its records, and computes liveness, use and label rules
+/// anew at each call. A contract sees it as its state, which is well formed at all times.
 #[derive(Drop)]
 pub struct PlainKernel {
     alloc: Global,
@@ -28,8 +28,9 @@ impl PlainKernel {
     ghost use Rattle.plain_core.specs.Kernel.{kernel_state};
     ghost use Rattle.plain_core.specs.Runs.{booted};
 
-    /// A newly booted kernel: the root container 1, the boot thread 2 and the device 3. It is refused exactly where a
-    /// limit is out of its range, and where there is no memory.
+    /// A newly booted kernel: the root container 1, the boot thread 2 and the device 3. The error
+    /// is `BadLimits` exactly where a limit is out of its range, and else, for want of memory,
+    /// `Unavailable`.
     pub fn boot(alloc: Global, limits: &Limits) -> Result<PlainKernel, BootRefusal>
         ensures state { IfOk result (λ kernel. kernel_state kernel ≡ booted limits.now) }
         ensures limits { IsErrOf result BootRefusal.BadLimits ↔ (in_range limits.now ≡ false) }

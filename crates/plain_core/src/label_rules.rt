@@ -1,7 +1,7 @@
 //! The label rules of calls, over labels that may not be there.
 ghost use Rattle.std.specs.Prelude.{◌≡◌, ◌||◌, option_copied, IfSome};
 ghost use Rattle.label_lattice.specs.Label.{IsStored};
-ghost use Rattle.plain_core.specs.Labels.{both, below, visible, stored, has_unmade, has_star, with_category};
+ghost use Rattle.plain_core.specs.Labels.{both, below, visible, stored, with_category};
 
 use base::{Category, Level, Meter};
 use label_lattice::{Label, RawLabel};
@@ -58,26 +58,6 @@ pub fn stored_of(raw: &RawLabel, meter: &mut Meter) -> Option<Label>
         Ok(label) => Some(label),
         Err(_) => None,
     }
-}
-
-/// Whether a category of the raw label is 0, or not below the next category.
-pub fn names_unmade(raw: &RawLabel, next: u64) -> bool
-    ensures { result ≡ has_unmade next raw.now }
-{
-    raw.pairs
-        .as_slice()
-        .iter()
-        .any(|pair| pair.category.0 == 0 || next <= pair.category.0)
-}
-
-/// Whether the raw label has star.
-pub fn names_star(raw: &RawLabel) -> bool
-    ensures { result ≡ has_star raw.now }
-{
-    raw.pairs
-        .as_slice()
-        .iter()
-        .any(|pair| pair.level.rank() == 0)
 }
 
 /// The label with a category at a level, where it has room for it.

@@ -1,5 +1,6 @@
 //! The lists that objects hold. A contract sees each as the list.
-ghost use Rattle.std.specs.Prelude.{◌≡◌, ◌≤◌, ◌+◌, ◌-◌, [], ◌∷◌, ◌++◌, length, take, replicate, IfOk, OnOk, OnErr};
+ghost use Rattle.std.specs.Prelude.{◌≡◌, ◌≤◌, ◌+◌, ◌-◌, [], ◌∷◌, ◌++◌, length, take, replicate};
+ghost use Rattle.std.specs.Prelude.{IfOk, OnOk, OnErr};
 ghost use Rattle.plain_core.specs.Written.{written};
 
 use crate::objects::Mapping;
@@ -22,7 +23,7 @@ impl Model for Bytes {
 }
 
 impl Bytes {
-    /// So many bytes of 0.
+    /// So many bytes of 0. The error is want of memory.
     pub fn zeroed(alloc: Global, count: usize) -> Result<Bytes, AllocError>
         ensures { IfOk result (λ bytes. bytes ≡ replicate count 0) }
     {
@@ -99,6 +100,7 @@ impl IdList {
 /// The sixteen slots of an address space.
 #[derive(Clone, Copy)]
 pub struct Slots {
+    /// The mapping of each slot, where it has one.
     pub slots: [Option<Mapping>; 16],
 }
 

@@ -13,28 +13,32 @@ pub trait Machine {
     /// The state that it is in.
     ghost state: { Self → State };
 
-    /// One write call of a thread. The reply is the answer of the rules, and the new state the next one. A refused
-    /// call changes nothing, and neither does a call without memory.
+    /// One call of a thread that may change the state. The reply is the answer of the rules, and
+    /// the new state the next one. A call that is refused changes nothing, nor does one for which
+    /// there is no memory, which is the only error.
     fn step(&mut self, thread: ObjectId, call: &Call, meter: &mut Meter) -> Result<Reply, NoMemory>
         ensures reply { IfOk result (λ reply. reply ≡ answer (state self.old) thread call.now) }
         ensures ok { OnOk result (state self.new ≡ next (state self.old) thread call.now) }
         ensures err { OnErr result (state self.new ≡ state self.old) };
 
-    /// One read call of a thread. The reply is the answer of the rules.
+    /// One query of a thread, which changes nothing. The reply is the answer of the rules, and want
+    /// of memory the only error.
     fn ask(&self, thread: ObjectId, query: &Query, meter: &mut Meter) -> Result<Reply, NoMemory>
         ensures { IfOk result (λ reply. reply ≡ query_answer (state self.now) thread query.now) };
 }
 
-/// Write calls in order, each by its thread. The replies are those of the rules, from the state that the machine was
-/// in, and the new state is where the rules lead. Without memory the machine is in the state after some beginning of
-/// the list; where the list of replies can't be made, that is the state before.
+/// Calls in order, each by its thread. The replies are those of the rules, from the state that the
+/// machine was in, and the new state is where the rules lead. Without memory, the only error, the
+/// machine is in the state after some beginning of the list.
 pub fn run<M: Machine>(
     alloc: Global,
     machine: &mut M,
     calls: &[(ObjectId, Call)],
 ) -> Result<Vec<Reply>, NoMemory>
-    ensures replies { IfOk result (λ replies. replies.items ≡ replies_to (M.state machine.old) calls.now) }
-    ensures state { OnOk result (M.state machine.new ≡ state_after (M.state machine.old) calls.now) }
+    ensures replies { IfOk result
+        (λ replies. replies.items ≡ replies_to (M.state machine.old) calls.now) }
+    ensures state { OnOk result
+        (M.state machine.new ≡ state_after (M.state machine.old) calls.now) }
     ensures stopped { OnErr result ((n : ℕ) × (n ≤ length calls.now)
         × (M.state machine.new ≡ state_after (M.state machine.old) (take n calls.now))) }
 {

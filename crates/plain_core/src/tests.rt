@@ -106,7 +106,8 @@ fn booted(rt: &HostRuntime) -> Result<PlainKernel, BootRefusal> {
     }
 }
 
-// Where an allocation is refused, the value before stands: the call that is made again answers as if nothing had been.
+// Where an allocation is refused, the state before stands: the call that is made again answers as
+// if nothing had been.
 #[test]
 fn want_of_memory_changes_nothing(rt: HostRuntime) -> Result<(), Fail> {
     let mut meter = match Meter::new(rt.alloc()) {

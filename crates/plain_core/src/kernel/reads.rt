@@ -1,7 +1,11 @@
 //! What calls look at.
-ghost use Rattle.std.specs.Prelude.{◌≡◌, ◌≤◌, ◌<◌, ◌+◌, ◌*◌, ◌^◌, length, option_copied, sum_by, nat_le, nat_lt, ◌&&◌};
+ghost use Rattle.std.specs.Prelude.{◌≡◌, ◌≤◌, ◌<◌, ◌+◌, ◌*◌, ◌^◌, length, option_copied, sum_by};
+ghost use Rattle.std.specs.Prelude.{nat_le, nat_lt, ◌&&◌};
 ghost use Rattle.base.specs.Live.{has};
-ghost use Rattle.plain_core.specs.State.{object_at, is_kind, is_kind_at, is_live_kind, is_accessible, observes, flows_to, holds, bytes_at, label_at, clearance_at, is_immutable, quota_at, list_at, cost_at, use_of, avoids_at, page_count};
+ghost use Rattle.plain_core.specs.State.{object_at, is_kind, is_kind_at, is_live_kind};
+ghost use Rattle.plain_core.specs.State.{is_accessible, observes, flows_to, holds, bytes_at};
+ghost use Rattle.plain_core.specs.State.{label_at, clearance_at, is_immutable, quota_at, list_at};
+ghost use Rattle.plain_core.specs.State.{cost_at, use_of, avoids_at, page_count};
 ghost use Rattle.plain_core.specs.Rows.{is_shape};
 ghost use Rattle.plain_core.specs.Changes.{joined_at};
 ghost use Rattle.plain_core.specs.StateOf.{state_of};
@@ -35,12 +39,14 @@ pub fn has_shape(at: u64, count: u64) -> bool
 }
 
 impl PlainKernel {
+    /// The object of an id, where it is recorded.
     pub fn object(&self, id: ObjectId) -> Option<&Object>
         ensures { option_copied result ≡ object_at (state_of self.now.records) id }
     {
         self.records.objects.get(&id)
     }
 
+    /// Whether an id is that of an object of this kind.
     pub fn is_kind(&self, kind: Kind, id: ObjectId) -> bool
         ensures { result ≡ is_kind_at (state_of self.now.records) kind id }
     {
@@ -50,6 +56,7 @@ impl PlainKernel {
         }
     }
 
+    /// The label of an object, where it is recorded.
     pub fn label(&self, id: ObjectId) -> Option<&Label>
         ensures { option_copied result ≡ label_at (state_of self.now.records) id }
     {
@@ -59,6 +66,7 @@ impl PlainKernel {
         }
     }
 
+    /// The clearance of a thread, and `None` for any other object.
     pub fn clearance(&self, thread: ObjectId) -> Option<&Label>
         ensures { option_copied result ≡ clearance_at (state_of self.now.records) thread }
     {
@@ -73,7 +81,8 @@ impl PlainKernel {
         }
     }
 
-    /// Each record is live, so an object of the kind is a live one.
+    /// Whether an id is that of a live object of this kind. Each record is live, so no path from
+    /// the root has to be found.
     pub fn is_live_kind(&self, kind: Kind, id: ObjectId) -> bool
         ensures { result ≡ is_live_kind (state_of self.now.records) kind id }
     {
@@ -81,25 +90,30 @@ impl PlainKernel {
         self.is_kind(kind, id)
     }
 
+    /// Whether a thread observes an object: the object's label is at most the thread's with star
+    /// raised (HiStar, OSDI 2006).
     pub fn observes(&self, thread: ObjectId, id: ObjectId, meter: &mut Meter) -> bool
         ensures { result ≡ observes (state_of self.now.records) thread id }
     {
         is_visible(self.label(id), self.label(thread), meter)
     }
 
+    /// Whether a thread's label is at most an object's, as it is where the thread modifies what it
+    /// observes (HiStar, OSDI 2006).
     pub fn flows_to(&self, thread: ObjectId, id: ObjectId, meter: &mut Meter) -> bool
         ensures { result ≡ flows_to (state_of self.now.records) thread id }
     {
         is_below(self.label(thread), self.label(id), meter)
     }
 
+    /// Whether an id is that of a live container that the thread observes.
     pub fn is_accessible(&self, thread: ObjectId, container: ObjectId, meter: &mut Meter) -> bool
         ensures { result ≡ is_accessible (state_of self.now.records) thread container }
     {
         self.is_live_kind(Kind::Container, container) && self.observes(thread, container, meter)
     }
 
-    /// What a container lists.
+    /// What a container lists, and nothing for any other object.
     pub fn list(&self, id: ObjectId) -> &[ObjectId]
         ensures { result.now ≡ list_at (state_of self.now.records) id }
     {
@@ -120,6 +134,7 @@ impl PlainKernel {
         self.list(container).iter().any(|listed| id == *listed)
     }
 
+    /// Whether an entry stands: its object is in its container's list, or is the container.
     pub fn holds(&self, entry: &Entry) -> bool
         ensures { result ≡ holds (state_of self.now.records) entry.now }
     {
@@ -127,7 +142,7 @@ impl PlainKernel {
             && (self.is_listed(entry.container, entry.object) || entry.object == entry.container)
     }
 
-    /// A segment's bytes.
+    /// A segment's bytes, and none for any other object.
     pub fn bytes(&self, id: ObjectId) -> &[u8]
         ensures { result.now ≡ bytes_at (state_of self.now.records) id }
     {
@@ -144,12 +159,14 @@ impl PlainKernel {
 
     /// Whether so many bytes from `offset` on go past the whole pages of a segment.
     pub fn is_past(&self, id: ObjectId, offset: u32, count: u32) -> bool
-        ensures { result ≡ nat_lt (256 * page_count (state_of self.now.records) id) (offset + count) }
+        ensures { result
+            ≡ nat_lt (256 * page_count (state_of self.now.records) id) (offset + count) }
     {
         let pages = self.bytes(id).len() / 256;
         256 * (pages as u64) < u64::from(offset) + u64::from(count)
     }
 
+    /// Whether an object is read-only for good, which one that is not recorded isn't.
     pub fn is_immutable(&self, id: ObjectId) -> bool
         ensures { result ≡ is_immutable (state_of self.now.records) id }
     {
@@ -159,6 +176,7 @@ impl PlainKernel {
         }
     }
 
+    /// What an object may use, in pages of 256 bytes: 0 where it is not recorded.
     pub fn quota(&self, id: ObjectId) -> u32
         ensures { result ≡ quota_at (state_of self.now.records) id }
     {
@@ -201,7 +219,7 @@ impl PlainKernel {
         }
     }
 
-    /// What an object uses, in pages.
+    /// What an object uses, in pages of 256 bytes: its own cost and the quotas of what it lists.
     pub fn used(&self, id: ObjectId) -> u128
         ensures value { result ≡ use_of (state_of self.now.records) id }
         ensures small { result < 2 ^ 100 }
@@ -217,6 +235,7 @@ impl PlainKernel {
         u128::from(self.quota(container)) < self.used(container) + u128::from(pages)
     }
 
+    /// Whether a container won't hold this kind.
     pub fn avoids(&self, kind: Kind, id: ObjectId) -> bool
         ensures { result ≡ avoids_at (state_of self.now.records) kind id }
     {
@@ -231,7 +250,7 @@ impl PlainKernel {
         }
     }
 
-    /// What a new container in this one avoids.
+    /// What a new container in this one avoids, which is asked to avoid these kinds.
     pub fn joined(&self, container: ObjectId, kinds: TypeSet) -> TypeSet
         ensures { result ≡ joined_at (state_of self.now.records) kinds container }
     {

@@ -1,8 +1,10 @@
 //! The rows of the table of calls: which conditions hold, and what refuses a call.
-ghost use Rattle.std.specs.Prelude.{◌≡◌, ◌+◌, ◌&&◌, ◌||◌, is_none, IfSome, option_copied};
+ghost use Rattle.std.specs.Prelude.{◌≡◌, ◌+◌, ◌&&◌, ◌||◌, not, is_none, IfSome, option_copied};
 ghost use Rattle.label_lattice.specs.Label.{IsStored};
-ghost use Rattle.plain_core.specs.Labels.{is_unfit, has_star, stored};
-ghost use Rattle.plain_core.specs.Rows.{refused, query_refused, refusal_of, halted, fitting, new_object, in_range_of, own_label, own_clearance};
+ghost use Rattle.label_lattice.specs.Raw.{all_made, raw_has_star};
+ghost use Rattle.plain_core.specs.Labels.{stored};
+ghost use Rattle.plain_core.specs.Rows.{refused, query_refused, refusal_of, halted, fitting};
+ghost use Rattle.plain_core.specs.Rows.{new_object, in_range_of, own_label, own_clearance};
 ghost use Rattle.plain_core.specs.StateOf.{state_of};
 ghost use Rattle.base.specs.declared.kinds.Kind.TheVariants as kinds;
 ghost use Rattle.base.specs.declared.sets.TypeSet.{TypeSet};
@@ -12,7 +14,7 @@ ghost use Rattle.plain_core.specs.declared.calls.Query.TheVariants as query;
 use super::PlainKernel;
 use super::reads::has_shape;
 use crate::calls::Entry;
-use crate::label_rules::{is_below, names_star, names_unmade, stored_of, with_category};
+use crate::label_rules::{is_below, stored_of, with_category};
 use crate::least::{least, least_of};
 use base::{Category, Data, Kind, Level, Meter, ObjectId, Refusal};
 use label_lattice::{Label, RawLabel};
@@ -20,11 +22,13 @@ use label_lattice::{Label, RawLabel};
 /// What a call asks for that makes an object.
 #[derive(Clone, Copy)]
 pub struct NewObject {
+    /// Its kind.
     pub kind: Kind,
+    /// Where it is listed.
     pub container: ObjectId,
-    /// Its quota, in pages.
+    /// Its quota, in pages of 256 bytes.
     pub quota: u32,
-    /// What it uses at first, in pages.
+    /// What it uses at first, in pages of 256 bytes.
     pub pages: u64,
 }
 
@@ -39,8 +43,8 @@ impl PlainKernel {
         count: u32,
         meter: &mut Meter,
     ) -> Option<Refusal>
-        ensures { result
-            ≡ query_refused (state_of self.now.records) thread (query.SegmentRead entry.now offset count) }
+        ensures { result ≡ query_refused (state_of self.now.records) thread
+            (query.SegmentRead entry.now offset count) }
     {
         let halted = !self.is_live_kind(Kind::Thread, thread);
         let accessible = self.is_accessible(thread, entry.container, meter);
@@ -71,8 +75,8 @@ impl PlainKernel {
         data: &Data,
         meter: &mut Meter,
     ) -> Option<Refusal>
-        ensures { result
-            ≡ refused (state_of self.now.records) thread (call.SegmentWrite entry.now offset data.now) }
+        ensures { result ≡ refused (state_of self.now.records) thread
+            (call.SegmentWrite entry.now offset data.now) }
     {
         let count = data.as_slice().len() as u32;
         let halted = !self.is_live_kind(Kind::Thread, thread);
@@ -122,7 +126,8 @@ impl PlainKernel {
         }
     }
 
-    /// What refuses to make a category, where `full` says that the label or the clearance has no room for it.
+    /// What refuses to make a category, where `full` says that the label or the clearance has no
+    /// room for it.
     #[tactic(auto, unfolding(crate::specs::Rows::refused))]
     pub fn refused_cat_create(&self, thread: ObjectId, full: bool) -> Option<Refusal>
         requires { full ≡ (is_none (own_label (state_of self.now.records) thread)
@@ -148,8 +153,8 @@ impl PlainKernel {
 
     /// What refuses a new object.
     fn fitting(&self, thread: ObjectId, new: &NewObject, meter: &mut Meter) -> Option<Refusal>
-        ensures { result
-            ≡ refusal_of (fitting (state_of self.now.records) thread new.now.kind new.now.container new.now.quota new.now.pages) }
+        ensures { result ≡ refusal_of (fitting (state_of self.now.records) thread
+            new.now.kind new.now.container new.now.quota new.now.pages) }
     {
         let accessible = self.is_accessible(thread, new.container, meter);
         let observed = self.observes(thread, new.container, meter);
@@ -175,19 +180,23 @@ impl PlainKernel {
     /// Whether a raw label cannot be that of a container, a segment or an address space.
     fn is_unfit_starless(&self, raw: &RawLabel, label: Option<&Label>) -> bool
         requires { option_copied label ≡ stored raw.now }
-        ensures { result ≡ (is_unfit self.now.records.next_category raw.now || has_star raw.now) }
+        ensures { result ≡ ((is_none (stored raw.now)
+            || not (all_made self.now.records.next_category raw.now.pairs))
+            || raw_has_star raw.now) }
     {
-        label.is_none() || names_unmade(raw, self.records.next_category) || names_star(raw)
+        label.is_none() || !raw.all_made(self.records.next_category) || raw.has_star()
     }
 
     /// Whether a stored label is at least the thread's, and at most its clearance.
     fn is_in_range(&self, thread: ObjectId, label: Option<&Label>, meter: &mut Meter) -> bool
-        ensures { result ≡ in_range_of (state_of self.now.records) thread (option_copied label.entry) }
+        ensures { result
+            ≡ in_range_of (state_of self.now.records) thread (option_copied label.entry) }
     {
         is_below(self.label(thread), label, meter) && is_below(label, self.clearance(thread), meter)
     }
 
-    /// What refuses a new container, segment or address space of a raw label, whose stored label is given where it has one.
+    /// What refuses a new container, segment or address space of a raw label, whose stored label is
+    /// given where it has one.
     fn new_object(
         &self,
         thread: ObjectId,

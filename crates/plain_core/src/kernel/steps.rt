@@ -29,8 +29,8 @@ impl PlainKernel {
         count: u32,
         meter: &mut Meter,
     ) -> Reply
-        ensures { result
-            ≡ query_answer (state_of self.now.records) thread (query.SegmentRead entry.now offset count) }
+        ensures { result ≡ query_answer (state_of self.now.records) thread
+            (query.SegmentRead entry.now offset count) }
     {
         match self.refused_segment_read(thread, entry, offset, count, meter) {
             Some(refusal) => Reply::Refused(refusal),
@@ -52,10 +52,10 @@ impl PlainKernel {
         data: &Data,
         meter: &mut Meter,
     ) -> Reply
-        ensures reply { result
-            ≡ answer (state_of self.old.records) thread (call.SegmentWrite entry.now offset data.now) }
-        ensures state { state_of self.new.records
-            ≡ next (state_of self.old.records) thread (call.SegmentWrite entry.now offset data.now) }
+        ensures reply { result ≡ answer (state_of self.old.records) thread
+            (call.SegmentWrite entry.now offset data.now) }
+        ensures state { state_of self.new.records ≡ next (state_of self.old.records) thread
+            (call.SegmentWrite entry.now offset data.now) }
     {
         match self.refused_segment_write(thread, entry, offset, data, meter) {
             Some(refusal) => Reply::Refused(refusal),
@@ -74,7 +74,8 @@ impl PlainKernel {
     /// Makes a category, which the thread owns.
     pub fn cat_create(&mut self, thread: ObjectId, meter: &mut Meter) -> Reply
         ensures reply { result ≡ answer (state_of self.old.records) thread call.CatCreate }
-        ensures state { state_of self.new.records ≡ next (state_of self.old.records) thread call.CatCreate }
+        ensures state { state_of self.new.records
+            ≡ next (state_of self.old.records) thread call.CatCreate }
     {
         let label = self.own_label(thread, meter);
         let clearance = self.own_clearance(thread, meter);
@@ -89,7 +90,8 @@ impl PlainKernel {
         }
     }
 
-    /// Adds an object under the next id, last in a container's list. Without memory nothing is changed.
+    /// Adds an object under the next id, last in a container's list. Without memory nothing is
+    /// changed.
     fn create(
         &mut self,
         container: ObjectId,
@@ -123,10 +125,11 @@ impl PlainKernel {
         avoid: TypeSet,
         meter: &mut Meter,
     ) -> Result<Reply, NoMemory>
-        ensures reply { IfOk result (λ reply. reply
-            ≡ answer (state_of self.old.records) thread (call.ContainerCreate container raw.now quota avoid)) }
+        ensures reply { IfOk result (λ reply. reply ≡ answer (state_of self.old.records) thread
+            (call.ContainerCreate container raw.now quota avoid)) }
         ensures ok { OnOk result (state_of self.new.records
-            ≡ next (state_of self.old.records) thread (call.ContainerCreate container raw.now quota avoid)) }
+            ≡ next (state_of self.old.records) thread
+            (call.ContainerCreate container raw.now quota avoid)) }
         ensures err { OnErr result (state_of self.new.records ≡ state_of self.old.records) }
     {
         let new = NewObject {
@@ -157,10 +160,11 @@ impl PlainKernel {
         pages: u32,
         meter: &mut Meter,
     ) -> Result<Reply, NoMemory>
-        ensures reply { IfOk result (λ reply. reply
-            ≡ answer (state_of self.old.records) thread (call.SegmentCreate container raw.now quota pages)) }
+        ensures reply { IfOk result (λ reply. reply ≡ answer (state_of self.old.records) thread
+            (call.SegmentCreate container raw.now quota pages)) }
         ensures ok { OnOk result (state_of self.new.records
-            ≡ next (state_of self.old.records) thread (call.SegmentCreate container raw.now quota pages)) }
+            ≡ next (state_of self.old.records) thread
+            (call.SegmentCreate container raw.now quota pages)) }
         ensures err { OnErr result (state_of self.new.records ≡ state_of self.old.records) }
     {
         let new = NewObject {

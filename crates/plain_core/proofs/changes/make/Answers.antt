@@ -1,7 +1,7 @@
-use Rattle.std.proofs.Common.{◌≡◌, sym, ◌∙◌, ap}
+use Rattle.std.proofs.Common.{◌∙◌, ap}
 use Rattle.plain_core.proofs.ChangeLaws.{unlisted}
 use Rattle.plain_core.specs.State.{State}
-use Rattle.plain_core.specs.Changes.{changed, listing}
+use Rattle.plain_core.specs.Changes.{changed}
 use Rattle.plain_core.specs.StateOf.{state_of}
 use Rattle.plain_core.specs.Undo.{unlisting}
 use Rattle.plain_core.proofs.changes.make.Goals as goal
@@ -10,5 +10,6 @@ pub returns-clause-err : goal.returns-clause-err
 returns-clause-err c =
     c.unlist_in.ensures
     ∙ ap (λ (s : State). changed s c.args.container unlisting)
-    ((λ i. record (state_of c.list_in.new.records) { objects = c.in-Err.ensures.err i }) ∙ c.in_ok-list_in.ensures.ok)
+    ((λ i. record (state_of c.list_in.new.records) { objects = c.in-Err.ensures.err i })
+    ∙ c.in_ok-list_in.ensures.ok)
     ∙ unlisted (state_of c.args.records.now) c.args.container c.new-id.result

@@ -1,4 +1,4 @@
-use Rattle.std.proofs.Common.{sym, ◌∙◌, subst, ◌≡◌, true, ap, ◌||◌, is_none, Option, IfSome}
+use Rattle.std.proofs.Common.{sym, ◌∙◌, subst, ◌≡◌, true, Option, IfSome}
 use Rattle.label_lattice.specs.Label.{LabelValue, IsStored}
 use Rattle.plain_core.specs.Rows.{own_label, own_clearance}
 use Rattle.plain_core.specs.State.{State}
@@ -15,7 +15,8 @@ own_category-requires c = category_left _ _ (sym c.refused_cat_create.ensures �
 pub invariant_of-self : goal.invariant_of-self
 invariant_of-self c = record {
   well_formed = subst (λ (s : State). is_well_formed s ≡ true) (sym c.own_category.ensures)
-      (owned_well_formed (state_of c.args.self.now.records) c.args.thread c.own_label-label.result c.own_clearance-clearance.result
+      (owned_well_formed (state_of c.args.self.now.records) c.args.thread c.own_label-label.result
+      c.own_clearance-clearance.result
       c.own_label-label.ensures.fit c.own_clearance-clearance.ensures.fit c.args.self.now.well_formed);
 }
 
@@ -31,9 +32,14 @@ returns-in-None-clause-reply c = sym (step_done _ _ _ (sym c.refused_cat_create.
 pub returns-in-None-clause-state : goal.returns-in-None-clause-state
 returns-in-None-clause-state c =
     c.own_category.ensures
-    ∙ (λ i. owned (state_of c.args.self.now.records) c.args.thread (c.own_label-label.ensures.value i) (c.own_clearance-clearance.ensures.value i))
+    ∙ (λ i. owned (state_of c.args.self.now.records) c.args.thread (c.own_label-label.ensures.value i)
+    (c.own_clearance-clearance.ensures.value i))
     ∙ sym (step_sound _ _ _ (sym c.refused_cat_create.ensures ∙ c.in-None.is)
-    (owned_well_formed (state_of c.args.self.now.records) c.args.thread (own_label (state_of c.args.self.now.records) c.args.thread) (own_clearance (state_of c.args.self.now.records) c.args.thread)
-    (subst (λ (v : Option LabelValue). IfSome v IsStored) c.own_label-label.ensures.value c.own_label-label.ensures.fit)
-    (subst (λ (v : Option LabelValue). IfSome v IsStored) c.own_clearance-clearance.ensures.value c.own_clearance-clearance.ensures.fit)
+    (owned_well_formed (state_of c.args.self.now.records) c.args.thread
+    (own_label (state_of c.args.self.now.records) c.args.thread)
+    (own_clearance (state_of c.args.self.now.records) c.args.thread)
+    (subst (λ (v : Option LabelValue). IfSome v IsStored) c.own_label-label.ensures.value
+    c.own_label-label.ensures.fit)
+    (subst (λ (v : Option LabelValue). IfSome v IsStored) c.own_clearance-clearance.ensures.value
+    c.own_clearance-clearance.ensures.fit)
     c.args.self.now.well_formed))

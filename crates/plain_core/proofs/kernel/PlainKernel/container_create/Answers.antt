@@ -1,4 +1,5 @@
-use Rattle.std.proofs.Common.{ℕ, sym, ◌∙◌, ap, subst, [], ◌≡◌, true, List, Some, None, Option, IfSome}
+use Rattle.std.proofs.Common.{ℕ, sym, ◌∙◌, ap, subst, [], ◌≡◌, List, None, Option}
+use Rattle.std.proofs.Common.{IfSome}
 use Rattle.label_lattice.specs.Label.{LabelValue, IsStored}
 use Rattle.plain_core.specs.Changes.{made, fresh_object, joined_at}
 use Rattle.plain_core.specs.Fitting.{IsFitting}
@@ -9,7 +10,8 @@ use Rattle.plain_core.specs.Step.{with_label}
 use Rattle.plain_core.specs.WellFormed.{is_well_formed}
 use Rattle.plain_core.specs.declared.calls.Call.TheVariants as call
 use Rattle.plain_core.specs.declared.objects.Body.TheVariants as is
-use Rattle.plain_core.proofs.StepLaws.{step_refused, step_done, step_sound, container_fits, then_on, then_if, with_stored, not_both}
+use Rattle.plain_core.proofs.StepLaws.{step_refused, step_done, step_sound, container_fits, then_on}
+use Rattle.plain_core.proofs.StepLaws.{then_if, with_stored, not_both}
 use Rattle.plain_core.proofs.MadeLaws.{made_well_formed}
 use Rattle.plain_core.proofs.StoredLaws.{stored_test}
 use Rattle.plain_core.proofs.kernel.PlainKernel.container_create.Goals as goal
@@ -17,27 +19,36 @@ use Rattle.plain_core.proofs.kernel.PlainKernel.container_create.Goals as goal
 pub unreachable-requires : goal.unreachable-requires
 unreachable-requires c =
     not_both (stored c.args.raw.now) (sym c.stored_of-label.ensures.stored ∙ c.in_default.is)
-    (container_fits _ _ _ _ _ _ c.args.avoid (sym (c.refused_container_create.ensures c.args.avoid) ∙ c.in-None.is)).1
+    (container_fits _ _ _ _ _ _ c.args.avoid
+    (sym (c.refused_container_create.ensures c.args.avoid) ∙ c.in-None.is)).1
 
 pub create-requires-clause-fitting : goal.create-requires-clause-fitting
 create-requires-clause-fitting c =
-    let P : List ℕ → Type 0 = λ ids. IsFitting (state_of c.args.self.now.records) c.args.container c.args.quota (is.Container c.joined-avoid.result ids) in
+    let P : List ℕ → Type 0 =
+    λ ids. IsFitting (state_of c.args.self.now.records) c.args.container c.args.quota
+    (is.Container c.joined-avoid.result ids) in
     subst P (sym c.new.ensures)
-    (container_fits (state_of c.args.self.now.records) c.args.thread c.args.container c.args.raw.now c.args.quota c.args.avoid c.joined-avoid.result
+    (container_fits (state_of c.args.self.now.records) c.args.thread c.args.container c.args.raw.now
+    c.args.quota c.args.avoid c.joined-avoid.result
     (sym (c.refused_container_create.ensures c.args.avoid) ∙ c.in-None.is)).0
 
 pub returns-in-Some-clause-reply : goal.returns-in-Some-clause-reply
-returns-in-Some-clause-reply c = sym (step_refused _ _ _ _ (sym (c.refused_container_create.ensures c.args.avoid) ∙ c.in-Some.is)).0
+returns-in-Some-clause-reply c =
+    sym (step_refused _ _ _ _ (sym (c.refused_container_create.ensures c.args.avoid) ∙ c.in-Some.is)).0
 
 pub returns-in-Some-clause-ok : goal.returns-in-Some-clause-ok
-returns-in-Some-clause-ok c = sym (step_refused _ _ _ _ (sym (c.refused_container_create.ensures c.args.avoid) ∙ c.in-Some.is)).1
+returns-in-Some-clause-ok c =
+    sym (step_refused _ _ _ _ (sym (c.refused_container_create.ensures c.args.avoid) ∙ c.in-Some.is)).1
 
 pub returns-in-Some-label-clause-reply : goal.returns-in-Some-label-clause-reply
-returns-in-Some-label-clause-reply c = then_if _ _ _ c.create.ensures.reply (sym (step_done _ _ _ (sym (c.refused_container_create.ensures c.args.avoid) ∙ c.in-None.is)).0)
+returns-in-Some-label-clause-reply c =
+    then_if _ _ _ c.create.ensures.reply
+    (sym (step_done _ _ _ (sym (c.refused_container_create.ensures c.args.avoid) ∙ c.in-None.is)).0)
 
 pub returns-in-Some-label-clause-ok : goal.returns-in-Some-label-clause-ok
 returns-in-Some-label-clause-ok c =
-    let none : refused (state_of c.args.self.now.records) c.args.thread (call.ContainerCreate c.args.container c.args.raw.now c.args.quota c.args.avoid) ≡ None
+    let none : refused (state_of c.args.self.now.records) c.args.thread
+    (call.ContainerCreate c.args.container c.args.raw.now c.args.quota c.args.avoid) ≡ None
     = sym (c.refused_container_create.ensures c.args.avoid) ∙ c.in-None.is in
     let stores : with_label (state_of c.args.self.now.records) (stored c.args.raw.now)
     (λ l. made (state_of c.args.self.now.records) c.args.container (fresh_object l c.args.quota
@@ -46,14 +57,18 @@ returns-in-Some-label-clause-ok c =
     (is.Container (joined_at (state_of c.args.self.now.records) c.args.avoid c.args.container) []))
     = with_stored _ _ _ _ (sym c.stored_of-label.ensures.stored ∙ c.in-Some-label.is) in
     then_on _ _ _ _ c.create.ensures.ok
-    ((λ i. made (state_of c.args.self.now.records) c.args.container (fresh_object c.in-Some-label.label c.args.quota
+    ((λ i. made (state_of c.args.self.now.records) c.args.container
+    (fresh_object c.in-Some-label.label c.args.quota
     (is.Container (c.joined-avoid.ensures i) (c.new.ensures i))))
     ∙ sym stores
-    ∙ sym (step_sound (state_of c.args.self.now.records) c.args.thread (call.ContainerCreate c.args.container c.args.raw.now c.args.quota c.args.avoid) none
+    ∙ sym (step_sound (state_of c.args.self.now.records) c.args.thread
+    (call.ContainerCreate c.args.container c.args.raw.now c.args.quota c.args.avoid) none
     (ap is_well_formed stores
     ∙ made_well_formed (state_of c.args.self.now.records) c.args.container c.in-Some-label.label c.args.quota
     (is.Container (joined_at (state_of c.args.self.now.records) c.args.avoid c.args.container) [])
-    (container_fits (state_of c.args.self.now.records) c.args.thread c.args.container c.args.raw.now c.args.quota c.args.avoid
+    (container_fits (state_of c.args.self.now.records) c.args.thread c.args.container c.args.raw.now
+    c.args.quota c.args.avoid
     (joined_at (state_of c.args.self.now.records) c.args.avoid c.args.container) none).0
-    (stored_test c.in-Some-label.label (subst (λ (v : Option LabelValue). IfSome v IsStored) c.in-Some-label.is c.stored_of-label.ensures.fit))
+    (stored_test c.in-Some-label.label
+    (subst (λ (v : Option LabelValue). IfSome v IsStored) c.in-Some-label.is c.stored_of-label.ensures.fit))
     c.args.self.now.well_formed)))

@@ -1,4 +1,4 @@
-use Rattle.std.proofs.Common.{sym, ◌∙◌, ap}
+use Rattle.std.proofs.Common.{sym, ◌∙◌}
 use Rattle.base.specs.declared.kinds.Kind.TheVariants as kinds
 use Rattle.plain_core.specs.Rows.{refused, refusal_of, least_of, halted, new_object}
 use Rattle.plain_core.specs.StateOf.{state_of}
@@ -10,6 +10,9 @@ unfolding refused
 returns c avoid =
     c.least_of.ensures
     ∙ (λ i. least_of (c.halted-halted.ensures i) ((c.new_object-fresh.ensures
-    ∙ (λ j. refusal_of (new_object (state_of c.args.self.now.records) c.args.thread (c.requires.kind j) c.args.new.now.container c.args.raw.now c.args.new.now.quota (c.requires.pages j)))) i))
+    ∙ (λ j. refusal_of
+    (new_object (state_of c.args.self.now.records) c.args.thread (c.requires.kind j)
+    c.args.new.now.container c.args.raw.now c.args.new.now.quota (c.requires.pages j)))) i))
     ∙ sym (appended (halted (state_of c.args.self.now.records) c.args.thread)
-    (new_object (state_of c.args.self.now.records) c.args.thread kinds.Container c.args.new.now.container c.args.raw.now c.args.new.now.quota 1))
+    (new_object (state_of c.args.self.now.records) c.args.thread kinds.Container c.args.new.now.container
+    c.args.raw.now c.args.new.now.quota 1))

@@ -1,4 +1,4 @@
-use Rattle.std.proofs.Common.{sym, ◌∙◌, ap, [], ◌∷◌, ◌++◌, ◌+◌, nat_lt}
+use Rattle.std.proofs.Common.{sym, ◌∙◌, [], ◌∷◌, ◌++◌, ◌+◌, nat_lt}
 use Rattle.base.specs.declared.kinds.Kind.TheVariants as kinds
 use Rattle.base.specs.declared.refusals.Refusal.TheVariants.{Bounds}
 use Rattle.plain_core.specs.Rows.{refused, refusal_of, least_of, halted, new_object}
@@ -12,10 +12,15 @@ returns c =
     c.least_of-2.ensures
     ∙ (λ i. least_of (c.halted-halted.ensures i) ((c.least_of.ensures
     ∙ (λ j. least_of ((c.new_object-fresh.ensures
-    ∙ (λ k. refusal_of (new_object (state_of c.args.self.now.records) c.args.thread (c.requires.kind k) c.args.new.now.container c.args.raw.now c.args.new.now.quota (c.requires.pages k)))) j)
+    ∙ (λ k. refusal_of
+    (new_object (state_of c.args.self.now.records) c.args.thread (c.requires.kind k)
+    c.args.new.now.container c.args.raw.now c.args.new.now.quota (c.requires.pages k)))) j)
     (c.least-long.ensures j))
-    ∙ sym (appended (new_object (state_of c.args.self.now.records) c.args.thread kinds.Segment c.args.new.now.container c.args.raw.now c.args.new.now.quota (1 + c.args.pages))
+    ∙ sym (appended
+    (new_object (state_of c.args.self.now.records) c.args.thread kinds.Segment c.args.new.now.container
+    c.args.raw.now c.args.new.now.quota (1 + c.args.pages))
     ((Bounds, nat_lt 16 c.args.pages) ∷ []))) i))
     ∙ sym (appended (halted (state_of c.args.self.now.records) c.args.thread)
-    (new_object (state_of c.args.self.now.records) c.args.thread kinds.Segment c.args.new.now.container c.args.raw.now c.args.new.now.quota (1 + c.args.pages)
+    (new_object (state_of c.args.self.now.records) c.args.thread kinds.Segment c.args.new.now.container
+    c.args.raw.now c.args.new.now.quota (1 + c.args.pages)
     ++ (Bounds, nat_lt 16 c.args.pages) ∷ []))
