@@ -1,9 +1,9 @@
 -- What names are bound to.
 use Rattle.std.specs.Prelude.{ℕ, ◌==◌, Bool, true, false, List, [], ◌∷◌, codes, Option, Some, None, if◌then◌else◌}
 use Rattle.std.specs.Str.{bytes_eq}
-use Rattle.call_text.specs.declared.known.Named.{Named}
-use Rattle.call_text.specs.declared.known.Value.{Value}
-use Rattle.call_text.specs.declared.known.Value.TheVariants.{Object, Category}
+use Rattle.call_text.specs.declared.known_names.Named.{Named}
+use Rattle.call_text.specs.declared.known_names.Value.{Value}
+use Rattle.call_text.specs.declared.known_names.Value.TheVariants.{Object, Category}
 
 -- what the first entry with the name has
 abbrev pub value_of : List ℕ → List Named → Option Value

@@ -13,9 +13,9 @@ use Rattle.text_words.specs.declared.spoken_labels.SpokenPair.{SpokenPair}
 use Rattle.text_words.specs.Label.{LabelValue}
 use Rattle.text_rows.specs.declared.args.Arg.{Arg}
 use Rattle.text_rows.specs.declared.args.Arg.TheVariants as args
-use Rattle.call_text.specs.declared.known.Named.{Named}
-use Rattle.call_text.specs.declared.known.Value.{Value}
-use Rattle.call_text.specs.declared.known.Value.TheVariants.{Object, Category}
+use Rattle.call_text.specs.declared.known_names.Named.{Named}
+use Rattle.call_text.specs.declared.known_names.Value.{Value}
+use Rattle.call_text.specs.declared.known_names.Value.TheVariants.{Object, Category}
 use Rattle.call_text.specs.Known.{value_of}
 
 -- an object's id

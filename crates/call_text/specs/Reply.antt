@@ -6,9 +6,9 @@ use Rattle.base.specs.Refusal.{row_of}
 use Rattle.plain_core.specs.declared.calls.Reply.{Reply}
 use Rattle.plain_core.specs.declared.calls.Reply.TheVariants as replies
 use Rattle.text_words.specs.DataWord.{data_text}
-use Rattle.call_text.specs.declared.known.Named.{Named}
-use Rattle.call_text.specs.declared.known.Value.{Value}
-use Rattle.call_text.specs.declared.known.Value.TheVariants as values
+use Rattle.call_text.specs.declared.known_names.Named.{Named}
+use Rattle.call_text.specs.declared.known_names.Value.{Value}
+use Rattle.call_text.specs.declared.known_names.Value.TheVariants as values
 use Rattle.call_text.specs.declared.replies.Head.{Head}
 use Rattle.call_text.specs.declared.replies.Head.TheVariants as heads
 use Rattle.call_text.specs.declared.replies.Word.{Word}

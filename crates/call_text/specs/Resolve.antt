@@ -10,9 +10,9 @@ use Rattle.text_rows.specs.declared.args.Arg.TheVariants as args
 use Rattle.text_rows.specs.declared.verbs.Verb.{Verb}
 use Rattle.text_rows.specs.declared.verbs.Verb.TheVariants as verbs
 use Rattle.text_rows.specs.Row.{Spoken}
-use Rattle.call_text.specs.declared.known.Named.{Named}
-use Rattle.call_text.specs.declared.known.Value.{Value}
-use Rattle.call_text.specs.declared.known.Value.TheVariants.{Object, Category}
+use Rattle.call_text.specs.declared.known_names.Named.{Named}
+use Rattle.call_text.specs.declared.known_names.Value.{Value}
+use Rattle.call_text.specs.declared.known_names.Value.TheVariants.{Object, Category}
 use Rattle.call_text.specs.declared.resolving.Asked.{Asked}
 use Rattle.call_text.specs.declared.resolving.Asked.TheVariants.{Write, Read}
 use Rattle.call_text.specs.Known.{value_of}

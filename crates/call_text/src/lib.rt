@@ -6,7 +6,7 @@
 #![tactic(auto)]
 
 mod errors;
-mod known;
+mod known_names;
 mod lines;
 mod parting;
 mod phases;
@@ -17,7 +17,7 @@ mod script_writing;
 mod scripts;
 
 pub use errors::ScriptError;
-pub use known::{Known, NameList, Named, Value, start_names};
+pub use known_names::{Known, NameList, Named, Value, start_names};
 pub use lines::{Written, read_line};
 pub use phases::{Line, Phase, Script};
 pub use replies::{put_reply, write_reply};

@@ -2,7 +2,7 @@
 ghost use Rattle.std.specs.Prelude.{◌≡◌, ◌<◌, ◌^◌, ◌+◌};
 ghost use Rattle.call_text.specs.Place.{as_object, object_of, category_of, raw_of, object_at, label_at, number_at, data_at, types_at, entry_at};
 
-use crate::known::{Known, Value};
+use crate::known_names::{Known, Value};
 use base::{Category, Data, Level, ObjectId, TypeSet};
 use label_lattice::{Pair, Pairs, RawLabel};
 use plain_core::Entry;

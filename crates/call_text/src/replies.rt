@@ -2,7 +2,7 @@
 ghost use Rattle.std.specs.Prelude.{◌≡◌, ◌++◌, IfOk, OnOk};
 ghost use Rattle.call_text.specs.Reply.{head_text, word_text, words_text, reply_text, value_text, refusal_text};
 
-use crate::known::{Known, NameList, Named, Value};
+use crate::known_names::{Known, NameList, Named, Value};
 use base::{Category, Data, NoMemory, ObjectId, Refusal};
 use plain_core::Reply;
 use std::alloc::{AllocError, Global};

@@ -2,7 +2,7 @@
 ghost use Rattle.std.specs.Prelude.{◌≡◌};
 ghost use Rattle.call_text.specs.Resolve.{unbound_object, unbound_category, unbound_pair, unbound_in, first_unbound, asked_of, resolved};
 
-use crate::known::{Known, Value};
+use crate::known_names::{Known, Value};
 use crate::places::{data_at, label_at, make_entry, number_at, object_at, types_at};
 use plain_core::{Call, Query};
 use text_rows::{Arg, Row, Verb};

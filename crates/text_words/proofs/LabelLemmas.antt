@@ -1,5 +1,5 @@
 -- A label's parts between commas, and its pairs one by one.
-use Rattle.std.proofs.Common.{◌≡◌, ℕ, zero, suc, ◌+◌, ◌-◌, ◌^◌, ◌<◌, ◌≤◌, true, eqb, List, [], ◌∷◌, ◌++◌, length, Option, Some, None, subst, get_or, take, drop, map, refl, ap, ◌∙◌, sym, arith, append_assoc, decimal}
+use Rattle.std.proofs.Common.{◌≡◌, ℕ, zero, suc, ◌+◌, ◌-◌, ◌<◌, ◌≤◌, true, eqb, List, [], ◌∷◌, ◌++◌, length, Option, Some, None, subst, get_or, take, map, refl, ap, ◌∙◌, sym, arith, append_assoc}
 use Rattle.std.specs.List.{slice_split, join_with_byte, flat_map, AllByRecursion}
 use Rattle.std.proofs.lemmas.List.{take_more, get_or-map, map_push, length-map, length-append, take_at, take_all}
 use Rattle.std.proofs.lemmas.List.Splits.{join_with_byte-slice_split}

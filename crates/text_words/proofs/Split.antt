@@ -1,7 +1,6 @@
 -- Joining at a byte that stands in no part, and splitting there.
-use Rattle.std.proofs.Common.{◌≡◌, eq-eqb, ℕ, ◌<◌, ◌≤◌, Bool, true, false, cond, eqb, ◌&&◌, List, [], ◌∷◌, ◌++◌, length, refl, ap, ◌∙◌, sym, arith}
-use Rattle.std.specs.List.{slice_split, onto_first, join_with_byte}
-use Rattle.std.proofs.lemmas.Bool.{ne_eqb}
+use Rattle.std.proofs.Common.{◌≡◌, eq-eqb, ℕ, Bool, true, false, cond, eqb, ◌&&◌, List, [], ◌∷◌, ◌++◌, refl, ap, ◌∙◌}
+use Rattle.std.specs.List.{slice_split, join_with_byte}
 use Rattle.text_words.specs.Lacks.{lacks, AllLack}
 
 pub cond_false : (b t : Bool) → cond b false t ≡ true → (b ≡ false) × (t ≡ true)

@@ -1,4 +1,4 @@
-use Rattle.std.proofs.Common.{◌≡◌, ℕ, ◌*◌, ◌/◌, ◌≤◌, ◌<◌, ◌^◌, List, [], ◌∷◌, ◌++◌, take, length, Result, Ok, Err, IsTrue, cond, eqb, not, ◌&&◌, Bool, true, false, arith, ◌↔◌, decimal, sym, refl, subst, ap, ◌∙◌}
+use Rattle.std.proofs.Common.{◌≡◌, ℕ, ◌*◌, ◌≤◌, ◌<◌, List, [], ◌∷◌, ◌++◌, take, length, Result, Ok, Err, IsTrue, cond, eqb, Bool, false, arith, decimal, sym, refl, subst, ap, ◌∙◌}
 use Rattle.std.proofs.Common.{Fits, w64}
 use Rattle.std.specs.Prelude.{MatchResult}
 use Rattle.std.proofs.Math.Seq.{take-append_seam}
@@ -9,7 +9,7 @@ use Rattle.std.proofs.lemmas.Str.{IsUtf8-from_ascii}
 use Rattle.std.proofs.lemmas.Fmt.{IsAscii-decimal, parse-decimal}
 use Rattle.hex.specs.Hex.{encode_lower, lower_digits, decode_sized}
 use Rattle.hex.proofs.HexLemmas.{decode_sized-encode_lower, length-encode_with, decode_of-encode_lower, decode_of-same}
-use Rattle.hex.specs.Hex.{decode_of, encode_with}
+use Rattle.hex.specs.Hex.{decode_of}
 use Rattle.base.specs.declared.levels.Level.{Level}
 use Rattle.base.specs.declared.levels.Level.TheVariants.{Star, L0, L1, L2, L3}
 use Rattle.hex.specs.declared.error.FromHexError.{FromHexError}

@@ -1,4 +1,4 @@
-use Rattle.std.proofs.Common.{◌≡◌, ◌∙◌, ap}
+use Rattle.std.proofs.Common.{◌∙◌, ap}
 use Rattle.std.specs.Result.{is_ok}
 use Rattle.text_words.proofs.WordLemmas.{decoded}
 use Rattle.text_words.proofs.hex_bytes.decode.Goals as goal

@@ -1,4 +1,4 @@
-use Rattle.std.proofs.Common.{◌≡◌, ◌≤◌, ◌<◌, ◌^◌, ◌/◌, ℕ, arith, sym, ap, ◌∙◌, inl, inr, length}
+use Rattle.std.proofs.Common.{◌≡◌, arith, sym, ap, ◌∙◌, inl, inr}
 use Rattle.hex.specs.Hex.{encode_lower}
 use Rattle.text_words.proofs.WordLemmas.{data_is, not_so}
 use Rattle.text_words.proofs.hex_bytes.read_data.Goals as goal

@@ -1,4 +1,4 @@
-use Rattle.std.proofs.Common.{rules, ◌≡◌, ◌≤◌, ◌<◌, ◌^◌, ℕ, decimal, arith, sym, ap, ◌∙◌}
+use Rattle.std.proofs.Common.{◌≡◌, decimal, arith, sym, ap, ◌∙◌}
 use Rattle.text_words.proofs.WordLemmas.{decimal_utf8, parsed}
 use Rattle.text_words.proofs.numbers.read_number.Goals as goal
 

@@ -1,4 +1,4 @@
-use Rattle.std.proofs.Common.{◌≡◌, ◌∙◌, sym, ap, refl}
+use Rattle.std.proofs.Common.{◌∙◌, sym, ap, refl}
 use Rattle.text_words.specs.TypeWord.{letters}
 use Rattle.text_words.proofs.TypeLemmas.{letter_put, letter_left}
 use Rattle.text_words.proofs.type_words.put_letters.Goals as goal

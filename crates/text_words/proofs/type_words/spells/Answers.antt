@@ -1,5 +1,5 @@
-use Rattle.std.proofs.Common.{◌≡◌, ◌∙◌, sym, ap, List, ℕ}
-use Rattle.text_words.specs.TypeWord.{letters, letters_of}
+use Rattle.std.proofs.Common.{◌≡◌, ◌∙◌, sym, ap}
+use Rattle.text_words.specs.TypeWord.{letters}
 use Rattle.text_words.proofs.TypeLemmas.{letter_read, letter_passed}
 use Rattle.text_words.proofs.type_words.spells.Goals as goal
 use Rattle.text_words.proofs.type_words.spells.Goals.{then-has+in-len1-up+else-first-letter, else-has}

@@ -1,4 +1,4 @@
-use Rattle.std.proofs.Common.{◌≡◌, ◌++◌, drop}
+use Rattle.std.proofs.Common.{◌≡◌, drop}
 use Rattle.text_words.specs.TypeWord.{letters_of, letters}
 use Rattle.text_words.proofs.type_words.spells.Given as goal
 

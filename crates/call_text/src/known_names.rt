@@ -1,7 +1,7 @@
 //! Names with what they are bound to.
 ghost use Rattle.std.specs.Prelude.{◌≡◌, List};
 ghost use Rattle.std.specs.Str.{bytes_eq};
-ghost use Rattle.call_text.specs.declared.known.Named.{Named as NamedValue};
+ghost use Rattle.call_text.specs.declared.known_names.Named.{Named as NamedValue};
 ghost use Rattle.call_text.specs.Known.{value_of, name_of, is_value, start_values};
 
 use base::{Category, ObjectId};
