@@ -1,10 +1,16 @@
 //! What the program prints, and how it ends.
+use crate::faults::PlayFault;
+use crate::play::play_all;
 use crate::program::histar_on;
+use base::Category;
+use call_text::{Named, ScriptError, Value, read_script, write_reply};
+use plain_core::Reply;
 use script_words::DEFAULTS;
 use std::io;
 use std::io::{ErrorKind, Read};
 use std::process::Abort;
 use std::test::Fail;
+use text_words::Name;
 
 /// What a script prints, on which stream, and the status.
 fn check<R: Abort + AllocGlobal>(rt: &R, script: &[u8], status: u8, wanted: &[u8], told: &[u8]) {
@@ -42,7 +48,13 @@ fn a_segment_in_a_container(rt: HostRuntime) {
 
 #[test]
 fn names_that_are_not_known(rt: HostRuntime) {
-    check(&rt, b"boot: segment_read root x 0 1\n", 0, b"boot 1: unbound x\n", b"");
+    check(
+        &rt,
+        b"boot: segment_read root x 0 1\n",
+        0,
+        b"boot 1: unbound x\n",
+        b"",
+    );
     check(
         &rt,
         b"c = boot: cat_create\nboot: segment_read root c 0 1\nboot: segment_create root {root:2,1} 1 0\n",
@@ -77,14 +89,35 @@ fn faults_of_scripts(rt: HostRuntime) {
         (b"boot: cat_create", b"histar: line 1: script fault\n"),
         (b"boot: cat_create\n\n", b"histar: line 2: script fault\n"),
         (b"boot:  cat_create\n", b"histar: line 1: script fault\n"),
-        (b"boot: segment_read root root 00 1\n", b"histar: line 1: script fault\n"),
-        (b"boot: segment_write root root 0 AB\n", b"histar: line 1: script fault\n"),
-        (b"c = boot: cat_create\nc = boot: cat_create\n", b"histar: line 2: script fault\n"),
-        (b"root = boot: cat_create\n", b"histar: line 1: script fault\n"),
-        (b"x = boot: segment_read root root 0 1\n", b"histar: line 1: script fault\n"),
-        (b"boot: cat_create\n--\nboot: cat_create\n", b"histar: line 2: script fault\n"),
+        (
+            b"boot: segment_read root root 00 1\n",
+            b"histar: line 1: script fault\n",
+        ),
+        (
+            b"boot: segment_write root root 0 AB\n",
+            b"histar: line 1: script fault\n",
+        ),
+        (
+            b"c = boot: cat_create\nc = boot: cat_create\n",
+            b"histar: line 2: script fault\n",
+        ),
+        (
+            b"root = boot: cat_create\n",
+            b"histar: line 1: script fault\n",
+        ),
+        (
+            b"x = boot: segment_read root root 0 1\n",
+            b"histar: line 1: script fault\n",
+        ),
+        (
+            b"boot: cat_create\n--\nboot: cat_create\n",
+            b"histar: line 2: script fault\n",
+        ),
         (b"t: cat_create\n", b"histar: line 1: script fault\n"),
-        (b"boot: cat_create\nt: cat_create\nboot\n", b"histar: line 2: script fault\n"),
+        (
+            b"boot: cat_create\nt: cat_create\nboot\n",
+            b"histar: line 2: script fault\n",
+        ),
     ];
     for (script, told) in faults {
         check(&rt, script, 1, b"", told);
@@ -124,5 +157,35 @@ fn faults_of_streams(rt: HostRuntime) -> Result<(), Fail> {
     assert_eq!(rt; ended.status, 3);
     assert_eq!(rt; err.as_slice(), b"histar: output fault\n".as_slice());
     assert_eq!(rt; out.len(), 0);
+    Ok(())
+}
+
+// Where an allocation is refused, the call that is made again answers what it would have.
+#[test]
+fn want_of_memory_changes_nothing(rt: HostRuntime) -> Result<(), Fail> {
+    let alloc = rt.alloc();
+    let text = b"c = boot: cat_create\nboot: segment_create root {c:3,1} 1 0\n";
+    let script = match read_script(alloc, text) {
+        Err(ScriptError::Memory) => read_script(alloc, text)?,
+        answered => answered?,
+    };
+    let played = match play_all(alloc, &script, &DEFAULTS.limits) {
+        Err(PlayFault::Memory | PlayFault::Boot(_)) => play_all(alloc, &script, &DEFAULTS.limits)?,
+        answered => answered?,
+    };
+    assert_eq!(rt;
+        played.output.as_slice(),
+        b"boot 1: cat c\nboot 2: id #4\n".as_slice()
+    );
+    let names = [Named {
+        name: Name::from_slice(b"c"),
+        value: Value::Category(Category(1)),
+    }];
+    let reply = Reply::Category(Category(1));
+    let text = match write_reply(alloc, &reply, &names) {
+        Ok(text) => text,
+        Err(_) => write_reply(alloc, &reply, &names)?,
+    };
+    assert_eq!(rt; text.as_slice(), b"cat c".as_slice());
     Ok(())
 }
