@@ -4,11 +4,10 @@ use Rattle.text_words.specs.Lacks.{lacks, AllLack}
 use Rattle.text_rows.specs.declared.verbs.Verb.{Verb}
 use Rattle.text_rows.specs.declared.verbs.Verb.TheVariants as verbs
 use Rattle.text_rows.specs.declared.args.Kind.{Kind}
-use Rattle.text_rows.specs.declared.args.Kind.TheVariants as kinds
 use Rattle.text_rows.specs.declared.args.Arg.{Arg}
 use Rattle.text_rows.specs.declared.args.Arg.TheVariants as args
 use Rattle.text_rows.specs.Verb.{name_of, kinds_of}
-use Rattle.text_rows.specs.Arg.{arg_text, kind_of, IsArg}
+use Rattle.text_rows.specs.Arg.{arg_text, IsArg}
 use Rattle.text_rows.specs.Row.{AreArgs, ReadsArgs, Spoken, IsRow, row_text, words_of}
 use Rattle.std.specs.Global.{Vec}
 use Rattle.std.specs.List.{slice_split, join_with_byte, flat_map}

@@ -1,4 +1,4 @@
-use Rattle.std.proofs.Common.{◌≡◌, arith, map, ap, sym, ◌∙◌}
+use Rattle.std.proofs.Common.{arith}
 use Rattle.text_words.proofs.ReadLemmas.{read_is, read_not}
 use Rattle.text_rows.specs.Arg.{arg_text, IsArg}
 use Rattle.text_rows.proofs.RowLemmas.{not_as_many, not_at, kinds_more, words_more}

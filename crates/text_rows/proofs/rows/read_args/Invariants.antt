@@ -1,4 +1,4 @@
-use Rattle.std.proofs.Common.{◌≡◌, ℕ, ◌<◌, get_or, take, map}
+use Rattle.std.proofs.Common.{◌≡◌, take, map}
 use Rattle.text_rows.specs.Arg.{arg_text}
 use Rattle.text_rows.specs.Row.{AreArgs}
 use Rattle.text_rows.proofs.rows.read_args.Given as goal

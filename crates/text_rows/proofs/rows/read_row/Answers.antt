@@ -1,7 +1,5 @@
-use Rattle.std.proofs.Common.{◌≡◌, ◌∙◌, sym, arith, length, map, ap, subst, List, ℕ}
-use Rattle.std.specs.List.{slice_split}
+use Rattle.std.proofs.Common.{◌≡◌, ◌∙◌, sym, map, ap, subst, List}
 use Rattle.text_rows.specs.declared.args.Kind.{Kind}
-use Rattle.text_rows.specs.Arg.{arg_text}
 use Rattle.text_rows.specs.Row.{AreArgs}
 use Rattle.text_rows.specs.Verb.{kinds_of}
 use Rattle.text_rows.proofs.RowLemmas.{row_parts, row_whole, verb_is, read_none, read_some}
