@@ -47,9 +47,7 @@ impl PlainKernel {
     /// A law, which does nothing when it is called: the state of every kernel is well formed.
     pub fn well_formed(&self)
         ensures { IsTrue (is_well_formed (kernel_state self.now)) }
-    {
-        let _ = &self.records;
-    }
+    {}
 }
 
 impl Machine for PlainKernel {
