@@ -32,7 +32,7 @@ fn has_kind(object: &Object, kind: Kind) -> bool
 }
 
 /// Whether 1 to 64 bytes from `at` on lie in one page.
-pub fn has_shape(at: u64, count: u64) -> bool
+pub(crate) fn has_shape(at: u64, count: u64) -> bool
     ensures { result ≡ is_shape at count }
 {
     1 <= count && count <= 64 && at % 256 + count <= 256
@@ -40,14 +40,14 @@ pub fn has_shape(at: u64, count: u64) -> bool
 
 impl PlainKernel {
     /// The object of an id, where it is recorded.
-    pub fn object(&self, id: ObjectId) -> Option<&Object>
+    pub(crate) fn object(&self, id: ObjectId) -> Option<&Object>
         ensures { option_copied result ≡ object_at (state_of self.now.records) id }
     {
         self.records.objects.get(&id)
     }
 
     /// Whether an id is that of an object of this kind.
-    pub fn is_kind(&self, kind: Kind, id: ObjectId) -> bool
+    pub(crate) fn is_kind(&self, kind: Kind, id: ObjectId) -> bool
         ensures { result ≡ is_kind_at (state_of self.now.records) kind id }
     {
         match self.object(id) {
@@ -57,7 +57,7 @@ impl PlainKernel {
     }
 
     /// The label of an object, where it is recorded.
-    pub fn label(&self, id: ObjectId) -> Option<&Label>
+    pub(crate) fn label(&self, id: ObjectId) -> Option<&Label>
         ensures { option_copied result ≡ label_at (state_of self.now.records) id }
     {
         match self.object(id) {
@@ -67,7 +67,7 @@ impl PlainKernel {
     }
 
     /// The clearance of a thread, and `None` for any other object.
-    pub fn clearance(&self, thread: ObjectId) -> Option<&Label>
+    pub(crate) fn clearance(&self, thread: ObjectId) -> Option<&Label>
         ensures { option_copied result ≡ clearance_at (state_of self.now.records) thread }
     {
         match self.object(thread) {
@@ -83,7 +83,7 @@ impl PlainKernel {
 
     /// Whether an id is that of a live object of this kind. Each record is live, so no path from
     /// the root has to be found.
-    pub fn is_live_kind(&self, kind: Kind, id: ObjectId) -> bool
+    pub(crate) fn is_live_kind(&self, kind: Kind, id: ObjectId) -> bool
         ensures { result ≡ is_live_kind (state_of self.now.records) kind id }
     {
         let _ = &self.records;
@@ -92,7 +92,7 @@ impl PlainKernel {
 
     /// Whether a thread observes an object: the object's label is at most the thread's with star
     /// raised (HiStar, OSDI 2006).
-    pub fn observes(&self, thread: ObjectId, id: ObjectId, meter: &mut Meter) -> bool
+    pub(crate) fn observes(&self, thread: ObjectId, id: ObjectId, meter: &mut Meter) -> bool
         ensures { result ≡ observes (state_of self.now.records) thread id }
     {
         is_visible(self.label(id), self.label(thread), meter)
@@ -100,21 +100,26 @@ impl PlainKernel {
 
     /// Whether a thread's label is at most an object's, as it is where the thread modifies what it
     /// observes (HiStar, OSDI 2006).
-    pub fn flows_to(&self, thread: ObjectId, id: ObjectId, meter: &mut Meter) -> bool
+    pub(crate) fn flows_to(&self, thread: ObjectId, id: ObjectId, meter: &mut Meter) -> bool
         ensures { result ≡ flows_to (state_of self.now.records) thread id }
     {
         is_below(self.label(thread), self.label(id), meter)
     }
 
     /// Whether an id is that of a live container that the thread observes.
-    pub fn is_accessible(&self, thread: ObjectId, container: ObjectId, meter: &mut Meter) -> bool
+    pub(crate) fn is_accessible(
+        &self,
+        thread: ObjectId,
+        container: ObjectId,
+        meter: &mut Meter,
+    ) -> bool
         ensures { result ≡ is_accessible (state_of self.now.records) thread container }
     {
         self.is_live_kind(Kind::Container, container) && self.observes(thread, container, meter)
     }
 
     /// What a container lists, and nothing for any other object.
-    pub fn list(&self, id: ObjectId) -> &[ObjectId]
+    pub(crate) fn list(&self, id: ObjectId) -> &[ObjectId]
         ensures { result.now ≡ list_at (state_of self.now.records) id }
     {
         match self.object(id) {
@@ -135,7 +140,7 @@ impl PlainKernel {
     }
 
     /// Whether an entry stands: its object is in its container's list, or is the container.
-    pub fn holds(&self, entry: &Entry) -> bool
+    pub(crate) fn holds(&self, entry: &Entry) -> bool
         ensures { result ≡ holds (state_of self.now.records) entry.now }
     {
         self.is_kind(Kind::Container, entry.container)
@@ -143,7 +148,7 @@ impl PlainKernel {
     }
 
     /// A segment's bytes, and none for any other object.
-    pub fn bytes(&self, id: ObjectId) -> &[u8]
+    pub(crate) fn bytes(&self, id: ObjectId) -> &[u8]
         ensures { result.now ≡ bytes_at (state_of self.now.records) id }
     {
         match self.object(id) {
@@ -158,7 +163,7 @@ impl PlainKernel {
     }
 
     /// Whether so many bytes from `offset` on go past the whole pages of a segment.
-    pub fn is_past(&self, id: ObjectId, offset: u32, count: u32) -> bool
+    pub(crate) fn is_past(&self, id: ObjectId, offset: u32, count: u32) -> bool
         ensures { result
             ≡ nat_lt (256 * page_count (state_of self.now.records) id) (offset + count) }
     {
@@ -167,7 +172,7 @@ impl PlainKernel {
     }
 
     /// Whether an object is read-only for good, which one that is not recorded isn't.
-    pub fn is_immutable(&self, id: ObjectId) -> bool
+    pub(crate) fn is_immutable(&self, id: ObjectId) -> bool
         ensures { result ≡ is_immutable (state_of self.now.records) id }
     {
         match self.object(id) {
@@ -177,7 +182,7 @@ impl PlainKernel {
     }
 
     /// What an object may use, in pages of 256 bytes: 0 where it is not recorded.
-    pub fn quota(&self, id: ObjectId) -> u32
+    pub(crate) fn quota(&self, id: ObjectId) -> u32
         ensures { result ≡ quota_at (state_of self.now.records) id }
     {
         match self.object(id) {
@@ -220,7 +225,7 @@ impl PlainKernel {
     }
 
     /// What an object uses, in pages of 256 bytes: its own cost and the quotas of what it lists.
-    pub fn used(&self, id: ObjectId) -> u128
+    pub(crate) fn used(&self, id: ObjectId) -> u128
         ensures value { result ≡ use_of (state_of self.now.records) id }
         ensures small { result < 2 ^ 100 }
     {
@@ -228,7 +233,7 @@ impl PlainKernel {
     }
 
     /// Whether so many pages more are above the container's quota.
-    pub fn is_over(&self, container: ObjectId, pages: u32) -> bool
+    pub(crate) fn is_over(&self, container: ObjectId, pages: u32) -> bool
         ensures { result ≡ nat_lt (quota_at (state_of self.now.records) container)
             (use_of (state_of self.now.records) container + pages) }
     {
@@ -236,7 +241,7 @@ impl PlainKernel {
     }
 
     /// Whether a container won't hold this kind.
-    pub fn avoids(&self, kind: Kind, id: ObjectId) -> bool
+    pub(crate) fn avoids(&self, kind: Kind, id: ObjectId) -> bool
         ensures { result ≡ avoids_at (state_of self.now.records) kind id }
     {
         match self.object(id) {
@@ -251,7 +256,7 @@ impl PlainKernel {
     }
 
     /// What a new container in this one avoids, which is asked to avoid these kinds.
-    pub fn joined(&self, container: ObjectId, kinds: TypeSet) -> TypeSet
+    pub(crate) fn joined(&self, container: ObjectId, kinds: TypeSet) -> TypeSet
         ensures { result ≡ joined_at (state_of self.now.records) kinds container }
     {
         match self.object(container) {

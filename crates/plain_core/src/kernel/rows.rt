@@ -21,7 +21,7 @@ use label_lattice::{Label, RawLabel};
 
 /// What a call asks for that makes an object.
 #[derive(Clone, Copy)]
-pub struct NewObject {
+pub(crate) struct NewObject {
     /// Its kind.
     pub kind: Kind,
     /// Where it is listed.
@@ -35,7 +35,7 @@ pub struct NewObject {
 impl PlainKernel {
     /// What refuses to read bytes of a segment.
     #[tactic(auto, unfolding(crate::specs::Rows::query_refused))]
-    pub fn refused_segment_read(
+    pub(crate) fn refused_segment_read(
         &self,
         thread: ObjectId,
         entry: &Entry,
@@ -67,7 +67,7 @@ impl PlainKernel {
 
     /// What refuses to write bytes of a segment.
     #[tactic(auto, unfolding(crate::specs::Rows::refused))]
-    pub fn refused_segment_write(
+    pub(crate) fn refused_segment_write(
         &self,
         thread: ObjectId,
         entry: &Entry,
@@ -103,7 +103,7 @@ impl PlainKernel {
     }
 
     /// The thread's label with the next category as its own, where it has room for it.
-    pub fn own_label(&self, thread: ObjectId, meter: &mut Meter) -> Option<Label>
+    pub(crate) fn own_label(&self, thread: ObjectId, meter: &mut Meter) -> Option<Label>
         ensures value { result ≡ own_label (state_of self.now.records) thread }
         ensures fit { IfSome result IsStored }
     {
@@ -115,7 +115,7 @@ impl PlainKernel {
     }
 
     /// Its clearance with the next category at 3, where it has room for it.
-    pub fn own_clearance(&self, thread: ObjectId, meter: &mut Meter) -> Option<Label>
+    pub(crate) fn own_clearance(&self, thread: ObjectId, meter: &mut Meter) -> Option<Label>
         ensures value { result ≡ own_clearance (state_of self.now.records) thread }
         ensures fit { IfSome result IsStored }
     {
@@ -129,7 +129,7 @@ impl PlainKernel {
     /// What refuses to make a category, where `full` says that the label or the clearance has no
     /// room for it.
     #[tactic(auto, unfolding(crate::specs::Rows::refused))]
-    pub fn refused_cat_create(&self, thread: ObjectId, full: bool) -> Option<Refusal>
+    pub(crate) fn refused_cat_create(&self, thread: ObjectId, full: bool) -> Option<Refusal>
         requires { full ≡ (is_none (own_label (state_of self.now.records) thread)
             || is_none (own_clearance (state_of self.now.records) thread)) }
         ensures { result ≡ refused (state_of self.now.records) thread call.CatCreate }
@@ -217,7 +217,7 @@ impl PlainKernel {
     }
 
     /// What refuses to make a container.
-    pub fn refused_container_create(
+    pub(crate) fn refused_container_create(
         &self,
         thread: ObjectId,
         new: &NewObject,
@@ -237,7 +237,7 @@ impl PlainKernel {
     }
 
     /// What refuses to make a segment of so many pages.
-    pub fn refused_segment_create(
+    pub(crate) fn refused_segment_create(
         &self,
         thread: ObjectId,
         new: &NewObject,

@@ -21,7 +21,7 @@ use label_lattice::{Label, RawLabel};
 impl PlainKernel {
     /// Bytes of a segment.
     #[tactic(auto, using(crate::proofs::StepLaws::ask_refused, crate::proofs::StepLaws::ask_found, crate::proofs::StepLaws::read_fits))]
-    pub fn segment_read(
+    pub(crate) fn segment_read(
         &self,
         thread: ObjectId,
         entry: &Entry,
@@ -44,7 +44,7 @@ impl PlainKernel {
     }
 
     /// Writes over bytes of a segment.
-    pub fn segment_write(
+    pub(crate) fn segment_write(
         &mut self,
         thread: ObjectId,
         entry: &Entry,
@@ -72,7 +72,7 @@ impl PlainKernel {
     }
 
     /// Makes a category, which the thread owns.
-    pub fn cat_create(&mut self, thread: ObjectId, meter: &mut Meter) -> Reply
+    pub(crate) fn cat_create(&mut self, thread: ObjectId, meter: &mut Meter) -> Reply
         ensures reply { result ≡ answer (state_of self.old.records) thread call.CatCreate }
         ensures state { state_of self.new.records
             ≡ next (state_of self.old.records) thread call.CatCreate }
@@ -116,7 +116,7 @@ impl PlainKernel {
     }
 
     /// Makes a container.
-    pub fn container_create(
+    pub(crate) fn container_create(
         &mut self,
         thread: ObjectId,
         container: ObjectId,
@@ -151,7 +151,7 @@ impl PlainKernel {
     }
 
     /// Makes a segment of so many pages of 0.
-    pub fn segment_create(
+    pub(crate) fn segment_create(
         &mut self,
         thread: ObjectId,
         container: ObjectId,
