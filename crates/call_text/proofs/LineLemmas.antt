@@ -1,5 +1,5 @@
 -- The parts of a line, and no two lines of one spelling.
-use Rattle.std.proofs.Common.{◌≡◌, ℕ, ◌-◌, ◌+◌, ◌≤◌, Bool, true, false, eqb, leb, ◌&&◌, List, [], ◌∷◌, ◌++◌, length, take, drop, get_or, Option, Some, None, refl, ap, ◌∙◌, sym, arith, subst, append_assoc, length-append}
+use Rattle.std.proofs.Common.{◌≡◌, ℕ, ◌≤◌, true, leb, List, [], ◌∷◌, ◌++◌, Some, None, refl, ◌∙◌, sym, arith, subst, append_assoc}
 use Rattle.std.specs.List.{list_all}
 use Rattle.std.proofs.lemmas.Bool.{leb-true}
 use Rattle.text_words.specs.Lacks.{lacks}
@@ -9,7 +9,7 @@ use Rattle.text_words.proofs.LackLemmas.{lacks-append, name_lacks}
 use Rattle.text_words.proofs.LabelLemmas.{before_last}
 use Rattle.text_words.proofs.OneLemmas.{first_part}
 use Rattle.text_words.proofs.Outside.{name_outside, space_outside, end_outside}
-use Rattle.text_rows.specs.Row.{Spoken, IsRow, row_text}
+use Rattle.text_rows.specs.Row.{Spoken, row_text}
 use Rattle.text_rows.proofs.RowLemmas.{row_is_one, row_lacks_end}
 use Rattle.call_text.proofs.PartLemmas.{not_in}
 use Rattle.call_text.proofs.TextLemmas.{IsGrammar}

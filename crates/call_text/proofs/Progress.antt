@@ -1,12 +1,11 @@
 -- How far a script has been read.
-use Rattle.std.proofs.Common.{◌≡◌, ℕ, ◌+◌, ◌<◌, ◌≤◌, Bool, eqb, true, false, List, [], ◌∷◌, ◌++◌, length, Option, Some, None, refl, ap, ◌∙◌, sym, arith, subst, length-append}
-use Rattle.std.specs.Prelude.{IsSome}
+use Rattle.std.proofs.Common.{◌≡◌, ℕ, ◌+◌, ◌≤◌, Bool, eqb, true, false, List, [], ◌∷◌, ◌++◌, length, Option, None, refl, ap, ◌∙◌, sym, arith, subst, length-append}
 use Rattle.std.proofs.lemmas.Bool.{eqb-true}
 use Rattle.std.proofs.lemmas.List.{append-nil}
 use Rattle.std.specs.BTreeSet.{BTreeSet}
 use Rattle.text_words.specs.Lacks.{lacks}
 use Rattle.text_words.specs.Reading.{Reads}
-use Rattle.text_words.proofs.ReadLemmas.{read_is, read_not}
+use Rattle.text_words.proofs.ReadLemmas.{read_not}
 use Rattle.call_text.specs.declared.lines.Written.{Written}
 use Rattle.call_text.specs.declared.lines.Written.TheVariants.{Break, Said}
 use Rattle.call_text.specs.declared.phases.Line.{Line}

@@ -1,6 +1,6 @@
 -- The grammar of scripts: lines, names and phases.
-use Rattle.std.proofs.Common.{◌≡◌, ℕ, zero, suc, ◌+◌, ◌-◌, ◌<◌, ◌≤◌, Bool, true, false, cond, not, leb, ◌||◌, List, [], ◌∷◌, ◌++◌, length, map, Option, Some, None, refl, ap, ◌∙◌, sym, arith, subst, append_assoc, length-append}
-use Rattle.std.specs.List.{list_any, flat_map}
+use Rattle.std.proofs.Common.{◌≡◌, ℕ, suc, ◌+◌, ◌<◌, ◌≤◌, Bool, true, false, cond, not, leb, ◌||◌, List, [], ◌∷◌, ◌++◌, length, map, Some, None, refl, ap, ◌∙◌, sym, arith, subst, append_assoc, length-append}
+use Rattle.std.specs.List.{list_any}
 use Rattle.std.specs.Str.{bytes_eq}
 use Rattle.std.specs.Cmp.{both_ways}
 use Rattle.std.specs.Ordering.{is_eq}
@@ -16,8 +16,8 @@ use Rattle.text_words.proofs.NameLemmas.{exact_names, name_cmp_same}
 use Rattle.call_text.specs.declared.lines.Written.{Written}
 use Rattle.call_text.specs.declared.lines.Written.TheVariants.{Break, Said}
 use Rattle.call_text.specs.declared.phases.Line.{Line}
-use Rattle.call_text.specs.Script.{said_of, lines_of, AreNumbered, ArePhasesNumbered, Earlier, is_bound, binds_of, bind, with_bound, next}
-use Rattle.call_text.specs.Names.{Holds, names_after, Admits}
+use Rattle.call_text.specs.Script.{said_of, lines_of, AreNumbered, ArePhasesNumbered, is_bound, binds_of, next}
+use Rattle.call_text.specs.Names.{Holds, Admits}
 
 equal_is : (o : Ordering) → is_eq o ≡ true → o ≡ Equal
 equal_is Less e = absurd cc

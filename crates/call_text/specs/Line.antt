@@ -1,5 +1,5 @@
 -- The spelling of a script's line.
-use Rattle.std.specs.Prelude.{◌≡◌, ◌≤◌, ℕ, List, ◌++◌, length, codes, Option, Some, None, true}
+use Rattle.std.specs.Prelude.{◌≡◌, ◌≤◌, ℕ, List, ◌++◌, length, codes, Some, None, true}
 use Rattle.text_words.specs.Name.{IsName, name_text}
 use Rattle.text_rows.specs.Verb.{makes}
 use Rattle.text_rows.specs.Row.{Spoken, IsRow, row_text}

@@ -1,4 +1,4 @@
-use Rattle.std.proofs.Common.{◌≡◌, true, ◌++◌, ◌∷◌, [], List, ℕ, subst, ◌∙◌, sym, ap}
+use Rattle.std.proofs.Common.{◌≡◌, true, ◌∷◌, List, ℕ, subst, ◌∙◌, sym, ap}
 use Rattle.text_words.specs.Lacks.{lacks}
 use Rattle.text_words.proofs.ReadLemmas.{read_not, read_is}
 use Rattle.text_rows.specs.Row.{Spoken}

@@ -1,5 +1,5 @@
 use Rattle.std.proofs.Common.{◌∙◌, sym, arith}
-use Rattle.call_text.proofs.ScriptLemmas.{admits_full, admits_none, admits_name}
+use Rattle.call_text.proofs.ScriptLemmas.{admits_name}
 use Rattle.call_text.proofs.scripts.admit.Goals as goal
 
 pub returns : goal.returns

@@ -1,5 +1,4 @@
-use Rattle.std.proofs.Common.{◌≡◌, [], ◌∷◌, List, ℕ, subst}
-use Rattle.std.specs.Prelude.{codes}
+use Rattle.std.proofs.Common.{◌≡◌, [], ◌∷◌, subst}
 use Rattle.call_text.specs.Script.{known_names}
 use Rattle.call_text.specs.Names.{Holds}
 use Rattle.call_text.proofs.ScriptLemmas.{holds_none, holds_more}

@@ -1,7 +1,6 @@
-use Rattle.std.proofs.Common.{true, false, ◌∙◌}
+use Rattle.std.proofs.Common.{true, false}
 use Rattle.text_words.proofs.ReadLemmas.{read_is}
 use Rattle.call_text.specs.Line.{written_text, FitsWritten}
-use Rattle.call_text.specs.Script.{IsScript}
 use Rattle.call_text.proofs.Progress.{progress_start, progress_more, progress_end, fault_at_end, fault_unread, fault_refused, admitted, not_empty, all_read}
 use Rattle.call_text.proofs.scripts.read_script.Goals as goal
 
