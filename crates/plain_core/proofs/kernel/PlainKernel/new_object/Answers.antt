@@ -1,11 +1,11 @@
 use Rattle.std.proofs.Common.{sym, ◌∙◌, ap, not, ◌||◌, [], ◌∷◌}
 use Rattle.base.specs.declared.refusals.Refusal.TheVariants.{BadLabel, LabelRange}
 use Rattle.label_lattice.specs.Raw.{is_bad_below, raw_has_star}
-use Rattle.plain_core.specs.Labels.{stored}
-use Rattle.plain_core.specs.Rows.{refusal_of, least_of, fitting, in_range_of}
-use Rattle.plain_core.specs.StateOf.{state_of}
-use Rattle.plain_core.proofs.RowLaws.{appended}
-use Rattle.plain_core.proofs.StoredLaws.{unfit_test}
+use Rattle.threads_gates.specs.LabelRules.{stored}
+use Rattle.kernel_rules.specs.Rows.{refusal_of, least_of, fitting, in_range_of}
+use Rattle.plain_state.specs.StateOf.{state_of}
+use Rattle.kernel_rules.proofs.RowLaws.{appended}
+use Rattle.kernel_rules.proofs.StoredLaws.{unfit_test}
 use Rattle.plain_core.proofs.kernel.PlainKernel.new_object.Goals as goal
 
 pub returns : goal.returns
