@@ -2,16 +2,14 @@
 ghost use Rattle.std.specs.Prelude.{◌≡◌, ◌==◌, true, false, IfOk};
 ghost use Rattle.base.specs.Level.{rank_of};
 ghost use Rattle.base.specs.Limits.{in_range};
-ghost use Rattle.kernel_rules.specs.Runs.{booted, uniform, root_object, boot_thread, device_object};
-ghost use Rattle.kernel_rules.specs.Runs.{boot_refusal};
-ghost use Rattle.plain_state.specs.StateOf.{state_of};
+ghost use Rattle.kernel_rules.specs.Runs.{booted, root_object, boot_thread, device_object};
+ghost use Rattle.kernel_rules.specs.Step.{uniform};
+ghost use Rattle.plain_state.specs.Boots.{boot_refusal};
+ghost use Rattle.plain_state.specs.Recorded.{records_state};
 
-use crate::calls::Entry;
-use crate::changes::fresh_object;
-use crate::lists::{IdList, Packets};
-use crate::objects::{Body, Object, Thread};
 use crate::records::Records;
 use base::{Level, Limits, Meter, NoMemory, ObjectId, Refusal, TypeSet};
+use kernel_rules::{Body, Entry, IdList, Object, Packets, Thread, fresh_object};
 use label_lattice::{Label, Pairs, RawLabel};
 use std::alloc::Global;
 use std::collections::BTreeMap;
@@ -93,7 +91,7 @@ fn device(alloc: Global, limits: &Limits, meter: &mut Meter) -> Object
 /// The records of a kernel that was booted with limits in range.
 pub fn booted_records(alloc: Global, limits: &Limits) -> Result<Records, NoMemory>
     requires { in_range limits.now ≡ true }
-    ensures { IfOk result (λ records. state_of records ≡ booted limits.now) }
+    ensures { IfOk result (λ records. records_state records ≡ booted limits.now) }
 {
     let mut meter = Meter::new(alloc)?;
     let root = root(alloc, limits, &mut meter)?;

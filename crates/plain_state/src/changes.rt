@@ -4,14 +4,13 @@ ghost use Rattle.label_lattice.specs.Label.{LabelValue};
 ghost use Rattle.kernel_rules.specs.Written.{written};
 ghost use Rattle.kernel_rules.specs.State.{bytes_of, bytes_at};
 ghost use Rattle.kernel_rules.specs.Changes.{changed, with_body, rebyte, owning, listing, made};
-ghost use Rattle.kernel_rules.specs.Changes.{fresh_object};
-ghost use Rattle.plain_state.specs.StateOf.{state_of};
+ghost use Rattle.plain_state.specs.Recorded.{records_state};
 ghost use Rattle.kernel_rules.specs.Step.{owned};
 ghost use Rattle.plain_state.specs.Undo.{unlisting};
 
-use crate::objects::{Body, Object};
 use crate::records::Records;
-use base::{Data, NoMemory, ObjectId};
+use base::{NoMemory, ObjectId};
+use kernel_rules::{Body, Object};
 use label_lattice::Label;
 
 fn write(object: &mut Object, at: usize, data: &[u8])
@@ -25,9 +24,9 @@ fn write(object: &mut Object, at: usize, data: &[u8])
 
 /// A segment's bytes are written over from `at` on.
 pub fn write_bytes(records: &mut Records, id: ObjectId, at: usize, data: &[u8])
-    requires { at + length data.now ≤ length (bytes_at (state_of records.old) id) }
-    ensures { state_of records.new
-        ≡ changed (state_of records.old) id (with_body (rebyte (written at data.now))) }
+    requires { at + length data.now ≤ length (bytes_at (records_state records.old) id) }
+    ensures { records_state records.new
+        ≡ changed (records_state records.old) id (with_body (rebyte (written at data.now))) }
 {
     if let Some(object) = records.objects.get_mut(&id) {
         write(object, at, data);
@@ -44,8 +43,8 @@ fn own(object: &mut Object, label: Label, clearance: Label)
 }
 
 fn own_in(records: &mut Records, thread: ObjectId, label: Label, clearance: Label)
-    ensures { state_of records.new
-        ≡ changed (state_of records.old) thread (owning label clearance) }
+    ensures { records_state records.new
+        ≡ changed (records_state records.old) thread (owning label clearance) }
 {
     if let Some(object) = records.objects.get_mut(&thread) {
         own(object, label, clearance);
@@ -61,7 +60,7 @@ pub fn own_category(
     clearance: Option<Label>,
 )
     requires { records.old.next_category < 2 ^ 61 }
-    ensures { state_of records.new ≡ owned (state_of records.old) thread label clearance }
+    ensures { records_state records.new ≡ owned (records_state records.old) thread label clearance }
 {
     if let Some(label) = label {
         if let Some(clearance) = clearance {
@@ -85,8 +84,8 @@ fn list_last(object: &mut Object, id: ObjectId) -> Result<(), NoMemory>
 #[tactic(auto, using(std::proofs::lemmas::Map::Steps::set_value_same))]
 fn list_in(records: &mut Records, container: ObjectId, id: ObjectId) -> Result<(), NoMemory>
     ensures ok { OnOk result
-        (state_of records.new ≡ changed (state_of records.old) container (listing id)) }
-    ensures err { OnErr result (state_of records.new ≡ state_of records.old) }
+        (records_state records.new ≡ changed (records_state records.old) container (listing id)) }
+    ensures err { OnErr result (records_state records.new ≡ records_state records.old) }
 {
     match records.objects.get_mut(&container) {
         None => Ok(()),
@@ -103,7 +102,7 @@ fn unlist_last(object: &mut Object)
 }
 
 fn unlist_in(records: &mut Records, container: ObjectId)
-    ensures { state_of records.new ≡ changed (state_of records.old) container unlisting }
+    ensures { records_state records.new ≡ changed (records_state records.old) container unlisting }
 {
     if let Some(object) = records.objects.get_mut(&container) {
         unlist_last(object);
@@ -114,8 +113,8 @@ fn unlist_in(records: &mut Records, container: ObjectId)
 #[tactic(auto, using(crate::proofs::ChangeLaws::unlisted))]
 pub fn make(records: &mut Records, container: ObjectId, object: Object) -> Result<(), NoMemory>
     requires { records.old.next_id < 2 ^ 61 }
-    ensures ok { OnOk result (state_of records.new ≡ made (state_of records.old) container object) }
-    ensures err { OnErr result (state_of records.new ≡ state_of records.old) }
+    ensures ok { OnOk result (records_state records.new ≡ made (records_state records.old) container object) }
+    ensures err { OnErr result (records_state records.new ≡ records_state records.old) }
 {
     let id = ObjectId::new(records.next_id);
     list_in(records, container, id)?;

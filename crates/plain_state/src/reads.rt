@@ -11,12 +11,11 @@ ghost use Rattle.kernel_rules.specs.Changes.{joined_at};
 ghost use Rattle.plain_state.specs.StateOf.{state_of};
 ghost use Rattle.base.specs.declared.kinds.Kind.TheVariants as kinds;
 
-use super::PlainKernel;
-use crate::calls::Entry;
-use crate::label_rules::{is_below, is_visible};
-use crate::objects::{Body, Object};
+use crate::states::PlainState;
 use base::{Kind, Meter, ObjectId, TypeSet};
+use kernel_rules::{Body, Entry, Object};
 use label_lattice::Label;
+use threads_gates::{is_below, is_visible};
 
 fn has_kind(object: &Object, kind: Kind) -> bool
     ensures { result ≡ is_kind kind object.now }
@@ -32,23 +31,23 @@ fn has_kind(object: &Object, kind: Kind) -> bool
 }
 
 /// Whether 1 to 64 bytes from `at` on lie in one page.
-pub(crate) fn has_shape(at: u64, count: u64) -> bool
+pub fn has_shape(at: u64, count: u64) -> bool
     ensures { result ≡ is_shape at count }
 {
     1 <= count && count <= 64 && at % 256 + count <= 256
 }
 
-impl PlainKernel {
+impl PlainState {
     /// The object of an id, where it is recorded.
-    pub(crate) fn object(&self, id: ObjectId) -> Option<&Object>
-        ensures { option_copied result ≡ object_at (state_of self.now.records) id }
+    pub fn object(&self, id: ObjectId) -> Option<&Object>
+        ensures { option_copied result ≡ object_at (state_of self.now) id }
     {
         self.records.objects.get(&id)
     }
 
     /// Whether an id is that of an object of this kind.
-    pub(crate) fn is_kind(&self, kind: Kind, id: ObjectId) -> bool
-        ensures { result ≡ is_kind_at (state_of self.now.records) kind id }
+    pub fn is_kind(&self, kind: Kind, id: ObjectId) -> bool
+        ensures { result ≡ is_kind_at (state_of self.now) kind id }
     {
         match self.object(id) {
             None => false,
@@ -57,8 +56,8 @@ impl PlainKernel {
     }
 
     /// The label of an object, where it is recorded.
-    pub(crate) fn label(&self, id: ObjectId) -> Option<&Label>
-        ensures { option_copied result ≡ label_at (state_of self.now.records) id }
+    pub fn label(&self, id: ObjectId) -> Option<&Label>
+        ensures { option_copied result ≡ label_at (state_of self.now) id }
     {
         match self.object(id) {
             None => None,
@@ -67,8 +66,8 @@ impl PlainKernel {
     }
 
     /// The clearance of a thread, and `None` for any other object.
-    pub(crate) fn clearance(&self, thread: ObjectId) -> Option<&Label>
-        ensures { option_copied result ≡ clearance_at (state_of self.now.records) thread }
+    pub fn clearance(&self, thread: ObjectId) -> Option<&Label>
+        ensures { option_copied result ≡ clearance_at (state_of self.now) thread }
     {
         match self.object(thread) {
             Some(
@@ -83,8 +82,8 @@ impl PlainKernel {
 
     /// Whether an id is that of a live object of this kind. Each record is live, so no path from
     /// the root has to be found.
-    pub(crate) fn is_live_kind(&self, kind: Kind, id: ObjectId) -> bool
-        ensures { result ≡ is_live_kind (state_of self.now.records) kind id }
+    pub fn is_live_kind(&self, kind: Kind, id: ObjectId) -> bool
+        ensures { result ≡ is_live_kind (state_of self.now) kind id }
     {
         let _ = &self.records;
         self.is_kind(kind, id)
@@ -92,35 +91,35 @@ impl PlainKernel {
 
     /// Whether a thread observes an object: the object's label is at most the thread's with star
     /// raised (HiStar, OSDI 2006).
-    pub(crate) fn observes(&self, thread: ObjectId, id: ObjectId, meter: &mut Meter) -> bool
-        ensures { result ≡ observes (state_of self.now.records) thread id }
+    pub fn observes(&self, thread: ObjectId, id: ObjectId, meter: &mut Meter) -> bool
+        ensures { result ≡ observes (state_of self.now) thread id }
     {
         is_visible(self.label(id), self.label(thread), meter)
     }
 
     /// Whether a thread's label is at most an object's, as it is where the thread modifies what it
     /// observes (HiStar, OSDI 2006).
-    pub(crate) fn flows_to(&self, thread: ObjectId, id: ObjectId, meter: &mut Meter) -> bool
-        ensures { result ≡ flows_to (state_of self.now.records) thread id }
+    pub fn flows_to(&self, thread: ObjectId, id: ObjectId, meter: &mut Meter) -> bool
+        ensures { result ≡ flows_to (state_of self.now) thread id }
     {
         is_below(self.label(thread), self.label(id), meter)
     }
 
     /// Whether an id is that of a live container that the thread observes.
-    pub(crate) fn is_accessible(
+    pub fn is_accessible(
         &self,
         thread: ObjectId,
         container: ObjectId,
         meter: &mut Meter,
     ) -> bool
-        ensures { result ≡ is_accessible (state_of self.now.records) thread container }
+        ensures { result ≡ is_accessible (state_of self.now) thread container }
     {
         self.is_live_kind(Kind::Container, container) && self.observes(thread, container, meter)
     }
 
     /// What a container lists, and nothing for any other object.
-    pub(crate) fn list(&self, id: ObjectId) -> &[ObjectId]
-        ensures { result.now ≡ list_at (state_of self.now.records) id }
+    pub fn list(&self, id: ObjectId) -> &[ObjectId]
+        ensures { result.now ≡ list_at (state_of self.now) id }
     {
         match self.object(id) {
             Some(
@@ -134,22 +133,22 @@ impl PlainKernel {
     }
 
     fn is_listed(&self, container: ObjectId, id: ObjectId) -> bool
-        ensures { result ≡ has (list_at (state_of self.now.records) container) id }
+        ensures { result ≡ has (list_at (state_of self.now) container) id }
     {
         self.list(container).iter().any(|listed| id == *listed)
     }
 
     /// Whether an entry stands: its object is in its container's list, or is the container.
-    pub(crate) fn holds(&self, entry: &Entry) -> bool
-        ensures { result ≡ holds (state_of self.now.records) entry.now }
+    pub fn holds(&self, entry: &Entry) -> bool
+        ensures { result ≡ holds (state_of self.now) entry.now }
     {
         self.is_kind(Kind::Container, entry.container)
             && (self.is_listed(entry.container, entry.object) || entry.object == entry.container)
     }
 
     /// A segment's bytes, and none for any other object.
-    pub(crate) fn bytes(&self, id: ObjectId) -> &[u8]
-        ensures { result.now ≡ bytes_at (state_of self.now.records) id }
+    pub fn bytes(&self, id: ObjectId) -> &[u8]
+        ensures { result.now ≡ bytes_at (state_of self.now) id }
     {
         match self.object(id) {
             Some(
@@ -163,17 +162,17 @@ impl PlainKernel {
     }
 
     /// Whether so many bytes from `offset` on go past the whole pages of a segment.
-    pub(crate) fn is_past(&self, id: ObjectId, offset: u32, count: u32) -> bool
+    pub fn is_past(&self, id: ObjectId, offset: u32, count: u32) -> bool
         ensures { result
-            ≡ nat_lt (256 * page_count (state_of self.now.records) id) (offset + count) }
+            ≡ nat_lt (256 * page_count (state_of self.now) id) (offset + count) }
     {
         let pages = self.bytes(id).len() / 256;
         256 * (pages as u64) < u64::from(offset) + u64::from(count)
     }
 
     /// Whether an object is read-only for good, which one that is not recorded isn't.
-    pub(crate) fn is_immutable(&self, id: ObjectId) -> bool
-        ensures { result ≡ is_immutable (state_of self.now.records) id }
+    pub fn is_immutable(&self, id: ObjectId) -> bool
+        ensures { result ≡ is_immutable (state_of self.now) id }
     {
         match self.object(id) {
             None => false,
@@ -182,8 +181,8 @@ impl PlainKernel {
     }
 
     /// What an object may use, in pages of 256 bytes: 0 where it is not recorded.
-    pub(crate) fn quota(&self, id: ObjectId) -> u32
-        ensures { result ≡ quota_at (state_of self.now.records) id }
+    pub fn quota(&self, id: ObjectId) -> u32
+        ensures { result ≡ quota_at (state_of self.now) id }
     {
         match self.object(id) {
             None => 0,
@@ -193,7 +192,7 @@ impl PlainKernel {
 
     /// The declared quotas of these together.
     fn quotas(&self, ids: &[ObjectId]) -> u128
-        ensures sum { result ≡ sum_by (quota_at (state_of self.now.records)) ids.now }
+        ensures sum { result ≡ sum_by (quota_at (state_of self.now)) ids.now }
         ensures small { result ≤ 2 ^ 32 * length ids.now }
     {
         match ids {
@@ -203,7 +202,7 @@ impl PlainKernel {
     }
 
     fn cost(&self, id: ObjectId) -> u64
-        ensures value { result ≡ cost_at (state_of self.now.records) id }
+        ensures value { result ≡ cost_at (state_of self.now) id }
         ensures small { result < 2 ^ 63 }
     {
         match self.object(id) {
@@ -225,24 +224,24 @@ impl PlainKernel {
     }
 
     /// What an object uses, in pages of 256 bytes: its own cost and the quotas of what it lists.
-    pub(crate) fn used(&self, id: ObjectId) -> u128
-        ensures value { result ≡ use_of (state_of self.now.records) id }
+    pub fn used(&self, id: ObjectId) -> u128
+        ensures value { result ≡ use_of (state_of self.now) id }
         ensures small { result < 2 ^ 100 }
     {
         u128::from(self.cost(id)) + self.quotas(self.list(id))
     }
 
     /// Whether so many pages more are above the container's quota.
-    pub(crate) fn is_over(&self, container: ObjectId, pages: u32) -> bool
-        ensures { result ≡ nat_lt (quota_at (state_of self.now.records) container)
-            (use_of (state_of self.now.records) container + pages) }
+    pub fn is_over(&self, container: ObjectId, pages: u32) -> bool
+        ensures { result ≡ nat_lt (quota_at (state_of self.now) container)
+            (use_of (state_of self.now) container + pages) }
     {
         u128::from(self.quota(container)) < self.used(container) + u128::from(pages)
     }
 
     /// Whether a container won't hold this kind.
-    pub(crate) fn avoids(&self, kind: Kind, id: ObjectId) -> bool
-        ensures { result ≡ avoids_at (state_of self.now.records) kind id }
+    pub fn avoids(&self, kind: Kind, id: ObjectId) -> bool
+        ensures { result ≡ avoids_at (state_of self.now) kind id }
     {
         match self.object(id) {
             Some(
@@ -256,8 +255,8 @@ impl PlainKernel {
     }
 
     /// What a new container in this one avoids, which is asked to avoid these kinds.
-    pub(crate) fn joined(&self, container: ObjectId, kinds: TypeSet) -> TypeSet
-        ensures { result ≡ joined_at (state_of self.now.records) kinds container }
+    pub fn joined(&self, container: ObjectId, kinds: TypeSet) -> TypeSet
+        ensures { result ≡ joined_at (state_of self.now) kinds container }
     {
         match self.object(container) {
             Some(

@@ -10,9 +10,9 @@ use Rattle.plain_state.proofs.states.PlainState.create.Goals as goal
 pub invariant_of-self : goal.invariant_of-self
 invariant_of-self c = record {
   well_formed = sound_after c.make.result _ _ _ c.make.ensures.ok c.make.ensures.err c.args.self.now.well_formed
-      (ap (λ (x : Object). is_well_formed (made (state_of c.args.self.now.records) c.args.container x))
+      (ap (λ (x : Object). is_well_formed (made (state_of c.args.self.now) c.args.container x))
       c.fresh_object.ensures
-      ∙ made_well_formed (state_of c.args.self.now.records) c.args.container c.args.label c.args.quota
+      ∙ made_well_formed (state_of c.args.self.now) c.args.container c.args.label c.args.quota
       c.args.body c.requires.fitting (stored_test c.args.label c.requires.label)
       c.args.self.now.well_formed);
 }

@@ -1,0 +1,4 @@
+pub mod Recorded
+pub mod StateOf
+pub mod Boots
+pub mod Undo
