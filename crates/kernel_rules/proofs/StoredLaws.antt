@@ -12,7 +12,7 @@ use Rattle.label_lattice.specs.Label.{LabelValue, IsStored}
 use Rattle.label_lattice.specs.Levels.{IsAbove, IsRising, DiffersFrom}
 use Rattle.label_lattice.specs.declared.pairings.Pair.{Pair}
 use Rattle.label_lattice.proofs.LabelLemmas.{rank_of-injective}
-use Rattle.label_lattice.specs.Raw.{all_made, is_bad, is_bad_below, raw_has_star, stored_of}
+use Rattle.label_lattice.specs.Raw.{all_made, is_bad, is_bad_below, stored_of}
 use Rattle.label_lattice.specs.declared.raw_labels.RawLabel.{RawLabel}
 use Rattle.threads_gates.specs.LabelRules.{stored}
 use Rattle.kernel_rules.specs.WellFormed.{is_stored, categories_rise}
@@ -68,8 +68,7 @@ stored_none x = elim (is_bad x) as (λ v. is_none (cond v None (Some (stored_of 
   | false ↦ refl
 ]
 
--- the test of a raw label that has no star, by its stored one
-pub unfit_test : (x : RawLabel) (next : ℕ)
-    → ((is_none (stored x) || not (all_made next x.pairs)) || raw_has_star x)
-    ≡ (is_bad_below next x || raw_has_star x)
-unfit_test x next = ap (λ b. (b || not (all_made next x.pairs)) || raw_has_star x) (stored_none x)
+-- the test of a raw label by its stored one
+pub bad_test : (x : RawLabel) (next : ℕ)
+    → (is_none (stored x) || not (all_made next x.pairs)) ≡ is_bad_below next x
+bad_test x next = ap (λ b. b || not (all_made next x.pairs)) (stored_none x)

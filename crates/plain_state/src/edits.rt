@@ -4,7 +4,7 @@ ghost use Rattle.label_lattice.specs.Label.{IsStored};
 ghost use Rattle.kernel_rules.specs.Changes.{changed, with_body, rebyte, fresh_object, made};
 ghost use Rattle.kernel_rules.specs.Fitting.{IsFitting};
 ghost use Rattle.kernel_rules.specs.State.{bytes_at};
-ghost use Rattle.kernel_rules.specs.Step.{owned};
+ghost use Rattle.kernel_rules.specs.Step.{made_of, owned};
 ghost use Rattle.kernel_rules.specs.Written.{written};
 ghost use Rattle.plain_state.specs.StateOf.{state_of};
 
@@ -15,28 +15,46 @@ use kernel_rules::{Body, fresh_object};
 use label_lattice::Label;
 
 impl PlainState {
-    /// Adds an object under the next id, last in a container's list, and gives its id. Without memory
-    /// nothing is changed.
-    pub fn create(
+    fn add(
         &mut self,
         container: ObjectId,
         label: Label,
         quota: u32,
         body: Body,
-    ) -> Result<ObjectId, NoMemory>
+    ) -> Result<(), NoMemory>
         requires fitting { IsFitting (state_of self.old) container quota body }
         requires label { IsStored label }
-        ensures id { IfOk result (λ id. id ≡ (state_of self.old).next_id) }
         ensures ok { OnOk result (state_of self.new
             ≡ made (state_of self.old) container (fresh_object label quota body)) }
         ensures err { OnErr result (state_of self.new ≡ state_of self.old) }
     {
-        let id = ObjectId::new(self.records.next_id);
         make(
             &mut self.records,
             container,
             fresh_object(label, quota, body),
-        )?;
+        )
+    }
+
+    /// Adds an object of a label under the next id, last in a container's list, and gives its id; where
+    /// there is no label, nothing is changed. Nor is it without memory, which is the only error.
+    pub fn create(
+        &mut self,
+        container: ObjectId,
+        label: Option<Label>,
+        quota: u32,
+        body: Body,
+    ) -> Result<ObjectId, NoMemory>
+        requires fitting { IsFitting (state_of self.old) container quota body }
+        requires label { IfSome label IsStored }
+        ensures id { IfOk result (λ id. id ≡ (state_of self.old).next_id) }
+        ensures ok { OnOk result (state_of self.new
+            ≡ made_of (state_of self.old) container label quota body) }
+        ensures err { OnErr result (state_of self.new ≡ state_of self.old) }
+    {
+        let id = self.next_id();
+        if let Some(label) = label {
+            self.add(container, label, quota, body)?;
+        }
         Ok(id)
     }
 

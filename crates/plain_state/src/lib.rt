@@ -8,8 +8,10 @@ mod changes;
 mod edits;
 mod reads;
 mod records;
+mod rows;
 mod states;
 
 pub use boots::BootRefusal;
+pub use reads::has_shape;
 pub use records::Records;
 pub use states::PlainState;

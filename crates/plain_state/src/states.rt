@@ -6,7 +6,7 @@ ghost use Rattle.plain_state.specs.Recorded.{records_state};
 
 use crate::boots::{BootRefusal, booted_records};
 use crate::records::Records;
-use base::Limits;
+use base::{Limits, ObjectId};
 use std::alloc::Global;
 
 /// The state of a plain kernel, which is well formed at all times.
@@ -45,5 +45,19 @@ impl PlainState {
     /// What takes memory for the state.
     pub fn alloc(&self) -> Global {
         self.alloc
+    }
+
+    /// The id of the next new object; at 2^61 there is none left.
+    pub fn next_id(&self) -> ObjectId
+        ensures { result ≡ (state_of self.now).next_id }
+    {
+        ObjectId::new(self.records.next_id)
+    }
+
+    /// The next new category; at 2^61 there is none left.
+    pub fn next_category(&self) -> u64
+        ensures { result ≡ (state_of self.now).next_category }
+    {
+        self.records.next_category
     }
 }
