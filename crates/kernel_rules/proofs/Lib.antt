@@ -11,4 +11,5 @@ pub mod RecordLaws
 pub mod RowLaws
 pub mod StepLaws
 pub mod StoredLaws
+pub mod ThreadLaws
 pub mod WellFormedLaws

@@ -10,8 +10,10 @@ mod reads;
 mod records;
 mod rows;
 mod states;
+mod thread_changes;
+mod thread_edits;
 
-pub use boots::BootRefusal;
+pub use boots::{BootRefusal, uniform};
 pub use reads::has_shape;
 pub use records::Records;
 pub use states::PlainState;
