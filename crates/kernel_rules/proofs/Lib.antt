@@ -1,5 +1,6 @@
 pub mod BootLaws
 pub mod EditLaws
+pub mod FixedLaws
 pub mod GrowLaws
 pub mod GrownLaws
 pub mod KeptLaws

@@ -6,6 +6,8 @@
 mod boots;
 mod changes;
 mod edits;
+mod link_edits;
+mod links;
 mod reads;
 mod records;
 mod rows;
