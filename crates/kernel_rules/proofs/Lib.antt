@@ -1,4 +1,5 @@
 pub mod BootLaws
+pub mod BytesLaws
 pub mod EditLaws
 pub mod FixedLaws
 pub mod GrowLaws

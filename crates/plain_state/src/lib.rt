@@ -8,12 +8,15 @@ mod changes;
 mod edits;
 mod link_edits;
 mod links;
+mod memory_changes;
+mod memory_edits;
 mod reads;
 mod records;
 mod rows;
 mod states;
 mod thread_changes;
 mod thread_edits;
+mod translations;
 
 pub use boots::{BootRefusal, uniform};
 pub use reads::has_shape;
