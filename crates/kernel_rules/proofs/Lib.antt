@@ -1,13 +1,16 @@
 pub mod BootLaws
+pub mod CountLaws
 pub mod EditLaws
 pub mod FixedLaws
 pub mod GrowLaws
 pub mod GrownLaws
 pub mod KeptLaws
+pub mod LinkLaws
 pub mod ListerLaws
 pub mod ListingLaws
 pub mod LookupLaws
 pub mod MadeLaws
+pub mod QuotaLaws
 pub mod RecordLaws
 pub mod RowLaws
 pub mod StepLaws

@@ -1,10 +1,34 @@
 //! The changes that calls on links and quotas make to the records.
-ghost use Rattle.std.specs.Prelude.{◌≡◌};
-ghost use Rattle.kernel_rules.specs.Changes.{changed, made_fixed};
+ghost use Rattle.std.specs.Prelude.{◌≡◌, OnOk, OnErr};
+ghost use Rattle.kernel_rules.specs.Changes.{changed, listing, made_fixed};
 ghost use Rattle.plain_state.specs.Recorded.{records_state};
 
 use crate::records::Records;
-use base::ObjectId;
+use base::{NoMemory, ObjectId};
+use kernel_rules::{Body, Object};
+
+fn list_last(object: &mut Object, id: ObjectId) -> Result<(), NoMemory>
+    ensures ok { OnOk result (object.new ≡ listing id object.old) }
+    ensures err { OnErr result (object.new ≡ object.old) }
+{
+    if let Body::Container(_, list) = &mut object.body {
+        list.push(id)?;
+    }
+    Ok(())
+}
+
+/// The id comes last in a container's list. Without memory nothing is changed.
+#[tactic(auto, using(std::proofs::lemmas::Map::Steps::set_value_same))]
+pub fn link(records: &mut Records, container: ObjectId, id: ObjectId) -> Result<(), NoMemory>
+    ensures ok { OnOk result
+        (records_state records.new ≡ changed (records_state records.old) container (listing id)) }
+    ensures err { OnErr result (records_state records.new ≡ records_state records.old) }
+{
+    match records.objects.get_mut(&container) {
+        None => Ok(()),
+        Some(object) => list_last(object, id),
+    }
+}
 
 /// An object's quota never changes again.
 pub fn fix_quota(records: &mut Records, id: ObjectId)
