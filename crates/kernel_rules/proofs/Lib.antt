@@ -9,7 +9,9 @@ pub mod LinkLaws
 pub mod ListerLaws
 pub mod ListingLaws
 pub mod LookupLaws
+pub mod LooseLaws
 pub mod MadeLaws
+pub mod MoveLaws
 pub mod QuotaLaws
 pub mod RecordLaws
 pub mod RowLaws

@@ -2,11 +2,11 @@
 ghost use Rattle.std.specs.Prelude.{◌≡◌, ◌≤◌, ◌+◌, true, false, OnOk, OnErr};
 ghost use Rattle.base.specs.Live.{has};
 ghost use Rattle.base.specs.declared.kinds.Kind.TheVariants as kinds;
-ghost use Rattle.kernel_rules.specs.Changes.{changed, listing, made_fixed};
+ghost use Rattle.kernel_rules.specs.Changes.{changed, listing, made_fixed, requoted};
 ghost use Rattle.kernel_rules.specs.State.{is_kind_at, holds, is_fixed, list_at, use_of, quota_at};
 ghost use Rattle.plain_state.specs.StateOf.{state_of};
 
-use crate::links::{fix_quota, link};
+use crate::links::{fix_quota, link, move_quota};
 use crate::states::PlainState;
 use base::{NoMemory, ObjectId};
 use kernel_rules::Entry;
@@ -35,5 +35,19 @@ impl PlainState {
         ensures { state_of self.new ≡ changed (state_of self.old) id made_fixed }
     {
         fix_quota(&mut self.records, id);
+    }
+
+    /// The quota of an object that is in a container's list is so many pages more, and so many less.
+    pub fn move_quota(&mut self, entry: &Entry, up: u32, down: u32)
+        requires listed { has (list_at (state_of self.old) entry.now.container) entry.now.object ≡ true }
+        requires loose { is_fixed (state_of self.old) entry.now.object ≡ false }
+        requires room { use_of (state_of self.old) entry.now.container + up
+            ≤ quota_at (state_of self.old) entry.now.container }
+        requires free { use_of (state_of self.old) entry.now.object + down
+            ≤ quota_at (state_of self.old) entry.now.object }
+        ensures { state_of self.new ≡ changed (state_of self.old) entry.now.object (requoted up down) }
+    {
+        let _ = self.quota(entry.container);
+        move_quota(&mut self.records, entry.object, up, down);
     }
 }

@@ -1,6 +1,7 @@
 //! The changes that calls on links and quotas make to the records.
-ghost use Rattle.std.specs.Prelude.{◌≡◌, OnOk, OnErr};
-ghost use Rattle.kernel_rules.specs.Changes.{changed, listing, made_fixed};
+ghost use Rattle.std.specs.Prelude.{◌≡◌, ◌≤◌, ◌<◌, ◌+◌, ◌^◌, OnOk, OnErr};
+ghost use Rattle.kernel_rules.specs.Changes.{changed, listing, made_fixed, requoted};
+ghost use Rattle.kernel_rules.specs.State.{quota_at};
 ghost use Rattle.plain_state.specs.Recorded.{records_state};
 
 use crate::records::Records;
@@ -36,5 +37,16 @@ pub fn fix_quota(records: &mut Records, id: ObjectId)
 {
     if let Some(object) = records.objects.get_mut(&id) {
         object.fixed = true;
+    }
+}
+
+/// An object's quota is so many pages more, and so many less.
+pub fn move_quota(records: &mut Records, id: ObjectId, up: u32, down: u32)
+    requires fits { quota_at (records_state records.old) id + up < 2 ^ 32 }
+    requires enough { down ≤ quota_at (records_state records.old) id + up }
+    ensures { records_state records.new ≡ changed (records_state records.old) id (requoted up down) }
+{
+    if let Some(object) = records.objects.get_mut(&id) {
+        object.quota = object.quota + up - down;
     }
 }
