@@ -1,5 +1,6 @@
 pub mod BootLaws
 pub mod CountLaws
+pub mod DeadLaws
 pub mod EditLaws
 pub mod FixedLaws
 pub mod GrowLaws
@@ -17,4 +18,5 @@ pub mod RecordLaws
 pub mod RowLaws
 pub mod StepLaws
 pub mod StoredLaws
+pub mod UnrefLaws
 pub mod WellFormedLaws
