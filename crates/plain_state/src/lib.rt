@@ -7,6 +7,7 @@ mod boots;
 mod changes;
 mod edits;
 mod link_edits;
+mod link_reads;
 mod links;
 mod memory_changes;
 mod memory_edits;
