@@ -1,5 +1,5 @@
 -- What follows for copied and resized segments, and for mappings, where nothing refuses a call.
-use Rattle.std.proofs.Common.{◌≡◌, ◌≤◌, ◌<◌, ◌+◌, ◌==◌, ℕ, true, false, None, ◌++◌, length, List, refl, ◌∙◌, arith}
+use Rattle.std.proofs.Common.{◌≡◌, ◌≤◌, ◌<◌, ◌+◌, ◌==◌, ℕ, true, false, None, ◌++◌, length, replicate, List, refl, ◌∙◌, arith}
 use Rattle.std.proofs.lemmas.Bool.{and_parts, not-false, leb-true, leb-false, ltb-false}
 use Rattle.base.specs.declared.kinds.Kind.TheVariants as kinds
 use Rattle.label_lattice.specs.declared.raw_labels.RawLabel.{RawLabel}
@@ -29,6 +29,21 @@ copy_fits s t d x q e h whole =
       left = leb-false _ _ none.1.1.1.1.1.1.1.1.1.1.1.1.0;
       empty = refl;
       whole = whole;
+    }
+
+-- what an address space is made of fits, where nothing refuses it
+pub space_fits : (s : State) (t d : ℕ) (x : RawLabel) (q : ℕ) → refused s t (call.AsCreate d x q) ≡ None
+    → IsFitting s d q (is.AddressSpace (record { slots = replicate 16 None }))
+unfolding refused
+space_fits s t d x q h =
+    let none = none_hold (halted s t ++ row s t (call.AsCreate d x q)) h in
+    record {
+      container = (and_parts _ _ (and_parts _ _ (not-false _ none.1.0)).0).0;
+      enough = ltb-false _ _ none.1.1.1.1.1.0;
+      room = ltb-false _ _ none.1.1.1.1.1.1.0;
+      left = leb-false _ _ none.1.1.1.1.1.1.1.1.0;
+      empty = refl;
+      whole = refl;
     }
 
 -- the segment's kind, length and quota, where nothing refuses another length

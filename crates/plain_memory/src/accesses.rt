@@ -1,7 +1,8 @@
 //! The calls that read and write bytes through the caller's address space.
-ghost use Rattle.std.specs.Prelude.{◌≡◌, None, is_none, not};
+ghost use Rattle.std.specs.Prelude.{◌≡◌, ◌≤◌, ◌+◌, None, is_none, not, length, slice_range};
 ghost use Rattle.base.specs.Sets.{may_read, may_write};
 ghost use Rattle.kernel_rules.specs.Rows.{allows};
+ghost use Rattle.kernel_rules.specs.State.{bytes_at};
 ghost use Rattle.kernel_rules.specs.Step.{accepted, edit, found};
 ghost use Rattle.kernel_rules.specs.Table.{refused, query_refused};
 ghost use Rattle.plain_state.specs.StateOf.{state_of};
@@ -55,7 +56,6 @@ pub fn refused_store(
 }
 
 /// Writes bytes through the caller's address space.
-#[tactic(auto, using(crate::proofs::AccessLaws::store_fits))]
 pub fn store(
     state: &mut PlainState,
     thread: ObjectId,
@@ -97,8 +97,21 @@ pub fn refused_load(
     least(&row)
 }
 
+/// So many bytes from a place on.
+fn bytes_from(state: &PlainState, place: &Place, count: u32) -> Data
+    requires few { count ≤ 64 }
+    requires inside { place.now.offset + count
+        ≤ length (bytes_at (state_of state.now) place.now.segment) }
+    ensures { result ≡ slice_range (bytes_at (state_of state.now) place.now.segment)
+        place.now.offset (place.now.offset + count) }
+{
+    let bytes = state.bytes(place.segment);
+    let from = place.offset as usize;
+    let end = from + count as usize;
+    Data::from_slice(&bytes[from..end])
+}
+
 /// Bytes read through the caller's address space.
-#[tactic(auto, using(crate::proofs::AccessLaws::load_fits))]
 pub fn load(
     state: &PlainState,
     thread: ObjectId,
@@ -111,11 +124,6 @@ pub fn load(
 {
     match state.place(thread, address, meter) {
         None => Reply::Done,
-        Some(place) => {
-            let bytes = state.bytes(place.segment);
-            let from = place.offset as usize;
-            let end = from + count as usize;
-            Reply::Bytes(Data::from_slice(&bytes[from..end]))
-        }
+        Some(place) => Reply::Bytes(bytes_from(state, &place, count)),
     }
 }

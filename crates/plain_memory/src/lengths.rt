@@ -76,6 +76,7 @@ pub fn segment_copy(
         (call.SegmentCopy container raw.now quota source.now)) }
     ensures err { OnErr result (state_of state.new ≡ state_of state.old) }
 {
+    state.bytes_are_whole(source.object);
     let bytes = Bytes::copied(state.alloc(), state.bytes(source.object))?;
     let label = stored_of(raw, meter);
     let id = state.create(container, label, quota, Body::Segment(bytes))?;

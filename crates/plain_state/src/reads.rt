@@ -1,6 +1,6 @@
 //! What calls look at.
 ghost use Rattle.std.specs.Prelude.{◌≡◌, ◌≤◌, ◌<◌, ◌+◌, ◌*◌, ◌^◌, length, option_copied, sum_by};
-ghost use Rattle.std.specs.Prelude.{nat_le, nat_lt, ◌&&◌};
+ghost use Rattle.std.specs.Prelude.{nat_le, nat_lt, ◌&&◌, true};
 ghost use Rattle.base.specs.Live.{has};
 ghost use Rattle.kernel_rules.specs.State.{object_at, is_kind, is_kind_at, is_live_kind};
 ghost use Rattle.kernel_rules.specs.State.{is_accessible, observes, flows_to, holds, bytes_at};
@@ -11,6 +11,8 @@ ghost use Rattle.kernel_rules.specs.Rows.{is_shape};
 ghost use Rattle.kernel_rules.specs.Changes.{joined_at};
 ghost use Rattle.plain_state.specs.StateOf.{state_of};
 ghost use Rattle.base.specs.declared.kinds.Kind.TheVariants as kinds;
+ghost use Rattle.kernel_rules.specs.WellFormed.{is_whole_body};
+ghost use Rattle.kernel_rules.specs.declared.objects.Body.TheVariants as is;
 
 use crate::states::PlainState;
 use base::{Data, Kind, Meter, ObjectId, TypeSet};
@@ -177,6 +179,11 @@ impl PlainState {
             _ => &[],
         }
     }
+
+    /// A law, which does nothing when it is called: the bytes of a segment are whole pages, up to 16.
+    pub fn bytes_are_whole(&self, id: ObjectId)
+        ensures { is_whole_body (is.Segment (bytes_at (state_of self.now) id)) ≡ true }
+    {}
 
     /// The whole pages of a segment, of 256 bytes: 0 for any other object.
     pub fn page_count(&self, id: ObjectId) -> u32
