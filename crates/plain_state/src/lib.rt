@@ -13,6 +13,7 @@ mod reads;
 mod records;
 mod rows;
 mod states;
+mod unlinks;
 
 pub use boots::BootRefusal;
 pub use reads::has_shape;
