@@ -11,7 +11,7 @@ pub use containers::{
     container_create, container_list, container_parent, refused_container_create,
     refused_container_list, refused_container_parent,
 };
-pub use links::{link, refused_link, refused_unref};
+pub use links::{link, refused_link, refused_unref, unref};
 pub use quotas::{
     obj_quota, quota_move,    refused_obj_quota, refused_quota_move, refused_set_fixed, set_fixed,
 };

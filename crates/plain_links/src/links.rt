@@ -105,3 +105,18 @@ pub fn refused_unref(
     ];
     least(&row)
 }
+
+/// Takes an object out of a container's list; what no path from the root leads to is gone then. The error
+/// is want of memory, and nothing is changed then.
+pub fn unref(state: &mut PlainState, thread: ObjectId, entry: &Entry) -> Result<Reply, NoMemory>
+    requires { refused (state_of state.old) thread (call.Unref entry.now) ≡ None }
+    ensures reply { IfOk result (λ reply. reply
+        ≡ accepted (state_of state.old) thread (call.Unref entry.now)) }
+    ensures ok { OnOk result (state_of state.new
+        ≡ restricted (edit (state_of state.old) thread (call.Unref entry.now))) }
+    ensures err { OnErr result (state_of state.new ≡ state_of state.old) }
+{
+    let _ = thread;
+    state.unlink(entry)?;
+    Ok(Reply::Done)
+}

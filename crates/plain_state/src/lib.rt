@@ -18,6 +18,7 @@ mod states;
 mod thread_changes;
 mod thread_edits;
 mod translations;
+mod unlinks;
 
 pub use boots::{BootRefusal, uniform};
 pub use reads::has_shape;

@@ -2,12 +2,15 @@
 ghost use Rattle.std.specs.Prelude.{◌≡◌, ◌≤◌, ◌+◌, true, false, OnOk, OnErr};
 ghost use Rattle.base.specs.Live.{has};
 ghost use Rattle.base.specs.declared.kinds.Kind.TheVariants as kinds;
-ghost use Rattle.kernel_rules.specs.Changes.{changed, listing, made_fixed, requoted};
+ghost use Rattle.kernel_rules.specs.Changes.{changed, delisting, listing, made_fixed};
+ghost use Rattle.kernel_rules.specs.Changes.{requoted};
+ghost use Rattle.kernel_rules.specs.Step.{restricted};
 ghost use Rattle.kernel_rules.specs.State.{is_kind_at, holds, is_fixed, list_at, use_of, quota_at};
 ghost use Rattle.plain_state.specs.StateOf.{state_of};
 
 use crate::links::{fix_quota, link, move_quota};
 use crate::states::PlainState;
+use crate::unlinks::unlink;
 use base::{NoMemory, ObjectId};
 use kernel_rules::Entry;
 
@@ -49,5 +52,15 @@ impl PlainState {
     {
         let _ = self.quota(entry.container);
         move_quota(&mut self.records, entry.object, up, down);
+    }
+
+    /// An object is taken out of a container's list, and what no path from the root leads to is gone. The
+    /// error is want of memory, and nothing is changed then.
+    pub fn unlink(&mut self, entry: &Entry) -> Result<(), NoMemory>
+        ensures ok { OnOk result (state_of self.new ≡ restricted
+            (changed (state_of self.old) entry.now.container (delisting entry.now.object))) }
+        ensures err { OnErr result (state_of self.new ≡ state_of self.old) }
+    {
+        unlink(&mut self.records, self.alloc, entry.container, entry.object)
     }
 }
