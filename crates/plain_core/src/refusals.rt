@@ -1,0 +1,129 @@
+//! What refuses a call.
+ghost use Rattle.std.specs.Prelude.{◌≡◌};
+ghost use Rattle.kernel_rules.specs.Table.{refused};
+ghost use Rattle.plain_state.specs.StateOf.{state_of};
+
+use base::{Meter, ObjectId, Refusal};
+use kernel_rules::Call;
+use plain_links::{
+    refused_container_create, refused_link, refused_quota_move, refused_set_fixed, refused_unref,
+};
+use plain_memory::{
+    refused_as_create, refused_as_map, refused_as_unmap, refused_dev_recv, refused_dev_send,
+    refused_meta_set, refused_segment_copy, refused_segment_create, refused_segment_resize,
+    refused_segment_write, refused_set_immutable, refused_store,
+};
+use plain_state::PlainState;
+use plain_threads::{
+    refused_cat_create, refused_gate_create, refused_gate_enter, refused_self_set_as,
+    refused_self_set_clearance, refused_self_set_label, refused_thread_create,
+};
+
+/// What refuses a call, if anything: of the conditions of its row that hold, the least.
+pub fn refused(
+    state: &PlainState,
+    thread: ObjectId,
+    call: &Call,
+    meter: &mut Meter,
+) -> Option<Refusal>
+    ensures { result ≡ refused (state_of state.now) thread call.now }
+{
+    match call {
+        Call::CatCreate => refused_cat_create(state, thread, meter),
+        Call::SelfSetLabel { label } => refused_self_set_label(state, thread, label, meter),
+        Call::SelfSetClearance { clearance } => {
+            refused_self_set_clearance(state, thread, clearance, meter)
+        }
+        Call::SelfSetAs { space } => refused_self_set_as(state, thread, space, meter),
+        Call::ContainerCreate {
+            container,
+            label,
+            quota,
+            avoid,
+        } => refused_container_create(state, thread, *container, label, *quota, *avoid, meter),
+        Call::SegmentCreate {
+            container,
+            label,
+            quota,
+            pages,
+        } => refused_segment_create(state, thread, *container, label, *quota, *pages, meter),
+        Call::SegmentCopy {
+            container,
+            label,
+            quota,
+            source,
+        } => refused_segment_copy(state, thread, *container, label, *quota, source, meter),
+        Call::AsCreate {
+            container,
+            label,
+            quota,
+        } => refused_as_create(state, thread, *container, label, *quota, meter),
+        Call::ThreadCreate {
+            container,
+            label,
+            quota,
+            clearance,
+            entry_point,
+        } => refused_thread_create(
+            state,
+            thread,
+            *container,
+            label,
+            *quota,
+            clearance,
+            *entry_point,
+            meter,
+        ),
+        Call::GateCreate {
+            container,
+            label,
+            quota,
+            clearance,
+            space,
+            entry_point,
+            closure,
+        } => refused_gate_create(
+            state,
+            thread,
+            *container,
+            label,
+            *quota,
+            clearance,
+            space,
+            *entry_point,
+            *closure,
+            meter,
+        ),
+        Call::Link { target, entry } => refused_link(state, thread, *target, entry, meter),
+        Call::Unref { entry } => refused_unref(state, thread, entry, meter),
+        Call::QuotaMove { entry, change } => {
+            refused_quota_move(state, thread, entry, *change, meter)
+        }
+        Call::SetFixed { entry } => refused_set_fixed(state, thread, entry, meter),
+        Call::SetImmutable { entry } => refused_set_immutable(state, thread, entry, meter),
+        Call::MetaSet { entry, data } => refused_meta_set(state, thread, entry, data, meter),
+        Call::SegmentResize { entry, pages } => {
+            refused_segment_resize(state, thread, entry, *pages, meter)
+        }
+        Call::SegmentWrite {
+            entry,
+            offset,
+            data,
+        } => refused_segment_write(state, thread, entry, *offset, data, meter),
+        Call::AsMap {
+            space,
+            slot,
+            mapping,
+        } => refused_as_map(state, thread, space, *slot, mapping, meter),
+        Call::AsUnmap { space, slot } => refused_as_unmap(state, thread, space, *slot, meter),
+        Call::Store { address, data } => refused_store(state, thread, *address, data, meter),
+        Call::GateEnter {
+            gate,
+            label,
+            clearance,
+            verify,
+        } => refused_gate_enter(state, thread, gate, label, clearance, verify, meter),
+        Call::DevSend { entry, data } => refused_dev_send(state, thread, entry, data, meter),
+        Call::DevRecv { entry } => refused_dev_recv(state, thread, entry, meter),
+    }
+}
