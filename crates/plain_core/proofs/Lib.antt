@@ -1,16 +1,2 @@
-pub mod BootLaws
-pub mod ChangeLaws
-pub mod EditLaws
-pub mod GrowLaws
-pub mod GrownLaws
-pub mod KeptLaws
-pub mod ListerLaws
-pub mod ListingLaws
-pub mod LookupLaws
-pub mod MadeLaws
-pub mod RecordLaws
-pub mod RowLaws
 pub mod RunLaws
-pub mod StepLaws
-pub mod StoredLaws
-pub mod WellFormedLaws
+pub mod SettleLaws

@@ -1,12 +1,2 @@
-pub mod Written
-pub mod Labels
-pub mod State
-pub mod Rows
-pub mod WellFormed
-pub mod Fitting
-pub mod Changes
-pub mod Step
-pub mod Runs
-pub mod StateOf
-pub mod Undo
+pub mod Settled
 pub mod Kernel

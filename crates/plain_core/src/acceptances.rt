@@ -1,9 +1,11 @@
 //! What a call that nothing refuses changes and answers.
 ghost use Rattle.std.specs.Prelude.{◌≡◌, None, IfOk, OnOk, OnErr};
-ghost use Rattle.kernel_rules.specs.Step.{accepted, edit, restricted};
+ghost use Rattle.kernel_rules.specs.Step.{accepted, answer, next};
 ghost use Rattle.kernel_rules.specs.Table.{refused};
+ghost use Rattle.plain_core.specs.Settled.{settled};
 ghost use Rattle.plain_state.specs.StateOf.{state_of};
 
+use crate::refusals::refused;
 use base::{Meter, NoMemory, ObjectId};
 use kernel_rules::{Call, Reply};
 use plain_links::{container_create, link, quota_move, set_fixed, unref};
@@ -17,10 +19,9 @@ use plain_threads::{
     thread_create,
 };
 
-/// What a call that nothing refuses changes and answers. The state after it is the live part of the
-/// edit; without memory, which is the only error, nothing is changed.
-#[tactic(auto, using(kernel_rules::proofs::StepLaws::edit_stays))]
-pub fn accept(
+/// What a call that nothing refuses changes and answers. Without memory, which is the only error,
+/// nothing is changed.
+fn accept(
     state: &mut PlainState,
     thread: ObjectId,
     call: &Call,
@@ -28,12 +29,55 @@ pub fn accept(
 ) -> Result<Reply, NoMemory>
     requires { refused (state_of state.old) thread call.now ≡ None }
     ensures reply { IfOk result (λ reply. reply ≡ accepted (state_of state.old) thread call.now) }
-    ensures ok { OnOk result (state_of state.new
-        ≡ restricted (edit (state_of state.old) thread call.now)) }
+    ensures ok { OnOk result (state_of state.new ≡ settled (state_of state.old) thread call.now) }
     ensures err { OnErr result (state_of state.new ≡ state_of state.old) }
 {
     match call {
+        Call::CatCreate => Ok(cat_create(state, thread, meter)),
+        Call::SelfSetLabel { label } => Ok(self_set_label(state, thread, label, meter)),
+        Call::SelfSetClearance { clearance } => Ok(self_set_clearance(state, thread, clearance, meter)),
+        Call::SelfSetAs { space } => Ok(self_set_as(state, thread, space)),
+        Call::ContainerCreate { container, label, quota, avoid } => container_create(state, thread, *container, label, *quota, *avoid, meter),
+        Call::SegmentCreate { container, label, quota, pages } => segment_create(state, thread, *container, label, *quota, *pages, meter),
+        Call::SegmentCopy { container, label, quota, source } => segment_copy(state, thread, *container, label, *quota, source, meter),
+        Call::AsCreate { container, label, quota } => as_create(state, thread, *container, label, *quota, meter),
+        Call::ThreadCreate { container, label, quota, clearance, entry_point } => thread_create(state, thread, *container, label, *quota, clearance, *entry_point, meter),
+        Call::GateCreate { container, label, quota, clearance, space, entry_point, closure } => gate_create(state, thread, *container, label, *quota, clearance, space, *entry_point, *closure, meter),
+        Call::Link { target, entry } => link(state, thread, *target, entry),
         Call::Unref { entry } => unref(state, thread, entry),
-        _ => change(state, thread, call, meter),
+        Call::QuotaMove { entry, change } => Ok(quota_move(state, thread, entry, *change)),
+        Call::SetFixed { entry } => Ok(set_fixed(state, thread, entry)),
+        Call::SetImmutable { entry } => Ok(set_immutable(state, thread, entry)),
+        Call::MetaSet { entry, data } => Ok(meta_set(state, thread, entry, data)),
+        Call::SegmentResize { entry, pages } => segment_resize(state, thread, entry, *pages),
+        Call::SegmentWrite { entry, offset, data } => Ok(segment_write(state, thread, entry, *offset, data)),
+        Call::AsMap { space, slot, mapping } => Ok(as_map(state, thread, space, *slot, mapping)),
+        Call::AsUnmap { space, slot } => Ok(as_unmap(state, thread, space, *slot)),
+        Call::Store { address, data } => Ok(store(state, thread, *address, data, meter)),
+        Call::GateEnter { gate, label, clearance, verify } => Ok(gate_enter(state, thread, gate, label, clearance, verify, meter)),
+        Call::DevSend { entry, data } => dev_send(state, thread, entry, data),
+        Call::DevRecv { entry } => Ok(dev_recv(state, thread, entry)),
+    }
+}
+
+/// One call: its refusal, or what it changes and answers where nothing refuses it. Without memory,
+/// which is the only error, nothing is changed.
+pub fn step(
+    state: &mut PlainState,
+    thread: ObjectId,
+    call: &Call,
+    meter: &mut Meter,
+) -> Result<Reply, NoMemory>
+    ensures reply { IfOk result (λ reply. reply ≡ answer (state_of state.old) thread call.now) }
+    ensures ok { OnOk result (state_of state.new ≡ next (state_of state.old) thread call.now) }
+    ensures err { OnErr result (state_of state.new ≡ state_of state.old) }
+{
+    match refused(state, thread, call, meter) {
+        Some(refusal) => Ok(Reply::Refused(refusal)),
+        None => {
+            let reply = accept(state, thread, call, meter)?;
+            state.well_formed();
+            Ok(reply)
+        }
     }
 }

@@ -1,27 +1,21 @@
 //! The plain kernel: a map of records, and all else computed anew.
 ghost use Rattle.std.specs.Prelude.{◌≡◌, ◌↔◌, true, false, IsTrue, IfOk, OnOk, OnErr, IsErrOf};
 ghost use Rattle.base.specs.Limits.{in_range};
-ghost use Rattle.plain_state.specs.StateOf.{state_of};
 ghost use Rattle.kernel_rules.specs.WellFormed.{is_well_formed};
 
-use crate::boots::{BootRefusal, booted_records};
-use crate::calls::{Call, Query, Reply};
+use crate::acceptances::step;
 use crate::machine::Machine;
-use crate::records::Records;
+use crate::queries::ask;
 use base::{Limits, Meter, NoMemory, ObjectId};
+use kernel_rules::{Call, Query, Reply};
+use plain_state::{BootRefusal, PlainState};
 use std::alloc::Global;
-
-mod reads;
-mod rows;
-mod steps;
 
 /// A label kernel that keeps nothing but its records, and computes liveness, use and label rules
 /// anew at each call. A contract sees it as its state, which is well formed at all times.
 #[derive(Drop)]
 pub struct PlainKernel {
-    alloc: Global,
-    records: Records,
-    ghost well_formed: { is_well_formed (state_of records) ≡ true },
+    state: PlainState,
 }
 
 impl PlainKernel {
@@ -35,19 +29,18 @@ impl PlainKernel {
         ensures state { IfOk result (λ kernel. kernel_state kernel ≡ booted limits.now) }
         ensures limits { IsErrOf result BootRefusal.BadLimits ↔ (in_range limits.now ≡ false) }
     {
-        if !limits.is_in_range() {
-            return Err(BootRefusal::BadLimits);
-        }
-        match booted_records(alloc, limits) {
-            Ok(records) => Ok(PlainKernel { alloc, records }),
-            Err(_) => Err(BootRefusal::Unavailable),
+        match PlainState::boot(alloc, limits) {
+            Ok(state) => Ok(PlainKernel { state }),
+            Err(refusal) => Err(refusal),
         }
     }
 
     /// A law, which does nothing when it is called: the state of every kernel is well formed.
     pub fn well_formed(&self)
         ensures { IsTrue (is_well_formed (kernel_state self.now)) }
-    {}
+    {
+        self.state.well_formed();
+    }
 }
 
 impl Machine for PlainKernel {
@@ -61,35 +54,10 @@ impl Machine for PlainKernel {
         call: &Call,
         meter: &mut Meter,
     ) -> Result<Reply, NoMemory> {
-        match call {
-            Call::CatCreate => Ok(self.cat_create(thread, meter)),
-            Call::ContainerCreate {
-                container,
-                label,
-                quota,
-                avoid,
-            } => self.container_create(thread, *container, label, *quota, *avoid, meter),
-            Call::SegmentCreate {
-                container,
-                label,
-                quota,
-                pages,
-            } => self.segment_create(thread, *container, label, *quota, *pages, meter),
-            Call::SegmentWrite {
-                entry,
-                offset,
-                data,
-            } => Ok(self.segment_write(thread, entry, *offset, data, meter)),
-        }
+        step(&mut self.state, thread, call, meter)
     }
 
     fn ask(&self, thread: ObjectId, query: &Query, meter: &mut Meter) -> Result<Reply, NoMemory> {
-        match query {
-            Query::SegmentRead {
-                entry,
-                offset,
-                count,
-            } => Ok(self.segment_read(thread, entry, *offset, *count, meter)),
-        }
+        Ok(ask(&self.state, thread, query, meter))
     }
 }

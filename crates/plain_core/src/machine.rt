@@ -4,8 +4,8 @@ ghost use Rattle.kernel_rules.specs.State.{State};
 ghost use Rattle.kernel_rules.specs.Step.{answer, next, query_answer};
 ghost use Rattle.kernel_rules.specs.Runs.{replies_to, state_after};
 
-use crate::calls::{Call, Query, Reply};
 use base::{Meter, NoMemory, ObjectId};
+use kernel_rules::{Call, Query, Reply};
 use std::alloc::Global;
 
 /// A machine that answers calls by the rules, however it keeps its state.

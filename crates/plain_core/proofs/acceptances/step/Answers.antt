@@ -1,0 +1,12 @@
+use Rattle.std.proofs.Common.{◌≡◌, true, sym, ◌∙◌, ap, subst}
+use Rattle.kernel_rules.specs.State.{State}
+use Rattle.kernel_rules.specs.WellFormed.{is_well_formed}
+use Rattle.kernel_rules.proofs.StepLaws.{step_refused, step_done}
+use Rattle.plain_core.proofs.SettleLaws.{settled_next}
+use Rattle.plain_core.proofs.acceptances.step.Goals as goal
+
+pub returns-in-Some-clause-reply : goal.returns-in-Some-clause-reply
+returns-in-Some-clause-reply c = sym (step_refused _ _ _ _ (sym c.refused.ensures ∙ c.in-Some.is)).0
+
+pub returns-in-Some-clause-ok : goal.returns-in-Some-clause-ok
+returns-in-Some-clause-ok c = sym (step_refused _ _ _ _ (sym c.refused.ensures ∙ c.in-Some.is)).1
