@@ -106,7 +106,9 @@ impl Hierarchy for Guarded {
         if !has_room(&self.tree, self.pool, &mut self.meter) {
             return Ok(false);
         }
-        let _slot = self.tree.create(container, id, id.number(), &mut self.meter);
+        let _slot = self
+            .tree
+            .create(container, id, id.number(), &mut self.meter);
         Ok(true)
     }
 

@@ -5,6 +5,7 @@ use std::process::Abort;
 use std::test::Fail;
 
 const CALLS: usize = 10_000;
+
 const SEED: u64 = 2006;
 
 // As many objects, and as many links.
@@ -219,7 +220,10 @@ impl Storm {
         let mut seen = Seen::new();
         let mut twin_seen = Seen::new();
         let is_made = self.guarded.unref(container, object, &mut seen)?;
-        assert_eq!(rt; self.twin.unref(container, object, &mut twin_seen)?, is_made);
+        assert_eq!(rt;
+            self.twin.unref(container, object, &mut twin_seen)?,
+            is_made
+        );
         compare_seen(rt, &seen, &twin_seen);
         assert_eq!(rt; seen.link_count > 0, is_made);
         for i in 0..seen.object_count.min(POOL) {
@@ -248,8 +252,12 @@ impl Storm {
         let width = self.numbers.below(POOL as u64) as usize;
         let mut one = [ObjectId::root(); POOL];
         let mut other = [ObjectId::root(); POOL];
-        let count = self.guarded.entries(container, from, &mut one[..width.min(POOL)]);
-        let twin_count = self.twin.entries(container, from, &mut other[..width.min(POOL)]);
+        let count = self
+            .guarded
+            .entries(container, from, &mut one[..width.min(POOL)]);
+        let twin_count = self
+            .twin
+            .entries(container, from, &mut other[..width.min(POOL)]);
         assert_eq!(rt; twin_count, count);
         assert_eq!(rt; other, one);
         self.entries.count(count.is_some());
@@ -322,10 +330,22 @@ fn ten_thousand_calls_answer_as_the_twin(rt: HostRuntime) -> Result<(), Fail> {
         ("live", storm.lives),
     ];
     for (call, tally) in tallies {
-        assert!(rt; tally.made >= ENOUGH, "{call} was made {} times", tally.made);
-        assert!(rt; tally.refused >= ENOUGH, "{call} was refused {} times", tally.refused);
+        assert!(rt;
+            tally.made >= ENOUGH,
+            "{call} was made {} times",
+            tally.made
+        );
+        assert!(rt;
+            tally.refused >= ENOUGH,
+            "{call} was refused {} times",
+            tally.refused
+        );
     }
     assert!(rt; storm.deep >= SOME, "{} deep unreferences", storm.deep);
-    assert!(rt; storm.kept >= SOME, "{} unreferences of what stayed", storm.kept);
+    assert!(rt;
+        storm.kept >= SOME,
+        "{} unreferences of what stayed",
+        storm.kept
+    );
     Ok(())
 }

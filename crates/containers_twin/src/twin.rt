@@ -167,7 +167,11 @@ impl Hierarchy for Twin {
         for (cell, link) in window.iter_mut().zip(listed.skip(from)) {
             *cell = link.object;
         }
-        let len = self.links.iter().filter(|link| link.container == id).count();
+        let len = self
+            .links
+            .iter()
+            .filter(|link| link.container == id)
+            .count();
         Some(window.len().min(len.saturating_sub(from)))
     }
 
