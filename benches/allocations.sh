@@ -8,7 +8,7 @@ rounds=${1:-1000}
 bench=$top/crates/bench_structures/out/bench_structures
 folder=$(mktemp -d)
 trap 'rm -rf "$folder"' EXIT
-(cd "$top/crates/bench_structures" && rt run --jobs 1 >/dev/null)
+built=$(cd "$top/crates/bench_structures" && rt run --jobs 1 2>&1) || { echo "$built" >&2; exit 1; }
 ${CC:-cc} -O1 -shared -fPIC -o "$folder/count.so" "$top/benches/count_allocations.c" -ldl
 
 LD_PRELOAD=$folder/count.so "$bench" calls "$rounds" >"$folder/told"

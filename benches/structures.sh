@@ -4,7 +4,7 @@
 set -eu
 top=$(cd "$(dirname "$0")/.." && pwd)
 bench=$top/crates/bench_structures/out/bench_structures
-(cd "$top/crates/bench_structures" && rt run --jobs 1 >/dev/null)
+built=$(cd "$top/crates/bench_structures" && rt run --jobs 1 2>&1) || { echo "$built" >&2; exit 1; }
 
 for objects in 8 64 512 1024; do
     "$bench" find "$objects" $((4000000 / objects)) | grep ratio

@@ -5,7 +5,7 @@ use Rattle.std.proofs.lemmas.List.{length-map}
 use Rattle.entry_lists.specs.Lists.{Lists, family_at, cells_at}
 use Rattle.object_arena.specs.Objects.{Objects, Rises, Apart, IsWellFormed as IsArenaWellFormed}
 use Rattle.containers.specs.Cells.{Stands, IsRecorded, IsLink}
-use Rattle.base.specs.Live.{has, links}
+use Rattle.base.specs.Live.{has}
 use Rattle.containers.specs.Tree.{Tree, ids_in, list_of}
 use Rattle.containers.specs.View.{head_in, ids_of, lists_of, IsKept}
 use Rattle.containers.specs.WellFormed.{IsWellFormed}
