@@ -1,13 +1,13 @@
 -- The entries of the ids up to a place.
-use Rattle.std.proofs.Common.{◌≡◌, ◌≢◌, ℕ, zero, suc, ◌+◌, ◌<◌, inl, inr, Bool, true, cond, ◌==◌, List, [], ◌∷◌, length, get_or, take, All, refl, sym, ap, ◌∙◌, subst, arith}
+use Rattle.std.proofs.Common.{◌≡◌, ℕ, zero, suc, ◌+◌, ◌<◌, inl, inr, Bool, true, cond, ◌==◌, List, [], ◌∷◌, length, get_or, take, All, refl, sym, ap, ◌∙◌, subst, arith}
 use Rattle.std.specs.Prelude.{sum_by}
 use Rattle.std.proofs.lemmas.Bool.{eqb-true, eq-eqb, cases_Bool}
 use Rattle.std.proofs.lemmas.List.Sums.{sum_by_more}
 use Rattle.std.proofs.lemmas.List.{length-map}
 use Rattle.std.proofs.lemmas.List.Elements.{All-get_or}
 use Rattle.base.specs.Live.{has}
-use Rattle.containers.specs.Tree.{ids_in, list_of, link_count}
-use Rattle.containers.proofs.Views.{at_has, has_at}
+use Rattle.containers.specs.Tree.{ids_in, list_of}
+use Rattle.containers.proofs.Views.{at_has}
 
 abbrev Table : Type 0
 Table = List (ℕ × List ℕ)

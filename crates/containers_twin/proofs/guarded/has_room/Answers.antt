@@ -1,5 +1,5 @@
-use Rattle.std.proofs.Common.{◌≡◌, ◌+◌, ◌<◌, length, arith}
-use Rattle.containers_twin.proofs.Rooms.{links_at, links_before}
+use Rattle.std.proofs.Common.{◌<◌, length, arith}
+use Rattle.containers_twin.proofs.Rooms.{links_at}
 use Rattle.containers.specs.Tree.{ids_in}
 use Rattle.containers_twin.proofs.guarded.has_room.Goals as goal
 

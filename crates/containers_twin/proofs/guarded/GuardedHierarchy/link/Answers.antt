@@ -1,4 +1,4 @@
-use Rattle.std.proofs.Common.{◌≡◌, ◌∙◌, ap, sym, subst, length, List, ℕ}
+use Rattle.std.proofs.Common.{ap, sym, subst, List, ℕ}
 use Rattle.containers.specs.Tree.{Tree}
 use Rattle.containers_twin.specs.Layers.{IsLayered}
 use Rattle.containers_twin.proofs.Layers.{layered_link}

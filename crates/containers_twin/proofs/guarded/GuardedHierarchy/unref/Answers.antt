@@ -1,4 +1,4 @@
-use Rattle.std.proofs.Common.{◌≡◌, ◌∙◌, sym, subst, length}
+use Rattle.std.proofs.Common.{sym, subst}
 use Rattle.containers_twin.specs.Layers.{IsLayered}
 use Rattle.containers_twin.proofs.Layers.{layered_unref}
 use Rattle.containers_twin.proofs.guarded.GuardedHierarchy.unref.Goals as goal
