@@ -81,6 +81,16 @@ fn place(names: &[u64], slot: usize) -> Place
     }
 }
 
+// Hands a link over, by the names of its slots.
+fn hand_link<V: Visitor>(visitor: &mut V, names: &[u64], container: usize, object: usize)
+    requires container { container < length names.now }
+    requires object { object < length names.now }
+    ensures { V.link_gives visitor.old
+        (place_of names.now container) (place_of names.now object) visitor.new }
+{
+    visitor.link(place(names, container), place(names, object));
+}
+
 // Takes out what the dying slots list, and then these slots, until none is dying.
 fn sweep<T: Drop, V: Visitor>(
     rings: &mut Rings<2>,
@@ -115,7 +125,7 @@ fn sweep<T: Drop, V: Visitor>(
             Some(cell) => {
                 let entry = rings.head_of(1, cell, meter);
                 drop_link(rings, size, entry, cell, meter);
-                visitor.link(place(names, object), place(names, entry));
+                hand_link(visitor, names, object, entry);
             }
             None => {
                 free(rings, size, last, meter);
@@ -217,7 +227,7 @@ pub fn cut_link<T: Drop, V: Visitor>(
     match find_link(rings, size, container, object, meter) {
         Some(cell) => {
             drop_link(rings, size, object, cell, meter);
-            visitor.link(place(names, container), place(names, object));
+            hand_link(visitor, names, container, object);
             sweep(rings, arena, size, root, names, visitor, meter);
         }
         None => unreachable!(),

@@ -91,3 +91,36 @@ fn what_no_path_leads_to_goes(rt: HostRuntime) -> Result<(), Fail> {
     assert!(rt; tree.find(six, &mut meter).is_some());
     Ok(())
 }
+
+// The same, made once more where the first making had no memory.
+fn family_again(alloc: Global, meter: &mut Meter) -> Result<Containers<char>, NoMemory>
+    ensures { IfOk result (λ t. t.lists ≡ (1, 4 ∷ 6 ∷ []) ∷ (4, 5 ∷ 6 ∷ []) ∷ (5, []) ∷ (6, []) ∷ []) }
+{
+    match family(alloc, meter) {
+        Ok(tree) => Ok(tree),
+        Err(_) => family(alloc, meter),
+    }
+}
+
+// Where an allocation is refused, containers that are booted again are as if nothing had been.
+#[test]
+fn want_of_memory_changes_nothing(rt: HostRuntime) -> Result<(), Fail> {
+    let mut meter = match Meter::new(rt.alloc()) {
+        Ok(meter) => meter,
+        Err(_) => Meter::new(rt.alloc())?,
+    };
+    let mut tree = family_again(rt.alloc(), &mut meter)?;
+    let [root, four, five, six] = [1, 4, 5, 6].map(ObjectId::new);
+    assert_eq!(rt; tree.parent(five, &mut meter), Some(four));
+    let mut seen = Seen {
+        links: 0,
+        objects: [0; 8],
+        len: 0,
+    };
+    tree.unref(root, four, &mut seen, &mut meter);
+    assert_eq!(rt; seen.links, 3);
+    assert_eq!(rt; seen.len, 2);
+    assert_eq!(rt; tree.len(), 2);
+    assert_eq!(rt; tree.live(1, &mut meter), six);
+    Ok(())
+}

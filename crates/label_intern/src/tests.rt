@@ -1,7 +1,20 @@
+ghost use Rattle.std.specs.Prelude.{◌≡◌, None, IfOk, replicate};
+
 use super::*;
-use base::{Category, Level, Meter};
+use base::{Category, Level, Meter, NoMemory};
 use label_lattice::{Label, Pair, Pairs, RawLabel};
+use std::alloc::Global;
 use std::test::Fail;
+
+// Three indexes, booted once more where the first boot had no memory.
+fn booted_again(alloc: Global) -> Result<Labels, NoMemory>
+    ensures { IfOk result (λ labels. labels ≡ replicate 3 None) }
+{
+    match Labels::boot(alloc, 3) {
+        Ok(labels) => Ok(labels),
+        Err(_) => Labels::boot(alloc, 3),
+    }
+}
 
 #[test]
 fn order_is_kept(rt: HostRuntime) -> Result<(), Fail> {
@@ -33,6 +46,36 @@ fn order_is_kept(rt: HostRuntime) -> Result<(), Fail> {
     assert_eq!(rt; again, b);
     assert!(rt; meter.scans() <= scans + 10);
     labels.release(b);
+    assert!(rt; labels.holds(b));
+    Ok(())
+}
+
+// Where an allocation is refused, a pool that is booted again is as if nothing had been.
+#[test]
+fn want_of_memory_changes_nothing(rt: HostRuntime) -> Result<(), Fail> {
+    let mut meter = match Meter::new(rt.alloc()) {
+        Ok(meter) => meter,
+        Err(_) => Meter::new(rt.alloc())?,
+    };
+    let mut labels = booted_again(rt.alloc())?;
+    assert_eq!(rt; labels.len(), 0);
+    let low = RawLabel {
+        default: Level::L1,
+        pairs: Pairs::new(),
+    };
+    let high = RawLabel {
+        default: Level::L2,
+        pairs: Pairs::new(),
+    };
+    let low = Label::from_raw(&low, &mut meter)?;
+    let high = Label::from_raw(&high, &mut meter)?;
+    let a = labels.intern(&low, &mut meter);
+    let b = labels.intern(&high, &mut meter);
+    assert_eq!(rt; labels.order(a, b), OrderBits(7));
+    assert_eq!(rt; labels.order(b, a), OrderBits(0));
+    assert_eq!(rt; labels.len(), 2);
+    labels.release(a);
+    assert!(rt; !labels.holds(a));
     assert!(rt; labels.holds(b));
     Ok(())
 }

@@ -1,6 +1,20 @@
+ghost use Rattle.std.specs.Prelude.{◌≡◌, IfOk};
+ghost use Rattle.object_arena.specs.Objects.{no_objects};
+
 use super::*;
-use base::{Meter, ObjectId, Slot};
+use base::{Meter, NoMemory, ObjectId, Slot};
+use std::alloc::Global;
 use std::test::Fail;
+
+// Three slots, booted once more where the first boot had no memory.
+fn booted_again(alloc: Global) -> Result<Arena<char>, NoMemory>
+    ensures { IfOk result (λ a. a ≡ no_objects 3) }
+{
+    match Arena::boot(alloc, 3) {
+        Ok(arena) => Ok(arena),
+        Err(_) => Arena::boot(alloc, 3),
+    }
+}
 
 #[test]
 fn objects_are_found_by_their_ids(rt: HostRuntime) -> Result<(), Fail> {
@@ -25,6 +39,26 @@ fn objects_are_found_by_their_ids(rt: HostRuntime) -> Result<(), Fail> {
     assert_eq!(rt; arena.remove(ObjectId::new(4), &mut meter), 'a');
     assert_eq!(rt; arena.find(ObjectId::new(4), &mut meter), None);
     assert_eq!(rt; arena.find(ObjectId::new(9), &mut meter), Some(second));
+    assert_eq!(rt; arena.len(), 1);
+    Ok(())
+}
+
+// Where an allocation is refused, an arena that is booted again is as if nothing had been.
+#[test]
+fn want_of_memory_changes_nothing(rt: HostRuntime) -> Result<(), Fail> {
+    let mut meter = match Meter::new(rt.alloc()) {
+        Ok(meter) => meter,
+        Err(_) => Meter::new(rt.alloc())?,
+    };
+    let mut arena = booted_again(rt.alloc())?;
+    assert_eq!(rt; arena.len(), 0);
+    let first = arena.insert(ObjectId::new(4), 'a');
+    let second = arena.insert(ObjectId::new(9), 'b');
+    assert_eq!(rt; arena.find(ObjectId::new(9), &mut meter), Some(second));
+    assert_eq!(rt; arena.find(ObjectId::new(5), &mut meter), None);
+    assert_eq!(rt; *arena.get(first), 'a');
+    assert_eq!(rt; *arena.get(second), 'b');
+    assert_eq!(rt; arena.remove(ObjectId::new(4), &mut meter), 'a');
     assert_eq!(rt; arena.len(), 1);
     Ok(())
 }

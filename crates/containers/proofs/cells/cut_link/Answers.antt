@@ -1,4 +1,4 @@
-use Rattle.std.proofs.Common.{rules}
+use Rattle.std.proofs.Common.{rules, refl}
 use Rattle.containers.proofs.Handed.{told_first}
 use Rattle.containers.proofs.Cuts.{start_cut, tree_cut, simple_cut, cut_of, directory_cut}
 use Rattle.containers.proofs.cells.cut_link.Goals as goal
@@ -37,5 +37,5 @@ returns-clause-cut g c =
       swept.0,
       swept.1,
       cut_of c.args.size c.args.root c.args.rings.now c.drop_link.new.rings c.args.container c.args.object c.in-Some.cell sound c.in-Some.ensures.found c.drop_link.ensures.dropped c.sweep.new.rings swept.0 swept.1 c.requires.1.1.1.1.1.1.1.0 swept.2,
-      told_first g.V.Visitor.link_gives g.V.Visitor.object_gives c.args.names.now swept.0 swept.1 _ _ _ c.args.container c.args.object _ _ c.place.ensures c.place-in-Some.ensures c.link.ensures swept.3,
+      told_first g.V.Visitor.link_gives g.V.Visitor.object_gives c.args.names.now swept.0 swept.1 _ _ _ c.args.container c.args.object _ _ refl refl c.hand_link.ensures swept.3,
     )

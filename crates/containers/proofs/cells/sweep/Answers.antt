@@ -1,4 +1,4 @@
-use Rattle.std.proofs.Common.{◌≡◌, ℕ, ◌+◌, inr, [], ◌∷◌, ◌++◌, ap, ◌∙◌, subst, arith, lit<}
+use Rattle.std.proofs.Common.{◌≡◌, ℕ, ◌+◌, inr, [], ◌∷◌, ◌++◌, refl, ap, ◌∙◌, subst, arith, lit<}
 use Rattle.containers.specs.Cells.{IsDying, IsRecorded}
 use Rattle.containers.specs.declared.visitor.Place.{Place}
 use Rattle.containers.proofs.Handed.{read_scans, none_stands, told_link, told_object}
@@ -39,14 +39,14 @@ drop_link-requires-clause-names g c =
     let t = turn_of c.args.size c.loop-last.rings j.sound.paired c.in-Some.last c.head_of-object.result c.in-Some.ensures.value c.head_of-object.ensures.value in
     (entry_of c.args.size c.loop-last.rings j.sound.paired c.head_of-object.result c.in-Some-first.cell c.head_of-entry.result t.within c.in-Some-first.ensures.value c.head_of-entry.ensures.value).names
 
-pub place-requires : goal.place-requires
-place-requires g c =
+pub hand_link-requires-clause-container : goal.hand_link-requires-clause-container
+hand_link-requires-clause-container g c =
     let j = c.loop-last.invariant.2 in
     let t = turn_of c.args.size c.loop-last.rings j.sound.paired c.in-Some.last c.head_of-object.result c.in-Some.ensures.value c.head_of-object.ensures.value in
     omega (arith, t.within, c.requires.1.1.1.0)
 
-pub place-requires-in-Some-first : goal.place-requires-in-Some-first
-place-requires-in-Some-first g c =
+pub hand_link-requires-clause-object : goal.hand_link-requires-clause-object
+hand_link-requires-clause-object g c =
     let j = c.loop-last.invariant.2 in
     let t = turn_of c.args.size c.loop-last.rings j.sound.paired c.in-Some.last c.head_of-object.result c.in-Some.ensures.value c.head_of-object.ensures.value in
     let l = entry_of c.args.size c.loop-last.rings j.sound.paired c.head_of-object.result c.in-Some-first.cell c.head_of-entry.result t.within c.in-Some-first.ensures.value c.head_of-entry.ensures.value in
@@ -69,7 +69,7 @@ loop-last-preserved-in-Some-first g c =
       inv.0 ++ (c.head_of-object.result, c.head_of-entry.result) ∷ [],
       inv.1,
       swept_link c.args.size c.args.root c.args.rings.now c.loop-last.rings _ inv.0 inv.1 j c.requires.1.1.1.1.1.1.0 c.head_of-object.result c.head_of-entry.result c.in-Some-first.cell y l c.drop_link.ensures.dropped,
-      told_link g.V.Visitor.link_gives g.V.Visitor.object_gives c.args.names.now inv.0 inv.1 _ _ _ c.head_of-object.result c.head_of-entry.result _ _ c.place.ensures c.place-in-Some-first.ensures inv.3 c.link.ensures,
+      told_link g.V.Visitor.link_gives g.V.Visitor.object_gives c.args.names.now inv.0 inv.1 _ _ _ c.head_of-object.result c.head_of-entry.result _ _ refl refl inv.3 c.hand_link.ensures,
       c.drop_link.ensures.scans ∙ read_scans _ _ c.head_of-entry.ensures.counted ∙ read_scans _ _ c.first-in-Some.ensures.counted ∙ read_scans _ _ c.head_of-object.ensures.counted ∙ read_scans _ _ c.first.ensures.counted ∙ inv.4,
       directory_as c.args.size c.args.root c.loop-last.rings _ c.args.names.now _ _ inv.5 (dropped_recorded c.args.size c.args.root c.loop-last.rings _ c.head_of-object.result c.head_of-entry.result c.in-Some-first.cell j.sound l c.drop_link.ensures.dropped) (dropped_gone c.args.size c.args.root c.loop-last.rings _ c.head_of-object.result c.head_of-entry.result c.in-Some-first.cell j.sound l c.drop_link.ensures.dropped).1.recorded_was,
       (λ o rec. inv.6 o ((dropped_gone c.args.size c.args.root c.loop-last.rings _ c.head_of-object.result c.head_of-entry.result c.in-Some-first.cell j.sound l c.drop_link.ensures.dropped).1.recorded_was o rec)),

@@ -1,0 +1,62 @@
+//! Finding an id.
+
+use crate::clock::{MOST, nanos_since, print_ratio};
+use anyhow::Result;
+use base::ObjectId;
+use containers_twin::{Guarded, Hierarchy};
+use std::alloc::Global;
+use std::collections::BTreeMap;
+use std::rt::Clock;
+use std::time::Instant;
+
+// The number at a place: that of the root, and even ones.
+fn number_at(place: usize) -> u64 {
+    if place == 0 {
+        1
+    } else {
+        (place as u64).saturating_mul(2)
+    }
+}
+
+// The place that comes next to be asked for: an order with no pattern that a cache could follow.
+fn mixed(place: usize, size: usize) -> usize {
+    place.wrapping_mul(769) % size.max(1)
+}
+
+/// Finds each of so many ids, round after round, in containers and in a `BTreeMap`.
+pub fn find(rt: &(impl Clock + Print), alloc: Global, objects: usize, rounds: usize) -> Result<()> {
+    let size = objects.clamp(1, MOST);
+    let mut tree = Guarded::boot(alloc, size)?;
+    let mut map = BTreeMap::new(alloc);
+    map.insert(1, 0usize)?;
+    for place in 1..size {
+        let number = number_at(place);
+        tree.create(ObjectId::root(), ObjectId::new(number))?;
+        map.insert(number, place)?;
+    }
+
+    let mut found = 0u64;
+    let start = Instant::now(rt)?;
+    for _ in 0..rounds {
+        for place in 0..size {
+            let id = ObjectId::new(number_at(mixed(place, size)));
+            if tree.slot(id).is_some() {
+                found = found.wrapping_add(1);
+            }
+        }
+    }
+    let ours = nanos_since(rt, start)?;
+
+    let mut found_there = 0u64;
+    let start = Instant::now(rt)?;
+    for _ in 0..rounds {
+        for place in 0..size {
+            if map.get(&number_at(mixed(place, size))).is_some() {
+                found_there = found_there.wrapping_add(1);
+            }
+        }
+    }
+    let theirs = nanos_since(rt, start)?;
+    println!(rt; "found {found} and {found_there}")?;
+    print_ratio(rt, "find", size, found, ours, theirs)
+}

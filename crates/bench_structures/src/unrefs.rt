@@ -1,0 +1,144 @@
+//! Taking out a subtree.
+
+use crate::clock::{MOST, nanos_since, print_ratio};
+use anyhow::Result;
+use base::ObjectId;
+use containers::{Place, Visitor};
+use containers_twin::{Guarded, Hierarchy};
+use std::alloc::Global;
+use std::collections::BTreeMap;
+use std::rt::Clock;
+use std::time::Instant;
+
+/// Counts what it is handed.
+#[derive(Drop)]
+pub struct Count {
+    pub links: u64,
+    pub objects: u64,
+}
+
+impl Visitor for Count {
+    ghost link_gives = { λ _ _ _ _. Unit {0} };
+
+    ghost object_gives = { λ _ _ _. Unit {0} };
+
+    fn link(&mut self, _container: Place, _object: Place) {
+        self.links = self.links.wrapping_add(1);
+    }
+
+    fn object(&mut self, _object: Place) {
+        self.objects = self.objects.wrapping_add(1);
+    }
+}
+
+// Of each id what it lists, and how many list it.
+#[derive(Drop)]
+struct Maps {
+    lists: BTreeMap<u64, Vec<u64>>,
+    listed: BTreeMap<u64, u32>,
+}
+
+impl Maps {
+    fn create(&mut self, alloc: Global, container: u64, id: u64) -> Result<()> {
+        self.lists.insert(id, Vec::new(alloc))?;
+        self.listed.insert(id, 1)?;
+        if let Some(list) = self.lists.get_mut(&container) {
+            list.push(id)?;
+        }
+        Ok(())
+    }
+
+    // One link less to an id, which waits to go where none is left.
+    fn drop_link(&mut self, id: u64, waiting: &mut Vec<u64>) -> Result<()> {
+        if let Some(count) = self.listed.get_mut(&id) {
+            *count = count.saturating_sub(1);
+            if *count == 0 {
+                waiting.push(id)?;
+            }
+        }
+        Ok(())
+    }
+
+    fn unref(&mut self, alloc: Global, container: u64, id: u64, seen: &mut Count) -> Result<()> {
+        if let Some(list) = self.lists.get_mut(&container) {
+            if let Some(place) = list.iter().position(|other| *other == id) {
+                let _id = list.remove(place);
+                seen.links = seen.links.wrapping_add(1);
+            }
+        }
+        let mut waiting = Vec::new(alloc);
+        self.drop_link(id, &mut waiting)?;
+        for _ in 0..u64::MAX {
+            let Some(dead) = waiting.pop() else {
+                break;
+            };
+            let _count = self.listed.remove(&dead);
+            if let Some(list) = self.lists.remove(&dead) {
+                for child in &list {
+                    seen.links = seen.links.wrapping_add(1);
+                    self.drop_link(*child, &mut waiting)?;
+                }
+            }
+            seen.objects = seen.objects.wrapping_add(1);
+        }
+        Ok(())
+    }
+}
+
+// The id of the one at a place of a subtree, whose ids follow on a number; the root where there is none.
+fn id_at(base: u64, place: usize) -> u64 {
+    base.saturating_add((place as u64).saturating_mul(2))
+}
+
+/// Makes a subtree of so many containers, each with up to eight entries, and takes it out again, round after round, in
+/// containers and in maps that keep a list and a count for each id. Only the taking out is timed.
+pub fn unref(
+    rt: &(impl Clock + Print),
+    alloc: Global,
+    objects: usize,
+    rounds: usize,
+) -> Result<()> {
+    let size = objects.clamp(1, MOST);
+    let mut tree = Guarded::boot(alloc, size.saturating_add(1))?;
+    let mut maps = Maps {
+        lists: BTreeMap::new(alloc),
+        listed: BTreeMap::new(alloc),
+    };
+    maps.lists.insert(1, Vec::new(alloc))?;
+    let mut seen = Count {
+        links: 0,
+        objects: 0,
+    };
+    let mut seen_there = Count {
+        links: 0,
+        objects: 0,
+    };
+    let (mut ours, mut theirs, mut probes) = (0u64, 0u64, 0u64);
+    let mut base = 3u64;
+    for _ in 0..rounds {
+        for place in 0..size {
+            let container = if place == 0 {
+                1
+            } else {
+                id_at(base, (place - 1) / 8)
+            };
+            let id = id_at(base, place);
+            tree.create(ObjectId::new(container), ObjectId::new(id))?;
+            maps.create(alloc, container, id)?;
+        }
+        let before = tree.meter().probes();
+        let start = Instant::now(rt)?;
+        tree.unref(ObjectId::root(), ObjectId::new(base), &mut seen)?;
+        ours = ours.saturating_add(nanos_since(rt, start)?);
+        probes = probes.saturating_add(tree.meter().probes().saturating_sub(before));
+        let start = Instant::now(rt)?;
+        maps.unref(alloc, 1, base, &mut seen_there)?;
+        theirs = theirs.saturating_add(nanos_since(rt, start)?);
+        base = id_at(base, size);
+    }
+    let (links, objects) = (seen.links, seen.objects);
+    let (links_there, objects_there) = (seen_there.links, seen_there.objects);
+    let each = probes / objects.max(1);
+    println!(rt; "went {objects} of {links} and {objects_there} of {links_there}, probes {each}")?;
+    print_ratio(rt, "unref, an object of", size, objects, ours, theirs)
+}
