@@ -26,3 +26,7 @@ may_read rights = bit_and rights.0 1 == 1
 -- whether writing is among the rights
 abbrev pub may_write : Rights → Bool
 may_write rights = bit_and rights.0 2 == 2
+
+-- the rights without writing
+abbrev pub reading : Rights → Rights
+reading rights = record { 0 = bit_and rights.0 1 }

@@ -1,7 +1,7 @@
 //! Sets of rights and of kinds.
 ghost use Rattle.std.specs.Prelude.{◌≡◌, ◌==◌};
 ghost use Rattle.std.specs.Int.RustNames.{bit_and, bit_or};
-ghost use Rattle.base.specs.Sets.{has_kind, bit_of_kind, may_read, may_write};
+ghost use Rattle.base.specs.Sets.{has_kind, bit_of_kind, may_read, may_write, reading};
 
 use crate::kinds::Kind;
 use bitflags::{Flag, Flags, bitflag_items};
@@ -54,6 +54,13 @@ impl Rights {
         ensures { result ≡ may_write self }
     {
         self.contains(Rights::WRITE)
+    }
+
+    /// The rights without writing.
+    pub fn reading(self) -> Rights
+        ensures { result ≡ reading self }
+    {
+        Rights(self.0 & 1)
     }
 }
 

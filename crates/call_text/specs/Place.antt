@@ -6,7 +6,7 @@ use Rattle.base.specs.declared.levels.Level.TheVariants.{Star}
 use Rattle.base.specs.declared.sets.TypeSet.{TypeSet}
 use Rattle.label_lattice.specs.declared.pairings.Pair.{Pair}
 use Rattle.label_lattice.specs.declared.raw_labels.RawLabel.{RawLabel}
-use Rattle.plain_core.specs.declared.calls.Entry.{Entry}
+use Rattle.kernel_rules.specs.declared.calls.Entry.{Entry}
 use Rattle.text_words.specs.declared.references.Reference.{Reference}
 use Rattle.text_words.specs.declared.references.Reference.TheVariants.{Number, Name}
 use Rattle.text_words.specs.declared.spoken_labels.SpokenPair.{SpokenPair}

@@ -3,8 +3,8 @@ use Rattle.std.specs.Prelude.{ℕ, List, [], ◌∷◌, ◌++◌, Option, Some, 
 use Rattle.std.specs.List.{flat_map}
 use Rattle.base.specs.declared.refusals.Refusal.{Refusal as Refusals}
 use Rattle.base.specs.Refusal.{row_of}
-use Rattle.plain_core.specs.declared.calls.Reply.{Reply}
-use Rattle.plain_core.specs.declared.calls.Reply.TheVariants as replies
+use Rattle.kernel_rules.specs.declared.replies.Reply.{Reply}
+use Rattle.kernel_rules.specs.declared.replies.Reply.TheVariants as replies
 use Rattle.text_words.specs.DataWord.{data_text}
 use Rattle.call_text.specs.declared.known_names.Named.{Named}
 use Rattle.call_text.specs.declared.known_names.Value.{Value}

@@ -1,7 +1,7 @@
 -- What a spoken call asks, with the names that are known.
 use Rattle.std.specs.Prelude.{ℕ, List, [], ◌∷◌, Option, Some, None, Result, Ok, Err}
-use Rattle.plain_core.specs.declared.calls.Call.TheVariants as calls
-use Rattle.plain_core.specs.declared.calls.Query.TheVariants as queries
+use Rattle.kernel_rules.specs.declared.calls.Call.TheVariants as calls
+use Rattle.kernel_rules.specs.declared.calls.Query.TheVariants as queries
 use Rattle.text_words.specs.declared.references.Reference.{Reference}
 use Rattle.text_words.specs.declared.references.Reference.TheVariants.{Number, Name}
 use Rattle.text_words.specs.declared.spoken_labels.SpokenPair.{SpokenPair}

@@ -2,11 +2,11 @@
 use Rattle.std.proofs.Common.{◌≡◌, ℕ, ◌+◌, ◌<◌, ◌≤◌, List, [], ◌∷◌, ◌++◌, length, take}
 use Rattle.std.proofs.Common.{get_or, refl, sym, ◌∙◌, ap, add-one, length-append}
 use Rattle.std.proofs.Math.Seq.{take-suc}
-use Rattle.plain_core.specs.State.{State}
-use Rattle.plain_core.specs.Step.{answer, next}
-use Rattle.plain_core.specs.Runs.{state_after, replies_to}
-use Rattle.plain_core.specs.declared.calls.Call.{Call}
-use Rattle.plain_core.specs.declared.calls.Reply.{Reply}
+use Rattle.kernel_rules.specs.State.{State}
+use Rattle.kernel_rules.specs.Step.{answer, next}
+use Rattle.kernel_rules.specs.Runs.{state_after, replies_to}
+use Rattle.kernel_rules.specs.declared.calls.Call.{Call}
+use Rattle.kernel_rules.specs.declared.replies.Reply.{Reply}
 
 -- i calls of a list were made from a state, with these replies, and room for those to the rest
 pub record IsRunSoFar (old now : State) (calls : List (ℕ × Call)) (i : ℕ) (replies : List Reply)

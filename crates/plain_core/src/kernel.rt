@@ -1,8 +1,8 @@
 //! The plain kernel: a map of records, and all else computed anew.
 ghost use Rattle.std.specs.Prelude.{◌≡◌, ◌↔◌, true, false, IsTrue, IfOk, OnOk, OnErr, IsErrOf};
 ghost use Rattle.base.specs.Limits.{in_range};
-ghost use Rattle.plain_core.specs.StateOf.{state_of};
-ghost use Rattle.plain_core.specs.WellFormed.{is_well_formed};
+ghost use Rattle.plain_state.specs.StateOf.{state_of};
+ghost use Rattle.kernel_rules.specs.WellFormed.{is_well_formed};
 
 use crate::boots::{BootRefusal, booted_records};
 use crate::calls::{Call, Query, Reply};
@@ -26,7 +26,7 @@ pub struct PlainKernel {
 
 impl PlainKernel {
     ghost use Rattle.plain_core.specs.Kernel.{kernel_state};
-    ghost use Rattle.plain_core.specs.Runs.{booted};
+    ghost use Rattle.kernel_rules.specs.Runs.{booted};
 
     /// A newly booted kernel: the root container 1, the boot thread 2 and the device 3. The error
     /// is `BadLimits` exactly where a limit is out of its range, and else, for want of memory,

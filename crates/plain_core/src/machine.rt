@@ -1,8 +1,8 @@
 //! What a machine is, and whole runs on one.
 ghost use Rattle.std.specs.Prelude.{◌≡◌, ◌≤◌, ℕ, IfOk, OnOk, OnErr, length, take};
-ghost use Rattle.plain_core.specs.State.{State};
-ghost use Rattle.plain_core.specs.Step.{answer, next, query_answer};
-ghost use Rattle.plain_core.specs.Runs.{replies_to, state_after};
+ghost use Rattle.kernel_rules.specs.State.{State};
+ghost use Rattle.kernel_rules.specs.Step.{answer, next, query_answer};
+ghost use Rattle.kernel_rules.specs.Runs.{replies_to, state_after};
 
 use crate::calls::{Call, Query, Reply};
 use base::{Meter, NoMemory, ObjectId};

@@ -2,14 +2,14 @@
 ghost use Rattle.std.specs.Prelude.{◌≡◌, ◌+◌, ◌&&◌, ◌||◌, not, is_none, IfSome, option_copied};
 ghost use Rattle.label_lattice.specs.Label.{IsStored};
 ghost use Rattle.label_lattice.specs.Raw.{all_made, raw_has_star};
-ghost use Rattle.plain_core.specs.Labels.{stored};
-ghost use Rattle.plain_core.specs.Rows.{refused, query_refused, refusal_of, halted, fitting};
-ghost use Rattle.plain_core.specs.Rows.{new_object, in_range_of, own_label, own_clearance};
-ghost use Rattle.plain_core.specs.StateOf.{state_of};
+ghost use Rattle.threads_gates.specs.LabelRules.{stored};
+ghost use Rattle.kernel_rules.specs.Table.{refused, query_refused, refusal_of, halted, fitting};
+ghost use Rattle.kernel_rules.specs.Rows.{new_object, in_range_of, own_label, own_clearance};
+ghost use Rattle.plain_state.specs.StateOf.{state_of};
 ghost use Rattle.base.specs.declared.kinds.Kind.TheVariants as kinds;
 ghost use Rattle.base.specs.declared.sets.TypeSet.{TypeSet};
-ghost use Rattle.plain_core.specs.declared.calls.Call.TheVariants as call;
-ghost use Rattle.plain_core.specs.declared.calls.Query.TheVariants as query;
+ghost use Rattle.kernel_rules.specs.declared.calls.Call.TheVariants as call;
+ghost use Rattle.kernel_rules.specs.declared.calls.Query.TheVariants as query;
 
 use super::PlainKernel;
 use super::reads::has_shape;

@@ -1,12 +1,12 @@
 //! One function for each call: what refuses it, or what it changes and answers.
 ghost use Rattle.std.specs.Prelude.{◌≡◌, IfOk, OnOk, OnErr};
 ghost use Rattle.label_lattice.specs.Label.{IsStored};
-ghost use Rattle.plain_core.specs.Changes.{fresh_object, made};
-ghost use Rattle.plain_core.specs.Fitting.{IsFitting};
-ghost use Rattle.plain_core.specs.Step.{answer, next, query_answer};
-ghost use Rattle.plain_core.specs.StateOf.{state_of};
-ghost use Rattle.plain_core.specs.declared.calls.Call.TheVariants as call;
-ghost use Rattle.plain_core.specs.declared.calls.Query.TheVariants as query;
+ghost use Rattle.kernel_rules.specs.Changes.{fresh_object, made};
+ghost use Rattle.kernel_rules.specs.Fitting.{IsFitting};
+ghost use Rattle.kernel_rules.specs.Step.{answer, next, query_answer};
+ghost use Rattle.plain_state.specs.StateOf.{state_of};
+ghost use Rattle.kernel_rules.specs.declared.calls.Call.TheVariants as call;
+ghost use Rattle.kernel_rules.specs.declared.calls.Query.TheVariants as query;
 
 use super::PlainKernel;
 use super::rows::NewObject;

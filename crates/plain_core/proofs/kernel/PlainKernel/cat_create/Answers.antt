@@ -1,12 +1,12 @@
 use Rattle.std.proofs.Common.{sym, ◌∙◌, subst, ◌≡◌, true, Option, IfSome}
 use Rattle.label_lattice.specs.Label.{LabelValue, IsStored}
-use Rattle.plain_core.specs.Rows.{own_label, own_clearance}
-use Rattle.plain_core.specs.State.{State}
-use Rattle.plain_core.specs.StateOf.{state_of}
-use Rattle.plain_core.specs.Step.{owned}
-use Rattle.plain_core.specs.WellFormed.{is_well_formed}
-use Rattle.plain_core.proofs.StepLaws.{step_refused, step_done, step_sound, category_left}
-use Rattle.plain_core.proofs.EditLaws.{owned_well_formed}
+use Rattle.kernel_rules.specs.Rows.{own_label, own_clearance}
+use Rattle.kernel_rules.specs.State.{State}
+use Rattle.plain_state.specs.StateOf.{state_of}
+use Rattle.kernel_rules.specs.Step.{owned}
+use Rattle.kernel_rules.specs.WellFormed.{is_well_formed}
+use Rattle.kernel_rules.proofs.StepLaws.{step_refused, step_done, step_sound, category_left}
+use Rattle.kernel_rules.proofs.EditLaws.{owned_well_formed}
 use Rattle.plain_core.proofs.kernel.PlainKernel.cat_create.Goals as goal
 
 pub own_category-requires : goal.own_category-requires

@@ -1,19 +1,19 @@
 use Rattle.std.proofs.Common.{ℕ, sym, ◌∙◌, ap, subst, [], ◌≡◌, List, None, Option}
 use Rattle.std.proofs.Common.{IfSome}
 use Rattle.label_lattice.specs.Label.{LabelValue, IsStored}
-use Rattle.plain_core.specs.Changes.{made, fresh_object, joined_at}
-use Rattle.plain_core.specs.Fitting.{IsFitting}
-use Rattle.plain_core.specs.Labels.{stored}
-use Rattle.plain_core.specs.Rows.{refused}
-use Rattle.plain_core.specs.StateOf.{state_of}
-use Rattle.plain_core.specs.Step.{with_label}
-use Rattle.plain_core.specs.WellFormed.{is_well_formed}
-use Rattle.plain_core.specs.declared.calls.Call.TheVariants as call
-use Rattle.plain_core.specs.declared.objects.Body.TheVariants as is
-use Rattle.plain_core.proofs.StepLaws.{step_refused, step_done, step_sound, container_fits, then_on}
-use Rattle.plain_core.proofs.StepLaws.{then_if, with_stored, not_both}
-use Rattle.plain_core.proofs.MadeLaws.{made_well_formed}
-use Rattle.plain_core.proofs.StoredLaws.{stored_test}
+use Rattle.kernel_rules.specs.Changes.{made, fresh_object, joined_at}
+use Rattle.kernel_rules.specs.Fitting.{IsFitting}
+use Rattle.threads_gates.specs.LabelRules.{stored}
+use Rattle.kernel_rules.specs.Table.{refused}
+use Rattle.plain_state.specs.StateOf.{state_of}
+use Rattle.kernel_rules.specs.Step.{with_label}
+use Rattle.kernel_rules.specs.WellFormed.{is_well_formed}
+use Rattle.kernel_rules.specs.declared.calls.Call.TheVariants as call
+use Rattle.kernel_rules.specs.declared.objects.Body.TheVariants as is
+use Rattle.kernel_rules.proofs.StepLaws.{step_refused, step_done, step_sound, container_fits, then_on}
+use Rattle.kernel_rules.proofs.StepLaws.{then_if, with_stored, not_both}
+use Rattle.kernel_rules.proofs.MadeLaws.{made_well_formed}
+use Rattle.kernel_rules.proofs.StoredLaws.{stored_test}
 use Rattle.plain_core.proofs.kernel.PlainKernel.container_create.Goals as goal
 
 pub unreachable-requires : goal.unreachable-requires

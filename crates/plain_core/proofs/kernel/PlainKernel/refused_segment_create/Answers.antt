@@ -1,9 +1,9 @@
 use Rattle.std.proofs.Common.{sym, ◌∙◌, [], ◌∷◌, ◌++◌, ◌+◌, nat_lt}
 use Rattle.base.specs.declared.kinds.Kind.TheVariants as kinds
 use Rattle.base.specs.declared.refusals.Refusal.TheVariants.{Bounds}
-use Rattle.plain_core.specs.Rows.{refused, refusal_of, least_of, halted, new_object}
-use Rattle.plain_core.specs.StateOf.{state_of}
-use Rattle.plain_core.proofs.RowLaws.{appended}
+use Rattle.kernel_rules.specs.Table.{refused, refusal_of, least_of, halted, new_object}
+use Rattle.plain_state.specs.StateOf.{state_of}
+use Rattle.kernel_rules.proofs.RowLaws.{appended}
 use Rattle.plain_core.proofs.kernel.PlainKernel.refused_segment_create.Goals as goal
 
 pub returns : goal.returns

@@ -1,5 +1,5 @@
 use Rattle.std.proofs.Common.{sym, ◌∙◌}
-use Rattle.plain_core.proofs.StepLaws.{ask_refused}
+use Rattle.kernel_rules.proofs.StepLaws.{ask_refused}
 use Rattle.plain_core.proofs.kernel.PlainKernel.segment_read.Goals as goal
 
 pub returns-in-Some : goal.returns-in-Some

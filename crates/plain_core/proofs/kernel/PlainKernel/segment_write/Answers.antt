@@ -1,9 +1,9 @@
 use Rattle.std.proofs.Common.{sym, ◌∙◌, subst, ◌≡◌, true}
-use Rattle.plain_core.proofs.StepLaws.{step_refused, step_done, step_sound, write_fits}
-use Rattle.plain_core.proofs.EditLaws.{written_well_formed}
-use Rattle.plain_core.specs.State.{State}
-use Rattle.plain_core.specs.StateOf.{state_of}
-use Rattle.plain_core.specs.WellFormed.{is_well_formed}
+use Rattle.kernel_rules.proofs.StepLaws.{step_refused, step_done, step_sound, write_fits}
+use Rattle.kernel_rules.proofs.EditLaws.{written_well_formed}
+use Rattle.kernel_rules.specs.State.{State}
+use Rattle.plain_state.specs.StateOf.{state_of}
+use Rattle.kernel_rules.specs.WellFormed.{is_well_formed}
 use Rattle.plain_core.proofs.kernel.PlainKernel.segment_write.Goals as goal
 
 pub write_bytes-requires : goal.write_bytes-requires

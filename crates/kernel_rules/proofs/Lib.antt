@@ -1,0 +1,14 @@
+pub mod BootLaws
+pub mod EditLaws
+pub mod GrowLaws
+pub mod GrownLaws
+pub mod KeptLaws
+pub mod ListerLaws
+pub mod ListingLaws
+pub mod LookupLaws
+pub mod MadeLaws
+pub mod RecordLaws
+pub mod RowLaws
+pub mod StepLaws
+pub mod StoredLaws
+pub mod WellFormedLaws

@@ -1,0 +1,58 @@
+-- What an answer is, once it is known what refuses the call.
+use Rattle.std.proofs.Common.{◌≡◌, ℕ, true, false, Option, Some, None, is_none, Result, Ok, Err}
+use Rattle.std.proofs.Common.{OnOk, IfOk, ◌∙◌, ap}
+use Rattle.std.proofs.lemmas.Bool.{both_ways}
+use Rattle.base.specs.declared.refusals.Refusal.{Refusal}
+use Rattle.kernel_rules.specs.State.{State}
+use Rattle.kernel_rules.specs.Table.{refused, query_refused}
+use Rattle.kernel_rules.specs.Step.{answer, accepted, next, edit, restricted, or_refused, or_same}
+use Rattle.kernel_rules.specs.Step.{with_value, query_answer, found}
+use Rattle.kernel_rules.specs.WellFormed.{is_well_formed}
+use Rattle.kernel_rules.specs.declared.calls.Call.{Call}
+use Rattle.kernel_rules.specs.declared.calls.Query.{Query}
+use Rattle.kernel_rules.specs.declared.replies.Reply.TheVariants.{Refused}
+use Rattle.kernel_rules.proofs.RecordLaws.{restricted_live}
+use Rattle.kernel_rules.proofs.WellFormedLaws.{soundness_of}
+
+pub ask_refused : (s : State) (t : ℕ) (q : Query) (r : Refusal) → query_refused s t q ≡ Some r
+    → query_answer s t q ≡ Refused r
+unfolding query_answer
+ask_refused s t q r h = ap (λ o. or_refused o (found s t q)) h
+
+pub ask_found : (s : State) (t : ℕ) (q : Query) → query_refused s t q ≡ None → query_answer s t q ≡ found s t q
+unfolding query_answer
+ask_found s t q h = ap (λ o. or_refused o (found s t q)) h
+
+pub step_refused : (s : State) (t : ℕ) (c : Call) (r : Refusal) → refused s t c ≡ Some r
+    → (answer s t c ≡ Refused r) × (next s t c ≡ s)
+unfolding answer next
+step_refused s t c r h =
+    (ap (λ o. or_refused o (accepted s t c)) h, ap (λ o. or_same o s (restricted (edit s t c))) h)
+
+pub step_done : (s : State) (t : ℕ) (c : Call) → refused s t c ≡ None
+    → (answer s t c ≡ accepted s t c) × (next s t c ≡ restricted (edit s t c))
+unfolding answer next
+step_done s t c h =
+    (ap (λ o. or_refused o (accepted s t c)) h, ap (λ o. or_same o s (restricted (edit s t c))) h)
+
+-- a call that is not refused, whose edit is well formed
+pub step_sound : (s : State) (t : ℕ) (c : Call) → refused s t c ≡ None → is_well_formed (edit s t c) ≡ true
+    → next s t c ≡ edit s t c
+step_sound s t c h sound =
+    (step_done s t c h).1 ∙ restricted_live (edit s t c) (soundness_of (edit s t c) sound).live
+
+pub then_on : {A E X : Type 0} (r : Result A E) (a b c : X) → OnOk r (a ≡ b) → b ≡ c → OnOk r (a ≡ c)
+then_on (Ok x) a b c h e = h ∙ e
+then_on (Err x) a b c h e = h
+
+pub then_if : {A E : Type 0} (r : Result A E) (a b : A) → IfOk r (λ x. x ≡ a) → a ≡ b → IfOk r (λ x. x ≡ b)
+then_if (Ok x) a b h e = h ∙ e
+then_if (Err x) a b h e = h
+
+-- a value that is there is what the state is made of
+pub with_there : {X : Type 0} (s : State) (v : Option X) (x : X) (f : X → State) → v ≡ Some x
+    → with_value s v f ≡ f x
+with_there s v x f h = ap (λ w. with_value s w f) h
+
+pub not_both : {X : Type 0} (v : Option X) → v ≡ None → is_none v ≡ false → ⊥
+not_both v none some = both_ways (is_none v) some (ap is_none none)

@@ -1,0 +1,10 @@
+pub mod Written
+pub mod State
+pub mod Translate
+pub mod Rows
+pub mod Table
+pub mod WellFormed
+pub mod Fitting
+pub mod Changes
+pub mod Step
+pub mod Runs

@@ -1,0 +1,20 @@
+//! The rules of HiStar's kernel objects (OSDI 2006) as definitions: the state, for each call a row of
+//! conditions with their refusals, an edit of the state and a reply, and what holds of every state that
+//! calls lead to. Beside them stand the types of calls, replies and objects. It promises nothing of any
+//! machine: a machine is proved against these definitions, and each of them computes.
+#![tactic(auto)]
+
+mod calls;
+
+mod lists;
+mod objects;
+mod places;
+mod refusing;
+mod replies;
+
+pub use calls::{Call, Entry, Query};
+pub use refusing::{least, least_of};
+pub use lists::{Bytes, IdList, Ids, Packets, Slots};
+pub use objects::{Body, Gate, Mapping, Object, Thread, fresh_object};
+pub use places::Place;
+pub use replies::Reply;

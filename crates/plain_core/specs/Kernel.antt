@@ -1,8 +1,0 @@
--- What contracts see of a plain kernel.
-use Rattle.plain_core.specs.State.{State}
-use Rattle.plain_core.specs.StateOf.{state_of}
-use Rattle.plain_core.specs.declared.kernel.PlainKernel.{PlainKernel}
-
--- the state that the kernel is in
-abbrev pub kernel_state : PlainKernel → State
-kernel_state k = state_of k.records

@@ -1,0 +1,36 @@
+-- What follows for containers where nothing refuses a call.
+use Rattle.std.proofs.Common.{◌≡◌, ◌≤◌, ◌<◌, ◌+◌, ◌*◌, ◌/◌, ◌%◌, ◌^◌, ℕ, Bool, true, false}
+use Rattle.std.proofs.Common.{◌&&◌, ◌||◌, ◌==◌, nat_le, List, [], ◌++◌, length, replicate}
+use Rattle.std.proofs.Common.{Option, Some, None, refl, ◌∙◌, ap, arith}
+use Rattle.std.proofs.lemmas.Bool.{and_parts, and_from, eq-eqb, not-false, leb-true, leb-false}
+use Rattle.std.proofs.lemmas.Bool.{ltb-false}
+use Rattle.std.proofs.lemmas.List.{length-replicate}
+use Rattle.base.specs.declared.sets.TypeSet.{TypeSet}
+use Rattle.label_lattice.specs.declared.raw_labels.RawLabel.{RawLabel}
+use Rattle.kernel_rules.specs.State.{State, bytes_at}
+use Rattle.kernel_rules.specs.Rows.{halted, is_shape}
+use Rattle.kernel_rules.specs.Table.{refused, query_refused, row, query_row}
+use Rattle.kernel_rules.specs.Fitting.{IsFitting}
+use Rattle.kernel_rules.specs.WellFormed.{is_whole_body}
+use Rattle.kernel_rules.specs.declared.calls.Entry.{Entry}
+use Rattle.kernel_rules.specs.declared.calls.Call.TheVariants as call
+use Rattle.kernel_rules.specs.declared.calls.Query.TheVariants as query
+use Rattle.kernel_rules.specs.declared.objects.Body.TheVariants as is
+use Rattle.kernel_rules.proofs.RowLaws.{none_hold}
+
+-- what a container is made of fits, where nothing refuses it
+pub container_fits : (s : State) (t d : ℕ) (x : RawLabel) (q : ℕ) (avoid kinds : TypeSet)
+    → refused s t (call.ContainerCreate d x q avoid) ≡ None
+    → IsFitting s d q (is.Container kinds [])
+unfolding refused
+container_fits s t d x q avoid kinds h =
+    let none = none_hold (halted s t ++ row s t (call.ContainerCreate d x q avoid)) h in
+    record {
+        container = (and_parts _ _ (and_parts _ _ (not-false _ none.1.0)).0).0;
+        enough = ltb-false _ _ none.1.1.1.1.1.0;
+        room = ltb-false _ _ none.1.1.1.1.1.1.0;
+        left = leb-false _ _ none.1.1.1.1.1.1.1.1.0;
+        empty = refl;
+        whole = refl;
+    }
+

@@ -1,0 +1,23 @@
+use Rattle.std.proofs.Common.{sym, ◌∙◌, [], ◌∷◌, ◌++◌, ◌+◌, nat_lt}
+use Rattle.base.specs.declared.kinds.Kind.TheVariants as kinds
+use Rattle.base.specs.declared.refusals.Refusal.TheVariants.{Bounds}
+use Rattle.kernel_rules.specs.Rows.{least_of, halted, new_object}
+use Rattle.kernel_rules.specs.Table.{refused}
+use Rattle.plain_state.specs.StateOf.{state_of}
+use Rattle.kernel_rules.proofs.RowLaws.{appended}
+use Rattle.plain_memory.proofs.segments.refused_segment_create.Goals as goal
+
+pub returns : goal.returns
+unfolding refused
+returns c =
+    c.least_of-2.ensures
+    ∙ (λ i. least_of (c.halted-halted.ensures i) ((c.least_of.ensures
+    ∙ (λ j. least_of (c.new_object-fresh.ensures j) (c.least-long.ensures j))
+    ∙ sym (appended
+    (new_object (state_of c.args.state.now) c.args.thread kinds.Segment c.args.container
+    c.args.raw.now c.args.quota (1 + c.args.pages))
+    ((Bounds, nat_lt 16 c.args.pages) ∷ []))) i))
+    ∙ sym (appended (halted (state_of c.args.state.now) c.args.thread)
+    (new_object (state_of c.args.state.now) c.args.thread kinds.Segment c.args.container
+    c.args.raw.now c.args.quota (1 + c.args.pages)
+    ++ (Bounds, nat_lt 16 c.args.pages) ∷ []))

@@ -1,0 +1,15 @@
+use Rattle.std.proofs.Common.{ℕ, sym, ◌∙◌, ap, subst, ◌≡◌, List}
+use Rattle.kernel_rules.specs.Fitting.{IsFitting}
+use Rattle.kernel_rules.specs.declared.objects.Body.TheVariants as is
+use Rattle.plain_state.specs.StateOf.{state_of}
+use Rattle.plain_memory.proofs.SegmentLaws.{segment_fits}
+use Rattle.plain_memory.proofs.segments.segment_create.Goals as goal
+
+pub create-requires-clause-fitting : goal.create-requires-clause-fitting
+create-requires-clause-fitting c =
+    let P : List ℕ → Type 0 =
+    λ bytes. IsFitting (state_of c.args.state.now) c.args.container c.args.quota (is.Segment bytes)
+    in
+    subst P (sym c.in_ok-bytes.ensures)
+    (segment_fits (state_of c.args.state.now) c.args.thread c.args.container c.args.raw.now
+    c.args.quota c.args.pages c.requires)

@@ -1,0 +1,17 @@
+//! The state of a plain kernel: records in a map. What calls look at is computed anew from the records,
+//! by the definitions, and each change that a call makes keeps the state well formed. Which call looks
+//! at what, and changes what, is left to the crates above.
+#![tactic(auto)]
+
+mod boots;
+mod changes;
+mod edits;
+mod reads;
+mod records;
+mod rows;
+mod states;
+
+pub use boots::BootRefusal;
+pub use reads::has_shape;
+pub use records::Records;
+pub use states::PlainState;
