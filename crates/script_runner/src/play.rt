@@ -3,7 +3,8 @@ use crate::faults::PlayFault;
 use crate::names::BoundNames;
 use base::{Limits, Meter, NoMemory, ObjectId};
 use call_text::{Asked, Line, Named, Script, Value, put_reply, resolve};
-use plain_core::{Machine, PlainKernel, Reply};
+use kernel_rules::Reply;
+use plain_core::{Machine, PlainKernel};
 use std::alloc::{AllocError, Global};
 use text_words::{Name, put_name, put_number};
 
@@ -91,7 +92,7 @@ fn put_answer(
     line: &Line,
     answer: &Answer,
     names: &BoundNames,
-) -> Result<(), AllocError> {
+) -> Result<(), NoMemory> {
     put_name(out, &line.worker)?;
     out.push(b' ')?;
     put_number(out, u64::from(line.number))?;
@@ -112,7 +113,7 @@ fn output_of(
     lines: &[Line],
     answers: &[Answer],
     names: &BoundNames,
-) -> Result<Vec<u8>, AllocError> {
+) -> Result<Vec<u8>, NoMemory> {
     let mut out = Vec::new(alloc);
     for (line, answer) in lines.iter().zip(answers) {
         put_answer(&mut out, line, answer, names)?;

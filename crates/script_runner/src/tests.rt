@@ -5,7 +5,7 @@ use crate::play::play_all;
 use crate::program::histar_on;
 use base::{Category, ObjectId};
 use call_text::{Known, Named, ScriptError, Value, read_script, write_reply};
-use plain_core::Reply;
+use kernel_rules::Reply;
 use script_words::DEFAULTS;
 use std::io;
 use std::io::{ErrorKind, Read};
