@@ -41,7 +41,7 @@ rebyte_keeps x a new h = at_body x.body h
       kind = refl;
       quota = refl;
       cost = ap (λ n. 1 + n / 256) (length-written a new bytes h);
-      fixed = refl;
+      fixed = λ f. f;
       whole = λ w.
           let parts : ((is_stored x.label && length x.metadata == 64) ≡ true)
           × ((length bytes == 256 * (length bytes / 256) && nat_le (length bytes) 4096) ≡ true)
@@ -52,15 +52,15 @@ rebyte_keeps x a new h = at_body x.body h
           (ap (λ n. n == 256 * (n / 256) && nat_le n 4096) (length-written a new bytes h) ∙ parts.1);
     }
     at_body (is.Container avoid list) h =
-        record { list = refl; kind = refl; quota = refl; cost = refl; fixed = refl; whole = λ w. w }
+        record { list = refl; kind = refl; quota = refl; cost = refl; fixed = λ f. f; whole = λ w. w }
     at_body (is.AddressSpace slots) h =
-        record { list = refl; kind = refl; quota = refl; cost = refl; fixed = refl; whole = λ w. w }
+        record { list = refl; kind = refl; quota = refl; cost = refl; fixed = λ f. f; whole = λ w. w }
     at_body (is.Thread t) h =
-        record { list = refl; kind = refl; quota = refl; cost = refl; fixed = refl; whole = λ w. w }
+        record { list = refl; kind = refl; quota = refl; cost = refl; fixed = λ f. f; whole = λ w. w }
     at_body (is.Gate g) h =
-        record { list = refl; kind = refl; quota = refl; cost = refl; fixed = refl; whole = λ w. w }
+        record { list = refl; kind = refl; quota = refl; cost = refl; fixed = λ f. f; whole = λ w. w }
     at_body (is.Device packets) h =
-        record { list = refl; kind = refl; quota = refl; cost = refl; fixed = refl; whole = λ w. w }
+        record { list = refl; kind = refl; quota = refl; cost = refl; fixed = λ f. f; whole = λ w. w }
 
 pub written_well_formed : (s : State) (o a : ℕ) (new : List ℕ) → a + length new ≤ length (bytes_at s o)
     → is_well_formed s ≡ true → is_well_formed (changed s o (with_body (rebyte (written a new)))) ≡ true
@@ -96,7 +96,7 @@ owning_keeps l c label clearance x = at_body x.body
       kind = refl;
       quota = refl;
       cost = refl;
-      fixed = refl;
+      fixed = λ f. f;
       whole = λ w.
           let o = others (length x.metadata == 64) (is.Thread t) w in
           and_from (is_stored l && length x.metadata == 64) (is_stored c && is_stored t.verify)
@@ -110,7 +110,7 @@ owning_keeps l c label clearance x = at_body x.body
           kind = refl;
           quota = refl;
           cost = refl;
-          fixed = refl;
+          fixed = λ f. f;
           whole = relabel (is.Segment bytes);
         }
     at_body (is.Container avoid list) =
@@ -119,7 +119,7 @@ owning_keeps l c label clearance x = at_body x.body
           kind = refl;
           quota = refl;
           cost = refl;
-          fixed = refl;
+          fixed = λ f. f;
           whole = relabel (is.Container avoid list);
         }
     at_body (is.AddressSpace slots) =
@@ -128,7 +128,7 @@ owning_keeps l c label clearance x = at_body x.body
           kind = refl;
           quota = refl;
           cost = refl;
-          fixed = refl;
+          fixed = λ f. f;
           whole = relabel (is.AddressSpace slots);
         }
     at_body (is.Gate g) =
@@ -137,7 +137,7 @@ owning_keeps l c label clearance x = at_body x.body
           kind = refl;
           quota = refl;
           cost = refl;
-          fixed = refl;
+          fixed = λ f. f;
           whole = relabel (is.Gate g);
         }
     at_body (is.Device packets) =
@@ -146,7 +146,7 @@ owning_keeps l c label clearance x = at_body x.body
           kind = refl;
           quota = refl;
           cost = refl;
-          fixed = refl;
+          fixed = λ f. f;
           whole = relabel (is.Device packets);
         }
 

@@ -19,13 +19,14 @@ use Rattle.kernel_rules.proofs.LookupLaws.{all_at, all_from, lookup_put}
 use Rattle.kernel_rules.proofs.RecordLaws.{same_id, lists_of-set_value}
 use Rattle.kernel_rules.proofs.WellFormedLaws.{Soundness}
 
--- y takes the place of x: it lists the same, is as much a container, and its quota, use and fixed flag are the same
+-- y takes the place of x: it lists the same, is as much a container, its quota and cost are the same, and its
+-- quota is fixed where that of x is
 pub record KeepsPlace (x y : Object) : Type 0 where
   pub list : listed y.body ≡ listed x.body
   pub kind : is_kind kinds.Container y ≡ is_kind kinds.Container x
   pub quota : y.quota ≡ x.quota
   pub cost : own_cost y.body ≡ own_cost x.body
-  pub fixed : y.fixed ≡ x.fixed
+  pub fixed : x.fixed ≡ true → y.fixed ≡ true
   pub whole : is_whole x ≡ true → is_whole y ≡ true
 
 pub all_keys-put : (p : ℕ → Bool) (o : ℕ) (es : List (ℕ × Object)) (y : Object)
@@ -66,7 +67,7 @@ is_some_of : (v : Option Object) → is_some v ≡ of_object false (λ x. true) 
 is_some_of None = refl
 is_some_of (Some x) = refl
 
-some_put : (s : State) (o q : ℕ) (x y : Object) → object_at s o ≡ Some x
+pub some_put : (s : State) (o q : ℕ) (x y : Object) → object_at s o ≡ Some x
     → is_some (object_at (put s o y) q) ≡ is_some (object_at s q)
 some_put s o q x y found =
     is_some_of (object_at (put s o y) q) ∙ at_put false (λ z. true) s o q x y found refl
@@ -87,20 +88,41 @@ kept_same s n q z some used lists =
     λ i. is_distinct (listed z.body) && list_all (λ k. some k i) (listed z.body) && nat_le (used i) z.quota
     && is_listed_rightly (lists i) q z && is_whole z
 
+-- it is listed rightly where x is
+rightly_kept : (n o : ℕ) (x y : Object) → KeepsPlace x y → is_listed_rightly n o x ≡ true
+    → is_listed_rightly n o y ≡ true
+rightly_kept n o x y keeps h =
+    (λ i. cond (o == 1) (n == 0)
+    (cond (keeps.kind i) (n == 1) (nat_le 1 n && (nat_le n 1 || y.fixed))))
+    ∙ wider (o == 1) (n == 0) (is_kind kinds.Container x) (n == 1) (nat_le 1 n) (nat_le n 1) x.fixed y.fixed
+    keeps.fixed h
+  where
+    wider : (root none held one some few fixed still : Bool) → (fixed ≡ true → still ≡ true)
+        → cond root none (cond held one (some && (few || fixed))) ≡ true
+        → cond root none (cond held one (some && (few || still))) ≡ true
+    wider true none held one some few fixed still w h = h
+    wider false none true one some few fixed still w h = h
+    wider false none false one false few fixed still w h = h
+    wider false none false one true true fixed still w h = h
+    wider false none false one true false fixed still w h = w h
+
 kept_here : (n : State) (o : ℕ) (x y : Object) → KeepsPlace x y → is_kept n o x ≡ true → is_kept n o y ≡ true
 kept_here n o x y keeps h =
     let parts : ((is_distinct (listed x.body) && list_all (λ k. is_some (object_at n k)) (listed x.body)
     && nat_le (use_of n o) x.quota && is_listed_rightly (listers n o) o x) ≡ true) × (is_whole x ≡ true)
     = and_parts (is_distinct (listed x.body) && list_all (λ k. is_some (object_at n k)) (listed x.body)
     && nat_le (use_of n o) x.quota && is_listed_rightly (listers n o) o x) (is_whole x) h in
+    let inner : ((is_distinct (listed x.body) && list_all (λ k. is_some (object_at n k)) (listed x.body)
+    && nat_le (use_of n o) x.quota) ≡ true) × (is_listed_rightly (listers n o) o x ≡ true)
+    = and_parts (is_distinct (listed x.body) && list_all (λ k. is_some (object_at n k)) (listed x.body)
+    && nat_le (use_of n o) x.quota) (is_listed_rightly (listers n o) o x) parts.0 in
     and_from (is_distinct (listed y.body) && list_all (λ k. is_some (object_at n k)) (listed y.body)
     && nat_le (use_of n o) y.quota && is_listed_rightly (listers n o) o y) (is_whole y)
+    (and_from (is_distinct (listed y.body) && list_all (λ k. is_some (object_at n k)) (listed y.body)
+    && nat_le (use_of n o) y.quota) (is_listed_rightly (listers n o) o y)
     ((λ i. is_distinct (keeps.list i) && list_all (λ k. is_some (object_at n k)) (keeps.list i)
-    && nat_le (use_of n o) (keeps.quota i)
-    && cond (o == 1) (listers n o == 0)
-    (cond (keeps.kind i) (listers n o == 1)
-    (nat_le 1 (listers n o) && (nat_le (listers n o) 1 || keeps.fixed i))))
-    ∙ parts.0)
+    && nat_le (use_of n o) (keeps.quota i)) ∙ inner.0)
+    (rightly_kept (listers n o) o x y keeps inner.1))
     (keeps.whole parts.1)
 
 pub put_sound : (s : State) (o : ℕ) (x y : Object) → object_at s o ≡ Some x → KeepsPlace x y → Soundness s

@@ -1,5 +1,6 @@
 pub mod BootLaws
 pub mod EditLaws
+pub mod FixedLaws
 pub mod GrowLaws
 pub mod GrownLaws
 pub mod KeptLaws
@@ -11,4 +12,5 @@ pub mod RecordLaws
 pub mod RowLaws
 pub mod StepLaws
 pub mod StoredLaws
+pub mod ThreadLaws
 pub mod WellFormedLaws

@@ -76,3 +76,8 @@ none_hold (c ∷ row) h =
       | true ↦ λ e. absurd (cc)
       | false ↦ λ e. (refl, none_hold row e)
     ] h
+
+-- the refusal of two rows, one after the other
+pub joined_rows : (a b : Row) (p q : Option Refusal) → p ≡ refusal_of a → q ≡ refusal_of b
+    → least_of p q ≡ refusal_of (a ++ b)
+joined_rows a b p q first second = (λ i. least_of (first i) (second i)) ∙ sym (appended a b)

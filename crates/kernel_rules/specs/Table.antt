@@ -45,19 +45,19 @@ is_mapping slot m =
 abbrev pub names_root : Entry → Bool
 names_root e = e.container == 1 && e.object == 1
 
+-- a thread's label and clearance
+abbrev pub own_bearer : State → ℕ → Bearer
+own_bearer s t = record { label = label_at s t; clearance = clearance_at s t }
+
+-- a gate's label and clearance
+abbrev pub gate_bearer : State → ℕ → Bearer
+gate_bearer s g = record {
+  label = label_at s g;
+  clearance = option_map (λ gate. gate.clearance) (gate_at s g);
+}
+
 -- the calling thread is t
 module _ (s : State) (t : ℕ) where
-  -- its label and clearance
-  abbrev pub own_bearer : Bearer
-  own_bearer = record { label = label_at s t; clearance = clearance_at s t }
-
-  -- a gate's label and clearance
-  abbrev pub gate_bearer : ℕ → Bearer
-  gate_bearer g = record {
-    label = label_at s g;
-    clearance = option_map (λ gate. gate.clearance) (gate_at s g);
-  }
-
   -- container d avoids the kind of o
   abbrev pub avoids_kind_of : ℕ → ℕ → Bool
   avoids_kind_of d o = of_object true (λ x. avoids_at s (kind_of x.body) d) (object_at s o)
@@ -140,7 +140,7 @@ module _ (s : State) (t : ℕ) where
   row (call.GateEnter e r q v) =
       in_container s t e ++ of_kind s t kinds.Gate e.object ++ good_label s t r
       ++ good_label s t q ++ good_label s t v
-      ++ (GateDenied, not (may_enter own_bearer (gate_bearer e.object) (record {
+      ++ (GateDenied, not (may_enter (own_bearer s t) (gate_bearer s e.object) (record {
         label = stored r;
         clearance = stored q;
         verify = stored v;

@@ -6,12 +6,16 @@
 mod boots;
 mod changes;
 mod edits;
+mod link_edits;
+mod links;
 mod reads;
 mod records;
 mod rows;
 mod states;
+mod thread_changes;
+mod thread_edits;
 
-pub use boots::BootRefusal;
+pub use boots::{BootRefusal, uniform};
 pub use reads::has_shape;
 pub use records::Records;
 pub use states::PlainState;

@@ -5,7 +5,7 @@ ghost use Rattle.base.specs.Live.{has};
 ghost use Rattle.kernel_rules.specs.State.{object_at, is_kind, is_kind_at, is_live_kind};
 ghost use Rattle.kernel_rules.specs.State.{is_accessible, observes, flows_to, holds, bytes_at};
 ghost use Rattle.kernel_rules.specs.State.{label_at, clearance_at, is_immutable, quota_at, list_at};
-ghost use Rattle.kernel_rules.specs.State.{cost_at, use_of, avoids_at, page_count};
+ghost use Rattle.kernel_rules.specs.State.{cost_at, use_of, avoids_at, page_count, gate_at};
 ghost use Rattle.kernel_rules.specs.Rows.{is_shape};
 ghost use Rattle.kernel_rules.specs.Changes.{joined_at};
 ghost use Rattle.plain_state.specs.StateOf.{state_of};
@@ -13,7 +13,7 @@ ghost use Rattle.base.specs.declared.kinds.Kind.TheVariants as kinds;
 
 use crate::states::PlainState;
 use base::{Kind, Meter, ObjectId, TypeSet};
-use kernel_rules::{Body, Entry, Object};
+use kernel_rules::{Body, Entry, Gate, Object};
 use label_lattice::Label;
 use threads_gates::{is_below, is_visible};
 
@@ -76,6 +76,21 @@ impl PlainState {
                     ..
                 },
             ) => Some(&thread.clearance),
+            _ => None,
+        }
+    }
+
+    /// What a gate hands on, and `None` for any other object.
+    pub fn gate(&self, id: ObjectId) -> Option<Gate>
+        ensures { result ≡ gate_at (state_of self.now) id }
+    {
+        match self.object(id) {
+            Some(
+                Object {
+                    body: Body::Gate(gate),
+                    ..
+                },
+            ) => Some(*gate),
             _ => None,
         }
     }

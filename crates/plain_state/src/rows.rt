@@ -3,13 +3,13 @@ ghost use Rattle.std.specs.Prelude.{◌≡◌, ◌||◌, not, is_none, option_co
 ghost use Rattle.label_lattice.specs.Raw.{all_made, is_bad_below, raw_has_star};
 ghost use Rattle.threads_gates.specs.LabelRules.{both, below, between, stored};
 ghost use Rattle.kernel_rules.specs.Rows.{refusal_of, halted, fitting, new_object, new_bearer};
-ghost use Rattle.kernel_rules.specs.Rows.{in_range_of};
+ghost use Rattle.kernel_rules.specs.Rows.{in_range_of, space_entry};
 ghost use Rattle.kernel_rules.specs.State.{label_at, clearance_at};
 ghost use Rattle.plain_state.specs.StateOf.{state_of};
 
 use crate::states::PlainState;
 use base::{Kind, Meter, ObjectId, Refusal};
-use kernel_rules::{least, least_of};
+use kernel_rules::{Entry, least, least_of};
 use label_lattice::{Label, RawLabel};
 use threads_gates::{is_below, is_between, stored_of};
 
@@ -19,6 +19,22 @@ impl PlainState {
         ensures { result ≡ refusal_of (halted (state_of self.now) thread) }
     {
         least(&[(Refusal::Halted, !self.is_live_kind(Kind::Thread, thread))])
+    }
+
+    /// What refuses the entry of an address space, where it is not that of none.
+    pub fn space_entry(&self, thread: ObjectId, space: &Entry, meter: &mut Meter) -> Option<Refusal>
+        ensures { result ≡ refusal_of (space_entry (state_of self.now) thread space.now) }
+    {
+        let named = space.container.number() != 0 || space.object.number() != 0;
+        let accessible = self.is_accessible(thread, space.container, meter);
+        let held = self.holds(space);
+        let fit = self.is_kind(Kind::AddressSpace, space.object);
+        let row = [
+            (Refusal::NoAccess, named && !accessible),
+            (Refusal::NoEntry, named && !held),
+            (Refusal::WrongType, named && !fit),
+        ];
+        least(&row)
     }
 
     /// What refuses a new object.

@@ -1,0 +1,22 @@
+use Rattle.std.proofs.Common.{◌∙◌, ◌++◌}
+use Rattle.kernel_rules.specs.Table.{refused}
+use Rattle.base.specs.declared.kinds.Kind.TheVariants as kinds
+use Rattle.kernel_rules.specs.Rows.{halted, space_entry, new_bearer}
+use Rattle.plain_state.specs.StateOf.{state_of}
+use Rattle.kernel_rules.proofs.RowLaws.{joined_rows}
+use Rattle.plain_threads.proofs.gates.refused_gate_create.Goals as goal
+
+pub returns : goal.returns
+unfolding refused
+returns c =
+    c.least_of-2.ensures
+    ∙ joined_rows (halted (state_of c.args.state.now) c.args.thread)
+    (space_entry (state_of c.args.state.now) c.args.thread c.args.space.now
+    ++ new_bearer (state_of c.args.state.now) c.args.thread kinds.Gate c.args.container
+    c.args.raw.now c.args.quota c.args.raw_clearance.now) _ _
+    c.halted-halted.ensures
+    (c.least_of.ensures
+    ∙ joined_rows (space_entry (state_of c.args.state.now) c.args.thread c.args.space.now)
+    (new_bearer (state_of c.args.state.now) c.args.thread kinds.Gate c.args.container
+    c.args.raw.now c.args.quota c.args.raw_clearance.now) _ _
+    c.space_entry-named.ensures c.new_bearer-fresh.ensures)

@@ -1,0 +1,238 @@
+//! The calls that make and enter gates.
+ghost use Rattle.std.specs.Prelude.{◌≡◌, None, IfOk, OnOk, OnErr, IfSome, option_copied};
+ghost use Rattle.label_lattice.specs.Label.{IsStored};
+ghost use Rattle.threads_gates.specs.LabelRules.{may_enter, stored};
+ghost use Rattle.threads_gates.specs.declared.gates.Asked.{Asked};
+ghost use Rattle.threads_gates.specs.declared.gates.Bearer.{Bearer};
+ghost use Rattle.kernel_rules.specs.State.{gate_at};
+ghost use Rattle.label_lattice.specs.Raw.{is_bad_below};
+ghost use Rattle.kernel_rules.specs.Step.{accepted, edit, through_gate, told_by};
+ghost use Rattle.kernel_rules.specs.Table.{refused, own_bearer, gate_bearer};
+ghost use Rattle.plain_state.specs.StateOf.{state_of};
+ghost use Rattle.kernel_rules.specs.declared.calls.Call.TheVariants as call;
+
+use base::{Kind, Meter, NoMemory, ObjectId, Refusal};
+use kernel_rules::{Body, Entry, Gate, Reply, least, least_of};
+use label_lattice::RawLabel;
+use plain_state::PlainState;
+use threads_gates::{Asked, Bearer, may_enter, stored_of};
+
+/// What refuses to make a gate.
+pub fn refused_gate_create(
+    state: &PlainState,
+    thread: ObjectId,
+    container: ObjectId,
+    raw: &RawLabel,
+    quota: u32,
+    raw_clearance: &RawLabel,
+    space: &Entry,
+    entry_point: u64,
+    closure: u64,
+    meter: &mut Meter,
+) -> Option<Refusal>
+    ensures { result ≡ refused (state_of state.now) thread (call.GateCreate container raw.now quota
+        raw_clearance.now space.now entry_point closure) }
+{
+    let halted = state.halted(thread);
+    let named = state.space_entry(thread, space, meter);
+    let fresh = state.new_bearer(
+        thread,
+        Kind::Gate,
+        container,
+        quota,
+        raw,
+        raw_clearance,
+        meter,
+    );
+    least_of(halted, least_of(named, fresh))
+}
+
+/// Makes a gate. The error is want of memory, and nothing is changed then.
+pub fn gate_create(
+    state: &mut PlainState,
+    thread: ObjectId,
+    container: ObjectId,
+    raw: &RawLabel,
+    quota: u32,
+    raw_clearance: &RawLabel,
+    space: &Entry,
+    entry_point: u64,
+    closure: u64,
+    meter: &mut Meter,
+) -> Result<Reply, NoMemory>
+    requires { refused (state_of state.old) thread (call.GateCreate container raw.now quota
+        raw_clearance.now space.now entry_point closure) ≡ None }
+    ensures reply { IfOk result (λ reply. reply ≡ accepted (state_of state.old) thread
+        (call.GateCreate container raw.now quota raw_clearance.now space.now entry_point closure)) }
+    ensures ok { OnOk result (state_of state.new ≡ edit (state_of state.old) thread
+        (call.GateCreate container raw.now quota raw_clearance.now space.now entry_point closure)) }
+    ensures err { OnErr result (state_of state.new ≡ state_of state.old) }
+{
+    let label = stored_of(raw, meter);
+    let Some(clearance) = stored_of(raw_clearance, meter) else {
+        return Ok(Reply::Object(state.next_id()));
+    };
+    let body = Body::Gate(Gate {
+        clearance,
+        space: *space,
+        entry_point,
+        closure,
+    });
+    let id = state.create(container, label, quota, body)?;
+    Ok(Reply::Object(id))
+}
+
+fn own_bearer(state: &PlainState, thread: ObjectId) -> Bearer
+    ensures { result ≡ own_bearer (state_of state.now) thread }
+{
+    Bearer {
+        label: state.label(thread).copied(),
+        clearance: state.clearance(thread).copied(),
+    }
+}
+
+fn gate_bearer(state: &PlainState, gate: ObjectId) -> Bearer
+    ensures { result ≡ gate_bearer (state_of state.now) gate }
+{
+    let clearance = match state.gate(gate) {
+        None => None,
+        Some(gate) => Some(gate.clearance),
+    };
+    Bearer {
+        label: state.label(gate).copied(),
+        clearance,
+    }
+}
+
+fn is_open(
+    state: &PlainState,
+    thread: ObjectId,
+    gate: ObjectId,
+    asked: &Asked,
+    meter: &mut Meter,
+) -> bool
+    ensures { result ≡ may_enter (own_bearer (state_of state.now) thread)
+        (gate_bearer (state_of state.now) gate) asked.now }
+{
+    let own = own_bearer(state, thread);
+    let gate = gate_bearer(state, gate);
+    may_enter(&own, &gate, asked, meter)
+}
+
+/// The three labels that a thread asks of a gate, where they can be stored.
+fn asked_of(
+    raw: &RawLabel,
+    raw_clearance: &RawLabel,
+    raw_verify: &RawLabel,
+    meter: &mut Meter,
+) -> Asked
+    ensures value { result ≡ record {
+        label = stored raw.now;
+        clearance = stored raw_clearance.now;
+        verify = stored raw_verify.now;
+    } }
+    ensures label { IfSome result.label IsStored }
+    ensures clearance { IfSome result.clearance IsStored }
+    ensures verify { IfSome result.verify IsStored }
+{
+    Asked {
+        label: stored_of(raw, meter),
+        clearance: stored_of(raw_clearance, meter),
+        verify: stored_of(raw_verify, meter),
+    }
+}
+
+fn is_unfit(state: &PlainState, raw: &RawLabel, meter: &mut Meter) -> bool
+    ensures { result ≡ is_bad_below (state_of state.now).next_category raw.now }
+{
+    let label = stored_of(raw, meter);
+    state.is_unfit(raw, label.as_ref())
+}
+
+/// What refuses to enter a gate.
+#[tactic(auto, unfolding(kernel_rules::specs::Table::refused))]
+pub fn refused_gate_enter(
+    state: &PlainState,
+    thread: ObjectId,
+    gate: &Entry,
+    raw: &RawLabel,
+    raw_clearance: &RawLabel,
+    raw_verify: &RawLabel,
+    meter: &mut Meter,
+) -> Option<Refusal>
+    ensures { result ≡ refused (state_of state.now) thread
+        (call.GateEnter gate.now raw.now raw_clearance.now raw_verify.now) }
+{
+    let halted = !state.is_live_kind(Kind::Thread, thread);
+    let accessible = state.is_accessible(thread, gate.container, meter);
+    let held = state.holds(gate);
+    let fit = state.is_kind(Kind::Gate, gate.object);
+    let unfit = is_unfit(state, raw, meter);
+    let unfit_clearance = is_unfit(state, raw_clearance, meter);
+    let unfit_verify = is_unfit(state, raw_verify, meter);
+    let asked = asked_of(raw, raw_clearance, raw_verify, meter);
+    let open = is_open(state, thread, gate.object, &asked, meter);
+    let row = [
+        (Refusal::Halted, halted),
+        (Refusal::NoAccess, !accessible),
+        (Refusal::NoEntry, !held),
+        (Refusal::WrongType, !fit),
+        (Refusal::BadLabel, unfit),
+        (Refusal::BadLabel, unfit_clearance),
+        (Refusal::BadLabel, unfit_verify),
+        (Refusal::GateDenied, !open),
+    ];
+    least(&row)
+}
+
+fn enter(state: &mut PlainState, thread: ObjectId, asked: &Asked, gate: &Option<Gate>)
+    requires label { IfSome asked.now.label IsStored }
+    requires clearance { IfSome asked.now.clearance IsStored }
+    requires verify { IfSome asked.now.verify IsStored }
+    ensures { state_of state.new ≡ through_gate (state_of state.old) thread
+        asked.now.label asked.now.clearance asked.now.verify gate.now }
+{
+    if let Some(label) = asked.label {
+        if let Some(clearance) = asked.clearance {
+            if let Some(verify) = asked.verify {
+                if let Some(gate) = gate {
+                    state.enter(thread, label, clearance, verify, gate);
+                }
+            }
+        }
+    }
+}
+
+fn told_by(gate: &Option<Gate>) -> Reply
+    ensures { result ≡ told_by gate.now }
+{
+    match gate {
+        None => Reply::Done,
+        Some(gate) => Reply::Entered {
+            entry_point: gate.entry_point,
+            closure: gate.closure,
+        },
+    }
+}
+
+/// The thread enters a gate: it has the asked labels, and the gate's address space, entry point and
+/// closure.
+pub fn gate_enter(
+    state: &mut PlainState,
+    thread: ObjectId,
+    gate: &Entry,
+    raw: &RawLabel,
+    raw_clearance: &RawLabel,
+    raw_verify: &RawLabel,
+    meter: &mut Meter,
+) -> Reply
+    ensures reply { result ≡ accepted (state_of state.old) thread
+        (call.GateEnter gate.now raw.now raw_clearance.now raw_verify.now) }
+    ensures state { state_of state.new ≡ edit (state_of state.old) thread
+        (call.GateEnter gate.now raw.now raw_clearance.now raw_verify.now) }
+{
+    let asked = asked_of(raw, raw_clearance, raw_verify, meter);
+    let entered = state.gate(gate.object);
+    enter(state, thread, &asked, &entered);
+    told_by(&entered)
+}
