@@ -51,7 +51,7 @@ rise-put o (e ∷ es) y =
     ]
 
 -- what is read off an object is the same everywhere, if it is the same of x and y
-at_put : {X : Type 0} (d : X) (g : Object → X) (s : State) (o q : ℕ) (x y : Object) → object_at s o ≡ Some x
+pub at_put : {X : Type 0} (d : X) (g : Object → X) (s : State) (o q : ℕ) (x y : Object) → object_at s o ≡ Some x
     → g y ≡ g x → of_object d g (object_at (put s o y) q) ≡ of_object d g (object_at s q)
 at_put d g s o q x y found same = ap (of_object d g) (lookup_put o q s.objects x y found) ∙
     elim (is_at (nat_cmp q) o)

@@ -8,7 +8,9 @@ pub mod ListerLaws
 pub mod ListingLaws
 pub mod LookupLaws
 pub mod MadeLaws
+pub mod PlaceLaws
 pub mod RecordLaws
+pub mod ResizeLaws
 pub mod RowLaws
 pub mod StepLaws
 pub mod StoredLaws

@@ -28,7 +28,7 @@ keeps_twice x y z a b = record {
   kind = b.kind ∙ a.kind;
   quota = b.quota ∙ a.quota;
   cost = b.cost ∙ a.cost;
-  fixed = b.fixed ∙ a.fixed;
+  fixed = λ f. b.fixed (a.fixed f);
   whole = λ w. b.whole (a.whole w);
 }
 
@@ -38,7 +38,7 @@ labelled_keeps l label x = record {
   kind = refl;
   quota = refl;
   cost = refl;
-  fixed = refl;
+  fixed = λ f. f;
   whole = λ w. rest (length x.metadata == 64) (is_whole_body x.body) w;
 }
   where
@@ -62,7 +62,7 @@ thread_keeps f whole x = at_body x.body
       kind = refl;
       quota = refl;
       cost = refl;
-      fixed = refl;
+      fixed = λ f. f;
       whole = λ w.
           let outer : ((is_stored x.label && length x.metadata == 64) ≡ true)
           × ((is_stored t.clearance && is_stored t.verify) ≡ true)
@@ -72,15 +72,15 @@ thread_keeps f whole x = at_body x.body
           (is_stored (f t).clearance && is_stored (f t).verify) outer.0 (whole t outer.1);
     }
     at_body (is.Container avoid list) =
-        record { list = refl; kind = refl; quota = refl; cost = refl; fixed = refl; whole = λ w. w }
+        record { list = refl; kind = refl; quota = refl; cost = refl; fixed = λ f. f; whole = λ w. w }
     at_body (is.Segment bytes) =
-        record { list = refl; kind = refl; quota = refl; cost = refl; fixed = refl; whole = λ w. w }
+        record { list = refl; kind = refl; quota = refl; cost = refl; fixed = λ f. f; whole = λ w. w }
     at_body (is.AddressSpace slots) =
-        record { list = refl; kind = refl; quota = refl; cost = refl; fixed = refl; whole = λ w. w }
+        record { list = refl; kind = refl; quota = refl; cost = refl; fixed = λ f. f; whole = λ w. w }
     at_body (is.Gate g) =
-        record { list = refl; kind = refl; quota = refl; cost = refl; fixed = refl; whole = λ w. w }
+        record { list = refl; kind = refl; quota = refl; cost = refl; fixed = λ f. f; whole = λ w. w }
     at_body (is.Device packets) =
-        record { list = refl; kind = refl; quota = refl; cost = refl; fixed = refl; whole = λ w. w }
+        record { list = refl; kind = refl; quota = refl; cost = refl; fixed = λ f. f; whole = λ w. w }
 
 cleared_keeps : (c : LabelValue) → is_stored c ≡ true → (x : Object) → KeepsPlace x (cleared c x)
 cleared_keeps c clearance x =

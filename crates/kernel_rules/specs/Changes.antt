@@ -75,10 +75,6 @@ requeue f (is.AddressSpace slots) = is.AddressSpace slots
 requeue f (is.Thread t) = is.Thread t
 requeue f (is.Gate g) = is.Gate g
 
--- bytes cut off or filled up with zeros to so many
-abbrev pub resized : ℕ → List ℕ → List ℕ
-resized n bytes = take n bytes ++ replicate (n - length bytes) 0
-
 -- the list without an id
 abbrev pub without : ℕ → List ℕ → List ℕ
 without o ids = filter (λ i. not (o == i)) ids

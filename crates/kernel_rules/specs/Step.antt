@@ -12,11 +12,11 @@ use Rattle.kernel_rules.specs.State.{label_at, list_at, packets_at, gate_at, use
 use Rattle.kernel_rules.specs.Translate.{slot_at, place_of}
 use Rattle.kernel_rules.specs.Rows.{own_label, own_clearance, pages_up, pages_down}
 use Rattle.kernel_rules.specs.Table.{refused, query_refused}
-use Rattle.kernel_rules.specs.Changes.{changed, with_body, relist, rebyte, reslot, requeue, resized}
+use Rattle.kernel_rules.specs.Changes.{changed, with_body, relist, rebyte, reslot, requeue}
 use Rattle.kernel_rules.specs.Changes.{fresh_object, owning, listing, delisting, made, joined_at}
 use Rattle.kernel_rules.specs.Changes.{labelled, cleared, spaced, entered, requoted, made_fixed}
 use Rattle.kernel_rules.specs.Changes.{made_immutable, noted}
-use Rattle.kernel_rules.specs.Written.{written}
+use Rattle.kernel_rules.specs.Written.{written, resized}
 use Rattle.kernel_rules.specs.declared.calls.Call.{Call}
 use Rattle.kernel_rules.specs.declared.calls.Call.TheVariants as call
 use Rattle.kernel_rules.specs.declared.calls.Entry.{Entry}

@@ -1,6 +1,6 @@
 //! The bytes of a segment.
 ghost use Rattle.std.specs.Prelude.{◌≡◌, ◌≤◌, ◌+◌, length, replicate, IfOk};
-ghost use Rattle.kernel_rules.specs.Written.{written};
+ghost use Rattle.kernel_rules.specs.Written.{written, resized};
 
 use std::alloc::{AllocError, Global};
 use std::marker::Model;
@@ -27,6 +27,26 @@ impl Bytes {
         Ok(Bytes {
             bytes: vec![in alloc; 0; count]?,
         })
+    }
+
+    /// These bytes. The error is want of memory.
+    pub fn copied(alloc: Global, given: &[u8]) -> Result<Bytes, AllocError>
+        ensures { IfOk result (λ bytes. bytes ≡ given.now) }
+    {
+        let mut bytes = Bytes::zeroed(alloc, given.len())?;
+        bytes.write(0, given);
+        Ok(bytes)
+    }
+
+    /// These bytes cut off or filled up with zeros to so many. The error is want of memory.
+    pub fn resized(&self, alloc: Global, count: usize) -> Result<Bytes, AllocError>
+        ensures { IfOk result (λ bytes. bytes ≡ resized count self.now) }
+    {
+        let old = self.as_slice();
+        let kept = if old.len() < count { old.len() } else { count };
+        let mut bytes = Bytes::zeroed(alloc, count)?;
+        bytes.write(0, &old[..kept]);
+        Ok(bytes)
     }
 
     /// The bytes.
