@@ -10,23 +10,32 @@ use Rattle.call_text.specs.declared.asking.Asked.TheVariants.{Write, Read}
 use Rattle.call_text.specs.declared.known_names.Named.{Named}
 use Rattle.call_text.specs.Place.{object_at, label_at, number_at, wide_at, signed_at, data_at, types_at, entry_at, mapping_at}
 
+-- what a verb asks with these arguments
 abbrev pub asked_of : Verb → List Arg → List Named → Asked
 asked_of verbs.CatCreate xs names = Write calls.CatCreate
 asked_of verbs.SelfSetLabel xs names = Write (calls.SelfSetLabel (label_at 0 xs names))
 asked_of verbs.SelfSetClearance xs names = Write (calls.SelfSetClearance (label_at 0 xs names))
 asked_of verbs.SelfSetAs xs names = Write (calls.SelfSetAs (entry_at 0 xs names))
 asked_of verbs.ContainerCreate xs names =
-    Write (calls.ContainerCreate (object_at 0 xs names) (label_at 1 xs names) (number_at 2 xs) (types_at 3 xs))
+    Write
+    (calls.ContainerCreate (object_at 0 xs names) (label_at 1 xs names) (number_at 2 xs) (types_at 3 xs))
 asked_of verbs.SegmentCreate xs names =
-    Write (calls.SegmentCreate (object_at 0 xs names) (label_at 1 xs names) (number_at 2 xs) (number_at 3 xs))
+    Write
+    (calls.SegmentCreate (object_at 0 xs names) (label_at 1 xs names) (number_at 2 xs) (number_at 3 xs))
 asked_of verbs.SegmentCopy xs names =
-    Write (calls.SegmentCopy (object_at 0 xs names) (label_at 1 xs names) (number_at 2 xs) (entry_at 3 xs names))
+    Write
+    (calls.SegmentCopy (object_at 0 xs names) (label_at 1 xs names) (number_at 2 xs)
+    (entry_at 3 xs names))
 asked_of verbs.AsCreate xs names =
     Write (calls.AsCreate (object_at 0 xs names) (label_at 1 xs names) (number_at 2 xs))
 asked_of verbs.ThreadCreate xs names =
-    Write (calls.ThreadCreate (object_at 0 xs names) (label_at 1 xs names) (number_at 2 xs) (label_at 3 xs names) (wide_at 4 xs))
+    Write
+    (calls.ThreadCreate (object_at 0 xs names) (label_at 1 xs names) (number_at 2 xs)
+    (label_at 3 xs names) (wide_at 4 xs))
 asked_of verbs.GateCreate xs names =
-    Write (calls.GateCreate (object_at 0 xs names) (label_at 1 xs names) (number_at 2 xs) (label_at 3 xs names) (entry_at 4 xs names) (wide_at 6 xs) (wide_at 7 xs))
+    Write
+    (calls.GateCreate (object_at 0 xs names) (label_at 1 xs names) (number_at 2 xs)
+    (label_at 3 xs names) (entry_at 4 xs names) (wide_at 6 xs) (wide_at 7 xs))
 asked_of verbs.Link xs names = Write (calls.Link (object_at 0 xs names) (entry_at 1 xs names))
 asked_of verbs.Unref xs names = Write (calls.Unref (entry_at 0 xs names))
 asked_of verbs.QuotaMove xs names = Write (calls.QuotaMove (entry_at 0 xs names) (signed_at 2 xs))
@@ -42,7 +51,9 @@ asked_of verbs.AsMap xs names =
 asked_of verbs.AsUnmap xs names = Write (calls.AsUnmap (entry_at 0 xs names) (number_at 2 xs))
 asked_of verbs.Store xs names = Write (calls.Store (wide_at 0 xs) (data_at 1 xs))
 asked_of verbs.GateEnter xs names =
-    Write (calls.GateEnter (entry_at 0 xs names) (label_at 2 xs names) (label_at 3 xs names) (label_at 4 xs names))
+    Write
+    (calls.GateEnter (entry_at 0 xs names) (label_at 2 xs names) (label_at 3 xs names)
+    (label_at 4 xs names))
 asked_of verbs.DevSend xs names = Write (calls.DevSend (entry_at 0 xs names) (data_at 2 xs))
 asked_of verbs.DevRecv xs names = Write (calls.DevRecv (entry_at 0 xs names))
 asked_of verbs.SelfGet xs names = Read queries.SelfGet

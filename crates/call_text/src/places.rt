@@ -157,7 +157,8 @@ pub fn make_entry<K: Known>(args: &[Arg], place: usize, names: &K) -> Entry
     }
 }
 
-/// The mapping at six places: a virtual page, an entry, a page of the segment, how many pages, and rights.
+/// The mapping at six places: a virtual page, an entry, a page of the segment, how many pages, and
+/// rights.
 pub fn make_mapping<K: Known>(args: &[Arg], place: usize, names: &K) -> Mapping
     requires { place < 2 ^ 59 }
     ensures { result ≡ mapping_at place args.now (K.names names.now) }

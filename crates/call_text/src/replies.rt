@@ -86,7 +86,8 @@ fn put_mapping<K: Known>(
 
 /// Adds the reply.
 pub fn put_reply<K: Known>(out: &mut Vec<u8>, reply: &Reply, names: &K) -> Result<(), NoMemory>
-    ensures { OnOk result (out.new.items ≡ out.old.items ++ reply_text (K.names names.now) reply.now) }
+    ensures { OnOk result (out.new.items
+        ≡ out.old.items ++ reply_text (K.names names.now) reply.now) }
 {
     match *reply {
         Reply::Done => put_words(out, Head::Ok, &[], names),
@@ -131,8 +132,8 @@ pub fn put_reply<K: Known>(out: &mut Vec<u8>, reply: &Reply, names: &K) -> Resul
     }
 }
 
-/// The one spelling of the reply. An object or a category is printed as the first name in the list that is bound to it,
-/// and as `#` and its number where there is none.
+/// The one spelling of the reply. An object or a category is printed as the first name in the list
+/// that is bound to it, and as `#` and its number where there is none.
 pub fn write_reply(alloc: Global, reply: &Reply, names: &[Named]) -> Result<Vec<u8>, NoMemory>
     ensures { IfOk result (λ out. out.items ≡ reply_text names.now reply.now) }
 {

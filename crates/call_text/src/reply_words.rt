@@ -68,7 +68,8 @@ impl Head {
 
 /// Adds the name of the value, or its number where it has none.
 fn put_value<K: Known>(out: &mut Vec<u8>, value: &Value, names: &K) -> Result<(), AllocError>
-    ensures { OnOk result (out.new.items ≡ out.old.items ++ value_text (K.names names.now) value.now) }
+    ensures { OnOk result (out.new.items
+        ≡ out.old.items ++ value_text (K.names names.now) value.now) }
 {
     if let Some(name) = names.name_of(value) {
         return put_name(out, &name);
@@ -94,7 +95,8 @@ fn put_pair<K: Known>(out: &mut Vec<u8>, pair: &Pair, names: &K) -> Result<(), A
 
 /// Adds the label.
 fn put_raw_label<K: Known>(out: &mut Vec<u8>, label: &RawLabel, names: &K) -> Result<(), AllocError>
-    ensures { OnOk result (out.new.items ≡ out.old.items ++ label_text (K.names names.now) label.now) }
+    ensures { OnOk result (out.new.items
+        ≡ out.old.items ++ label_text (K.names names.now) label.now) }
 {
     out.push(b'{')?;
     for pair in label.pairs.as_slice() {
@@ -134,7 +136,8 @@ fn put_refusal(out: &mut Vec<u8>, refusal: Refusal) -> Result<(), AllocError>
 
 /// Adds the word.
 fn put_word<K: Known>(out: &mut Vec<u8>, word: &Word, names: &K) -> Result<(), NoMemory>
-    ensures { OnOk result (out.new.items ≡ out.old.items ++ word_text (K.names names.now) word.now) }
+    ensures { OnOk result (out.new.items
+        ≡ out.old.items ++ word_text (K.names names.now) word.now) }
 {
     match word {
         Word::Object(id) => put_value(out, &Value::Object(*id), names)?,
@@ -152,7 +155,8 @@ fn put_word<K: Known>(out: &mut Vec<u8>, word: &Word, names: &K) -> Result<(), N
 
 /// Adds a space and the word.
 pub fn put_further<K: Known>(out: &mut Vec<u8>, word: &Word, names: &K) -> Result<(), NoMemory>
-    ensures { OnOk result (out.new.items ≡ out.old.items ++ 32 ∷ word_text (K.names names.now) word.now) }
+    ensures { OnOk result (out.new.items
+        ≡ out.old.items ++ 32 ∷ word_text (K.names names.now) word.now) }
 {
     out.push(b' ')?;
     put_word(out, word, names)
@@ -165,7 +169,8 @@ pub fn put_words<K: Known>(
     more: &[Word],
     names: &K,
 ) -> Result<(), NoMemory>
-    ensures { OnOk result (out.new.items ≡ out.old.items ++ words_text (K.names names.now) first more.now) }
+    ensures { OnOk result (out.new.items
+        ≡ out.old.items ++ words_text (K.names names.now) first more.now) }
 {
     out.extend_from_slice(first.text().as_bytes())?;
     for word in more {

@@ -9,7 +9,8 @@ use std::alloc::{AllocError, Global};
 use std::marker::Model;
 use text_words::Name;
 
-/// Names with what they are bound to, in the order in which they were bound. A contract sees their list.
+/// Names with what they are bound to, in the order in which they were bound. A contract sees their
+/// list.
 #[derive(Drop)]
 pub struct BoundNames {
     values: IndexMap<Name, Value>,
@@ -40,7 +41,8 @@ impl BoundNames {
         Ok(names)
     }
 
-    /// Binds a name. One that is bound already stays bound to what it was. An `Err` changes nothing.
+    /// Binds a name. One that is bound already stays bound to what it was. An `Err` changes
+    /// nothing.
     pub fn bind(&mut self, named: &Named) -> Result<(), AllocError>
         ensures ok { OnOk result (self.new ≡ bound named.now self.old) }
         ensures err { OnErr result (self.new ≡ self.old) }

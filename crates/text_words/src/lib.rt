@@ -1,4 +1,5 @@
-//! The words of texts: numbers, levels, data, names, ids and categories, sets of kinds, rights, and labels.
+//! The words of texts: numbers, levels, data, names, ids and categories, sets of kinds, rights and
+//! labels.
 //!
 //! Each value has one spelling. A reader answers the value whose spelling the word is, and None exactly where there is
 //! none; a writer adds that spelling. Which words make a line is left to the crates above.
