@@ -30,6 +30,29 @@ abbrev pub covers : ℕ → Option Mapping → Bool
 covers page None = false
 covers page (Some m) = nat_le m.page page && nat_lt page (m.page + m.count)
 
+-- the place in a segment at page n of which an address lies, unless that is past the segment's end
+abbrev pub place_at : State → ℕ → ℕ → ℕ × Rights → Option Place
+place_at s address n shown =
+    if nat_lt n (page_count s shown.0)
+    then Some (record {
+      segment = shown.0;
+      offset = 256 * n + address % 256;
+      rights = shown.1;
+    })
+    else None
+
+-- where an address lies by this mapping, which covers it, and its translation
+abbrev pub place_by : State → ℕ → Option Mapping → Option (ℕ × Rights) → Option Place
+place_by s address (Some m) (Some shown) =
+    place_at s address (m.first + (address / 256 - m.page)) shown
+place_by s address (Some m) None = None
+place_by s address None shown = None
+
+-- the slots of the address space that this entry names
+abbrev pub slots_through : State → Option Entry → List (Option Mapping)
+slots_through s None = []
+slots_through s (Some e) = slots_at s e.object
+
 -- the calling thread is t
 module _ (s : State) (t : ℕ) where
   -- the entry is one now: the thread observes its live container and its object, which is listed
@@ -64,36 +87,13 @@ module _ (s : State) (t : ℕ) where
   unfoldable pub translate : ℕ → Option (ℕ × Rights)
   translate i = through_space i own_space
 
-  -- the place in a segment at page n of which an address lies, unless that is past the segment's end
-  abbrev pub place_at : ℕ → ℕ → ℕ × Rights → Option Place
-  place_at address n shown =
-      if nat_lt n (page_count s shown.0)
-      then Some (record {
-        segment = shown.0;
-        offset = 256 * n + address % 256;
-        rights = shown.1;
-      })
-      else None
-
-  -- where an address lies by this mapping, which covers it, and its translation
-  abbrev pub place_by : ℕ → Option Mapping → Option (ℕ × Rights) → Option Place
-  place_by address (Some m) (Some shown) =
-      place_at address (m.first + (address / 256 - m.page)) shown
-  place_by address (Some m) None = None
-  place_by address None shown = None
-
   -- where an address lies by these slots, of which the first is slot i
   abbrev pub place_among : ℕ → ℕ → List (Option Mapping) → Option Place
   place_among address i [] = None
   place_among address i (m ∷ ms) =
-      if covers (address / 256) m then place_by address m (translate i)
+      if covers (address / 256) m then place_by s address m (translate i)
       else place_among address (i + 1) ms
-
-  -- the slots of the address space that this entry names
-  abbrev pub slots_through : Option Entry → List (Option Mapping)
-  slots_through None = []
-  slots_through (Some e) = slots_at s e.object
 
   -- where an address of the thread lies
   unfoldable pub place_of : ℕ → Option Place
-  place_of address = place_among address 0 (slots_through own_space)
+  place_of address = place_among address 0 (slots_through s own_space)

@@ -7,7 +7,7 @@ use Rattle.std.proofs.lemmas.Bool.{ltb-false}
 use Rattle.std.proofs.lemmas.List.{length-replicate}
 use Rattle.base.specs.declared.sets.TypeSet.{TypeSet}
 use Rattle.label_lattice.specs.declared.raw_labels.RawLabel.{RawLabel}
-use Rattle.kernel_rules.specs.State.{State, bytes_at}
+use Rattle.kernel_rules.specs.State.{State, list_at}
 use Rattle.kernel_rules.specs.Rows.{halted, is_shape}
 use Rattle.kernel_rules.specs.Table.{refused, query_refused, row, query_row}
 use Rattle.kernel_rules.specs.Fitting.{IsFitting}
@@ -34,3 +34,10 @@ container_fits s t d x q avoid kinds h =
         whole = refl;
     }
 
+-- where nothing refuses to read the list, it reaches as far as is asked
+pub list_reaches : (s : State) (t d from : ℕ) → query_refused s t (query.ContainerList d from) ≡ None
+    → from ≤ length (list_at s d)
+unfolding query_refused
+list_reaches s t d from h =
+    let none = none_hold (halted s t ++ query_row s t (query.ContainerList d from)) h in
+    ltb-false _ _ none.1.1.0

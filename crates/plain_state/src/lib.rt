@@ -7,13 +7,17 @@ mod boots;
 mod changes;
 mod edits;
 mod link_edits;
+mod link_reads;
 mod links;
+mod memory_changes;
+mod memory_edits;
 mod reads;
 mod records;
 mod rows;
 mod states;
 mod thread_changes;
 mod thread_edits;
+mod translations;
 
 pub use boots::{BootRefusal, uniform};
 pub use reads::has_shape;

@@ -6,13 +6,14 @@ ghost use Rattle.kernel_rules.specs.State.{object_at, is_kind, is_kind_at, is_li
 ghost use Rattle.kernel_rules.specs.State.{is_accessible, observes, flows_to, holds, bytes_at};
 ghost use Rattle.kernel_rules.specs.State.{label_at, clearance_at, is_immutable, quota_at, list_at};
 ghost use Rattle.kernel_rules.specs.State.{cost_at, use_of, avoids_at, page_count, gate_at};
+ghost use Rattle.kernel_rules.specs.State.{packets_at};
 ghost use Rattle.kernel_rules.specs.Rows.{is_shape};
 ghost use Rattle.kernel_rules.specs.Changes.{joined_at};
 ghost use Rattle.plain_state.specs.StateOf.{state_of};
 ghost use Rattle.base.specs.declared.kinds.Kind.TheVariants as kinds;
 
 use crate::states::PlainState;
-use base::{Kind, Meter, ObjectId, TypeSet};
+use base::{Data, Kind, Meter, ObjectId, TypeSet};
 use kernel_rules::{Body, Entry, Gate, Object};
 use label_lattice::Label;
 use threads_gates::{is_below, is_visible};
@@ -147,7 +148,8 @@ impl PlainState {
         }
     }
 
-    fn is_listed(&self, container: ObjectId, id: ObjectId) -> bool
+    /// Whether a container lists an id.
+    pub fn is_listed(&self, container: ObjectId, id: ObjectId) -> bool
         ensures { result ≡ has (list_at (state_of self.now) container) id }
     {
         self.list(container).iter().any(|listed| id == *listed)
@@ -172,6 +174,29 @@ impl PlainState {
                     ..
                 },
             ) => bytes.as_slice(),
+            _ => &[],
+        }
+    }
+
+    /// The whole pages of a segment, of 256 bytes: 0 for any other object.
+    pub fn page_count(&self, id: ObjectId) -> u32
+        ensures { result ≡ page_count (state_of self.now) id }
+    {
+        let _ = &self.records;
+        (self.bytes(id).len() / 256) as u32
+    }
+
+    /// A device's packets, the first one first, and none for any other object.
+    pub fn packets(&self, id: ObjectId) -> &[Data]
+        ensures { result.now ≡ packets_at (state_of self.now) id }
+    {
+        match self.object(id) {
+            Some(
+                Object {
+                    body: Body::Device(packets),
+                    ..
+                },
+            ) => packets.as_slice(),
             _ => &[],
         }
     }

@@ -13,7 +13,7 @@ pub struct Slots {
 impl Slots {
     /// Sixteen empty slots.
     pub fn empty() -> Slots
-        ensures { result.slots ≡ replicate 16 None }
+        ensures { result ≡ record { slots = replicate 16 None } }
     {
         Slots { slots: [None; 16] }
     }

@@ -1,0 +1,15 @@
+use Rattle.std.proofs.Common.{sym, subst, List, ℕ}
+use Rattle.kernel_rules.specs.Fitting.{IsFitting}
+use Rattle.kernel_rules.specs.declared.objects.Body.TheVariants as is
+use Rattle.plain_state.specs.StateOf.{state_of}
+use Rattle.plain_links.proofs.ContainerLaws.{container_fits}
+use Rattle.plain_links.proofs.containers.container_create.Goals as goal
+
+pub create-requires-clause-fitting : goal.create-requires-clause-fitting
+create-requires-clause-fitting c =
+    let P : List ℕ → Type 0 =
+    λ ids. IsFitting (state_of c.args.state.now) c.args.container c.args.quota
+    (is.Container c.joined-kinds.result ids) in
+    subst P (sym c.new.ensures)
+    (container_fits (state_of c.args.state.now) c.args.thread c.args.container c.args.raw.now
+    c.args.quota c.args.avoid c.joined-kinds.result c.requires)

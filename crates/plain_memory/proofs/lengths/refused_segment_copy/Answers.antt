@@ -1,0 +1,30 @@
+use Rattle.std.proofs.Common.{◌∙◌, ◌++◌, ◌+◌}
+use Rattle.base.specs.declared.kinds.Kind.TheVariants as kinds
+use Rattle.kernel_rules.specs.Rows.{halted, in_container, of_kind, observed, new_object, refusal_of}
+use Rattle.kernel_rules.specs.State.{page_count}
+use Rattle.kernel_rules.specs.Table.{refused}
+use Rattle.kernel_rules.proofs.RowLaws.{joined_rows}
+use Rattle.plain_state.specs.StateOf.{state_of}
+use Rattle.plain_memory.proofs.lengths.refused_segment_copy.Goals as goal
+
+pub returns : goal.returns
+unfolding refused
+returns c =
+    c.least_of-2.ensures
+    ∙ joined_rows (halted (state_of c.args.state.now) c.args.thread)
+    (in_container (state_of c.args.state.now) c.args.thread c.args.source.now
+    ++ of_kind (state_of c.args.state.now) c.args.thread kinds.Segment c.args.source.now.object
+    ++ observed (state_of c.args.state.now) c.args.thread c.args.source.now.object
+    ++ new_object (state_of c.args.state.now) c.args.thread kinds.Segment c.args.container c.args.raw.now
+    c.args.quota (1 + page_count (state_of c.args.state.now) c.args.source.now.object)) _ _
+    c.halted-halted.ensures
+    (c.least_of.ensures
+    ∙ joined_rows
+    (in_container (state_of c.args.state.now) c.args.thread c.args.source.now
+    ++ of_kind (state_of c.args.state.now) c.args.thread kinds.Segment c.args.source.now.object
+    ++ observed (state_of c.args.state.now) c.args.thread c.args.source.now.object)
+    (new_object (state_of c.args.state.now) c.args.thread kinds.Segment c.args.container c.args.raw.now
+    c.args.quota (1 + page_count (state_of c.args.state.now) c.args.source.now.object)) _ _
+    c.refused_source-unread.ensures
+    (c.new_object-fresh.ensures ∙ (λ i. refusal_of (new_object (state_of c.args.state.now) c.args.thread kinds.Segment
+    c.args.container c.args.raw.now c.args.quota (1 + c.page_count.ensures i)))))

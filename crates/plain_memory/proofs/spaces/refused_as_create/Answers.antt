@@ -1,0 +1,15 @@
+use Rattle.std.proofs.Common.{◌∙◌}
+use Rattle.base.specs.declared.kinds.Kind.TheVariants as kinds
+use Rattle.kernel_rules.specs.Rows.{halted, new_object}
+use Rattle.kernel_rules.specs.Table.{refused}
+use Rattle.kernel_rules.proofs.RowLaws.{joined_rows}
+use Rattle.plain_state.specs.StateOf.{state_of}
+use Rattle.plain_memory.proofs.spaces.refused_as_create.Goals as goal
+
+pub returns : goal.returns
+unfolding refused
+returns c =
+    c.least_of.ensures
+    ∙ joined_rows (halted (state_of c.args.state.now) c.args.thread)
+    (new_object (state_of c.args.state.now) c.args.thread kinds.AddressSpace c.args.container
+    c.args.raw.now c.args.quota 1) _ _ c.halted-halted.ensures c.new_object-fresh.ensures
