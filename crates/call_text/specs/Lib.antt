@@ -5,6 +5,8 @@ pub mod Names
 pub mod Reading
 pub mod Refused
 pub mod Known
+pub mod ReplyWord
 pub mod Reply
 pub mod Place
+pub mod Asked
 pub mod Resolve

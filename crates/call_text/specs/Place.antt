@@ -1,12 +1,14 @@
 -- What stands at the places of a call, with the names that are known.
 -- A place of another kind has 0, or nothing.
-use Rattle.std.specs.Prelude.{ℕ, ◌+◌, List, [], map, slice_get, Option, Some, None}
+use Rattle.std.specs.Prelude.{ℕ, ℤ, pos, ◌+◌, List, [], map, slice_get, Option, Some, None}
 use Rattle.base.specs.declared.ids.Category.{Category as Cat}
 use Rattle.base.specs.declared.levels.Level.TheVariants.{Star}
+use Rattle.base.specs.declared.sets.Rights.{Rights}
 use Rattle.base.specs.declared.sets.TypeSet.{TypeSet}
 use Rattle.label_lattice.specs.declared.pairings.Pair.{Pair}
 use Rattle.label_lattice.specs.declared.raw_labels.RawLabel.{RawLabel}
 use Rattle.kernel_rules.specs.declared.calls.Entry.{Entry}
+use Rattle.kernel_rules.specs.declared.objects.Mapping.{Mapping}
 use Rattle.text_words.specs.declared.references.Reference.{Reference}
 use Rattle.text_words.specs.declared.references.Reference.TheVariants.{Number, Name}
 use Rattle.text_words.specs.declared.spoken_labels.SpokenPair.{SpokenPair}
@@ -64,6 +66,16 @@ number_in (Some (args.Number n)) = n
 number_in (Some _) = 0
 number_in None = 0
 
+abbrev pub wide_in : Option Arg → ℕ
+wide_in (Some (args.Wide n)) = n
+wide_in (Some _) = 0
+wide_in None = 0
+
+abbrev pub signed_in : Option Arg → ℤ
+signed_in (Some (args.Signed z)) = z
+signed_in (Some _) = pos 0
+signed_in None = pos 0
+
 abbrev pub data_in : Option Arg → List ℕ
 data_in (Some (args.Data d)) = d
 data_in (Some _) = []
@@ -73,6 +85,11 @@ abbrev pub types_in : Option Arg → TypeSet
 types_in (Some (args.Types s)) = s
 types_in (Some _) = record { 0 = 0 }
 types_in None = record { 0 = 0 }
+
+abbrev pub rights_in : Option Arg → Rights
+rights_in (Some (args.Rights r)) = r
+rights_in (Some _) = record { 0 = 0 }
+rights_in None = record { 0 = 0 }
 
 -- the object at a place, and so for each kind
 abbrev pub object_at : ℕ → List Arg → List Named → ℕ
@@ -84,13 +101,32 @@ label_at i xs names = label_in (slice_get xs i) names
 abbrev pub number_at : ℕ → List Arg → ℕ
 number_at i xs = number_in (slice_get xs i)
 
+abbrev pub wide_at : ℕ → List Arg → ℕ
+wide_at i xs = wide_in (slice_get xs i)
+
+abbrev pub signed_at : ℕ → List Arg → ℤ
+signed_at i xs = signed_in (slice_get xs i)
+
 abbrev pub data_at : ℕ → List Arg → List ℕ
 data_at i xs = data_in (slice_get xs i)
 
 abbrev pub types_at : ℕ → List Arg → TypeSet
 types_at i xs = types_in (slice_get xs i)
 
+abbrev pub rights_at : ℕ → List Arg → Rights
+rights_at i xs = rights_in (slice_get xs i)
+
 -- a container, and after it an object
 abbrev pub entry_at : ℕ → List Arg → List Named → Entry
 entry_at i xs names =
     record { container = object_at i xs names; object = object_at (i + 1) xs names }
+
+-- a virtual page, an entry, a page of the segment, how many pages, and rights
+abbrev pub mapping_at : ℕ → List Arg → List Named → Mapping
+mapping_at i xs names = record {
+  page = number_at i xs;
+  entry = entry_at (i + 1) xs names;
+  first = number_at (i + 3) xs;
+  count = number_at (i + 4) xs;
+  rights = rights_at (i + 5) xs;
+}

@@ -1,61 +1,52 @@
 -- The spelling of replies.
-use Rattle.std.specs.Prelude.{ℕ, List, [], ◌∷◌, ◌++◌, Option, Some, None, codes, decimal}
-use Rattle.std.specs.List.{flat_map}
-use Rattle.base.specs.declared.refusals.Refusal.{Refusal as Refusals}
-use Rattle.base.specs.Refusal.{row_of}
+use Rattle.std.specs.Prelude.{ℕ, Bool, List, [], ◌∷◌, map, Option, Some, None}
+use Rattle.label_lattice.specs.Label.{LabelValue}
+use Rattle.kernel_rules.specs.declared.calls.Entry.{Entry}
+use Rattle.kernel_rules.specs.declared.objects.Mapping.{Mapping}
 use Rattle.kernel_rules.specs.declared.replies.Reply.{Reply}
 use Rattle.kernel_rules.specs.declared.replies.Reply.TheVariants as replies
-use Rattle.text_words.specs.DataWord.{data_text}
 use Rattle.call_text.specs.declared.known_names.Named.{Named}
-use Rattle.call_text.specs.declared.known_names.Value.{Value}
-use Rattle.call_text.specs.declared.known_names.Value.TheVariants as values
-use Rattle.call_text.specs.declared.replies.Head.{Head}
-use Rattle.call_text.specs.declared.replies.Head.TheVariants as heads
-use Rattle.call_text.specs.declared.replies.Word.{Word}
-use Rattle.call_text.specs.declared.replies.Word.TheVariants as words
-use Rattle.call_text.specs.Known.{name_of}
+use Rattle.call_text.specs.declared.reply_words.Head.TheVariants as heads
+use Rattle.call_text.specs.declared.reply_words.Word.{Word}
+use Rattle.call_text.specs.declared.reply_words.Word.TheVariants as words
+use Rattle.call_text.specs.ReplyWord.{words_text}
 
--- the first word
-abbrev pub head_text : Head → List ℕ
-head_text heads.Ok = codes "ok"
-head_text heads.Cat = codes "cat"
-head_text heads.Id = codes "id"
-head_text heads.Data = codes "data"
-head_text heads.Refused = codes "refused"
+-- the words of what a slot maps
+abbrev pub mapping_words : Option Mapping → List Word
+mapping_words None = words.Nothing ∷ []
+mapping_words (Some m) =
+    words.Number m.page ∷ words.Object m.entry.container ∷ words.Object m.entry.object
+    ∷ words.Number m.first ∷ words.Number m.count ∷ words.Rights m.rights ∷ []
 
--- a value's number
-abbrev pub number_of : Value → ℕ
-number_of (values.Object id) = id
-number_of (values.Category c) = c.0
+-- the words of what a thread is
+abbrev pub own_words : LabelValue → LabelValue → LabelValue → Entry → ℕ → ℕ → List Word
+own_words label clearance verify space point closure =
+    words.Label label ∷ words.Label clearance ∷ words.Label verify ∷ words.Object space.container
+    ∷ words.Object space.object ∷ words.Number point ∷ words.Number closure ∷ []
 
--- the name, or the number behind a #
-abbrev pub name_or_number : Option (List ℕ) → ℕ → List ℕ
-name_or_number (Some name) n = name
-name_or_number None n = 35 ∷ decimal n
-
--- the first name that is bound to the value, or its number
-abbrev pub value_text : List Named → Value → List ℕ
-value_text names v = name_or_number (name_of v names) (number_of v)
-
--- a refusal's number and name
-abbrev pub refusal_text : Refusals → List ℕ
-refusal_text r = decimal (row_of r).number ++ 32 ∷ (row_of r).name
-
--- a further word
-abbrev pub word_text : List Named → Word → List ℕ
-word_text names (words.Object id) = value_text names (values.Object id)
-word_text names (words.Category c) = value_text names (values.Category c)
-word_text names (words.Data d) = data_text d
-word_text names (words.Refusal r) = refusal_text r
-
--- the words, parted by single spaces
-abbrev pub words_text : List Named → Head → List Word → List ℕ
-words_text names first more = head_text first ++ flat_map (λ w. 32 ∷ word_text names w) more
+-- the words of what an object may use and uses, and whether its quota is fixed and it is immutable
+abbrev pub quota_words : ℕ → ℕ → Bool → Bool → List Word
+quota_words quota used fixed immutable =
+    words.Number quota ∷ words.Number used ∷ words.Flag fixed ∷ words.Flag immutable ∷ []
 
 -- the table of replies
 abbrev pub reply_text : List Named → Reply → List ℕ
 reply_text names replies.Done = words_text names heads.Ok []
 reply_text names (replies.Category c) = words_text names heads.Cat (words.Category c ∷ [])
 reply_text names (replies.Object id) = words_text names heads.Id (words.Object id ∷ [])
+reply_text names (replies.Entered point closure) =
+    words_text names heads.Entered (words.Number point ∷ words.Number closure ∷ [])
 reply_text names (replies.Bytes d) = words_text names heads.Data (words.Data d ∷ [])
+reply_text names (replies.Own label clearance verify space point closure) =
+    words_text names heads.Own
+    (own_words label clearance verify space point closure)
+reply_text names (replies.Label l) = words_text names heads.Label (words.Label l ∷ [])
+reply_text names (replies.Quota quota used fixed immutable) =
+    words_text names heads.Quota
+    (quota_words quota used fixed immutable)
+reply_text names (replies.Listed count ids) =
+    words_text names heads.List (words.Number count ∷ map words.Object ids)
+reply_text names (replies.Parent id) = words_text names heads.Parent (words.Object id ∷ [])
+reply_text names (replies.Pages pages) = words_text names heads.Pages (words.Number pages ∷ [])
+reply_text names (replies.Mapping m) = words_text names heads.Mapping (mapping_words m)
 reply_text names (replies.Refused r) = words_text names heads.Refused (words.Refusal r ∷ [])

@@ -1,22 +1,17 @@
 -- What a spoken call asks, with the names that are known.
 use Rattle.std.specs.Prelude.{ℕ, List, [], ◌∷◌, Option, Some, None, Result, Ok, Err}
-use Rattle.kernel_rules.specs.declared.calls.Call.TheVariants as calls
-use Rattle.kernel_rules.specs.declared.calls.Query.TheVariants as queries
 use Rattle.text_words.specs.declared.references.Reference.{Reference}
 use Rattle.text_words.specs.declared.references.Reference.TheVariants.{Number, Name}
 use Rattle.text_words.specs.declared.spoken_labels.SpokenPair.{SpokenPair}
 use Rattle.text_rows.specs.declared.args.Arg.{Arg}
 use Rattle.text_rows.specs.declared.args.Arg.TheVariants as args
-use Rattle.text_rows.specs.declared.verbs.Verb.{Verb}
-use Rattle.text_rows.specs.declared.verbs.Verb.TheVariants as verbs
 use Rattle.text_rows.specs.Row.{Spoken}
 use Rattle.call_text.specs.declared.known_names.Named.{Named}
 use Rattle.call_text.specs.declared.known_names.Value.{Value}
 use Rattle.call_text.specs.declared.known_names.Value.TheVariants.{Object, Category}
-use Rattle.call_text.specs.declared.resolving.Asked.{Asked}
-use Rattle.call_text.specs.declared.resolving.Asked.TheVariants.{Write, Read}
+use Rattle.call_text.specs.declared.asking.Asked.{Asked}
+use Rattle.call_text.specs.Asked.{asked_of}
 use Rattle.call_text.specs.Known.{value_of}
-use Rattle.call_text.specs.Place.{object_at, label_at, number_at, data_at, types_at, entry_at}
 
 -- the name, unless it is an object's
 abbrev pub unless_object : List ℕ → Option Value → Option (List ℕ)
@@ -54,26 +49,17 @@ unbound_pair (p ∷ ps) names = or_else (unbound_category p.category names) (unb
 abbrev pub unbound_in : Arg → List Named → Option (List ℕ)
 unbound_in (args.Object r) names = unbound_object r names
 unbound_in (args.Number n) names = None
+unbound_in (args.Wide n) names = None
+unbound_in (args.Signed n) names = None
 unbound_in (args.Label l) names = unbound_pair l.pairs names
 unbound_in (args.Data d) names = None
 unbound_in (args.Types s) names = None
+unbound_in (args.Rights r) names = None
 
 -- the first such name, in the order of the words
 abbrev pub first_unbound : List Arg → List Named → Option (List ℕ)
 first_unbound [] names = None
 first_unbound (a ∷ more) names = or_else (unbound_in a names) (first_unbound more names)
-
--- the table of what verbs ask
-abbrev pub asked_of : Verb → List Arg → List Named → Asked
-asked_of verbs.CatCreate xs names = Write calls.CatCreate
-asked_of verbs.ContainerCreate xs names =
-    Write (calls.ContainerCreate (object_at 0 xs names) (label_at 1 xs names) (number_at 2 xs) (types_at 3 xs))
-asked_of verbs.SegmentCreate xs names =
-    Write (calls.SegmentCreate (object_at 0 xs names) (label_at 1 xs names) (number_at 2 xs) (number_at 3 xs))
-asked_of verbs.SegmentWrite xs names =
-    Write (calls.SegmentWrite (entry_at 0 xs names) (number_at 2 xs) (data_at 3 xs))
-asked_of verbs.SegmentRead xs names =
-    Read (queries.SegmentRead (entry_at 0 xs names) (number_at 2 xs) (number_at 3 xs))
 
 -- an unbound name, or else what is asked
 abbrev pub or_unbound : Option (List ℕ) → Asked → Result Asked (List ℕ)

@@ -14,6 +14,19 @@ pub enum Value {
     Category(Category),
 }
 
+impl Value {
+    /// Whether both are one object, or one category.
+    pub fn is_same(&self, other: &Value) -> bool
+        ensures { result ≡ is_value self.now other.now }
+    {
+        match (self, other) {
+            (Value::Object(a), Value::Object(b)) => a.number() == b.number(),
+            (Value::Category(a), Value::Category(b)) => a.0 == b.0,
+            _ => false,
+        }
+    }
+}
+
 /// A name with what it is bound to.
 #[derive(Clone, Copy)]
 pub struct Named {
@@ -91,21 +104,11 @@ fn value_in(named: &[Named], name: &Name) -> Option<Value>
     None
 }
 
-fn is_value(one: &Value, other: &Value) -> bool
-    ensures { result ≡ is_value one.now other.now }
-{
-    match (one, other) {
-        (Value::Object(a), Value::Object(b)) => a.number() == b.number(),
-        (Value::Category(a), Value::Category(b)) => a.0 == b.0,
-        _ => false,
-    }
-}
-
 fn name_in(named: &[Named], value: &Value) -> Option<Name>
     ensures { result ≡ name_of value.now named.now }
 {
     for entry in named {
-        if is_value(&entry.value, value) {
+        if entry.value.is_same(value) {
             return Some(entry.name);
         }
     }

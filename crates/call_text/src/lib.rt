@@ -5,6 +5,7 @@
 //! so is playing it.
 #![tactic(auto)]
 
+mod asking;
 mod errors;
 mod known_names;
 mod lines;
@@ -12,18 +13,24 @@ mod parting;
 mod phases;
 mod places;
 mod replies;
+mod reply_words;
 mod resolving;
 mod script_writing;
 mod scripts;
 
+pub use asking::Asked;
 pub use errors::ScriptError;
 pub use known_names::{Known, NameList, Named, Value, start_names};
 pub use lines::{Written, read_line};
 pub use phases::{Line, Phase, Script};
 pub use replies::{put_reply, write_reply};
-pub use resolving::{Asked, resolve};
+pub use resolving::resolve;
 pub use script_writing::write_script;
 pub use scripts::{one_reading, read_script};
 
+#[cfg(test)]
+mod call_tests;
+#[cfg(test)]
+mod reply_tests;
 #[cfg(test)]
 mod tests;

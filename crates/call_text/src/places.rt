@@ -1,11 +1,12 @@
 //! The values that stand at the places of a call. A place of another kind has 0, or nothing.
 ghost use Rattle.std.specs.Prelude.{◌≡◌, ◌<◌, ◌^◌, ◌+◌};
-ghost use Rattle.call_text.specs.Place.{as_object, object_of, category_of, raw_of, object_at, label_at, number_at, data_at, types_at, entry_at};
+ghost use Rattle.call_text.specs.Place.{as_object, object_of, category_of, raw_of, object_at, label_at, number_at, wide_at, signed_at, data_at, types_at, rights_at, entry_at, mapping_at};
 
 use crate::known_names::{Known, Value};
-use base::{Category, Data, Level, ObjectId, TypeSet};
+use base::{Category, Data, Level, ObjectId, Rights, TypeSet};
+use bitflags::Flags;
+use kernel_rules::{Entry, Mapping};
 use label_lattice::{Pair, Pairs, RawLabel};
-use plain_core::Entry;
 use text_rows::Arg;
 use text_words::{Reference, SpokenLabel};
 
@@ -95,6 +96,26 @@ pub fn number_at(args: &[Arg], place: usize) -> u32
     }
 }
 
+/// The number of 64 bits at a place.
+pub fn wide_at(args: &[Arg], place: usize) -> u64
+    ensures { result ≡ wide_at place args.now }
+{
+    match args.get(place) {
+        Some(Arg::Wide(number)) => *number,
+        _ => 0,
+    }
+}
+
+/// The number with a sign at a place.
+pub fn signed_at(args: &[Arg], place: usize) -> i32
+    ensures { result ≡ signed_at place args.now }
+{
+    match args.get(place) {
+        Some(Arg::Signed(number)) => *number,
+        _ => 0,
+    }
+}
+
 /// The bytes at a place.
 pub fn data_at(args: &[Arg], place: usize) -> Data
     ensures { result ≡ data_at place args.now }
@@ -115,6 +136,16 @@ pub fn types_at(args: &[Arg], place: usize) -> TypeSet
     }
 }
 
+/// The rights at a place.
+fn rights_at(args: &[Arg], place: usize) -> Rights
+    ensures { result ≡ rights_at place args.now }
+{
+    match args.get(place) {
+        Some(Arg::Rights(rights)) => *rights,
+        _ => Rights::from_bits_retain(0),
+    }
+}
+
 /// The container and the object at two places.
 pub fn make_entry<K: Known>(args: &[Arg], place: usize, names: &K) -> Entry
     requires { place < 2 ^ 60 }
@@ -123,5 +154,20 @@ pub fn make_entry<K: Known>(args: &[Arg], place: usize, names: &K) -> Entry
     Entry {
         container: object_at(args, place, names),
         object: object_at(args, place + 1, names),
+    }
+}
+
+/// The mapping at six places: a virtual page, an entry, a page of the segment, how many pages, and
+/// rights.
+pub fn make_mapping<K: Known>(args: &[Arg], place: usize, names: &K) -> Mapping
+    requires { place < 2 ^ 59 }
+    ensures { result ≡ mapping_at place args.now (K.names names.now) }
+{
+    Mapping {
+        page: number_at(args, place),
+        entry: make_entry(args, place + 1, names),
+        first: number_at(args, place + 3),
+        count: number_at(args, place + 4),
+        rights: rights_at(args, place + 5),
     }
 }

@@ -1,114 +1,139 @@
 //! Replies as text.
-ghost use Rattle.std.specs.Prelude.{◌≡◌, ◌++◌, IfOk, OnOk};
-ghost use Rattle.call_text.specs.Reply.{head_text, word_text, words_text, reply_text, value_text, refusal_text};
+ghost use Rattle.std.specs.Prelude.{◌≡◌, ◌++◌, ◌∷◌, map, IfOk, OnOk};
+ghost use Rattle.call_text.specs.ReplyWord.{words_text};
+ghost use Rattle.call_text.specs.Reply.{own_words, quota_words, mapping_words, reply_text};
 
-use crate::known_names::{Known, NameList, Named, Value};
-use base::{Category, Data, NoMemory, ObjectId, Refusal};
-use plain_core::Reply;
-use std::alloc::{AllocError, Global};
-use text_words::{put_data, put_name, put_number};
+use crate::known_names::{Known, NameList, Named};
+use crate::reply_words::{Head, Word, put_further, put_words};
+use base::{NoMemory, ObjectId};
+use kernel_rules::{Entry, Mapping, Reply};
+use label_lattice::Label;
+use std::alloc::Global;
 
-/// A reply's first word.
-#[derive(Clone, Copy, PartialEq, Eq)]
-pub enum Head {
-    Ok,
-    Cat,
-    Id,
-    Data,
-    Refused,
-}
-
-/// A further word of a reply.
-#[derive(Clone, Copy)]
-pub enum Word {
-    Object(ObjectId),
-    Category(Category),
-    Data(Data),
-    /// A refusal's number and name.
-    Refusal(Refusal),
-}
-
-impl Head {
-    fn text(self) -> &'static str
-        ensures { result.now ≡ head_text self }
-    {
-        match self {
-            Head::Ok => "ok",
-            Head::Cat => "cat",
-            Head::Id => "id",
-            Head::Data => "data",
-            Head::Refused => "refused",
-        }
-    }
-}
-
-/// Adds the name of the value, or its number where it has none.
-fn put_value<K: Known>(out: &mut Vec<u8>, value: &Value, names: &K) -> Result<(), AllocError>
-    ensures { OnOk result (out.new.items ≡ out.old.items ++ value_text (K.names names.now) value.now) }
+/// The words of what a thread is.
+fn own_words(
+    label: &Label,
+    clearance: &Label,
+    verify: &Label,
+    space: &Entry,
+    entry_point: u64,
+    closure: u64,
+) -> [Word; 7]
+    ensures { result ≡ own_words label.now clearance.now verify.now space.now entry_point closure }
 {
-    if let Some(name) = names.name_of(value) {
-        return put_name(out, &name);
-    }
-    out.push(b'#')?;
-    match value {
-        Value::Object(id) => put_number(out, id.number()),
-        Value::Category(category) => put_number(out, category.0),
-    }
+    [
+        Word::Label(*label),
+        Word::Label(*clearance),
+        Word::Label(*verify),
+        Word::Object(space.container),
+        Word::Object(space.object),
+        Word::Number(entry_point),
+        Word::Number(closure),
+    ]
 }
 
-/// Adds the refusal's number and name.
-fn put_refusal(out: &mut Vec<u8>, refusal: Refusal) -> Result<(), AllocError>
-    ensures { OnOk result (out.new.items ≡ out.old.items ++ refusal_text refusal) }
+/// The words of what an object may use and uses.
+fn quota_words(quota: u32, used: u32, fixed: bool, immutable: bool) -> [Word; 4]
+    ensures { result ≡ quota_words quota used fixed immutable }
 {
-    put_number(out, refusal.number() as u64)?;
-    out.push(b' ')?;
-    out.extend_from_slice(refusal.name().as_bytes())
+    [
+        Word::Number(u64::from(quota)),
+        Word::Number(u64::from(used)),
+        Word::Flag(fixed),
+        Word::Flag(immutable),
+    ]
 }
 
-/// Adds the word.
-fn put_word<K: Known>(out: &mut Vec<u8>, word: &Word, names: &K) -> Result<(), AllocError>
-    ensures { OnOk result (out.new.items ≡ out.old.items ++ word_text (K.names names.now) word.now) }
-{
-    match word {
-        Word::Object(id) => put_value(out, &Value::Object(*id), names),
-        Word::Category(category) => put_value(out, &Value::Category(*category), names),
-        Word::Data(bytes) => put_data(out, bytes),
-        Word::Refusal(refusal) => put_refusal(out, *refusal),
-    }
-}
-
-/// Adds the words, parted by single spaces.
-fn put_words<K: Known>(
+/// Adds how many ids a container lists, and some of them.
+fn put_listed<K: Known>(
     out: &mut Vec<u8>,
-    first: Head,
-    more: &[Word],
+    count: u64,
+    ids: &[ObjectId],
     names: &K,
-) -> Result<(), AllocError>
-    ensures { OnOk result (out.new.items ≡ out.old.items ++ words_text (K.names names.now) first more.now) }
+) -> Result<(), NoMemory>
+    ensures { OnOk result (out.new.items ≡ out.old.items
+        ++ words_text (K.names names.now) Head.List (Word.Number count ∷ map Word.Object ids.now)) }
 {
-    out.extend_from_slice(first.text().as_bytes())?;
-    for word in more {
-        out.push(b' ')?;
-        put_word(out, word, names)?;
+    put_words(out, Head::List, &[Word::Number(count)], names)?;
+    for id in ids {
+        put_further(out, &Word::Object(*id), names)?;
     }
     Ok(())
 }
 
+/// Adds what a slot maps.
+fn put_mapping<K: Known>(
+    out: &mut Vec<u8>,
+    mapping: &Option<Mapping>,
+    names: &K,
+) -> Result<(), NoMemory>
+    ensures { OnOk result (out.new.items ≡ out.old.items
+        ++ words_text (K.names names.now) Head.Mapping (mapping_words mapping.now)) }
+{
+    let Some(mapping) = mapping else {
+        return put_words(out, Head::Mapping, &[Word::Nothing], names);
+    };
+    let words = [
+        Word::Number(u64::from(mapping.page)),
+        Word::Object(mapping.entry.container),
+        Word::Object(mapping.entry.object),
+        Word::Number(u64::from(mapping.first)),
+        Word::Number(u64::from(mapping.count)),
+        Word::Rights(mapping.rights),
+    ];
+    put_words(out, Head::Mapping, &words, names)
+}
+
 /// Adds the reply.
-pub fn put_reply<K: Known>(out: &mut Vec<u8>, reply: &Reply, names: &K) -> Result<(), AllocError>
-    ensures { OnOk result (out.new.items ≡ out.old.items ++ reply_text (K.names names.now) reply.now) }
+pub fn put_reply<K: Known>(out: &mut Vec<u8>, reply: &Reply, names: &K) -> Result<(), NoMemory>
+    ensures { OnOk result (out.new.items
+        ≡ out.old.items ++ reply_text (K.names names.now) reply.now) }
 {
     match *reply {
         Reply::Done => put_words(out, Head::Ok, &[], names),
         Reply::Category(category) => put_words(out, Head::Cat, &[Word::Category(category)], names),
         Reply::Object(id) => put_words(out, Head::Id, &[Word::Object(id)], names),
+        Reply::Entered {
+            entry_point,
+            closure,
+        } => {
+            let words = [Word::Number(entry_point), Word::Number(closure)];
+            put_words(out, Head::Entered, &words, names)
+        }
         Reply::Bytes(bytes) => put_words(out, Head::Data, &[Word::Data(bytes)], names),
+        Reply::Own {
+            label,
+            clearance,
+            verify,
+            space,
+            entry_point,
+            closure,
+        } => {
+            let words = own_words(&label, &clearance, &verify, &space, entry_point, closure);
+            put_words(out, Head::Own, &words, names)
+        }
+        Reply::Label(label) => put_words(out, Head::Label, &[Word::Label(label)], names),
+        Reply::Quota {
+            quota,
+            used,
+            fixed,
+            immutable,
+        } => {
+            let words = quota_words(quota, used, fixed, immutable);
+            put_words(out, Head::Quota, &words, names)
+        }
+        Reply::Listed { count, ids } => put_listed(out, count, ids.as_slice(), names),
+        Reply::Parent(id) => put_words(out, Head::Parent, &[Word::Object(id)], names),
+        Reply::Pages(pages) => {
+            put_words(out, Head::Pages, &[Word::Number(u64::from(pages))], names)
+        }
+        Reply::Mapping(mapping) => put_mapping(out, &mapping, names),
         Reply::Refused(refusal) => put_words(out, Head::Refused, &[Word::Refusal(refusal)], names),
     }
 }
 
-/// The one spelling of the reply. An object or a category is printed as the first name in the list that is bound to it,
-/// and as `#` and its number where there is none.
+/// The one spelling of the reply. An object or a category is printed as the first name in the list
+/// that is bound to it, and as `#` and its number where there is none.
 pub fn write_reply(alloc: Global, reply: &Reply, names: &[Named]) -> Result<Vec<u8>, NoMemory>
     ensures { IfOk result (λ out. out.items ≡ reply_text names.now reply.now) }
 {

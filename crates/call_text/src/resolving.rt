@@ -1,21 +1,11 @@
 //! What a spoken call asks, with the names that are known.
 ghost use Rattle.std.specs.Prelude.{◌≡◌};
-ghost use Rattle.call_text.specs.Resolve.{unbound_object, unbound_category, unbound_pair, unbound_in, first_unbound, asked_of, resolved};
+ghost use Rattle.call_text.specs.Resolve.{unbound_object, unbound_category, unbound_pair, unbound_in, first_unbound, resolved};
 
+use crate::asking::{Asked, make_asked};
 use crate::known_names::{Known, Value};
-use crate::places::{data_at, label_at, make_entry, number_at, object_at, types_at};
-use plain_core::{Call, Query};
-use text_rows::{Arg, Row, Verb};
+use text_rows::{Arg, Row};
 use text_words::{Name, Reference, SpokenPair};
-
-/// What a call asks of a machine.
-#[derive(Clone, Copy)]
-pub enum Asked {
-    /// To change its state.
-    Write(Call),
-    /// To tell of it.
-    Read(Query),
-}
 
 /// The name, where it is not known as an object's.
 fn unbound_object<K: Known>(reference: &Reference, names: &K) -> Option<Name>
@@ -62,7 +52,12 @@ fn unbound_in<K: Known>(arg: &Arg, names: &K) -> Option<Name>
     match arg {
         Arg::Object(reference) => unbound_object(reference, names),
         Arg::Label(label) => unbound_pair(label.pairs(), names),
-        Arg::Number(_) | Arg::Data(_) | Arg::Types(_) => None,
+        Arg::Number(_)
+        | Arg::Wide(_)
+        | Arg::Signed(_)
+        | Arg::Data(_)
+        | Arg::Types(_)
+        | Arg::Rights(_) => None,
     }
 }
 
@@ -76,37 +71,6 @@ fn first_unbound<K: Known>(args: &[Arg], names: &K) -> Option<Name>
         }
     }
     None
-}
-
-/// What the verb asks with these arguments.
-fn make_asked<K: Known>(verb: Verb, args: &[Arg], names: &K) -> Asked
-    ensures { result ≡ asked_of verb args.now (K.names names.now) }
-{
-    match verb {
-        Verb::CatCreate => Asked::Write(Call::CatCreate),
-        Verb::ContainerCreate => Asked::Write(Call::ContainerCreate {
-            container: object_at(args, 0, names),
-            label: label_at(args, 1, names),
-            quota: number_at(args, 2),
-            avoid: types_at(args, 3),
-        }),
-        Verb::SegmentCreate => Asked::Write(Call::SegmentCreate {
-            container: object_at(args, 0, names),
-            label: label_at(args, 1, names),
-            quota: number_at(args, 2),
-            pages: number_at(args, 3),
-        }),
-        Verb::SegmentWrite => Asked::Write(Call::SegmentWrite {
-            entry: make_entry(args, 0, names),
-            offset: number_at(args, 2),
-            data: data_at(args, 3),
-        }),
-        Verb::SegmentRead => Asked::Read(Query::SegmentRead {
-            entry: make_entry(args, 0, names),
-            offset: number_at(args, 2),
-            count: number_at(args, 3),
-        }),
-    }
 }
 
 /// What the call asks, where each of its names is known as what stands there, or the first name, in the order of the

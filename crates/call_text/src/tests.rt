@@ -1,6 +1,6 @@
 use super::*;
 use base::{Category, Data, ObjectId, Refusal};
-use plain_core::{Call, Query, Reply};
+use kernel_rules::{Call, Query, Reply};
 use std::alloc::Global;
 use std::test::Fail;
 
@@ -114,24 +114,6 @@ fn named() -> [Named; 3] {
             value: Value::Object(ObjectId::root()),
         },
     ]
-}
-
-#[test]
-fn replies_are_written(rt: HostRuntime) -> Result<(), Fail> {
-    for (reply, text) in [
-        (Reply::Done, "ok"),
-        (Reply::Category(Category(4)), "cat c"),
-        (Reply::Category(Category(1)), "cat #1"),
-        (Reply::Object(ObjectId::new(1)), "id root"),
-        (Reply::Object(ObjectId::new(4)), "id #4"),
-        (Reply::Bytes(Data::from_slice(&[0, 255])), "data 00ff"),
-        (Reply::Refused(Refusal::NoQuota), "refused 12 NoQuota"),
-        (Reply::Refused(Refusal::Spent), "refused 25 Spent"),
-    ] {
-        let bytes = write_reply(rt.alloc(), &reply, &named())?;
-        assert!(rt; bytes.as_slice() == text.as_bytes(), "{text}");
-    }
-    Ok(())
 }
 
 /// What a line asks: the name that is unbound, or nothing.

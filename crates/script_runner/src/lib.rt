@@ -6,10 +6,12 @@
 #![tactic(auto)]
 
 mod faults;
+mod names;
 mod play;
 mod program;
 
 pub use faults::PlayFault;
+pub use names::BoundNames;
 pub use play::{Played, play_all};
 pub use program::{Ended, histar_on};
 

@@ -1,8 +1,10 @@
 //! Playing a script.
 use crate::faults::PlayFault;
+use crate::names::BoundNames;
 use base::{Limits, Meter, NoMemory, ObjectId};
-use call_text::{Asked, Line, NameList, Named, Script, Value, put_reply, resolve, start_names};
-use plain_core::{Machine, PlainKernel, Reply};
+use call_text::{Asked, Line, Named, Script, Value, put_reply, resolve};
+use kernel_rules::Reply;
+use plain_core::{Machine, PlainKernel};
 use std::alloc::{AllocError, Global};
 use text_words::{Name, put_name, put_number};
 
@@ -21,12 +23,12 @@ enum Answer {
     Unbound(Name),
 }
 
-/// A kernel with the names that are known so far, in the order in which they were bound.
+/// A kernel with the names that are known so far.
 #[derive(Drop)]
 struct Player {
     kernel: PlainKernel,
     meter: Meter,
-    names: Vec<Named>,
+    names: BoundNames,
 }
 
 fn is_boot(worker: &Name) -> bool {
@@ -53,7 +55,7 @@ impl Player {
     fn new(alloc: Global, limits: &Limits) -> Result<Player, PlayFault> {
         let meter = Meter::new(alloc)?;
         let kernel = PlainKernel::boot(alloc, limits)?;
-        let names = Vec::from_slice(alloc, &start_names())?;
+        let names = BoundNames::start(alloc)?;
         Ok(Player {
             kernel,
             meter,
@@ -63,10 +65,7 @@ impl Player {
 
     fn ask(&mut self, line: &Line) -> Result<Answer, NoMemory> {
         let boot = ObjectId::new(2);
-        let names = NameList {
-            named: self.names.as_slice(),
-        };
-        let reply = match resolve(&line.call, &names) {
+        let reply = match resolve(&line.call, &self.names) {
             Err(name) => return Ok(Answer::Unbound(name)),
             Ok(Asked::Write(call)) => self.kernel.step(boot, &call, &mut self.meter)?,
             Ok(Asked::Read(query)) => self.kernel.ask(boot, &query, &mut self.meter)?,
@@ -82,7 +81,7 @@ impl Player {
             _ => return Ok(()),
         };
         if let Some(name) = line.binds {
-            self.names.push(Named { name, value })?;
+            self.names.bind(&Named { name, value })?;
         }
         Ok(())
     }
@@ -92,14 +91,14 @@ fn put_answer(
     out: &mut Vec<u8>,
     line: &Line,
     answer: &Answer,
-    names: &[Named],
-) -> Result<(), AllocError> {
+    names: &BoundNames,
+) -> Result<(), NoMemory> {
     put_name(out, &line.worker)?;
     out.push(b' ')?;
     put_number(out, u64::from(line.number))?;
     out.extend_from_slice(b": ")?;
     match answer {
-        Answer::Replied(reply) => put_reply(out, reply, &NameList { named: names })?,
+        Answer::Replied(reply) => put_reply(out, reply, names)?,
         Answer::Unbound(name) => {
             out.extend_from_slice(b"unbound ")?;
             put_name(out, name)?;
@@ -113,8 +112,8 @@ fn output_of(
     alloc: Global,
     lines: &[Line],
     answers: &[Answer],
-    names: &[Named],
-) -> Result<Vec<u8>, AllocError> {
+    names: &BoundNames,
+) -> Result<Vec<u8>, NoMemory> {
     let mut out = Vec::new(alloc);
     for (line, answer) in lines.iter().zip(answers) {
         put_answer(&mut out, line, answer, names)?;
@@ -141,6 +140,6 @@ pub fn play_all(alloc: Global, script: &Script, limits: &Limits) -> Result<Playe
         answers.push(answer)?;
     }
     let lines = phase.lines.as_slice();
-    let output = output_of(alloc, lines, answers.as_slice(), player.names.as_slice())?;
+    let output = output_of(alloc, lines, answers.as_slice(), &player.names)?;
     Ok(Played { output })
 }

@@ -1,5 +1,5 @@
 -- Rows: their words one by one, and no two rows of one spelling.
-use Rattle.std.proofs.Common.{◌≡◌, ℕ, zero, suc, ◌+◌, ◌^◌, ◌<◌, ◌≤◌, Bool, true, false, cond, eqb, List, [], ◌∷◌, ◌++◌, length, Option, Some, None, subst, get_or, take, drop, ◌-◌, map, refl, ap, ◌∙◌, sym, arith}
+use Rattle.std.proofs.Common.{lit<, ◌≡◌, ℕ, zero, suc, ◌+◌, ◌^◌, ◌<◌, ◌≤◌, Bool, true, false, cond, eqb, List, [], ◌∷◌, ◌++◌, length, Option, Some, None, subst, get_or, take, drop, ◌-◌, map, refl, ap, ◌∙◌, sym, arith}
 use Rattle.text_words.specs.Lacks.{lacks, AllLack}
 use Rattle.text_rows.specs.declared.verbs.Verb.{Verb}
 use Rattle.text_rows.specs.declared.verbs.Verb.TheVariants as verbs
@@ -16,9 +16,10 @@ use Rattle.std.proofs.lemmas.List.Splits.{join_with_byte-slice_split}
 use Rattle.std.proofs.Math.Seq.{take-length}
 use Rattle.text_words.proofs.Split.{split_join}
 use Rattle.text_words.proofs.LackLemmas.{join_lacks}
-use Rattle.text_words.proofs.Outside.{IsOutside, number_outside, reference_outside, label_outside, data_outside, space_outside, end_outside}
+use Rattle.text_words.proofs.Outside.{IsOutside, number_outside, signed_outside, reference_outside, label_outside, data_outside, space_outside, end_outside}
 use Rattle.text_words.proofs.WordLemmas.{data_is_one}
 use Rattle.text_words.proofs.OneLemmas.{reference_is_one, label_is_one, types_are_one}
+use Rattle.text_words.proofs.SignedLemmas.{signed_is_one, rights_are_one}
 use Rattle.std.proofs.lemmas.Fmt.{decimal_injective}
 
 pub same_length : (ks : List Kind) (found : List Arg) → AreArgs ks found → length ks ≡ length found
@@ -43,9 +44,12 @@ no_args (k ∷ ks) (a ∷ more) (suc i) d h lt none = no_args ks more i d h.1 (o
 pub arg_outside : (c : ℕ) (k : Kind) (a : Arg) → IsOutside c → IsArg k a → lacks c (arg_text a) ≡ true
 arg_outside c k (args.Object r) out is = reference_outside c r out is.fits
 arg_outside c k (args.Number n) out is = let small : n < 2 ^ 32 = is.fits in number_outside c n out (omega arith)
+arg_outside c k (args.Wide n) out is = number_outside c n out is.fits
+arg_outside c k (args.Signed z) out is = signed_outside c z out is.fits
 arg_outside c k (args.Label l) out is = label_outside c l out is.fits
 arg_outside c k (args.Data d) out is = data_outside c d out is.fits
 arg_outside c k (args.Types s) out is = out.types s is.fits
+arg_outside c k (args.Rights r) out is = out.rights r is.fits
 
 -- a byte that no call's words have
 pub record IsParting (c : ℕ) : Type 0 where
@@ -54,17 +58,75 @@ pub record IsParting (c : ℕ) : Type 0 where
 
 name_lacks_space : (v : Verb) → lacks 32 (name_of v) ≡ true
 name_lacks_space verbs.CatCreate = refl
+name_lacks_space verbs.SelfSetLabel = refl
+name_lacks_space verbs.SelfSetClearance = refl
+name_lacks_space verbs.SelfSetAs = refl
 name_lacks_space verbs.ContainerCreate = refl
 name_lacks_space verbs.SegmentCreate = refl
+name_lacks_space verbs.SegmentCopy = refl
+name_lacks_space verbs.AsCreate = refl
+name_lacks_space verbs.ThreadCreate = refl
+name_lacks_space verbs.GateCreate = refl
+name_lacks_space verbs.Link = refl
+name_lacks_space verbs.Unref = refl
+name_lacks_space verbs.QuotaMove = refl
+name_lacks_space verbs.SetFixed = refl
+name_lacks_space verbs.SetImmutable = refl
+name_lacks_space verbs.MetaSet = refl
+name_lacks_space verbs.SegmentResize = refl
 name_lacks_space verbs.SegmentWrite = refl
+name_lacks_space verbs.AsMap = refl
+name_lacks_space verbs.AsUnmap = refl
+name_lacks_space verbs.Store = refl
+name_lacks_space verbs.GateEnter = refl
+name_lacks_space verbs.DevSend = refl
+name_lacks_space verbs.DevRecv = refl
+name_lacks_space verbs.SelfGet = refl
+name_lacks_space verbs.ObjLabel = refl
+name_lacks_space verbs.ObjQuota = refl
+name_lacks_space verbs.ContainerList = refl
+name_lacks_space verbs.ContainerParent = refl
+name_lacks_space verbs.SegmentLen = refl
 name_lacks_space verbs.SegmentRead = refl
+name_lacks_space verbs.MetaGet = refl
+name_lacks_space verbs.AsGet = refl
+name_lacks_space verbs.Load = refl
 
 name_lacks_end : (v : Verb) → lacks 10 (name_of v) ≡ true
 name_lacks_end verbs.CatCreate = refl
+name_lacks_end verbs.SelfSetLabel = refl
+name_lacks_end verbs.SelfSetClearance = refl
+name_lacks_end verbs.SelfSetAs = refl
 name_lacks_end verbs.ContainerCreate = refl
 name_lacks_end verbs.SegmentCreate = refl
+name_lacks_end verbs.SegmentCopy = refl
+name_lacks_end verbs.AsCreate = refl
+name_lacks_end verbs.ThreadCreate = refl
+name_lacks_end verbs.GateCreate = refl
+name_lacks_end verbs.Link = refl
+name_lacks_end verbs.Unref = refl
+name_lacks_end verbs.QuotaMove = refl
+name_lacks_end verbs.SetFixed = refl
+name_lacks_end verbs.SetImmutable = refl
+name_lacks_end verbs.MetaSet = refl
+name_lacks_end verbs.SegmentResize = refl
 name_lacks_end verbs.SegmentWrite = refl
+name_lacks_end verbs.AsMap = refl
+name_lacks_end verbs.AsUnmap = refl
+name_lacks_end verbs.Store = refl
+name_lacks_end verbs.GateEnter = refl
+name_lacks_end verbs.DevSend = refl
+name_lacks_end verbs.DevRecv = refl
+name_lacks_end verbs.SelfGet = refl
+name_lacks_end verbs.ObjLabel = refl
+name_lacks_end verbs.ObjQuota = refl
+name_lacks_end verbs.ContainerList = refl
+name_lacks_end verbs.ContainerParent = refl
+name_lacks_end verbs.SegmentLen = refl
 name_lacks_end verbs.SegmentRead = refl
+name_lacks_end verbs.MetaGet = refl
+name_lacks_end verbs.AsGet = refl
+name_lacks_end verbs.Load = refl
 
 pub space_parting : IsParting 32
 space_parting = record { outside = space_outside; verbs = name_lacks_space }
@@ -89,20 +151,86 @@ same_text [] (y ∷ ys) = false
 same_text (x ∷ xs) [] = false
 same_text (x ∷ xs) (y ∷ ys) = cond (eqb x y) (same_text xs ys) false
 
-all_verbs : List Verb
-all_verbs = verbs.CatCreate ∷ verbs.ContainerCreate ∷ verbs.SegmentCreate ∷ verbs.SegmentWrite ∷ verbs.SegmentRead ∷ []
+abbrev pub all_verbs : List Verb
+all_verbs = verbs.CatCreate ∷ verbs.SelfSetLabel ∷ verbs.SelfSetClearance ∷ verbs.SelfSetAs ∷ verbs.ContainerCreate ∷ verbs.SegmentCreate ∷ verbs.SegmentCopy ∷ verbs.AsCreate ∷ verbs.ThreadCreate ∷ verbs.GateCreate ∷ verbs.Link ∷ verbs.Unref ∷ verbs.QuotaMove ∷ verbs.SetFixed ∷ verbs.SetImmutable ∷ verbs.MetaSet ∷ verbs.SegmentResize ∷ verbs.SegmentWrite ∷ verbs.AsMap ∷ verbs.AsUnmap ∷ verbs.Store ∷ verbs.GateEnter ∷ verbs.DevSend ∷ verbs.DevRecv ∷ verbs.SelfGet ∷ verbs.ObjLabel ∷ verbs.ObjQuota ∷ verbs.ContainerList ∷ verbs.ContainerParent ∷ verbs.SegmentLen ∷ verbs.SegmentRead ∷ verbs.MetaGet ∷ verbs.AsGet ∷ verbs.Load ∷ []
+
+-- each verb stands in the table
+pub listed : (v : Verb) → (k : ℕ) × (k < 34) × (get_or all_verbs k verbs.CatCreate ≡ v)
+listed verbs.CatCreate = (0, lit< tt, refl)
+listed verbs.SelfSetLabel = (1, lit< tt, refl)
+listed verbs.SelfSetClearance = (2, lit< tt, refl)
+listed verbs.SelfSetAs = (3, lit< tt, refl)
+listed verbs.ContainerCreate = (4, lit< tt, refl)
+listed verbs.SegmentCreate = (5, lit< tt, refl)
+listed verbs.SegmentCopy = (6, lit< tt, refl)
+listed verbs.AsCreate = (7, lit< tt, refl)
+listed verbs.ThreadCreate = (8, lit< tt, refl)
+listed verbs.GateCreate = (9, lit< tt, refl)
+listed verbs.Link = (10, lit< tt, refl)
+listed verbs.Unref = (11, lit< tt, refl)
+listed verbs.QuotaMove = (12, lit< tt, refl)
+listed verbs.SetFixed = (13, lit< tt, refl)
+listed verbs.SetImmutable = (14, lit< tt, refl)
+listed verbs.MetaSet = (15, lit< tt, refl)
+listed verbs.SegmentResize = (16, lit< tt, refl)
+listed verbs.SegmentWrite = (17, lit< tt, refl)
+listed verbs.AsMap = (18, lit< tt, refl)
+listed verbs.AsUnmap = (19, lit< tt, refl)
+listed verbs.Store = (20, lit< tt, refl)
+listed verbs.GateEnter = (21, lit< tt, refl)
+listed verbs.DevSend = (22, lit< tt, refl)
+listed verbs.DevRecv = (23, lit< tt, refl)
+listed verbs.SelfGet = (24, lit< tt, refl)
+listed verbs.ObjLabel = (25, lit< tt, refl)
+listed verbs.ObjQuota = (26, lit< tt, refl)
+listed verbs.ContainerList = (27, lit< tt, refl)
+listed verbs.ContainerParent = (28, lit< tt, refl)
+listed verbs.SegmentLen = (29, lit< tt, refl)
+listed verbs.SegmentRead = (30, lit< tt, refl)
+listed verbs.MetaGet = (31, lit< tt, refl)
+listed verbs.AsGet = (32, lit< tt, refl)
+listed verbs.Load = (33, lit< tt, refl)
 
 first_named : List ℕ → List Verb → Verb
 first_named word [] = verbs.CatCreate
 first_named word (v ∷ vs) = cond (same_text (name_of v) word) v (first_named word vs)
 
 verb_again : (v : Verb) → first_named (name_of v) all_verbs ≡ v
-unfolding same_text first_named all_verbs
+unfolding same_text first_named
 verb_again verbs.CatCreate = refl
+verb_again verbs.SelfSetLabel = refl
+verb_again verbs.SelfSetClearance = refl
+verb_again verbs.SelfSetAs = refl
 verb_again verbs.ContainerCreate = refl
 verb_again verbs.SegmentCreate = refl
+verb_again verbs.SegmentCopy = refl
+verb_again verbs.AsCreate = refl
+verb_again verbs.ThreadCreate = refl
+verb_again verbs.GateCreate = refl
+verb_again verbs.Link = refl
+verb_again verbs.Unref = refl
+verb_again verbs.QuotaMove = refl
+verb_again verbs.SetFixed = refl
+verb_again verbs.SetImmutable = refl
+verb_again verbs.MetaSet = refl
+verb_again verbs.SegmentResize = refl
 verb_again verbs.SegmentWrite = refl
+verb_again verbs.AsMap = refl
+verb_again verbs.AsUnmap = refl
+verb_again verbs.Store = refl
+verb_again verbs.GateEnter = refl
+verb_again verbs.DevSend = refl
+verb_again verbs.DevRecv = refl
+verb_again verbs.SelfGet = refl
+verb_again verbs.ObjLabel = refl
+verb_again verbs.ObjQuota = refl
+verb_again verbs.ContainerList = refl
+verb_again verbs.ContainerParent = refl
+verb_again verbs.SegmentLen = refl
 verb_again verbs.SegmentRead = refl
+verb_again verbs.MetaGet = refl
+verb_again verbs.AsGet = refl
+verb_again verbs.Load = refl
 
 pub verb_is : (v w : Verb) → name_of v ≡ name_of w → v ≡ w
 verb_is v w e = sym (verb_again v) ∙ ap (λ (x : List ℕ). first_named x all_verbs) e ∙ verb_again w
@@ -155,9 +283,12 @@ row_lacks_end v is = join_lacks 10 32 (name_of v.verb) (map arg_text v.args) (λ
 arg_is_one : (k : Kind) (a b : Arg) → IsArg k a → IsArg k b → arg_text a ≡ arg_text b → a ≡ b
 arg_is_one k (args.Object m) (args.Object n) ia ib e = ap args.Object (reference_is_one m n ia.fits ib.fits e)
 arg_is_one k (args.Number m) (args.Number n) ia ib e = let p : m < 2 ^ 32 = ia.fits in let q : n < 2 ^ 32 = ib.fits in ap args.Number (decimal_injective m n (omega arith) (omega arith) e)
+arg_is_one k (args.Wide m) (args.Wide n) ia ib e = ap args.Wide (decimal_injective m n ia.fits ib.fits e)
+arg_is_one k (args.Signed m) (args.Signed n) ia ib e = ap args.Signed (signed_is_one m n ia.fits ib.fits e)
 arg_is_one k (args.Label m) (args.Label n) ia ib e = ap args.Label (label_is_one m n ia.fits ib.fits e)
 arg_is_one k (args.Data m) (args.Data n) ia ib e = ap args.Data (data_is_one m n ia.fits ib.fits e)
 arg_is_one k (args.Types m) (args.Types n) ia ib e = ap args.Types (types_are_one m n ia.fits ib.fits e)
+arg_is_one k (args.Rights m) (args.Rights n) ia ib e = ap args.Rights (rights_are_one m n ia.fits ib.fits e)
 arg_is_one k _ _ ia ib e = absurd (let p = ia.kind_is in let q = ib.kind_is in cc)
 
 args_are_one : (ks : List Kind) (xs ys : List Arg) → AreArgs ks xs → AreArgs ks ys → map arg_text xs ≡ map arg_text ys → xs ≡ ys

@@ -3,10 +3,11 @@ ghost use Rattle.std.specs.Prelude.{◌≡◌, IfOk};
 ghost use Rattle.text_words.specs.Reading.{Reads};
 ghost use Rattle.text_rows.specs.Arg.{arg_text, IsArg};
 
-use base::{Data, TypeSet};
+use base::{Data, Rights, TypeSet};
 use std::alloc::{AllocError, Global};
 use text_words::{
-    Reference, SpokenLabel, read_data, read_label, read_number, read_reference, read_types,
+    Reference, SpokenLabel, read_data, read_label, read_number, read_reference, read_rights,
+    read_signed, read_types,
 };
 
 /// What stands at a place of a call.
@@ -16,12 +17,18 @@ pub enum Kind {
     Object,
     /// A number below 2^32.
     Number,
+    /// A number below 2^64.
+    Wide,
+    /// A number from -2^31, below 2^31.
+    Signed,
     /// A label.
     Label,
     /// 0 to 64 bytes.
     Data,
     /// A set of kinds of objects.
     Types,
+    /// What a mapping allows.
+    Rights,
 }
 
 /// A value at a place of a call.
@@ -29,9 +36,12 @@ pub enum Kind {
 pub enum Arg {
     Object(Reference),
     Number(u32),
+    Wide(u64),
+    Signed(i32),
     Label(SpokenLabel),
     Data(Data),
     Types(TypeSet),
+    Rights(Rights),
 }
 
 fn read_object(word: &[u8]) -> Option<Arg>
@@ -52,6 +62,24 @@ fn read_short(word: &[u8]) -> Option<Arg>
     Some(Arg::Number(number as u32))
 }
 
+fn read_wide(word: &[u8]) -> Option<Arg>
+    ensures { Reads arg_text (IsArg Kind.Wide) word.now result }
+{
+    let Some(number) = read_number(word, u64::MAX) else {
+        return None;
+    };
+    Some(Arg::Wide(number))
+}
+
+fn read_change(word: &[u8]) -> Option<Arg>
+    ensures { Reads arg_text (IsArg Kind.Signed) word.now result }
+{
+    let Some(number) = read_signed(word) else {
+        return None;
+    };
+    Some(Arg::Signed(number))
+}
+
 fn read_bytes(word: &[u8]) -> Option<Arg>
     ensures { Reads arg_text (IsArg Kind.Data) word.now result }
 {
@@ -70,6 +98,15 @@ fn read_kinds(word: &[u8]) -> Option<Arg>
     Some(Arg::Types(set))
 }
 
+fn read_allowed(word: &[u8]) -> Option<Arg>
+    ensures { Reads arg_text (IsArg Kind.Rights) word.now result }
+{
+    let Some(rights) = read_rights(word) else {
+        return None;
+    };
+    Some(Arg::Rights(rights))
+}
+
 fn read_spoken(alloc: Global, word: &[u8]) -> Result<Option<Arg>, AllocError>
     ensures { IfOk result (λ found. Reads arg_text (IsArg Kind.Label) word.now found) }
 {
@@ -86,8 +123,11 @@ pub fn read_arg(alloc: Global, kind: Kind, word: &[u8]) -> Result<Option<Arg>, A
     match kind {
         Kind::Object => Ok(read_object(word)),
         Kind::Number => Ok(read_short(word)),
+        Kind::Wide => Ok(read_wide(word)),
+        Kind::Signed => Ok(read_change(word)),
         Kind::Label => read_spoken(alloc, word),
         Kind::Data => Ok(read_bytes(word)),
         Kind::Types => Ok(read_kinds(word)),
+        Kind::Rights => Ok(read_allowed(word)),
     }
 }

@@ -6,7 +6,9 @@ ghost use Rattle.text_rows.specs.Row.{row_text};
 use crate::args::Arg;
 use crate::rows::Row;
 use std::alloc::AllocError;
-use text_words::{put_data, put_label, put_number, put_reference, put_types};
+use text_words::{
+    put_data, put_label, put_number, put_reference, put_rights, put_signed, put_types,
+};
 
 /// Adds the word of the argument.
 fn put_arg(out: &mut Vec<u8>, arg: &Arg) -> Result<(), AllocError>
@@ -14,10 +16,13 @@ fn put_arg(out: &mut Vec<u8>, arg: &Arg) -> Result<(), AllocError>
 {
     match arg {
         Arg::Object(reference) => put_reference(out, reference),
-        Arg::Number(number) => put_number(out, *number as u64),
+        Arg::Number(number) => put_number(out, u64::from(*number)),
+        Arg::Wide(number) => put_number(out, *number),
+        Arg::Signed(number) => put_signed(out, *number),
         Arg::Label(label) => put_label(out, label),
         Arg::Data(bytes) => put_data(out, bytes),
         Arg::Types(set) => put_types(out, *set),
+        Arg::Rights(rights) => put_rights(out, *rights),
     }
 }
 

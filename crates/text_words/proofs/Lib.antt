@@ -7,3 +7,4 @@ pub mod OneLemmas
 pub mod Outside
 pub mod ReadLemmas
 pub mod NameLemmas
+pub mod SignedLemmas

@@ -10,7 +10,7 @@ use Rattle.std.proofs.Math.Seq.{take-append_seam}
 use Rattle.base.specs.Padded.{padded}
 use Rattle.text_words.specs.Name.{name_cmp}
 
-padded_is_one : (a b : List ℕ) → length a ≡ length b → padded 16 0 a ≡ padded 16 0 b → a ≡ b
+pub padded_is_one : (a b : List ℕ) → length a ≡ length b → padded 16 0 a ≡ padded 16 0 b → a ≡ b
 padded_is_one a b n e =
     sym (take-append_seam a (replicate (16 - length a) 0)) ∙ (λ i. take (n i) (e i)) ∙ take-append_seam b (replicate (16 - length b) 0)
 

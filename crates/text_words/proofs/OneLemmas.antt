@@ -76,11 +76,11 @@ two_ways true = inl refl
 two_ways false = inr refl
 
 -- the test holds of each number below n
-below : ℕ → (ℕ → Bool) → Bool
+unfoldable pub below : ℕ → (ℕ → Bool) → Bool
 below zero p = true
 below (suc n) p = p n && below n p
 
-below_at : (n : ℕ) (p : ℕ → Bool) (k : ℕ) → below n p ≡ true → k < n → p k ≡ true
+pub below_at : (n : ℕ) (p : ℕ → Bool) (k : ℕ) → below n p ≡ true → k < n → p k ≡ true
 unfolding below
 below_at zero p k all lt = absurd (omega arith)
 below_at (suc n) p k all lt =

@@ -1,10 +1,11 @@
 -- The bytes that part words and lines stand in no word.
-use Rattle.std.proofs.Common.{◌≡◌, ℕ, ◌<◌, true, false, List, [], ◌∷◌, ◌++◌, map, refl, arith, decimal, ◌^◌}
+use Rattle.std.proofs.Common.{◌≡◌, ℕ, ◌<◌, true, false, List, [], ◌∷◌, ◌++◌, map, refl, arith, decimal, ◌^◌, ℤ}
 use Rattle.std.specs.List.{AllByRecursion, join_with_byte}
 use Rattle.std.proofs.lemmas.Bool.{ne_eqb}
 use Rattle.hex.specs.Hex.{lower_digits}
 use Rattle.base.specs.declared.levels.Level.{Level}
 use Rattle.base.specs.declared.sets.TypeSet.{TypeSet}
+use Rattle.base.specs.declared.sets.Rights.{Rights}
 use Rattle.text_words.specs.declared.references.Reference.{Reference}
 use Rattle.text_words.specs.declared.spoken_labels.SpokenPair.{SpokenPair}
 use Rattle.text_words.specs.Lacks.{lacks, AllLack}
@@ -15,7 +16,10 @@ use Rattle.text_words.specs.Reference.{reference_text, IsReference}
 use Rattle.text_words.specs.Label.{pair_text, IsPair, label_text, IsLabel, LabelValue}
 use Rattle.text_words.specs.TypeWord.{types_text, AreKinds}
 use Rattle.text_words.proofs.LackLemmas.{decimal_lacks, data_lacks, level_lacks, name_lacks, reference_lacks, lacks-append, join_lacks}
+use Rattle.text_words.specs.SignedWord.{signed_text, IsSigned}
+use Rattle.text_words.specs.RightsWord.{rights_text, AreRights}
 use Rattle.text_words.proofs.OneLemmas.{types_lack_space, types_lack_end}
+use Rattle.text_words.proofs.SignedLemmas.{signed_lacks, rights_lack_space, rights_lack_end}
 
 -- a byte below those of all words
 pub record IsOutside (c : ℕ) : Type 0 where
@@ -23,15 +27,19 @@ pub record IsOutside (c : ℕ) : Type 0 where
   pub digits : lacks c (45 ∷ lower_digits) ≡ true
   pub names : is_name_byte c ≡ false
   pub types : (s : TypeSet) → AreKinds s → lacks c (types_text s) ≡ true
+  pub rights : (r : Rights) → AreRights r → lacks c (rights_text r) ≡ true
 
 pub space_outside : IsOutside 32
-space_outside = record { low = omega arith; digits = refl; names = refl; types = types_lack_space }
+space_outside = record { low = omega arith; digits = refl; names = refl; types = types_lack_space; rights = rights_lack_space }
 
 pub end_outside : IsOutside 10
-end_outside = record { low = omega arith; digits = refl; names = refl; types = types_lack_end }
+end_outside = record { low = omega arith; digits = refl; names = refl; types = types_lack_end; rights = rights_lack_end }
 
 pub number_outside : (c n : ℕ) → IsOutside c → n < 2 ^ 64 → lacks c (decimal n) ≡ true
 number_outside c n out is = let low = out.low in decimal_lacks c n (omega arith) is
+
+pub signed_outside : (c : ℕ) (z : ℤ) → IsOutside c → IsSigned z → lacks c (signed_text z) ≡ true
+signed_outside c z out is = let low = out.low in signed_lacks c z (omega arith) is
 
 pub name_outside : (c : ℕ) (name : List ℕ) → IsOutside c → IsName name → lacks c name ≡ true
 name_outside c name out is = name_lacks c name out.names is

@@ -6,3 +6,5 @@ pub mod Reference
 pub mod Label
 pub mod Lacks
 pub mod TypeWord
+pub mod SignedWord
+pub mod RightsWord

@@ -79,6 +79,55 @@ fn other_words_are_none(rt: HostRuntime) -> Result<(), Fail> {
 }
 
 #[test]
+fn numbers_have_signs(rt: HostRuntime) -> Result<(), Fail> {
+    for (word, number) in [
+        ("0", 0),
+        ("-1", -1),
+        ("2147483647", i32::MAX),
+        ("-2147483648", i32::MIN),
+    ] {
+        assert!(rt; read_signed(word.as_bytes()) == Some(number), "{word}");
+        let mut out = Vec::new(rt.alloc());
+        put_signed(&mut out, number)?;
+        assert!(rt; is_same(out.as_slice(), word.as_bytes()), "{word}");
+    }
+    for word in [
+        "",
+        "-",
+        "-0",
+        "+1",
+        "-01",
+        "--1",
+        "2147483648",
+        "-2147483649",
+    ] {
+        assert!(rt; read_signed(word.as_bytes()).is_none(), "signed {word}");
+    }
+    Ok(())
+}
+
+#[test]
+fn rights_are_letters(rt: HostRuntime) -> Result<(), Fail> {
+    for (word, reads, writes) in [
+        ("-", false, false),
+        ("r", true, false),
+        ("w", false, true),
+        ("rw", true, true),
+    ] {
+        let rights = read_rights(word.as_bytes()).expect(&rt, "rights");
+        assert_eq!(rt; rights.may_read(), reads, "{word}");
+        assert_eq!(rt; rights.may_write(), writes, "{word}");
+        let mut out = Vec::new(rt.alloc());
+        put_rights(&mut out, rights)?;
+        assert!(rt; is_same(out.as_slice(), word.as_bytes()), "{word}");
+    }
+    for word in ["", "wr", "rr", "x", "r-", "--"] {
+        assert!(rt; read_rights(word.as_bytes()).is_none(), "rights {word}");
+    }
+    Ok(())
+}
+
+#[test]
 fn a_name_has_up_to_16_bytes(rt: HostRuntime) -> Result<(), Fail> {
     let name = read_name(b"abcdefghijklmn_0").expect(&rt, "a name");
     let mut out = Vec::new(rt.alloc());

@@ -1,0 +1,121 @@
+//! Calls that change what is there.
+ghost use Rattle.std.specs.Prelude.{◌≡◌, []};
+ghost use Rattle.call_text.specs.Asked.{asked_of};
+
+use super::Asked;
+use crate::known_names::Known;
+use crate::places::{
+    data_at, label_at, make_entry, make_mapping, number_at, object_at, signed_at, wide_at,
+};
+use kernel_rules::Call;
+use text_rows::{Arg, Verb};
+
+pub(super) fn self_set_label<K: Known>(args: &[Arg], names: &K) -> Call
+    ensures { Asked.Write result ≡ asked_of Verb.SelfSetLabel args.now (K.names names.now) }
+{
+    Call::SelfSetLabel {
+        label: label_at(args, 0, names),
+    }
+}
+
+pub(super) fn self_set_clearance<K: Known>(args: &[Arg], names: &K) -> Call
+    ensures { Asked.Write result ≡ asked_of Verb.SelfSetClearance args.now (K.names names.now) }
+{
+    Call::SelfSetClearance {
+        clearance: label_at(args, 0, names),
+    }
+}
+
+pub(super) fn link<K: Known>(args: &[Arg], names: &K) -> Call
+    ensures { Asked.Write result ≡ asked_of Verb.Link args.now (K.names names.now) }
+{
+    Call::Link {
+        target: object_at(args, 0, names),
+        entry: make_entry(args, 1, names),
+    }
+}
+
+pub(super) fn quota_move<K: Known>(args: &[Arg], names: &K) -> Call
+    ensures { Asked.Write result ≡ asked_of Verb.QuotaMove args.now (K.names names.now) }
+{
+    Call::QuotaMove {
+        entry: make_entry(args, 0, names),
+        change: signed_at(args, 2),
+    }
+}
+
+pub(super) fn meta_set<K: Known>(args: &[Arg], names: &K) -> Call
+    ensures { Asked.Write result ≡ asked_of Verb.MetaSet args.now (K.names names.now) }
+{
+    Call::MetaSet {
+        entry: make_entry(args, 0, names),
+        data: data_at(args, 2),
+    }
+}
+
+pub(super) fn segment_resize<K: Known>(args: &[Arg], names: &K) -> Call
+    ensures { Asked.Write result ≡ asked_of Verb.SegmentResize args.now (K.names names.now) }
+{
+    Call::SegmentResize {
+        entry: make_entry(args, 0, names),
+        pages: number_at(args, 2),
+    }
+}
+
+pub(super) fn segment_write<K: Known>(args: &[Arg], names: &K) -> Call
+    ensures { Asked.Write result ≡ asked_of Verb.SegmentWrite args.now (K.names names.now) }
+{
+    Call::SegmentWrite {
+        entry: make_entry(args, 0, names),
+        offset: number_at(args, 2),
+        data: data_at(args, 3),
+    }
+}
+
+pub(super) fn as_map<K: Known>(args: &[Arg], names: &K) -> Call
+    ensures { Asked.Write result ≡ asked_of Verb.AsMap args.now (K.names names.now) }
+{
+    Call::AsMap {
+        space: make_entry(args, 0, names),
+        slot: number_at(args, 2),
+        mapping: make_mapping(args, 3, names),
+    }
+}
+
+pub(super) fn as_unmap<K: Known>(args: &[Arg], names: &K) -> Call
+    ensures { Asked.Write result ≡ asked_of Verb.AsUnmap args.now (K.names names.now) }
+{
+    Call::AsUnmap {
+        space: make_entry(args, 0, names),
+        slot: number_at(args, 2),
+    }
+}
+
+pub(super) fn store(args: &[Arg]) -> Call
+    ensures { Asked.Write result ≡ asked_of Verb.Store args.now [] }
+{
+    Call::Store {
+        address: wide_at(args, 0),
+        data: data_at(args, 1),
+    }
+}
+
+pub(super) fn gate_enter<K: Known>(args: &[Arg], names: &K) -> Call
+    ensures { Asked.Write result ≡ asked_of Verb.GateEnter args.now (K.names names.now) }
+{
+    Call::GateEnter {
+        gate: make_entry(args, 0, names),
+        label: label_at(args, 2, names),
+        clearance: label_at(args, 3, names),
+        verify: label_at(args, 4, names),
+    }
+}
+
+pub(super) fn dev_send<K: Known>(args: &[Arg], names: &K) -> Call
+    ensures { Asked.Write result ≡ asked_of Verb.DevSend args.now (K.names names.now) }
+{
+    Call::DevSend {
+        entry: make_entry(args, 0, names),
+        data: data_at(args, 2),
+    }
+}

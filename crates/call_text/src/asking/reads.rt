@@ -1,0 +1,54 @@
+//! Calls that change nothing.
+ghost use Rattle.std.specs.Prelude.{◌≡◌, []};
+ghost use Rattle.call_text.specs.Asked.{asked_of};
+
+use super::Asked;
+use crate::known_names::Known;
+use crate::places::{make_entry, number_at, object_at, wide_at};
+use kernel_rules::Query;
+use text_rows::{Arg, Verb};
+
+pub(super) fn container_list<K: Known>(args: &[Arg], names: &K) -> Query
+    ensures { Asked.Read result ≡ asked_of Verb.ContainerList args.now (K.names names.now) }
+{
+    Query::ContainerList {
+        container: object_at(args, 0, names),
+        from: number_at(args, 1),
+    }
+}
+
+pub(super) fn container_parent<K: Known>(args: &[Arg], names: &K) -> Query
+    ensures { Asked.Read result ≡ asked_of Verb.ContainerParent args.now (K.names names.now) }
+{
+    Query::ContainerParent {
+        container: object_at(args, 0, names),
+    }
+}
+
+pub(super) fn segment_read<K: Known>(args: &[Arg], names: &K) -> Query
+    ensures { Asked.Read result ≡ asked_of Verb.SegmentRead args.now (K.names names.now) }
+{
+    Query::SegmentRead {
+        entry: make_entry(args, 0, names),
+        offset: number_at(args, 2),
+        count: number_at(args, 3),
+    }
+}
+
+pub(super) fn as_get<K: Known>(args: &[Arg], names: &K) -> Query
+    ensures { Asked.Read result ≡ asked_of Verb.AsGet args.now (K.names names.now) }
+{
+    Query::AsGet {
+        space: make_entry(args, 0, names),
+        slot: number_at(args, 2),
+    }
+}
+
+pub(super) fn load(args: &[Arg]) -> Query
+    ensures { Asked.Read result ≡ asked_of Verb.Load args.now [] }
+{
+    Query::Load {
+        address: wide_at(args, 0),
+        count: number_at(args, 1),
+    }
+}

@@ -1,0 +1,63 @@
+-- The entries of a map as a list of names with their values.
+use Rattle.std.proofs.Common.{◌≡◌, ℕ, true, false, cond, eqb, List, [], ◌∷◌, ◌++◌, length, Option, Some, None, is_some, refl, sym, ap, ◌∙◌, subst}
+use Rattle.std.specs.Bool.{Decides, one_answer}
+use Rattle.std.specs.Cmp.Lexicographic.{pointwise, bytes_decides}
+use Rattle.std.specs.Map.{lookup}
+use Rattle.std.specs.Str.{bytes_eq}
+use Rattle.std.proofs.lemmas.Bool.{eqb-true}
+use Rattle.std.proofs.lemmas.List.{map_push}
+use Rattle.indexmap.specs.IndexMap.{insert_entry}
+use Rattle.indexmap.proofs.MapLemmas.{insert_entry-absent, absent_from_lookup}
+use Rattle.base.specs.Padded.{padded}
+use Rattle.text_words.proofs.NameLemmas.{padded_is_one}
+use Rattle.text_words.proofs.Split.{both_true}
+use Rattle.text_words.specs.contracts.names.NamePartialEq.TheImpl.{eq-value}
+use Rattle.call_text.specs.declared.known_names.Named.{Named}
+use Rattle.call_text.specs.declared.known_names.Value.{Value}
+use Rattle.call_text.specs.Known.{value_of}
+use Rattle.script_runner.specs.Names.{named, named_of, unless_bound, bound}
+
+eqb_self : (n : ℕ) → eqb n n ≡ true
+eqb_self n = (both_true (eqb n n) true ((bytes_decides (n ∷ []) (n ∷ [])).1 refl)).0
+
+same_self : (a : List ℕ) → eq-value.it a a ≡ true
+same_self a = rw (eqb_self (length a)) ((bytes_decides (padded 16 0 a) (padded 16 0 a)).1 refl)
+
+-- names are one as keys where their bytes are
+same_decides : (a b : List ℕ) → Decides (eq-value.it a b) (b ≡ a)
+same_decides a b = (
+  λ h. (let p = both_true (eqb (length a) (length b)) (pointwise eqb (padded 16 0 a) (padded 16 0 b)) h in
+      sym (padded_is_one a b (eqb-true (length a) (length b) p.0) ((bytes_decides (padded 16 0 a) (padded 16 0 b)).0 p.1))),
+  λ e. subst (λ (x : List ℕ). eq-value.it x b ≡ true) e (same_self b),
+)
+
+pub same_name : (a b : List ℕ) → eq-value.it a b ≡ bytes_eq b a
+same_name a b = one_answer (eq-value.it a b) (bytes_eq b a) (same_decides a b) (bytes_decides b a)
+
+-- a look-up finds the value of the first entry with the name
+pub lookup_is : (name : List ℕ) (entries : List (List ℕ × Value)) → lookup (eq-value.it name) entries ≡ value_of name (named_of entries)
+lookup_is name [] = refl
+lookup_is name (e ∷ es) = (λ i. cond (same_name name e.0 i) (Some e.1) (lookup_is name es i))
+
+none_of : (v : Option Value) → is_some v ≡ false → v ≡ None
+none_of None e = refl
+none_of (Some x) e = absurd cc
+
+stays : (v : Option Value) (n : Named) (names : List Named) → is_some v ≡ true → names ≡ unless_bound v n names
+stays None n names e = absurd cc
+stays (Some x) n names e = refl
+
+-- a name that is bound already stays bound to what it was
+pub bound_already : (entries : List (List ℕ × Value)) (n : Named) (names : List Named) → named_of entries ≡ names → is_some (lookup (eq-value.it n.name) entries) ≡ true → names ≡ bound n names
+bound_already entries n names view has =
+    let v : lookup (eq-value.it n.name) entries ≡ value_of n.name names = lookup_is n.name entries ∙ ap (value_of n.name) view in
+    stays (value_of n.name names) n names (sym (ap is_some v) ∙ has)
+
+-- a new name comes last
+pub bound_last : (entries after : List (List ℕ × Value)) (n : Named) (names : List Named) → named_of entries ≡ names → is_some (lookup (eq-value.it n.name) entries) ≡ false
+    → after ≡ insert_entry eq-value.it entries n.name n.value → named_of after ≡ bound n names
+bound_last entries after n names view has e =
+    let none = none_of (lookup (eq-value.it n.name) entries) has in
+    let v : value_of n.name names ≡ None = sym (ap (value_of n.name) view) ∙ sym (lookup_is n.name entries) ∙ none in
+    let last : after ≡ entries ++ (n.name, n.value) ∷ [] = e ∙ insert_entry-absent eq-value.it n.name n.value entries (absent_from_lookup (eq-value.it n.name) entries none) in
+    ap named_of last ∙ map_push named entries (n.name, n.value) ∙ ap (λ (ns : List Named). ns ++ n ∷ []) view ∙ sym (ap (λ (x : Option Value). unless_bound x n names) v)
