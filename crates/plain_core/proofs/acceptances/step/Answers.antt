@@ -10,3 +10,15 @@ returns-in-Some-clause-reply c = sym (step_refused _ _ _ _ (sym c.refused.ensure
 
 pub returns-in-Some-clause-ok : goal.returns-in-Some-clause-ok
 returns-in-Some-clause-ok c = sym (step_refused _ _ _ _ (sym c.refused.ensures ∙ c.in-Some.is)).1
+
+pub returns-in_ok-reply-in-None-clause-reply : goal.returns-in_ok-reply-in-None-clause-reply
+returns-in_ok-reply-in-None-clause-reply c =
+    c.in_ok-reply-in-None.ensures.reply
+    ∙ sym (step_done _ _ _ (sym c.refused.ensures ∙ c.in-None.is)).0
+
+pub returns-in_ok-reply-in-None-clause-ok : goal.returns-in_ok-reply-in-None-clause-ok
+returns-in_ok-reply-in-None-clause-ok c =
+    c.in_ok-reply-in-None.ensures.ok
+    ∙ settled_next _ _ _ (sym c.refused.ensures ∙ c.in-None.is)
+    (subst (λ (s : State). is_well_formed s ≡ true) c.in_ok-reply-in-None.ensures.ok
+    c.well_formed-in-None.ensures)
