@@ -26,12 +26,12 @@ unfolding refused
 container_fits s t d x q avoid kinds h =
     let none = none_hold (halted s t ++ row s t (call.ContainerCreate d x q avoid)) h in
     record {
-        container = (and_parts _ _ (and_parts _ _ (not-false _ none.1.0)).0).0;
-        enough = ltb-false _ _ none.1.1.1.1.1.0;
-        room = ltb-false _ _ none.1.1.1.1.1.1.0;
-        left = leb-false _ _ none.1.1.1.1.1.1.1.1.0;
-        empty = refl;
-        whole = refl;
+      container = (and_parts _ _ (and_parts _ _ (not-false _ none.1.0)).0).0;
+      enough = ltb-false _ _ none.1.1.1.1.1.0;
+      room = ltb-false _ _ none.1.1.1.1.1.1.0;
+      left = leb-false _ _ none.1.1.1.1.1.1.1.1.0;
+      empty = refl;
+      whole = refl;
     }
 
 -- where nothing refuses to read the list, it reaches as far as is asked

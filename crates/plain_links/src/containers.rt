@@ -27,7 +27,6 @@ pub fn refused_container_create(
 {
     let halted = state.halted(thread);
     let fresh = state.new_object(thread, Kind::Container, container, quota, 1, raw, meter);
-    let _ = avoid;
     least_of(halted, fresh)
 }
 
@@ -81,12 +80,7 @@ pub fn refused_container_list(
 
 /// The length of a container's list, and up to 16 of its ids.
 #[tactic(auto, using(crate::proofs::ContainerLaws::list_reaches))]
-pub fn container_list(
-    state: &PlainState,
-    thread: ObjectId,
-    container: ObjectId,
-    from: u32,
-) -> Reply
+pub fn container_list(state: &PlainState, thread: ObjectId, container: ObjectId, from: u32) -> Reply
     requires { query_refused (state_of state.now) thread
         (query.ContainerList container from) ≡ None }
     ensures { result ≡ found (state_of state.now) thread
@@ -123,6 +117,5 @@ pub fn container_parent(state: &PlainState, thread: ObjectId, container: ObjectI
         (query.ContainerParent container) ≡ None }
     ensures { result ≡ found (state_of state.now) thread (query.ContainerParent container) }
 {
-    let _ = thread;
     Reply::Parent(state.parent(container))
 }

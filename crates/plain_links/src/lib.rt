@@ -6,6 +6,8 @@
 mod containers;
 mod links;
 mod quotas;
+#[cfg(test)]
+mod tests;
 
 pub use containers::{
     container_create, container_list, container_parent, refused_container_create,
@@ -13,5 +15,5 @@ pub use containers::{
 };
 pub use links::{link, refused_link, refused_unref, unref};
 pub use quotas::{
-    obj_quota, quota_move,    refused_obj_quota, refused_quota_move, refused_set_fixed, set_fixed,
+    obj_quota, quota_move, refused_obj_quota, refused_quota_move, refused_set_fixed, set_fixed,
 };

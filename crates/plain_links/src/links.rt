@@ -66,7 +66,6 @@ pub fn link(
         ≡ edit (state_of state.old) thread (call.Link target entry.now)) }
     ensures err { OnErr result (state_of state.new ≡ state_of state.old) }
 {
-    let _ = thread;
     state.link(target, entry)?;
     Ok(Reply::Done)
 }
@@ -116,7 +115,6 @@ pub fn unref(state: &mut PlainState, thread: ObjectId, entry: &Entry) -> Result<
         ≡ restricted (edit (state_of state.old) thread (call.Unref entry.now))) }
     ensures err { OnErr result (state_of state.new ≡ state_of state.old) }
 {
-    let _ = thread;
     state.unlink(entry)?;
     Ok(Reply::Done)
 }

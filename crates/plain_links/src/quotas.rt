@@ -31,10 +31,10 @@ fn pages_down(change: i32) -> u32
 fn is_without_room(state: &PlainState, thread: ObjectId, entry: &Entry, change: i32) -> bool
     ensures { result ≡ is_without_room (state_of state.now) thread entry.now change }
 {
-    let _ = thread;
     let up = pages_up(change);
     let down = pages_down(change);
-    (0 < up && state.is_over(entry.container, up)) || (0 < down && state.is_over(entry.object, down))
+    (0 < up && state.is_over(entry.container, up))
+        || (0 < down && state.is_over(entry.object, down))
 }
 
 /// Whether an object is not observed whose quota is to go down.
@@ -97,7 +97,6 @@ pub fn quota_move(state: &mut PlainState, thread: ObjectId, entry: &Entry, chang
     ensures state { state_of state.new
         ≡ edit (state_of state.old) thread (call.QuotaMove entry.now change) }
 {
-    let _ = thread;
     state.move_quota(entry, pages_up(change), pages_down(change));
     Reply::Done
 }
@@ -152,12 +151,12 @@ pub fn refused_obj_quota(
     let halted = !state.is_live_kind(Kind::Thread, thread);
     let accessible = state.is_accessible(thread, entry.container, meter);
     let held = state.holds(entry);
-    let observed = state.observes(thread, entry.object, meter);
+    let shown = state.observes(thread, entry.object, meter);
     let row = [
         (Refusal::Halted, halted),
         (Refusal::NoAccess, !accessible),
         (Refusal::NoEntry, !held),
-        (Refusal::CannotObserve, !observed),
+        (Refusal::CannotObserve, !shown),
     ];
     least(&row)
 }
@@ -167,7 +166,6 @@ pub fn obj_quota(state: &PlainState, thread: ObjectId, entry: &Entry) -> Reply
     requires { query_refused (state_of state.now) thread (query.ObjQuota entry.now) ≡ None }
     ensures { result ≡ found (state_of state.now) thread (query.ObjQuota entry.now) }
 {
-    let _ = thread;
     match state.object(entry.object) {
         None => Reply::Done,
         Some(object) => Reply::Quota {
