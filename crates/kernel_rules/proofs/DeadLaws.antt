@@ -90,8 +90,7 @@ leads_after : (k : ℕ) (es : List (ℕ × Object)) → is_live (lists_of es) k 
 leads_after k es dead a [] o live h = h
 leads_after k es dead a (b ∷ path) o live h =
     let other : a ≢ k = (λ e. both_ways (is_live (lists_of es) k) dead
-    (subst (λ j. is_live (lists_of es) j ≡ true) e live)) in
-    (
+    (subst (λ j. is_live (lists_of es) j ≡ true) e live)) in (
       links_after k es a b other h.0,
       leads_after k es dead b path o (live_link (lists_of es) a b live h.0) h.1,
     )

@@ -233,11 +233,10 @@ last_link lists a (b ∷ path) o h = elim (last_link lists b path o h.1) [
 leads_passing : (es : List (ℕ × Object)) (a : ℕ) (path : List ℕ) (o : ℕ) → is_live (lists_of es) a ≡ true
     → Leads (lists_of es) a path o → Leads (lists_of (passing (is_live (lists_of es)) es)) a path o
 leads_passing es a [] o live h = h
-leads_passing es a (b ∷ path) o live h =
-    (
-      links_passing (is_live (lists_of es)) es a b live h.0,
-      leads_passing es b path o (live_link (lists_of es) a b live h.0) h.1,
-    )
+leads_passing es a (b ∷ path) o live h = (
+  links_passing (is_live (lists_of es)) es a b live h.0,
+  leads_passing es b path o (live_link (lists_of es) a b live h.0) h.1,
+)
 
 -- what was live is live among the live
 live_passing : (es : List (ℕ × Object)) (o : ℕ) → is_live (lists_of es) o ≡ true

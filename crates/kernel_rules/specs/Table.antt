@@ -140,11 +140,14 @@ module _ (s : State) (t : ℕ) where
   row (call.GateEnter e r q v) =
       in_container s t e ++ of_kind s t kinds.Gate e.object ++ good_label s t r
       ++ good_label s t q ++ good_label s t v
-      ++ (GateDenied, not (may_enter (own_bearer s t) (gate_bearer s e.object) (record {
-        label = stored r;
-        clearance = stored q;
-        verify = stored v;
-      }))) ∷ []
+      ++ (
+        GateDenied,
+        not (may_enter (own_bearer s t) (gate_bearer s e.object) (record {
+          label = stored r;
+          clearance = stored q;
+          verify = stored v;
+        })),
+      ) ∷ []
   row (call.DevSend e bytes) =
       in_container s t e ++ of_kind s t kinds.Device e.object ++ modified s t e.object
       ++ (Bounds, length bytes == 0) ∷ (DeviceFull, nat_le 4 (length (packets_at s e.object))) ∷ []

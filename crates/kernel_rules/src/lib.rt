@@ -5,7 +5,6 @@
 #![tactic(auto)]
 
 mod calls;
-
 mod lists;
 mod objects;
 mod places;
@@ -13,8 +12,8 @@ mod refusing;
 mod replies;
 
 pub use calls::{Call, Entry, Query};
-pub use refusing::{least, least_of};
 pub use lists::{Bytes, IdList, Ids, Packets, Slots};
 pub use objects::{Body, Gate, Mapping, Object, Thread, fresh_object};
 pub use places::Place;
+pub use refusing::{least, least_of};
 pub use replies::Reply;

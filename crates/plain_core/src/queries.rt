@@ -7,8 +7,8 @@ ghost use Rattle.plain_state.specs.StateOf.{state_of};
 use base::{Meter, ObjectId, Refusal};
 use kernel_rules::{Query, Reply};
 use plain_links::{
-    container_list, container_parent, obj_quota, refused_container_list,
-    refused_container_parent, refused_obj_quota,
+    container_list, container_parent, obj_quota, refused_container_list, refused_container_parent,
+    refused_obj_quota,
 };
 use plain_memory::{
     as_get, load, meta_get, refused_as_get, refused_load, refused_meta_get, refused_segment_len,

@@ -71,11 +71,10 @@ unfolding refused
 segment_fits s t d x q pages h =
     let none = none_hold (halted s t ++ row s t (call.SegmentCreate d x q pages)) h in
     record {
-        container = (and_parts _ _ (and_parts _ _ (not-false _ none.1.0)).0).0;
-        enough = cost_zeroed pages q (ltb-false _ _ none.1.1.1.1.1.0);
-        room = ltb-false _ _ none.1.1.1.1.1.1.0;
-        left = leb-false _ _ none.1.1.1.1.1.1.1.1.0;
-        empty = refl;
-        whole = whole_zeroed pages (ltb-false _ _ none.1.1.1.1.1.1.1.1.1.1.1.0);
+      container = (and_parts _ _ (and_parts _ _ (not-false _ none.1.0)).0).0;
+      enough = cost_zeroed pages q (ltb-false _ _ none.1.1.1.1.1.0);
+      room = ltb-false _ _ none.1.1.1.1.1.1.0;
+      left = leb-false _ _ none.1.1.1.1.1.1.1.1.0;
+      empty = refl;
+      whole = whole_zeroed pages (ltb-false _ _ none.1.1.1.1.1.1.1.1.1.1.1.0);
     }
-

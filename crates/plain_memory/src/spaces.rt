@@ -141,8 +141,11 @@ fn refused_slot(
     ensures { result ≡ refusal_of (modified (state_of state.now) thread id
         ++ not_immutable (state_of state.now) thread id
         ++ (Bounds, not (is_mapping slot mapping.now))
-        ∷ (Overlap, is_some (slot_at (state_of state.now) id slot)
-        || list_any (meets mapping.now) (slots_at (state_of state.now) id)) ∷ []) }
+        ∷ (
+          Overlap,
+          is_some (slot_at (state_of state.now) id slot)
+              || list_any (meets mapping.now) (slots_at (state_of state.now) id),
+        ) ∷ []) }
 {
     let observed = state.observes(thread, id, meter);
     let below = state.flows_to(thread, id, meter);

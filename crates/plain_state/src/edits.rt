@@ -60,12 +60,7 @@ impl PlainState {
 
     /// A thread gets this label and clearance, where both are there, and the next category is given
     /// away.
-    pub fn own_category(
-        &mut self,
-        thread: ObjectId,
-        label: Option<Label>,
-        clearance: Option<Label>,
-    )
+    pub fn own_category(&mut self, thread: ObjectId, label: Option<Label>, clearance: Option<Label>)
         requires left { (state_of self.old).next_category < 2 ^ 61 }
         requires label { IfSome label IsStored }
         requires clearance { IfSome clearance IsStored }

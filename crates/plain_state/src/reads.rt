@@ -124,12 +124,7 @@ impl PlainState {
     }
 
     /// Whether an id is that of a live container that the thread observes.
-    pub fn is_accessible(
-        &self,
-        thread: ObjectId,
-        container: ObjectId,
-        meter: &mut Meter,
-    ) -> bool
+    pub fn is_accessible(&self, thread: ObjectId, container: ObjectId, meter: &mut Meter) -> bool
         ensures { result ≡ is_accessible (state_of self.now) thread container }
     {
         self.is_live_kind(Kind::Container, container) && self.observes(thread, container, meter)

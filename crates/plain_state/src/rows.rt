@@ -219,7 +219,7 @@ impl PlainState {
         raw_clearance: &RawLabel,
         meter: &mut Meter,
     ) -> Option<Refusal>
-                ensures { result ≡ refusal_of (new_bearer (state_of self.now) thread
+        ensures { result ≡ refusal_of (new_bearer (state_of self.now) thread
             kind container raw.now quota raw_clearance.now) }
     {
         let label = stored_of(raw, meter);

@@ -53,7 +53,8 @@ fn first_dead(records: &Records) -> Option<ObjectId>
 
 fn remove(records: &mut Records, id: ObjectId)
     ensures { records_state records.new ≡ record (records_state records.old) {
-        objects = remove_entry (is_at (nat_cmp id)) (records_state records.old).objects } }
+      objects = remove_entry (is_at (nat_cmp id)) (records_state records.old).objects;
+    } }
 {
     let _ = records.objects.remove(&id);
 }

@@ -21,4 +21,3 @@ use Rattle.kernel_rules.proofs.RowLaws.{none_hold}
 pub category_left : (s : State) (t : ℕ) → refused s t call.CatCreate ≡ None → s.next_category < 2 ^ 61
 unfolding refused
 category_left s t h = leb-false _ _ (none_hold (halted s t ++ row s t call.CatCreate) h).1.1.0
-

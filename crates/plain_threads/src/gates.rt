@@ -127,9 +127,9 @@ fn asked_of(
     meter: &mut Meter,
 ) -> Asked
     ensures value { result ≡ record {
-        label = stored raw.now;
-        clearance = stored raw_clearance.now;
-        verify = stored raw_verify.now;
+      label = stored raw.now;
+      clearance = stored raw_clearance.now;
+      verify = stored raw_verify.now;
     } }
     ensures label { IfSome result.label IsStored }
     ensures clearance { IfSome result.clearance IsStored }

@@ -34,7 +34,12 @@ pub fn may_enter(thread: &Bearer, gate: &Bearer, asked: &Asked, meter: &mut Mete
 {
     is_below(thread.label.as_ref(), gate.clearance.as_ref(), meter)
         && is_below(thread.label.as_ref(), asked.verify.as_ref(), meter)
-        && is_above_floor(thread.label.as_ref(), gate.label.as_ref(), asked.label.as_ref(), meter)
+        && is_above_floor(
+            thread.label.as_ref(),
+            gate.label.as_ref(),
+            asked.label.as_ref(),
+            meter,
+        )
         && is_below(asked.label.as_ref(), asked.clearance.as_ref(), meter)
         && is_below_join(
             asked.clearance.as_ref(),
