@@ -157,6 +157,49 @@ fn want_of_memory_changes_nothing(rt: HostRuntime) -> Result<(), Fail> {
 }
 
 #[test]
+fn three_writes_are_run(rt: HostRuntime) -> Result<(), Fail> {
+    let bytes = [
+        0, 1, 2, 3, 4, 5, 6, 7, 8, 9, 10, 11, 12, 13, 14, 15, 16, 17, 18, 19, 20, 21, 22, 23, 24,
+        25, 26, 27, 28, 29, 30, 31, 32, 33, 34, 35, 36, 37, 38, 39, 40, 41, 42, 43, 44, 45, 46, 47,
+        48, 49, 50, 51, 52, 53, 54, 55, 56, 57, 58, 59, 60, 61, 62, 63,
+    ];
+    let boot = ObjectId::new(2);
+    let entry = Entry {
+        container: ObjectId::root(),
+        object: ObjectId::new(4),
+    };
+    let create = Call::SegmentCreate {
+        container: ObjectId::root(),
+        label: secret(),
+        quota: 2,
+        pages: 1,
+    };
+    let write = Call::SegmentWrite {
+        entry,
+        offset: 0,
+        data: Data::from_slice(&bytes),
+    };
+    let calls = [(boot, Call::CatCreate), (boot, create), (boot, write)];
+    let mut kernel = PlainKernel::boot(rt.alloc(), &LIMITS)?;
+    let replies = run(rt.alloc(), &mut kernel, &calls)?;
+    assert_eq!(rt; replies.len(), 3);
+    assert!(rt; matches!(replies[0], Reply::Category(Category(1))));
+    assert!(rt; matches!(replies[1], Reply::Object(id) if id.number() == 4));
+    assert!(rt; matches!(replies[2], Reply::Done));
+    let read = Query::SegmentRead {
+        entry,
+        offset: 0,
+        count: 64,
+    };
+    let mut meter = Meter::new(rt.alloc())?;
+    let Reply::Bytes(found) = kernel.ask(boot, &read, &mut meter)? else {
+        return Err(Fail::from("no bytes"));
+    };
+    assert_eq!(rt; found.as_slice(), bytes.as_slice());
+    Ok(())
+}
+
+#[test]
 fn limits_are_tested(rt: HostRuntime) {
     let mut limits = LIMITS;
     limits.pages = 7;
