@@ -1,11 +1,11 @@
 -- What is reached, and that the live part is the same once a dead record is gone.
 use Rattle.std.proofs.Common.{◌≡◌, ◌≢◌, ℕ, suc, Bool, true, false, cond, ◌&&◌, ◌||◌, ◌==◌, List, []}
-use Rattle.std.proofs.Common.{◌∷◌, ◌++◌, length, refl, sym, ◌∙◌, ap, subst, inl, inr}
-use Rattle.std.specs.List.{list_all, list_any, filter, flat_map}
+use Rattle.std.proofs.Common.{◌∷◌, length, refl, sym, ◌∙◌, ap, subst, inl, inr}
+use Rattle.std.specs.List.{filter, flat_map}
 use Rattle.std.specs.Ordering.{nat_cmp}
 use Rattle.std.specs.Map.{remove_entry}
 use Rattle.std.specs.BTreeMap.{is_at}
-use Rattle.std.proofs.lemmas.Bool.{and_parts, and_from, or_cases, both_ways, eqb-true}
+use Rattle.std.proofs.lemmas.Bool.{and_parts, or_cases, both_ways, eqb-true}
 use Rattle.std.proofs.lemmas.List.Folds.{list_any-append}
 use Rattle.base.specs.Live.{has, links, Leads, IsLive, reached, is_live}
 use Rattle.base.proofs.LiveLaw.{path_from_live, live_from_path, or_left, or_right}
@@ -90,8 +90,7 @@ leads_after : (k : ℕ) (es : List (ℕ × Object)) → is_live (lists_of es) k 
 leads_after k es dead a [] o live h = h
 leads_after k es dead a (b ∷ path) o live h =
     let other : a ≢ k = (λ e. both_ways (is_live (lists_of es) k) dead
-    (subst (λ j. is_live (lists_of es) j ≡ true) e live)) in
-    (
+    (subst (λ j. is_live (lists_of es) j ≡ true) e live)) in (
       links_after k es a b other h.0,
       leads_after k es dead b path o (live_link (lists_of es) a b live h.0) h.1,
     )
