@@ -1,6 +1,6 @@
 -- A state where some records may be dead, and its live part.
 use Rattle.std.proofs.Common.{◌≡◌, ℕ, ◌+◌, ◌≤◌, Bool, true, false, cond, ◌&&◌, ◌||◌, ◌==◌, nat_lt, nat_le}
-use Rattle.std.proofs.Common.{List, [], ◌∷◌, ◌++◌, Option, Some, None, is_some, sum_by, refl, sym, ◌∙◌, ap}
+use Rattle.std.proofs.Common.{List, [], ◌∷◌, Some, None, is_some, sum_by, refl, sym, ◌∙◌, ap}
 use Rattle.std.proofs.Common.{subst, arith, ◌⊎◌, inl, inr}
 use Rattle.std.specs.List.{list_all, filter}
 use Rattle.std.specs.Ordering.{nat_cmp}
@@ -9,7 +9,7 @@ use Rattle.std.specs.BTreeMap.{is_at}
 use Rattle.std.proofs.lemmas.Bool.{and_parts, and_from, or_cases, both_ways, eqb-true, eq-eqb, leb-true}
 use Rattle.std.proofs.lemmas.List.Sums.{sum_by-cons, sum_by-le-sum_by}
 use Rattle.std.proofs.lemmas.Map.Entries.{lookup-filter-keys}
-use Rattle.base.specs.Live.{has, links, Leads, IsLive, is_live, are_live}
+use Rattle.base.specs.Live.{has, links, Leads, IsLive, is_live}
 use Rattle.base.specs.declared.kinds.Kind.TheVariants as kinds
 use Rattle.base.proofs.LiveLaw.{path_from_live, live_from_path, or_left, or_right}
 use Rattle.kernel_rules.specs.State.{State, object_at, of_object, is_kind, listed, lists_of, live_part}

@@ -2,15 +2,15 @@
 use Rattle.std.proofs.Common.{◌≡◌, ℕ, ◌+◌, ◌≤◌, Bool, true, false, cond, not, ◌&&◌, ◌||◌, ◌==◌, nat_lt}
 use Rattle.std.proofs.Common.{List, [], ◌∷◌, Option, Some, None, is_some, sum_by, refl, sym, ◌∙◌, ap, subst}
 use Rattle.std.proofs.Common.{arith, length, nat_le}
-use Rattle.std.specs.List.{list_all, filter}
+use Rattle.std.specs.List.{list_all}
 use Rattle.std.specs.Ordering.{nat_cmp}
 use Rattle.std.specs.Map.{lookup, set_value}
 use Rattle.std.specs.BTreeMap.{is_at}
-use Rattle.std.proofs.lemmas.Bool.{and_parts, and_from, or_cases, both_ways}
+use Rattle.std.proofs.lemmas.Bool.{and_parts, and_from, both_ways}
 use Rattle.std.proofs.lemmas.List.Sums.{sum_by-cons}
 use Rattle.base.specs.Live.{has}
 use Rattle.base.specs.declared.kinds.Kind.TheVariants as kinds
-use Rattle.base.proofs.LiveLaw.{or_left, or_right}
+use Rattle.base.proofs.LiveLaw.{or_right}
 use Rattle.kernel_rules.specs.Changes.{put, changed, relist, delisting, without}
 use Rattle.kernel_rules.specs.State.{State, object_at, of_object, is_kind, listed, lists_of, list_at}
 use Rattle.kernel_rules.specs.State.{use_of, quota_at, cost_at, own_cost}
@@ -26,7 +26,6 @@ use Rattle.kernel_rules.proofs.KeptLaws.{at_put, some_put, rise-put}
 use Rattle.kernel_rules.proofs.ListerLaws.{IsKept, kept_parts}
 use Rattle.kernel_rules.proofs.LookupLaws.{all_at, lookup_put}
 use Rattle.kernel_rules.proofs.LooseLaws.{IsLoose, IsKeptLoosely, at_most_fewer, rest, rest_is, rest_sound}
-use Rattle.kernel_rules.proofs.LooseLaws.{is_listed_at_most}
 use Rattle.kernel_rules.proofs.QuotaLaws.{use_within}
 use Rattle.kernel_rules.proofs.RecordLaws.{same_id, restricted_live}
 use Rattle.kernel_rules.proofs.WellFormedLaws.{Soundness, soundness_of, well_formed_from}

@@ -24,17 +24,68 @@ fn in_root(number: u64) -> Entry {
     }
 }
 
-fn create(state: &mut PlainState, quota: u32, meter: &mut Meter) -> Result<Reply, NoMemory> {
-    let raw = RawLabel {
+fn refusal_in(reply: Reply) -> Option<Refusal> {
+    match reply {
+        Reply::Refused(refusal) => Some(refusal),
+        _ => None,
+    }
+}
+
+fn answered(outcome: Result<Reply, NoMemory>) -> Result<Option<Refusal>, NoMemory> {
+    match outcome {
+        Ok(reply) => Ok(refusal_in(reply)),
+        Err(error) => Err(error),
+    }
+}
+
+fn object_in(reply: Reply) -> Option<ObjectId> {
+    match reply {
+        Reply::Object(id) => Some(id),
+        Reply::Parent(id) => Some(id),
+        _ => None,
+    }
+}
+
+fn is_quota(reply: Reply, wanted: u32, wanted_use: u32) -> bool {
+    match reply {
+        Reply::Quota {
+            quota,
+            used,
+            fixed,
+            immutable,
+        } => quota == wanted && used == wanted_use && !fixed && !immutable,
+        _ => false,
+    }
+}
+
+fn is_list(reply: Reply, wanted: &[ObjectId]) -> bool {
+    match reply {
+        Reply::Listed { count, ids } => count == wanted.len() as u64 && ids.as_slice() == wanted,
+        _ => false,
+    }
+}
+
+fn plain() -> RawLabel {
+    RawLabel {
         default: Level::L1,
         pairs: Pairs::new(),
-    };
+    }
+}
+
+fn create(
+    state: &mut PlainState,
+    quota: u32,
+    meter: &mut Meter,
+) -> Result<Option<Refusal>, NoMemory> {
+    let thread = boot();
+    let raw = plain();
     let root = ObjectId::root();
     let avoid = TypeSet::none();
-    match refused_container_create(state, boot(), root, &raw, quota, avoid, meter) {
-        Some(refusal) => Ok(Reply::Refused(refusal)),
-        None => container_create(state, boot(), root, &raw, quota, avoid, meter),
+    let refused = refused_container_create(state, thread, root, &raw, quota, avoid, meter);
+    if refused.is_none() {
+        return answered(container_create(state, thread, root, &raw, quota, avoid, meter));
     }
+    Ok(refused)
 }
 
 fn link_in(
@@ -42,52 +93,72 @@ fn link_in(
     target: ObjectId,
     entry: &Entry,
     meter: &mut Meter,
-) -> Result<Reply, NoMemory> {
-    match refused_link(state, boot(), target, entry, meter) {
-        Some(refusal) => Ok(Reply::Refused(refusal)),
-        None => link(state, boot(), target, entry),
+) -> Result<Option<Refusal>, NoMemory> {
+    let thread = boot();
+    let refused = refused_link(state, thread, target, entry, meter);
+    if refused.is_none() {
+        return answered(link(state, thread, target, entry));
     }
+    Ok(refused)
 }
 
-fn take_out(state: &mut PlainState, entry: &Entry, meter: &mut Meter) -> Result<Reply, NoMemory> {
-    match refused_unref(state, boot(), entry, meter) {
-        Some(refusal) => Ok(Reply::Refused(refusal)),
-        None => unref(state, boot(), entry),
+fn take_out(
+    state: &mut PlainState,
+    entry: &Entry,
+    meter: &mut Meter,
+) -> Result<Option<Refusal>, NoMemory> {
+    let thread = boot();
+    let refused = refused_unref(state, thread, entry, meter);
+    if refused.is_none() {
+        return answered(unref(state, thread, entry));
     }
+    Ok(refused)
 }
 
-fn change_quota(state: &mut PlainState, entry: &Entry, change: i32, meter: &mut Meter) -> Reply {
-    match refused_quota_move(state, boot(), entry, change, meter) {
-        Some(refusal) => Reply::Refused(refusal),
-        None => quota_move(state, boot(), entry, change),
+fn change_quota(
+    state: &mut PlainState,
+    entry: &Entry,
+    change: i32,
+    meter: &mut Meter,
+) -> Option<Refusal> {
+    let thread = boot();
+    let refused = refused_quota_move(state, thread, entry, change, meter);
+    if refused.is_none() {
+        return refusal_in(quota_move(state, thread, entry, change));
     }
+    refused
 }
 
-fn fix(state: &mut PlainState, entry: &Entry, meter: &mut Meter) -> Reply {
-    match refused_set_fixed(state, boot(), entry, meter) {
-        Some(refusal) => Reply::Refused(refusal),
-        None => set_fixed(state, boot(), entry),
+fn fix(state: &mut PlainState, entry: &Entry, meter: &mut Meter) -> Option<Refusal> {
+    let thread = boot();
+    let refused = refused_set_fixed(state, thread, entry, meter);
+    if refused.is_none() {
+        return refusal_in(set_fixed(state, thread, entry));
     }
+    refused
 }
 
 fn quota_of(state: &PlainState, entry: &Entry, meter: &mut Meter) -> Reply {
-    match refused_obj_quota(state, boot(), entry, meter) {
+    let thread = boot();
+    match refused_obj_quota(state, thread, entry, meter) {
         Some(refusal) => Reply::Refused(refusal),
-        None => obj_quota(state, boot(), entry),
+        None => obj_quota(state, thread, entry),
     }
 }
 
 fn list_of(state: &PlainState, container: ObjectId, from: u32, meter: &mut Meter) -> Reply {
-    match refused_container_list(state, boot(), container, from, meter) {
+    let thread = boot();
+    match refused_container_list(state, thread, container, from, meter) {
         Some(refusal) => Reply::Refused(refusal),
-        None => container_list(state, boot(), container, from),
+        None => container_list(state, thread, container, from),
     }
 }
 
 fn parent_of(state: &PlainState, container: ObjectId, meter: &mut Meter) -> Reply {
-    match refused_container_parent(state, boot(), container, meter) {
+    let thread = boot();
+    match refused_container_parent(state, thread, container, meter) {
         Some(refusal) => Reply::Refused(refusal),
-        None => container_parent(state, boot(), container),
+        None => container_parent(state, thread, container),
     }
 }
 
@@ -95,31 +166,20 @@ fn parent_of(state: &PlainState, container: ObjectId, meter: &mut Meter) -> Repl
 fn an_object_lives_while_a_list_has_it(rt: HostRuntime) -> Result<(), Fail> {
     let mut meter = Meter::new(rt.alloc())?;
     let mut state = PlainState::boot(rt.alloc(), &LIMITS)?;
-    let Reply::Object(made) = create(&mut state, 8, &mut meter)? else {
-        return Err(Fail::from("no container"));
-    };
-    assert_eq!(rt; made.number(), 4);
-    assert!(rt; matches!(fix(&mut state, &in_root(3), &mut meter), Reply::Done));
-    assert!(rt;
-        matches!(
-            link_in(&mut state, made, &in_root(3), &mut meter)?,
-            Reply::Done
-        )
-    );
-    assert!(rt; matches!(take_out(&mut state, &in_root(3), &mut meter)?, Reply::Done));
-    assert!(rt; state.object(ObjectId::new(3)).is_some());
-    let Reply::Listed { count, ids } = list_of(&state, made, 0, &mut meter) else {
-        return Err(Fail::from("no list"));
-    };
-    assert_eq!(rt; count, 1);
-    assert_eq!(rt; ids.as_slice(), [ObjectId::new(3)].as_slice());
-    let Reply::Parent(parent) = parent_of(&state, made, &mut meter) else {
-        return Err(Fail::from("no container"));
-    };
-    assert_eq!(rt; parent, ObjectId::root());
-    assert!(rt; matches!(take_out(&mut state, &in_root(4), &mut meter)?, Reply::Done));
+    let made = ObjectId::new(4);
+    let device = ObjectId::new(3);
+    assert_eq!(rt; create(&mut state, 8, &mut meter)?, None);
+    assert!(rt; state.object(made).is_some());
+    assert_eq!(rt; fix(&mut state, &in_root(3), &mut meter), None);
+    assert_eq!(rt; link_in(&mut state, made, &in_root(3), &mut meter)?, None);
+    assert_eq!(rt; take_out(&mut state, &in_root(3), &mut meter)?, None);
+    assert!(rt; state.object(device).is_some());
+    assert!(rt; is_list(list_of(&state, made, 0, &mut meter), &[device]));
+    let parent = object_in(parent_of(&state, made, &mut meter));
+    assert_eq!(rt; parent, Some(ObjectId::root()));
+    assert_eq!(rt; take_out(&mut state, &in_root(4), &mut meter)?, None);
     assert!(rt; state.object(made).is_none());
-    assert!(rt; state.object(ObjectId::new(3)).is_none());
+    assert!(rt; state.object(device).is_none());
     Ok(())
 }
 
@@ -127,30 +187,12 @@ fn an_object_lives_while_a_list_has_it(rt: HostRuntime) -> Result<(), Fail> {
 fn quotas_go_up_and_down(rt: HostRuntime) -> Result<(), Fail> {
     let mut meter = Meter::new(rt.alloc())?;
     let mut state = PlainState::boot(rt.alloc(), &LIMITS)?;
-    let _ = create(&mut state, 8, &mut meter)?;
     let made = in_root(4);
-    assert!(rt; matches!(change_quota(&mut state, &made, 3, &mut meter), Reply::Done));
-    assert!(rt; matches!(change_quota(&mut state, &made, -2, &mut meter), Reply::Done));
-    let Reply::Quota {
-        quota,
-        used,
-        fixed,
-        immutable,
-    } = quota_of(&state, &made, &mut meter)
-    else {
-        return Err(Fail::from("no quota"));
-    };
-    assert_eq!(rt; quota, 9);
-    assert_eq!(rt; used, 1);
-    assert!(rt; !fixed && !immutable);
+    assert_eq!(rt; create(&mut state, 8, &mut meter)?, None);
+    assert_eq!(rt; change_quota(&mut state, &made, 3, &mut meter), None);
+    assert_eq!(rt; change_quota(&mut state, &made, -2, &mut meter), None);
+    assert!(rt; is_quota(quota_of(&state, &made, &mut meter), 9, 1));
     Ok(())
-}
-
-fn is_refusal(reply: Reply, wanted: Refusal) -> bool {
-    match reply {
-        Reply::Refused(refusal) => refusal == wanted,
-        _ => false,
-    }
 }
 
 #[test]
@@ -159,22 +201,23 @@ fn calls_are_refused(rt: HostRuntime) -> Result<(), Fail> {
     let mut state = PlainState::boot(rt.alloc(), &LIMITS)?;
     let root = ObjectId::root();
     let device = ObjectId::new(3);
-    let made = create(&mut state, 0, &mut meter)?;
-    assert!(rt; is_refusal(made, Refusal::NoQuota));
-    let listed = list_of(&state, root, 3, &mut meter);
-    assert!(rt; is_refusal(listed, Refusal::Bounds));
-    let parent = parent_of(&state, device, &mut meter);
-    assert!(rt; is_refusal(parent, Refusal::NoAccess));
+    assert_eq!(rt; create(&mut state, 0, &mut meter)?, Some(Refusal::NoQuota));
+    let listed = refusal_in(list_of(&state, root, 3, &mut meter));
+    assert_eq!(rt; listed, Some(Refusal::Bounds));
+    let parent = refusal_in(parent_of(&state, device, &mut meter));
+    assert_eq!(rt; parent, Some(Refusal::NoAccess));
     let linked = link_in(&mut state, root, &in_root(3), &mut meter)?;
-    assert!(rt; is_refusal(linked, Refusal::NotFixed));
-    let fixed = fix(&mut state, &in_root(9), &mut meter);
-    assert!(rt; is_refusal(fixed, Refusal::NoEntry));
+    assert_eq!(rt; linked, Some(Refusal::NotFixed));
+    assert_eq!(rt;
+        fix(&mut state, &in_root(9), &mut meter),
+        Some(Refusal::NoEntry)
+    );
     let moved = change_quota(&mut state, &in_root(3), 63, &mut meter);
-    assert!(rt; is_refusal(moved, Refusal::NoQuota));
+    assert_eq!(rt; moved, Some(Refusal::NoQuota));
     let gone = take_out(&mut state, &in_root(1), &mut meter)?;
-    assert!(rt; is_refusal(gone, Refusal::RootKept));
-    let quota = quota_of(&state, &in_root(9), &mut meter);
-    assert!(rt; is_refusal(quota, Refusal::NoEntry));
+    assert_eq!(rt; gone, Some(Refusal::RootKept));
+    let quota = refusal_in(quota_of(&state, &in_root(9), &mut meter));
+    assert_eq!(rt; quota, Some(Refusal::NoEntry));
     Ok(())
 }
 
@@ -195,22 +238,22 @@ fn want_of_memory_changes_nothing(rt: HostRuntime) -> Result<(), Fail> {
     };
     let mut state = booted(&rt)?;
     let made = match create(&mut state, 8, &mut meter) {
-        Ok(reply) => reply,
+        Ok(refused) => refused,
         Err(_) => create(&mut state, 8, &mut meter)?,
     };
-    assert!(rt; matches!(made, Reply::Object(_)));
+    assert_eq!(rt; made, None);
     let container = ObjectId::new(4);
-    assert!(rt; matches!(fix(&mut state, &in_root(3), &mut meter), Reply::Done));
+    assert_eq!(rt; fix(&mut state, &in_root(3), &mut meter), None);
     let linked = match link_in(&mut state, container, &in_root(3), &mut meter) {
-        Ok(reply) => reply,
+        Ok(refused) => refused,
         Err(_) => link_in(&mut state, container, &in_root(3), &mut meter)?,
     };
-    assert!(rt; matches!(linked, Reply::Done));
+    assert_eq!(rt; linked, None);
     let gone = match take_out(&mut state, &in_root(4), &mut meter) {
-        Ok(reply) => reply,
+        Ok(refused) => refused,
         Err(_) => take_out(&mut state, &in_root(4), &mut meter)?,
     };
-    assert!(rt; matches!(gone, Reply::Done));
+    assert_eq!(rt; gone, None);
     assert!(rt; state.object(container).is_none());
     assert!(rt; state.object(ObjectId::new(3)).is_some());
     Ok(())
