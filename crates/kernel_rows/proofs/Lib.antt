@@ -1,0 +1,4 @@
+pub mod Corners
+pub mod Hostile
+pub mod Large
+pub mod Worked

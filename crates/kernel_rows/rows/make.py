@@ -1,0 +1,281 @@
+#!/usr/bin/env python3
+"""Makes proofs/*.antt from rows/*.txt: each script, with what each of its lines answers, as a theorem by computation.
+
+A script begins with '## NAME' and words OPTION=VALUE (pages, device, next-id, next-category). Each line is
+'WORKER: CALL => REPLY' or 'NAME = WORKER: CALL => REPLY' in the words of scripts and replies; data may be NxBB, N bytes BB.
+'--' parts phases and says nothing here. A line '! ids A B ..', '! uses ID PAGES ..' or '! next ID' tells the end: the recorded ids,
+the uses of some, the next id. Run it in crates/kernel_rows as: rows/make.py
+"""
+import re
+import sys
+from pathlib import Path
+
+REFUSALS = (
+    'Halted NoAccess NoEntry WrongType CannotObserve CannotModify BadLabel LabelRange ClearanceRange LabelFull AvoidType '
+    'NoQuota FixedQuota NotFixed AlreadyLinked RootKept Immutable Bounds NotMapped RightsDenied Overlap GateDenied DeviceFull '
+    'DeviceEmpty Spent'
+).split()
+LEVELS = {'*': 'Star', '0': 'L0', '1': 'L1', '2': 'L2', '3': 'L3'}
+CREATES = {'container_create', 'segment_create', 'segment_copy', 'as_create', 'thread_create', 'gate_create'}
+
+
+def listed(items):
+    return '(' + ''.join(f'{item} ∷ ' for item in items) + '[])'
+
+
+class Row:
+    def __init__(self, name, options):
+        self.name = name
+        self.names = {'root': 1, 'boot': 2, 'dev': 3}
+        self.limits = (
+            f"(limits {options.get('pages', 64)} {LEVELS[options.get('device', '1')]} {options.get('next-id', 4)} "
+            f"{options.get('next-category', 1)})"
+        )
+        self.next_id = int(options.get('next-id', 4))
+        self.next_category = int(options.get('next-category', 1))
+        self.lines, self.replies, self.ends = [], [], []
+
+    def number(self, word):
+        if word.startswith('#'):
+            return word[1:]
+        if word not in self.names:
+            sys.exit(f'{self.name}: unknown name {word}')
+        return str(self.names[word])
+
+    def pairs(self, word):
+        *pairs, default = word.strip('{}').split(',')
+        pairs = [pair.rsplit(':', 1) for pair in pairs]
+        return LEVELS[default], listed(f'at {self.number(c)} {LEVELS[l]}' for c, l in pairs)
+
+    def raw(self, word):
+        return '(raw {} {})'.format(*self.pairs(word))
+
+    def label(self, word):
+        return '(label {} {})'.format(*self.pairs(word))
+
+    def entry(self, container, thing):
+        return f'(entry {self.number(container)} {self.number(thing)})'
+
+    def data(self, word):
+        if word == '-':
+            return '[]'
+        many = re.fullmatch(r'(\d+)x([0-9a-f]{2})', word)
+        return listed([int(many[2], 16)] * int(many[1]) if many else bytes.fromhex(word))
+
+    def mapping(self, words):
+        page, container, thing, first, count, rights = words
+        bits = ('r' in rights) + 2 * ('w' in rights)
+        return f'(mapping {page} {self.entry(container, thing)} {first} {count} {bits})'
+
+    def call(self, verb, a):
+        number, raw, entry = self.number, self.raw, self.entry
+        if verb == 'cat_create':
+            return 'W', 'call.CatCreate'
+        if verb == 'self_set_label':
+            return 'W', f'call.SelfSetLabel {raw(a[0])}'
+        if verb == 'self_set_clearance':
+            return 'W', f'call.SelfSetClearance {raw(a[0])}'
+        if verb == 'self_set_as':
+            return 'W', f'call.SelfSetAs {entry(a[0], a[1])}'
+        if verb == 'container_create':
+            bits = sum(1 << place for place, letter in enumerate('csatgd') if letter in a[3])
+            return 'W', f'call.ContainerCreate {number(a[0])} {raw(a[1])} {a[2]} (kinds {bits})'
+        if verb == 'segment_create':
+            return 'W', f'call.SegmentCreate {number(a[0])} {raw(a[1])} {a[2]} {a[3]}'
+        if verb == 'segment_copy':
+            return 'W', f'call.SegmentCopy {number(a[0])} {raw(a[1])} {a[2]} {entry(a[3], a[4])}'
+        if verb == 'as_create':
+            return 'W', f'call.AsCreate {number(a[0])} {raw(a[1])} {a[2]}'
+        if verb == 'thread_create':
+            return 'W', f'call.ThreadCreate {number(a[0])} {raw(a[1])} {a[2]} {raw(a[3])} {a[4]}'
+        if verb == 'gate_create':
+            head = f'call.GateCreate {number(a[0])} {raw(a[1])} {a[2]} {raw(a[3])}'
+            return 'W', f'{head} {entry(a[4], a[5])} {a[6]} {a[7]}'
+        if verb == 'link':
+            return 'W', f'call.Link {number(a[0])} {entry(a[1], a[2])}'
+        if verb == 'quota_move':
+            change = f'(negsuc {-int(a[2]) - 1})' if a[2].startswith('-') else f'(pos {a[2]})'
+            return 'W', f'call.QuotaMove {entry(a[0], a[1])} {change}'
+        if verb in ('unref', 'set_fixed', 'set_immutable', 'dev_recv'):
+            name = {'unref': 'Unref', 'set_fixed': 'SetFixed', 'set_immutable': 'SetImmutable', 'dev_recv': 'DevRecv'}[verb]
+            return 'W', f'call.{name} {entry(a[0], a[1])}'
+        if verb in ('meta_set', 'dev_send'):
+            name = {'meta_set': 'MetaSet', 'dev_send': 'DevSend'}[verb]
+            return 'W', f'call.{name} {entry(a[0], a[1])} {self.data(a[2])}'
+        if verb == 'segment_resize':
+            return 'W', f'call.SegmentResize {entry(a[0], a[1])} {a[2]}'
+        if verb == 'segment_write':
+            return 'W', f'call.SegmentWrite {entry(a[0], a[1])} {a[2]} {self.data(a[3])}'
+        if verb == 'as_map':
+            return 'W', f'call.AsMap {entry(a[0], a[1])} {a[2]} {self.mapping(a[3:])}'
+        if verb == 'as_unmap':
+            return 'W', f'call.AsUnmap {entry(a[0], a[1])} {a[2]}'
+        if verb == 'store':
+            return 'W', f'call.Store {a[0]} {self.data(a[1])}'
+        if verb == 'gate_enter':
+            return 'W', f'call.GateEnter {entry(a[0], a[1])} {raw(a[2])} {raw(a[3])} {raw(a[4])}'
+        if verb == 'self_get':
+            return 'R', 'query.SelfGet'
+        if verb in ('obj_label', 'obj_quota', 'segment_len', 'meta_get'):
+            name = {'obj_label': 'ObjLabel', 'obj_quota': 'ObjQuota', 'segment_len': 'SegmentLen', 'meta_get': 'MetaGet'}[verb]
+            return 'R', f'query.{name} {entry(a[0], a[1])}'
+        if verb == 'container_list':
+            return 'R', f'query.ContainerList {number(a[0])} {a[1]}'
+        if verb == 'container_parent':
+            return 'R', f'query.ContainerParent {number(a[0])}'
+        if verb == 'segment_read':
+            return 'R', f'query.SegmentRead {entry(a[0], a[1])} {a[2]} {a[3]}'
+        if verb == 'as_get':
+            return 'R', f'query.AsGet {entry(a[0], a[1])} {a[2]}'
+        if verb == 'load':
+            return 'R', f'query.Load {a[0]} {a[1]}'
+        sys.exit(f'{self.name}: unknown call {verb}')
+
+    def reply(self, verb, words, binds):
+        kind, *r = words
+        if kind == 'ok':
+            return 'reply.Done'
+        if kind == 'cat':
+            made, self.next_category = self.next_category, self.next_category + 1
+            self.bind(binds or r[0], made)
+            return f'reply.Category (category {made})'
+        if kind == 'id':
+            made, self.next_id = self.next_id, self.next_id + 1
+            self.bind(binds or r[0], made)
+            return f'reply.Object {made}'
+        if kind == 'refused':
+            assert REFUSALS[int(r[0]) - 1] == r[1], words
+            return f'reply.Refused {r[1]}'
+        if kind == 'entered':
+            return f'reply.Entered {r[0]} {r[1]}'
+        if kind == 'data':
+            return f'reply.Bytes {self.data(r[0])}'
+        if kind == 'self':
+            labels = ' '.join(self.label(word) for word in r[:3])
+            return f'reply.Own {labels} {self.entry(r[3], r[4])} {r[5]} {r[6]}'
+        if kind == 'label':
+            return f'reply.Label {self.label(r[0])}'
+        if kind == 'quota':
+            flags = ' '.join('true' if word == '1' else 'false' for word in r[2:4])
+            return f'reply.Quota {r[0]} {r[1]} {flags}'
+        if kind == 'list':
+            return f'reply.Listed {r[0]} {listed(self.number(word) for word in r[1:])}'
+        if kind == 'parent':
+            return f'reply.Parent {self.number(r[0])}'
+        if kind == 'pages':
+            return f'reply.Pages {r[0]}'
+        if kind == 'mapping':
+            return 'reply.Mapping None' if r[0] == 'none' else f'reply.Mapping (Some {self.mapping(r)})'
+        sys.exit(f'{self.name}: unknown reply {kind}')
+
+    def bind(self, name, value):
+        if not name.startswith('#'):
+            self.names.setdefault(name, value)
+
+    def line(self, text):
+        asked, answered = (part.strip() for part in text.split('=>'))
+        binds, who, call = re.fullmatch(r'(?:(\w+) = )?([#\w]+): (.*)', asked).groups()
+        thread = self.number(who)
+        verb, *words = call.split()
+        kind, value = self.call(verb, words)
+        self.lines.append(f'{kind} {thread} ({value})')
+        self.replies.append(self.reply(verb, answered.split(), binds))
+
+    def end(self, text):
+        kind, *words = text.split()
+        if kind == 'ids':
+            self.ends.append(f'ids ended ≡ {listed(words)}')
+        elif kind == 'next':
+            self.ends.append(f'ended.next_id ≡ {words[0]}')
+        elif kind == 'uses':
+            self.ends += [f'use_of ended {o} ≡ {n}' for o, n in zip(words[::2], words[1::2])]
+
+    def theorem(self):
+        calls = '\n    ∷ '.join(self.lines)
+        replies = '\n    ∷ '.join(self.replies)
+        text = f'''abbrev {self.name}_lines : List Line
+{self.name}_lines =
+    {calls} ∷ []
+
+pub {self.name} : play (booted {self.limits}) {self.name}_lines
+    ≡ {replies} ∷ []
+unfolding {UNFOLDING}
+{self.name} = refl
+'''
+        for place, end in enumerate(self.ends):
+            said = end.replace('ended', f'(after (booted {self.limits}) {self.name}_lines)')
+            said = said.replace(').next_id', ').next_id')
+            text += f'''
+pub {self.name}_end_{place} : {said}
+unfolding {UNFOLDING}
+{self.name}_end_{place} = refl
+'''
+        return text
+
+
+UNFOLDING = (
+    'answer next query_answer is_live live_part refused query_refused stored with_category below visible shown below_join '
+    'below_join_up above_floor translate place_of'
+)
+IMPORTS = [
+    ('Rattle.std.proofs.Common', '◌≡◌ ℕ List [] ◌∷◌ refl true false pos negsuc Some None'),
+    ('Rattle.base.specs.Live', 'is_live'),
+    ('Rattle.base.specs.declared.levels.Level.TheVariants', 'Star L0 L1 L2 L3'),
+    ('Rattle.base.specs.declared.refusals.Refusal.TheVariants', ' '.join(REFUSALS)),
+    ('Rattle.threads_gates.specs.LabelRules', 'stored with_category below visible shown below_join below_join_up above_floor'),
+    ('Rattle.kernel_rules.specs.Runs', 'booted'),
+    ('Rattle.kernel_rules.specs.State', 'live_part use_of'),
+    ('Rattle.kernel_rules.specs.Step', 'answer next query_answer'),
+    ('Rattle.kernel_rules.specs.Table', 'refused query_refused'),
+    ('Rattle.kernel_rules.specs.Translate', 'translate place_of'),
+    ('Rattle.kernel_rows.specs.Play', 'Line W R play after ids limits raw label at entry mapping kinds category'),
+]
+VARIANTS = {'call': 'calls.Call', 'query': 'calls.Query', 'reply': 'replies.Reply'}
+
+
+def imports(body):
+    """The use lines of the names that the text has, each line within 100 columns."""
+    words = set(re.findall(r'[A-Za-z_0-9]+', body))
+    signs = {'◌≡◌': '≡', '◌∷◌': '∷', '[]': '[]', 'ℕ': 'ℕ'}
+    lines = []
+    for module, names in IMPORTS:
+        group = []
+        for name in names.split():
+            if signs[name] not in body if name in signs else name not in words:
+                continue
+            if group and len(f"use {module}.{{{', '.join(group + [name])}}}") > 100:
+                lines.append(f"use {module}.{{{', '.join(group)}}}")
+                group = []
+            group.append(name)
+        if group:
+            lines.append(f"use {module}.{{{', '.join(group)}}}")
+    for short, path in VARIANTS.items():
+        if f'{short}.' in body:
+            lines.append(f'use Rattle.kernel_rules.specs.declared.{path}.TheVariants as {short}')
+    return '\n'.join(lines)
+
+
+def main():
+    here = Path(__file__).resolve().parent
+    modules = []
+    for path in sorted(here.glob('*.txt')):
+        rows = []
+        for text in path.read_text().splitlines():
+            text = text.strip()
+            if text.startswith('##'):
+                name, *options = text[2:].split()
+                rows.append(Row(name, dict(word.split('=') for word in options)))
+            elif text.startswith('!'):
+                rows[-1].end(text[1:].strip())
+            elif text and text != '--':
+                rows[-1].line(text)
+        module = path.stem.capitalize()
+        modules.append(module)
+        out = here.parent / 'proofs' / f'{module}.antt'
+        body = '\n'.join(row.theorem() for row in rows)
+        told = f'-- Scripts with what each line answers, by computation. Made by rows/make.py from rows/{path.stem}.txt.\n'
+        out.write_text(f'{told}{imports(body)}\n\n{body}')
+    (here.parent / 'proofs' / 'Lib.antt').write_text(''.join(f'pub mod {module}\n' for module in modules))
+
+
+main()

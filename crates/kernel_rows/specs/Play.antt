@@ -1,0 +1,67 @@
+-- Scripts of write and read calls, played one line after another, and words to write them by.
+use Rattle.std.specs.Prelude.{ℕ, List, [], ◌∷◌, map}
+use Rattle.base.specs.declared.ids.Category.{Category}
+use Rattle.base.specs.declared.levels.Level.{Level}
+use Rattle.base.specs.declared.ranges.Limits.{Limits}
+use Rattle.base.specs.declared.sets.TypeSet.{TypeSet}
+use Rattle.label_lattice.specs.Label.{LabelValue}
+use Rattle.label_lattice.specs.declared.pairings.Pair.{Pair}
+use Rattle.label_lattice.specs.declared.raw_labels.RawLabel.{RawLabel}
+use Rattle.kernel_rules.specs.State.{State}
+use Rattle.kernel_rules.specs.Step.{answer, next, query_answer}
+use Rattle.kernel_rules.specs.declared.calls.Call.{Call}
+use Rattle.kernel_rules.specs.declared.calls.Entry.{Entry}
+use Rattle.kernel_rules.specs.declared.calls.Query.{Query}
+use Rattle.kernel_rules.specs.declared.objects.Mapping.{Mapping}
+use Rattle.kernel_rules.specs.declared.replies.Reply.{Reply}
+
+-- a thread's write call, or its read call
+pub data Line : Type 0 where
+  W : ℕ → Call → Line
+  R : ℕ → Query → Line
+
+-- what the lines answer, in order
+abbrev pub play : State → List Line → List Reply
+play s [] = []
+play s (W t c ∷ lines) = answer s t c ∷ play (next s t c) lines
+play s (R t q ∷ lines) = query_answer s t q ∷ play s lines
+
+-- the state after the lines
+abbrev pub after : State → List Line → State
+after s [] = s
+after s (W t c ∷ lines) = after (next s t c) lines
+after s (R t q ∷ lines) = after s lines
+
+-- the recorded ids
+abbrev pub ids : State → List ℕ
+ids s = map (λ e. e.0) s.objects
+
+abbrev pub limits : ℕ → Level → ℕ → ℕ → Limits
+limits p d i c = record { pages = p; device = d; next_id = i; next_category = c }
+
+abbrev pub category : ℕ → Category
+category n = record { 0 = n }
+
+abbrev pub at : ℕ → Level → Pair
+at c l = record { category = category c; level = l }
+
+abbrev pub raw : Level → List Pair → RawLabel
+raw d ps = record { default = d; pairs = ps }
+
+abbrev pub label : Level → List Pair → LabelValue
+label d ps = record { default_level = d; exceptions = ps }
+
+abbrev pub entry : ℕ → ℕ → Entry
+entry d o = record { container = d; object = o }
+
+abbrev pub kinds : ℕ → TypeSet
+kinds bits = record { 0 = bits }
+
+abbrev pub mapping : ℕ → Entry → ℕ → ℕ → ℕ → Mapping
+mapping page e first count bits = record {
+  page = page;
+  entry = e;
+  first = first;
+  count = count;
+  rights = record { 0 = bits };
+}
