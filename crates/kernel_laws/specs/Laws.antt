@@ -1,0 +1,30 @@
+-- Laws of the next state, which a reader may ask for.
+use Rattle.std.specs.Prelude.{◌≡◌, ◌≢◌, ◌↔◌, ℕ, true, is_some, Some}
+use Rattle.base.specs.Live.{is_live}
+use Rattle.kernel_rules.specs.State.{State, object_at, lists_of}
+use Rattle.kernel_rules.specs.Step.{next, edit}
+use Rattle.kernel_rules.specs.Table.{refused}
+use Rattle.kernel_rules.specs.declared.calls.Call.{Call}
+use Rattle.kernel_rules.specs.declared.objects.Object.{Object}
+use Rattle.std.specs.Prelude.{None, ◌&&◌}
+
+-- the label of an object changes by its own calls alone: whoever is recorded before and after a
+-- call of another thread, under an id that was given, has the label that it had
+abbrev pub LabelsAreOwn : Type 0
+LabelsAreOwn =
+    (s : State) (t : ℕ) (c : Call) (o : ℕ) (x y : Object) → o ≢ t → o ≢ s.next_id
+    → object_at s o ≡ Some x → object_at (next s t c) o ≡ Some y → y.label ≡ x.label
+
+-- after a call that is not refused an id is recorded exactly where the edit records it and a path of
+-- entries leads to it from the root
+abbrev pub RecordedAreLive : Type 0
+RecordedAreLive =
+    (s : State) (t : ℕ) (c : Call) (o : ℕ) → refused s t c ≡ None
+    → is_some (object_at (next s t c) o)
+    ≡ (is_live (lists_of (edit s t c).objects) o && is_some (object_at (edit s t c) o))
+
+-- what a call that is not refused leaves recorded is as the edit made it
+abbrev pub RecordedAreEdited : Type 0
+RecordedAreEdited =
+    (s : State) (t : ℕ) (c : Call) (o : ℕ) (y : Object) → refused s t c ≡ None
+    → object_at (next s t c) o ≡ Some y → object_at (edit s t c) o ≡ Some y
