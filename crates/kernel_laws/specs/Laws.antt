@@ -6,7 +6,9 @@ use Rattle.kernel_rules.specs.Step.{next, edit}
 use Rattle.kernel_rules.specs.Table.{refused}
 use Rattle.kernel_rules.specs.declared.calls.Call.{Call}
 use Rattle.kernel_rules.specs.declared.objects.Object.{Object}
-use Rattle.std.specs.Prelude.{None, ◌&&◌}
+use Rattle.std.specs.Prelude.{None, ◌&&◌, Bool, false}
+use Rattle.label_lattice.specs.Order.{levels, Leq}
+use Rattle.kernel_rules.specs.declared.calls.Call.TheVariants as call
 
 -- the label of an object changes by its own calls alone: whoever is recorded before and after a
 -- call of another thread, under an id that was given, has the label that it had
@@ -28,3 +30,17 @@ abbrev pub RecordedAreEdited : Type 0
 RecordedAreEdited =
     (s : State) (t : ℕ) (c : Call) (o : ℕ) (y : Object) → refused s t c ≡ None
     → object_at (next s t c) o ≡ Some y → object_at (edit s t c) o ≡ Some y
+
+-- the calls that may lower a category of the caller's label: the one makes a category, which the
+-- caller then owns, the other takes what a gate owns
+abbrev pub may_lower : Call → Bool
+may_lower call.CatCreate = true
+may_lower (call.GateEnter e r q v) = true
+may_lower c = false
+
+-- no other call lowers a category of the caller's label, star included
+abbrev pub LabelsRise : Type 0
+LabelsRise =
+    (s : State) (t : ℕ) (c : Call) (x y : Object) → may_lower c ≡ false → t ≢ s.next_id
+    → object_at s t ≡ Some x → object_at (next s t c) t ≡ Some y
+    → Leq (levels x.label) (levels y.label)

@@ -5,4 +5,4 @@
 
 mod laws;
 
-pub use laws::{labels_are_own, recorded_are_edited, recorded_are_live};
+pub use laws::{labels_are_own, labels_rise, recorded_are_edited, recorded_are_live};
