@@ -1,0 +1,46 @@
+-- Laws of the next state, which a reader may ask for.
+use Rattle.std.specs.Prelude.{◌≡◌, ◌≢◌, ◌↔◌, ℕ, true, is_some, Some}
+use Rattle.base.specs.Live.{is_live}
+use Rattle.kernel_rules.specs.State.{State, object_at, lists_of}
+use Rattle.kernel_rules.specs.Step.{next, edit}
+use Rattle.kernel_rules.specs.Table.{refused}
+use Rattle.kernel_rules.specs.declared.calls.Call.{Call}
+use Rattle.kernel_rules.specs.declared.objects.Object.{Object}
+use Rattle.std.specs.Prelude.{None, ◌&&◌, Bool, false}
+use Rattle.label_lattice.specs.Order.{levels, Leq}
+use Rattle.kernel_rules.specs.declared.calls.Call.TheVariants as call
+
+-- the label of an object changes by its own calls alone: whoever is recorded before and after a
+-- call of another thread, under an id that was given, has the label that it had
+abbrev pub LabelsAreOwn : Type 0
+LabelsAreOwn =
+    (s : State) (t : ℕ) (c : Call) (o : ℕ) (x y : Object) → o ≢ t → o ≢ s.next_id
+    → object_at s o ≡ Some x → object_at (next s t c) o ≡ Some y → y.label ≡ x.label
+
+-- after a call that is not refused an id is recorded exactly where the edit records it and a path of
+-- entries leads to it from the root
+abbrev pub RecordedAreLive : Type 0
+RecordedAreLive =
+    (s : State) (t : ℕ) (c : Call) (o : ℕ) → refused s t c ≡ None
+    → is_some (object_at (next s t c) o)
+    ≡ (is_live (lists_of (edit s t c).objects) o && is_some (object_at (edit s t c) o))
+
+-- what a call that is not refused leaves recorded is as the edit made it
+abbrev pub RecordedAreEdited : Type 0
+RecordedAreEdited =
+    (s : State) (t : ℕ) (c : Call) (o : ℕ) (y : Object) → refused s t c ≡ None
+    → object_at (next s t c) o ≡ Some y → object_at (edit s t c) o ≡ Some y
+
+-- the calls that may lower a category of the caller's label: the one makes a category, which the
+-- caller then owns, the other takes what a gate owns
+abbrev pub may_lower : Call → Bool
+may_lower call.CatCreate = true
+may_lower (call.GateEnter e r q v) = true
+may_lower c = false
+
+-- no other call lowers a category of the caller's label, star included
+abbrev pub LabelsRise : Type 0
+LabelsRise =
+    (s : State) (t : ℕ) (c : Call) (x y : Object) → may_lower c ≡ false → t ≢ s.next_id
+    → object_at s t ≡ Some x → object_at (next s t c) t ≡ Some y
+    → Leq (levels x.label) (levels y.label)

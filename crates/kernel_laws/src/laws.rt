@@ -1,0 +1,23 @@
+//! Laws of the next state.
+ghost use Rattle.kernel_laws.specs.Laws.{LabelsAreOwn, LabelsRise};
+ghost use Rattle.kernel_laws.specs.Laws.{RecordedAreLive, RecordedAreEdited};
+
+/// The label of an object changes by its own calls alone.
+pub fn labels_are_own()
+    ensures { LabelsAreOwn }
+{}
+
+/// No call but `cat_create` and `gate_enter` lowers a category of the caller's label, star included.
+pub fn labels_rise()
+    ensures { LabelsRise }
+{}
+
+/// After a call an id is recorded exactly where the call's edit records it and a path leads to it.
+pub fn recorded_are_live()
+    ensures { RecordedAreLive }
+{}
+
+/// What a call leaves recorded is as its edit made it.
+pub fn recorded_are_edited()
+    ensures { RecordedAreEdited }
+{}

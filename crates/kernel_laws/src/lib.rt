@@ -1,0 +1,8 @@
+//! Laws of the kernel's rules, which a reader may ask for: each is the contract of a function with an empty body, which
+//! hands the law to its caller's proof. They speak of the definitions of `kernel_rules`, so they hold of every machine
+//! that is proved to follow them.
+#![tactic(auto)]
+
+mod laws;
+
+pub use laws::{labels_are_own, labels_rise, recorded_are_edited, recorded_are_live};
