@@ -1,15 +1,15 @@
 -- What an edit, and the removal of the dead, may do to what is recorded under an id.
-use Rattle.std.proofs.Common.{◌≡◌, ◌≢◌, ℕ, ◌==◌, Bool, true, false, cond, ◌&&◌, List, [], ◌∷◌, Option}
+use Rattle.std.proofs.Common.{◌≡◌, ◌≢◌, ℕ, Bool, true, false, cond, ◌&&◌, List, [], ◌∷◌, Option}
 use Rattle.std.proofs.Common.{Some, None, is_some, refl, sym, ◌∙◌, ap, subst, Less, Equal, Greater}
 use Rattle.std.specs.Ordering.{nat_cmp, match_ordering, is_eq}
-use Rattle.std.specs.Map.{lookup, set_value}
+use Rattle.std.specs.Map.{lookup}
 use Rattle.std.specs.BTreeMap.{is_at, insert_entry}
 use Rattle.std.proofs.lemmas.Map.Entries.{lookup-filter-keys}
 use Rattle.base.specs.Live.{is_live}
 use Rattle.kernel_rules.specs.State.{State, object_at, of_object, lists_of, live_part}
 use Rattle.kernel_rules.specs.Step.{next, edit, restricted, with_value}
 use Rattle.kernel_rules.specs.Table.{refused}
-use Rattle.kernel_rules.specs.Changes.{put, changed, made, with_new, listing}
+use Rattle.kernel_rules.specs.Changes.{put, changed, made, listing}
 use Rattle.kernel_rules.specs.declared.calls.Call.{Call}
 use Rattle.kernel_rules.specs.declared.objects.Object.{Object}
 use Rattle.kernel_rules.proofs.LookupLaws.{lookup_put}
@@ -35,10 +35,10 @@ frame_same K same s o x y old before now =
     let is : x ≡ y = cc in
     subst (λ (z : Object). K o x z) is (same o x)
 
--- a change of one object
-pub frame_changed : (K : ℕ → Object → Object → Type 0) → ((o : ℕ) (x : Object) → K o x x) → (s : State) (d : ℕ)
-    (f : Object → Object) → ((x : Object) → K d x (f x)) → Frame K s (changed s d f)
-frame_changed K same s d f keeps o x y old before =
+-- a change of the object that is found
+pub frame_found : (K : ℕ → Object → Object → Type 0) → ((o : ℕ) (x : Object) → K o x x) → (s : State) (d : ℕ)
+    (f : Object → Object) → ((x : Object) → object_at s d ≡ Some x → K d x (f x)) → Frame K s (changed s d f)
+frame_found K same s d f keeps o x y old before =
     elim (object_at s d)
     as (λ v. object_at s d ≡ v → object_at (of_object s (λ z. put s d (f z)) v) o ≡ Some y → K o x y) [
       | None ↦ λ is now. frame_same K same s o x y old before now
@@ -53,10 +53,15 @@ frame_changed K same s d f keeps o x y old before =
                 let is_x : z ≡ x = cc in
                 let is_y : f z ≡ y = cc in
                 subst (λ k. K k x y) (sym on)
-                (subst (λ (w : Object). K d x w) is_y (subst (λ (w : Object). K d w (f z)) is_x (keeps z)))
+                (subst (λ (w : Object). K d x w) is_y (subst (λ (w : Object). K d w (f z)) is_x (keeps z is)))
             | false ↦ λ far g. frame_same K same s o x y old before g
           ] refl there
     ] refl
+
+-- a change of one object
+pub frame_changed : (K : ℕ → Object → Object → Type 0) → ((o : ℕ) (x : Object) → K o x x) → (s : State) (d : ℕ)
+    (f : Object → Object) → ((x : Object) → K d x (f x)) → Frame K s (changed s d f)
+frame_changed K same s d f keeps = frame_found K same s d f (λ x found. keeps x)
 
 -- an id other than the new one, looked up after an object was added
 pub lookup_inserted : (k o : ℕ) (es : List (ℕ × Object)) (x : Object) → o ≢ k
@@ -91,14 +96,20 @@ lookup_inserted k o (e ∷ es) x other =
           | false ↦ λ far. refl
         ] refl
 
+-- a new object, last in the list of d, whose object is found
+pub frame_made_found : (K : ℕ → Object → Object → Type 0) → ((o : ℕ) (x : Object) → K o x x) → (s : State) (d : ℕ)
+    (z : Object) → ((x : Object) → object_at s d ≡ Some x → K d x (listing s.next_id x))
+    → Frame K s (made s d z)
+frame_made_found K same s d z keeps o x y old before now =
+    let mid : State = changed s d (listing s.next_id) in
+    let next : mid.next_id ≡ s.next_id = next_id-changed s d (listing s.next_id) in
+    frame_found K same s d (listing s.next_id) keeps o x y old before
+    (sym (lookup_inserted mid.next_id o mid.objects z (λ h. old (h ∙ next))) ∙ now)
+
 -- a new object, last in d's list
 pub frame_made : (K : ℕ → Object → Object → Type 0) → ((o : ℕ) (x : Object) → K o x x) → (s : State) (d : ℕ)
     (z : Object) → ((x : Object) → K d x (listing s.next_id x)) → Frame K s (made s d z)
-frame_made K same s d z keeps o x y old before now =
-    let mid : State = changed s d (listing s.next_id) in
-    let next : mid.next_id ≡ s.next_id = next_id-changed s d (listing s.next_id) in
-    frame_changed K same s d (listing s.next_id) keeps o x y old before
-    (sym (lookup_inserted mid.next_id o mid.objects z (λ h. old (h ∙ next))) ∙ now)
+frame_made K same s d z keeps = frame_made_found K same s d z (λ x found. keeps x)
 
 -- a state that a value leads to, if it is there
 pub frame_value : {X : Type 0} (K : ℕ → Object → Object → Type 0) → ((o : ℕ) (x : Object) → K o x x)

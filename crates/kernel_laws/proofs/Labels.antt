@@ -1,13 +1,12 @@
 -- Whose label a call may change.
-use Rattle.std.proofs.Common.{◌≡◌, ◌≢◌, ℕ, List, Option, Some, None, refl, sym, ◌∙◌, ap, subst, drop}
-use Rattle.std.proofs.Common.{slice_set, ◌++◌, ◌∷◌, []}
+use Rattle.std.proofs.Common.{◌≡◌, ◌≢◌, ℕ, List, Option, Some, None, refl, sym, ◌∙◌, ap}
 use Rattle.label_lattice.specs.Label.{LabelValue}
 use Rattle.threads_gates.specs.LabelRules.{stored}
 use Rattle.kernel_rules.specs.State.{State, object_at, gate_at}
 use Rattle.kernel_rules.specs.Step.{next, edit, owned, made_of, made_bearer, through_gate, stored_at}
 use Rattle.kernel_rules.specs.Step.{with_value}
 use Rattle.kernel_rules.specs.Table.{refused}
-use Rattle.kernel_rules.specs.Changes.{changed, with_body, made, listing, fresh_object, owning}
+use Rattle.kernel_rules.specs.Changes.{changed, made, fresh_object, owning}
 use Rattle.kernel_rules.specs.Changes.{labelled, entered}
 use Rattle.kernel_rules.specs.declared.calls.Call.{Call}
 use Rattle.kernel_rules.specs.declared.calls.Call.TheVariants as call

@@ -1,3 +1,5 @@
 pub mod Frames
 pub mod Labels
+pub mod Places
+pub mod ReadOnly
 pub mod Rises

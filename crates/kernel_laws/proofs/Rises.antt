@@ -1,11 +1,11 @@
 -- Which calls may lower a category of the caller's label.
-use Rattle.std.proofs.Common.{◌≡◌, ◌≢◌, ℕ, ◌≤◌, Bool, true, false, List, Option, Some, None, refl, sym, ◌∙◌, ap}
-use Rattle.std.proofs.Common.{subst, ◌&&◌, ◌++◌, cond, arith}
+use Rattle.std.proofs.Common.{◌≡◌, ◌≢◌, ℕ, Bool, true, false, List, Option, Some, None, refl, sym, ◌∙◌, ap}
+use Rattle.std.proofs.Common.{subst, ◌++◌, cond, arith}
 use Rattle.std.specs.Option.{option_map}
 use Rattle.std.proofs.lemmas.Bool.{and_parts, not-false}
 use Rattle.label_lattice.specs.Label.{LabelValue}
 use Rattle.label_lattice.specs.declared.raw_labels.RawLabel.{RawLabel}
-use Rattle.label_lattice.specs.Order.{levels, Leq, leq_test}
+use Rattle.label_lattice.specs.Order.{levels, Leq}
 use Rattle.label_lattice.proofs.OrderLemmas.{leq_test-Leq, IsDescribed-levels}
 use Rattle.threads_gates.specs.LabelRules.{both, below, stored}
 use Rattle.kernel_rules.specs.State.{State, object_at, of_object, label_at}

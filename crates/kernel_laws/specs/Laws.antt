@@ -1,7 +1,8 @@
 -- Laws of the next state, which a reader may ask for.
-use Rattle.std.specs.Prelude.{◌≡◌, ◌≢◌, ◌↔◌, ℕ, true, is_some, Some}
+use Rattle.std.specs.Prelude.{◌≡◌, ◌≢◌, ℕ, true, is_some, Some}
 use Rattle.base.specs.Live.{is_live}
-use Rattle.kernel_rules.specs.State.{State, object_at, lists_of}
+use Rattle.base.specs.declared.kinds.Kind.TheVariants as kinds
+use Rattle.kernel_rules.specs.State.{State, object_at, lists_of, is_kind}
 use Rattle.kernel_rules.specs.Step.{next, edit}
 use Rattle.kernel_rules.specs.Table.{refused}
 use Rattle.kernel_rules.specs.declared.calls.Call.{Call}
@@ -44,3 +45,19 @@ LabelsRise =
     (s : State) (t : ℕ) (c : Call) (x y : Object) → may_lower c ≡ false → t ≢ s.next_id
     → object_at s t ≡ Some x → object_at (next s t c) t ≡ Some y
     → Leq (levels x.label) (levels y.label)
+
+-- y is what x was, and is immutable
+pub record IsUntouched (x y : Object) : Type 0 where
+  pub body : y.body ≡ x.body
+  pub metadata : y.metadata ≡ x.metadata
+  pub quota : y.quota ≡ x.quota
+  pub fixed : y.fixed ≡ x.fixed
+  pub immutable : y.immutable ≡ true
+
+-- an immutable object is read-only for good: its bytes, mappings, entries, metadata, quota and fixed
+-- flag never change. Threads and devices are never made immutable
+abbrev pub ReadOnlyStays : Type 0
+ReadOnlyStays =
+    (s : State) (t : ℕ) (c : Call) (o : ℕ) (x y : Object) → x.immutable ≡ true
+    → is_kind kinds.Thread x ≡ false → is_kind kinds.Device x ≡ false → o ≢ s.next_id
+    → object_at s o ≡ Some x → object_at (next s t c) o ≡ Some y → IsUntouched x y

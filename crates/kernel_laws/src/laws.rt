@@ -1,5 +1,5 @@
 //! Laws of the next state.
-ghost use Rattle.kernel_laws.specs.Laws.{LabelsAreOwn, LabelsRise};
+ghost use Rattle.kernel_laws.specs.Laws.{LabelsAreOwn, LabelsRise, ReadOnlyStays};
 ghost use Rattle.kernel_laws.specs.Laws.{RecordedAreLive, RecordedAreEdited};
 
 /// The label of an object changes by its own calls alone.
@@ -10,6 +10,12 @@ pub fn labels_are_own()
 /// No call but `cat_create` and `gate_enter` lowers a category of the caller's label, star included.
 pub fn labels_rise()
     ensures { LabelsRise }
+{}
+
+/// An immutable object is read-only for good: its bytes, mappings, entries, metadata, quota and fixed
+/// flag never change.
+pub fn read_only_stays()
+    ensures { ReadOnlyStays }
 {}
 
 /// After a call an id is recorded exactly where the call's edit records it and a path leads to it.

@@ -5,4 +5,6 @@
 
 mod laws;
 
-pub use laws::{labels_are_own, labels_rise, recorded_are_edited, recorded_are_live};
+pub use laws::{
+    labels_are_own, labels_rise, read_only_stays, recorded_are_edited, recorded_are_live,
+};
