@@ -7,7 +7,8 @@ use Rattle.kernel_rules.specs.Step.{next, edit}
 use Rattle.kernel_rules.specs.Table.{refused}
 use Rattle.kernel_rules.specs.declared.calls.Call.{Call}
 use Rattle.kernel_rules.specs.declared.objects.Object.{Object}
-use Rattle.std.specs.Prelude.{None, ◌&&◌, Bool, false}
+use Rattle.std.specs.Prelude.{None, ◌&&◌, Bool, false, ◌≤◌, ◌+◌, length, sum_by}
+use Rattle.kernel_rules.specs.WellFormed.{is_well_formed}
 use Rattle.label_lattice.specs.Order.{levels, Leq}
 use Rattle.kernel_rules.specs.declared.calls.Call.TheVariants as call
 
@@ -61,3 +62,13 @@ ReadOnlyStays =
     (s : State) (t : ℕ) (c : Call) (o : ℕ) (x y : Object) → x.immutable ≡ true
     → is_kind kinds.Thread x ≡ false → is_kind kinds.Device x ≡ false → o ≢ s.next_id
     → object_at s o ≡ Some x → object_at (next s t c) o ≡ Some y → IsUntouched x y
+
+-- how many links there are: how often an id stands in a list
+abbrev pub link_count : State → ℕ
+link_count s = sum_by (λ e. length e.1) (lists_of s.objects)
+
+-- the quota of the root bounds the objects of a well-formed state, and with one more its links
+abbrev pub RootBoundsAll : Type 0
+RootBoundsAll =
+    (s : State) (root : Object) → is_well_formed s ≡ true → object_at s 1 ≡ Some root
+    → (length s.objects ≤ root.quota) × (link_count s + 1 ≤ root.quota)

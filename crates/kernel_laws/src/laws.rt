@@ -1,6 +1,6 @@
 //! Laws of the next state.
 ghost use Rattle.kernel_laws.specs.Laws.{LabelsAreOwn, LabelsRise, ReadOnlyStays};
-ghost use Rattle.kernel_laws.specs.Laws.{RecordedAreLive, RecordedAreEdited};
+ghost use Rattle.kernel_laws.specs.Laws.{RecordedAreLive, RecordedAreEdited, RootBoundsAll};
 
 /// The label of an object changes by its own calls alone.
 pub fn labels_are_own()
@@ -26,4 +26,9 @@ pub fn recorded_are_live()
 /// What a call leaves recorded is as its edit made it.
 pub fn recorded_are_edited()
     ensures { RecordedAreEdited }
+{}
+
+/// The quota of the root bounds the objects, and with one more the links.
+pub fn root_bounds_all()
+    ensures { RootBoundsAll }
 {}

@@ -6,5 +6,5 @@
 mod laws;
 
 pub use laws::{
-    labels_are_own, labels_rise, read_only_stays, recorded_are_edited, recorded_are_live,
+    labels_are_own, labels_rise, read_only_stays, recorded_are_edited, recorded_are_live, root_bounds_all,
 };
