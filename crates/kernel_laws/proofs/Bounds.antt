@@ -44,8 +44,7 @@ records_of s (e ∷ es) rise kept all =
     let parts : (list_all (λ f. nat_lt e.0 f.0) es ≡ true) × (ids_rise es ≡ true) =
     and_parts (list_all (λ f. nat_lt e.0 f.0) es) (ids_rise es) rise in
     let held : (is_kept s e.0 e.1 ≡ true) × (list_all (λ e. is_kept s e.0 e.1) es ≡ true) =
-    and_parts (is_kept s e.0 e.1) (list_all (λ e. is_kept s e.0 e.1) es) kept in
-    (
+    and_parts (is_kept s e.0 e.1) (list_all (λ e. is_kept s e.0 e.1) es) kept in (
       record {
         found = all e.0 e.1
             (ap (λ b. cond b (Some e.1) (lookup (is_at (nat_cmp e.0)) es)) (at_self e.0));

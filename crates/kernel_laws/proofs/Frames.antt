@@ -1,11 +1,14 @@
 -- What an edit, and the removal of the dead, may do to what is recorded under an id.
 use Rattle.std.proofs.Common.{◌≡◌, ◌≢◌, ℕ, Bool, true, false, cond, ◌&&◌, List, [], ◌∷◌, Option}
 use Rattle.std.proofs.Common.{Some, None, is_some, refl, sym, ◌∙◌, ap, subst, Less, Equal, Greater}
+use Rattle.std.proofs.Common.{IsTrue, ◌↔◌, ◌++◌}
 use Rattle.std.specs.Ordering.{nat_cmp, match_ordering, is_eq}
 use Rattle.std.specs.Map.{lookup}
 use Rattle.std.specs.BTreeMap.{is_at, insert_entry}
+use Rattle.std.proofs.lemmas.Bool.{and_parts, and_from}
 use Rattle.std.proofs.lemmas.Map.Entries.{lookup-filter-keys}
-use Rattle.base.specs.Live.{is_live}
+use Rattle.base.specs.Live.{is_live, IsLive, links}
+use Rattle.base.proofs.LiveLaw.{path_from_live, live_from_path, leads-snoc}
 use Rattle.kernel_rules.specs.State.{State, object_at, of_object, lists_of, live_part}
 use Rattle.kernel_rules.specs.Step.{next, edit, restricted, with_value}
 use Rattle.kernel_rules.specs.Table.{refused}
@@ -143,3 +146,31 @@ recorded_are s t c o h =
     either : (b : Bool) (v : Option Object) → is_some (cond b v None) ≡ (b && is_some v)
     either true v = refl
     either false v = refl
+
+-- the same, by a path
+pub recorded_by_path : (s : State) (t : ℕ) (c : Call) (o : ℕ) → refused s t c ≡ None
+    → IsTrue (is_some (object_at (next s t c) o))
+    ↔ (IsLive (lists_of (edit s t c).objects) o × IsTrue (is_some (object_at (edit s t c) o)))
+recorded_by_path s t c o h = (
+  λ now.
+      let parts : (is_live (lists_of (edit s t c).objects) o ≡ true)
+      × (is_some (object_at (edit s t c) o) ≡ true) =
+      and_parts (is_live (lists_of (edit s t c).objects) o) (is_some (object_at (edit s t c) o))
+      (sym (recorded_are s t c o h) ∙ now) in
+      (path_from_live (lists_of (edit s t c).objects) o parts.0, parts.1),
+  λ p. recorded_are s t c o h
+      ∙ and_from (is_live (lists_of (edit s t c).objects) o) (is_some (object_at (edit s t c) o))
+      (live_from_path (lists_of (edit s t c).objects) o p.0) p.1,
+)
+
+pub linked_stays : (s : State) (t : ℕ) (c : Call) (d o : ℕ) → refused s t c ≡ None
+    → IsLive (lists_of (edit s t c).objects) d → links (lists_of (edit s t c).objects) d o ≡ true
+    → is_some (object_at (edit s t c) o) ≡ true → is_some (object_at (next s t c) o) ≡ true
+linked_stays s t c d o h live linked there =
+    (recorded_by_path s t c o h).1 (
+      (
+        live.0 ++ o ∷ [],
+        leads-snoc (lists_of (edit s t c).objects) 1 live.0 d o live.1 linked,
+      ),
+      there,
+    )

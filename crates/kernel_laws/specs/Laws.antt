@@ -1,6 +1,6 @@
 -- Laws of the next state, which a reader may ask for.
-use Rattle.std.specs.Prelude.{◌≡◌, ◌≢◌, ℕ, true, is_some, Some}
-use Rattle.base.specs.Live.{is_live}
+use Rattle.std.specs.Prelude.{IsTrue, ◌≡◌, ◌≢◌, ℕ, true, is_some, Some}
+use Rattle.base.specs.Live.{IsLive, links}
 use Rattle.base.specs.declared.kinds.Kind.TheVariants as kinds
 use Rattle.kernel_rules.specs.State.{State, object_at, lists_of, is_kind}
 use Rattle.kernel_rules.specs.Step.{next, edit}
@@ -19,13 +19,20 @@ LabelsAreOwn =
     (s : State) (t : ℕ) (c : Call) (o : ℕ) (x y : Object) → o ≢ t → o ≢ s.next_id
     → object_at s o ≡ Some x → object_at (next s t c) o ≡ Some y → y.label ≡ x.label
 
--- after a call that is not refused an id is recorded exactly where the edit records it and a path of
--- entries leads to it from the root
+-- after a call that is not refused, an unreference among them, an id is recorded exactly where the
+-- edit records it and a path of entries leads to it from the root
 abbrev pub RecordedAreLive : Type 0
 RecordedAreLive =
     (s : State) (t : ℕ) (c : Call) (o : ℕ) → refused s t c ≡ None
-    → is_some (object_at (next s t c) o)
-    ≡ (is_live (lists_of (edit s t c).objects) o && is_some (object_at (edit s t c) o))
+    → IsTrue (is_some (object_at (next s t c) o))
+    ↔ (IsLive (lists_of (edit s t c).objects) o × IsTrue (is_some (object_at (edit s t c) o)))
+
+-- so an object stays that is also linked in a container that is live then
+abbrev pub LinkedStays : Type 0
+LinkedStays =
+    (s : State) (t : ℕ) (c : Call) (d o : ℕ) → refused s t c ≡ None
+    → IsLive (lists_of (edit s t c).objects) d → links (lists_of (edit s t c).objects) d o ≡ true
+    → is_some (object_at (edit s t c) o) ≡ true → is_some (object_at (next s t c) o) ≡ true
 
 -- what a call that is not refused leaves recorded is as the edit made it
 abbrev pub RecordedAreEdited : Type 0

@@ -1,6 +1,7 @@
 //! Laws of the next state.
 ghost use Rattle.kernel_laws.specs.Laws.{LabelsAreOwn, LabelsRise, ReadOnlyStays};
-ghost use Rattle.kernel_laws.specs.Laws.{RecordedAreLive, RecordedAreEdited, RootBoundsAll};
+ghost use Rattle.kernel_laws.specs.Laws.{LinkedStays, RecordedAreLive};
+ghost use Rattle.kernel_laws.specs.Laws.{RecordedAreEdited, RootBoundsAll};
 
 /// The label of an object changes by its own calls alone.
 pub fn labels_are_own()
@@ -21,6 +22,11 @@ pub fn read_only_stays()
 /// After a call an id is recorded exactly where the call's edit records it and a path leads to it.
 pub fn recorded_are_live()
     ensures { RecordedAreLive }
+{}
+
+/// An object stays that is also linked in a container that is live after the call.
+pub fn linked_stays()
+    ensures { LinkedStays }
 {}
 
 /// What a call leaves recorded is as its edit made it.
