@@ -1,16 +1,16 @@
 -- The quota of the root bounds objects and links.
 use Rattle.std.proofs.Common.{◌≡◌, ◌≤◌, ◌<◌, ℕ, zero, suc, ◌+◌, ◌*◌, ◌==◌, ◌&&◌, ◌||◌, Bool, true, false, cond, not, nat_le}
-use Rattle.std.proofs.Common.{nat_lt, List, [], ◌∷◌, length, map, Option, Some, None, is_some, sum_by, refl, sym}
+use Rattle.std.proofs.Common.{nat_lt, List, [], ◌∷◌, length, Some, is_some, sum_by, refl, sym}
 use Rattle.std.proofs.Common.{◌∙◌, ap, subst, arith}
 use Rattle.std.specs.List.{list_all}
 use Rattle.std.specs.Ordering.{nat_cmp}
 use Rattle.std.specs.Map.{lookup}
 use Rattle.std.specs.BTreeMap.{is_at}
-use Rattle.std.proofs.lemmas.Bool.{and_parts, both_ways, eqb-true, leb-true, ltb-true}
+use Rattle.std.proofs.lemmas.Bool.{and_parts, eqb-true, leb-true, ltb-true}
 use Rattle.std.proofs.lemmas.List.Sums.{sum_by-cons}
 use Rattle.base.specs.Live.{has}
 use Rattle.base.specs.declared.kinds.Kind.TheVariants as kinds
-use Rattle.kernel_rules.specs.State.{State, object_at, of_object, listed, lists_of, own_cost, quota_at, use_of}
+use Rattle.kernel_rules.specs.State.{State, object_at, of_object, listed, own_cost, quota_at, use_of}
 use Rattle.kernel_rules.specs.State.{is_kind}
 use Rattle.kernel_rules.specs.WellFormed.{is_well_formed, is_kept, is_listed_rightly, listers, ids_rise}
 use Rattle.kernel_rules.specs.declared.objects.Body as body

@@ -1,6 +1,6 @@
 -- Sums over lists, and over lists of records.
-use Rattle.std.proofs.Common.{◌≡◌, ◌≢◌, ◌≤◌, ◌<◌, ℕ, ◌+◌, ◌*◌, ◌==◌, ◌&&◌, ◌||◌, Bool, true, false, cond, not}
-use Rattle.std.proofs.Common.{nat_lt, List, [], ◌∷◌, length, map, Option, Some, None, is_some, sum_by, refl, sym}
+use Rattle.std.proofs.Common.{◌≡◌, ◌<◌, ℕ, ◌+◌, ◌*◌, ◌==◌, ◌||◌, Bool, true, false, cond, not}
+use Rattle.std.proofs.Common.{nat_lt, List, [], ◌∷◌, length, map, Some, is_some, sum_by, refl, sym}
 use Rattle.std.proofs.Common.{◌∙◌, ap, subst, arith}
 use Rattle.std.specs.List.{list_all}
 use Rattle.std.specs.Ordering.{nat_cmp}

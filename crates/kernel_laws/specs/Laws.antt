@@ -1,5 +1,5 @@
 -- Laws of the next state, which a reader may ask for.
-use Rattle.std.specs.Prelude.{IsTrue, ◌≡◌, ◌≢◌, ℕ, true, is_some, Some}
+use Rattle.std.specs.Prelude.{◌≡◌, ◌≢◌, ◌↔◌, ℕ, true, is_some, Some, IsTrue}
 use Rattle.base.specs.Live.{IsLive, links}
 use Rattle.base.specs.declared.kinds.Kind.TheVariants as kinds
 use Rattle.kernel_rules.specs.State.{State, object_at, lists_of, is_kind}
@@ -7,7 +7,7 @@ use Rattle.kernel_rules.specs.Step.{next, edit}
 use Rattle.kernel_rules.specs.Table.{refused}
 use Rattle.kernel_rules.specs.declared.calls.Call.{Call}
 use Rattle.kernel_rules.specs.declared.objects.Object.{Object}
-use Rattle.std.specs.Prelude.{None, ◌&&◌, Bool, false, ◌≤◌, ◌+◌, length, sum_by}
+use Rattle.std.specs.Prelude.{None, Bool, false, ◌≤◌, ◌+◌, length, sum_by}
 use Rattle.kernel_rules.specs.WellFormed.{is_well_formed}
 use Rattle.label_lattice.specs.Order.{levels, Leq}
 use Rattle.kernel_rules.specs.declared.calls.Call.TheVariants as call
