@@ -8,3 +8,5 @@ pub mod Fitting
 pub mod Changes
 pub mod Step
 pub mod Runs
+pub mod Tables
+pub mod Scratch

@@ -10,6 +10,7 @@ mod objects;
 mod places;
 mod refusing;
 mod replies;
+mod tables;
 
 pub use calls::{Call, Entry, Query};
 pub use lists::{Bytes, IdList, Ids, Packets, Slots};
@@ -17,3 +18,4 @@ pub use objects::{Body, Gate, Mapping, Object, Thread, fresh_object};
 pub use places::Place;
 pub use refusing::{least, least_of};
 pub use replies::Reply;
+pub use tables::{Compared, Shown, Tables, Used};

@@ -3,7 +3,7 @@ use Rattle.base.specs.Counts.{Counts, scanned}
 use Rattle.label_lattice.specs.Label.{LabelValue}
 use Rattle.label_intern.specs.declared.held.Held.{Held}
 use Rattle.label_intern.specs.declared.table.Table.{Table}
-use Rattle.label_intern.specs.Bits.{bits_of}
+use Rattle.label_lattice.specs.Bits.{bits_of}
 use Rattle.label_intern.specs.Held.{held_at, stored}
 use Rattle.label_intern.specs.Fill.{IsFilled}
 use Rattle.label_intern.specs.Table.{cell, ChangesPair}

@@ -3,7 +3,7 @@ use Rattle.std.specs.Prelude.{◌≡◌, ◌≢◌, ℕ, ◌<◌, List, Option, 
 use Rattle.label_lattice.specs.Label.{LabelValue}
 use Rattle.label_intern.specs.declared.held.Held.{Held}
 use Rattle.label_intern.specs.declared.table.Table.{Table}
-use Rattle.label_intern.specs.Bits.{bits_of}
+use Rattle.label_lattice.specs.Bits.{bits_of}
 use Rattle.label_intern.specs.Held.{held_at}
 use Rattle.label_intern.specs.Table.{cell}
 

@@ -1,4 +1,3 @@
-pub mod Bits
 pub mod Held
 pub mod Table
 pub mod Fill

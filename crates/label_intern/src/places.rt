@@ -6,7 +6,6 @@ ghost use Rattle.label_intern.specs.Fill.{IsFilled};
 ghost use Rattle.base.specs.Counts.{ScansAtMost};
 
 use crate::held::Held;
-use crate::order::bits;
 use crate::table::Table;
 use base::Meter;
 use label_lattice::Label;
@@ -50,12 +49,12 @@ pub fn fill(table: &mut Table, slots: &[Option<Held>], at: usize, label: &Label,
     ensures scans { ScansAtMost (3 + 6 * stored slots.now) meter.old meter.new }
     ensures filled { IsFilled slots.now at label.now (length slots.now) table.old table.new }
 {
-    let own = bits(label, label, meter);
+    let own = label.order_bits(label, meter);
     table.put(at, at, own);
     for j in 0..slots.len() {
         if let Some(held) = &slots[j] {
-            let forth = bits(label, &held.label, meter);
-            let back = bits(&held.label, label, meter);
+            let forth = label.order_bits(&held.label, meter);
+            let back = held.label.order_bits(label, meter);
             table.put_both(at, j, forth, back);
         }
     }

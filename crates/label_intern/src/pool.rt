@@ -37,7 +37,7 @@ impl Model for Labels {
 }
 
 impl Labels {
-    ghost use Rattle.label_intern.specs.Bits.{bits_of};
+    ghost use Rattle.label_lattice.specs.Bits.{bits_of};
     ghost use Rattle.label_intern.specs.Held.{held_at, stored, owned, fewer, raised, IsInterned};
     ghost use Rattle.base.specs.Counts.{ScansAtMost};
 

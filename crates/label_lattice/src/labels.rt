@@ -1,21 +1,25 @@
 //! Stored labels: how they are made, read and changed.
 ghost use Rattle.std.specs.Prelude.{◌≡◌, ℕ, ◌↔◌, ◌==◌, nat_le, if◌then◌else◌};
 ghost use Rattle.std.specs.Prelude.{IsTrue, IsNone, IfSome, IfOk, length};
+ghost use Rattle.std.specs.declared.cmp.Ordering.TheVariants.{Equal};
 ghost use Rattle.base.specs.Counts.{scanned};
 ghost use Rattle.base.specs.declared.levels.Level.TheVariants.{Star};
 ghost use Rattle.base.specs.declared.refusals.Refusal.TheVariants.{BadLabel};
 ghost use Rattle.label_lattice.specs.declared.pairings.Pair.{Pair};
 ghost use Rattle.label_lattice.specs.Label.{level, level as level_of, has_star, IsStored};
 ghost use Rattle.label_lattice.specs.Levels.{level_at};
+ghost use Rattle.label_lattice.specs.Listing.{label_cmp};
 ghost use Rattle.label_lattice.specs.Placed.{with_level};
 ghost use Rattle.label_lattice.specs.Raw.{is_bad, is_bad_below, stored_of, raw_of};
 ghost use Rattle.label_lattice.specs.Rule.{rule_test};
 
 use crate::exceptions::{collect, has_star_in, level_of, placed_in};
+use crate::listing::compare_pairs;
 use crate::pairings::{Pair, Pairs};
 use crate::raw_labels::RawLabel;
 use crate::walk::{Rule, holds_everywhere};
 use base::{Category, Level, Meter, Refusal};
+use std::cmp::Ordering;
 use std::marker::Model;
 
 /// A label that can be stored: a default of 0 to 3, and 0 to 16 exceptions by rising category, none
@@ -132,6 +136,20 @@ impl Label {
         let (_, _) = (&self.default, &other.default);
         meter.scan();
         Label::holds(Rule::Same, self, other, other)
+    }
+
+    /// Where the label stands in a list of labels before or after another: by the defaults, and then
+    /// by the lists of exceptions, place by place, a list before those that it begins (this profile's
+    /// order). It adds one scan.
+    pub fn listing_cmp(&self, other: &Label, meter: &mut Meter) -> Ordering
+        ensures scan { meter.new ≡ scanned 1 meter.old }
+        ensures order { result ≡ label_cmp self.now other.now }
+        ensures equal { (result ≡ Equal) ↔ (self.now ≡ other.now) }
+    {
+        meter.scan();
+        let defaults = self.default.rank().cmp(&other.default.rank());
+        let exceptions = compare_pairs(self.exceptions.as_slice(), other.exceptions.as_slice());
+        defaults.then(exceptions)
     }
 
     /// The label with one category at another level, and `None` exactly where that would have 17

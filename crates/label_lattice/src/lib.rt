@@ -10,6 +10,7 @@
 mod exceptions;
 mod labels;
 pub mod laws;
+mod listing;
 mod orders;
 mod pairings;
 mod raw_labels;

@@ -1,14 +1,16 @@
 //! The plain kernel: a map of records, and all else computed anew.
 ghost use Rattle.std.specs.Prelude.{◌≡◌, ◌↔◌, true, false, IsTrue, IfOk, OnOk, OnErr, IsErrOf};
 ghost use Rattle.base.specs.Limits.{in_range};
+ghost use Rattle.kernel_rules.specs.Scratch.{scratch};
 ghost use Rattle.kernel_rules.specs.WellFormed.{is_well_formed};
 
 use crate::acceptances::step;
 use crate::machine::Machine;
 use crate::queries::ask;
 use base::{Limits, Meter, NoMemory, ObjectId};
-use kernel_rules::{Call, Query, Reply};
+use kernel_rules::{Call, Query, Reply, Tables};
 use plain_state::{BootRefusal, PlainState};
+use plain_tables::tables;
 use std::alloc::Global;
 
 /// A label kernel that keeps nothing but its records, and computes liveness, use and label rules
@@ -33,6 +35,14 @@ impl PlainKernel {
             Ok(state) => Ok(PlainKernel { state }),
             Err(refusal) => Err(refusal),
         }
+    }
+
+    /// The tables of the kernel's state, recomputed: what a machine that decides fast would keep. Want
+    /// of memory is the only error.
+    pub fn tables(&self, meter: &mut Meter) -> Result<Tables, NoMemory>
+        ensures { IfOk result (λ tables. tables ≡ scratch (kernel_state self.now)) }
+    {
+        tables(self.state.alloc(), &self.state, meter)
     }
 
     /// A law, which does nothing when it is called: the state of every kernel is well formed.

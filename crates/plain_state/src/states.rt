@@ -42,6 +42,13 @@ impl PlainState {
         ensures { IsTrue (is_well_formed (state_of self.now)) }
     {}
 
+    /// The records, by their ids.
+    pub fn records(&self) -> &Records
+        ensures { records_state result.now ≡ state_of self.now }
+    {
+        &self.records
+    }
+
     /// What takes memory for the state.
     pub fn alloc(&self) -> Global {
         self.alloc

@@ -1,0 +1,53 @@
+//! How labels are listed: the order of a list of labels, and the bits by which two of them compare.
+ghost use Rattle.std.specs.Prelude.{◌≡◌};
+ghost use Rattle.std.specs.Cmp.Lexicographic.{slice_cmp};
+ghost use Rattle.base.specs.Counts.{scanned};
+ghost use Rattle.label_lattice.specs.Bits.{bits_of};
+ghost use Rattle.label_lattice.specs.Listing.{pair_cmp, label_cmp};
+
+use crate::labels::Label;
+use crate::pairings::Pair;
+use base::Meter;
+use std::cmp::Ordering;
+
+/// Pairs by their categories, and then by their levels.
+fn compare_pair(one: &Pair, other: &Pair) -> Ordering
+    ensures { result ≡ pair_cmp one.now other.now }
+{
+    let categories = one.category.0.cmp(&other.category.0);
+    let levels = one.level.rank().cmp(&other.level.rank());
+    categories.then(levels)
+}
+
+/// Lists of pairs place by place, a list before those that it begins.
+pub fn compare_pairs(one: &[Pair], other: &[Pair]) -> Ordering
+    ensures { result ≡ slice_cmp pair_cmp one.now other.now }
+{
+    match one {
+        [] => match other {
+            [] => Ordering::Equal,
+            [_, ..] => Ordering::Less,
+        },
+        [first, rest @ ..] => match other {
+            [] => Ordering::Greater,
+            [second, others @ ..] => {
+                compare_pair(first, second).then(compare_pairs(rest, others))
+            }
+        },
+    }
+}
+
+impl Label {
+    /// How the label A compares with another B, as a sum of bits, 0 to 7: 1 where A is at most B at
+    /// each category, 2 where it is once B's star is raised above all levels, 4 where it is once the
+    /// star of both is raised (this profile's numbers). It adds three scans.
+    pub fn order_bits(&self, other: &Label, meter: &mut Meter) -> u8
+        ensures scans { meter.new ≡ scanned 3 meter.old }
+        ensures bits { result ≡ bits_of self.now other.now }
+    {
+        let one = if self.leq(other, meter) { 1 } else { 0 };
+        let two = if self.leq_up(other, meter) { 2 } else { 0 };
+        let four = if self.leq_up_up(other, meter) { 4 } else { 0 };
+        one + two + four
+    }
+}
