@@ -8,3 +8,4 @@ pub mod Fitting
 pub mod Changes
 pub mod Step
 pub mod Runs
+pub mod History

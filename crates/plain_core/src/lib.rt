@@ -13,7 +13,7 @@ mod queries;
 mod refusals;
 
 pub use kernel::PlainKernel;
-pub use kernel_rules::{Body, Call, Entry, Gate, Ids, Mapping, Object, Query, Reply, Thread};
+pub use kernel_rules::{Body, Call, Entry, Event, Gate, Ids, Mapping, Object, Query, Reply, Thread};
 pub use machine::{Machine, run};
 pub use plain_state::BootRefusal;
 
