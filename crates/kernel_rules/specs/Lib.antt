@@ -10,3 +10,4 @@ pub mod Step
 pub mod Runs
 pub mod Tables
 pub mod Scratch
+pub mod History

@@ -5,6 +5,7 @@
 #![tactic(auto)]
 
 mod calls;
+mod events;
 mod lists;
 mod objects;
 mod places;
@@ -13,6 +14,7 @@ mod replies;
 mod tables;
 
 pub use calls::{Call, Entry, Query};
+pub use events::Event;
 pub use lists::{Bytes, IdList, Ids, Packets, Slots};
 pub use objects::{Body, Gate, Mapping, Object, Thread, fresh_object};
 pub use places::Place;

@@ -2,12 +2,14 @@
 ghost use Rattle.std.specs.Prelude.{◌≡◌, ◌↔◌, true, false, IsTrue, IfOk, OnOk, OnErr, IsErrOf};
 ghost use Rattle.base.specs.Limits.{in_range};
 ghost use Rattle.kernel_rules.specs.Scratch.{scratch};
+ghost use Rattle.base.specs.declared.kinds.Kind.TheVariants as kinds;
+ghost use Rattle.kernel_rules.specs.State.{is_live_kind};
 ghost use Rattle.kernel_rules.specs.WellFormed.{is_well_formed};
 
 use crate::acceptances::step;
 use crate::machine::Machine;
 use crate::queries::ask;
-use base::{Limits, Meter, NoMemory, ObjectId};
+use base::{Kind, Limits, Meter, NoMemory, ObjectId};
 use kernel_rules::{Call, Query, Reply, Tables};
 use plain_state::{BootRefusal, PlainState};
 use plain_tables::tables;
@@ -50,6 +52,13 @@ impl PlainKernel {
         ensures { IsTrue (is_well_formed (kernel_state self.now)) }
     {
         self.state.well_formed();
+    }
+
+    /// Whether an id is that of a live thread.
+    pub fn is_thread(&self, thread: ObjectId) -> bool
+        ensures { result ≡ is_live_kind (kernel_state self.now) kinds.Thread thread }
+    {
+        self.state.is_live_kind(Kind::Thread, thread)
     }
 }
 

@@ -1,0 +1,28 @@
+//! One kernel that many threads call, under one lock, with a journal of every call. A thread calls
+//! through its seat, of which it can have one, and each call is one event of the journal. The type under
+//! the lock promises that the journal is legal and that the kernel is in its state, whenever the lock is
+//! free; `Book::commit` is exact. That a seat's calls come to the journal in the order in which they were
+//! made follows from the seat's number. Who gets the lock next is left to the lock.
+#![tactic(auto)]
+
+mod books;
+mod boots;
+mod naming;
+mod passes;
+mod receipts;
+mod refusals;
+mod seats;
+mod tallies;
+
+pub use books::Book;
+pub use boots::{Blank, Shared};
+pub use kernel_rules::Event;
+pub use naming::Naming;
+pub use passes::Pass;
+pub use plain_core::BootRefusal;
+pub use receipts::Receipt;
+pub use refusals::{SeatRefusal, SubmitRefusal};
+pub use seats::Seat;
+
+#[cfg(test)]
+mod tests;

@@ -1,0 +1,67 @@
+//! What a thread carries from call to call.
+ghost use Rattle.std.specs.Prelude.{◌≡◌};
+ghost use Rattle.published_copy.specs.Turns.{turn};
+
+use crate::naming::Naming;
+use base::ObjectId;
+use std::marker::{Model, PhantomData};
+
+/// A thread, the number of its next event, and how many events it has seen. It can't be copied, so a
+/// thread has one. A contract sees it as its `Turn`.
+#[derive(Drop)]
+pub struct Pass<B: Naming> {
+    thread: ObjectId,
+    number: u64,
+    length: usize,
+    of: PhantomData<B>,
+}
+
+impl<B: Naming> Model for Pass<B> {
+    ghost use Rattle.published_copy.specs.Turns.{Turn, turn};
+
+    ghost Value = { Turn };
+
+    ghost view = { λ p. turn p.thread p.number p.length };
+}
+
+impl<B: Naming> Pass<B> {
+    /// The pass of a thread whose next event has this number, and which has seen so many events.
+    pub(crate) fn new(thread: ObjectId, number: u64, length: usize) -> Pass<B>
+        ensures { result ≡ turn thread number length }
+    {
+        Pass {
+            thread,
+            number,
+            length,
+            of: PhantomData,
+        }
+    }
+
+    /// The thread.
+    pub fn thread(&self) -> ObjectId
+        ensures { result ≡ self.now.thread }
+    {
+        self.thread
+    }
+
+    /// The number of its next event, from 1.
+    pub fn number(&self) -> u64
+        ensures { result ≡ self.now.number }
+    {
+        self.number
+    }
+
+    /// How many events it has seen.
+    pub fn length(&self) -> usize
+        ensures { result ≡ self.now.length }
+    {
+        self.length
+    }
+
+    /// It has seen so many events.
+    pub(crate) fn see(&mut self, length: usize)
+        ensures { self.new ≡ turn self.old.thread self.old.number length }
+    {
+        self.length = length;
+    }
+}
