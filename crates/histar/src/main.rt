@@ -15,7 +15,7 @@ fn main(rt: HostRuntime) -> io::Result<ExitCode> {
     let owned: Vec<String> = std::env::args(&rt)?.collect(alloc)?;
     if owned.len() <= 1 {
         let mut script = rt.reader();
-        let ended = histar_on(alloc, &mut script, &DEFAULTS, &mut out, &mut err);
+        let ended = histar_on(&rt, alloc, &mut script, &DEFAULTS, &mut out, &mut err);
         return Ok(ExitCode::from(ended.status));
     }
     let told = match read_words(alloc, owned.as_slice()) {
@@ -33,6 +33,6 @@ fn main(rt: HostRuntime) -> io::Result<ExitCode> {
         eprintln!(rt; "histar: input fault")?;
         return Ok(ExitCode::from(3));
     };
-    let ended = histar_on(alloc, &mut script, &told.options, &mut out, &mut err);
+    let ended = histar_on(&rt, alloc, &mut script, &told.options, &mut out, &mut err);
     Ok(ExitCode::from(ended.status))
 }

@@ -20,3 +20,8 @@ unless_bound None n names = names ++ n ∷ []
 -- the names after one more is bound
 abbrev pub bound : Named → List Named → List Named
 bound n names = unless_bound (value_of n.name names) n names
+
+-- the names after others are bound, in their order
+abbrev pub all_bound : List Named → List Named → List Named
+all_bound [] names = names
+all_bound (n ∷ others) names = all_bound others (bound n names)

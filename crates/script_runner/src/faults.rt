@@ -1,6 +1,6 @@
 //! Why a script is not played.
 use base::NoMemory;
-use plain_core::BootRefusal;
+use published_copy::BootRefusal;
 use std::alloc::{AllocError, AllocFailed};
 use thiserror::Error;
 
@@ -10,12 +10,12 @@ pub enum PlayFault {
     /// The kernel did not boot.
     #[error("the kernel did not boot")]
     Boot(BootRefusal),
-    /// There was no memory.
+    /// There was no memory, or a thread could not be started.
     #[error("out of memory")]
     Memory,
-    /// The line, from 1, parts phases or is another worker's than `boot`.
-    #[error("line {0}: script fault")]
-    Line(u32),
+    /// The gate stopped a worker.
+    #[error("stopped")]
+    Stopped,
 }
 
 impl From<AllocError> for PlayFault {

@@ -2,16 +2,21 @@
 //!
 //! A script is read whole before a line of it is played, and all output is made before a byte of it goes out. That a
 //! line printed is the text of what its call answered, and which status and fault line a run ends with, is shown by
-//! tests. A script is played by one worker, `boot`, in one phase.
+//! tests. So are the order of the lines and that the workers of a phase run at once.
 #![tactic(auto)]
 
 mod faults;
+mod gates;
 mod names;
+mod parts;
 mod play;
+mod printing;
 mod program;
+mod workers;
 
 pub use faults::PlayFault;
-pub use names::BoundNames;
+pub use gates::{Always, Gate, Turn};
+pub use names::{BoundNames, WorkerNames};
 pub use play::{Played, play_all};
 pub use program::{Ended, histar_on};
 

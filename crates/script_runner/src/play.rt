@@ -1,145 +1,237 @@
-//! Playing a script.
+//! Playing a script: each worker of a phase in a thread of its own.
+ghost use Rattle.std.specs.Prelude.{◌≡◌};
+
 use crate::faults::PlayFault;
+use crate::gates::Gate;
 use crate::names::BoundNames;
-use base::{Limits, Meter, NoMemory, ObjectId};
-use call_text::{Asked, Line, Named, Script, Value, put_reply, resolve};
-use kernel_rules::Reply;
-use plain_core::{Machine, PlainKernel};
+use crate::parts::{Parts, parts_of, workers_of};
+use crate::printing::output_of;
+use crate::workers::{Ended, Worker};
+use base::{Limits, ObjectId};
+use call_text::{Known, Phase, Script, Value};
+use indexmap::IndexSet;
+use published_copy::{Blank, Naming, Shared};
 use std::alloc::{AllocError, Global};
-use text_words::{Name, put_name, put_number};
+use std::marker::Brand;
+use std::sync::{Mutex, Wait};
+use std::thread;
+use std::thread::Threads;
+use text_words::Name;
 
 /// What a script's lines printed.
 #[derive(Drop)]
 pub struct Played {
-    /// A line `WORKER N: REPLY` for each line, N its number in the script.
+    /// A line `WORKER N: REPLY` for each line, N its number in the script: the workers in the order of their first lines,
+    /// for each its lines in order.
     pub output: Vec<u8>,
 }
 
-/// What a line answered.
-#[derive(Clone, Copy)]
-enum Answer {
-    Replied(Reply),
-    /// The first name of the line that is not known, or known as the other kind.
-    Unbound(Name),
-}
-
-/// A kernel with the names that are known so far.
+/// The workers that play a phase, by their places among all.
 #[derive(Drop)]
-struct Player {
-    kernel: PlainKernel,
-    meter: Meter,
-    names: BoundNames,
+struct Cast {
+    /// Those with a seat.
+    seated: Vec<usize>,
+    /// Those without one.
+    unseated: Vec<usize>,
 }
 
-fn is_boot(worker: &Name) -> bool {
-    worker.as_slice() == b"boot".as_slice()
+/// The thread that a name is bound to, or the object that is none.
+fn thread_of(name: &Name, names: &BoundNames) -> Option<ObjectId> {
+    match names.value_of(name) {
+        Some(Value::Object(id)) => Some(id),
+        _ => None,
+    }
 }
 
-/// The first line that parts phases or is another worker's than `boot`.
-pub fn first_fault(script: &Script) -> Option<u32> {
-    let [first, more @ ..] = script.phases.as_slice() else {
-        return None;
+/// Opens a worker's seat where it has none and its name is bound. Says whether it has one.
+fn seat<'s, B: Naming, R: Wait>(
+    rt: &R,
+    shared: &'s Shared<B>,
+    worker: &mut Worker<'s, B>,
+    thread: Option<ObjectId>,
+) -> bool {
+    if worker.seat.is_some() {
+        return true;
+    }
+    let Some(thread) = thread else {
+        return false;
     };
-    for line in &first.lines {
-        if !is_boot(&line.worker) {
-            return Some(line.number);
+    match shared.open_seat(rt, thread) {
+        Ok(seat) => {
+            worker.seat = Some(seat);
+            true
         }
-    }
-    if more.is_empty() {
-        return None;
-    }
-    u32::try_from(first.lines.len()).ok()?.checked_add(1)
-}
-
-impl Player {
-    fn new(alloc: Global, limits: &Limits) -> Result<Player, PlayFault> {
-        let meter = Meter::new(alloc)?;
-        let kernel = PlainKernel::boot(alloc, limits)?;
-        let names = BoundNames::start(alloc)?;
-        Ok(Player {
-            kernel,
-            meter,
-            names,
-        })
-    }
-
-    fn ask(&mut self, line: &Line) -> Result<Answer, NoMemory> {
-        let boot = ObjectId::new(2);
-        let reply = match resolve(&line.call, &self.names) {
-            Err(name) => return Ok(Answer::Unbound(name)),
-            Ok(Asked::Write(call)) => self.kernel.step(boot, &call, &mut self.meter)?,
-            Ok(Asked::Read(query)) => self.kernel.ask(boot, &query, &mut self.meter)?,
-        };
-        Ok(Answer::Replied(reply))
-    }
-
-    /// Binds the line's name to what its call made.
-    fn bind(&mut self, line: &Line, answer: &Answer) -> Result<(), AllocError> {
-        let value = match answer {
-            Answer::Replied(Reply::Category(category)) => Value::Category(*category),
-            Answer::Replied(Reply::Object(id)) => Value::Object(*id),
-            _ => return Ok(()),
-        };
-        if let Some(name) = line.binds {
-            self.names.bind(&Named { name, value })?;
+        Err(refusal) => {
+            worker.refusal = Some(refusal);
+            false
         }
-        Ok(())
     }
 }
 
-fn put_answer(
-    out: &mut Vec<u8>,
-    line: &Line,
-    answer: &Answer,
+/// Opens the seats of the workers that have lines in a phase, in the workers' order.
+fn seat_all<'s, B: Naming, R: Wait>(
+    rt: &R,
+    alloc: Global,
+    shared: &'s Shared<B>,
+    parts: &Parts,
+    workers: &IndexSet<Name>,
+    played: &[Mutex<Worker<'s, B>>],
     names: &BoundNames,
-) -> Result<(), NoMemory> {
-    put_name(out, &line.worker)?;
-    out.push(b' ')?;
-    put_number(out, u64::from(line.number))?;
-    out.extend_from_slice(b": ")?;
-    match answer {
-        Answer::Replied(reply) => put_reply(out, reply, names)?,
-        Answer::Unbound(name) => {
-            out.extend_from_slice(b"unbound ")?;
-            put_name(out, name)?;
+) -> Result<Cast, AllocError> {
+    let mut seated = Vec::new(alloc);
+    let mut unseated = Vec::new(alloc);
+    for (index, _) in parts {
+        if let (Some(name), Some(worker)) = (workers.get_index(*index), played.get(*index)) {
+            let thread = thread_of(name, names);
+            if seat(rt, shared, &mut worker.lock(rt), thread) {
+                seated.push(*index)?;
+            } else {
+                unseated.push(*index)?;
+            }
         }
     }
-    out.push(b'\n')?;
+    Ok(Cast { seated, unseated })
+}
+
+/// Plays a phase, each seated worker in a thread of its own, all at once, and those without a seat in this one. All are
+/// joined. False where a thread can't be started.
+fn play_at_once<'s, B: Naming + Send, R: Threads + Wait + Sync, G: Gate>(
+    rt: &R,
+    gate: &G,
+    phase: &Phase,
+    parts: &Parts,
+    cast: &Cast,
+    played: &[Mutex<Worker<'s, B>>],
+    names: &BoundNames,
+) -> bool {
+    thread::scope(thread::scope_env(), rt, |scope| {
+        let mut all = true;
+        for index in &cast.seated {
+            let index = *index;
+            if let (Some(places), Some(worker)) = (parts.get(&index), played.get(index)) {
+                let places = places.as_slice();
+                let spawned = scope.spawn(move || {
+                    worker.lock(rt).play(rt, gate, index, phase, places, names);
+                });
+                all = all && spawned.is_ok();
+            }
+        }
+        for index in &cast.unseated {
+            if let (Some(places), Some(worker)) = (parts.get(index), played.get(*index)) {
+                let places = places.as_slice();
+                worker.lock(rt).play(rt, gate, *index, phase, places, names);
+            }
+        }
+        all
+    })
+}
+
+/// Why the workers of a phase ended early, if one did, and else the names that they bound.
+fn settle<B: Naming, R: Wait>(
+    rt: &R,
+    alloc: Global,
+    parts: &Parts,
+    played: &[Mutex<Worker<'_, B>>],
+    names: &mut BoundNames,
+) -> Result<(), PlayFault> {
+    for (index, _) in parts {
+        if let Some(worker) = played.get(*index) {
+            let mut worker = worker.lock(rt);
+            match worker.ended {
+                Ended::Played => {}
+                Ended::Stopped => return Err(PlayFault::Stopped),
+                Ended::Memory => return Err(PlayFault::Memory),
+            }
+            names.bind_all(&worker.own)?;
+            worker.own = BoundNames::none(alloc);
+            worker.refusal = None;
+        }
+    }
     Ok(())
 }
 
-fn output_of(
+/// The workers of a script, none with a seat.
+fn idle<'s, B: Naming>(
     alloc: Global,
-    lines: &[Line],
-    answers: &[Answer],
-    names: &BoundNames,
-) -> Result<Vec<u8>, NoMemory> {
-    let mut out = Vec::new(alloc);
-    for (line, answer) in lines.iter().zip(answers) {
-        put_answer(&mut out, line, answer, names)?;
+    count: usize,
+) -> Result<Vec<Mutex<Worker<'s, B>>>, AllocError> {
+    let mut idle = Vec::new(alloc);
+    for _ in 0..count {
+        idle.push(Mutex::new(Worker::new(alloc)))?;
     }
-    Ok(out)
+    Ok(idle)
 }
 
-/// Plays a script on a newly booted kernel. The replies print the names of the script as they are bound when all is
-/// played, and `#` and the number of what has none.
-pub fn play_all(alloc: Global, script: &Script, limits: &Limits) -> Result<Played, PlayFault> {
-    if let Some(line) = first_fault(script) {
-        return Err(PlayFault::Line(line));
+fn play_phase<'s, B: Naming + Send, R: Threads + Wait + Sync, G: Gate>(
+    rt: &R,
+    alloc: Global,
+    shared: &'s Shared<B>,
+    phase: &Phase,
+    gate: &G,
+    workers: &IndexSet<Name>,
+    played: &[Mutex<Worker<'s, B>>],
+    names: &mut BoundNames,
+) -> Result<(), PlayFault> {
+    let parts = parts_of(alloc, phase, workers)?;
+    let cast = seat_all(rt, alloc, shared, &parts, workers, played, names)?;
+    if !play_at_once(rt, gate, phase, &parts, &cast, played, names) {
+        return Err(PlayFault::Memory);
     }
-    let mut player = Player::new(alloc, limits)?;
-    let mut answers = Vec::new(alloc);
-    let [phase, ..] = script.phases.as_slice() else {
-        return Ok(Played {
-            output: Vec::new(alloc),
-        });
-    };
-    for line in &phase.lines {
-        let answer = player.ask(line)?;
-        player.bind(line, &answer)?;
-        answers.push(answer)?;
+    settle(rt, alloc, &parts, played, names)
+}
+
+fn play_shared<'s, B: Naming + Send, R: Threads + Wait + Sync, G: Gate>(
+    rt: &R,
+    alloc: Global,
+    shared: &'s Shared<B>,
+    script: &Script,
+    gate: &G,
+) -> Result<Played, PlayFault> {
+    let workers = workers_of(alloc, script)?;
+    let played: Vec<Mutex<Worker<'s, B>>> = idle(alloc, workers.len())?;
+    let mut names = BoundNames::start(alloc)?;
+    for phase in &script.phases {
+        play_phase(
+            rt,
+            alloc,
+            shared,
+            phase,
+            gate,
+            &workers,
+            played.as_slice(),
+            &mut names,
+        )?;
     }
-    let lines = phase.lines.as_slice();
-    let output = output_of(alloc, lines, answers.as_slice(), &player.names)?;
+    let output = output_of(rt, alloc, &workers, played.as_slice(), &names)?;
     Ok(Played { output })
+}
+
+fn play_booted<B: Naming + Send, R: Threads + Wait + Sync, G: Gate>(
+    rt: &R,
+    alloc: Global,
+    blank: Blank,
+    script: &Script,
+    gate: &G,
+) -> Result<Played, PlayFault>
+    requires { blank ≡ B.limits }
+{
+    let shared = blank.open::<B>();
+    play_shared(rt, alloc, &shared, script, gate)
+}
+
+/// Plays a script on a newly booted kernel: its phases one after another, in each the workers at once, each one with a
+/// seat in a thread of its own. A name is known to the worker that bound it from its next line on, and to all others from
+/// the next phase on. The replies print the names of the script as they are bound when all is played, and `#` and the
+/// number of what has none. It waits for all threads that it starts. Nothing is printed after a fault.
+pub fn play_all<R: Threads + Wait + Sync, G: Gate>(
+    rt: &R,
+    alloc: Global,
+    script: &Script,
+    limits: &Limits,
+    gate: &G,
+) -> Result<Played, PlayFault> {
+    match Blank::boot(alloc, limits) {
+        Ok(blank) => play_booted::<Brand, R, G>(rt, alloc, blank, script, gate),
+        Err(refusal) => Err(PlayFault::Boot(refusal)),
+    }
 }

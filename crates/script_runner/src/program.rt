@@ -1,10 +1,12 @@
 //! The program, over a reader and two writers.
-use crate::faults::PlayFault;
-use crate::play::{first_fault, play_all};
+use crate::gates::Always;
+use crate::play::play_all;
 use call_text::{Script, ScriptError, read_script};
 use script_words::Options;
 use std::alloc::Global;
 use std::io::{ErrorKind, Read, Write};
+use std::sync::Wait;
+use std::thread::Threads;
 
 /// How a run ended.
 #[derive(Clone, Copy, PartialEq, Eq, Debug)]
@@ -35,38 +37,16 @@ fn input_of<I: Read>(alloc: Global, script: &mut I) -> Result<Vec<u8>, Fault> {
     }
 }
 
-/// The bytes before a line, counted from 1.
-fn bytes_before(bytes: &[u8], line: u32) -> &[u8] {
-    let mut number = 1;
-    for (i, byte) in bytes.iter().enumerate() {
-        if number >= line {
-            return &bytes[..i];
-        }
-        if *byte == b'\n' {
-            number += 1;
-        }
-    }
-    bytes
-}
-
-/// The first fault of a script that can't be read: the line told, or one before it that is no line of the worker `boot`.
-fn earlier_fault(alloc: Global, bytes: &[u8], line: u32) -> Fault {
-    match read_script(alloc, bytes_before(bytes, line)) {
-        Ok(before) => Fault::Script(first_fault(&before).unwrap_or(line)),
-        Err(ScriptError::Memory) => Fault::Memory,
-        Err(ScriptError::Line(_)) => Fault::Script(line),
-    }
-}
-
 fn script_of(alloc: Global, bytes: &[u8]) -> Result<Script, Fault> {
     match read_script(alloc, bytes) {
         Ok(script) => Ok(script),
         Err(ScriptError::Memory) => Err(Fault::Memory),
-        Err(ScriptError::Line(line)) => Err(earlier_fault(alloc, bytes, line)),
+        Err(ScriptError::Line(line)) => Err(Fault::Script(line)),
     }
 }
 
-fn run<I: Read, O: Write>(
+fn run<R: Threads + Wait + Sync, I: Read, O: Write>(
+    rt: &R,
     alloc: Global,
     script: &mut I,
     options: &Options,
@@ -74,10 +54,8 @@ fn run<I: Read, O: Write>(
 ) -> Result<(), Fault> {
     let bytes = input_of(alloc, script)?;
     let script = script_of(alloc, bytes.as_slice())?;
-    let played = match play_all(alloc, &script, &options.limits) {
-        Ok(played) => played,
-        Err(PlayFault::Line(line)) => return Err(Fault::Script(line)),
-        Err(PlayFault::Boot(_) | PlayFault::Memory) => return Err(Fault::Memory),
+    let Ok(played) = play_all(rt, alloc, &script, &options.limits, &Always) else {
+        return Err(Fault::Memory);
     };
     if out.write_all(played.output.as_slice()).is_err() || out.flush().is_err() {
         return Err(Fault::Output);
@@ -108,15 +86,16 @@ fn told<E: Write>(err: &mut E, fault: Fault) -> u8 {
 
 /// Plays the script that a reader gives, and writes its replies. The faults are found in this order, the first one ending
 /// the run with one line on `err`: reading, the script's, want of memory in playing, writing. No byte goes to `out`
-/// before the output is whole.
-pub fn histar_on<I: Read, O: Write, E: Write>(
+/// before the output is whole. It waits for all threads that it starts.
+pub fn histar_on<R: Threads + Wait + Sync, I: Read, O: Write, E: Write>(
+    rt: &R,
     alloc: Global,
     script: &mut I,
     options: &Options,
     out: &mut O,
     err: &mut E,
 ) -> Ended {
-    match run(alloc, script, options, out) {
+    match run(rt, alloc, script, options, out) {
         Ok(()) => Ended { status: 0 },
         Err(fault) => Ended {
             status: told(err, fault),
