@@ -21,4 +21,6 @@ pub use play::{Played, play_all};
 pub use program::{Ended, histar_on};
 
 #[cfg(test)]
+mod row_tests;
+#[cfg(test)]
 mod tests;

@@ -10,6 +10,7 @@ use crate::workers::{Ended, Worker};
 use base::{Limits, ObjectId};
 use call_text::{Known, Phase, Script, Value};
 use indexmap::IndexSet;
+use kernel_rules::Event;
 use published_copy::{Blank, Naming, Shared};
 use std::alloc::{AllocError, Global};
 use std::marker::Brand;
@@ -18,12 +19,14 @@ use std::thread;
 use std::thread::Threads;
 use text_words::Name;
 
-/// What a script's lines printed.
+/// What a script's lines printed, and what the kernel was asked.
 #[derive(Drop)]
 pub struct Played {
     /// A line `WORKER N: REPLY` for each line, N its number in the script: the workers in the order of their first lines,
     /// for each its lines in order.
     pub output: Vec<u8>,
+    /// The journal: each write call that was made, in the order in which the kernel took them.
+    pub events: Vec<Event>,
 }
 
 /// The workers that play a phase, by their places among all.
@@ -180,6 +183,16 @@ fn play_phase<'s, B: Naming + Send, R: Threads + Wait + Sync, G: Gate>(
     settle(rt, alloc, &parts, played, names)
 }
 
+fn events_of<B: Naming, R: Wait>(
+    rt: &R,
+    alloc: Global,
+    shared: &Shared<B>,
+) -> Result<Vec<Event>, AllocError> {
+    let mut events = Vec::new(alloc);
+    events.extend_from_slice(shared.book(rt).events())?;
+    Ok(events)
+}
+
 fn play_shared<'s, B: Naming + Send, R: Threads + Wait + Sync, G: Gate>(
     rt: &R,
     alloc: Global,
@@ -203,7 +216,8 @@ fn play_shared<'s, B: Naming + Send, R: Threads + Wait + Sync, G: Gate>(
         )?;
     }
     let output = output_of(rt, alloc, &workers, played.as_slice(), &names)?;
-    Ok(Played { output })
+    let events = events_of(rt, alloc, shared)?;
+    Ok(Played { output, events })
 }
 
 fn play_booted<B: Naming + Send, R: Threads + Wait + Sync, G: Gate>(

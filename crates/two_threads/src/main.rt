@@ -1,0 +1,87 @@
+//! Two threads share a kernel: each makes a call through a seat of its own, and the journal is read
+//! back. It prints how many events each thread has.
+#![tactic(auto)]
+
+ghost use Rattle.std.specs.Prelude.{◌≡◌};
+
+use base::{Level, Limits, ObjectId};
+use label_lattice::RawLabel;
+use plain_core::{Call, Event, Reply};
+use published_copy::{Blank, Naming, SeatRefusal, Shared, SubmitRefusal};
+use std::io;
+use std::marker::Brand;
+use std::sync::Wait;
+use std::thread::{Threads, join};
+use thiserror::Error;
+
+/// Why the kernel is not shared.
+#[derive(Clone, Copy, Debug, Error)]
+enum Fault {
+    #[error("a seat was refused")]
+    Seat(#[from] SeatRefusal),
+    #[error("a call was not made")]
+    Submit(#[from] SubmitRefusal),
+}
+
+/// How many events the boot thread and another one have.
+#[derive(Clone, Copy)]
+struct Counts {
+    boot: usize,
+    other: usize,
+}
+
+/// A new thread of the label {1} and the clearance {2}, in the root container.
+fn new_thread() -> Call {
+    Call::ThreadCreate {
+        container: ObjectId::root(),
+        label: RawLabel::new(Level::L1, &[]),
+        quota: 1,
+        clearance: RawLabel::new(Level::L2, &[]),
+        entry_point: 0,
+    }
+}
+
+fn count_of(events: &[Event], thread: ObjectId) -> usize {
+    events.iter().filter(|event| event.thread == thread).count()
+}
+
+/// The boot thread makes another thread, and then both make a category at once.
+fn share<B: Naming + Send, R: Threads + Wait + Sync>(rt: &R, blank: Blank) -> Result<Counts, Fault>
+    requires { blank ≡ B.limits }
+{
+    let shared: Shared<B> = blank.open::<B>();
+    let boot = ObjectId::new(2);
+    let mut seat = shared.open_seat(rt, boot)?;
+    let other = match seat.submit(rt, &new_thread())?.reply {
+        Reply::Object(id) => id,
+        _ => boot,
+    };
+    let mut other_seat = shared.open_seat(rt, other)?;
+    let (mine, theirs) = join(
+        rt,
+        || seat.submit(rt, &Call::CatCreate),
+        || other_seat.submit(rt, &Call::CatCreate),
+    );
+    let _ = (mine?, theirs?);
+    let book = shared.book(rt);
+    Ok(Counts {
+        boot: count_of(book.events(), boot),
+        other: count_of(book.events(), other),
+    })
+}
+
+fn main(rt: HostRuntime) -> io::Result<()> {
+    let limits = Limits {
+        pages: 64,
+        device: Level::L1,
+        next_id: 4,
+        next_category: 1,
+    };
+    let Ok(blank) = Blank::boot(rt.alloc(), &limits) else {
+        return println!(rt; "no boot");
+    };
+    match share::<Brand, HostRuntime>(&rt, blank) {
+        Ok(counts) => println!(rt; "boot: {}, other: {}", counts.boot, counts.other),
+        Err(fault) => println!(rt; "{fault}"),
+    }
+}
