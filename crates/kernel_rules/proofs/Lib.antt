@@ -1,3 +1,4 @@
+pub mod HistoryLaws
 pub mod BootLaws
 pub mod BytesLaws
 pub mod CountLaws

@@ -1,5 +1,15 @@
--- What a pass knows.
-use Rattle.std.specs.Prelude.{ℕ}
+-- What a pass knows, and what a committed call makes of it and of the journal.
+use Rattle.std.specs.Prelude.{◌≡◌, ℕ, ◌+◌, Bool, true, ◌&&◌, ◌==◌, nat_le, List, [], ◌∷◌, ◌++◌, length}
+use Rattle.base.specs.declared.kinds.Kind.TheVariants as kinds
+use Rattle.base.specs.declared.ranges.Limits.{Limits}
+use Rattle.kernel_rules.specs.History.{state_of, count, IsLegal}
+use Rattle.kernel_rules.specs.State.{is_live_kind}
+use Rattle.kernel_rules.specs.Step.{answer, query_answer}
+use Rattle.kernel_rules.specs.declared.calls.Call.{Call}
+use Rattle.kernel_rules.specs.declared.calls.Query.{Query}
+use Rattle.kernel_rules.specs.declared.replies.Reply.{Reply}
+use Rattle.kernel_rules.specs.declared.events.Event.{Event}
+use Rattle.published_copy.specs.declared.receipts.Receipt.{Receipt}
 
 -- a thread, the number of its next event, and how many events it has seen
 pub record Turn : Type 0 where
@@ -9,3 +19,55 @@ pub record Turn : Type 0 where
 
 abbrev pub turn : ℕ → ℕ → ℕ → Turn
 turn thread number length = record { thread = thread; number = number; length = length }
+
+-- the number is the thread's next in the journal, and the journal has all that was seen
+abbrev pub is_turn : List Event → Turn → Bool
+is_turn journal pass =
+    (pass.number == count pass.thread journal + 1) && nat_le pass.length (length journal)
+
+-- the event that a call makes: its reply is the answer in the journal's state
+abbrev pub event_of : Limits → List Event → Turn → Call → Event
+event_of limits journal pass call = record {
+  thread = pass.thread;
+  number = pass.number;
+  call = call;
+  reply = answer (state_of limits journal) pass.thread call;
+}
+
+-- the journal with that event at its end
+abbrev pub with_event : Limits → List Event → Turn → Call → List Event
+with_event limits journal pass call = journal ++ event_of limits journal pass call ∷ []
+
+-- the receipt of that event
+abbrev pub receipt_of : Limits → List Event → Turn → Call → Receipt
+receipt_of limits journal pass call = record {
+  reply = answer (state_of limits journal) pass.thread call;
+  number = pass.number;
+  length = length journal + 1;
+}
+
+-- the pass then: its number is the next one, and it has seen the journal with that event
+abbrev pub passed_on : List Event → Turn → Turn
+passed_on journal pass = turn pass.thread (pass.number + 1) (length journal + 1)
+
+-- at some legal journal it was the pass's turn, with the call's event the journal is legal, and the
+-- receipt is that event's: what a caller knows who did not hold the lock
+abbrev pub IsSubmitted : Limits → Turn → Call → Receipt → Turn → Type 0
+IsSubmitted limits pass call receipt after =
+    (journal : List Event) × IsLegal limits (with_event limits journal pass call)
+    × (is_turn journal pass ≡ true) × (receipt ≡ receipt_of limits journal pass call)
+    × (after ≡ passed_on journal pass)
+
+-- at some legal journal, which is what the pass has seen then, the reply is the answer of its state
+abbrev pub IsRead : Limits → Turn → Query → Reply → Turn → Type 0
+IsRead limits pass query reply after =
+    (journal : List Event) × IsLegal limits journal
+    × (reply ≡ query_answer (state_of limits journal) pass.thread query)
+    × (after ≡ turn pass.thread pass.number (length journal))
+
+-- at some legal journal, which is what the pass has seen, the thread is live and has no event
+abbrev pub IsOpened : Limits → ℕ → Turn → Type 0
+IsOpened limits thread pass =
+    (journal : List Event) × IsLegal limits journal
+    × (is_live_kind (state_of limits journal) kinds.Thread thread ≡ true)
+    × (count thread journal ≡ 0) × (pass ≡ turn thread 1 (length journal))

@@ -1,5 +1,9 @@
 //! A boot, and what threads share of it.
-ghost use Rattle.std.specs.Prelude.{◌≡◌};
+ghost use Rattle.std.specs.Prelude.{◌≡◌, ◌+◌, ◌≤◌, ◌↔◌, false, [], IfOk, IsErrOf, vec_len, vec_capacity};
+ghost use Rattle.base.specs.Limits.{in_range};
+ghost use Rattle.kernel_rules.specs.Runs.{booted};
+ghost use Rattle.plain_core.specs.Kernel.{kernel_state};
+ghost use Rattle.published_copy.specs.Turns.{turn, IsOpened};
 
 use crate::books::Book;
 use crate::naming::Naming;
@@ -28,15 +32,24 @@ pub struct Blank {
 }
 
 impl Model for Blank {
+    ghost use Rattle.std.specs.Prelude.{◌≡◌, ◌+◌, ◌≤◌, [], vec_len, vec_capacity};
     ghost use Rattle.base.specs.declared.ranges.Limits.{Limits};
+    ghost use Rattle.kernel_rules.specs.Runs.{booted};
+    ghost use Rattle.plain_core.specs.Kernel.{kernel_state};
 
     ghost Value = { Limits };
 
     ghost view = { λ b. b.limits };
+
+    ghost invariant = { λ b. (kernel_state b.kernel ≡ booted b.limits)
+        × (b.journal.items ≡ []) × (b.tallies.items ≡ [])
+        × (vec_len b.tallies + vec_len b.meters ≤ vec_capacity b.tallies) };
 }
 
 /// A meter for each seat.
-fn seat_meters(alloc: Global) -> Result<Vec<Meter>, NoMemory> {
+fn seat_meters(alloc: Global) -> Result<Vec<Meter>, NoMemory>
+    ensures { IfOk result (λ meters. vec_len meters ≡ SEATS) }
+{
     let mut meters = Vec::with_capacity(alloc, SEATS)?;
     for _ in 0..SEATS {
         meters.push_reserved(Meter::new(alloc)?);
@@ -44,7 +57,11 @@ fn seat_meters(alloc: Global) -> Result<Vec<Meter>, NoMemory> {
     Ok(meters)
 }
 
-fn blank_over(alloc: Global, limits: &Limits, kernel: PlainKernel) -> Result<Blank, NoMemory> {
+/// A boot over a newly booted kernel, with all that seats need.
+fn blank_over(alloc: Global, limits: &Limits, kernel: PlainKernel) -> Result<Blank, NoMemory>
+    requires { kernel_state kernel ≡ booted limits.now }
+    ensures { IfOk result (λ blank. blank ≡ limits.now) }
+{
     let meter = Meter::new(alloc)?;
     let meters = seat_meters(alloc)?;
     let tallies = Vec::with_capacity(alloc, SEATS)?;
@@ -59,8 +76,12 @@ fn blank_over(alloc: Global, limits: &Limits, kernel: PlainKernel) -> Result<Bla
 }
 
 impl Blank {
-    /// Boots a kernel, with an empty journal and all that seats need.
-    pub fn boot(alloc: Global, limits: &Limits) -> Result<Blank, BootRefusal> {
+    /// Boots a kernel, with an empty journal and all that seats need. The error is `BadLimits` exactly
+    /// where a limit is out of its range, and else, for want of memory, `Unavailable`.
+    pub fn boot(alloc: Global, limits: &Limits) -> Result<Blank, BootRefusal>
+        ensures blank { IfOk result (λ blank. blank ≡ limits.now) }
+        ensures limits { IsErrOf result BootRefusal.BadLimits ↔ (in_range limits.now ≡ false) }
+    {
         let kernel = PlainKernel::boot(alloc, limits)?;
         match blank_over(alloc, limits, kernel) {
             Ok(blank) => Ok(blank),
@@ -98,8 +119,13 @@ impl<B: Naming> Shared<B> {
         self.book.lock(rt)
     }
 
-    /// A seat for a live thread that has had none. It waits for the lock, and takes no memory.
-    pub fn open_seat<R: Wait>(&self, rt: &R, thread: ObjectId) -> Result<Seat<'_, B>, SeatRefusal> {
+    /// A seat for a live thread that has had none: its first event will be number 1. It waits for the
+    /// lock, and takes no memory. The error is `SeatTaken` where the thread has had a seat, else
+    /// `NoThread` where the id is not that of a live thread, and else `SeatsSpent` where 64 seats were
+    /// opened.
+    pub fn open_seat<R: Wait>(&self, rt: &R, thread: ObjectId) -> Result<Seat<'_, B>, SeatRefusal>
+        ensures { IfOk result (λ seat. IsOpened B.limits thread seat) }
+    {
         let (pass, meter) = self.book.lock(rt).seat(thread)?;
         Ok(Seat::new(&self.book, pass, meter))
     }

@@ -1,9 +1,11 @@
 //! What a thread carries from call to call.
-ghost use Rattle.std.specs.Prelude.{◌≡◌};
+ghost use Rattle.std.specs.Prelude.{◌≡◌, ◌+◌, ◌<◌, ◌^◌};
 ghost use Rattle.published_copy.specs.Turns.{turn};
 
 use crate::naming::Naming;
+use crate::receipts::Receipt;
 use base::ObjectId;
+use kernel_rules::{Call, Event, Reply};
 use std::marker::{Model, PhantomData};
 
 /// A thread, the number of its next event, and how many events it has seen. It can't be copied, so a
@@ -63,5 +65,38 @@ impl<B: Naming> Pass<B> {
         ensures { self.new ≡ turn self.old.thread self.old.number length }
     {
         self.length = length;
+    }
+
+    /// The event that its thread's call is.
+    pub(crate) fn event(&self, call: &Call, reply: &Reply) -> Event
+        ensures thread { result.thread ≡ self.now.thread }
+        ensures number { result.number ≡ self.now.number }
+        ensures call { result.call ≡ call.now }
+        ensures reply { result.reply ≡ reply.now }
+    {
+        Event {
+            thread: self.thread,
+            number: self.number,
+            call: *call,
+            reply: *reply,
+        }
+    }
+
+    /// Its event was committed, and it has seen so many: the next number is one more.
+    pub(crate) fn pass_on(&mut self, reply: &Reply, length: usize) -> Receipt
+        requires { self.old.number + 1 < 2 ^ 64 }
+        ensures reply { result.reply ≡ reply.now }
+        ensures number { result.number ≡ self.old.number }
+        ensures length { result.length ≡ length }
+        ensures pass { self.new ≡ turn self.old.thread (self.old.number + 1) length }
+    {
+        let receipt = Receipt {
+            reply: *reply,
+            number: self.number,
+            length,
+        };
+        self.number += 1;
+        self.length = length;
+        receipt
     }
 }

@@ -1,4 +1,7 @@
 //! A thread's place at a kernel that it shares.
+ghost use Rattle.std.specs.Prelude.{◌≡◌, ◌+◌, IfOk, OnOk, OnErr};
+ghost use Rattle.published_copy.specs.Turns.{turn, IsSubmitted, IsRead};
+
 use crate::books::Book;
 use crate::naming::Naming;
 use crate::passes::Pass;
@@ -6,9 +9,11 @@ use crate::receipts::Receipt;
 use crate::refusals::SubmitRefusal;
 use base::{Meter, NoMemory};
 use kernel_rules::{Call, Query, Reply};
+use std::marker::Model;
 use std::sync::{Mutex, Wait};
 
-/// A thread's place at a kernel that it shares: the thread calls through it.
+/// A thread's place at a kernel that it shares: the thread calls through it. A contract sees it as its
+/// pass.
 #[derive(Drop)]
 pub struct Seat<'a, B: Naming> {
     lock: &'a Mutex<Book<B>>,
@@ -16,28 +21,51 @@ pub struct Seat<'a, B: Naming> {
     meter: Meter,
 }
 
+impl<'a, B: Naming> Model for Seat<'a, B> {
+    ghost use Rattle.published_copy.specs.Turns.{Turn};
+
+    ghost Value = { Turn };
+
+    ghost view = { λ s. s.pass };
+}
+
 impl<'a, B: Naming> Seat<'a, B> {
     /// The seat of a pass at the book under a lock.
-    pub(crate) fn new(lock: &'a Mutex<Book<B>>, pass: Pass<B>, meter: Meter) -> Seat<'a, B> {
+    pub(crate) fn new(lock: &'a Mutex<Book<B>>, pass: Pass<B>, meter: Meter) -> Seat<'a, B>
+        ensures { result ≡ pass }
+    {
         Seat { lock, pass, meter }
     }
 }
 
 impl<B: Naming> Seat<'_, B> {
-    /// Makes a call, which waits for the lock and is then one event of the journal.
-    pub fn submit<R: Wait>(&mut self, rt: &R, call: &Call) -> Result<Receipt, SubmitRefusal> {
+    /// Makes a call, which waits for the lock and is then one event of the journal: the seat's next
+    /// number's. An error changes nothing; `Memory` is want of memory, and `OutOfTurn` comes where
+    /// `Book::commit` says.
+    pub fn submit<R: Wait>(&mut self, rt: &R, call: &Call) -> Result<Receipt, SubmitRefusal>
+        ensures done { IfOk result
+            (λ receipt. IsSubmitted B.limits self.old call.now receipt self.new) }
+        ensures kept { OnErr result (self.new ≡ self.old) }
+    {
         self.lock.lock(rt).commit(&mut self.pass, call)
     }
 
-    /// Asks, which waits for the lock and is no event.
-    pub fn read<R: Wait>(&mut self, rt: &R, query: &Query) -> Result<Reply, NoMemory> {
+    /// Asks, which waits for the lock and is no event. The seat has then seen the whole journal.
+    /// Without memory, the only error, nothing changes.
+    pub fn read<R: Wait>(&mut self, rt: &R, query: &Query) -> Result<Reply, NoMemory>
+        ensures done { IfOk result
+            (λ reply. IsRead B.limits self.old query.now reply self.new) }
+        ensures kept { OnErr result (self.new ≡ self.old) }
+    {
         self.lock
             .lock(rt)
             .ask(&mut self.pass, query, &mut self.meter)
     }
 
     /// The seat's pass, for a caller that commits to a book that it was lent.
-    pub fn into_pass(self) -> Pass<B> {
+    pub fn into_pass(self) -> Pass<B>
+        ensures { result ≡ self.entry }
+    {
         let Seat {
             lock: _,
             pass,

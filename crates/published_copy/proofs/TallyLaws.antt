@@ -1,0 +1,157 @@
+-- Finding a thread among the tallies, and giving it another count.
+use Rattle.std.proofs.Common.{◌≡◌, ◌≢◌, ℕ, suc, ◌+◌, ◌<◌, ◌≤◌, Bool, true, false, ◌==◌, if◌then◌else◌, cond}
+use Rattle.std.proofs.Common.{List, [], ◌∷◌, ◌++◌, length, drop, get_or, set, Some, None, Option}
+use Rattle.std.proofs.Common.{refl, sym, ap, ◌∙◌, subst, arith, slice_get}
+use Rattle.std.proofs.lemmas.List.{at_drop_more, at_drop_all}
+use Rattle.std.proofs.Common.{add-zero}
+use Rattle.std.proofs.lemmas.Option.{slice_get_past}
+use Rattle.std.proofs.lemmas.Bool.{eq-eqb}
+use Rattle.std.proofs.lemmas.Bool.Decides.{nat_tests}
+use Rattle.published_copy.specs.declared.tallies.Tally.{Tally}
+use Rattle.kernel_rules.specs.History.{count}
+use Rattle.kernel_rules.specs.declared.events.Event.{Event}
+use Rattle.kernel_rules.proofs.HistoryLaws.{count-snoc}
+use Rattle.published_copy.specs.Tallies.{place_of, tallied, IsTallied}
+
+-- the thread is next
+pub place-hit : (thread : ℕ) (ts : List Tally) (i : ℕ) (d : Tally) → i < length ts
+    → ((get_or ts i d).thread == thread) ≡ true → place_of thread (drop i ts) ≡ 0
+place-hit thread ts i d less same =
+    at_drop_more (place_of thread) ts i d less
+    ∙ ap (λ v. if v then 0 else suc (place_of thread (drop (i + 1) ts))) same
+
+-- another thread is next
+pub place-miss : (thread : ℕ) (ts : List Tally) (i : ℕ) (d : Tally) → i < length ts
+    → ((get_or ts i d).thread == thread) ≡ false
+    → place_of thread (drop i ts) ≡ suc (place_of thread (drop (i + 1) ts))
+place-miss thread ts i d less other =
+    at_drop_more (place_of thread) ts i d less
+    ∙ ap (λ v. if v then 0 else suc (place_of thread (drop (i + 1) ts))) other
+
+-- no tally is left
+pub place-end : (thread : ℕ) (ts : List Tally) (i : ℕ) → length ts ≤ i → place_of thread (drop i ts) ≡ 0
+place-end thread ts i past = at_drop_all (place_of thread) ts i past
+
+-- what stands in the thread's place is its tally
+pub tallied-found : (thread : ℕ) (ts : List Tally) (t : Tally) → slice_get ts (place_of thread ts) ≡ Some t
+    → tallied thread ts ≡ t.events
+tallied-found thread [] t found = absurd (cc)
+tallied-found thread (x ∷ xs) t found =
+    elim (x.thread == thread)
+    as (λ v. slice_get (x ∷ xs) (if v then 0 else suc (place_of thread xs)) ≡ Some t
+    → (if v then x.events else tallied thread xs) ≡ t.events) [
+      | true ↦ λ f. let same : x ≡ t = cc in ap (λ (y : Tally). y.events) same
+      | false ↦ λ f. tallied-found thread xs t f
+    ] found
+
+-- a thread that has no place has no tally
+pub tallied-missing : (thread : ℕ) (ts : List Tally) → slice_get ts (place_of thread ts) ≡ None
+    → tallied thread ts ≡ 0
+tallied-missing thread [] none = refl
+tallied-missing thread (x ∷ xs) none =
+    elim (x.thread == thread)
+    as (λ v. slice_get (x ∷ xs) (if v then 0 else suc (place_of thread xs)) ≡ None
+    → (if v then x.events else tallied thread xs) ≡ 0) [
+      | true ↦ λ f. absurd (cc)
+      | false ↦ λ f. tallied-missing thread xs f
+    ] none
+
+-- a thread without events
+abbrev pub idle : ℕ → Tally
+idle thread = record { thread = thread; events = 0 }
+
+-- either way the same
+either-same : (b : Bool) (n : ℕ) → (if b then n else n) ≡ n
+either-same true n = refl
+either-same false n = refl
+
+-- a thread without events comes last, and no one's events are others
+pub tallied-admitted : (thread other : ℕ) (ts : List Tally) → place_of thread ts ≡ length ts
+    → tallied other (ts ++ idle thread ∷ []) ≡ tallied other ts
+tallied-admitted thread other [] none = either-same (thread == other) 0
+tallied-admitted thread other (x ∷ xs) none =
+    elim (x.thread == thread)
+    as (λ v. (if v then 0 else suc (place_of thread xs)) ≡ suc (length xs)
+    → tallied other (x ∷ xs ++ idle thread ∷ []) ≡ tallied other (x ∷ xs)) [
+      | true ↦ λ p. absurd (omega (arith, p))
+      | false ↦ λ p.
+          ap (λ n. if x.thread == other then x.events else n)
+          (tallied-admitted thread other xs (omega (arith, p)))
+    ] none
+
+-- and then it has a place
+pub place-admitted : (thread : ℕ) (ts : List Tally)
+    → place_of thread (ts ++ idle thread ∷ []) < suc (length ts)
+place-admitted thread [] =
+    let P : Bool → Type 0 = λ v. (if v then 0 else 1) < 1 in
+    subst P (sym (eq-eqb thread thread refl)) (omega arith)
+place-admitted thread (x ∷ xs) =
+    let P : Bool → Type 0 =
+    λ v. (if v then 0 else suc (place_of thread (xs ++ idle thread ∷ []))) < suc (suc (length xs)) in
+    elim (x.thread == thread) as P [
+      | true ↦ omega arith
+      | false ↦ omega (arith, place-admitted thread xs)
+    ]
+
+-- the tally of a thread hides a later one of the same thread
+set-first : (thread mine other n events rest : ℕ) → mine ≡ thread
+    → (if thread == other then n else rest)
+    ≡ (if thread == other then n else (if mine == other then events else rest))
+set-first thread mine other n events rest same =
+    elim (thread == other)
+    as (λ v. (thread == other) ≡ v
+    → (if v then n else rest) ≡ (if v then n else (if mine == other then events else rest))) [
+      | true ↦ λ is. refl
+      | false ↦ λ is.
+          let apart : (mine == other) ≡ false = ap (λ k. k == other) same ∙ is in
+          sym (ap (λ b. if b then events else rest) apart)
+    ] refl
+
+-- a thread's tally is given another count, and other threads keep theirs
+pub tallied-set : (thread other n : ℕ) (ts : List Tally) → place_of thread ts < length ts
+    → tallied other (set ts (place_of thread ts) (record { thread = thread; events = n }))
+    ≡ (if thread == other then n else tallied other ts)
+tallied-set thread other n [] less = absurd (omega (arith, less))
+tallied-set thread other n (x ∷ xs) less =
+    elim (x.thread == thread)
+    as (λ v. (x.thread == thread) ≡ v → (if v then 0 else suc (place_of thread xs)) < suc (length xs)
+    → tallied other
+    (set (x ∷ xs) (if v then 0 else suc (place_of thread xs)) (record { thread = thread; events = n }))
+    ≡ (if thread == other then n else tallied other (x ∷ xs))) [
+      | true ↦ λ is p.
+          let same : x.thread ≡ thread = grind (arith, nat_tests) in
+          set-first thread x.thread other n x.events (tallied other xs) same
+      | false ↦ λ is p.
+          elim (x.thread == other)
+          as (λ w. (x.thread == other) ≡ w
+          → (if w then x.events else tallied other (set xs (place_of thread xs) (record { thread = thread; events = n })))
+          ≡ (if thread == other then n else (if w then x.events else tallied other xs))) [
+            | true ↦ λ at.
+                let apart : (thread == other) ≡ false = grind (arith, nat_tests) in
+                sym (ap (λ b. if b then n else x.events) apart)
+            | false ↦ λ at. tallied-set thread other n xs (omega (arith, p))
+          ] refl
+    ] refl less
+
+-- the thread of one event more is given that event's number, and the tallies are right again
+pub tallied-more : (old room new : List Tally) (events : List Event) (e : Event) → IsTallied old events
+    → ((other : ℕ) → tallied other room ≡ tallied other old)
+    → ((other : ℕ) → tallied other new ≡ (if e.thread == other then e.number else tallied other room))
+    → e.number ≡ count e.thread events + 1 → IsTallied new (events ++ e ∷ [])
+tallied-more old room new events e right same given number other =
+    given other
+    ∙ (elim (e.thread == other)
+    as (λ v. (e.thread == other) ≡ v
+    → (if v then e.number else tallied other room) ≡ count other events + (if v then 1 else 0)) [
+      | true ↦ λ is.
+          let at : e.thread ≡ other = grind (arith, nat_tests) in
+          number ∙ ap (λ t. count t events + 1) at
+      | false ↦ λ is. same other ∙ right other ∙ sym (add-zero (count other events))
+    ] refl
+    ∙ sym (count-snoc other events e))
+
+-- a thread without a place has no event
+pub no-event : (thread : ℕ) (ts : List Tally) (events : List Event) → IsTallied ts events
+    → length ts ≤ place_of thread ts → count thread events ≡ 0
+no-event thread ts events right past =
+    sym (right thread) ∙ tallied-missing thread ts (slice_get_past ts (place_of thread ts) past)
