@@ -14,7 +14,7 @@ use Rattle.text_words.proofs.Split.{both_true}
 use Rattle.text_words.specs.contracts.names.NamePartialEq.TheImpl.{eq-value}
 use Rattle.call_text.specs.declared.known_names.Named.{Named}
 use Rattle.call_text.specs.declared.known_names.Value.{Value}
-use Rattle.call_text.specs.Known.{value_of}
+use Rattle.call_text.specs.Known.{value_of, name_of, is_value}
 use Rattle.script_runner.specs.Names.{named, named_of, unless_bound, bound}
 
 eqb_self : (n : ℕ) → eqb n n ≡ true
@@ -61,3 +61,32 @@ bound_last entries after n names view has e =
     let v : value_of n.name names ≡ None = sym (ap (value_of n.name) view) ∙ sym (lookup_is n.name entries) ∙ none in
     let last : after ≡ entries ++ (n.name, n.value) ∷ [] = e ∙ insert_entry-absent eq-value.it n.name n.value entries (absent_from_lookup (eq-value.it n.name) entries none) in
     ap named_of last ∙ map_push named entries (n.name, n.value) ∙ ap (λ (ns : List Named). ns ++ n ∷ []) view ∙ sym (ap (λ (x : Option Value). unless_bound x n names) v)
+
+-- the first, unless it is none
+abbrev pub first_of : {X : Type 0} → Option X → Option X → Option X
+first_of None y = y
+first_of (Some x) y = Some x
+
+-- what a name is bound to in two lists, one after the other
+pub value_of-append : (name : List ℕ) (xs ys : List Named)
+    → value_of name (xs ++ ys) ≡ first_of (value_of name xs) (value_of name ys)
+value_of-append name [] ys = refl
+value_of-append name (n ∷ ns) ys =
+    elim (bytes_eq n.name name)
+    as (λ b. cond b (Some n.value) (value_of name (ns ++ ys))
+    ≡ first_of (cond b (Some n.value) (value_of name ns)) (value_of name ys)) [
+      | true ↦ refl
+      | false ↦ value_of-append name ns ys
+    ]
+
+-- the first name that has a value in two lists, one after the other
+pub name_of-append : (value : Value) (xs ys : List Named)
+    → name_of value (xs ++ ys) ≡ first_of (name_of value xs) (name_of value ys)
+name_of-append value [] ys = refl
+name_of-append value (n ∷ ns) ys =
+    elim (is_value n.value value)
+    as (λ b. cond b (Some n.name) (name_of value (ns ++ ys))
+    ≡ first_of (cond b (Some n.name) (name_of value ns)) (name_of value ys)) [
+      | true ↦ refl
+      | false ↦ name_of-append value ns ys
+    ]

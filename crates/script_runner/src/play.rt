@@ -38,27 +38,13 @@ struct Cast {
     unseated: Vec<usize>,
 }
 
-/// The thread that a name is bound to, or the object that is none.
-fn thread_of(name: &Name, names: &BoundNames) -> Option<ObjectId> {
-    match names.value_of(name) {
-        Some(Value::Object(id)) => Some(id),
-        _ => None,
-    }
-}
-
-/// Opens a worker's seat where it has none and its name is bound. Says whether it has one.
-fn seat<'s, B: Naming, R: Wait>(
+/// Opens a worker's seat, and says whether it has one then.
+fn open_seat<'s, B: Naming, R: Wait>(
     rt: &R,
     shared: &'s Shared<B>,
     worker: &mut Worker<'s, B>,
-    thread: Option<ObjectId>,
+    thread: ObjectId,
 ) -> bool {
-    if worker.seat.is_some() {
-        return true;
-    }
-    let Some(thread) = thread else {
-        return false;
-    };
     match shared.open_seat(rt, thread) {
         Ok(seat) => {
             worker.seat = Some(seat);
@@ -68,6 +54,22 @@ fn seat<'s, B: Naming, R: Wait>(
             worker.refusal = Some(refusal);
             false
         }
+    }
+}
+
+/// Whether a worker has a seat, which is opened where it has none and its name is bound to an object.
+fn seat<'s, B: Naming, R: Wait>(
+    rt: &R,
+    shared: &'s Shared<B>,
+    worker: &mut Worker<'s, B>,
+    bound: Option<Value>,
+) -> bool {
+    if worker.seat.is_some() {
+        return true;
+    }
+    match &bound {
+        Some(Value::Object(thread)) => open_seat(rt, shared, worker, *thread),
+        _ => false,
     }
 }
 
@@ -85,8 +87,8 @@ fn seat_all<'s, B: Naming, R: Wait>(
     let mut unseated = Vec::new(alloc);
     for (index, _) in parts {
         if let (Some(name), Some(worker)) = (workers.get_index(*index), played.get(*index)) {
-            let thread = thread_of(name, names);
-            if seat(rt, shared, &mut worker.lock(rt), thread) {
+            let bound = names.value_of(name);
+            if seat(rt, shared, &mut worker.lock(rt), bound) {
                 seated.push(*index)?;
             } else {
                 unseated.push(*index)?;
