@@ -1,5 +1,10 @@
 -- Laws of the next state, which a reader may ask for.
-use Rattle.std.specs.Prelude.{◌≡◌, ◌≢◌, ◌↔◌, ℕ, true, is_some, Some, IsTrue}
+use Rattle.std.specs.Prelude.{List, ◌≡◌, ◌≢◌, ◌↔◌, ℕ, true, is_some, Some, IsTrue}
+use Rattle.std.specs.List.{flat_map}
+use Rattle.std.specs.List.Sorted.{IsStrictlySortedBy}
+use Rattle.label_lattice.specs.Label.{LabelValue}
+use Rattle.label_lattice.specs.Listing.{label_cmp}
+use Rattle.kernel_rules.specs.Scratch.{stored_labels, is_stored_in, labels_of}
 use Rattle.base.specs.Live.{IsLive, links}
 use Rattle.base.specs.declared.kinds.Kind.TheVariants as kinds
 use Rattle.kernel_rules.specs.State.{State, object_at, lists_of, is_kind}
@@ -79,3 +84,10 @@ abbrev pub RootBoundsAll : Type 0
 RootBoundsAll =
     (s : State) (root : Object) → is_well_formed s ≡ true → object_at s 1 ≡ Some root
     → (length s.objects ≤ root.quota) × (link_count s + 1 ≤ root.quota)
+
+-- a table of labels has each label that the objects store once, in its place, and no other
+abbrev pub LabelsAreListed : Type 0
+LabelsAreListed =
+    (objects : List (ℕ × Object)) → IsStrictlySortedBy label_cmp (stored_labels objects)
+    × ((l : LabelValue) → is_stored_in l (stored_labels objects)
+    ≡ is_stored_in l (flat_map (λ e. labels_of e.1) objects))

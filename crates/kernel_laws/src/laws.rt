@@ -1,7 +1,7 @@
 //! Laws of the next state.
 ghost use Rattle.kernel_laws.specs.Laws.{LabelsAreOwn, LabelsRise, ReadOnlyStays};
 ghost use Rattle.kernel_laws.specs.Laws.{LinkedStays, RecordedAreLive};
-ghost use Rattle.kernel_laws.specs.Laws.{RecordedAreEdited, RootBoundsAll};
+ghost use Rattle.kernel_laws.specs.Laws.{RecordedAreEdited, RootBoundsAll, LabelsAreListed};
 
 /// The label of an object changes by its own calls alone.
 pub fn labels_are_own()
@@ -37,4 +37,10 @@ pub fn recorded_are_edited()
 /// The quota of the root bounds the objects, and with one more the links.
 pub fn root_bounds_all()
     ensures { RootBoundsAll }
+{}
+
+/// A recomputed table of labels has each label that the objects store once, in its place, and no
+/// other.
+pub fn labels_are_listed()
+    ensures { LabelsAreListed }
 {}

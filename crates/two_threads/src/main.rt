@@ -41,6 +41,14 @@ fn new_thread() -> Call {
     }
 }
 
+/// The object that was made, and the root where none was.
+fn object_in(reply: &Reply) -> ObjectId {
+    match reply {
+        Reply::Object(id) => *id,
+        _ => ObjectId::root(),
+    }
+}
+
 fn count_of(events: &[Event], thread: ObjectId) -> usize {
     events.iter().filter(|event| event.thread == thread).count()
 }
@@ -52,10 +60,7 @@ fn share<B: Naming + Send, R: Threads + Wait + Sync>(rt: &R, blank: Blank) -> Re
     let shared: Shared<B> = blank.open::<B>();
     let boot = ObjectId::new(2);
     let mut seat = shared.open_seat(rt, boot)?;
-    let other = match seat.submit(rt, &new_thread())?.reply {
-        Reply::Object(id) => id,
-        _ => boot,
-    };
+    let other = object_in(&seat.submit(rt, &new_thread())?.reply);
     let mut other_seat = shared.open_seat(rt, other)?;
     let (mine, theirs) = join(
         rt,

@@ -1,5 +1,3 @@
-use Rattle.std.proofs.Common.{◌≡◌, IfOk}
-use Rattle.kernel_rules.specs.Scratch.{scratch}
 use Rattle.plain_state.specs.Recorded.{records_state}
 use Rattle.plain_state.specs.StateOf.{state_of}
 use Rattle.plain_tables.proofs.Recomputed.{recomputed}
