@@ -64,6 +64,19 @@ fn an_owner_and_a_plain_label(rt: HostRuntime) -> Result<(), Fail> {
 }
 
 #[test]
+fn how_two_labels_are_listed(rt: HostRuntime) -> Result<(), Fail> {
+    let mut meter = Meter::new(rt.alloc())?;
+    let owner = with_first(Level::Star, &mut meter)?;
+    let plain = plain(&mut meter)?;
+    assert_eq!(rt; owner.order_bits(&plain, &mut meter), 3);
+    assert_eq!(rt; plain.order_bits(&owner, &mut meter), 6);
+    assert!(rt; plain.listing_cmp(&owner, &mut meter).is_lt());
+    assert!(rt; owner.listing_cmp(&plain, &mut meter).is_gt());
+    assert!(rt; owner.listing_cmp(&owner, &mut meter).is_eq());
+    Ok(())
+}
+
+#[test]
 fn maxima_and_the_floor_of_a_gate(rt: HostRuntime) -> Result<(), Fail> {
     let mut meter = Meter::new(rt.alloc())?;
     let owner = with_first(Level::Star, &mut meter)?;
