@@ -66,11 +66,18 @@ fn in_root(id: u64) -> Entry {
     }
 }
 
-fn write(id: u64, text: &[u8]) -> Call {
+fn write(id: u64, text: Data) -> Call {
     Call::SegmentWrite {
         entry: in_root(id),
         offset: 0,
-        data: Data::from_slice(text),
+        data: text,
+    }
+}
+
+fn is_bytes(reply: &Reply, text: &Data) -> bool {
+    match reply {
+        Reply::Bytes(bytes) => bytes.as_slice() == text.as_slice(),
+        _ => false,
     }
 }
 
@@ -89,7 +96,7 @@ fn use_one_boot<B: Naming, R: Wait + Abort>(rt: &R, shared: &Shared<B>) -> Resul
     let mut seat = shared.open_seat(rt, boot_thread())?;
     let made = seat.submit(rt, &new_segment())?;
     assert!(rt; is_object(&made.reply, 4) && made.number == 1 && made.length == 1);
-    let written = seat.submit(rt, &write(4, b"ok"))?;
+    let written = seat.submit(rt, &write(4, Data::from_slice(b"ok")))?;
     assert!(rt; matches!(written.reply, Reply::Done) && written.number == 2 && written.length == 2);
     let query = Query::SegmentRead {
         entry: in_root(4),
@@ -97,11 +104,11 @@ fn use_one_boot<B: Naming, R: Wait + Abort>(rt: &R, shared: &Shared<B>) -> Resul
         count: 2,
     };
     let read = seat.read(rt, &query)?;
-    assert!(rt; matches!(read, Reply::Bytes(bytes) if bytes.as_slice() == b"ok".as_slice()));
+    assert!(rt; is_bytes(&read, &Data::from_slice(b"ok")));
     let mut pass = seat.into_pass();
     assert!(rt; pass.thread() == boot_thread() && pass.number() == 3 && pass.length() == 2);
     let mut book = shared.book(rt);
-    let receipt = book.commit(&mut pass, &write(5, b"no"))?;
+    let receipt = book.commit(&mut pass, &write(5, Data::from_slice(b"no")))?;
     assert!(rt; matches!(receipt.reply, Reply::Refused(Refusal::NoEntry)));
     assert!(rt; receipt.number == 3 && receipt.length == 3 && pass.number() == 4);
     assert!(rt; book.limits() == &LIMITS && book.events().len() == 3);
@@ -362,22 +369,22 @@ fn the_journal_has_every_call(rt: HostRuntime) -> Result<(), Fail> {
     work::<Brand, HostRuntime>(&rt, rt.alloc(), blank)
 }
 
-fn is_read<B: Naming, R: Wait>(rt: &R, reader: &Mutex<Seat<'_, B>>, text: &[u8]) -> bool {
+fn is_read<B: Naming, R: Wait>(rt: &R, reader: &Mutex<Seat<'_, B>>, text: &Data) -> bool {
     let query = Query::SegmentRead {
         entry: in_root(5),
         offset: 0,
         count: 5,
     };
     match reader.lock(rt).read(rt, &query) {
-        Ok(Reply::Bytes(bytes)) => bytes.as_slice() == text,
-        _ => false,
+        Ok(reply) => is_bytes(&reply, text),
+        Err(_) => false,
     }
 }
 
 fn read_there<B: Naming + Send, R: Threads + Wait + Sync>(
     rt: &R,
     reader: &Mutex<Seat<'_, B>>,
-    text: &[u8],
+    text: &Data,
 ) -> bool {
     thread::scope(thread::scope_env(), rt, |scope| {
         match scope.spawn(move || is_read(rt, reader, text)) {
@@ -395,9 +402,9 @@ fn write_here_at<B: Naming + Send, R: Threads + Wait + Sync + Abort>(
     boot.submit(rt, &new_thread())?;
     boot.submit(rt, &new_segment())?;
     let reader = Mutex::new(shared.open_seat(rt, ObjectId::new(4))?);
-    for text in [b"first".as_slice(), b"then.".as_slice()] {
+    for text in [Data::from_slice(b"first"), Data::from_slice(b"then.")] {
         boot.submit(rt, &write(5, text))?;
-        assert!(rt; read_there(rt, &reader, text));
+        assert!(rt; read_there(rt, &reader, &text));
     }
     Ok(())
 }
