@@ -1,3 +1,4 @@
 pub mod Refusals
 pub mod Turns
 pub mod Tallies
+pub mod Seats

@@ -9,14 +9,10 @@ use Rattle.kernel_rules.specs.declared.calls.Call.{Call}
 use Rattle.kernel_rules.specs.declared.calls.Query.{Query}
 use Rattle.kernel_rules.specs.declared.replies.Reply.{Reply}
 use Rattle.kernel_rules.specs.declared.events.Event.{Event}
+use Rattle.published_copy.specs.declared.passes.Turn.{Turn}
 use Rattle.published_copy.specs.declared.receipts.Receipt.{Receipt}
 
--- a thread, the number of its next event, and how many events it has seen
-pub record Turn : Type 0 where
-  pub thread : ℕ
-  pub number : ℕ
-  pub length : ℕ
-
+-- the turn of a thread, with the number of its next event and how many events it has seen
 abbrev pub turn : ℕ → ℕ → ℕ → Turn
 turn thread number length = record { thread = thread; number = number; length = length }
 

@@ -1,11 +1,12 @@
 //! What lies under the lock.
 ghost use Rattle.std.specs.Prelude.{◌≡◌, ◌≤◌, ◌<◌, ◌+◌, ◌↔◌, ℕ, true, false, [], length, IfOk, OnOk, OnErr};
-ghost use Rattle.std.specs.Prelude.{◌^◌, IsTrue, IsErrOf, vec_len, vec_capacity};
+ghost use Rattle.std.specs.Prelude.{◌^◌, IsTrue, IfNone, IsErrOf, vec_len, vec_capacity};
 ghost use Rattle.base.specs.declared.kinds.Kind.TheVariants as kinds;
 ghost use Rattle.kernel_rules.specs.History.{IsLegal, state_of, count};
 ghost use Rattle.kernel_rules.specs.State.{is_live_kind};
 ghost use Rattle.kernel_rules.specs.Step.{query_answer};
 ghost use Rattle.plain_core.specs.Kernel.{kernel_state};
+ghost use Rattle.published_copy.specs.Seats.{seat_refused};
 ghost use Rattle.published_copy.specs.Tallies.{place_of, tallied, IsTallied};
 ghost use Rattle.published_copy.specs.Turns.{turn, is_turn, with_event, receipt_of, passed_on};
 
@@ -57,6 +58,28 @@ fn is_turn<B: Naming>(journal: &[Event], tallies: &[Tally], pass: &Pass<B>) -> b
     ensures fits { IsTrue result → pass.now.number + 1 < 2 ^ 64 }
 {
     pass.number() == events_of(tallies, pass.thread()) + 1 && pass.length() <= journal.len()
+}
+
+/// Why a thread is given no seat, if anything, where so many seats are left: the least that holds.
+fn seat_refused(
+    tallies: &[Tally],
+    kernel: &PlainKernel,
+    seats: usize,
+    thread: ObjectId,
+) -> Option<SeatRefusal>
+    ensures row { result ≡ seat_refused tallies.now (kernel_state kernel.now) seats thread }
+    ensures new { IfNone result (place_of thread tallies.now ≡ length tallies.now) }
+{
+    if place_of(tallies, thread) < tallies.len() {
+        return Some(SeatRefusal::SeatTaken);
+    }
+    if !kernel.is_thread(thread) {
+        return Some(SeatRefusal::NoThread);
+    }
+    if seats == 0 {
+        return Some(SeatRefusal::SeatsSpent);
+    }
+    None
 }
 
 /// There is room for one event more, and the thread stands among the tallies, which keep room for so
@@ -143,16 +166,12 @@ impl<B: Naming> Book<B> {
         ensures kept { OnErr result ((self.new ≡ self.old) × (pass.new ≡ pass.old)) }
         ensures legal { IsLegal B.limits self.new }
     {
-        if !is_turn(self.journal.as_slice(), self.tallies.as_slice(), pass) {
+        if !is_turn(&self.journal, &self.tallies, pass) {
             return Err(SubmitRefusal::OutOfTurn);
         }
         let seats = self.meters.len();
-        if make_room(&mut self.journal, &mut self.tallies, pass.thread(), seats).is_err() {
-            return Err(SubmitRefusal::Memory);
-        }
-        let Ok(reply) = self.kernel.step(pass.thread(), call, &mut self.meter) else {
-            return Err(SubmitRefusal::Memory);
-        };
+        make_room(&mut self.journal, &mut self.tallies, pass.thread(), seats)?;
+        let reply = self.kernel.step(pass.thread(), call, &mut self.meter)?;
         self.journal.push_reserved(pass.event(call, &reply));
         set_events(self.tallies.as_mut_slice(), pass.thread(), pass.number());
         Ok(pass.pass_on(&reply, self.journal.len()))
@@ -169,15 +188,11 @@ impl<B: Naming> Book<B> {
         ensures same { self.new ≡ self.old }
         ensures legal { IsLegal B.limits self.old }
     {
-        if place_of(self.tallies.as_slice(), thread) < self.tallies.len() {
-            return Err(SeatRefusal::SeatTaken);
+        let seats = self.meters.len();
+        if let Some(refusal) = seat_refused(&self.tallies, &self.kernel, seats, thread) {
+            return Err(refusal);
         }
-        if !self.kernel.is_thread(thread) {
-            return Err(SeatRefusal::NoThread);
-        }
-        let Some(meter) = self.meters.pop() else {
-            return Err(SeatRefusal::SeatsSpent);
-        };
+        let meter = self.meters.pop().unwrap();
         self.tallies.push_reserved(Tally { thread, events: 0 });
         Ok((Pass::new(thread, 1, self.journal.len()), meter))
     }

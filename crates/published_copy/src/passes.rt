@@ -8,22 +8,28 @@ use base::ObjectId;
 use kernel_rules::{Call, Event, Reply};
 use std::marker::{Model, PhantomData};
 
-/// A thread, the number of its next event, and how many events it has seen. It can't be copied, so a
-/// thread has one. A contract sees it as its `Turn`.
-#[derive(Drop)]
-pub struct Pass<B: Naming> {
+/// A thread, the number of its next event, and how many events it has seen.
+#[derive(Clone, Copy)]
+pub struct Turn {
     thread: ObjectId,
     number: u64,
     length: usize,
+}
+
+/// What a thread carries from call to call. It can't be copied, so a thread has one. A contract sees it
+/// as its `Turn`.
+#[derive(Drop)]
+pub struct Pass<B: Naming> {
+    turn: Turn,
     of: PhantomData<B>,
 }
 
 impl<B: Naming> Model for Pass<B> {
-    ghost use Rattle.published_copy.specs.Turns.{Turn, turn};
+    ghost use Rattle.published_copy.specs.declared.passes.Turn.{Turn};
 
     ghost Value = { Turn };
 
-    ghost view = { λ p. turn p.thread p.number p.length };
+    ghost view = { λ p. p.turn };
 }
 
 impl<B: Naming> Pass<B> {
@@ -32,9 +38,11 @@ impl<B: Naming> Pass<B> {
         ensures { result ≡ turn thread number length }
     {
         Pass {
-            thread,
-            number,
-            length,
+            turn: Turn {
+                thread,
+                number,
+                length,
+            },
             of: PhantomData,
         }
     }
@@ -43,28 +51,31 @@ impl<B: Naming> Pass<B> {
     pub fn thread(&self) -> ObjectId
         ensures { result ≡ self.now.thread }
     {
-        self.thread
+        self.turn.thread
     }
 
     /// The number of its next event, from 1.
     pub fn number(&self) -> u64
         ensures { result ≡ self.now.number }
     {
-        self.number
+        self.turn.number
     }
 
     /// How many events it has seen.
     pub fn length(&self) -> usize
         ensures { result ≡ self.now.length }
     {
-        self.length
+        self.turn.length
     }
 
     /// It has seen so many events.
     pub(crate) fn see(&mut self, length: usize)
         ensures { self.new ≡ turn self.old.thread self.old.number length }
     {
-        self.length = length;
+        self.turn = Turn {
+            length,
+            ..self.turn
+        };
     }
 
     /// The event that its thread's call is.
@@ -75,8 +86,8 @@ impl<B: Naming> Pass<B> {
         ensures reply { result.reply ≡ reply.now }
     {
         Event {
-            thread: self.thread,
-            number: self.number,
+            thread: self.thread(),
+            number: self.number(),
             call: *call,
             reply: *reply,
         }
@@ -90,13 +101,16 @@ impl<B: Naming> Pass<B> {
         ensures length { result.length ≡ length }
         ensures pass { self.new ≡ turn self.old.thread (self.old.number + 1) length }
     {
-        let receipt = Receipt {
-            reply: *reply,
-            number: self.number,
+        let number = self.number();
+        self.turn = Turn {
+            number: number + 1,
             length,
+            ..self.turn
         };
-        self.number += 1;
-        self.length = length;
-        receipt
+        Receipt {
+            reply: *reply,
+            number,
+            length,
+        }
     }
 }

@@ -1,8 +1,9 @@
 //! Why a seat is not opened, and why a call is not committed.
 ghost use Rattle.std.specs.Prelude.{◌≡◌};
+ghost use Rattle.published_copy.specs.declared.refusals.SubmitRefusal.TheVariants.{Memory};
 ghost use Rattle.published_copy.specs.Refusals.{seat_refusal, submit_refusal};
 
-use base::Refusal;
+use base::{NoMemory, Refusal};
 use thiserror::Error;
 
 /// Why a seat is not opened. Nothing has changed then.
@@ -52,5 +53,13 @@ impl SubmitRefusal {
             SubmitRefusal::Memory => Refusal::Memory,
             SubmitRefusal::OutOfTurn => Refusal::OutOfTurn,
         }
+    }
+}
+
+impl From<NoMemory> for SubmitRefusal {
+    ghost from_gives = { λ _ refusal. refusal ≡ Memory };
+
+    fn from(_: NoMemory) -> SubmitRefusal {
+        SubmitRefusal::Memory
     }
 }

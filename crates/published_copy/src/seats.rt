@@ -22,7 +22,7 @@ pub struct Seat<'a, B: Naming> {
 }
 
 impl<'a, B: Naming> Model for Seat<'a, B> {
-    ghost use Rattle.published_copy.specs.Turns.{Turn};
+    ghost use Rattle.published_copy.specs.declared.passes.Turn.{Turn};
 
     ghost Value = { Turn };
 

@@ -4,8 +4,8 @@ use Rattle.published_copy.specs.Tallies.{tallied, place_of}
 use Rattle.published_copy.proofs.TallyLaws.{idle, tallied-admitted, no-event}
 use Rattle.published_copy.proofs.books.Book.seat.Goals as goal
 
-pub invariant_of-self-2 : goal.invariant_of-self-2
-invariant_of-self-2 g c =
+pub invariant_of-self : goal.invariant_of-self
+invariant_of-self g c =
     let thread = c.args.thread in
     let old = c.self.inside.tallies.items in
     let items : c.push_reserved.new.self.items ≡ old ++ idle thread ∷ [] = search rules in

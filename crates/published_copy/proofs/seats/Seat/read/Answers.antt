@@ -6,7 +6,8 @@ use Rattle.kernel_rules.specs.Step.{query_answer}
 use Rattle.kernel_rules.specs.declared.calls.Query.{Query}
 use Rattle.kernel_rules.specs.declared.events.Event.{Event}
 use Rattle.kernel_rules.specs.declared.replies.Reply.{Reply}
-use Rattle.published_copy.specs.Turns.{Turn, turn, IsRead}
+use Rattle.published_copy.specs.Turns.{turn, IsRead}
+use Rattle.published_copy.specs.declared.passes.Turn.{Turn}
 use Rattle.published_copy.proofs.seats.Seat.read.Goals as goal
 
 -- what was asked at a legal journal was read
