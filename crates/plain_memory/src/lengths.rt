@@ -58,7 +58,8 @@ pub fn refused_segment_copy(
     least_of(halted, least_of(unread, fresh))
 }
 
-/// Makes a segment with the bytes of another. The error is want of memory, and nothing is changed then.
+/// Makes a segment with the bytes of another. The error is want of memory, and nothing is changed
+/// then.
 pub fn segment_copy(
     state: &mut PlainState,
     thread: ObjectId,
@@ -147,13 +148,13 @@ pub fn refused_segment_len(
     let halted = !state.is_live_kind(Kind::Thread, thread);
     let accessible = state.is_accessible(thread, entry.container, meter);
     let held = state.holds(entry);
-    let segment = state.is_kind(Kind::Segment, entry.object);
+    let fit = state.is_kind(Kind::Segment, entry.object);
     let observed = state.observes(thread, entry.object, meter);
     let row = [
         (Refusal::Halted, halted),
         (Refusal::NoAccess, !accessible),
         (Refusal::NoEntry, !held),
-        (Refusal::WrongType, !segment),
+        (Refusal::WrongType, !fit),
         (Refusal::CannotObserve, !observed),
     ];
     least(&row)

@@ -104,13 +104,13 @@ pub fn refused_meta_get(
     let halted = !state.is_live_kind(Kind::Thread, thread);
     let accessible = state.is_accessible(thread, entry.container, meter);
     let held = state.holds(entry);
-    let acting = state.is_kind(Kind::Thread, entry.object);
+    let bare = state.is_kind(Kind::Thread, entry.object);
     let observed = state.observes(thread, entry.object, meter);
     let row = [
         (Refusal::Halted, halted),
         (Refusal::NoAccess, !accessible),
         (Refusal::NoEntry, !held),
-        (Refusal::WrongType, acting),
+        (Refusal::WrongType, bare),
         (Refusal::CannotObserve, !observed),
     ];
     least(&row)

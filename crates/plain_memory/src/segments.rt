@@ -128,7 +128,7 @@ pub fn refused_segment_read(
     let halted = !state.is_live_kind(Kind::Thread, thread);
     let accessible = state.is_accessible(thread, entry.container, meter);
     let held = state.holds(entry);
-    let segment = state.is_kind(Kind::Segment, entry.object);
+    let fit = state.is_kind(Kind::Segment, entry.object);
     let observed = state.observes(thread, entry.object, meter);
     let shaped = has_shape(u64::from(offset), u64::from(count));
     let past = state.is_past(entry.object, offset, count);
@@ -136,7 +136,7 @@ pub fn refused_segment_read(
         (Refusal::Halted, halted),
         (Refusal::NoAccess, !accessible),
         (Refusal::NoEntry, !held),
-        (Refusal::WrongType, !segment),
+        (Refusal::WrongType, !fit),
         (Refusal::CannotObserve, !observed),
         (Refusal::Bounds, !shaped),
         (Refusal::Bounds, past),

@@ -1,5 +1,6 @@
 //! The calls that make address spaces, and fill, empty and tell their slots.
-ghost use Rattle.std.specs.Prelude.{◌≡◌, ◌||◌, ◌++◌, [], ◌∷◌, not, None, is_some, IfOk, OnOk, OnErr};
+ghost use Rattle.std.specs.Prelude.{◌≡◌, ◌||◌, ◌++◌, [], ◌∷◌, not, None, is_some, IfOk, OnOk};
+ghost use Rattle.std.specs.Prelude.{OnErr};
 ghost use Rattle.base.specs.declared.kinds.Kind.TheVariants as kinds;
 ghost use Rattle.base.specs.declared.refusals.Refusal.TheVariants.{Bounds, Overlap};
 ghost use Rattle.std.specs.List.{list_any};
@@ -256,13 +257,14 @@ pub fn refused_as_get(
     let held = state.holds(space);
     let fit = state.is_kind(Kind::AddressSpace, space.object);
     let observed = state.observes(thread, space.object, meter);
+    let past = 15 < slot;
     let row = [
         (Refusal::Halted, halted),
         (Refusal::NoAccess, !accessible),
         (Refusal::NoEntry, !held),
         (Refusal::WrongType, !fit),
         (Refusal::CannotObserve, !observed),
-        (Refusal::Bounds, 15 < slot),
+        (Refusal::Bounds, past),
     ];
     least(&row)
 }
