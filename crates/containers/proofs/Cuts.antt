@@ -1,13 +1,11 @@
 -- One link that goes, with what it takes along.
 use Rattle.std.proofs.Common.{◌≡◌, ℕ, ◌≤◌, inl, inr, List, [], length, get_or, Some, None, sym, ◌∙◌, subst, arith}
-use Rattle.std.specs.Prelude.{slice_get}
+use Rattle.std.specs.Prelude.{slice_get, sum_by}
 use Rattle.std.proofs.lemmas.Bool.{cases_lt}
 use Rattle.std.proofs.lemmas.Option.{slice_get-get_or, slice_get_past}
-use Rattle.entry_lists.specs.Lists.{Lists, StandsAt}
+use Rattle.entry_lists.specs.Lists.{Lists, family_at, StandsAt}
 use Rattle.containers.specs.Cells.{Stands, IsLink, Lists', IsDropped, IsSound}
 use Rattle.containers.specs.Sweep.{IsSweeping, IsSwept, IsSimple, IsTree, IsCut}
-use Rattle.containers.specs.Directory.{IsDirectory}
-use Rattle.containers.proofs.Directories.{directory_as}
 use Rattle.containers.proofs.Moves.{changed_at}
 use Rattle.containers.proofs.Sounds.{IsGone, dropped_gone, dropped_recorded}
 use Rattle.containers.proofs.Sweeps.{sweeping_start, link_was, link_kept}
@@ -52,8 +50,8 @@ module _ (size root : ℕ) (old between : List Lists) (container object cell : �
   pub simple_cut : IsSimple size old → IsSimple size between
   simple_cut simple d o b c l m = simple d o b c (was_link d o b l) (was_link d o c m)
 
-  pub directory_cut : (names ids slots : List ℕ) → IsDirectory size root old names ids slots → IsDirectory size root between names ids slots
-  directory_cut names ids slots dir = directory_as size root old between names ids slots dir (dropped_recorded size root old between container object cell sound link dropped) gone.1.recorded_was
+  pub total_cut : sum_by length (family_at between 0).lists ≡ sum_by length (family_at old 0).lists
+  total_cut = gone.1.changed.total
 
   pub cut_of : (new : List Lists) (links : List (ℕ × ℕ)) (objects : List ℕ) → IsSimple size old → IsSwept size root between new links objects → IsCut size root old new container object links objects
   cut_of new links objects simple swept = record {

@@ -4,7 +4,7 @@ use Rattle.std.specs.Prelude.{slice_get}
 use Rattle.std.proofs.lemmas.List.{append-nil, map-append}
 use Rattle.entry_lists.specs.Lists.{Lists, cells_at, StandsAt}
 use Rattle.containers.specs.Cells.{Stands}
-use Rattle.containers.specs.Visits.{Event, Step, Follows, IsTold, links_in, objects_in, place_of, named, named_one}
+use Rattle.containers.specs.Visits.{Event, Step, Follows, IsTold, links_in, objects_in, place_of, named, named_one, object_ids}
 use Rattle.containers.specs.declared.visitor.Place.{Place}
 use Rattle.base.specs.Counts.{Counts, probed}
 
@@ -83,3 +83,9 @@ module _ {V : Type 0} (link : V → Place → Place → V → Type 0) (object : 
       objects_are = told.objects_are;
       follows = (w, step, told.follows);
     }
+
+-- one id more
+pub ids_push : (names objects : List ℕ) (o : ℕ) (p : Place) (dead dead' : List ℕ) → p ≡ place_of names o → dead ≡ object_ids (named_one names objects) → dead' ≡ dead ++ p.id ∷ [] → dead' ≡ object_ids (named_one names (objects ++ o ∷ []))
+ids_push names objects o p dead dead' e was is =
+    is ∙ ap (λ (xs : List ℕ). xs ++ p.id ∷ []) was ∙ ap (λ (q : Place). object_ids (named_one names objects) ++ q.id ∷ []) e
+    ∙ sym (ap object_ids (map-append (λ (x : ℕ). place_of names x) objects (o ∷ [])) ∙ map-append (λ (q : Place). q.id) (named_one names objects) (place_of names o ∷ []))

@@ -17,3 +17,4 @@ pub mod Lives
 pub mod Spares
 pub mod Asked
 pub mod WellFormeds
+pub mod Removals

@@ -57,3 +57,15 @@ pub freed_less : (size : ℕ) (old new : List Lists) (d last : ℕ) → IsPaired
 freed_less size old new d last paired lt dying l =
     let fewer = l.first.less (size + 1) (λ (e : size + 1 ≡ size). omega arith) dying in
     omega (arith, bound size old d paired lt, some _ _ _ dying.stands, freed_total size old new last l, freed_spare size old new last l, freed_dying size old new last l, fewer)
+
+-- no cell ceases to be spare
+pub dropped_spare : (size : ℕ) (old new : List Lists) (d object cell : ℕ) → IsPaired size old → d < size → Stands old 0 d cell → IsDropped size old new object cell → length (cells_at old 0 size) ≤ length (cells_at new 0 size)
+dropped_spare size old new d object cell paired lt held (inl l) =
+    let not_there : Stands old 0 size cell → ⊥ = λ (st : Stands old 0 size cell). (let same : size ≡ d = one_head old 0 size d cell (paired.well 0 (lit< tt)) st held in omega arith) in
+    let spare : length (cells_at new 0 size) ≡ length (cells_at old 0 size) = ap length (l.first.same size (λ (e : size ≡ size + 1). omega arith) not_there) in
+    omega (arith, spare)
+dropped_spare size old new d object cell paired lt held (inr l) = omega (arith, freed_spare size old new cell l.freed)
+
+-- where a cell is among the dying, not all are spare
+pub spare_left : (size : ℕ) (r : List Lists) (d last : ℕ) → IsPaired size r → d < size → Stands r 0 (size + 1) last → length (cells_at r 0 size) < sum_by length (family_at r 0).lists
+spare_left size r d last paired lt dying = omega (arith, bound size r d paired lt, some _ _ _ dying.stands)

@@ -150,11 +150,11 @@ module _ (size root : ℕ) (old new : List Lists) (d o : ℕ) (went : List (ℕ 
       link_before x y c l = cut.were x y c (record { holder = l.holder; object = l.object; held = cut.swept.sweeping.was_held x c l.holder l.held; names = cut.swept.sweeping.was_named y c l.object l.names })
 
 -- images of what is in a list
-contains_map : {X Y : Type 0} (f : X → Y) (xs : List X) (x : X) → Contains xs x → Contains (map f xs) (f x)
+pub contains_map : {X Y : Type 0} (f : X → Y) (xs : List X) (x : X) → Contains xs x → Contains (map f xs) (f x)
 contains_map f xs x c =
     (c.0, omega (arith, c.1, length-map xs f), get_or-map f xs c.0 x (f x) c.1 ∙ ap f c.2)
 
-map_contains : {X Y : Type 0} (f : X → Y) (xs : List X) (y : Y) → Contains (map f xs) y → (x : X) × Contains xs x × (f x ≡ y)
+pub map_contains : {X Y : Type 0} (f : X → Y) (xs : List X) (y : Y) → Contains (map f xs) y → (x : X) × Contains xs x × (f x ≡ y)
 map_contains f [] y c = absurd (omega (arith, c.1))
 map_contains f (x ∷ xs) y c = elim (cases_eq c.0 0) [
   | inl e ↦ (x, (0, omega arith, refl), sym (ap (λ (k : ℕ). get_or (f x ∷ map f xs) k y) e) ∙ c.2)

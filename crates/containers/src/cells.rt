@@ -1,19 +1,16 @@
 //! The cells of links, by slots.
 ghost use Rattle.std.specs.Prelude.{◌≡◌, ◌≢◌, ℕ, ◌+◌, ◌*◌, ◌<◌, ◌^◌, [], ◌∷◌, ◌++◌, length, IfOk};
-ghost use Rattle.std.specs.Prelude.{IfSome, IfNone};
+ghost use Rattle.std.specs.Prelude.{◌≤◌, IfSome, IfNone, sum_by, vec_capacity};
 ghost use Rattle.entry_lists.specs.Lists.{family_at};
 ghost use Rattle.containers.specs.Cells.{Stands, IsShifted, IsFreed, IsDropped, IsPaired};
-ghost use Rattle.containers.specs.Cells.{IsLink, Lists', IsSound, IsDying, IsAdded, IsRecorded};
+ghost use Rattle.containers.specs.Cells.{IsLink, Lists', IsSound, IsDying, IsAdded};
 ghost use Rattle.containers.specs.Sweep.{IsSweeping, IsSwept, IsTree, IsSimple, IsCut};
-ghost use Rattle.containers.specs.Directory.{IsDirectory};
 ghost use Rattle.containers.specs.View.{spare_below};
-ghost use Rattle.containers.specs.Visits.{IsTold, place_of, named, named_one};
-ghost use Rattle.object_arena.specs.Objects.{object_at};
+ghost use Rattle.containers.specs.Visits.{IsTold, place_of, named, named_one, object_ids};
 
 use crate::visitor::{Place, Visitor};
 use base::{Meter, NoMemory, ObjectId, Slot};
 use entry_lists::Rings;
-use object_arena::Arena;
 use std::alloc::Global;
 
 /// Rings in which each cell is spare.
@@ -91,13 +88,13 @@ fn hand_link<V: Visitor>(visitor: &mut V, names: &[u64], container: usize, objec
     visitor.link(place(names, container), place(names, object));
 }
 
-// Takes out what the dying slots list, and then these slots, until none is dying.
-fn sweep<T: Drop, V: Visitor>(
+// Takes out what the dying slots list, and then these slots, until none is dying. Lists the ids of these.
+fn sweep<V: Visitor>(
     rings: &mut Rings<2>,
-    arena: &mut Arena<T>,
     size: usize,
     root: usize,
     names: &[u64],
+    dead: &mut Vec<ObjectId>,
     visitor: &mut V,
     meter: &mut Meter,
 )
@@ -107,15 +104,15 @@ fn sweep<T: Drop, V: Visitor>(
     requires sweeping { IsSweeping size root rings.old rings.old [] [] }
     requires tree { IsTree size rings.old rank }
     requires simple { IsSimple size rings.old }
-    requires directory { IsDirectory size root rings.old names.now arena.old.ids arena.old.slots }
+    requires full { sum_by length (family_at rings.old 0).lists ≡ size }
+    requires none { dead.old.items ≡ [] }
+    requires room { size ≤ vec_capacity dead.old }
     ensures swept { (links : _) × (objects : _)
         × IsSwept size root rings.old rings.new links objects
         × IsTold V.link_gives V.object_gives visitor.old visitor.new
-        (named names.now links) (named_one names.now objects) }
-    ensures directory { IsDirectory size root rings.new names.now arena.new.ids arena.new.slots }
-    ensures kept { (slot : ℕ) → IsRecorded size root rings.new slot
-        → object_at arena.new slot ≡ object_at arena.old slot }
-    ensures pool { length arena.new.cells ≡ length arena.old.cells }
+        (named names.now links) (named_one names.now objects)
+        × (dead.new.items ≡ object_ids (named_one names.now objects)) }
+    ensures room { vec_capacity dead.new ≡ vec_capacity dead.old }
     ensures scans { meter.new.scans ≡ meter.old.scans }
 {
     let _root = root;
@@ -129,9 +126,9 @@ fn sweep<T: Drop, V: Visitor>(
             }
             None => {
                 free(rings, size, last, meter);
-                let dead = place(names, object);
-                let _record = arena.remove(dead.id, meter);
-                visitor.object(dead);
+                let gone = place(names, object);
+                dead.push_reserved(gone.id);
+                visitor.object(gone);
             }
         }
     }
@@ -193,15 +190,15 @@ pub fn add_link(
     }
 }
 
-/// Takes a link out of its container, and then all that no path leads to any more.
-pub fn cut_link<T: Drop, V: Visitor>(
+/// Takes a link out of its container, and then all that no path leads to any more, whose ids it lists.
+pub fn cut_link<V: Visitor>(
     rings: &mut Rings<2>,
-    arena: &mut Arena<T>,
     size: usize,
     root: usize,
     names: &[u64],
     container: usize,
     object: usize,
+    dead: &mut Vec<ObjectId>,
     visitor: &mut V,
     meter: &mut Meter,
 )
@@ -212,23 +209,23 @@ pub fn cut_link<T: Drop, V: Visitor>(
     requires calm { (o : ℕ) → IsDying size rings.old o → ⊥ }
     requires tree { IsTree size rings.old rank }
     requires simple { IsSimple size rings.old }
-    requires directory { IsDirectory size root rings.old names.now arena.old.ids arena.old.slots }
+    requires full { sum_by length (family_at rings.old 0).lists ≡ size }
     requires listed { Lists' size rings.old container object }
+    requires none { dead.old.items ≡ [] }
+    requires room { size ≤ vec_capacity dead.old }
     ensures cut { (links : _) × (objects : _)
         × IsCut size root rings.old rings.new container object links objects
         × IsTold V.link_gives V.object_gives visitor.old visitor.new
-        (named names.now ((container, object) ∷ links)) (named_one names.now objects) }
-    ensures directory { IsDirectory size root rings.new names.now arena.new.ids arena.new.slots }
-    ensures kept { (slot : ℕ) → IsRecorded size root rings.new slot
-        → object_at arena.new slot ≡ object_at arena.old slot }
-    ensures pool { length arena.new.cells ≡ length arena.old.cells }
+        (named names.now ((container, object) ∷ links)) (named_one names.now objects)
+        × (dead.new.items ≡ object_ids (named_one names.now objects)) }
+    ensures room { vec_capacity dead.new ≡ vec_capacity dead.old }
     ensures scans { meter.new.scans ≡ meter.old.scans }
 {
     match find_link(rings, size, container, object, meter) {
         Some(cell) => {
             drop_link(rings, size, object, cell, meter);
             hand_link(visitor, names, container, object);
-            sweep(rings, arena, size, root, names, visitor, meter);
+            sweep(rings, size, root, names, dead, visitor, meter);
         }
         None => unreachable!(),
     }

@@ -27,6 +27,8 @@ pub struct Containers<T> {
     names: Vec<u64>,
     rings: Rings<2>,
     arena: Arena<T>,
+    // The ids of what goes in one call, none between calls.
+    dead: Vec<ObjectId>,
 }
 
 impl<T> Model for Containers<T> {
@@ -36,7 +38,7 @@ impl<T> Model for Containers<T> {
 
     ghost coded = { tree_code T.code };
 
-    ghost use Rattle.std.specs.Prelude.{◌≡◌, length};
+    ghost use Rattle.std.specs.Prelude.{◌≡◌, ◌≤◌, [], length, vec_capacity};
     ghost use Rattle.containers.specs.View.{lists_of, IsKept};
 
     ghost view = { λ a. record {
@@ -46,7 +48,9 @@ impl<T> Model for Containers<T> {
     } };
 
     ghost invariant = { λ a. IsKept a.size a.root a.rings a.names.items a.arena.ids a.arena.slots
-        × (length a.arena.cells ≡ a.size) };
+        × (length a.arena.cells ≡ a.size)
+        × (a.dead.items ≡ [])
+        × (a.size ≤ vec_capacity a.dead) };
 }
 
 impl<T: Drop> Containers<T> {
@@ -66,6 +70,7 @@ impl<T: Drop> Containers<T> {
     {
         let rings = spare_rings(alloc, pool)?;
         let names = vec![in alloc; 1; pool]?;
+        let dead = Vec::with_capacity(alloc, pool)?;
         let mut arena = Arena::boot(alloc, pool)?;
         let slot = arena.insert(ObjectId::root(), root);
         Ok(Containers {
@@ -74,6 +79,7 @@ impl<T: Drop> Containers<T> {
             names,
             rings,
             arena,
+            dead,
         })
     }
 
@@ -271,15 +277,17 @@ impl<T: Drop> Containers<T> {
                 Some(o) => {
                     cut_link(
                         &mut self.rings,
-                        &mut self.arena,
                         self.size,
                         self.root,
                         &self.names,
                         d.0,
                         o.0,
+                        &mut self.dead,
                         visitor,
                         meter,
                     );
+                    self.arena.remove_all(&self.dead, meter);
+                    self.dead.clear();
                 }
                 None => unreachable!(),
             },

@@ -57,11 +57,11 @@ Apart-pop : (xs : List ℕ) (x : ℕ) → Apart (xs ++ x ∷ []) → Apart xs
 Apart-pop xs x apart i j lt within e = apart i j lt (omega (arith, length-append xs (x ∷ [])))
     (get_or_append_left xs (x ∷ []) 0 i (omega arith) ∙ e ∙ sym (get_or_append_left xs (x ∷ []) 0 j within))
 
-default : (xs : List ℕ) (k d : ℕ) → k < length xs → get_or xs k 0 ≡ get_or xs k d
+pub default : (xs : List ℕ) (k d : ℕ) → k < length xs → get_or xs k 0 ≡ get_or xs k d
 default xs k d lt = get_or_default xs k 0 d lt
 
 -- two places of a list with no number twice
-not_both : (xs : List ℕ) (i j : ℕ) → Apart xs → i < length xs → j < length xs → j ≢ i → get_or xs j 0 ≢ get_or xs i 0
+pub not_both : (xs : List ℕ) (i j : ℕ) → Apart xs → i < length xs → j < length xs → j ≢ i → get_or xs j 0 ≢ get_or xs i 0
 not_both xs i j apart in_i in_j differ e = elim (cases_lt i j) [
   | inl lt ↦ apart i j lt in_j (sym e)
   | inr le ↦ apart j i (omega arith) in_i e
@@ -83,7 +83,7 @@ one_place xs i j rises in_i in_j e = elim (cases_lt i j) [
 
 module _ {T : Type 0} where
   -- a slot with an object and one with none are two
-  two_slots : (cells : List (Option T)) (i j : ℕ) → IsSome (get_or cells i None) → get_or cells j None ≡ None → i ≢ j
+  pub two_slots : (cells : List (Option T)) (i j : ℕ) → IsSome (get_or cells i None) → get_or cells j None ≡ None → i ≢ j
   two_slots cells i j some none e =
       let P : Option T → Type 0 = λ o. IsSome o in
       let bad : IsSome {T = T} None = subst P (ap (λ (k : ℕ). get_or cells k None) e ∙ none) some in

@@ -1,2 +1,3 @@
 pub mod SearchSteps
 pub mod Kept
+pub mod GapSteps

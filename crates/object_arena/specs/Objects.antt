@@ -1,6 +1,6 @@
 -- What a contract sees of an arena.
 use Rattle.std.specs.Prelude.{◌≡◌, ◌≢◌, ℕ, ◌<◌, List, [], length, slice_index, slice_index_or, refl}
-use Rattle.std.specs.Prelude.{Option, None, IsSome, replicate, remove, slice_set}
+use Rattle.std.specs.Prelude.{Option, None, IsSome, replicate, remove, slice_set, Contains}
 use Rattle.std.specs.Int.Digits.{digits_of}
 use Rattle.std.specs.Coded.{Coded, code_by, coded×, coded_ℕ, coded_list, coded_option}
 
@@ -62,6 +62,21 @@ without a place slot =
       slots = remove a.slots place;
       cells = slice_set a.cells slot None;
     }
+
+-- the objects but for those of these ids: each other one has the slot that it had, and their slots have none
+pub record IsWithoutAll {T : Type 0} (old new : Objects T) (gone : List ℕ) : Type 0 where
+  pub beside : length new.ids ≡ length new.slots
+  pub rises : Rises new.ids
+  pub stays : (place id slot : ℕ) → IsEntry old place id slot → (Contains gone id → ⊥)
+      → (at : ℕ) × IsEntry new at id slot
+  pub were : (place id slot : ℕ) → IsEntry new place id slot
+      → (at : ℕ) × IsEntry old at id slot × (Contains gone id → ⊥)
+  pub pool : length new.cells ≡ length old.cells
+  pub empty : (place id slot : ℕ) → IsEntry old place id slot → Contains gone id
+      → object_at new slot ≡ None
+  pub same : (slot : ℕ)
+      → ((place id : ℕ) → IsEntry old place id slot → Contains gone id → ⊥)
+      → object_at new slot ≡ object_at old slot
 
 -- how many binary digits a number has
 abbrev pub binary_digits : ℕ → ℕ

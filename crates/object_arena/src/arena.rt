@@ -7,6 +7,7 @@ ghost use Rattle.object_arena.specs.Objects.{object_at, binary_digits};
 ghost use Rattle.std.specs.Borrow.{Lends, sem};
 ghost use Rattle.std.specs.contracts.option.Option.{the_row as option_row};
 
+use crate::gaps::{close_gaps, vacate};
 use crate::search::place_of;
 use base::{Meter, NoMemory, ObjectId, Slot};
 use std::alloc::Global;
@@ -59,7 +60,7 @@ fn filled<T>(cell: &mut Option<T>) -> &mut T
 impl<T: Drop> Arena<T> {
     ghost use Rattle.object_arena.specs.Lends.{lends_object};
     ghost use Rattle.object_arena.specs.Objects.{Objects, IsEntry, IsAbsent, IsWellFormed};
-    ghost use Rattle.object_arena.specs.Objects.{no_objects, without};
+    ghost use Rattle.object_arena.specs.Objects.{no_objects, without, IsWithoutAll};
 
     /// An arena of so many slots with no object. Only this takes memory; the error is want of it.
     pub fn boot(alloc: Global, size: usize) -> Result<Self, NoMemory>
@@ -182,5 +183,22 @@ impl<T: Drop> Arena<T> {
             }
             None => unreachable!(),
         }
+    }
+
+    /// Takes out the objects of these ids, in one pass over the directory from the first of them on. Their slots have
+    /// none then; all else stays, and an id that no object has changes nothing.
+    pub fn remove_all(&mut self, gone: &[ObjectId], meter: &mut Meter)
+        ensures removed { IsWithoutAll self.old self.new gone.now }
+        ensures scans { meter.new.scans ≡ meter.old.scans }
+    {
+        let first = vacate(&self.ids, &self.slots, &mut self.cells, gone, meter);
+        close_gaps(
+            &mut self.ids,
+            &mut self.slots,
+            &mut self.spare,
+            &self.cells,
+            first,
+            meter,
+        );
     }
 }

@@ -7,6 +7,7 @@
 #![tactic(auto)]
 
 mod arena;
+mod gaps;
 mod search;
 
 pub use arena::Arena;

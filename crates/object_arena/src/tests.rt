@@ -43,6 +43,26 @@ fn objects_are_found_by_their_ids(rt: HostRuntime) -> Result<(), Fail> {
     Ok(())
 }
 
+#[test]
+fn objects_go_together(rt: HostRuntime) -> Result<(), Fail> {
+    let mut meter = Meter::new(rt.alloc())?;
+    let mut arena = booted_again(rt.alloc())?;
+    arena.insert(ObjectId::new(4), 'a');
+    let second = arena.insert(ObjectId::new(9), 'b');
+    arena.insert(ObjectId::new(10), 'c');
+    // 7 is the id of none.
+    arena.remove_all(&[10, 7, 4].map(ObjectId::new), &mut meter);
+    assert_eq!(rt; arena.len(), 1);
+    assert_eq!(rt; arena.find(ObjectId::new(9), &mut meter), Some(second));
+    assert_eq!(rt; arena.find(ObjectId::new(4), &mut meter), None);
+    assert_eq!(rt; arena.find(ObjectId::new(10), &mut meter), None);
+    if let Some(slot) = arena.find(ObjectId::new(9), &mut meter) {
+        assert_eq!(rt; *arena.get(slot), 'b');
+    }
+    assert_eq!(rt; meter.scans(), 0);
+    Ok(())
+}
+
 // Where an allocation is refused, an arena that is booted again is as if nothing had been.
 #[test]
 fn want_of_memory_changes_nothing(rt: HostRuntime) -> Result<(), Fail> {

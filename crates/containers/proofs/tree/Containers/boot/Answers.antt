@@ -40,6 +40,8 @@ invariant_of-result g c =
           (subst (λ (xs : List ℕ). IsKept c.args.pool c.insert-slot.result.0 (spare_below c.args.pool c.args.pool) c.in_ok-names.names.items xs c.insert-slot.new.self.slots) (sym r.ids)
           (subst (λ (xs : List ℕ). IsKept c.args.pool c.insert-slot.result.0 (spare_below c.args.pool c.args.pool) c.in_ok-names.names.items (1 ∷ []) xs) (sym r.slots) kept)),
       long,
+      search rules,
+      omega (arith, c.in_ok-dead.ensures.exact),
     )
 
 pub returns : goal.returns

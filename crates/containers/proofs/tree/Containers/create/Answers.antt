@@ -57,6 +57,8 @@ invariant_of-self g c =
           (subst (λ (xs : List ℕ). IsKept a.size a.root c.add_link.new.rings (set a.names.items c.insert-slot.result.0 c.number.result) (a.arena.ids ++ c.args.id ∷ []) xs) (sym c.insert-slot.ensures.slots)
           (subst (λ (i : ℕ). IsKept a.size a.root c.add_link.new.rings (set a.names.items c.insert-slot.result.0 i) (a.arena.ids ++ c.args.id ∷ []) (a.arena.slots ++ c.insert-slot.result.0 ∷ [])) (sym c.number.ensures) k)),
       ap (λ (os : List (Option g.row.T.Denot)). length os) c.insert-slot.ensures.cells ∙ length-set a.arena.cells c.insert-slot.result.0 (Some c.args.value) ∙ c.self.invariant.1,
+      c.self.invariant.2,
+      c.self.invariant.3,
     )
 
 pub returns-clause-lists : goal.returns-clause-lists

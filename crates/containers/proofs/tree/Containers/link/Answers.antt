@@ -61,7 +61,7 @@ pub invariant_of-self : goal.invariant_of-self
 invariant_of-self g c =
     let a = c.self.inside in
     let r = ready g c in
-    (kept_added a.size a.root a.rings c.add_link.new.rings a.names.items a.arena.ids a.arena.slots c.in-Some.d.0 c.in-Some-find.o.0 c.self.invariant.0 r.rd r.ro r.not_root r.fresh c.add_link.ensures.added, c.self.invariant.1)
+    (kept_added a.size a.root a.rings c.add_link.new.rings a.names.items a.arena.ids a.arena.slots c.in-Some.d.0 c.in-Some-find.o.0 c.self.invariant.0 r.rd r.ro r.not_root r.fresh c.add_link.ensures.added, c.self.invariant.1, c.self.invariant.2, c.self.invariant.3)
 
 pub returns-clause-linked : goal.returns-clause-linked
 returns-clause-linked g c =

@@ -1,10 +1,13 @@
-use Rattle.std.proofs.Common.{rules, ◌≡◌, ℕ, ◌<◌, List, ◌∷◌, length, get_or, true, sym, ap, ◌∙◌, subst}
+use Rattle.std.proofs.Common.{rules, ◌≡◌, ℕ, ◌<◌, List, ◌∷◌, length, get_or, true, sym, ap, ◌∙◌, subst, arith}
 use Rattle.base.specs.Live.{links}
 use Rattle.containers.specs.Tree.{Tree, HasSlot, record_at, cut_lists, live_part}
 use Rattle.containers.specs.View.{lists_of}
 use Rattle.containers.specs.Sweep.{IsTree}
-use Rattle.containers.specs.Visits.{IsTold, named, named_one, IsHanded}
+use Rattle.containers.specs.Visits.{IsTold, named, named_one, object_ids, IsHanded}
 use Rattle.containers.specs.Directory.{IsDirectory}
+use Rattle.containers.specs.Cells.{IsRecorded}
+use Rattle.object_arena.specs.Objects.{IsWithoutAll, object_at}
+use Rattle.containers.proofs.Removals.{directory_left, object_left}
 use Rattle.containers.proofs.Lives.{lists_live}
 use Rattle.containers.proofs.Unrefs.{handed, slot_kept, kept_then, container_there, object_there, d_named, o_named, slots_listed, tree_slots}
 use Rattle.containers.proofs.tree.Containers.unref.Given as given
@@ -23,16 +26,16 @@ cut_link-requires g c κs within =
     let q = c.in-Some-find.ensures.found in
     let ranked = subst (λ (xs : List ℕ). IsTree a.size a.rings (λ s. get_or xs s 0)) (sym e) (tree_slots a.size a.root a.rings a.names.items a.arena.ids a.arena.slots k tree) in
     let listed = slots_listed a.size a.root a.rings a.names.items a.arena.ids a.arena.slots k c.args.container c.args.object linked p.0 q.0 c.in-Some.d.0 c.in-Some-find.o.0 p.1.within q.1.within p.1.id_is q.1.id_is p.1.slot_is q.1.slot_is in
-    let dir = subst (λ (xs : List ℕ). IsDirectory a.size a.root a.rings xs a.arena.ids a.arena.slots) (sym e) k.directory in
-    (search rules, (search rules, (k.fits, (ap length e ∙ k.names_len, (k.sound, (k.calm, (ranked, (k.simple, (dir, listed)))))))))
+    (search rules, (k.fits, (ap length e ∙ k.names_len, (k.sound, (k.calm, (ranked, (k.simple, (k.full, (listed, (c.self.invariant.2, c.self.invariant.3))))))))))
 
 -- the ids that were found name the slots, and the directory after the cut
-record IsReady (g : given.Over) (c : goal.After-cut_link g) : Type 0 where
-  pub dir : IsDirectory c.self.inside.size c.self.inside.root c.cut_link.new.rings c.self.inside.names.items c.cut_link.new.arena.ids c.cut_link.new.arena.slots
+record IsReady (g : given.Over) (c : goal.After-clear g) : Type 0 where
+  pub dir : IsDirectory c.self.inside.size c.self.inside.root c.cut_link.new.rings c.self.inside.names.items c.remove_all.new.self.ids c.remove_all.new.self.slots
   pub d_is : get_or c.self.inside.names.items c.in-Some.d.0 0 ≡ c.args.container
   pub o_is : get_or c.self.inside.names.items c.in-Some-find.o.0 0 ≡ c.args.object
+  pub kept : (o : ℕ) → IsRecorded c.self.inside.size c.self.inside.root c.cut_link.new.rings o → object_at c.remove_all.new.self o ≡ object_at c.self.inside.arena o
 
-ready : (g : given.Over) (c : goal.After-cut_link g) → IsReady g c
+ready : (g : given.Over) (c : goal.After-clear g) → IsReady g c
 ready g c =
     let k = c.self.invariant.0 in
     let a = c.self.inside in
@@ -40,8 +43,12 @@ ready g c =
     let linked = subst (λ (l : List (ℕ × List ℕ)). links l c.args.container c.args.object ≡ true) (sym ls) c.requires.listed in
     let p = c.in-Some.ensures.found in
     let q = c.in-Some-find.ensures.found in
+    let cut = c.cut_link.ensures.cut in
+    let dead_are = cut.4 ∙ ap (λ (xs : List ℕ). object_ids (named_one xs cut.1)) c.deref.ensures.value in
+    let left = subst (λ (xs : List ℕ). IsWithoutAll a.arena c.remove_all.new.self xs) c.deref-in-Some-find.ensures.value c.remove_all.ensures.removed in
     record {
-      dir = subst (λ (xs : List ℕ). IsDirectory a.size a.root c.cut_link.new.rings xs c.cut_link.new.arena.ids c.cut_link.new.arena.slots) c.deref.ensures.value c.cut_link.ensures.directory;
+      dir = directory_left a.size a.root a.rings c.cut_link.new.rings c.in-Some.d.0 c.in-Some-find.o.0 cut.0 cut.1 cut.2 a.names.items a.arena c.remove_all.new.self c.cut_link.new.dead.items dead_are left k.directory;
+      kept = object_left a.size a.root a.rings c.cut_link.new.rings c.in-Some.d.0 c.in-Some-find.o.0 cut.0 cut.1 cut.2 a.names.items a.arena c.remove_all.new.self c.cut_link.new.dead.items dead_are left k.directory;
       d_is = d_named a.size a.root a.rings a.names.items a.arena.ids a.arena.slots k c.args.container c.args.object linked p.0 q.0 c.in-Some.d.0 c.in-Some-find.o.0 p.1.within q.1.within p.1.id_is q.1.id_is p.1.slot_is q.1.slot_is;
       o_is = o_named a.size a.root a.rings a.names.items a.arena.ids a.arena.slots k c.args.container c.args.object linked p.0 q.0 c.in-Some.d.0 c.in-Some-find.o.0 p.1.within q.1.within p.1.id_is q.1.id_is p.1.slot_is q.1.slot_is;
     }
@@ -51,7 +58,7 @@ invariant_of-self g c =
     let a = c.self.inside in
     let r = ready g c in
     let cut = c.cut_link.ensures.cut in
-    (kept_then a.size a.root a.rings c.cut_link.new.rings c.in-Some.d.0 c.in-Some-find.o.0 cut.0 cut.1 cut.2 a.names.items a.arena.ids a.arena.slots c.cut_link.new.arena.ids c.cut_link.new.arena.slots c.self.invariant.0 r.dir, c.cut_link.ensures.pool ∙ c.self.invariant.1)
+    (kept_then a.size a.root a.rings c.cut_link.new.rings c.in-Some.d.0 c.in-Some-find.o.0 cut.0 cut.1 cut.2 a.names.items a.arena.ids a.arena.slots c.remove_all.new.self.ids c.remove_all.new.self.slots c.self.invariant.0 r.dir, c.remove_all.ensures.removed.pool ∙ c.self.invariant.1, c.clear.ensures.items, omega (arith, c.self.invariant.3, c.clear.ensures.capacity, c.cut_link.ensures.room))
 
 pub returns-clause-lists : goal.returns-clause-lists
 returns-clause-lists g c =
@@ -59,7 +66,7 @@ returns-clause-lists g c =
     let r = ready g c in
     let cut = c.cut_link.ensures.cut in
     let ls = ap (λ (t : Tree g.row.T.Denot). t.lists) c.self.view_is in
-    lists_live a.size a.root a.rings c.cut_link.new.rings c.in-Some.d.0 c.in-Some-find.o.0 cut.0 cut.1 cut.2 a.names.items a.arena.ids a.arena.slots c.cut_link.new.arena.ids c.cut_link.new.arena.slots c.self.invariant.0 r.dir
+    lists_live a.size a.root a.rings c.cut_link.new.rings c.in-Some.d.0 c.in-Some-find.o.0 cut.0 cut.1 cut.2 a.names.items a.arena.ids a.arena.slots c.remove_all.new.self.ids c.remove_all.new.self.slots c.self.invariant.0 r.dir
     ∙ ap (λ (v : List (ℕ × List ℕ)). live_part (cut_lists v (get_or a.names.items c.in-Some.d.0 0) (get_or a.names.items c.in-Some-find.o.0 0))) ls
     ∙ ap (λ (i : ℕ). live_part (cut_lists c.args.self.now.lists i (get_or a.names.items c.in-Some-find.o.0 0))) r.d_is
     ∙ ap (λ (i : ℕ). live_part (cut_lists c.args.self.now.lists c.args.container i)) r.o_is
@@ -69,9 +76,9 @@ returns-clause-kept g c id slot h =
     let a = c.self.inside in
     let r = ready g c in
     let cut = c.cut_link.ensures.cut in
-    let was = slot_kept a.size a.root a.rings c.cut_link.new.rings c.in-Some.d.0 c.in-Some-find.o.0 cut.0 cut.1 cut.2 a.names.items a.arena.ids a.arena.slots c.cut_link.new.arena.ids c.cut_link.new.arena.slots c.self.invariant.0 r.dir a.arena.cells c.cut_link.new.arena.cells id slot h in (
+    let was = slot_kept a.size a.root a.rings c.cut_link.new.rings c.in-Some.d.0 c.in-Some-find.o.0 cut.0 cut.1 cut.2 a.names.items a.arena.ids a.arena.slots c.remove_all.new.self.ids c.remove_all.new.self.slots c.self.invariant.0 r.dir a.arena.cells c.remove_all.new.self.cells id slot h in (
       subst (λ (t : Tree g.row.T.Denot). HasSlot t id slot) c.self.view_is was.1,
-      c.cut_link.ensures.kept slot was.0 ∙ ap (λ (t : Tree g.row.T.Denot). record_at t slot) c.self.view_is,
+      r.kept slot was.0 ∙ ap (λ (t : Tree g.row.T.Denot). record_at t slot) c.self.view_is,
     )
 
 pub returns-clause-handed : goal.returns-clause-handed
@@ -80,8 +87,8 @@ returns-clause-handed g c =
     let r = ready g c in
     let cut = c.cut_link.ensures.cut in
     let e = c.deref.ensures.value in
-    let told = handed a.size a.root a.rings c.cut_link.new.rings c.in-Some.d.0 c.in-Some-find.o.0 cut.0 cut.1 cut.2 a.names.items a.arena.ids a.arena.slots c.cut_link.new.arena.ids c.cut_link.new.arena.slots c.self.invariant.0 r.dir a.arena.cells c.cut_link.new.arena.cells in
-    let after : Tree g.row.T.Denot = record { lists = lists_of c.cut_link.new.rings a.names.items c.cut_link.new.arena.ids c.cut_link.new.arena.slots; slots = c.cut_link.new.arena.slots; cells = c.cut_link.new.arena.cells } in (
+    let told = handed a.size a.root a.rings c.cut_link.new.rings c.in-Some.d.0 c.in-Some-find.o.0 cut.0 cut.1 cut.2 a.names.items a.arena.ids a.arena.slots c.remove_all.new.self.ids c.remove_all.new.self.slots c.self.invariant.0 r.dir a.arena.cells c.remove_all.new.self.cells in
+    let after : Tree g.row.T.Denot = record { lists = lists_of c.cut_link.new.rings a.names.items c.remove_all.new.self.ids c.remove_all.new.self.slots; slots = c.remove_all.new.self.slots; cells = c.remove_all.new.self.cells } in (
       named a.names.items ((c.in-Some.d.0, c.in-Some-find.o.0) ∷ cut.0),
       named_one a.names.items cut.1,
       subst (λ (t : Tree g.row.T.Denot). IsHanded t after (named a.names.items ((c.in-Some.d.0, c.in-Some-find.o.0) ∷ cut.0)) (named_one a.names.items cut.1)) c.self.view_is told,
