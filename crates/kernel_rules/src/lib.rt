@@ -1,7 +1,8 @@
-//! The rules of HiStar's kernel objects (OSDI 2006) as definitions: the state, for each call a row of
-//! conditions with their refusals, an edit of the state and a reply, and what holds of every state that
-//! calls lead to. Beside them stand the types of calls, replies and objects. It promises nothing of any
-//! machine: a machine is proved against these definitions, and each of them computes.
+//! The rules of HiStar's kernel objects (OSDI 2006) as definitions: the state, for each call a row
+//! of conditions with their refusals, an edit of the state and a reply, and what holds of every
+//! state that calls lead to. Beside them stand the types of calls, replies and objects. It promises
+//! nothing of any machine: a machine is proved against these definitions, and each of them
+//! computes.
 #![tactic(auto)]
 
 mod calls;
@@ -10,6 +11,8 @@ mod objects;
 mod places;
 mod refusing;
 mod replies;
+#[cfg(test)]
+mod tests;
 
 pub use calls::{Call, Entry, Query};
 pub use lists::{Bytes, IdList, Ids, Packets, Slots};

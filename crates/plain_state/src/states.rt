@@ -21,8 +21,8 @@ impl PlainState {
     ghost use Rattle.kernel_rules.specs.Runs.{booted};
     ghost use Rattle.plain_state.specs.StateOf.{state_of};
 
-    /// The newly booted state: the root container 1, the boot thread 2 and the device 3. The error is
-    /// `BadLimits` exactly where a limit is out of its range, and else, for want of memory,
+    /// The newly booted state: the root container 1, the boot thread 2 and the device 3. The error
+    /// is `BadLimits` exactly where a limit is out of its range, and else, for want of memory,
     /// `Unavailable`.
     pub fn boot(alloc: Global, limits: &Limits) -> Result<PlainState, BootRefusal>
         ensures state { IfOk result (λ booted_state. state_of booted_state ≡ booted limits.now) }
