@@ -1,5 +1,6 @@
 -- What a call changes, and what it answers.
-use Rattle.std.specs.Prelude.{ℕ, ◌+◌, ◌*◌, false, List, [], ◌∷◌, ◌++◌, length, take, drop, replicate}
+use Rattle.std.specs.Prelude.{ℕ, ◌+◌, ◌*◌, false, List, [], ◌∷◌, ◌++◌, length, take, drop}
+use Rattle.std.specs.Prelude.{replicate}
 use Rattle.std.specs.Prelude.{slice_range, slice_set, Option, Some, None, if◌then◌else◌}
 use Rattle.base.specs.Live.{has}
 use Rattle.base.specs.declared.levels.Level.{Level}
@@ -207,7 +208,8 @@ loaded s n (Some p) =
 -- what a query answers where it is not refused
 abbrev pub found : State → ℕ → Query → Reply
 found s t query.SelfGet = of_object reply.Done (λ x. told_of x.label x.body) (object_at s t)
-found s t (query.ObjLabel e) = of_object reply.Done (λ x. reply.Label x.label) (object_at s e.object)
+found s t (query.ObjLabel e) =
+    of_object reply.Done (λ x. reply.Label x.label) (object_at s e.object)
 found s t (query.ObjQuota e) =
     of_object reply.Done (λ x. reply.Quota x.quota (use_of s e.object) x.fixed x.immutable)
     (object_at s e.object)
@@ -217,7 +219,8 @@ found s t (query.ContainerParent d) = reply.Parent (lister_of d s.objects)
 found s t (query.SegmentLen e) = reply.Pages (page_count s e.object)
 found s t (query.SegmentRead e a n) =
     reply.Bytes (slice_range (bytes_at s e.object) a (a + n))
-found s t (query.MetaGet e) = of_object reply.Done (λ x. reply.Bytes x.metadata) (object_at s e.object)
+found s t (query.MetaGet e) =
+    of_object reply.Done (λ x. reply.Bytes x.metadata) (object_at s e.object)
 found s t (query.AsGet e slot) = reply.Mapping (slot_at s e.object slot)
 found s t (query.Load address n) = loaded s n (place_of s t address)
 

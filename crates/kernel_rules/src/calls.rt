@@ -21,28 +21,28 @@ pub enum Call {
     /// A new category, which the caller owns: star in its label, 3 in its clearance (HiStar, OSDI
     /// 2006). It is refused by `LabelFull` and `Spent`.
     CatCreate,
-    /// The caller's label is another one, at least the old one and at most its clearance (HiStar, OSDI
-    /// 2006). It is refused by `BadLabel` and `LabelRange`.
+    /// The caller's label is another one, at least the old one and at most its clearance (HiStar,
+    /// OSDI 2006). It is refused by `BadLabel` and `LabelRange`.
     SelfSetLabel {
         /// The new label.
         label: RawLabel,
     },
     /// The caller's clearance is another one, at least its label and at most the maximum of the old
-    /// clearance and the label with star raised (HiStar, OSDI 2006). It is refused by `BadLabel` and
-    /// `ClearanceRange`.
+    /// clearance and the label with star raised (HiStar, OSDI 2006). It is refused by `BadLabel`
+    /// and `ClearanceRange`.
     SelfSetClearance {
         /// The new clearance.
         clearance: RawLabel,
     },
-    /// The caller's address space is another one, or none for (0, 0) (HiStar, OSDI 2006). It is refused
-    /// by `WrongType`.
+    /// The caller's address space is another one, or none for (0, 0) (HiStar, OSDI 2006). It is
+    /// refused by `WrongType`.
     SelfSetAs {
         /// The address space.
         space: Entry,
     },
     /// A new container without entries, last in the list of a container (HiStar, OSDI 2006). It is
-    /// refused by `NoAccess`, `CannotObserve`, `CannotModify`, `BadLabel`, `LabelRange`, `AvoidType`,
-    /// `NoQuota`, `Immutable` and `Spent`.
+    /// refused by `NoAccess`, `CannotObserve`, `CannotModify`, `BadLabel`, `LabelRange`,
+    /// `AvoidType`, `NoQuota`, `Immutable` and `Spent`.
     ContainerCreate {
         /// Where it is listed.
         container: ObjectId,
@@ -65,8 +65,8 @@ pub enum Call {
         /// Its length in pages of 256 bytes: 0 to 16.
         pages: u32,
     },
-    /// A new segment with the bytes of another, last in the list of a container (HiStar, OSDI 2006).
-    /// It is refused by what refuses a new container, and by `NoEntry` and `WrongType`.
+    /// A new segment with the bytes of another, last in the list of a container (HiStar, OSDI
+    /// 2006). It is refused by what refuses a new container, and by `NoEntry` and `WrongType`.
     SegmentCopy {
         /// Where it is listed.
         container: ObjectId,
@@ -77,8 +77,8 @@ pub enum Call {
         /// The segment that is copied.
         source: Entry,
     },
-    /// A new address space of sixteen empty slots, last in the list of a container (HiStar, OSDI 2006).
-    /// It is refused by what refuses a new container.
+    /// A new address space of sixteen empty slots, last in the list of a container (HiStar, OSDI
+    /// 2006). It is refused by what refuses a new container.
     AsCreate {
         /// Where it is listed.
         container: ObjectId,
@@ -87,8 +87,8 @@ pub enum Call {
         /// What it may use, in pages of 256 bytes: at least 1.
         quota: u32,
     },
-    /// A new thread, last in the list of a container, with the verify label `{3}`, no address space and
-    /// closure 0 (HiStar, OSDI 2006). It is refused by what refuses a new container, and by
+    /// A new thread, last in the list of a container, with the verify label `{3}`, no address space
+    /// and closure 0 (HiStar, OSDI 2006). It is refused by what refuses a new container, and by
     /// `ClearanceRange`.
     ThreadCreate {
         /// Where it is listed.
@@ -102,8 +102,8 @@ pub enum Call {
         /// Where it runs: any number.
         entry_point: u64,
     },
-    /// A new gate, last in the list of a container (HiStar, OSDI 2006). It is refused by what refuses a
-    /// new thread, and by `NoEntry` and `WrongType`.
+    /// A new gate, last in the list of a container (HiStar, OSDI 2006). It is refused by what
+    /// refuses a new thread, and by `NoEntry` and `WrongType`.
     GateCreate {
         /// Where it is listed.
         container: ObjectId,
@@ -130,29 +130,30 @@ pub enum Call {
         /// The object.
         entry: Entry,
     },
-    /// The object is taken out of the container's list, and what no path from the root leads to is gone
-    /// (HiStar, OSDI 2006). It is refused by `CannotObserve`, `CannotModify`, `RootKept` and
+    /// The object is taken out of the container's list, and what no path from the root leads to is
+    /// gone (HiStar, OSDI 2006). It is refused by `CannotObserve`, `CannotModify`, `RootKept` and
     /// `Immutable`.
     Unref {
         /// The object, which the container lists.
         entry: Entry,
     },
-    /// The quota of an object in a container's list grows or shrinks (HiStar, OSDI 2006). It is refused
-    /// by `CannotObserve`, `CannotModify`, `LabelRange`, `NoQuota`, `FixedQuota` and `Immutable`.
+    /// The quota of an object in a container's list grows or shrinks (HiStar, OSDI 2006). It is
+    /// refused by `CannotObserve`, `CannotModify`, `LabelRange`, `NoQuota`, `FixedQuota` and
+    /// `Immutable`.
     QuotaMove {
         /// The object, which the container lists.
         entry: Entry,
         /// By how many pages of 256 bytes.
         change: i32,
     },
-    /// The object's quota never changes again (HiStar, OSDI 2006). It is refused by `CannotObserve`,
-    /// `CannotModify` and `Immutable`.
+    /// The object's quota never changes again (HiStar, OSDI 2006). It is refused by
+    /// `CannotObserve`, `CannotModify` and `Immutable`.
     SetFixed {
         /// The object.
         entry: Entry,
     },
-    /// The object is read-only for good (HiStar, OSDI 2006). It is refused by `WrongType` for a thread
-    /// or a device, and by `CannotObserve` and `CannotModify`.
+    /// The object is read-only for good (HiStar, OSDI 2006). It is refused by `WrongType` for a
+    /// thread or a device, and by `CannotObserve` and `CannotModify`.
     SetImmutable {
         /// The object.
         entry: Entry,
@@ -165,8 +166,9 @@ pub enum Call {
         /// 0 to 64 bytes.
         data: Data,
     },
-    /// A segment gets another length: what is cut off is gone, what is new is 0 (HiStar, OSDI 2006). It
-    /// is refused by `WrongType`, `CannotObserve`, `CannotModify`, `NoQuota`, `Immutable` and `Bounds`.
+    /// A segment gets another length: what is cut off is gone, what is new is 0 (HiStar, OSDI
+    /// 2006). It is refused by `WrongType`, `CannotObserve`, `CannotModify`, `NoQuota`, `Immutable`
+    /// and `Bounds`.
     SegmentResize {
         /// The segment.
         entry: Entry,
@@ -183,8 +185,8 @@ pub enum Call {
         /// 1 to 64 bytes that lie in one page of 256.
         data: Data,
     },
-    /// A mapping in an empty slot of an address space (HiStar, OSDI 2006). It is refused by `WrongType`,
-    /// `CannotObserve`, `CannotModify`, `Immutable`, `Bounds` and `Overlap`.
+    /// A mapping in an empty slot of an address space (HiStar, OSDI 2006). It is refused by
+    /// `WrongType`, `CannotObserve`, `CannotModify`, `Immutable`, `Bounds` and `Overlap`.
     AsMap {
         /// The address space.
         space: Entry,
@@ -193,24 +195,24 @@ pub enum Call {
         /// The mapping: 1 to 16 pages of a segment, which end at page 65,536 at most.
         mapping: Mapping,
     },
-    /// A filled slot of an address space is emptied (HiStar, OSDI 2006). It is refused by `WrongType`,
-    /// `CannotObserve`, `CannotModify`, `Immutable`, `Bounds` and `NotMapped`.
+    /// A filled slot of an address space is emptied (HiStar, OSDI 2006). It is refused by
+    /// `WrongType`, `CannotObserve`, `CannotModify`, `Immutable`, `Bounds` and `NotMapped`.
     AsUnmap {
         /// The address space.
         space: Entry,
         /// The slot: 0 to 15.
         slot: u32,
     },
-    /// Bytes are written through the caller's address space. It is refused by `Bounds`, `NotMapped` and
-    /// `RightsDenied`.
+    /// Bytes are written through the caller's address space. It is refused by `Bounds`, `NotMapped`
+    /// and `RightsDenied`.
     Store {
         /// The address of the first byte.
         address: u64,
         /// 1 to 64 bytes that lie in one page of 256.
         data: Data,
     },
-    /// The caller enters a gate: it has the asked labels, and the gate's address space, entry point and
-    /// closure (HiStar, OSDI 2006). It is refused by `WrongType`, `BadLabel` and `GateDenied`.
+    /// The caller enters a gate: it has the asked labels, and the gate's address space, entry point
+    /// and closure (HiStar, OSDI 2006). It is refused by `WrongType`, `BadLabel` and `GateDenied`.
     GateEnter {
         /// The gate.
         gate: Entry,
@@ -241,16 +243,17 @@ pub enum Call {
 /// `NoAccess` and `NoEntry`.
 #[derive(Clone, Copy)]
 pub enum Query {
-    /// What the caller is: its label, clearance, verify label, address space, entry point and closure.
+    /// What the caller is: its label, clearance, verify label, address space, entry point and
+    /// closure.
     SelfGet,
-    /// The label of an object. It is refused by `CannotObserve` for a thread whose label the caller may
-    /// not see (HiStar, OSDI 2006).
+    /// The label of an object. It is refused by `CannotObserve` for a thread whose label the caller
+    /// may not see (HiStar, OSDI 2006).
     ObjLabel {
         /// The object.
         entry: Entry,
     },
-    /// The quota and the use of an object, in pages of 256 bytes, and whether its quota is fixed and it
-    /// is immutable. It is refused by `CannotObserve`.
+    /// The quota and the use of an object, in pages of 256 bytes, and whether its quota is fixed
+    /// and it is immutable. It is refused by `CannotObserve`.
     ObjQuota {
         /// The object.
         entry: Entry,
@@ -267,7 +270,8 @@ pub enum Query {
         /// The container.
         container: ObjectId,
     },
-    /// The length of a segment in pages of 256 bytes. It is refused by `WrongType` and `CannotObserve`.
+    /// The length of a segment in pages of 256 bytes. It is refused by `WrongType` and
+    /// `CannotObserve`.
     SegmentLen {
         /// The segment.
         entry: Entry,
@@ -288,8 +292,8 @@ pub enum Query {
         /// The object.
         entry: Entry,
     },
-    /// What a slot of an address space maps, if anything. It is refused by `WrongType`, `CannotObserve`
-    /// and `Bounds`.
+    /// What a slot of an address space maps, if anything. It is refused by `WrongType`,
+    /// `CannotObserve` and `Bounds`.
     AsGet {
         /// The address space.
         space: Entry,

@@ -1,7 +1,8 @@
-//! The rules of HiStar's kernel objects (OSDI 2006) as definitions: the state, for each call a row of
-//! conditions with their refusals, an edit of the state and a reply, and what holds of every state that
-//! calls lead to. Beside them stand the types of calls, replies and objects. It promises nothing of any
-//! machine: a machine is proved against these definitions, and each of them computes.
+//! The rules of HiStar's kernel objects (OSDI 2006) as definitions: the state, for each call a row
+//! of conditions with their refusals, an edit of the state and a reply, and what holds of every
+//! state that calls lead to. Beside them stand the types of calls, replies and objects. It promises
+//! nothing of any machine: a machine is proved against these definitions, and each of them
+//! computes.
 #![tactic(auto)]
 
 mod calls;
@@ -12,6 +13,8 @@ mod places;
 mod refusing;
 mod replies;
 mod tables;
+#[cfg(test)]
+mod tests;
 
 pub use calls::{Call, Entry, Query};
 pub use events::Event;

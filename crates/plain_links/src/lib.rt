@@ -1,6 +1,6 @@
-//! The calls of the plain machine on containers, links and quotas: for each, what refuses it, and what it
-//! changes and answers where nothing does, as the definitions say. Which call comes is left to the crate
-//! above.
+//! The calls of the plain machine on containers, links and quotas: for each, what refuses it, and
+//! what it changes and answers where nothing does, as the definitions say. Which call comes is left
+//! to the crate above.
 #![tactic(auto)]
 
 mod containers;

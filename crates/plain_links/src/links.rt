@@ -51,8 +51,8 @@ pub fn refused_link(
     least(&row)
 }
 
-/// Links an object a second time, last in a container's list. The error is want of memory, and nothing is
-/// changed then.
+/// Links an object a second time, last in a container's list. The error is want of memory, and
+/// nothing is changed then.
 pub fn link(
     state: &mut PlainState,
     thread: ObjectId,
@@ -105,8 +105,8 @@ pub fn refused_unref(
     least(&row)
 }
 
-/// Takes an object out of a container's list; what no path from the root leads to is gone then. The error
-/// is want of memory, and nothing is changed then.
+/// Takes an object out of a container's list; what no path from the root leads to is gone then. The
+/// error is want of memory, and nothing is changed then.
 pub fn unref(state: &mut PlainState, thread: ObjectId, entry: &Entry) -> Result<Reply, NoMemory>
     requires { refused (state_of state.old) thread (call.Unref entry.now) ≡ None }
     ensures reply { IfOk result (λ reply. reply

@@ -93,7 +93,8 @@ pub fn refused_quota_move(
 /// Changes an object's quota.
 pub fn quota_move(state: &mut PlainState, thread: ObjectId, entry: &Entry, change: i32) -> Reply
     requires { refused (state_of state.old) thread (call.QuotaMove entry.now change) ≡ None }
-    ensures reply { result ≡ accepted (state_of state.old) thread (call.QuotaMove entry.now change) }
+    ensures reply { result
+        ≡ accepted (state_of state.old) thread (call.QuotaMove entry.now change) }
     ensures state { state_of state.new
         ≡ edit (state_of state.old) thread (call.QuotaMove entry.now change) }
 {
@@ -132,7 +133,8 @@ pub fn refused_set_fixed(
 pub fn set_fixed(state: &mut PlainState, thread: ObjectId, entry: &Entry) -> Reply
     requires { refused (state_of state.old) thread (call.SetFixed entry.now) ≡ None }
     ensures reply { result ≡ accepted (state_of state.old) thread (call.SetFixed entry.now) }
-    ensures state { state_of state.new ≡ edit (state_of state.old) thread (call.SetFixed entry.now) }
+    ensures state { state_of state.new
+        ≡ edit (state_of state.old) thread (call.SetFixed entry.now) }
 {
     state.fix_quota(entry.object);
     Reply::Done

@@ -1,6 +1,6 @@
 //! The calls of the plain machine on segments, address spaces, devices and metadata: for each, what
-//! refuses it, and what it changes and answers where nothing does, as the definitions say. Which call
-//! comes is left to the crate above.
+//! refuses it, and what it changes and answers where nothing does, as the definitions say. Which
+//! call comes is left to the crate above.
 #![tactic(auto)]
 
 mod accesses;
@@ -9,6 +9,8 @@ mod lengths;
 mod metadata;
 mod segments;
 mod spaces;
+#[cfg(test)]
+mod tests;
 
 pub use accesses::{load, refused_load, refused_store, store};
 pub use devices::{dev_recv, dev_send, refused_dev_recv, refused_dev_send};

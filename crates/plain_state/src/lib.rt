@@ -1,6 +1,6 @@
-//! The state of a plain kernel: records in a map. What calls look at is computed anew from the records,
-//! by the definitions, and each change that a call makes keeps the state well formed. Which call looks
-//! at what, and changes what, is left to the crates above.
+//! The state of a plain kernel: records in a map. What calls look at is computed anew from the
+//! records, by the definitions, and each change that a call makes keeps the state well formed.
+//! Which call looks at what, and changes what, is left to the crates above.
 #![tactic(auto)]
 
 mod boots;
@@ -15,6 +15,8 @@ mod reads;
 mod records;
 mod rows;
 mod states;
+#[cfg(test)]
+mod tests;
 mod thread_changes;
 mod thread_edits;
 mod translations;

@@ -175,8 +175,8 @@ impl PlainState {
         is_between(label, clearance, self.clearance(thread), meter)
     }
 
-    /// What refuses a new thread or gate of a raw label and a raw clearance, whose stored labels are
-    /// given where they have some.
+    /// What refuses a new thread or gate of a raw label and a raw clearance, whose stored labels
+    /// are given where they have some.
     fn bearer_of_label(
         &self,
         thread: ObjectId,

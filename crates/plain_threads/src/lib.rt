@@ -1,11 +1,13 @@
-//! The calls of the plain machine on labels, threads and gates: for each, what refuses it, and what it
-//! changes and answers where nothing does, as the definitions say. Which call comes is left to the crate
-//! above.
+//! The calls of the plain machine on labels, threads and gates: for each, what refuses it, and what
+//! it changes and answers where nothing does, as the definitions say. Which call comes is left to
+//! the crate above.
 #![tactic(auto)]
 
 mod categories;
 mod gates;
 mod own_labels;
+#[cfg(test)]
+mod tests;
 mod threads;
 
 pub use categories::{cat_create, refused_cat_create};

@@ -34,7 +34,8 @@ pub fn refused_self_set_as(
 /// The thread has another address space.
 pub fn self_set_as(state: &mut PlainState, thread: ObjectId, space: &Entry) -> Reply
     ensures reply { result ≡ accepted (state_of state.old) thread (call.SelfSetAs space.now) }
-    ensures state { state_of state.new ≡ edit (state_of state.old) thread (call.SelfSetAs space.now) }
+    ensures state { state_of state.new
+        ≡ edit (state_of state.old) thread (call.SelfSetAs space.now) }
 {
     state.set_space(thread, *space);
     Reply::Done

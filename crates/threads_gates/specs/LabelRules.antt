@@ -48,7 +48,8 @@ unfoldable pub above_floor : LabelValue → LabelValue → LabelValue → Bool
 above_floor own gate asked = leq_test (gate_floor (levels own) (levels gate)) (levels asked)
 
 -- a label is at least one and at most another: so is the label of a new object between the thread's
--- label and clearance, and the clearance of a new thread between its label and the maker's clearance
+-- label and clearance, and the clearance of a new thread between its label and the maker's
+-- clearance
 abbrev pub between : Option LabelValue → Option LabelValue → Option LabelValue → Bool
 between low label high = both below low label && both below label high
 

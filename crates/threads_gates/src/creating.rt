@@ -6,9 +6,9 @@ use crate::orders::{is_below, is_below_join_up};
 use base::Meter;
 use label_lattice::Label;
 
-/// Whether a label is at least one and at most another. So is the label of a new object, or a thread's
-/// new label, between the thread's label and clearance, and the clearance of a new thread or gate
-/// between its label and the maker's clearance (HiStar, OSDI 2006).
+/// Whether a label is at least one and at most another. So is the label of a new object, or a
+/// thread's new label, between the thread's label and clearance, and the clearance of a new thread
+/// or gate between its label and the maker's clearance (HiStar, OSDI 2006).
 pub fn is_between(
     low: Option<&Label>,
     label: Option<&Label>,
@@ -21,8 +21,9 @@ pub fn is_between(
     is_below(low, label, meter) && is_below(label, high, meter)
 }
 
-/// Whether a thread of this label and clearance may have the asked clearance: it is at least the label,
-/// and at most the maximum of the clearance and the label with star raised (HiStar, OSDI 2006).
+/// Whether a thread of this label and clearance may have the asked clearance: it is at least the
+/// label, and at most the maximum of the clearance and the label with star raised (HiStar, OSDI
+/// 2006).
 pub fn may_clear(
     own: Option<&Label>,
     clearance: Option<&Label>,

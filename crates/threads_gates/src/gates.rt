@@ -26,9 +26,9 @@ pub struct Asked {
     pub verify: Option<Label>,
 }
 
-/// Whether a thread may enter a gate with what it asks. Its label is at most the gate's clearance and
-/// at most the verify label; the new label is at least the floor of thread and gate, and at most the
-/// new clearance; and that is at most the maximum of both clearances (HiStar, OSDI 2006).
+/// Whether a thread may enter a gate with what it asks. Its label is at most the gate's clearance
+/// and at most the verify label; the new label is at least the floor of thread and gate, and at
+/// most the new clearance; and that is at most the maximum of both clearances (HiStar, OSDI 2006).
 pub fn may_enter(thread: &Bearer, gate: &Bearer, asked: &Asked, meter: &mut Meter) -> bool
     ensures { result ≡ may_enter thread.now gate.now asked.now }
 {

@@ -1,13 +1,15 @@
-//! The label rules of calls: what a thread observes and modifies, the labels that it may create, become
-//! and enter by a gate (HiStar, OSDI 2006). Each rule is a definition that is said once, over labels that
-//! may not be there, and a function that is proved to compute it. Which call asks which rule, and of which
-//! objects, is left to the crates above.
+//! The label rules of calls: what a thread observes and modifies, the labels that it may create,
+//! become and enter by a gate (HiStar, OSDI 2006). Each rule is a definition that is said once,
+//! over labels that may not be there, and a function that is proved to compute it. Which call asks
+//! which rule, and of which objects, is left to the crates above.
 #![tactic(auto)]
 
 mod creating;
 mod gates;
 mod orders;
 mod storing;
+#[cfg(test)]
+mod tests;
 
 pub use creating::{is_between, may_clear};
 pub use gates::{Asked, Bearer, may_enter};

@@ -46,7 +46,8 @@ fn is_label_below_join_up(a: &Label, b: &Label, c: &Label, meter: &mut Meter) ->
     a.leq_join_up(b, c, meter)
 }
 
-/// Whether the third label is at least what a thread of the first may have past a gate of the second.
+/// Whether the third label is at least what a thread of the first may have past a gate of the
+/// second.
 #[tactic(auto, unfolding(crate::specs::LabelRules::above_floor))]
 fn is_label_above_floor(own: &Label, gate: &Label, asked: &Label, meter: &mut Meter) -> bool
     ensures { result ≡ above_floor own.now gate.now asked.now }
@@ -117,8 +118,8 @@ pub fn is_below_join(
     }
 }
 
-/// Whether all labels are there, and the first is at most the maximum of the second and of the third
-/// with star raised.
+/// Whether all labels are there, and the first is at most the maximum of the second and of the
+/// third with star raised.
 pub fn is_below_join_up(
     a: Option<&Label>,
     b: Option<&Label>,
@@ -140,8 +141,9 @@ pub fn is_below_join_up(
     }
 }
 
-/// Whether all labels are there, and the third is at least what a thread of the first may have past a
-/// gate of the second: star where one of them has it, and elsewhere their maximum (HiStar, OSDI 2006).
+/// Whether all labels are there, and the third is at least what a thread of the first may have past
+/// a gate of the second: star where one of them has it, and elsewhere their maximum (HiStar, OSDI
+/// 2006).
 pub fn is_above_floor(
     own: Option<&Label>,
     gate: Option<&Label>,

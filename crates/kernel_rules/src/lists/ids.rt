@@ -68,7 +68,8 @@ impl Model for Ids {
 
     ghost view = { λ a. take a.len a.ids };
 
-    ghost invariant = { λ a. (a.len ≤ 16) × (length a.ids ≡ 16) × (a.ids ≡ padded 16 0 (take a.len a.ids)) };
+    ghost invariant = { λ a. (a.len ≤ 16) × (length a.ids ≡ 16)
+        × (a.ids ≡ padded 16 0 (take a.len a.ids)) };
 
     ghost inverse = { λ ids. record { len = length ids; ids = padded 16 0 ids } };
 }

@@ -1,0 +1,364 @@
+//! Each call where nothing refuses it, some where something does, and without memory.
+use super::*;
+use base::{Data, Level, Limits, Meter, NoMemory, ObjectId, Refusal, Rights};
+use kernel_rules::{Entry, Mapping, Reply};
+use label_lattice::RawLabel;
+use plain_state::{BootRefusal, PlainState};
+use std::test::Fail;
+
+const LIMITS: Limits = Limits {
+    pages: 64,
+    device: Level::L1,
+    next_id: 4,
+    next_category: 1,
+};
+
+fn boot() -> ObjectId {
+    ObjectId::new(2)
+}
+
+fn in_root(number: u64) -> Entry {
+    Entry {
+        container: ObjectId::root(),
+        object: ObjectId::new(number),
+    }
+}
+
+fn plain() -> RawLabel {
+    RawLabel::new(Level::L1, &[])
+}
+
+fn is_data(reply: Reply, wanted: &[u8]) -> bool {
+    match reply {
+        Reply::Bytes(data) => data.as_slice() == wanted,
+        _ => false,
+    }
+}
+
+fn is_done(reply: Reply) -> bool {
+    matches!(reply, Reply::Done)
+}
+
+fn is_pages(reply: Reply, wanted: u32) -> bool {
+    matches!(reply, Reply::Pages(pages) if pages == wanted)
+}
+
+fn is_mapped(reply: Reply, wanted: u32) -> bool {
+    matches!(reply, Reply::Mapping(Some(mapping)) if mapping.page == wanted)
+}
+
+fn refusal_in(reply: Reply) -> Option<Refusal> {
+    match reply {
+        Reply::Refused(refusal) => Some(refusal),
+        _ => None,
+    }
+}
+
+fn answered(outcome: Result<Reply, NoMemory>) -> Result<Option<Refusal>, NoMemory> {
+    match outcome {
+        Ok(reply) => Ok(refusal_in(reply)),
+        Err(error) => Err(error),
+    }
+}
+
+fn object_in(reply: Reply) -> Option<ObjectId> {
+    match reply {
+        Reply::Object(id) => Some(id),
+        _ => None,
+    }
+}
+
+fn made(outcome: Result<Reply, NoMemory>) -> Result<Option<ObjectId>, NoMemory> {
+    match outcome {
+        Ok(reply) => Ok(object_in(reply)),
+        Err(error) => Err(error),
+    }
+}
+
+/// A segment of one page and two pages of quota.
+fn make_segment(state: &mut PlainState, meter: &mut Meter) -> Result<Option<ObjectId>, NoMemory> {
+    let (thread, root, raw) = (boot(), ObjectId::root(), plain());
+    if refused_segment_create(state, thread, root, &raw, 2, 1, meter).is_none() {
+        return made(segment_create(state, thread, root, &raw, 2, 1, meter));
+    }
+    Ok(None)
+}
+
+fn copy(
+    state: &mut PlainState,
+    source: &Entry,
+    meter: &mut Meter,
+) -> Result<Option<ObjectId>, NoMemory> {
+    let (thread, root, raw) = (boot(), ObjectId::root(), plain());
+    if refused_segment_copy(state, thread, root, &raw, 2, source, meter).is_none() {
+        return made(segment_copy(state, thread, root, &raw, 2, source, meter));
+    }
+    Ok(None)
+}
+
+fn resize(
+    state: &mut PlainState,
+    entry: &Entry,
+    pages: u32,
+    meter: &mut Meter,
+) -> Result<Option<Refusal>, NoMemory> {
+    let thread = boot();
+    let refused = refused_segment_resize(state, thread, entry, pages, meter);
+    if refused.is_none() {
+        return answered(segment_resize(state, thread, entry, pages));
+    }
+    Ok(refused)
+}
+
+fn make_space(state: &mut PlainState, meter: &mut Meter) -> Result<Option<ObjectId>, NoMemory> {
+    let (thread, root, raw) = (boot(), ObjectId::root(), plain());
+    if refused_as_create(state, thread, root, &raw, 1, meter).is_none() {
+        return made(as_create(state, thread, root, &raw, 1, meter));
+    }
+    Ok(None)
+}
+
+fn send(
+    state: &mut PlainState,
+    entry: &Entry,
+    data: &Data,
+    meter: &mut Meter,
+) -> Result<Option<Refusal>, NoMemory> {
+    let thread = boot();
+    let refused = refused_dev_send(state, thread, entry, data, meter);
+    if refused.is_none() {
+        return answered(dev_send(state, thread, entry, data));
+    }
+    Ok(refused)
+}
+
+fn receive(state: &mut PlainState, entry: &Entry, meter: &mut Meter) -> Reply {
+    let thread = boot();
+    match refused_dev_recv(state, thread, entry, meter) {
+        Some(refusal) => Reply::Refused(refusal),
+        None => dev_recv(state, thread, entry),
+    }
+}
+
+fn write(
+    state: &mut PlainState,
+    entry: &Entry,
+    offset: u32,
+    data: &Data,
+    meter: &mut Meter,
+) -> Reply {
+    let thread = boot();
+    match refused_segment_write(state, thread, entry, offset, data, meter) {
+        Some(refusal) => Reply::Refused(refusal),
+        None => segment_write(state, thread, entry, offset, data),
+    }
+}
+
+fn read(state: &PlainState, entry: &Entry, offset: u32, count: u32, meter: &mut Meter) -> Reply {
+    let thread = boot();
+    match refused_segment_read(state, thread, entry, offset, count, meter) {
+        Some(refusal) => Reply::Refused(refusal),
+        None => segment_read(state, thread, entry, offset, count),
+    }
+}
+
+fn pages_of(state: &PlainState, entry: &Entry, meter: &mut Meter) -> Reply {
+    let thread = boot();
+    match refused_segment_len(state, thread, entry, meter) {
+        Some(refusal) => Reply::Refused(refusal),
+        None => segment_len(state, thread, entry),
+    }
+}
+
+fn note(state: &mut PlainState, entry: &Entry, data: &Data, meter: &mut Meter) -> Reply {
+    let thread = boot();
+    match refused_meta_set(state, thread, entry, data, meter) {
+        Some(refusal) => Reply::Refused(refusal),
+        None => meta_set(state, thread, entry, data),
+    }
+}
+
+fn noted(state: &PlainState, entry: &Entry, meter: &mut Meter) -> Reply {
+    let thread = boot();
+    match refused_meta_get(state, thread, entry, meter) {
+        Some(refusal) => Reply::Refused(refusal),
+        None => meta_get(state, thread, entry),
+    }
+}
+
+fn freeze(state: &mut PlainState, entry: &Entry, meter: &mut Meter) -> Reply {
+    let thread = boot();
+    match refused_set_immutable(state, thread, entry, meter) {
+        Some(refusal) => Reply::Refused(refusal),
+        None => set_immutable(state, thread, entry),
+    }
+}
+
+fn map(state: &mut PlainState, space: &Entry, mapping: &Mapping, meter: &mut Meter) -> Reply {
+    let thread = boot();
+    match refused_as_map(state, thread, space, 0, mapping, meter) {
+        Some(refusal) => Reply::Refused(refusal),
+        None => as_map(state, thread, space, 0, mapping),
+    }
+}
+
+fn unmap(state: &mut PlainState, space: &Entry, meter: &mut Meter) -> Reply {
+    let thread = boot();
+    match refused_as_unmap(state, thread, space, 0, meter) {
+        Some(refusal) => Reply::Refused(refusal),
+        None => as_unmap(state, thread, space, 0),
+    }
+}
+
+fn mapped(state: &PlainState, space: &Entry, meter: &mut Meter) -> Reply {
+    let thread = boot();
+    match refused_as_get(state, thread, space, 0, meter) {
+        Some(refusal) => Reply::Refused(refusal),
+        None => as_get(state, thread, space, 0),
+    }
+}
+
+fn put(state: &mut PlainState, address: u64, data: &Data, meter: &mut Meter) -> Reply {
+    let thread = boot();
+    match refused_store(state, thread, address, data, meter) {
+        Some(refusal) => Reply::Refused(refusal),
+        None => store(state, thread, address, data, meter),
+    }
+}
+
+fn fetch(state: &PlainState, address: u64, count: u32, meter: &mut Meter) -> Reply {
+    let thread = boot();
+    match refused_load(state, thread, address, count, meter) {
+        Some(refusal) => Reply::Refused(refusal),
+        None => load(state, thread, address, count, meter),
+    }
+}
+
+#[test]
+fn segments_are_written_copied_and_cut_off(rt: HostRuntime) -> Result<(), Fail> {
+    let mut meter = Meter::new(rt.alloc())?;
+    let mut state = PlainState::boot(rt.alloc(), &LIMITS)?;
+    let (first, second) = (in_root(4), in_root(5));
+    let bytes = Data::from_slice(&[7, 9]);
+    assert_eq!(rt; make_segment(&mut state, &mut meter)?, Some(first.object));
+    assert!(rt; is_done(write(&mut state, &first, 254, &bytes, &mut meter)));
+    assert_eq!(rt; copy(&mut state, &first, &mut meter)?, Some(second.object));
+    let over = resize(&mut state, &first, 2, &mut meter)?;
+    assert_eq!(rt; over, Some(Refusal::NoQuota));
+    assert_eq!(rt; resize(&mut state, &first, 0, &mut meter)?, None);
+    assert!(rt; is_pages(pages_of(&state, &first, &mut meter), 0));
+    assert!(rt; is_pages(pages_of(&state, &second, &mut meter), 1));
+    assert!(rt; is_data(read(&state, &second, 253, 3, &mut meter), &[0, 7, 9]));
+    let past = refusal_in(read(&state, &first, 0, 1, &mut meter));
+    assert_eq!(rt; past, Some(Refusal::Bounds));
+    Ok(())
+}
+
+#[test]
+fn what_is_noted_stays_when_it_is_frozen(rt: HostRuntime) -> Result<(), Fail> {
+    let mut meter = Meter::new(rt.alloc())?;
+    let mut state = PlainState::boot(rt.alloc(), &LIMITS)?;
+    let segment = in_root(4);
+    let data = Data::from_slice(&[8]);
+    let mut wanted = [0; 64];
+    wanted[0] = 8;
+    assert_eq!(rt; make_segment(&mut state, &mut meter)?, Some(segment.object));
+    assert!(rt; is_done(note(&mut state, &segment, &data, &mut meter)));
+    assert!(rt; is_done(freeze(&mut state, &segment, &mut meter)));
+    let again = refusal_in(note(&mut state, &segment, &data, &mut meter));
+    assert_eq!(rt; again, Some(Refusal::Immutable));
+    assert!(rt; is_data(noted(&state, &segment, &mut meter), &wanted));
+    Ok(())
+}
+
+#[test]
+fn packets_come_in_order(rt: HostRuntime) -> Result<(), Fail> {
+    let mut meter = Meter::new(rt.alloc())?;
+    let mut state = PlainState::boot(rt.alloc(), &LIMITS)?;
+    let device = in_root(3);
+    for packet in [[1], [2]] {
+        let packet = Data::from_slice(&packet);
+        assert_eq!(rt; send(&mut state, &device, &packet, &mut meter)?, None);
+    }
+    assert!(rt; is_data(receive(&mut state, &device, &mut meter), &[1]));
+    assert!(rt; is_data(receive(&mut state, &device, &mut meter), &[2]));
+    let none = refusal_in(receive(&mut state, &device, &mut meter));
+    assert_eq!(rt; none, Some(Refusal::DeviceEmpty));
+    Ok(())
+}
+
+#[test]
+fn pages_are_seen_while_they_are_mapped(rt: HostRuntime) -> Result<(), Fail> {
+    let mut meter = Meter::new(rt.alloc())?;
+    let mut state = PlainState::boot(rt.alloc(), &LIMITS)?;
+    let (segment, space) = (in_root(4), in_root(5));
+    let mapping = Mapping {
+        page: 3,
+        entry: segment,
+        first: 0,
+        count: 1,
+        rights: Rights::READ | Rights::WRITE,
+    };
+    let byte = Data::from_slice(&[5]);
+    assert_eq!(rt; make_segment(&mut state, &mut meter)?, Some(segment.object));
+    assert_eq!(rt; make_space(&mut state, &mut meter)?, Some(space.object));
+    assert!(rt; is_done(map(&mut state, &space, &mapping, &mut meter)));
+    assert!(rt; is_mapped(mapped(&state, &space, &mut meter), 3));
+    state.set_space(boot(), space);
+    // The page is 3, so its bytes are those from 768 on.
+    assert!(rt; is_done(put(&mut state, 778, &byte, &mut meter)));
+    assert!(rt; is_data(fetch(&state, 777, 2, &mut meter), &[0, 5]));
+    assert!(rt; is_data(read(&state, &segment, 10, 1, &mut meter), &[5]));
+    assert!(rt; is_done(unmap(&mut state, &space, &mut meter)));
+    let gone = refusal_in(fetch(&state, 777, 2, &mut meter));
+    assert_eq!(rt; gone, Some(Refusal::NotMapped));
+    Ok(())
+}
+
+fn booted(rt: &HostRuntime) -> Result<PlainState, BootRefusal> {
+    match PlainState::boot(rt.alloc(), &LIMITS) {
+        Ok(state) => Ok(state),
+        Err(_) => PlainState::boot(rt.alloc(), &LIMITS),
+    }
+}
+
+// Where an allocation is refused, the state before stands: the call that is made again answers as
+// if nothing had been.
+#[test]
+fn want_of_memory_changes_nothing(rt: HostRuntime) -> Result<(), Fail> {
+    let mut meter = match Meter::new(rt.alloc()) {
+        Ok(meter) => meter,
+        Err(_) => Meter::new(rt.alloc())?,
+    };
+    let mut state = booted(&rt)?;
+    let (segment, device) = (in_root(4), in_root(3));
+    let made = match make_segment(&mut state, &mut meter) {
+        Ok(made) => made,
+        Err(_) => make_segment(&mut state, &mut meter)?,
+    };
+    assert_eq!(rt; made, Some(segment.object));
+    let copied = match copy(&mut state, &segment, &mut meter) {
+        Ok(copied) => copied,
+        Err(_) => copy(&mut state, &segment, &mut meter)?,
+    };
+    assert_eq!(rt; copied, Some(ObjectId::new(5)));
+    let made = match make_space(&mut state, &mut meter) {
+        Ok(made) => made,
+        Err(_) => make_space(&mut state, &mut meter)?,
+    };
+    assert_eq!(rt; made, Some(ObjectId::new(6)));
+    let refused = match resize(&mut state, &segment, 0, &mut meter) {
+        Ok(refused) => refused,
+        Err(_) => resize(&mut state, &segment, 0, &mut meter)?,
+    };
+    assert_eq!(rt; refused, None);
+    let packet = Data::from_slice(&[1]);
+    let refused = match send(&mut state, &device, &packet, &mut meter) {
+        Ok(refused) => refused,
+        Err(_) => send(&mut state, &device, &packet, &mut meter)?,
+    };
+    assert_eq!(rt; refused, None);
+    assert_eq!(rt; state.packets(device.object).len(), 1);
+    assert_eq!(rt; state.list(ObjectId::root()).len(), 5);
+    Ok(())
+}
