@@ -1,12 +1,11 @@
 -- The bytes of a segment of a well-formed state.
 use Rattle.std.proofs.Common.{◌≡◌, ◌≤◌, ◌<◌, ◌/◌, ◌*◌, ℕ, true, ◌&&◌, ◌==◌, nat_le, [], length, Some, None}
-use Rattle.std.proofs.Common.{refl, subst, arith}
+use Rattle.std.proofs.Common.{refl, arith}
 use Rattle.std.proofs.lemmas.Bool.{and_parts, leb-true}
-use Rattle.kernel_rules.specs.State.{State, object_at, of_object, bytes_of, bytes_at, use_of, quota_at}
-use Rattle.kernel_rules.specs.WellFormed.{is_well_formed, is_whole, is_whole_body, is_stored, is_kept}
+use Rattle.kernel_rules.specs.State.{State, object_at, of_object, bytes_of, bytes_at}
+use Rattle.kernel_rules.specs.WellFormed.{is_well_formed, is_whole_body, is_stored, is_kept}
 use Rattle.kernel_rules.specs.declared.objects.Body as body
 use Rattle.kernel_rules.specs.declared.objects.Body.TheVariants as is
-use Rattle.kernel_rules.specs.declared.objects.Object.{Object}
 use Rattle.kernel_rules.proofs.ListerLaws.{kept_parts}
 use Rattle.kernel_rules.proofs.LookupLaws.{all_at}
 use Rattle.kernel_rules.proofs.WellFormedLaws.{soundness_of}

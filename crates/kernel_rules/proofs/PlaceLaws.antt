@@ -3,13 +3,13 @@ use Rattle.std.proofs.Common.{◌≡◌, ◌<◌, ◌≤◌, ℕ, ◌+◌, ◌-�
 use Rattle.std.proofs.Common.{◌++◌, length, drop, replicate, Option, slice_set, refl, ◌∙◌, ap, arith}
 use Rattle.std.proofs.Common.{length-append, subst, suc}
 use Rattle.std.specs.List.{list_all}
-use Rattle.std.proofs.lemmas.Bool.{and_parts, and_from, eqb-true, eq-eqb}
+use Rattle.std.proofs.lemmas.Bool.{and_parts, and_from, eq-eqb}
 use Rattle.std.proofs.lemmas.List.{length-set, length-replicate}
 use Rattle.std.proofs.lemmas.List.Folds.{list_all-append}
 use Rattle.base.specs.Padded.{padded}
 use Rattle.kernel_rules.specs.Changes.{changed, with_body, reslot, requeue, made_immutable, noted}
 use Rattle.kernel_rules.specs.State.{State, of_object, packets_of, packets_at}
-use Rattle.kernel_rules.specs.WellFormed.{is_well_formed, is_whole, is_whole_body, is_stored}
+use Rattle.kernel_rules.specs.WellFormed.{is_well_formed, is_whole_body, is_stored}
 use Rattle.kernel_rules.specs.declared.objects.Body as body
 use Rattle.kernel_rules.specs.declared.objects.Body.TheVariants as is
 use Rattle.kernel_rules.specs.declared.objects.Mapping.{Mapping}

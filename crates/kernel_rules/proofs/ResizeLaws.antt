@@ -1,25 +1,25 @@
 -- A segment that gets another length within its quota.
-use Rattle.std.proofs.Common.{◌≡◌, ◌≢◌, ◌≤◌, ℕ, ◌+◌, ◌-◌, ◌*◌, ◌/◌, Bool, true, false, cond, ◌&&◌, ◌||◌}
-use Rattle.std.proofs.Common.{◌==◌, nat_le, nat_lt, List, [], ◌∷◌, ◌++◌, length, take, replicate, min}
+use Rattle.std.proofs.Common.{◌≡◌, ◌≤◌, ℕ, ◌+◌, ◌-◌, ◌*◌, ◌/◌, true, false, cond, ◌&&◌, ◌||◌}
+use Rattle.std.proofs.Common.{◌==◌, nat_le, nat_lt, List, [], length, take, replicate, min}
 use Rattle.std.proofs.Common.{Some, None, is_some, sum_by, refl, sym, ◌∙◌, ap, subst, arith}
 use Rattle.std.proofs.Common.{length-append}
 use Rattle.std.specs.List.{list_all}
 use Rattle.std.specs.Ordering.{nat_cmp}
 use Rattle.std.specs.BTreeMap.{is_at}
-use Rattle.std.proofs.lemmas.Bool.{and_parts, and_from, eq-eqb, both_ways}
+use Rattle.std.proofs.lemmas.Bool.{and_parts, and_from, eq-eqb}
 use Rattle.std.proofs.lemmas.List.{length-replicate, length-take}
 use Rattle.base.specs.Live.{has, are_live}
 use Rattle.base.specs.declared.kinds.Kind.TheVariants as kinds
 use Rattle.kernel_rules.specs.Changes.{put, changed, with_body, rebyte}
 use Rattle.kernel_rules.specs.Written.{resized}
 use Rattle.kernel_rules.specs.State.{State, object_at, of_object, listed, use_of, own_cost, is_kind}
-use Rattle.kernel_rules.specs.State.{quota_at, lists_of, bytes_of}
+use Rattle.kernel_rules.specs.State.{quota_at, lists_of}
 use Rattle.kernel_rules.specs.WellFormed.{is_well_formed, is_kept, is_whole, is_whole_body, is_stored}
-use Rattle.kernel_rules.specs.WellFormed.{is_distinct, is_listed_rightly, listers, ids_rise}
+use Rattle.kernel_rules.specs.WellFormed.{is_distinct, listers, ids_rise}
 use Rattle.kernel_rules.specs.declared.objects.Body as body
 use Rattle.kernel_rules.specs.declared.objects.Body.TheVariants as is
 use Rattle.kernel_rules.specs.declared.objects.Object.{Object}
-use Rattle.kernel_rules.proofs.KeptLaws.{KeepsPlace, changed_sound, rise-put, some_put, at_put, kept_same}
+use Rattle.kernel_rules.proofs.KeptLaws.{rise-put, some_put, at_put, kept_same}
 use Rattle.kernel_rules.proofs.ListerLaws.{IsKept, kept_parts, kept_from}
 use Rattle.kernel_rules.proofs.LookupLaws.{all_at, all_from, lookup_put}
 use Rattle.kernel_rules.proofs.RecordLaws.{same_id, lists_of-set_value}

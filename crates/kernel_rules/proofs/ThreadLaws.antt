@@ -5,7 +5,7 @@ use Rattle.label_lattice.specs.Label.{LabelValue, IsStored}
 use Rattle.kernel_rules.specs.Changes.{changed, with_body, rethread, labelled, cleared, spaced}
 use Rattle.kernel_rules.specs.Changes.{entered}
 use Rattle.kernel_rules.specs.State.{State}
-use Rattle.kernel_rules.specs.WellFormed.{is_well_formed, is_whole, is_whole_body, is_stored}
+use Rattle.kernel_rules.specs.WellFormed.{is_well_formed, is_whole_body, is_stored}
 use Rattle.kernel_rules.specs.declared.calls.Entry.{Entry}
 use Rattle.kernel_rules.specs.declared.objects.Body as body
 use Rattle.kernel_rules.specs.declared.objects.Body.TheVariants as is

@@ -1,9 +1,8 @@
 -- The words of the table of calls: conditions that refuse a call, each with its refusal.
-use Rattle.std.specs.Prelude.{ℕ, ◌+◌, ◌*◌, ◌%◌, Bool, false, true, not, ◌&&◌, ◌||◌, ◌==◌, nat_le}
-use Rattle.std.specs.Prelude.{nat_lt, List, [], ◌∷◌, ◌++◌, Option, Some, None, is_none, is_some}
+use Rattle.std.specs.Prelude.{ℕ, ◌+◌, ◌*◌, ◌%◌, Bool, false, not, ◌&&◌, ◌||◌, nat_le}
+use Rattle.std.specs.Prelude.{nat_lt, List, [], ◌∷◌, ◌++◌, Option, Some, None, is_none}
 use Rattle.std.specs.Prelude.{if◌then◌else◌, ℤ, pos, negsuc}
-use Rattle.std.specs.List.{list_any}
-use Rattle.std.specs.Option.{option_map, option_and_then}
+use Rattle.std.specs.Option.{option_and_then}
 use Rattle.base.specs.Limits.{spent}
 use Rattle.base.specs.Live.{has}
 use Rattle.base.specs.Refusal.{lesser}

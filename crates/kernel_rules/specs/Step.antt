@@ -1,5 +1,5 @@
 -- What a call changes, and what it answers.
-use Rattle.std.specs.Prelude.{ℕ, ◌+◌, ◌*◌, false, List, [], ◌∷◌, ◌++◌, length, take, drop}
+use Rattle.std.specs.Prelude.{ℕ, ◌+◌, ◌*◌, List, [], ◌∷◌, ◌++◌, length, take, drop}
 use Rattle.std.specs.Prelude.{replicate}
 use Rattle.std.specs.Prelude.{slice_range, slice_set, Option, Some, None, if◌then◌else◌}
 use Rattle.base.specs.Live.{has}
@@ -9,11 +9,11 @@ use Rattle.base.specs.declared.refusals.Refusal.{Refusal}
 use Rattle.label_lattice.specs.Label.{LabelValue}
 use Rattle.threads_gates.specs.LabelRules.{stored}
 use Rattle.kernel_rules.specs.State.{State, object_at, of_object, live_part, bytes_at, listed}
-use Rattle.kernel_rules.specs.State.{label_at, list_at, packets_at, gate_at, use_of, page_count}
+use Rattle.kernel_rules.specs.State.{list_at, packets_at, gate_at, use_of, page_count}
 use Rattle.kernel_rules.specs.Translate.{slot_at, place_of}
 use Rattle.kernel_rules.specs.Rows.{own_label, own_clearance, pages_up, pages_down}
 use Rattle.kernel_rules.specs.Table.{refused, query_refused}
-use Rattle.kernel_rules.specs.Changes.{changed, with_body, relist, rebyte, reslot, requeue}
+use Rattle.kernel_rules.specs.Changes.{changed, with_body, rebyte, reslot, requeue}
 use Rattle.kernel_rules.specs.Changes.{fresh_object, owning, listing, delisting, made, joined_at}
 use Rattle.kernel_rules.specs.Changes.{labelled, cleared, spaced, entered, requoted, made_fixed}
 use Rattle.kernel_rules.specs.Changes.{made_immutable, noted}

@@ -1,12 +1,11 @@
 -- The table of calls: for each call its row of conditions, and what refuses it.
-use Rattle.std.specs.Prelude.{ℕ, ◌+◌, Bool, true, not, ◌&&◌, ◌||◌, ◌==◌, nat_le, nat_lt, List, []}
+use Rattle.std.specs.Prelude.{ℕ, ◌+◌, Bool, true, not, ◌&&◌, ◌||◌, ◌==◌, nat_le, nat_lt, []}
 use Rattle.std.specs.Prelude.{◌∷◌, ◌++◌, length, Option, is_none, is_some, ℤ}
 use Rattle.std.specs.List.{list_any}
 use Rattle.std.specs.Option.{option_map}
 use Rattle.base.specs.Limits.{spent}
 use Rattle.base.specs.Live.{has}
 use Rattle.base.specs.Sets.{may_read, may_write}
-use Rattle.base.specs.declared.kinds.Kind as kind
 use Rattle.base.specs.declared.kinds.Kind.TheVariants as kinds
 use Rattle.base.specs.declared.refusals.Refusal.{Refusal}
 use Rattle.base.specs.declared.refusals.Refusal.TheVariants.{NoEntry, CannotObserve, LabelRange}
@@ -16,7 +15,6 @@ use Rattle.base.specs.declared.refusals.Refusal.TheVariants.{AlreadyLinked, Root
 use Rattle.base.specs.declared.refusals.Refusal.TheVariants.{Overlap, GateDenied, DeviceFull}
 use Rattle.base.specs.declared.refusals.Refusal.TheVariants.{DeviceEmpty, Spent}
 use Rattle.threads_gates.specs.LabelRules.{both, below, shown, may_clear, may_enter, stored}
-use Rattle.threads_gates.specs.declared.gates.Asked.{Asked}
 use Rattle.threads_gates.specs.declared.gates.Bearer.{Bearer}
 use Rattle.kernel_rules.specs.State.{State, object_at, of_object, kind_of, is_kind_at, observes}
 use Rattle.kernel_rules.specs.State.{label_at, clearance_at, quota_at, use_of, list_at, avoids_at}
@@ -25,7 +23,7 @@ use Rattle.kernel_rules.specs.Translate.{slot_at}
 use Rattle.kernel_rules.specs.Rows.{Row, refusal_of, pages_up, pages_down, meets, halted}
 use Rattle.kernel_rules.specs.Rows.{at_container, in_container, listed_in, of_kind, not_of_kind}
 use Rattle.kernel_rules.specs.Rows.{observed, flowing, modified, good_label, not_immutable}
-use Rattle.kernel_rules.specs.Rows.{with_room, fitting, in_range_of, new_object, new_bearer, shaped}
+use Rattle.kernel_rules.specs.Rows.{with_room, in_range_of, new_object, new_bearer, shaped}
 use Rattle.kernel_rules.specs.Rows.{within, space_entry, mapped, own_label, own_clearance}
 use Rattle.kernel_rules.specs.declared.calls.Call.{Call}
 use Rattle.kernel_rules.specs.declared.calls.Call.TheVariants as call

@@ -1,6 +1,6 @@
 -- The state that a call leads to is the next one.
 use Rattle.std.proofs.Common.{◌≡◌, ℕ, true, false, cond, None, refl, sym, ◌∙◌}
-use Rattle.kernel_rules.specs.State.{State, lists_of}
+use Rattle.kernel_rules.specs.State.{State}
 use Rattle.kernel_rules.specs.Step.{next, edit, restricted}
 use Rattle.kernel_rules.specs.Table.{refused}
 use Rattle.kernel_rules.specs.WellFormed.{is_well_formed}

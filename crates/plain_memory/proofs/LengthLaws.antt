@@ -1,5 +1,5 @@
 -- What follows for copied and resized segments, and for mappings, where nothing refuses a call.
-use Rattle.std.proofs.Common.{◌≡◌, ◌≤◌, ◌<◌, ◌+◌, ◌==◌, ℕ, true, false, None, ◌++◌, length, replicate, List, refl, ◌∙◌, arith}
+use Rattle.std.proofs.Common.{◌≡◌, ◌≤◌, ◌<◌, ◌+◌, ◌==◌, ℕ, true, false, None, ◌++◌, length, replicate, List, refl, arith}
 use Rattle.std.proofs.lemmas.Bool.{and_parts, not-false, leb-true, leb-false, ltb-false}
 use Rattle.base.specs.declared.kinds.Kind.TheVariants as kinds
 use Rattle.label_lattice.specs.declared.raw_labels.RawLabel.{RawLabel}
@@ -7,7 +7,7 @@ use Rattle.kernel_rules.specs.State.{State, bytes_at, is_kind_at, quota_at, pack
 use Rattle.kernel_rules.specs.Rows.{halted}
 use Rattle.kernel_rules.specs.Table.{refused, row, is_mapping}
 use Rattle.kernel_rules.specs.Fitting.{IsFitting}
-use Rattle.kernel_rules.specs.WellFormed.{is_well_formed, is_whole_body}
+use Rattle.kernel_rules.specs.WellFormed.{is_whole_body}
 use Rattle.kernel_rules.specs.declared.calls.Entry.{Entry}
 use Rattle.kernel_rules.specs.declared.calls.Call.TheVariants as call
 use Rattle.kernel_rules.specs.declared.objects.Body.TheVariants as is

@@ -1,11 +1,10 @@
 -- What follows for segments where nothing refuses a call.
-use Rattle.std.proofs.Common.{◌≡◌, ◌≤◌, ◌<◌, ◌+◌, ◌*◌, ◌/◌, ◌%◌, ◌^◌, ℕ, Bool, true, false}
-use Rattle.std.proofs.Common.{◌&&◌, ◌||◌, ◌==◌, nat_le, List, [], ◌++◌, length, replicate}
-use Rattle.std.proofs.Common.{Option, Some, None, refl, ◌∙◌, ap, arith}
+use Rattle.std.proofs.Common.{◌≡◌, ◌≤◌, ◌+◌, ◌*◌, ◌/◌, ◌%◌, ℕ, true}
+use Rattle.std.proofs.Common.{◌&&◌, ◌==◌, nat_le, List, ◌++◌, length, replicate}
+use Rattle.std.proofs.Common.{None, refl, arith}
 use Rattle.std.proofs.lemmas.Bool.{and_parts, and_from, eq-eqb, not-false, leb-true, leb-false}
 use Rattle.std.proofs.lemmas.Bool.{ltb-false}
 use Rattle.std.proofs.lemmas.List.{length-replicate}
-use Rattle.base.specs.declared.sets.TypeSet.{TypeSet}
 use Rattle.label_lattice.specs.declared.raw_labels.RawLabel.{RawLabel}
 use Rattle.kernel_rules.specs.State.{State, bytes_at}
 use Rattle.kernel_rules.specs.Rows.{halted, is_shape}

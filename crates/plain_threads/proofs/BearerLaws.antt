@@ -1,5 +1,5 @@
 -- What follows for threads and gates where nothing refuses a call.
-use Rattle.std.proofs.Common.{◌≡◌, ◌++◌, ℕ, true, None, refl, ◌&&◌}
+use Rattle.std.proofs.Common.{◌≡◌, ◌++◌, ℕ, None, refl}
 use Rattle.std.proofs.lemmas.Bool.{and_parts, and_from, not-false, leb-false, ltb-false}
 use Rattle.label_lattice.specs.Label.{LabelValue, IsStored}
 use Rattle.label_lattice.specs.declared.raw_labels.RawLabel.{RawLabel}

@@ -1,4 +1,4 @@
-use Rattle.std.proofs.Common.{◌≡◌, sym, subst, ap, OnOk, ◌∙◌, SFits, w32, ℤ}
+use Rattle.std.proofs.Common.{sym, ap, ◌∙◌, SFits, w32, ℤ}
 use Rattle.std.proofs.lemmas.Int.{to_z-of_z}
 use Rattle.kernel_rules.specs.declared.calls.Call.TheVariants as call
 use Rattle.kernel_rules.proofs.StepLaws.{then_on}

@@ -1,4 +1,4 @@
-use Rattle.std.proofs.Common.{ℕ, sym, ◌∙◌, ap, subst, ◌≡◌, List}
+use Rattle.std.proofs.Common.{ℕ, sym, subst, List}
 use Rattle.kernel_rules.specs.Fitting.{IsFitting}
 use Rattle.kernel_rules.specs.declared.objects.Body.TheVariants as is
 use Rattle.plain_state.specs.StateOf.{state_of}
