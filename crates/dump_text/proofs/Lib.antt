@@ -1,3 +1,5 @@
 pub mod WordLemmas
 pub mod Readings
 pub mod CallLemmas
+pub mod ReportLemmas
+pub mod EventLemmas

@@ -87,5 +87,6 @@ pub fn put_event(out: &mut Vec<u8>, event: &Event) -> Result<(), NoMemory>
     out.push(b' ')?;
     put_call(out, &event.call)?;
     out.extend_from_slice(b" => ")?;
-    put_report(out, &event.reply)
+    put_report(out, &event.reply)?;
+    Ok(())
 }

@@ -98,5 +98,6 @@ pub fn put_row(out: &mut Vec<u8>, verb: Verb, words: &[Word]) -> Result<(), Allo
     ensures { OnOk result (out.new.items ≡ out.old.items ++ row_text (row_of verb words.now)) }
 {
     out.extend_from_slice(verb.name().as_bytes())?;
-    put_further(out, words)
+    put_further(out, words)?;
+    Ok(())
 }

@@ -38,7 +38,8 @@ fn put_words(
 {
     out.extend_from_slice(beginning)?;
     put_word(out, first)?;
-    put_further(out, more)
+    put_further(out, more)?;
+    Ok(())
 }
 
 /// Adds the words of the line.
@@ -166,7 +167,8 @@ fn put_tables(out: &mut Vec<u8>, tables: &Tables) -> Result<(), NoMemory>
     put_uses(out, tables.uses.as_slice())?;
     put_maps(out, tables.maps.as_slice())?;
     put_labels(out, tables.labels.as_slice())?;
-    put_orders(out, tables.orders.as_slice())
+    put_orders(out, tables.orders.as_slice())?;
+    Ok(())
 }
 
 /// The bytes of the dump: its one spelling, where its numbers are in the ranges of the lines.
