@@ -37,7 +37,7 @@ pairs_again : (ps : List Pair) → map (pair_of []) (map spoken_pair ps) ≡ ps
 pairs_again [] = refl
 pairs_again (p ∷ ps) = ap (λ (qs : List Pair). p ∷ qs) (pairs_again ps)
 
-label_again : (l : RawLabel) → raw_of (spoken_label l) [] ≡ l
+pub label_again : (l : RawLabel) → raw_of (spoken_label l) [] ≡ l
 label_again l = ap (λ (ps : List Pair). let r : RawLabel = record { default = l.default; pairs = ps } in r) (pairs_again l.pairs)
 
 -- what names nothing is numbered, where no name is known

@@ -23,7 +23,7 @@ use Rattle.text_words.specs.Reference.{reference_text, IsReference}
 use Rattle.text_words.proofs.Split.{cond_false}
 use Rattle.text_words.proofs.OneLemmas.{below, below_at, first_part}
 use Rattle.text_words.proofs.LabelLemmas.{before_last}
-use Rattle.text_words.proofs.LackLemmas.{lacks-append, decimal_lacks_byte, data_lacks, join_lacks, reference_lacks}
+use Rattle.text_words.proofs.LackLemmas.{lacks-append, decimal_lacks, decimal_lacks_byte, data_lacks, join_lacks, reference_lacks}
 use Rattle.text_rows.specs.declared.verbs.Verb.{Verb}
 use Rattle.text_rows.specs.declared.verbs.Verb.TheVariants as verbs
 use Rattle.text_rows.specs.declared.args.Kind.{Kind}
@@ -32,12 +32,14 @@ use Rattle.text_rows.specs.declared.args.Arg.TheVariants as args
 use Rattle.text_rows.specs.Verb.{name_of, kinds_of}
 use Rattle.text_rows.specs.Arg.{arg_text, IsArg}
 use Rattle.text_rows.specs.Row.{AreArgs, Spoken, IsRow, row_text}
+use Rattle.text_rows.proofs.RowLemmas.{row_lacks_end}
 use Rattle.call_text.proofs.PartLemmas.{not_in}
 use Rattle.dump_text.specs.declared.tables.Event.{Event}
 use Rattle.dump_text.specs.Call.{call_text, IsCall, spoken_of}
 use Rattle.dump_text.specs.Report.{report_text}
 use Rattle.dump_text.specs.Event.{event_text, IsEvent}
-use Rattle.dump_text.proofs.ReportLemmas.{number_lacks}
+use Rattle.dump_text.proofs.CallLemmas.{call_is_one}
+use Rattle.dump_text.proofs.ReportLemmas.{number_lacks, report_lacks_end, report_is_one}
 
 -- a byte that stands in no word
 record IsApart (c : ℕ) : Type 0 where
@@ -214,5 +216,23 @@ module _ (text thread more : List ℕ) (e : Event) (is : IsEvent e) (spelled : t
 pub no_call : (rest : List ℕ) (e : Event) → IsEvent e → rest ≡ call_text e.call ++ codes " => " ++ report_text e.reply → ((call reply : List ℕ) → lacks 61 call ≡ true → rest ≡ call ++ codes " => " ++ reply → ⊥) → ⊥
 no_call rest e is at none = none (call_text e.call) (report_text e.reply) (call_lacks_sign e.call is.call) at
 
-pub event_whole : (text thread more number rest call reply t n c r : List ℕ) → text ≡ thread ++ 32 ∷ more → more ≡ number ++ 32 ∷ rest → rest ≡ call ++ codes " => " ++ reply → thread ≡ t → number ≡ n → call ≡ c → reply ≡ r → text ≡ t ++ 32 ∷ (n ++ 32 ∷ (c ++ codes " => " ++ r))
-event_whole text thread more number rest call reply t n c r p q a b d f g = p ∙ ap (λ (x : List ℕ). thread ++ 32 ∷ x) (q ∙ ap (λ (x : List ℕ). number ++ 32 ∷ x) a) ∙ rw (b, d, f, g) refl
+pub event_lacks_end : (e : Event) → IsEvent e → lacks 10 (event_text e) ≡ true
+event_lacks_end e is =
+    lacks-append 10 (decimal e.thread) (32 ∷ (decimal e.number ++ 32 ∷ (call_text e.call ++ codes " => " ++ report_text e.reply))) (number_lacks_end e.thread is.thread)
+    (lacks-append 10 (decimal e.number) (32 ∷ (call_text e.call ++ codes " => " ++ report_text e.reply)) (number_lacks_end e.number is.number)
+    (lacks-append 10 (call_text e.call ++ codes " => ") (report_text e.reply) (lacks-append 10 (call_text e.call) (codes " => ") (row_lacks_end (spoken_of e.call) is.call) refl) (report_lacks_end e.reply is.reply)))
+  where
+    number_lacks_end : (n : ℕ) → n < 2 ^ 64 → lacks 10 (decimal n) ≡ true
+    number_lacks_end n lt = decimal_lacks 10 n (lit< tt) lt
+
+-- no two events have one spelling
+pub event_is_one : (e f : Event) → IsEvent e → IsEvent f → event_text e ≡ event_text f → e ≡ f
+event_is_one e f ie if' same =
+    let t = thread_is (event_text e) (decimal e.thread) (decimal e.number ++ 32 ∷ (call_text e.call ++ codes " => " ++ report_text e.reply)) f if' same refl (number_lacks e.thread ie.thread) in
+    let n = number_is (event_text e) (decimal e.thread) (decimal e.number ++ 32 ∷ (call_text e.call ++ codes " => " ++ report_text e.reply)) f if' same refl (number_lacks e.thread ie.thread) (decimal e.number) (call_text e.call ++ codes " => " ++ report_text e.reply) refl (number_lacks e.number ie.number) in
+    let a = answer_same (event_text e) (decimal e.thread) (decimal e.number ++ 32 ∷ (call_text e.call ++ codes " => " ++ report_text e.reply)) f if' same refl (number_lacks e.thread ie.thread) (decimal e.number) (call_text e.call ++ codes " => " ++ report_text e.reply) refl (number_lacks e.number ie.number) (call_text e.call) (report_text e.reply) refl (call_lacks_sign e.call ie.call) in
+    let p = decimal_injective e.thread f.thread ie.thread if'.thread t.0 in
+    let q = decimal_injective e.number f.number ie.number if'.number n.0 in
+    let r = call_is_one e.call f.call ie.call if'.call a.0 in
+    let s = report_is_one e.reply f.reply ie.reply if'.reply a.1 in
+    (λ i. record { thread = p i; number = q i; call = r i; reply = s i })
