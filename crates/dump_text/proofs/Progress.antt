@@ -86,3 +86,6 @@ pub not_next : (text : List ℕ) (first : ℕ) (l : Line) → IsLine l → text 
 not_next text first l is e none m im some em =
     let same : m ≡ l = dump_grammar.one m l im is (sym em ∙ e) in
     not_some (next first m) (ap (next first) same ∙ none) some
+
+pub taken : (text : List ℕ) (first : ℕ) (d more : DumpLists) (o p : Option ℕ) → o ≡ p → Takes text first d more o → Takes text first d more p
+taken text first d more o p e t = subst (λ (x : Option ℕ). Takes text first d more x) e t
