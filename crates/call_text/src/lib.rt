@@ -22,6 +22,7 @@ pub use asking::Asked;
 pub use errors::ScriptError;
 pub use known_names::{Known, NameList, Named, Value, start_names};
 pub use lines::{Written, read_line};
+pub use parting::parted;
 pub use phases::{Line, Phase, Script};
 pub use replies::{put_reply, write_reply};
 pub use resolving::resolve;

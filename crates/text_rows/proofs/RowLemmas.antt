@@ -8,7 +8,7 @@ use Rattle.text_rows.specs.declared.args.Arg.{Arg}
 use Rattle.text_rows.specs.declared.args.Arg.TheVariants as args
 use Rattle.text_rows.specs.Verb.{name_of, kinds_of}
 use Rattle.text_rows.specs.Arg.{arg_text, IsArg}
-use Rattle.text_rows.specs.Row.{AreArgs, ReadsArgs, Spoken, IsRow, row_text, words_of}
+use Rattle.text_rows.specs.Row.{AreArgs, ReadsArgs, Spoken, IsRow, row_text, words_of, arguments_text, ReadsArguments}
 use Rattle.std.specs.Global.{Vec}
 use Rattle.std.specs.List.{slice_split, join_with_byte, flat_map}
 use Rattle.std.proofs.lemmas.List.{take_more, get_or-map, map_push, length-map, append-nil}
@@ -280,7 +280,7 @@ read_some ks words r v e h = subst (λ (x : Option (Vec Arg)). ReadsArgs ks word
 pub row_lacks_end : (v : Spoken) → IsRow v → lacks 10 (row_text v) ≡ true
 row_lacks_end v is = join_lacks 10 32 (name_of v.verb) (map arg_text v.args) (λ e. cc) (name_lacks_end v.verb, args_lack 10 (kinds_of v.verb) v.args end_parting is)
 
-arg_is_one : (k : Kind) (a b : Arg) → IsArg k a → IsArg k b → arg_text a ≡ arg_text b → a ≡ b
+pub arg_is_one : (k : Kind) (a b : Arg) → IsArg k a → IsArg k b → arg_text a ≡ arg_text b → a ≡ b
 arg_is_one k (args.Object m) (args.Object n) ia ib e = ap args.Object (reference_is_one m n ia.fits ib.fits e)
 arg_is_one k (args.Number m) (args.Number n) ia ib e = let p : m < 2 ^ 32 = ia.fits in let q : n < 2 ^ 32 = ib.fits in ap args.Number (decimal_injective m n (omega arith) (omega arith) e)
 arg_is_one k (args.Wide m) (args.Wide n) ia ib e = ap args.Wide (decimal_injective m n ia.fits ib.fits e)
@@ -291,7 +291,7 @@ arg_is_one k (args.Types m) (args.Types n) ia ib e = ap args.Types (types_are_on
 arg_is_one k (args.Rights m) (args.Rights n) ia ib e = ap args.Rights (rights_are_one m n ia.fits ib.fits e)
 arg_is_one k _ _ ia ib e = absurd (let p = ia.kind_is in let q = ib.kind_is in cc)
 
-args_are_one : (ks : List Kind) (xs ys : List Arg) → AreArgs ks xs → AreArgs ks ys → map arg_text xs ≡ map arg_text ys → xs ≡ ys
+pub args_are_one : (ks : List Kind) (xs ys : List Arg) → AreArgs ks xs → AreArgs ks ys → map arg_text xs ≡ map arg_text ys → xs ≡ ys
 args_are_one [] [] [] hx hy e = refl
 args_are_one [] (x ∷ xs) ys hx hy e = absurd hx
 args_are_one [] [] (y ∷ ys) hx hy e = absurd hy
@@ -311,3 +311,27 @@ row_is_one v w iv iw e =
 pub row_text_is : (name : List ℕ) (xs : List Arg) → name ++ flat_map (λ a. 32 ∷ arg_text a) xs ≡ join_with_byte 32 (name ∷ map arg_text xs)
 row_text_is name [] = append-nil name
 row_text_is name (x ∷ xs) = ap (λ (rest : List ℕ). name ++ 32 ∷ rest) (row_text_is (arg_text x) xs)
+
+-- the words of arguments, one by one
+pub arguments_split : (ks : List Kind) (found : List Arg) (text : List ℕ) → 0 < length ks → AreArgs ks found → text ≡ arguments_text found → slice_split (λ b. eqb b 32) text ≡ map arg_text found
+arguments_split [] found text some are e = absurd (omega arith)
+arguments_split (k ∷ ks) [] text some are e = absurd are
+arguments_split (k ∷ ks) (a ∷ more) text some are e =
+    let l = args_lack 32 (k ∷ ks) (a ∷ more) space_parting are in
+    ap (slice_split (λ b. eqb b 32)) e ∙ split_join 32 (arg_text a) (map arg_text more) l
+
+-- no two lists of arguments have one spelling
+pub arguments_are_one : (ks : List Kind) (xs ys : List Arg) → 0 < length ks → AreArgs ks xs → AreArgs ks ys → arguments_text xs ≡ arguments_text ys → xs ≡ ys
+arguments_are_one ks xs ys some ix iy e =
+    args_are_one ks xs ys ix iy (sym (arguments_split ks xs (arguments_text xs) some ix refl) ∙ arguments_split ks ys (arguments_text xs) some iy e)
+
+-- no line's end stands in arguments
+pub arguments_lack_end : (ks : List Kind) (xs : List Arg) → 0 < length ks → AreArgs ks xs → lacks 10 (arguments_text xs) ≡ true
+arguments_lack_end [] xs some is = absurd (omega arith)
+arguments_lack_end (k ∷ ks) [] some is = absurd is
+arguments_lack_end (k ∷ ks) (a ∷ more) some is = join_lacks 10 32 (arg_text a) (map arg_text more) (λ e. cc) (args_lack 10 (k ∷ ks) (a ∷ more) end_parting is)
+
+-- what is read of the words is what is read of the text
+pub arguments_read : (ks : List Kind) (text : List ℕ) (words : List (List ℕ)) (r : Option (Vec Arg)) → 0 < length ks → words ≡ slice_split (λ b. eqb b 32) text → ReadsArgs ks words r → ReadsArguments ks text r
+arguments_read ks text words (Some v) some split h = (h.0, sym (join_with_byte-slice_split 32 text) ∙ ap (join_with_byte 32) (sym split ∙ h.1))
+arguments_read ks text words None some split h = λ found are e. h found are (split ∙ arguments_split ks found text some are e)

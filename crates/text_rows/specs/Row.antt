@@ -36,3 +36,13 @@ row_text r = join_with_byte 32 (words_of r)
 abbrev pub ReadsArgs : List Kind → List (List ℕ) → Option (Vec Arg) → Type 0
 ReadsArgs ks words (Some v) = AreArgs ks v.items × (words ≡ map arg_text v.items)
 ReadsArgs ks words None = (found : List Arg) → AreArgs ks found → words ≡ map arg_text found → ⊥
+
+-- arguments, parted by single spaces
+abbrev pub arguments_text : List Arg → List ℕ
+arguments_text xs = join_with_byte 32 (map arg_text xs)
+
+-- what is read of a text of arguments
+abbrev pub ReadsArguments : List Kind → List ℕ → Option (Vec Arg) → Type 0
+ReadsArguments ks text (Some v) = AreArgs ks v.items × (text ≡ arguments_text v.items)
+ReadsArguments ks text None =
+    (found : List Arg) → AreArgs ks found → text ≡ arguments_text found → ⊥

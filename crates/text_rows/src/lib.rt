@@ -10,7 +10,7 @@ mod verbs;
 mod writing;
 
 pub use args::{Arg, Kind};
-pub use rows::{Row, read_row};
+pub use rows::{Row, read_arguments, read_row};
 pub use verbs::Verb;
 pub use writing::put_row;
 

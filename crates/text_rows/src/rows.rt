@@ -1,8 +1,8 @@
 //! A call as a row of words.
-ghost use Rattle.std.specs.Prelude.{◌≡◌, ◌==◌, IfOk, map};
+ghost use Rattle.std.specs.Prelude.{◌≡◌, ◌==◌, ◌<◌, IfOk, map, length};
 ghost use Rattle.std.specs.List.{slice_split};
 ghost use Rattle.text_words.specs.Reading.{Reads};
-ghost use Rattle.text_rows.specs.Row.{row_text, IsRow, ReadsArgs};
+ghost use Rattle.text_rows.specs.Row.{row_text, IsRow, ReadsArgs, ReadsArguments};
 
 use crate::args::{Arg, Kind, read_arg};
 use crate::verbs::{Verb, read_verb};
@@ -66,6 +66,20 @@ fn split(alloc: Global, line: &[u8]) -> Result<Vec<&[u8]>, AllocError>
     ensures { IfOk result (λ words. map (λ w. w.now) words.items ≡ slice_split (λ b. b == 32) line.now) }
 {
     line.split(|b| *b == b' ').collect(alloc)
+}
+
+/// The arguments of these kinds, of which there is at least one, that the text spells, parted by single spaces.
+pub fn read_arguments(
+    alloc: Global,
+    kinds: &[Kind],
+    text: &[u8],
+) -> Result<Option<Vec<Arg>>, AllocError>
+    requires { 0 < length kinds.now }
+    ensures { IfOk result (λ found. ReadsArguments kinds.now text.now found) }
+{
+    let words = split(alloc, text)?;
+    let args = read_args(alloc, kinds, words.as_slice())?;
+    Ok(args)
 }
 
 /// The call that the line spells.

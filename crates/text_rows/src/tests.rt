@@ -92,3 +92,15 @@ fn other_lines_are_none(rt: HostRuntime) -> Result<(), Fail> {
     }
     Ok(())
 }
+
+#[test]
+fn arguments_are_read_alone(rt: HostRuntime) -> Result<(), Fail> {
+    let kinds = [Kind::Wide, Kind::Rights];
+    let args = read_arguments(rt.alloc(), &kinds, b"7 rw")?.expect(&rt, "arguments");
+    assert_eq!(rt; args.len(), 2);
+    for text in ["", "7", "7 ", "7  rw", "07 rw", "7 rw rw", " 7 rw"] {
+        let read = read_arguments(rt.alloc(), &kinds, text.as_bytes())?;
+        assert!(rt; read.is_none(), "{text}");
+    }
+    Ok(())
+}

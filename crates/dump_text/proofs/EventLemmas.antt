@@ -1,0 +1,238 @@
+-- Events: what parts a call from its reply stands in no call.
+use Rattle.std.proofs.Common.{lit<, ◌≡◌, ℕ, ◌+◌, ◌^◌, ◌<◌, Bool, true, false, cond, eqb, List, [], ◌∷◌, ◌++◌, map, refl, ap, ap₂, ◌∙◌, sym, subst, arith, append_assoc, decimal, ℤ, pos, negsuc}
+use Rattle.std.specs.Prelude.{codes}
+use Rattle.std.specs.List.{AllByRecursion, join_with_byte}
+use Rattle.std.proofs.lemmas.Bool.{ne_eqb}
+use Rattle.std.proofs.lemmas.Fmt.{decimal_injective}
+use Rattle.base.specs.declared.levels.Level.{Level}
+use Rattle.base.specs.declared.levels.Level.TheVariants.{Star, L0, L1, L2, L3}
+use Rattle.base.specs.declared.sets.TypeSet.{TypeSet}
+use Rattle.base.specs.declared.sets.Rights.{Rights}
+use Rattle.kernel_rules.specs.declared.calls.Call.{Call}
+use Rattle.text_words.specs.Lacks.{lacks, AllLack}
+use Rattle.text_words.specs.Label.{LabelValue, label_text, IsLabel, pair_text, IsPair}
+use Rattle.text_words.specs.LevelWord.{level_text}
+use Rattle.text_words.specs.RightsWord.{rights_text, AreRights}
+use Rattle.text_words.specs.SignedWord.{signed_text, IsSigned}
+use Rattle.text_words.specs.Name.{is_name_byte}
+use Rattle.text_words.specs.DataWord.{data_text, IsData}
+use Rattle.text_words.specs.TypeWord.{types_text, AreKinds}
+use Rattle.text_words.specs.declared.references.Reference.{Reference}
+use Rattle.text_words.specs.declared.spoken_labels.SpokenPair.{SpokenPair}
+use Rattle.text_words.specs.Reference.{reference_text, IsReference}
+use Rattle.text_words.proofs.Split.{cond_false}
+use Rattle.text_words.proofs.OneLemmas.{below, below_at, first_part}
+use Rattle.text_words.proofs.LabelLemmas.{before_last}
+use Rattle.text_words.proofs.LackLemmas.{lacks-append, decimal_lacks, decimal_lacks_byte, data_lacks, join_lacks, reference_lacks}
+use Rattle.text_rows.specs.declared.verbs.Verb.{Verb}
+use Rattle.text_rows.specs.declared.verbs.Verb.TheVariants as verbs
+use Rattle.text_rows.specs.declared.args.Kind.{Kind}
+use Rattle.text_rows.specs.declared.args.Arg.{Arg}
+use Rattle.text_rows.specs.declared.args.Arg.TheVariants as args
+use Rattle.text_rows.specs.Verb.{name_of, kinds_of}
+use Rattle.text_rows.specs.Arg.{arg_text, IsArg}
+use Rattle.text_rows.specs.Row.{AreArgs, Spoken, IsRow, row_text}
+use Rattle.text_rows.proofs.RowLemmas.{row_lacks_end}
+use Rattle.call_text.proofs.PartLemmas.{not_in}
+use Rattle.dump_text.specs.declared.tables.Event.{Event}
+use Rattle.dump_text.specs.Call.{call_text, IsCall, spoken_of}
+use Rattle.dump_text.specs.Report.{report_text}
+use Rattle.dump_text.specs.Event.{event_text, IsEvent}
+use Rattle.dump_text.proofs.CallLemmas.{call_is_one}
+use Rattle.dump_text.proofs.ReportLemmas.{number_lacks, report_lacks_end, report_is_one}
+
+-- a byte that stands in no word
+record IsApart (c : ℕ) : Type 0 where
+  away : (d : ℕ) → d < 10 → 48 + d ≡ c → ⊥
+  hash : 35 ≡ c → ⊥
+  comma : 44 ≡ c → ⊥
+  dash : 45 ≡ c → ⊥
+  colon : 58 ≡ c → ⊥
+  opening : 123 ≡ c → ⊥
+  closing : 125 ≡ c → ⊥
+  names : is_name_byte c ≡ false
+  bytes : (d : List ℕ) → IsData d → lacks c (data_text d) ≡ true
+  levels : (l : Level) → lacks c (level_text l) ≡ true
+  types : (s : TypeSet) → AreKinds s → lacks c (types_text s) ≡ true
+  rights : (r : Rights) → AreRights r → lacks c (rights_text r) ≡ true
+
+reference_lacks_it : (c : ℕ) → IsApart c → (r : Reference) → IsReference r → lacks c (reference_text r) ≡ true
+reference_lacks_it c apart r is = reference_lacks c r apart.away apart.hash apart.names is
+
+signed_lacks_it : (c : ℕ) → IsApart c → (z : ℤ) → IsSigned z → lacks c (signed_text z) ≡ true
+signed_lacks_it c apart (pos n) is = let small : n < 2 ^ 31 = is.sfits in decimal_lacks_byte c n apart.away (omega arith)
+signed_lacks_it c apart (negsuc n) is = let small : n < 2 ^ 31 = is.sfits in rw (ne_eqb 45 c apart.dash) (decimal_lacks_byte c (n + 1) apart.away (omega arith))
+
+pair_lacks_it : (c : ℕ) → IsApart c → (p : SpokenPair) → IsPair p → lacks c (pair_text p) ≡ true
+pair_lacks_it c apart p is = lacks-append c (reference_text p.category) (58 ∷ level_text p.level) (reference_lacks_it c apart p.category is) (rw (ne_eqb 58 c apart.colon) (apart.levels p.level))
+
+parts_lack_it : (c : ℕ) → IsApart c → (ps : List SpokenPair) (l : Level) → AllByRecursion IsPair ps → AllLack c (map pair_text ps ++ level_text l ∷ [])
+parts_lack_it c apart [] l h = (apart.levels l, tt)
+parts_lack_it c apart (p ∷ ps) l h = (pair_lacks_it c apart p h.0, parts_lack_it c apart ps l h.1)
+
+joined_lacks_it : (c : ℕ) → IsApart c → (ps : List SpokenPair) (l : Level) → AllByRecursion IsPair ps → lacks c (join_with_byte 44 (map pair_text ps ++ level_text l ∷ [])) ≡ true
+joined_lacks_it c apart [] l h = apart.levels l
+joined_lacks_it c apart (p ∷ ps) l h = join_lacks c 44 (pair_text p) (map pair_text ps ++ level_text l ∷ []) apart.comma (parts_lack_it c apart (p ∷ ps) l h)
+
+label_lacks_it : (c : ℕ) → IsApart c → (l : LabelValue) → IsLabel l → lacks c (label_text l) ≡ true
+label_lacks_it c apart l is =
+    rw (ne_eqb 123 c apart.opening) (lacks-append c (join_with_byte 44 (map pair_text l.pairs ++ level_text l.default ∷ [])) (125 ∷ []) (joined_lacks_it c apart l.pairs l.default is.pairs) (rw (ne_eqb 125 c apart.closing) refl))
+
+arg_lacks_it : (c : ℕ) → IsApart c → (k : Kind) (a : Arg) → IsArg k a → lacks c (arg_text a) ≡ true
+arg_lacks_it c apart k (args.Object r) is = reference_lacks_it c apart r is.fits
+arg_lacks_it c apart k (args.Number n) is = let small : n < 2 ^ 32 = is.fits in decimal_lacks_byte c n apart.away (omega arith)
+arg_lacks_it c apart k (args.Wide n) is = decimal_lacks_byte c n apart.away is.fits
+arg_lacks_it c apart k (args.Signed z) is = signed_lacks_it c apart z is.fits
+arg_lacks_it c apart k (args.Label l) is = label_lacks_it c apart l is.fits
+arg_lacks_it c apart k (args.Data d) is = apart.bytes d is.fits
+arg_lacks_it c apart k (args.Types s) is = apart.types s is.fits
+arg_lacks_it c apart k (args.Rights r) is = apart.rights r is.fits
+
+args_lack_it : (c : ℕ) → IsApart c → (ks : List Kind) (xs : List Arg) → AreArgs ks xs → AllLack c (map arg_text xs)
+args_lack_it c apart [] [] h = tt
+args_lack_it c apart [] (a ∷ xs) h = absurd h
+args_lack_it c apart (k ∷ ks) [] h = absurd h
+args_lack_it c apart (k ∷ ks) (a ∷ xs) h = (arg_lacks_it c apart k a h.0, args_lack_it c apart ks xs h.1)
+
+row_lacks_it : (c : ℕ) → IsApart c → (32 ≡ c → ⊥) → (r : Spoken) → IsRow r → lacks c (name_of r.verb) ≡ true → lacks c (row_text r) ≡ true
+row_lacks_it c apart space r is name = join_lacks c 32 (name_of r.verb) (map arg_text r.args) space (name, args_lack_it c apart (kinds_of r.verb) r.args is)
+
+-- an equals sign
+levels_lack_sign : (l : Level) → lacks 61 (level_text l) ≡ true
+levels_lack_sign Star = refl
+levels_lack_sign L0 = refl
+levels_lack_sign L1 = refl
+levels_lack_sign L2 = refl
+levels_lack_sign L3 = refl
+
+types_lack_sign : (s : TypeSet) → AreKinds s → lacks 61 (types_text s) ≡ true
+unfolding below
+types_lack_sign s is = below_at 64 (λ k. lacks 61 (types_text (record { 0 = k }))) s.0 refl is
+
+rights_lack_sign : (r : Rights) → AreRights r → lacks 61 (rights_text r) ≡ true
+unfolding below
+rights_lack_sign r is = below_at 4 (λ k. lacks 61 (rights_text (record { 0 = k }))) r.0 refl is
+
+sign_apart : IsApart 61
+sign_apart = record {
+  away = λ d lt e. omega arith;
+  hash = λ e. omega arith;
+  comma = λ e. omega arith;
+  dash = λ e. omega arith;
+  colon = λ e. omega arith;
+  opening = λ e. omega arith;
+  closing = λ e. omega arith;
+  names = refl;
+  bytes = λ d is. data_lacks 61 d refl is;
+  levels = levels_lack_sign;
+  types = types_lack_sign;
+  rights = rights_lack_sign;
+}
+
+name_lacks_sign : (v : Verb) → lacks 61 (name_of v) ≡ true
+name_lacks_sign verbs.CatCreate = refl
+name_lacks_sign verbs.SelfSetLabel = refl
+name_lacks_sign verbs.SelfSetClearance = refl
+name_lacks_sign verbs.SelfSetAs = refl
+name_lacks_sign verbs.ContainerCreate = refl
+name_lacks_sign verbs.SegmentCreate = refl
+name_lacks_sign verbs.SegmentCopy = refl
+name_lacks_sign verbs.AsCreate = refl
+name_lacks_sign verbs.ThreadCreate = refl
+name_lacks_sign verbs.GateCreate = refl
+name_lacks_sign verbs.Link = refl
+name_lacks_sign verbs.Unref = refl
+name_lacks_sign verbs.QuotaMove = refl
+name_lacks_sign verbs.SetFixed = refl
+name_lacks_sign verbs.SetImmutable = refl
+name_lacks_sign verbs.MetaSet = refl
+name_lacks_sign verbs.SegmentResize = refl
+name_lacks_sign verbs.SegmentWrite = refl
+name_lacks_sign verbs.AsMap = refl
+name_lacks_sign verbs.AsUnmap = refl
+name_lacks_sign verbs.Store = refl
+name_lacks_sign verbs.GateEnter = refl
+name_lacks_sign verbs.DevSend = refl
+name_lacks_sign verbs.DevRecv = refl
+name_lacks_sign verbs.SelfGet = refl
+name_lacks_sign verbs.ObjLabel = refl
+name_lacks_sign verbs.ObjQuota = refl
+name_lacks_sign verbs.ContainerList = refl
+name_lacks_sign verbs.ContainerParent = refl
+name_lacks_sign verbs.SegmentLen = refl
+name_lacks_sign verbs.SegmentRead = refl
+name_lacks_sign verbs.MetaGet = refl
+name_lacks_sign verbs.AsGet = refl
+name_lacks_sign verbs.Load = refl
+
+call_lacks_sign : (c : Call) → IsCall c → lacks 61 (call_text c) ≡ true
+call_lacks_sign c is = row_lacks_it 61 sign_apart (λ e. omega arith) (spoken_of c) is (name_lacks_sign (spoken_of c).verb)
+
+-- where the sign stands
+answer_shape : (call reply : List ℕ) → call ++ codes " => " ++ reply ≡ (call ++ 32 ∷ []) ++ 61 ∷ 62 ∷ 32 ∷ reply
+answer_shape call reply = append_assoc call (codes " => ") reply ∙ sym (append_assoc call (32 ∷ []) (61 ∷ 62 ∷ 32 ∷ reply))
+
+spaced_lacks : (call : List ℕ) → lacks 61 call ≡ true → lacks 61 (call ++ 32 ∷ []) ≡ true
+spaced_lacks call l = lacks-append 61 call (32 ∷ []) l refl
+
+pub lacks_front : (c : ℕ) (xs ys : List ℕ) → lacks c (xs ++ ys) ≡ true → lacks c xs ≡ true
+lacks_front c [] ys h = refl
+lacks_front c (x ∷ xs) ys h = let p = cond_false (eqb x c) (lacks c (xs ++ ys)) h in rw p.0 (lacks_front c xs ys p.1)
+
+pub no_answer : (text call reply : List ℕ) → lacks 61 text ≡ true → text ≡ call ++ codes " => " ++ reply → ⊥
+no_answer text call reply l e = not_in 61 (call ++ 32 ∷ []) (62 ∷ 32 ∷ reply) (subst (λ (x : List ℕ). lacks 61 x ≡ true) (e ∙ answer_shape call reply) l)
+
+pub answer_first : (text before behind call reply : List ℕ) → text ≡ before ++ 61 ∷ behind → lacks 61 before ≡ true → lacks 61 call ≡ true → text ≡ call ++ codes " => " ++ reply → (before ≡ call ++ 32 ∷ []) × (behind ≡ 62 ∷ 32 ∷ reply)
+answer_first text before behind call reply parts lb lc e = first_part 61 before (call ++ 32 ∷ []) behind (62 ∷ 32 ∷ reply) lb (spaced_lacks call lc) (sym parts ∙ e ∙ answer_shape call reply)
+
+pub answer_is : (text before behind call reply : List ℕ) → text ≡ before ++ 61 ∷ behind → before ≡ call ++ 32 ∷ [] → behind ≡ codes "> " ++ reply → text ≡ call ++ codes " => " ++ reply
+answer_is text before behind call reply parts a b = parts ∙ ap₂ (λ (x y : List ℕ). x ++ 61 ∷ y) a b ∙ sym (answer_shape call reply)
+
+-- the parts of an event, one by one
+module _ (text thread more : List ℕ) (e : Event) (is : IsEvent e) (spelled : text ≡ event_text e) where
+  pub no_thread : lacks 32 text ≡ true → ⊥
+  no_thread l = not_in 32 (decimal e.thread) (decimal e.number ++ 32 ∷ (call_text e.call ++ codes " => " ++ report_text e.reply)) (subst (λ (x : List ℕ). lacks 32 x ≡ true) spelled l)
+
+  module _ (parts : text ≡ thread ++ 32 ∷ more) (lack : lacks 32 thread ≡ true) where
+    pub thread_is : (thread ≡ decimal e.thread) × (more ≡ decimal e.number ++ 32 ∷ (call_text e.call ++ codes " => " ++ report_text e.reply))
+    thread_is = first_part 32 thread (decimal e.thread) more (decimal e.number ++ 32 ∷ (call_text e.call ++ codes " => " ++ report_text e.reply)) lack (number_lacks e.thread is.thread) (sym parts ∙ spelled)
+
+    pub no_number : lacks 32 more ≡ true → ⊥
+    no_number l = not_in 32 (decimal e.number) (call_text e.call ++ codes " => " ++ report_text e.reply) (subst (λ (x : List ℕ). lacks 32 x ≡ true) thread_is.1 l)
+
+    module _ (number rest : List ℕ) (parts' : more ≡ number ++ 32 ∷ rest) (lack' : lacks 32 number ≡ true) where
+      pub number_is : (number ≡ decimal e.number) × (rest ≡ call_text e.call ++ codes " => " ++ report_text e.reply)
+      number_is = first_part 32 number (decimal e.number) rest (call_text e.call ++ codes " => " ++ report_text e.reply) lack' (number_lacks e.number is.number) (sym parts' ∙ thread_is.1)
+
+      module _ (call reply : List ℕ) (parts'' : rest ≡ call ++ codes " => " ++ reply) (lack'' : lacks 61 call ≡ true) where
+        pub answer_same : (call ≡ call_text e.call) × (reply ≡ report_text e.reply)
+        answer_same =
+            let f = answer_first rest (call_text e.call ++ 32 ∷ []) (62 ∷ 32 ∷ report_text e.reply) call reply (number_is.1 ∙ answer_shape (call_text e.call) (report_text e.reply)) (spaced_lacks (call_text e.call) (call_lacks_sign e.call is.call)) lack'' parts'' in
+            (cut call (call_text e.call) (sym f.0), cc)
+          where
+            cut : (xs ys : List ℕ) → xs ++ 32 ∷ [] ≡ ys ++ 32 ∷ [] → xs ≡ ys
+            cut xs ys h = before_last xs ys 32 h
+
+pub no_call : (rest : List ℕ) (e : Event) → IsEvent e → rest ≡ call_text e.call ++ codes " => " ++ report_text e.reply → ((call reply : List ℕ) → lacks 61 call ≡ true → rest ≡ call ++ codes " => " ++ reply → ⊥) → ⊥
+no_call rest e is at none = none (call_text e.call) (report_text e.reply) (call_lacks_sign e.call is.call) at
+
+pub event_lacks_end : (e : Event) → IsEvent e → lacks 10 (event_text e) ≡ true
+event_lacks_end e is =
+    lacks-append 10 (decimal e.thread) (32 ∷ (decimal e.number ++ 32 ∷ (call_text e.call ++ codes " => " ++ report_text e.reply))) (number_lacks_end e.thread is.thread)
+    (lacks-append 10 (decimal e.number) (32 ∷ (call_text e.call ++ codes " => " ++ report_text e.reply)) (number_lacks_end e.number is.number)
+    (lacks-append 10 (call_text e.call ++ codes " => ") (report_text e.reply) (lacks-append 10 (call_text e.call) (codes " => ") (row_lacks_end (spoken_of e.call) is.call) refl) (report_lacks_end e.reply is.reply)))
+  where
+    number_lacks_end : (n : ℕ) → n < 2 ^ 64 → lacks 10 (decimal n) ≡ true
+    number_lacks_end n lt = decimal_lacks 10 n (lit< tt) lt
+
+-- no two events have one spelling
+pub event_is_one : (e f : Event) → IsEvent e → IsEvent f → event_text e ≡ event_text f → e ≡ f
+event_is_one e f ie if' same =
+    let t = thread_is (event_text e) (decimal e.thread) (decimal e.number ++ 32 ∷ (call_text e.call ++ codes " => " ++ report_text e.reply)) f if' same refl (number_lacks e.thread ie.thread) in
+    let n = number_is (event_text e) (decimal e.thread) (decimal e.number ++ 32 ∷ (call_text e.call ++ codes " => " ++ report_text e.reply)) f if' same refl (number_lacks e.thread ie.thread) (decimal e.number) (call_text e.call ++ codes " => " ++ report_text e.reply) refl (number_lacks e.number ie.number) in
+    let a = answer_same (event_text e) (decimal e.thread) (decimal e.number ++ 32 ∷ (call_text e.call ++ codes " => " ++ report_text e.reply)) f if' same refl (number_lacks e.thread ie.thread) (decimal e.number) (call_text e.call ++ codes " => " ++ report_text e.reply) refl (number_lacks e.number ie.number) (call_text e.call) (report_text e.reply) refl (call_lacks_sign e.call ie.call) in
+    let p = decimal_injective e.thread f.thread ie.thread if'.thread t.0 in
+    let q = decimal_injective e.number f.number ie.number if'.number n.0 in
+    let r = call_is_one e.call f.call ie.call if'.call a.0 in
+    let s = report_is_one e.reply f.reply ie.reply if'.reply a.1 in
+    (λ i. record { thread = p i; number = q i; call = r i; reply = s i })

@@ -1,0 +1,32 @@
+-- Labels whose categories are numbers.
+use Rattle.std.proofs.Common.{◌≡◌, ℕ, zero, suc, ◌<◌, List, [], ◌∷◌, ◌++◌, length, get_or, map, ap, ◌∙◌, arith, append_assoc}
+use Rattle.std.specs.List.{flat_map, join_with_byte}
+use Rattle.std.proofs.lemmas.List.{append-nil}
+use Rattle.label_lattice.specs.declared.pairings.Pair.{Pair}
+use Rattle.text_words.specs.declared.references.Reference.{Reference}
+use Rattle.text_words.specs.declared.references.Reference.TheVariants as references
+use Rattle.text_words.specs.declared.spoken_labels.SpokenPair.{SpokenPair}
+use Rattle.text_rows.specs.Arg.{arg_text}
+use Rattle.dump_text.specs.declared.words.Word.{Word}
+use Rattle.dump_text.specs.Word.{spoken_pair, arg_of, args_of}
+
+-- no category among them is a name
+pub no_name : (ps : List SpokenPair) (i : ℕ) (p : SpokenPair) (name : List ℕ) (qs : List Pair) → i < length ps → p ≡ get_or ps i p → p.category ≡ references.Name name → ps ≡ map spoken_pair qs → ⊥
+no_name [] i p name qs lt at is e = omega arith
+no_name (x ∷ ps) i p name [] lt at is e = cc
+no_name (x ∷ ps) zero p name (q ∷ qs) lt at is e =
+    let a : x ≡ spoken_pair q = cc in
+    let b : p.category ≡ references.Number q.category.0 = ap (λ (y : SpokenPair). y.category) (at ∙ a) in cc
+no_name (x ∷ ps) (suc i) p name (q ∷ qs) lt at is e = no_name ps i p name qs (omega arith) at is cc
+
+-- as the code writes words after a first text
+pub words_after : (name : List ℕ) (ws : List Word) → name ++ flat_map (λ w. 32 ∷ arg_text (arg_of w)) ws ≡ join_with_byte 32 (name ∷ map arg_text (args_of ws))
+words_after name [] = append-nil name
+words_after name (w ∷ ws) = ap (λ (rest : List ℕ). name ++ 32 ∷ rest) (words_after (arg_text (arg_of w)) ws)
+
+-- a text, and then more
+pub put_two : (out one two a b : List ℕ) → one ≡ out ++ a → two ≡ one ++ b → two ≡ out ++ (a ++ b)
+put_two out one two a b p q = q ∙ ap (λ (xs : List ℕ). xs ++ b) p ∙ append_assoc out a b
+
+pub put_three : (out one two three a b c : List ℕ) → one ≡ out ++ a → two ≡ one ++ b → three ≡ two ++ c → three ≡ out ++ (a ++ (b ++ c))
+put_three out one two three a b c p q r = put_two out one three a (b ++ c) p (put_two one two three b c q r)

@@ -1,0 +1,8 @@
+use Rattle.std.proofs.Common.{◌≡◌, ◌++◌, ◌∷◌, take}
+use Rattle.std.specs.List.{flat_map}
+use Rattle.text_rows.specs.Arg.{arg_text}
+use Rattle.dump_text.specs.Word.{arg_of}
+use Rattle.dump_text.proofs.words.put_further.Given as goal
+
+abbrev pub invariant-loop-word : goal.invariant-loop-word
+invariant-loop-word l = l.out.items ≡ l.fn.out.items ++ flat_map (λ w. 32 ∷ arg_text (arg_of w)) (take l.word-index l.words)

@@ -1,0 +1,10 @@
+pub mod Word
+pub mod Making
+pub mod Call
+pub mod Report
+pub mod Event
+pub mod Lists
+pub mod Line
+pub mod Dump
+pub mod Reading
+pub mod Refused

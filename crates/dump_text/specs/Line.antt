@@ -1,0 +1,116 @@
+-- The lines of dumps.
+use Rattle.std.specs.Prelude.{◌≡◌, ℕ, ◌≤◌, List, [], ◌∷◌, ◌++◌, codes, true}
+use Rattle.base.specs.declared.levels.Level.{Level}
+use Rattle.base.specs.declared.levels.Level.TheVariants.{Star, L0, L1, L2, L3}
+use Rattle.base.specs.declared.ranges.Limits.{Limits}
+use Rattle.base.specs.Limits.{in_range}
+use Rattle.text_rows.specs.declared.args.Kind.{Kind}
+use Rattle.text_rows.specs.declared.args.Kind.TheVariants as kinds
+use Rattle.text_rows.specs.Row.{AreArgs}
+use Rattle.dump_text.specs.declared.words.Word.{Word}
+use Rattle.dump_text.specs.declared.words.Word.TheVariants as words
+use Rattle.dump_text.specs.declared.tables.Use.{Use}
+use Rattle.dump_text.specs.declared.tables.Shown.{Shown}
+use Rattle.dump_text.specs.declared.tables.Stored.{Stored}
+use Rattle.dump_text.specs.declared.tables.Order.{Order}
+use Rattle.dump_text.specs.declared.lines.Line.{Line}
+use Rattle.dump_text.specs.declared.lines.Line.TheVariants as lines
+use Rattle.dump_text.specs.Word.{args_of, words_text}
+use Rattle.dump_text.specs.Event.{event_text, IsEvent}
+
+-- a level of a label that no star is in, as a digit
+abbrev pub digit_of : Level → ℕ
+digit_of L0 = 0
+digit_of L1 = 1
+digit_of L2 = 2
+digit_of L3 = 3
+digit_of Star = 4
+
+-- PAGES DEVICE NEXT_ID NEXT_CATEGORY
+abbrev pub limits_words : Limits → List Word
+limits_words l =
+    words.Number l.pages ∷ words.Number (digit_of l.device) ∷ words.Wide l.next_id
+    ∷ words.Wide l.next_category ∷ []
+
+-- ID
+abbrev pub live_words : ℕ → List Word
+live_words id = words.Wide id ∷ []
+
+-- ID PAGES
+abbrev pub use_words : Use → List Word
+use_words u = words.Wide u.id ∷ words.Number u.pages ∷ []
+
+-- THREAD SLOT SEGMENT RIGHTS
+abbrev pub map_words : Shown → List Word
+map_words s =
+    words.Wide s.thread ∷ words.Number s.slot ∷ words.Wide s.segment ∷ words.Rights s.rights ∷ []
+
+-- I LABEL
+abbrev pub label_words : Stored → List Word
+label_words s = words.Number s.index ∷ words.Label s.label ∷ []
+
+-- I J BITS
+abbrev pub order_words : Order → List Word
+order_words o = words.Number o.first ∷ words.Number o.second ∷ words.Number o.bits ∷ []
+
+abbrev pub limits_kinds : List Kind
+limits_kinds = kinds.Number ∷ kinds.Number ∷ kinds.Wide ∷ kinds.Wide ∷ []
+
+abbrev pub live_kinds : List Kind
+live_kinds = kinds.Wide ∷ []
+
+abbrev pub use_kinds : List Kind
+use_kinds = kinds.Wide ∷ kinds.Number ∷ []
+
+abbrev pub map_kinds : List Kind
+map_kinds = kinds.Wide ∷ kinds.Number ∷ kinds.Wide ∷ kinds.Rights ∷ []
+
+abbrev pub label_kinds : List Kind
+label_kinds = kinds.Number ∷ kinds.Label ∷ []
+
+abbrev pub order_kinds : List Kind
+order_kinds = kinds.Number ∷ kinds.Number ∷ kinds.Number ∷ []
+
+-- words of these kinds, each in its range
+abbrev pub AreWords : List Kind → List Word → Type 0
+AreWords ks ws = AreArgs ks (args_of ws)
+
+-- limits that a machine boots with
+abbrev pub IsBootable : Limits → Type 0
+IsBootable l = in_range l ≡ true
+
+-- three bits
+abbrev pub HasThreeBits : Order → Type 0
+HasThreeBits o = o.bits ≤ 7
+
+-- whatever it is
+abbrev pub Anything : {V : Type 0} → V → Type 0
+Anything v = Unit {0}
+
+-- a value whose words are of these kinds, each in its range, and that is allowed
+abbrev pub AreAllowed : {V : Type 0} → List Kind → (V → List Word) → (V → Type 0) → V → Type 0
+AreAllowed ks words Allows v = AreWords ks (words v) × Allows v
+
+-- a line's one spelling
+abbrev pub line_text : Line → List ℕ
+line_text lines.Version = codes "histar-dump 1"
+line_text (lines.Limits l) = codes "limits " ++ words_text (limits_words l)
+line_text (lines.Event e) = codes "event " ++ event_text e
+line_text (lines.Live id) = codes "live " ++ words_text (live_words id)
+line_text (lines.Use u) = codes "use " ++ words_text (use_words u)
+line_text (lines.Map s) = codes "map " ++ words_text (map_words s)
+line_text (lines.Label s) = codes "label " ++ words_text (label_words s)
+line_text (lines.Order o) = codes "order " ++ words_text (order_words o)
+line_text lines.End = codes "end"
+
+-- each word is in its range
+abbrev pub IsLine : Line → Type 0
+IsLine lines.Version = Unit {0}
+IsLine (lines.Limits l) = AreAllowed limits_kinds limits_words IsBootable l
+IsLine (lines.Event e) = IsEvent e
+IsLine (lines.Live id) = AreAllowed live_kinds live_words Anything id
+IsLine (lines.Use u) = AreAllowed use_kinds use_words Anything u
+IsLine (lines.Map s) = AreAllowed map_kinds map_words Anything s
+IsLine (lines.Label s) = AreAllowed label_kinds label_words Anything s
+IsLine (lines.Order o) = AreAllowed order_kinds order_words HasThreeBits o
+IsLine lines.End = Unit {0}

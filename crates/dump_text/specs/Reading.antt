@@ -1,0 +1,48 @@
+-- What is read of a dump.
+use Rattle.std.specs.Prelude.{◌≡◌, ℕ, List, [], ◌∷◌, ◌++◌, Option, Some, None, IsSome, Result, Ok, Err}
+use Rattle.base.specs.declared.levels.Level.TheVariants.{L1}
+use Rattle.dump_text.specs.declared.lines.Line.{Line}
+use Rattle.dump_text.specs.declared.lines.Line.TheVariants as lines
+use Rattle.dump_text.specs.Lists.{DumpLists}
+use Rattle.dump_text.specs.declared.tables.Dump.{Dump}
+use Rattle.dump_text.specs.declared.errors.DumpError.{DumpError}
+use Rattle.dump_text.specs.declared.errors.DumpError.TheVariants as errors
+use Rattle.dump_text.specs.Line.{line_text, IsLine}
+use Rattle.dump_text.specs.Dump.{IsDump, DumpFaultsAt, next}
+
+-- lines of no kind, and limits that nothing told yet
+abbrev pub nothing : DumpLists
+nothing = record {
+  limits = record { pages = 8; device = L1; next_id = 4; next_category = 1 };
+  events = [];
+  tables = record { live = []; uses = []; maps = []; labels = []; orders = [] };
+}
+
+-- with what one more line tells
+abbrev pub added : Line → DumpLists → DumpLists
+added lines.Version d = d
+added (lines.Limits l) d = record d { limits = l }
+added (lines.Event e) d = record d { events = d.events ++ e ∷ [] }
+added (lines.Live id) d =
+    record d { tables = record d.tables { live = d.tables.live ++ id ∷ [] } }
+added (lines.Use u) d = record d { tables = record d.tables { uses = d.tables.uses ++ u ∷ [] } }
+added (lines.Map s) d = record d { tables = record d.tables { maps = d.tables.maps ++ s ∷ [] } }
+added (lines.Label s) d =
+    record d { tables = record d.tables { labels = d.tables.labels ++ s ∷ [] } }
+added (lines.Order o) d =
+    record d { tables = record d.tables { orders = d.tables.orders ++ o ∷ [] } }
+added lines.End d = d
+
+-- The line that the text spells may stand where the kind is the first that may come, and was added. Or no line that may
+-- stand there has this spelling.
+abbrev pub Takes : List ℕ → ℕ → DumpLists → DumpLists → Option ℕ → Type 0
+Takes text first old new (Some later) =
+    (l : Line) × IsLine l × (text ≡ line_text l) × (next first l ≡ Some later) × (new ≡ added l old)
+Takes text first old new None =
+    (l : Line) → IsLine l → IsSome (next first l) → text ≡ line_text l → ⊥
+
+-- The dump that the bytes spell, or the first faulty line. Where memory ran out nothing is told.
+abbrev pub ReadsDump : List ℕ → Result Dump DumpError → Type 0
+ReadsDump bytes (Ok d) = IsDump bytes d
+ReadsDump bytes (Err errors.Memory) = Unit {0}
+ReadsDump bytes (Err (errors.Line n)) = DumpFaultsAt bytes n

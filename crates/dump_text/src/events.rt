@@ -1,0 +1,92 @@
+//! Events.
+ghost use Rattle.std.specs.Prelude.{◌≡◌, ◌++◌, ◌∷◌, [], ℕ, List, true, IfOk, OnOk, IfSome, IfNone, codes};
+ghost use Rattle.text_words.specs.Lacks.{lacks};
+ghost use Rattle.dump_text.specs.Making.{Fills};
+ghost use Rattle.dump_text.specs.Event.{event_text, IsEvent};
+
+use crate::calls::{put_call, read_call};
+use crate::reports::{put_report, read_report};
+use crate::stripping::after;
+use crate::tables::Event;
+use base::{NoMemory, ObjectId};
+use call_text::parted;
+use std::alloc::{AllocError, Global};
+use text_words::{put_number, read_number};
+
+/// What stands before a last space.
+fn before_space(text: &[u8]) -> Option<&[u8]>
+    ensures some { IfSome result (λ r. text.now ≡ r.now ++ 32 ∷ []) }
+    ensures none { IfNone result ((r : List ℕ) → text.now ≡ r ++ 32 ∷ [] → ⊥) }
+{
+    match text {
+        [before @ .., b' '] => Some(before),
+        _ => None,
+    }
+}
+
+/// A call without an equals sign, and after ` => ` its reply.
+fn answered(text: &[u8]) -> Option<(&[u8], &[u8])>
+    ensures parts { IfSome result (λ r. text.now ≡ r.0.now ++ codes " => " ++ r.1.now) }
+    ensures lacks { IfSome result (λ r. lacks 61 r.0.now ≡ true) }
+    ensures none { IfNone result ((call reply : List ℕ) → lacks 61 call ≡ true
+        → text.now ≡ call ++ codes " => " ++ reply → ⊥) }
+{
+    let Some((before, behind)) = parted(text, b'=') else {
+        return None;
+    };
+    let Some(call) = before_space(before) else {
+        return None;
+    };
+    let Some(reply) = after(behind, b"> ") else {
+        return None;
+    };
+    Some((call, reply))
+}
+
+/// Fills in the event that the text spells, and tells whether it spells one.
+pub fn read_event(alloc: Global, text: &[u8], event: &mut Event) -> Result<bool, AllocError>
+    ensures { IfOk result (λ yes. Fills event_text IsEvent text.now event.new yes) }
+{
+    let Some((thread, more)) = parted(text, b' ') else {
+        return Ok(false);
+    };
+    let Some((number, more)) = parted(more, b' ') else {
+        return Ok(false);
+    };
+    let Some((call, reply)) = answered(more) else {
+        return Ok(false);
+    };
+    let Some(thread) = read_number(thread, u64::MAX) else {
+        return Ok(false);
+    };
+    let Some(number) = read_number(number, u64::MAX) else {
+        return Ok(false);
+    };
+    let Some(reply) = read_report(reply) else {
+        return Ok(false);
+    };
+    let Some(call) = read_call(alloc, call)? else {
+        return Ok(false);
+    };
+    *event = Event {
+        thread: ObjectId::new(thread),
+        number,
+        call,
+        reply,
+    };
+    Ok(true)
+}
+
+/// Adds the spelling of the event.
+pub fn put_event(out: &mut Vec<u8>, event: &Event) -> Result<(), NoMemory>
+    ensures { OnOk result (out.new.items ≡ out.old.items ++ event_text event.now) }
+{
+    put_number(out, event.thread.number())?;
+    out.push(b' ')?;
+    put_number(out, event.number)?;
+    out.push(b' ')?;
+    put_call(out, &event.call)?;
+    out.extend_from_slice(b" => ")?;
+    put_report(out, &event.reply)?;
+    Ok(())
+}

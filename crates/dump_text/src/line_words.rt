@@ -1,0 +1,127 @@
+//! What stands in the lines of the tables.
+ghost use Rattle.std.specs.Prelude.{◌≡◌, IfSome, IfNone};
+ghost use Rattle.base.specs.declared.levels.Level.{Level as LevelValue};
+ghost use Rattle.base.specs.declared.levels.Level.TheVariants.{Star};
+ghost use Rattle.dump_text.specs.Making.{Makes};
+ghost use Rattle.dump_text.specs.Line.{digit_of, limits_words, live_words, use_words, map_words, label_words, order_words};
+ghost use Rattle.dump_text.specs.Line.{IsBootable, HasThreeBits, Anything};
+
+use crate::labels::numbered;
+use crate::tables::{Order, Shown, Stored, Use};
+use base::{Level, Limits, ObjectId};
+use text_rows::Arg;
+
+/// The level with the digit. No digit is that of a star.
+fn level_of(digit: u32) -> Option<Level>
+    ensures some { IfSome result (λ level. digit ≡ digit_of level) }
+    ensures none { IfNone result ((level : LevelValue) → digit ≡ digit_of level → level ≡ Star) }
+{
+    match digit {
+        0 => Some(Level::L0),
+        1 => Some(Level::L1),
+        2 => Some(Level::L2),
+        3 => Some(Level::L3),
+        _ => None,
+    }
+}
+
+/// Limits that a machine boots with.
+pub fn limits_of(args: &[Arg]) -> Option<Limits>
+    ensures { Makes limits_words IsBootable args.now result }
+{
+    let [
+        Arg::Number(pages),
+        Arg::Number(digit),
+        Arg::Wide(next_id),
+        Arg::Wide(next_category),
+    ] = args
+    else {
+        return None;
+    };
+    let Some(device) = level_of(*digit) else {
+        return None;
+    };
+    let limits = Limits {
+        pages: *pages,
+        device,
+        next_id: *next_id,
+        next_category: *next_category,
+    };
+    if !limits.is_in_range() {
+        return None;
+    }
+    Some(limits)
+}
+
+/// A live id.
+pub fn live_of(args: &[Arg]) -> Option<ObjectId>
+    ensures { Makes live_words Anything args.now result }
+{
+    match args {
+        [Arg::Wide(id)] => Some(ObjectId::new(*id)),
+        _ => None,
+    }
+}
+
+/// What an object uses.
+pub fn use_of(args: &[Arg]) -> Option<Use>
+    ensures { Makes use_words Anything args.now result }
+{
+    match args {
+        [Arg::Wide(id), Arg::Number(pages)] => Some(Use {
+            id: ObjectId::new(*id),
+            pages: *pages,
+        }),
+        _ => None,
+    }
+}
+
+/// What a slot shows.
+pub fn shown_of(args: &[Arg]) -> Option<Shown>
+    ensures { Makes map_words Anything args.now result }
+{
+    match args {
+        [
+            Arg::Wide(thread),
+            Arg::Number(slot),
+            Arg::Wide(segment),
+            Arg::Rights(rights),
+        ] => Some(Shown {
+            thread: ObjectId::new(*thread),
+            slot: *slot,
+            segment: ObjectId::new(*segment),
+            rights: *rights,
+        }),
+        _ => None,
+    }
+}
+
+/// A label with its place.
+pub fn stored_of(args: &[Arg]) -> Option<Stored>
+    ensures { Makes label_words Anything args.now result }
+{
+    let [Arg::Number(index), Arg::Label(label)] = args else {
+        return None;
+    };
+    let Some(label) = numbered(label) else {
+        return None;
+    };
+    Some(Stored {
+        index: *index,
+        label,
+    })
+}
+
+/// How two labels compare, by three bits.
+pub fn order_of(args: &[Arg]) -> Option<Order>
+    ensures { Makes order_words HasThreeBits args.now result }
+{
+    match args {
+        [Arg::Number(first), Arg::Number(second), Arg::Number(bits)] if *bits <= 7 => Some(Order {
+            first: *first,
+            second: *second,
+            bits: *bits as u8,
+        }),
+        _ => None,
+    }
+}

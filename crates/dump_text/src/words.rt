@@ -1,0 +1,103 @@
+//! Words that name no object or category but by its number, and their spelling.
+ghost use Rattle.std.specs.Prelude.{◌≡◌, ◌++◌, ◌∷◌, [], codes, OnOk};
+ghost use Rattle.std.specs.List.{flat_map};
+ghost use Rattle.text_words.specs.Label.{pair_text, label_text};
+ghost use Rattle.text_rows.specs.Arg.{arg_text};
+ghost use Rattle.text_rows.specs.Row.{row_text};
+ghost use Rattle.dump_text.specs.Call.{row_of};
+ghost use Rattle.dump_text.specs.Word.{arg_of, spoken_pair, spoken_label};
+
+use base::{Data, ObjectId, Rights, TypeSet};
+use label_lattice::{Pair, RawLabel};
+use std::alloc::AllocError;
+use text_rows::Verb;
+use text_words::{put_data, put_level, put_number, put_rights, put_signed, put_types};
+
+/// A word of a dump.
+#[derive(Clone, Copy)]
+pub enum Word {
+    /// An object, as `#4`.
+    Object(ObjectId),
+    /// A number below 2^32.
+    Number(u32),
+    /// A number below 2^64.
+    Wide(u64),
+    /// A number from -2^31, below 2^31.
+    Signed(i32),
+    Label(RawLabel),
+    Data(Data),
+    Types(TypeSet),
+    Rights(Rights),
+}
+
+/// Adds a category with its level, and a comma.
+fn put_pair(out: &mut Vec<u8>, pair: &Pair) -> Result<(), AllocError>
+    ensures { OnOk result (out.new.items
+        ≡ out.old.items ++ (pair_text (spoken_pair pair.now) ++ 44 ∷ [])) }
+{
+    out.push(b'#')?;
+    put_number(out, pair.category.0)?;
+    out.push(b':')?;
+    put_level(out, pair.level)?;
+    out.push(b',')?;
+    Ok(())
+}
+
+/// Adds the spelling of the label.
+fn put_label(out: &mut Vec<u8>, label: &RawLabel) -> Result<(), AllocError>
+    ensures { OnOk result (out.new.items
+        ≡ out.old.items ++ label_text (spoken_label label.now)) }
+{
+    out.push(b'{')?;
+    for pair in label.pairs.as_slice() {
+        put_pair(out, pair)?;
+    }
+    put_level(out, label.default)?;
+    out.push(b'}')?;
+    Ok(())
+}
+
+/// Adds the spelling of the object.
+fn put_object(out: &mut Vec<u8>, id: ObjectId) -> Result<(), AllocError>
+    ensures { OnOk result (out.new.items ≡ out.old.items ++ arg_text (arg_of (Word.Object id))) }
+{
+    out.push(b'#')?;
+    put_number(out, id.number())
+}
+
+/// Adds the spelling of the word.
+pub fn put_word(out: &mut Vec<u8>, word: &Word) -> Result<(), AllocError>
+    ensures { OnOk result (out.new.items ≡ out.old.items ++ arg_text (arg_of word.now)) }
+{
+    match word {
+        Word::Object(id) => put_object(out, *id),
+        Word::Number(number) => put_number(out, u64::from(*number)),
+        Word::Wide(number) => put_number(out, *number),
+        Word::Signed(number) => put_signed(out, *number),
+        Word::Label(label) => put_label(out, label),
+        Word::Data(bytes) => put_data(out, bytes),
+        Word::Types(set) => put_types(out, *set),
+        Word::Rights(rights) => put_rights(out, *rights),
+    }
+}
+
+/// Adds the words, each after a space.
+pub fn put_further(out: &mut Vec<u8>, words: &[Word]) -> Result<(), AllocError>
+    ensures { OnOk result (out.new.items
+        ≡ out.old.items ++ flat_map (λ w. 32 ∷ arg_text (arg_of w)) words.now) }
+{
+    for word in words {
+        out.push(b' ')?;
+        put_word(out, word)?;
+    }
+    Ok(())
+}
+
+/// Adds a call with its words, parted by single spaces.
+pub fn put_row(out: &mut Vec<u8>, verb: Verb, words: &[Word]) -> Result<(), AllocError>
+    ensures { OnOk result (out.new.items ≡ out.old.items ++ row_text (row_of verb words.now)) }
+{
+    out.extend_from_slice(verb.name().as_bytes())?;
+    put_further(out, words)?;
+    Ok(())
+}
