@@ -179,10 +179,8 @@ fn want_of_memory_changes_nothing(rt: HostRuntime) -> Result<(), Fail> {
         Err(_) => kernel.tables(&mut meter)?,
     };
     assert_eq!(rt; tables.live.len(), 5);
-    assert_eq!(rt;
-        tables.orders.len(),
-        tables.labels.len() * tables.labels.len()
-    );
+    assert_eq!(rt; tables.labels.len(), 5);
+    assert_eq!(rt; tables.orders.len(), 25);
     Ok(())
 }
 
@@ -235,20 +233,19 @@ fn boot_entry(object: ObjectId) -> Entry {
 
 /// A segment 4 and an address space 5, whose slot 2 shows the segment to the boot thread.
 fn mapped(kernel: &mut PlainKernel, meter: &mut Meter) -> Result<(), NoMemory> {
-    let boot = ObjectId::new(2);
     let segment = Call::SegmentCreate {
         container: ObjectId::root(),
         label: plain(),
         quota: 2,
         pages: 1,
     };
-    let _ = kernel.step(boot, &segment, meter)?;
+    made(kernel, &segment, meter)?;
     let space = Call::AsCreate {
         container: ObjectId::root(),
         label: plain(),
         quota: 1,
     };
-    let _ = kernel.step(boot, &space, meter)?;
+    made(kernel, &space, meter)?;
     let map = Call::AsMap {
         space: boot_entry(ObjectId::new(5)),
         slot: 2,
@@ -260,11 +257,11 @@ fn mapped(kernel: &mut PlainKernel, meter: &mut Meter) -> Result<(), NoMemory> {
             rights: Rights::all(),
         },
     };
-    let _ = kernel.step(boot, &map, meter)?;
+    made(kernel, &map, meter)?;
     let set = Call::SelfSetAs {
         space: boot_entry(ObjectId::new(5)),
     };
-    let _ = kernel.step(boot, &set, meter)?;
+    made(kernel, &set, meter)?;
     Ok(())
 }
 
