@@ -10,7 +10,8 @@ pub record Counts : Type 0 where
 abbrev pub uncounted : Counts
 uncounted = record { scans = 0; probes = 0 }
 
--- a count after n more: it stops at the largest number of 64 bits (a number past it, which no meter has, would stay)
+-- a count after n more: it stops at the largest number of 64 bits (a number past it, which no
+-- meter has, would stay)
 abbrev pub counted : ℕ → ℕ → ℕ
 counted n count = max count (min (count + n) (2 ^ 64 - 1))
 

@@ -1,5 +1,7 @@
--- Which ids are live: those that a path of entries leads to from the root. A list of (id, list of ids) says what each id lists.
-use Rattle.std.specs.Prelude.{◌≡◌, ◌↔◌, ℕ, zero, suc, Bool, true, false, IsTrue, ◌&&◌, ◌==◌, List, [], ◌∷◌, length, if◌then◌else◌}
+-- Which ids are live: those that a path of entries leads to from the root. A list of (id, list of
+-- ids) says what each id lists.
+use Rattle.std.specs.Prelude.{◌≡◌, ◌↔◌, ℕ, zero, suc, Bool, true, false, IsTrue, ◌&&◌, ◌==◌, List}
+use Rattle.std.specs.Prelude.{[], ◌∷◌, length, if◌then◌else◌}
 use Rattle.std.specs.List.{list_any, list_all, flat_map}
 
 -- whether an id stands in a list

@@ -1,7 +1,19 @@
 -- The table of refusals.
 use Rattle.std.specs.Prelude.{ℕ, List, codes, nat_le, if◌then◌else◌}
 use Rattle.base.specs.declared.refusals.Refusal.{Refusal}
-use Rattle.base.specs.declared.refusals.Refusal.TheVariants.{Halted, NoAccess, NoEntry, WrongType, CannotObserve, CannotModify, BadLabel, LabelRange, ClearanceRange, LabelFull, AvoidType, NoQuota, FixedQuota, NotFixed, AlreadyLinked, RootKept, Immutable, Bounds, NotMapped, RightsDenied, Overlap, GateDenied, DeviceFull, DeviceEmpty, Spent, Unavailable, BadLimits, Memory, SeatTaken, NoThread, SeatsSpent, OutOfTurn, BadBatch, Unread, TextFault, TextMemory, IllFormed, NotFormat1, NotClean}
+use Rattle.base.specs.declared.refusals.Refusal.TheVariants.{Halted, NoAccess, NoEntry, WrongType}
+use Rattle.base.specs.declared.refusals.Refusal.TheVariants.{CannotObserve, CannotModify, BadLabel}
+use Rattle.base.specs.declared.refusals.Refusal.TheVariants.{LabelRange, ClearanceRange, LabelFull}
+use Rattle.base.specs.declared.refusals.Refusal.TheVariants.{AvoidType, NoQuota, FixedQuota}
+use Rattle.base.specs.declared.refusals.Refusal.TheVariants.{NotFixed, AlreadyLinked, RootKept}
+use Rattle.base.specs.declared.refusals.Refusal.TheVariants.{Immutable, Bounds, NotMapped}
+use Rattle.base.specs.declared.refusals.Refusal.TheVariants.{RightsDenied, Overlap, GateDenied}
+use Rattle.base.specs.declared.refusals.Refusal.TheVariants.{DeviceFull, DeviceEmpty, Spent}
+use Rattle.base.specs.declared.refusals.Refusal.TheVariants.{Unavailable, BadLimits, Memory}
+use Rattle.base.specs.declared.refusals.Refusal.TheVariants.{SeatTaken, NoThread, SeatsSpent}
+use Rattle.base.specs.declared.refusals.Refusal.TheVariants.{OutOfTurn, BadBatch, Unread, TextFault}
+use Rattle.base.specs.declared.refusals.Refusal.TheVariants.{TextMemory, IllFormed, NotFormat1}
+use Rattle.base.specs.declared.refusals.Refusal.TheVariants.{NotClean}
 
 -- a line of the table of refusals
 pub record Row : Type 0 where

@@ -2,7 +2,8 @@
 use Rattle.std.specs.Prelude.{ℕ, Bool, ◌==◌}
 use Rattle.std.specs.Int.RustNames.{bit_and}
 use Rattle.base.specs.declared.kinds.Kind.{Kind}
-use Rattle.base.specs.declared.kinds.Kind.TheVariants.{Container, Segment, AddressSpace, Thread, Gate, Device}
+use Rattle.base.specs.declared.kinds.Kind.TheVariants.{Container, Segment, AddressSpace, Thread}
+use Rattle.base.specs.declared.kinds.Kind.TheVariants.{Gate, Device}
 use Rattle.base.specs.declared.sets.Rights.{Rights}
 use Rattle.base.specs.declared.sets.TypeSet.{TypeSet}
 

@@ -18,7 +18,8 @@ impl Model for Data {
 
     ghost view = { λ a. take a.len a.bytes };
 
-    ghost invariant = { λ a. (a.len ≤ 64) × (length a.bytes ≡ 64) × (a.bytes ≡ padded 64 0 (take a.len a.bytes)) };
+    ghost invariant = { λ a. (a.len ≤ 64) × (length a.bytes ≡ 64)
+        × (a.bytes ≡ padded 64 0 (take a.len a.bytes)) };
 
     ghost inverse = { λ bytes. record { len = length bytes; bytes = padded 64 0 bytes } };
 }

@@ -86,7 +86,8 @@ impl Flags for TypeSet {
 
     ghost exact = { ⊤ };
 
-    ghost table = { (codes "CONTAINER", 1) ∷ (codes "SEGMENT", 2) ∷ (codes "ADDRESS_SPACE", 4) ∷ (codes "THREAD", 8) ∷ (codes "GATE", 16) ∷ (codes "DEVICE", 32) ∷ [] };
+    ghost table = { (codes "CONTAINER", 1) ∷ (codes "SEGMENT", 2) ∷ (codes "ADDRESS_SPACE", 4)
+        ∷ (codes "THREAD", 8) ∷ (codes "GATE", 16) ∷ (codes "DEVICE", 32) ∷ [] };
 
     ghost set_of = { λ kinds. kinds.0 };
 

@@ -8,7 +8,8 @@ use Rattle.text_rows.specs.declared.verbs.Verb.TheVariants as verbs
 use Rattle.call_text.specs.declared.asking.Asked.{Asked}
 use Rattle.call_text.specs.declared.asking.Asked.TheVariants.{Write, Read}
 use Rattle.call_text.specs.declared.known_names.Named.{Named}
-use Rattle.call_text.specs.Place.{object_at, label_at, number_at, wide_at, signed_at, data_at, types_at, entry_at, mapping_at}
+use Rattle.call_text.specs.Place.{object_at, label_at, number_at, wide_at, signed_at, data_at}
+use Rattle.call_text.specs.Place.{types_at, entry_at, mapping_at}
 
 -- what a verb asks with these arguments
 abbrev pub asked_of : Verb → List Arg → List Named → Asked
@@ -18,10 +19,12 @@ asked_of verbs.SelfSetClearance xs names = Write (calls.SelfSetClearance (label_
 asked_of verbs.SelfSetAs xs names = Write (calls.SelfSetAs (entry_at 0 xs names))
 asked_of verbs.ContainerCreate xs names =
     Write
-    (calls.ContainerCreate (object_at 0 xs names) (label_at 1 xs names) (number_at 2 xs) (types_at 3 xs))
+    (calls.ContainerCreate (object_at 0 xs names) (label_at 1 xs names) (number_at 2 xs)
+    (types_at 3 xs))
 asked_of verbs.SegmentCreate xs names =
     Write
-    (calls.SegmentCreate (object_at 0 xs names) (label_at 1 xs names) (number_at 2 xs) (number_at 3 xs))
+    (calls.SegmentCreate (object_at 0 xs names) (label_at 1 xs names) (number_at 2 xs)
+    (number_at 3 xs))
 asked_of verbs.SegmentCopy xs names =
     Write
     (calls.SegmentCopy (object_at 0 xs names) (label_at 1 xs names) (number_at 2 xs)

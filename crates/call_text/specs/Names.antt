@@ -1,5 +1,6 @@
 -- Sets of names.
-use Rattle.std.specs.Prelude.{◌≡◌, ◌<◌, ◌+◌, ℕ, List, [], ◌∷◌, ◌++◌, Option, Some, None, Bool, true, false}
+use Rattle.std.specs.Prelude.{◌≡◌, ◌<◌, ◌+◌, ℕ, List, [], ◌∷◌, ◌++◌, Option, Some, None, Bool, true}
+use Rattle.std.specs.Prelude.{false}
 use Rattle.std.specs.BTreeSet.{BTreeSet, contains}
 use Rattle.text_words.specs.Name.{name_cmp}
 use Rattle.call_text.specs.declared.lines.Written.{Written}
@@ -22,4 +23,5 @@ Admits lines l old new true = (lines < 65536) × ((names : List (List ℕ)) → 
     ≡ Some (record { lines = lines + 1; bound = names_after names (binds_of l) }))
     × Holds new (names_after names (binds_of l)))
 Admits lines l old new false =
-    (names : List (List ℕ)) → Holds old names → next (record { lines = lines; bound = names }) l ≡ None
+    (names : List (List ℕ)) → Holds old names
+    → next (record { lines = lines; bound = names }) l ≡ None

@@ -1,5 +1,6 @@
 -- Scripts: phases of lines, and their text.
-use Rattle.std.specs.Prelude.{◌≡◌, ◌≤◌, ◌+◌, ℕ, List, [], ◌∷◌, ◌++◌, length, map, Option, Some, None, Bool, true, codes, nat_le, if◌then◌else◌}
+use Rattle.std.specs.Prelude.{◌≡◌, ◌≤◌, ◌+◌, ℕ, List, [], ◌∷◌, ◌++◌, length, map, Option, Some}
+use Rattle.std.specs.Prelude.{None, Bool, true, codes, nat_le, if◌then◌else◌}
 use Rattle.std.specs.List.{list_any, flat_map}
 use Rattle.std.specs.Str.{bytes_eq}
 use Rattle.call_text.specs.declared.lines.Written.{Written}
@@ -26,7 +27,8 @@ abbrev pub AreNumbered : ℕ → List Line → Type 0
 AreNumbered n [] = Unit {0}
 AreNumbered n (l ∷ ls) = (l.number ≡ n) × AreNumbered (n + 1) ls
 
--- Each line's number is its place in the text. A -- takes a place too, and the first phase begins at n.
+-- Each line's number is its place in the text. A -- takes a place too, and the first phase begins
+-- at n.
 abbrev pub ArePhasesNumbered : ℕ → List (List Line) → Type 0
 ArePhasesNumbered n [] = Unit {0}
 ArePhasesNumbered n (phase ∷ more) =

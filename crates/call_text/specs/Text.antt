@@ -1,5 +1,6 @@
 -- Texts of lines, each ended by a byte 10, in an order that a state allows.
-use Rattle.std.specs.Prelude.{◌≡◌, ◌+◌, ℕ, List, [], ◌∷◌, ◌++◌, length, Option, Some, None, IsSome, Bool, true, false}
+use Rattle.std.specs.Prelude.{◌≡◌, ◌+◌, ℕ, List, [], ◌∷◌, ◌++◌, length, Option, Some, None, IsSome}
+use Rattle.std.specs.Prelude.{Bool, true, false}
 use Rattle.std.specs.List.{AllByRecursion, flat_map}
 
 -- the state after these lines, None where one may not stand there
@@ -25,9 +26,9 @@ pub record Spells {S V : Type 0} (text : V → List ℕ) (Fits : V → Type 0) (
   pub ended : ends state ≡ true
   pub bytes_are : bytes ≡ lines_text text vs
 
--- Line n is the first at which the bytes stop being the beginning of a text.
--- The n - 1 lines before it are the beginning of one, and no line that may stand after them comes next.
--- Where nothing comes after them they aren't a whole text.
+-- Line n is the first at which the bytes stop being the beginning of a text. The n - 1 lines
+-- before it are the beginning of one, and no line that may stand after them comes next. Where
+-- nothing comes after them they aren't a whole text.
 pub record FaultsAt {S V : Type 0} (text : V → List ℕ) (Fits : V → Type 0) (next : S → V → Option S)
     (ends : S → Bool) (start : S) (bytes : List ℕ) (n : ℕ) : Type 0 where
   pub before : List V

@@ -2,7 +2,8 @@
 ghost use Rattle.std.specs.Prelude.{◌≡◌, ◌++◌, ◌∷◌, [], ℕ, List, IfOk, IfSome, IfNone};
 ghost use Rattle.text_words.specs.Reading.{Reads};
 ghost use Rattle.text_rows.specs.Verb.{makes};
-ghost use Rattle.call_text.specs.Line.{said_text, IsSaid, bound_text, IsBound, written_text, FitsWritten};
+ghost use Rattle.call_text.specs.Line.{said_text, IsSaid, bound_text, IsBound, written_text};
+ghost use Rattle.call_text.specs.Line.{FitsWritten};
 
 use crate::parting::parted;
 use std::alloc::{AllocError, Global};

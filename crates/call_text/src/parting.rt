@@ -1,5 +1,6 @@
 //! A text up to a byte, and after it.
-ghost use Rattle.std.specs.Prelude.{◌≡◌, ◌==◌, ◌<◌, ◌++◌, ◌∷◌, true, length, position, IfSome, IfNone};
+ghost use Rattle.std.specs.Prelude.{◌≡◌, ◌==◌, ◌<◌, ◌++◌, ◌∷◌, true, length, position, IfSome};
+ghost use Rattle.std.specs.Prelude.{IfNone};
 ghost use Rattle.text_words.specs.Lacks.{lacks};
 
 /// Where the byte first stands.

@@ -1,6 +1,8 @@
 //! The values that stand at the places of a call. A place of another kind has 0, or nothing.
 ghost use Rattle.std.specs.Prelude.{◌≡◌, ◌<◌, ◌^◌, ◌+◌};
-ghost use Rattle.call_text.specs.Place.{as_object, object_of, category_of, raw_of, object_at, label_at, number_at, wide_at, signed_at, data_at, types_at, rights_at, entry_at, mapping_at};
+ghost use Rattle.call_text.specs.Place.{as_object, object_of, category_of, raw_of, object_at};
+ghost use Rattle.call_text.specs.Place.{label_at, number_at, wide_at, signed_at, data_at, types_at};
+ghost use Rattle.call_text.specs.Place.{rights_at, entry_at, mapping_at};
 
 use crate::known_names::{Known, Value};
 use base::{Category, Data, Level, ObjectId, Rights, TypeSet};

@@ -1,6 +1,7 @@
 //! The words of replies.
 ghost use Rattle.std.specs.Prelude.{◌≡◌, ◌++◌, ◌∷◌, [], OnOk};
-ghost use Rattle.call_text.specs.ReplyWord.{head_text, word_text, words_text, value_text, pair_text, label_text, flag_text, refusal_text};
+ghost use Rattle.call_text.specs.ReplyWord.{head_text, word_text, words_text, value_text};
+ghost use Rattle.call_text.specs.ReplyWord.{pair_text, label_text, flag_text, refusal_text};
 
 use crate::known_names::{Known, Value};
 use base::{Category, Data, Meter, NoMemory, ObjectId, Refusal, Rights};

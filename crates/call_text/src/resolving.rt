@@ -1,6 +1,7 @@
 //! What a spoken call asks, with the names that are known.
 ghost use Rattle.std.specs.Prelude.{◌≡◌};
-ghost use Rattle.call_text.specs.Resolve.{unbound_object, unbound_category, unbound_pair, unbound_in, first_unbound, resolved};
+ghost use Rattle.call_text.specs.Resolve.{unbound_object, unbound_category, unbound_pair};
+ghost use Rattle.call_text.specs.Resolve.{unbound_in, first_unbound, resolved};
 
 use crate::asking::{Asked, make_asked};
 use crate::known_names::{Known, Value};

@@ -14,7 +14,8 @@ use text_words::put_name;
 
 /// Adds the line and its end.
 fn put_line(out: &mut Vec<u8>, line: &Line) -> Result<(), AllocError>
-    ensures { OnOk result (out.new.items ≡ out.old.items ++ (written_text (said_of line.now) ++ 10 ∷ [])) }
+    ensures { OnOk result (out.new.items
+        ≡ out.old.items ++ (written_text (said_of line.now) ++ 10 ∷ [])) }
 {
     if let Some(name) = &line.binds {
         put_name(out, name)?;

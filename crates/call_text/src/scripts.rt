@@ -112,7 +112,8 @@ pub fn read_script(alloc: Global, bytes: &[u8]) -> Result<Script, ScriptError>
 
 /// Bytes spell one script, and what spells one has no faulty line.
 pub fn one_reading()
-    ensures value { (bytes : List ℕ) (a b : List (List LineValue)) → IsScript bytes a → IsScript bytes b → a ≡ b }
+    ensures value { (bytes : List ℕ) (a b : List (List LineValue))
+        → IsScript bytes a → IsScript bytes b → a ≡ b }
     ensures fault { (bytes : List ℕ) (n : ℕ) (a : List (List LineValue))
         → ScriptFaultsAt bytes n → IsScript bytes a → ⊥ }
 {}

@@ -1,7 +1,8 @@
--- How two families of lists over the same cells hold the links. No public clause cites this module.
--- There are as many slots as cells, `size`. In family 0, list d below `size` holds the entries of slot d, list `size` the
--- spare cells and list `size + 1` the last cells of the dying slots. In family 1, list o below `size` holds the links to
--- slot o, and list `size` the spare cells.
+-- How two families of lists over the same cells hold the links. No public clause cites this
+-- module. There are as many slots as cells, `size`. In family 0, list d below `size` holds the
+-- entries of slot d, list `size` the spare cells and list `size + 1` the last cells of the dying
+-- slots. In family 1, list o below `size` holds the links to slot o, and list `size` the spare
+-- cells.
 use Rattle.std.specs.Prelude.{◌≡◌, ◌≢◌, ℕ, ◌+◌, ◌<◌, ◌⊎◌, List, [], ◌∷◌, ◌++◌, length, sum_by}
 use Rattle.std.specs.Prelude.{remove}
 use Rattle.entry_lists.specs.Lists.{Lists, family_at, cells_at, StandsAt, IsWellFormed}

@@ -1,4 +1,5 @@
--- What a contract sees of containers: objects with their lists of entries, their slots and their records.
+-- What a contract sees of containers: objects with their lists of entries, their slots and their
+-- records.
 use Rattle.std.specs.Prelude.{◌≡◌, ℕ, ◌<◌, cond, not, ◌==◌, List, [], ◌∷◌, ◌++◌, map, length}
 use Rattle.std.specs.Prelude.{slice_index}
 use Rattle.std.specs.Prelude.{Option, Some, None, replicate, slice_index_or, slice_set, sum_by}
@@ -7,8 +8,8 @@ use Rattle.std.specs.List.{filter}
 use Rattle.std.specs.Coded.{Coded, code_by, coded×, coded_ℕ, coded_list, coded_option}
 use Rattle.base.specs.Live.{is_live}
 
--- each id, rising, with the ids that it lists, in the order of linking; beside each id its slot; and for each slot the
--- record there, if there is one
+-- each id, rising, with the ids that it lists, in the order of linking; beside each id its slot;
+-- and for each slot the record there, if there is one
 pub record Tree (T : Type 0) : Type 0 where
   pub lists : List (ℕ × List ℕ)
   pub slots : List ℕ

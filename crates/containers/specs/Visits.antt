@@ -66,8 +66,8 @@ object_ids dead = map (λ p. p.id) dead
 abbrev pub Went : List (Place × Place) → Place → Place → Type 0
 Went went a b = Contains {X = Place × Place} went (a, b)
 
--- each link and each object of the old tree that the new one lacks, once, each with the slot that it had, and nothing
--- else
+-- each link and each object of the old tree that the new one lacks, once, each with the slot that
+-- it had, and nothing else
 pub record IsHanded {T : Type 0} (old new : Tree T)
     (went : List (Place × Place)) (dead : List Place) : Type 0 where
   pub links_was : (a b : Place) → Went went a b → links old.lists a.id b.id ≡ true

@@ -4,8 +4,8 @@ use Rattle.object_arena.specs.Objects.{Rises, Apart}
 use Rattle.base.specs.Live.{has, links}
 use Rattle.containers.specs.Tree.{Tree, ids_in, list_of, record_at}
 
--- ids rise, each has a slot of its own with a record, each that is listed is there, none lists the root, and none lists
--- an id twice
+-- ids rise, each has a slot of its own with a record, each that is listed is there, none lists the
+-- root, and none lists an id twice
 pub record IsWellFormed {T : Type 0} (t : Tree T) : Type 0 where
   pub beside : length (ids_in t.lists) ≡ length t.slots
   pub rises : Rises (ids_in t.lists)

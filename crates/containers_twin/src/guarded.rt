@@ -1,5 +1,6 @@
 //! Containers, each call of which tests what it needs.
-ghost use Rattle.std.specs.Prelude.{◌≡◌, ℕ, ◌<◌, ◌+◌, ◌*◌, ◌%◌, ◌^◌, length, All, IsTrue, IfOk, true};
+ghost use Rattle.std.specs.Prelude.{◌≡◌, ℕ, ◌<◌, ◌+◌, ◌*◌, ◌%◌, ◌^◌, length, All, IsTrue, IfOk};
+ghost use Rattle.std.specs.Prelude.{true};
 ghost use Rattle.base.specs.Live.{has, links};
 ghost use Rattle.containers.specs.Tree.{ids_in, link_count};
 ghost use Rattle.containers_twin.specs.Layers.{IsLayered};

@@ -34,7 +34,7 @@ use Rattle.text_rows.specs.Arg.{arg_text, IsArg}
 use Rattle.text_rows.specs.Row.{AreArgs, Spoken, IsRow, row_text}
 use Rattle.text_rows.proofs.RowLemmas.{row_lacks_end}
 use Rattle.call_text.proofs.PartLemmas.{not_in}
-use Rattle.dump_text.specs.declared.tables.Event.{Event}
+use Rattle.kernel_rules.specs.declared.events.Event.{Event}
 use Rattle.dump_text.specs.Call.{call_text, IsCall, spoken_of}
 use Rattle.dump_text.specs.Report.{report_text}
 use Rattle.dump_text.specs.Event.{event_text, IsEvent}

@@ -6,3 +6,4 @@ pub mod EventLemmas
 pub mod LineLemmas
 pub mod Ordering
 pub mod Progress
+pub mod Faults

@@ -14,10 +14,10 @@ use Rattle.text_rows.specs.Row.{AreArgs}
 use Rattle.text_rows.proofs.RowLemmas.{arguments_are_one, arguments_lack_end}
 use Rattle.call_text.specs.Place.{raw_of}
 use Rattle.call_text.proofs.TextLemmas.{IsGrammar}
-use Rattle.dump_text.specs.declared.tables.Use.{Use}
-use Rattle.dump_text.specs.declared.tables.Shown.{Shown}
+use Rattle.kernel_rules.specs.declared.tables.Used.{Used}
+use Rattle.kernel_rules.specs.declared.tables.Shown.{Shown}
 use Rattle.dump_text.specs.declared.tables.Stored.{Stored}
-use Rattle.dump_text.specs.declared.tables.Order.{Order}
+use Rattle.kernel_rules.specs.declared.tables.Compared.{Compared}
 use Rattle.dump_text.specs.declared.words.Word.{Word}
 use Rattle.dump_text.specs.declared.lines.Line.{Line}
 use Rattle.dump_text.specs.declared.lines.Line.TheVariants as lines
@@ -71,7 +71,7 @@ limits_are_one a b e =
 live_is_one : (a b : ℕ) → args_of (live_words a) ≡ args_of (live_words b) → a ≡ b
 live_is_one a b e = cc
 
-use_is_one : (a b : Use) → args_of (use_words a) ≡ args_of (use_words b) → a ≡ b
+use_is_one : (a b : Used) → args_of (use_words a) ≡ args_of (use_words b) → a ≡ b
 use_is_one a b e =
     let p : a.id ≡ b.id = cc in
     let q : a.pages ≡ b.pages = cc in
@@ -92,7 +92,7 @@ label_is_one a b e =
     let r : a.label ≡ b.label = sym (label_again a.label) ∙ ap (λ (l : LabelValue). raw_of l []) q ∙ label_again b.label in
     (λ i. record { index = p i; label = r i })
 
-order_is_one : (a b : Order) → args_of (order_words a) ≡ args_of (order_words b) → a ≡ b
+order_is_one : (a b : Compared) → args_of (order_words a) ≡ args_of (order_words b) → a ≡ b
 order_is_one a b e =
     let p : a.first ≡ b.first = cc in
     let q : a.second ≡ b.second = cc in

@@ -3,11 +3,11 @@ use Rattle.std.proofs.Common.{◌≡◌, ℕ, ◌+◌, ◌<◌, ◌≤◌, inl, 
 use Rattle.std.proofs.lemmas.Bool.{eqb-true, leb-true, leb-false, cases_Bool}
 use Rattle.std.proofs.lemmas.List.{append-nil, map_push}
 use Rattle.base.specs.declared.ranges.Limits.{Limits}
-use Rattle.dump_text.specs.declared.tables.Event.{Event}
-use Rattle.dump_text.specs.declared.tables.Use.{Use}
-use Rattle.dump_text.specs.declared.tables.Shown.{Shown}
+use Rattle.kernel_rules.specs.declared.events.Event.{Event}
+use Rattle.kernel_rules.specs.declared.tables.Used.{Used}
+use Rattle.kernel_rules.specs.declared.tables.Shown.{Shown}
 use Rattle.dump_text.specs.declared.tables.Stored.{Stored}
-use Rattle.dump_text.specs.declared.tables.Order.{Order}
+use Rattle.kernel_rules.specs.declared.tables.Compared.{Compared}
 use Rattle.dump_text.specs.declared.lines.Line.{Line}
 use Rattle.dump_text.specs.declared.lines.Line.TheVariants as lines
 use Rattle.dump_text.specs.Lists.{TableLists, DumpLists}
@@ -46,7 +46,7 @@ comes_high first rank high e = elim (cases_Bool (leb 2 first)) [
 ]
 
 -- all lines so far: the first ones, the lists, and the last
-abbrev pub whole : List Line → List Event → List ℕ → List Use → List Shown → List Stored → List Order → List Line → List Line
+abbrev pub whole : List Line → List Event → List ℕ → List Used → List Shown → List Stored → List Compared → List Line → List Line
 whole t ev lv us ms ls os bots = t ++ (map lines.Event ev ++ (map lines.Live lv ++ (map lines.Use us ++ (map lines.Map ms ++ (map lines.Label ls ++ map lines.Order os))))) ++ bots
 
 at_1 : (t e : List Line) (v : Line) → ((t ++ (e ++ [])) ++ []) ++ v ∷ [] ≡ (t ++ ((e ++ v ∷ []) ++ [])) ++ []
@@ -67,28 +67,28 @@ at_5 t e l u m b v = simp (append_assoc, append-nil)
 at_6 : (t e l u m b o : List Line) (v : Line) → ((t ++ (e ++ (l ++ (u ++ (m ++ (b ++ (o))))))) ++ []) ++ v ∷ [] ≡ (t ++ (e ++ (l ++ (u ++ (m ++ (b ++ (o ++ v ∷ []))))))) ++ []
 at_6 t e l u m b o v = simp (append_assoc, append-nil)
 
-more_ev : (t : List Line) (ev : List Event) (lv : List ℕ) (us : List Use) (ms : List Shown) (ls : List Stored) (os : List Order) (bots : List Line) (x : Event) → lv ≡ [] → us ≡ [] → ms ≡ [] → ls ≡ [] → os ≡ [] → bots ≡ [] → whole t ev lv us ms ls os bots ++ lines.Event x ∷ [] ≡ whole t (ev ++ x ∷ []) lv us ms ls os bots
+more_ev : (t : List Line) (ev : List Event) (lv : List ℕ) (us : List Used) (ms : List Shown) (ls : List Stored) (os : List Compared) (bots : List Line) (x : Event) → lv ≡ [] → us ≡ [] → ms ≡ [] → ls ≡ [] → os ≡ [] → bots ≡ [] → whole t ev lv us ms ls os bots ++ lines.Event x ∷ [] ≡ whole t (ev ++ x ∷ []) lv us ms ls os bots
 more_ev t ev lv us ms ls os bots x h0 h1 h2 h3 h4 h5 = rw (h0, h1, h2, h3, h4, h5, map_push lines.Event ev x) (at_1 t (map lines.Event ev) (lines.Event x))
 
-more_lv : (t : List Line) (ev : List Event) (lv : List ℕ) (us : List Use) (ms : List Shown) (ls : List Stored) (os : List Order) (bots : List Line) (x : ℕ) → us ≡ [] → ms ≡ [] → ls ≡ [] → os ≡ [] → bots ≡ [] → whole t ev lv us ms ls os bots ++ lines.Live x ∷ [] ≡ whole t ev (lv ++ x ∷ []) us ms ls os bots
+more_lv : (t : List Line) (ev : List Event) (lv : List ℕ) (us : List Used) (ms : List Shown) (ls : List Stored) (os : List Compared) (bots : List Line) (x : ℕ) → us ≡ [] → ms ≡ [] → ls ≡ [] → os ≡ [] → bots ≡ [] → whole t ev lv us ms ls os bots ++ lines.Live x ∷ [] ≡ whole t ev (lv ++ x ∷ []) us ms ls os bots
 more_lv t ev lv us ms ls os bots x h0 h1 h2 h3 h4 = rw (h0, h1, h2, h3, h4, map_push lines.Live lv x) (at_2 t (map lines.Event ev) (map lines.Live lv) (lines.Live x))
 
-more_us : (t : List Line) (ev : List Event) (lv : List ℕ) (us : List Use) (ms : List Shown) (ls : List Stored) (os : List Order) (bots : List Line) (x : Use) → ms ≡ [] → ls ≡ [] → os ≡ [] → bots ≡ [] → whole t ev lv us ms ls os bots ++ lines.Use x ∷ [] ≡ whole t ev lv (us ++ x ∷ []) ms ls os bots
+more_us : (t : List Line) (ev : List Event) (lv : List ℕ) (us : List Used) (ms : List Shown) (ls : List Stored) (os : List Compared) (bots : List Line) (x : Used) → ms ≡ [] → ls ≡ [] → os ≡ [] → bots ≡ [] → whole t ev lv us ms ls os bots ++ lines.Use x ∷ [] ≡ whole t ev lv (us ++ x ∷ []) ms ls os bots
 more_us t ev lv us ms ls os bots x h0 h1 h2 h3 = rw (h0, h1, h2, h3, map_push lines.Use us x) (at_3 t (map lines.Event ev) (map lines.Live lv) (map lines.Use us) (lines.Use x))
 
-more_ms : (t : List Line) (ev : List Event) (lv : List ℕ) (us : List Use) (ms : List Shown) (ls : List Stored) (os : List Order) (bots : List Line) (x : Shown) → ls ≡ [] → os ≡ [] → bots ≡ [] → whole t ev lv us ms ls os bots ++ lines.Map x ∷ [] ≡ whole t ev lv us (ms ++ x ∷ []) ls os bots
+more_ms : (t : List Line) (ev : List Event) (lv : List ℕ) (us : List Used) (ms : List Shown) (ls : List Stored) (os : List Compared) (bots : List Line) (x : Shown) → ls ≡ [] → os ≡ [] → bots ≡ [] → whole t ev lv us ms ls os bots ++ lines.Map x ∷ [] ≡ whole t ev lv us (ms ++ x ∷ []) ls os bots
 more_ms t ev lv us ms ls os bots x h0 h1 h2 = rw (h0, h1, h2, map_push lines.Map ms x) (at_4 t (map lines.Event ev) (map lines.Live lv) (map lines.Use us) (map lines.Map ms) (lines.Map x))
 
-more_ls : (t : List Line) (ev : List Event) (lv : List ℕ) (us : List Use) (ms : List Shown) (ls : List Stored) (os : List Order) (bots : List Line) (x : Stored) → os ≡ [] → bots ≡ [] → whole t ev lv us ms ls os bots ++ lines.Label x ∷ [] ≡ whole t ev lv us ms (ls ++ x ∷ []) os bots
+more_ls : (t : List Line) (ev : List Event) (lv : List ℕ) (us : List Used) (ms : List Shown) (ls : List Stored) (os : List Compared) (bots : List Line) (x : Stored) → os ≡ [] → bots ≡ [] → whole t ev lv us ms ls os bots ++ lines.Label x ∷ [] ≡ whole t ev lv us ms (ls ++ x ∷ []) os bots
 more_ls t ev lv us ms ls os bots x h0 h1 = rw (h0, h1, map_push lines.Label ls x) (at_5 t (map lines.Event ev) (map lines.Live lv) (map lines.Use us) (map lines.Map ms) (map lines.Label ls) (lines.Label x))
 
-more_os : (t : List Line) (ev : List Event) (lv : List ℕ) (us : List Use) (ms : List Shown) (ls : List Stored) (os : List Order) (bots : List Line) (x : Order) → bots ≡ [] → whole t ev lv us ms ls os bots ++ lines.Order x ∷ [] ≡ whole t ev lv us ms ls (os ++ x ∷ []) bots
+more_os : (t : List Line) (ev : List Event) (lv : List ℕ) (us : List Used) (ms : List Shown) (ls : List Stored) (os : List Compared) (bots : List Line) (x : Compared) → bots ≡ [] → whole t ev lv us ms ls os bots ++ lines.Order x ∷ [] ≡ whole t ev lv us ms ls (os ++ x ∷ []) bots
 more_os t ev lv us ms ls os bots x h0 = rw (h0, map_push lines.Order os x) (at_6 t (map lines.Event ev) (map lines.Live lv) (map lines.Use us) (map lines.Map ms) (map lines.Label ls) (map lines.Order os) (lines.Order x))
 
-more_version : (t : List Line) (ev : List Event) (lv : List ℕ) (us : List Use) (ms : List Shown) (ls : List Stored) (os : List Order) (bots : List Line) → t ≡ [] → ev ≡ [] → lv ≡ [] → us ≡ [] → ms ≡ [] → ls ≡ [] → os ≡ [] → bots ≡ [] → whole t ev lv us ms ls os bots ++ lines.Version ∷ [] ≡ whole (lines.Version ∷ []) ev lv us ms ls os bots
+more_version : (t : List Line) (ev : List Event) (lv : List ℕ) (us : List Used) (ms : List Shown) (ls : List Stored) (os : List Compared) (bots : List Line) → t ≡ [] → ev ≡ [] → lv ≡ [] → us ≡ [] → ms ≡ [] → ls ≡ [] → os ≡ [] → bots ≡ [] → whole t ev lv us ms ls os bots ++ lines.Version ∷ [] ≡ whole (lines.Version ∷ []) ev lv us ms ls os bots
 more_version t ev lv us ms ls os bots h h0 h1 h2 h3 h4 h5 h6 = rw (h, h0, h1, h2, h3, h4, h5, h6) refl
 
-more_limits : (t : List Line) (ev : List Event) (lv : List ℕ) (us : List Use) (ms : List Shown) (ls : List Stored) (os : List Order) (bots : List Line) (x : Limits) → t ≡ lines.Version ∷ [] → ev ≡ [] → lv ≡ [] → us ≡ [] → ms ≡ [] → ls ≡ [] → os ≡ [] → bots ≡ [] → whole t ev lv us ms ls os bots ++ lines.Limits x ∷ [] ≡ whole (lines.Version ∷ lines.Limits x ∷ []) ev lv us ms ls os bots
+more_limits : (t : List Line) (ev : List Event) (lv : List ℕ) (us : List Used) (ms : List Shown) (ls : List Stored) (os : List Compared) (bots : List Line) (x : Limits) → t ≡ lines.Version ∷ [] → ev ≡ [] → lv ≡ [] → us ≡ [] → ms ≡ [] → ls ≡ [] → os ≡ [] → bots ≡ [] → whole t ev lv us ms ls os bots ++ lines.Limits x ∷ [] ≡ whole (lines.Version ∷ lines.Limits x ∷ []) ev lv us ms ls os bots
 more_limits t ev lv us ms ls os bots x h h0 h1 h2 h3 h4 h5 h6 = rw (h, h0, h1, h2, h3, h4, h5, h6) refl
 
 more_end : (xs bots : List Line) → bots ≡ [] → (xs ++ bots) ++ lines.End ∷ [] ≡ xs ++ lines.End ∷ []
@@ -361,10 +361,10 @@ pick_none g f h [] = refl
 pick_none {X} g f h (y ∷ ys) = ap (λ (o : Option X). pick_one o (pick g (map f ys))) (h y) ∙ pick_none g f h ys
 
 -- the lines after the first two
-abbrev body : List Event → List ℕ → List Use → List Shown → List Stored → List Order → List Line
+abbrev body : List Event → List ℕ → List Used → List Shown → List Stored → List Compared → List Line
 body ev lv us ms ls os = (map lines.Event ev ++ (map lines.Live lv ++ (map lines.Use us ++ (map lines.Map ms ++ (map lines.Label ls ++ map lines.Order os))))) ++ lines.End ∷ []
 
-pick_body : {X : Type 0} (g : Line → Option X) (ev : List Event) (lv : List ℕ) (us : List Use) (ms : List Shown) (ls : List Stored) (os : List Order) → pick g (body ev lv us ms ls os) ≡ (pick g (map lines.Event ev) ++ (pick g (map lines.Live lv) ++ (pick g (map lines.Use us) ++ (pick g (map lines.Map ms) ++ (pick g (map lines.Label ls) ++ pick g (map lines.Order os)))))) ++ pick g (lines.End ∷ [])
+pick_body : {X : Type 0} (g : Line → Option X) (ev : List Event) (lv : List ℕ) (us : List Used) (ms : List Shown) (ls : List Stored) (os : List Compared) → pick g (body ev lv us ms ls os) ≡ (pick g (map lines.Event ev) ++ (pick g (map lines.Live lv) ++ (pick g (map lines.Use us) ++ (pick g (map lines.Map ms) ++ (pick g (map lines.Label ls) ++ pick g (map lines.Order os)))))) ++ pick g (lines.End ∷ [])
 pick_body g ev lv us ms ls os = simp (pick-append g)
 
 event_in : Line → Option Event
@@ -378,7 +378,7 @@ event_in (lines.Label b) = None
 event_in (lines.Order q) = None
 event_in lines.End = None
 
-event_in_body : (ev : List Event) (lv : List ℕ) (us : List Use) (ms : List Shown) (ls : List Stored) (os : List Order) → pick event_in (body ev lv us ms ls os) ≡ ev
+event_in_body : (ev : List Event) (lv : List ℕ) (us : List Used) (ms : List Shown) (ls : List Stored) (os : List Compared) → pick event_in (body ev lv us ms ls os) ≡ ev
 unfolding pick pick_one event_in
 event_in_body ev lv us ms ls os = pick_body event_in ev lv us ms ls os ∙ rw (pick_map event_in lines.Event (λ x. refl) ev, pick_none event_in lines.Live (λ x. refl) lv, pick_none event_in lines.Use (λ x. refl) us, pick_none event_in lines.Map (λ x. refl) ms, pick_none event_in lines.Label (λ x. refl) ls, pick_none event_in lines.Order (λ x. refl) os) (append-nil (ev ++ []) ∙ append-nil ev)
 
@@ -393,11 +393,11 @@ live_in (lines.Label b) = None
 live_in (lines.Order q) = None
 live_in lines.End = None
 
-live_in_body : (ev : List Event) (lv : List ℕ) (us : List Use) (ms : List Shown) (ls : List Stored) (os : List Order) → pick live_in (body ev lv us ms ls os) ≡ lv
+live_in_body : (ev : List Event) (lv : List ℕ) (us : List Used) (ms : List Shown) (ls : List Stored) (os : List Compared) → pick live_in (body ev lv us ms ls os) ≡ lv
 unfolding pick pick_one live_in
 live_in_body ev lv us ms ls os = pick_body live_in ev lv us ms ls os ∙ rw (pick_none live_in lines.Event (λ x. refl) ev, pick_map live_in lines.Live (λ x. refl) lv, pick_none live_in lines.Use (λ x. refl) us, pick_none live_in lines.Map (λ x. refl) ms, pick_none live_in lines.Label (λ x. refl) ls, pick_none live_in lines.Order (λ x. refl) os) (append-nil (lv ++ []) ∙ append-nil lv)
 
-use_in : Line → Option Use
+use_in : Line → Option Used
 use_in (lines.Use x) = Some x
 use_in lines.Version = None
 use_in (lines.Limits l) = None
@@ -408,7 +408,7 @@ use_in (lines.Label b) = None
 use_in (lines.Order q) = None
 use_in lines.End = None
 
-use_in_body : (ev : List Event) (lv : List ℕ) (us : List Use) (ms : List Shown) (ls : List Stored) (os : List Order) → pick use_in (body ev lv us ms ls os) ≡ us
+use_in_body : (ev : List Event) (lv : List ℕ) (us : List Used) (ms : List Shown) (ls : List Stored) (os : List Compared) → pick use_in (body ev lv us ms ls os) ≡ us
 unfolding pick pick_one use_in
 use_in_body ev lv us ms ls os = pick_body use_in ev lv us ms ls os ∙ rw (pick_none use_in lines.Event (λ x. refl) ev, pick_none use_in lines.Live (λ x. refl) lv, pick_map use_in lines.Use (λ x. refl) us, pick_none use_in lines.Map (λ x. refl) ms, pick_none use_in lines.Label (λ x. refl) ls, pick_none use_in lines.Order (λ x. refl) os) (append-nil (us ++ []) ∙ append-nil us)
 
@@ -423,7 +423,7 @@ map_in (lines.Label b) = None
 map_in (lines.Order q) = None
 map_in lines.End = None
 
-map_in_body : (ev : List Event) (lv : List ℕ) (us : List Use) (ms : List Shown) (ls : List Stored) (os : List Order) → pick map_in (body ev lv us ms ls os) ≡ ms
+map_in_body : (ev : List Event) (lv : List ℕ) (us : List Used) (ms : List Shown) (ls : List Stored) (os : List Compared) → pick map_in (body ev lv us ms ls os) ≡ ms
 unfolding pick pick_one map_in
 map_in_body ev lv us ms ls os = pick_body map_in ev lv us ms ls os ∙ rw (pick_none map_in lines.Event (λ x. refl) ev, pick_none map_in lines.Live (λ x. refl) lv, pick_none map_in lines.Use (λ x. refl) us, pick_map map_in lines.Map (λ x. refl) ms, pick_none map_in lines.Label (λ x. refl) ls, pick_none map_in lines.Order (λ x. refl) os) (append-nil (ms ++ []) ∙ append-nil ms)
 
@@ -438,11 +438,11 @@ label_in (lines.Map s) = None
 label_in (lines.Order q) = None
 label_in lines.End = None
 
-label_in_body : (ev : List Event) (lv : List ℕ) (us : List Use) (ms : List Shown) (ls : List Stored) (os : List Order) → pick label_in (body ev lv us ms ls os) ≡ ls
+label_in_body : (ev : List Event) (lv : List ℕ) (us : List Used) (ms : List Shown) (ls : List Stored) (os : List Compared) → pick label_in (body ev lv us ms ls os) ≡ ls
 unfolding pick pick_one label_in
 label_in_body ev lv us ms ls os = pick_body label_in ev lv us ms ls os ∙ rw (pick_none label_in lines.Event (λ x. refl) ev, pick_none label_in lines.Live (λ x. refl) lv, pick_none label_in lines.Use (λ x. refl) us, pick_none label_in lines.Map (λ x. refl) ms, pick_map label_in lines.Label (λ x. refl) ls, pick_none label_in lines.Order (λ x. refl) os) (append-nil (ls ++ []) ∙ append-nil ls)
 
-order_in : Line → Option Order
+order_in : Line → Option Compared
 order_in (lines.Order x) = Some x
 order_in lines.Version = None
 order_in (lines.Limits l) = None
@@ -453,7 +453,7 @@ order_in (lines.Map s) = None
 order_in (lines.Label b) = None
 order_in lines.End = None
 
-order_in_body : (ev : List Event) (lv : List ℕ) (us : List Use) (ms : List Shown) (ls : List Stored) (os : List Order) → pick order_in (body ev lv us ms ls os) ≡ os
+order_in_body : (ev : List Event) (lv : List ℕ) (us : List Used) (ms : List Shown) (ls : List Stored) (os : List Compared) → pick order_in (body ev lv us ms ls os) ≡ os
 unfolding pick pick_one order_in
 order_in_body ev lv us ms ls os = pick_body order_in ev lv us ms ls os ∙ rw (pick_none order_in lines.Event (λ x. refl) ev, pick_none order_in lines.Live (λ x. refl) lv, pick_none order_in lines.Use (λ x. refl) us, pick_none order_in lines.Map (λ x. refl) ms, pick_none order_in lines.Label (λ x. refl) ls, pick_map order_in lines.Order (λ x. refl) os) (append-nil os)
 

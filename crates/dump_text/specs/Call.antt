@@ -31,7 +31,8 @@ spoken_of (calls.SegmentCreate d l q n) =
     (words.Object d ∷ words.Label l ∷ words.Number q ∷ words.Number n ∷ [])
 spoken_of (calls.SegmentCopy d l q e) =
     row_of verbs.SegmentCopy
-    (words.Object d ∷ words.Label l ∷ words.Number q ∷ words.Object e.container ∷ words.Object e.object ∷ [])
+    (words.Object d ∷ words.Label l ∷ words.Number q ∷ words.Object e.container
+    ∷ words.Object e.object ∷ [])
 spoken_of (calls.AsCreate d l q) =
     row_of verbs.AsCreate
     (words.Object d ∷ words.Label l ∷ words.Number q ∷ [])
@@ -77,7 +78,8 @@ spoken_of (calls.AsUnmap e n) =
 spoken_of (calls.Store p b) = row_of verbs.Store (words.Wide p ∷ words.Data b ∷ [])
 spoken_of (calls.GateEnter e l c v) =
     row_of verbs.GateEnter
-    (words.Object e.container ∷ words.Object e.object ∷ words.Label l ∷ words.Label c ∷ words.Label v ∷ [])
+    (words.Object e.container ∷ words.Object e.object ∷ words.Label l ∷ words.Label c
+    ∷ words.Label v ∷ [])
 spoken_of (calls.DevSend e b) =
     row_of verbs.DevSend
     (words.Object e.container ∷ words.Object e.object ∷ words.Data b ∷ [])

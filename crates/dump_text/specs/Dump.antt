@@ -1,5 +1,6 @@
 -- Dumps: their lines in order, and their text.
-use Rattle.std.specs.Prelude.{ℕ, List, [], ◌∷◌, ◌++◌, map, Option, Some, None, Bool, ◌==◌, ◌&&◌, nat_le, ◌+◌, if◌then◌else◌}
+use Rattle.std.specs.Prelude.{ℕ, List, [], ◌∷◌, ◌++◌, map, Option, Some, None, Bool, ◌==◌, ◌&&◌}
+use Rattle.std.specs.Prelude.{nat_le, ◌+◌, if◌then◌else◌}
 use Rattle.call_text.specs.Text.{Spells, FaultsAt, lines_text}
 use Rattle.dump_text.specs.declared.lines.Line.{Line}
 use Rattle.dump_text.specs.declared.lines.Line.TheVariants as lines
@@ -34,7 +35,8 @@ rank_of (lines.Label s) = 6
 rank_of (lines.Order o) = 7
 rank_of lines.End = 8
 
--- the first kind that may come after a line: after the first two lines and the last, the kind after its own
+-- the first kind that may come after a line: after the first two lines and the last, the kind
+-- after its own
 abbrev pub after_rank : ℕ → ℕ
 after_rank rank = if nat_le 2 rank && nat_le rank 7 then rank else rank + 1
 
@@ -42,7 +44,8 @@ after_rank rank = if nat_le 2 rank && nat_le rank 7 then rank else rank + 1
 abbrev pub start : ℕ
 start = 0
 
--- Whether a line of the kind may come where that kind is the first that may come. The first two lines have no choice.
+-- Whether a line of the kind may come where that kind is the first that may come. The first two
+-- lines have no choice.
 abbrev pub may_come : ℕ → ℕ → Bool
 may_come first rank = if nat_le 2 first then nat_le first rank else first == rank
 

@@ -1,13 +1,14 @@
 -- The spelling of events.
 use Rattle.std.specs.Prelude.{ℕ, ◌<◌, ◌^◌, List, ◌∷◌, ◌++◌, codes, decimal}
-use Rattle.dump_text.specs.declared.tables.Event.{Event}
+use Rattle.kernel_rules.specs.declared.events.Event.{Event}
 use Rattle.dump_text.specs.Call.{call_text, IsCall}
 use Rattle.dump_text.specs.Report.{report_text, IsReport}
 
 -- THREAD NUMBER CALL => REPLY
 abbrev pub event_text : Event → List ℕ
 event_text e =
-    decimal e.thread ++ 32 ∷ (decimal e.number ++ 32 ∷ (call_text e.call ++ codes " => " ++ report_text e.reply))
+    decimal e.thread ++ 32 ∷ (decimal e.number ++ 32 ∷
+    (call_text e.call ++ codes " => " ++ report_text e.reply))
 
 -- each part is in its range
 pub record IsEvent (e : Event) : Type 0 where

@@ -6,5 +6,6 @@ pub mod Event
 pub mod Lists
 pub mod Line
 pub mod Dump
+pub mod Whole
 pub mod Reading
 pub mod Refused

@@ -9,10 +9,10 @@ use Rattle.text_rows.specs.declared.args.Kind.TheVariants as kinds
 use Rattle.text_rows.specs.Row.{AreArgs}
 use Rattle.dump_text.specs.declared.words.Word.{Word}
 use Rattle.dump_text.specs.declared.words.Word.TheVariants as words
-use Rattle.dump_text.specs.declared.tables.Use.{Use}
-use Rattle.dump_text.specs.declared.tables.Shown.{Shown}
+use Rattle.kernel_rules.specs.declared.tables.Used.{Used}
+use Rattle.kernel_rules.specs.declared.tables.Shown.{Shown}
 use Rattle.dump_text.specs.declared.tables.Stored.{Stored}
-use Rattle.dump_text.specs.declared.tables.Order.{Order}
+use Rattle.kernel_rules.specs.declared.tables.Compared.{Compared}
 use Rattle.dump_text.specs.declared.lines.Line.{Line}
 use Rattle.dump_text.specs.declared.lines.Line.TheVariants as lines
 use Rattle.dump_text.specs.Word.{args_of, words_text}
@@ -37,7 +37,7 @@ abbrev pub live_words : ℕ → List Word
 live_words id = words.Wide id ∷ []
 
 -- ID PAGES
-abbrev pub use_words : Use → List Word
+abbrev pub use_words : Used → List Word
 use_words u = words.Wide u.id ∷ words.Number u.pages ∷ []
 
 -- THREAD SLOT SEGMENT RIGHTS
@@ -50,7 +50,7 @@ abbrev pub label_words : Stored → List Word
 label_words s = words.Number s.index ∷ words.Label s.label ∷ []
 
 -- I J BITS
-abbrev pub order_words : Order → List Word
+abbrev pub order_words : Compared → List Word
 order_words o = words.Number o.first ∷ words.Number o.second ∷ words.Number o.bits ∷ []
 
 abbrev pub limits_kinds : List Kind
@@ -80,7 +80,7 @@ abbrev pub IsBootable : Limits → Type 0
 IsBootable l = in_range l ≡ true
 
 -- three bits
-abbrev pub HasThreeBits : Order → Type 0
+abbrev pub HasThreeBits : Compared → Type 0
 HasThreeBits o = o.bits ≤ 7
 
 -- whatever it is

@@ -4,7 +4,8 @@ use Rattle.text_rows.specs.declared.args.Arg.{Arg}
 use Rattle.dump_text.specs.declared.words.Word.{Word}
 use Rattle.dump_text.specs.Word.{args_of}
 
--- What was made is a value with these words, and it is allowed. Nothing is made only where no such value has them.
+-- What was made is a value with these words, and it is allowed. Nothing is made only where no such
+-- value has them.
 abbrev pub Makes : {V : Type 0} → (V → List Word) → (V → Type 0) → List Arg → Option V → Type 0
 Makes words Allows found (Some v) = (found ≡ args_of (words v)) × Allows v
 Makes {V} words Allows found None = (v : V) → Allows v → found ≡ args_of (words v) → ⊥

@@ -1,5 +1,6 @@
 -- What is read of a dump.
-use Rattle.std.specs.Prelude.{◌≡◌, ℕ, List, [], ◌∷◌, ◌++◌, Option, Some, None, IsSome, Result, Ok, Err}
+use Rattle.std.specs.Prelude.{◌≡◌, ℕ, List, [], ◌∷◌, ◌++◌, Option, Some, None, IsSome, Result, Ok}
+use Rattle.std.specs.Prelude.{Err}
 use Rattle.base.specs.declared.levels.Level.TheVariants.{L1}
 use Rattle.dump_text.specs.declared.lines.Line.{Line}
 use Rattle.dump_text.specs.declared.lines.Line.TheVariants as lines
@@ -33,8 +34,8 @@ added (lines.Order o) d =
     record d { tables = record d.tables { orders = d.tables.orders ++ o ∷ [] } }
 added lines.End d = d
 
--- The line that the text spells may stand where the kind is the first that may come, and was added. Or no line that may
--- stand there has this spelling.
+-- The line that the text spells may stand where the kind is the first that may come, and was
+-- added. Or no line that may stand there has this spelling.
 abbrev pub Takes : List ℕ → ℕ → DumpLists → DumpLists → Option ℕ → Type 0
 Takes text first old new (Some later) =
     (l : Line) × IsLine l × (text ≡ line_text l) × (next first l ≡ Some later) × (new ≡ added l old)

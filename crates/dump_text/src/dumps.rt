@@ -143,9 +143,12 @@ pub fn read_dump(alloc: Global, bytes: &[u8]) -> Result<Dump, DumpError>
     Ok(dump)
 }
 
-/// Bytes spell one dump, and what spells one has no faulty line.
+/// A law, which does nothing when it is called: bytes spell one dump, what spells one has no faulty line, and the first
+/// faulty line is one.
 pub fn one_reading()
     ensures value { (bytes : List ℕ) (a b : DumpLists) → IsDump bytes a → IsDump bytes b → a ≡ b }
     ensures fault { (bytes : List ℕ) (n : ℕ) (a : DumpLists)
         → DumpFaultsAt bytes n → IsDump bytes a → ⊥ }
+    ensures line { (bytes : List ℕ) (n m : ℕ)
+        → DumpFaultsAt bytes n → DumpFaultsAt bytes m → n ≡ m }
 {}

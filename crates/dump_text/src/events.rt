@@ -1,5 +1,6 @@
 //! Events.
-ghost use Rattle.std.specs.Prelude.{◌≡◌, ◌++◌, ◌∷◌, [], ℕ, List, true, IfOk, OnOk, IfSome, IfNone, codes};
+ghost use Rattle.std.specs.Prelude.{◌≡◌, ◌++◌, ◌∷◌, [], ℕ, List, true, IfOk, OnOk, IfSome, IfNone};
+ghost use Rattle.std.specs.Prelude.{codes};
 ghost use Rattle.text_words.specs.Lacks.{lacks};
 ghost use Rattle.dump_text.specs.Making.{Fills};
 ghost use Rattle.dump_text.specs.Event.{event_text, IsEvent};
@@ -7,9 +8,9 @@ ghost use Rattle.dump_text.specs.Event.{event_text, IsEvent};
 use crate::calls::{put_call, read_call};
 use crate::reports::{put_report, read_report};
 use crate::stripping::after;
-use crate::tables::Event;
 use base::{NoMemory, ObjectId};
 use call_text::parted;
+use kernel_rules::Event;
 use std::alloc::{AllocError, Global};
 use text_words::{put_number, read_number};
 

@@ -15,12 +15,14 @@ mod lines;
 mod reports;
 mod stripping;
 mod tables;
+mod whole;
 mod words;
 mod writing;
 
 pub use dumps::{one_reading, read_dump};
 pub use errors::DumpError;
-pub use tables::{Dump, Event, Order, Shown, Stored, Tables, Use};
+pub use tables::{Dump, Stored, Tables};
+pub use whole::dump_with;
 pub use writing::write_dump;
 
 #[cfg(test)]

@@ -3,12 +3,14 @@ ghost use Rattle.std.specs.Prelude.{◌≡◌, IfSome, IfNone};
 ghost use Rattle.base.specs.declared.levels.Level.{Level as LevelValue};
 ghost use Rattle.base.specs.declared.levels.Level.TheVariants.{Star};
 ghost use Rattle.dump_text.specs.Making.{Makes};
-ghost use Rattle.dump_text.specs.Line.{digit_of, limits_words, live_words, use_words, map_words, label_words, order_words};
+ghost use Rattle.dump_text.specs.Line.{digit_of, limits_words, live_words, use_words, map_words};
+ghost use Rattle.dump_text.specs.Line.{label_words, order_words};
 ghost use Rattle.dump_text.specs.Line.{IsBootable, HasThreeBits, Anything};
 
 use crate::labels::numbered;
-use crate::tables::{Order, Shown, Stored, Use};
+use crate::tables::Stored;
 use base::{Level, Limits, ObjectId};
+use kernel_rules::{Compared, Shown, Used};
 use text_rows::Arg;
 
 /// The level with the digit. No digit is that of a star.
@@ -64,11 +66,11 @@ pub fn live_of(args: &[Arg]) -> Option<ObjectId>
 }
 
 /// What an object uses.
-pub fn use_of(args: &[Arg]) -> Option<Use>
+pub fn use_of(args: &[Arg]) -> Option<Used>
     ensures { Makes use_words Anything args.now result }
 {
     match args {
-        [Arg::Wide(id), Arg::Number(pages)] => Some(Use {
+        [Arg::Wide(id), Arg::Number(pages)] => Some(Used {
             id: ObjectId::new(*id),
             pages: *pages,
         }),
@@ -107,19 +109,19 @@ pub fn stored_of(args: &[Arg]) -> Option<Stored>
         return None;
     };
     Some(Stored {
-        index: *index,
+        index: *index as usize,
         label,
     })
 }
 
 /// How two labels compare, by three bits.
-pub fn order_of(args: &[Arg]) -> Option<Order>
+pub fn order_of(args: &[Arg]) -> Option<Compared>
     ensures { Makes order_words HasThreeBits args.now result }
 {
     match args {
-        [Arg::Number(first), Arg::Number(second), Arg::Number(bits)] if *bits <= 7 => Some(Order {
-            first: *first,
-            second: *second,
+        [Arg::Number(first), Arg::Number(second), Arg::Number(bits)] if *bits <= 7 => Some(Compared {
+            first: *first as usize,
+            second: *second as usize,
             bits: *bits as u8,
         }),
         _ => None,

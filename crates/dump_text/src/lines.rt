@@ -5,16 +5,18 @@ ghost use Rattle.dump_text.specs.Making.{Fills};
 ghost use Rattle.dump_text.specs.Event.{event_text, IsEvent};
 ghost use Rattle.dump_text.specs.Word.{words_text};
 ghost use Rattle.dump_text.specs.Line.{line_text, IsLine};
-ghost use Rattle.dump_text.specs.Line.{limits_words, live_words, use_words, map_words, label_words, order_words};
-ghost use Rattle.dump_text.specs.Line.{limits_kinds, live_kinds, use_kinds, map_kinds, label_kinds, order_kinds};
+ghost use Rattle.dump_text.specs.Line.{limits_words, live_words, use_words, map_words, label_words};
+ghost use Rattle.dump_text.specs.Line.{order_words};
+ghost use Rattle.dump_text.specs.Line.{limits_kinds, live_kinds, use_kinds, map_kinds, label_kinds};
+ghost use Rattle.dump_text.specs.Line.{order_kinds};
 ghost use Rattle.dump_text.specs.Line.{AreAllowed, IsBootable, HasThreeBits, Anything};
 
 use crate::events::read_event;
 use crate::line_words::{limits_of, live_of, order_of, shown_of, stored_of, use_of};
 use crate::stripping::after;
-use crate::tables::{Event, Order, Shown, Stored, Use};
+use crate::tables::Stored;
 use base::{Limits, ObjectId};
-use kernel_rules::{Call, Reply};
+use kernel_rules::{Call, Compared, Event, Reply, Shown, Used};
 use std::alloc::{AllocError, Global};
 use text_rows::{Kind, read_arguments};
 use text_words::is_same;
@@ -29,11 +31,11 @@ pub enum Line {
     Event(Event),
     /// A live id.
     Live(ObjectId),
-    Use(Use),
+    Use(Used),
     /// What a slot shows.
     Map(Shown),
     Label(Stored),
-    Order(Order),
+    Order(Compared),
     /// `end`.
     End,
 }
@@ -69,7 +71,7 @@ fn read_live(alloc: Global, text: &[u8]) -> Result<Option<ObjectId>, AllocError>
 }
 
 /// What an object uses, as `use` and its words.
-fn read_use(alloc: Global, text: &[u8]) -> Result<Option<Use>, AllocError>
+fn read_use(alloc: Global, text: &[u8]) -> Result<Option<Used>, AllocError>
     ensures { IfOk result (λ found. Reads (λ v. codes "use " ++ words_text (use_words v))
         (AreAllowed use_kinds use_words Anything) text.now found) }
 {
@@ -114,7 +116,7 @@ fn read_label(alloc: Global, text: &[u8]) -> Result<Option<Stored>, AllocError>
 }
 
 /// How two labels compare, as `order` and its words.
-fn read_order(alloc: Global, text: &[u8]) -> Result<Option<Order>, AllocError>
+fn read_order(alloc: Global, text: &[u8]) -> Result<Option<Compared>, AllocError>
     ensures { IfOk result (λ found. Reads (λ v. codes "order " ++ words_text (order_words v))
         (AreAllowed order_kinds order_words HasThreeBits) text.now found) }
 {

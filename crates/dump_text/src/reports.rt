@@ -3,7 +3,8 @@ ghost use Rattle.std.specs.Prelude.{◌≡◌, ◌<◌, ◌^◌, ◌++◌, ◌�
 ghost use Rattle.text_words.specs.Reading.{Reads};
 ghost use Rattle.text_words.specs.DataWord.{data_text, IsData};
 ghost use Rattle.call_text.specs.ReplyWord.{refusal_text};
-ghost use Rattle.dump_text.specs.Report.{report_text, IsReport, IsKernels, entered_text, AreEntered};
+ghost use Rattle.dump_text.specs.Report.{report_text, IsReport, IsKernels, entered_text};
+ghost use Rattle.dump_text.specs.Report.{AreEntered};
 
 use crate::stripping::after;
 use base::{Category, Data, NoMemory, ObjectId, Refusal};

@@ -8,9 +8,10 @@ ghost use Rattle.dump_text.specs.Dump.{table_lines, dump_text};
 
 use crate::events::put_event;
 use crate::lines::Line;
-use crate::tables::{Dump, Event, Order, Shown, Stored, Tables, Use};
+use crate::tables::{Dump, Stored, Tables};
 use crate::words::{Word, put_further, put_word};
 use base::{Level, NoMemory, ObjectId};
+use kernel_rules::{Compared, Event, Shown, Used};
 use std::alloc::{AllocError, Global};
 
 /// The digit of a level.
@@ -75,14 +76,14 @@ fn put_line_words(out: &mut Vec<u8>, line: &Line) -> Result<(), NoMemory>
         }
         Line::Label(stored) => {
             let more = [Word::Label(stored.label)];
-            put_words(out, b"label ", &Word::Number(stored.index), &more)?;
+            put_words(out, b"label ", &Word::Wide(stored.index as u64), &more)?;
         }
         Line::Order(order) => {
             let more = [
-                Word::Number(order.second),
+                Word::Wide(order.second as u64),
                 Word::Number(u32::from(order.bits)),
             ];
-            put_words(out, b"order ", &Word::Number(order.first), &more)?;
+            put_words(out, b"order ", &Word::Wide(order.first as u64), &more)?;
         }
         Line::End => out.extend_from_slice(b"end")?,
     }
@@ -118,7 +119,7 @@ fn put_live(out: &mut Vec<u8>, live: &[ObjectId]) -> Result<(), NoMemory>
     Ok(())
 }
 
-fn put_uses(out: &mut Vec<u8>, uses: &[Use]) -> Result<(), NoMemory>
+fn put_uses(out: &mut Vec<u8>, uses: &[Used]) -> Result<(), NoMemory>
     ensures { OnOk result (out.new.items
         ≡ out.old.items ++ lines_text line_text (map Line.Use uses.now)) }
 {
@@ -148,7 +149,7 @@ fn put_labels(out: &mut Vec<u8>, labels: &[Stored]) -> Result<(), NoMemory>
     Ok(())
 }
 
-fn put_orders(out: &mut Vec<u8>, orders: &[Order]) -> Result<(), NoMemory>
+fn put_orders(out: &mut Vec<u8>, orders: &[Compared]) -> Result<(), NoMemory>
     ensures { OnOk result (out.new.items
         ≡ out.old.items ++ lines_text line_text (map Line.Order orders.now)) }
 {

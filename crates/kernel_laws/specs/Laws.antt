@@ -67,8 +67,8 @@ pub record IsUntouched (x y : Object) : Type 0 where
   pub fixed : y.fixed ≡ x.fixed
   pub immutable : y.immutable ≡ true
 
--- an immutable object is read-only for good: its bytes, mappings, entries, metadata, quota and fixed
--- flag never change. Threads and devices are never made immutable
+-- an immutable object is read-only for good: its bytes, mappings, entries, metadata, quota and
+-- fixed flag never change. Threads and devices are never made immutable
 abbrev pub ReadOnlyStays : Type 0
 ReadOnlyStays =
     (s : State) (t : ℕ) (c : Call) (o : ℕ) (x y : Object) → x.immutable ≡ true

@@ -26,8 +26,8 @@ pub record Follows (limits : Limits) (before : List Event) (e : Event) : Type 0 
   pub number : e.number ≡ count e.thread before + 1
   pub reply : e.reply ≡ answer (state_of limits before) e.thread e.call
 
--- each event may come after those before it: so each thread's events are numbered 1, 2, 3 and on, and
--- each reply is the answer in the state of the events before it
+-- each event may come after those before it: so each thread's events are numbered 1, 2, 3 and on,
+-- and each reply is the answer in the state of the events before it
 abbrev pub IsLegal : Limits → List Event → Type 0
 IsLegal limits events =
     (before after : List Event) (e : Event) → events ≡ before ++ e ∷ after

@@ -7,8 +7,8 @@ use Rattle.label_lattice.specs.Bits.{bits_of}
 use Rattle.label_intern.specs.Held.{held_at}
 use Rattle.label_intern.specs.Table.{cell}
 
--- the order of a label against itself and the stored labels below n, and of these against it, was written, and no
--- other
+-- the order of a label against itself and the stored labels below n, and of these against it, was
+-- written, and no other
 pub record IsFilled (slots : List (Option Held)) (at : ℕ) (l : LabelValue) (n : ℕ)
     (old new : Table) : Type 0 where
   pub width : new.width ≡ old.width

@@ -10,7 +10,8 @@ pub record Goes (ids gone : List ℕ) (count place : ℕ) : Type 0 where
   pub within : place < length ids
   pub id_is : slice_index gone at ≡ slice_index ids place
 
--- the slots of these places are empty, the others as they were, and no such place is before the first
+-- the slots of these places are empty, the others as they were, and no such place is before the
+-- first
 pub record IsVacated {T : Type 0} (ids slots gone : List ℕ) (count : ℕ)
     (old new : List (Option T)) (first : ℕ) : Type 0 where
   pub pool : length new ≡ length old
@@ -65,7 +66,8 @@ pub record IsClosing {T : Type 0} (ids slots spare ids' slots' spare' : List ℕ
       × (slice_index_or cells (slice_index slots at) None ≡ None))
   pub spare_apart : Apart spare'
 
--- the directory has just the places whose slot has an object, in their order, and the other slots are spare
+-- the directory has just the places whose slot has an object, in their order, and the other slots
+-- are spare
 pub record IsClosed {T : Type 0} (ids slots ids' slots' : List ℕ) (cells : List (Option T))
     : Type 0 where
   pub were : (k : ℕ) → k < length ids'

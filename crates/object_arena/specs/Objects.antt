@@ -63,7 +63,8 @@ without a place slot =
       cells = slice_set a.cells slot None;
     }
 
--- the objects but for those of these ids: each other one has the slot that it had, and their slots have none
+-- the objects but for those of these ids: each other one has the slot that it had, and their slots
+-- have none
 pub record IsWithoutAll {T : Type 0} (old new : Objects T) (gone : List ℕ) : Type 0 where
   pub beside : length new.ids ≡ length new.slots
   pub rises : Rises new.ids

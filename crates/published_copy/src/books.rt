@@ -1,5 +1,6 @@
 //! What lies under the lock.
-ghost use Rattle.std.specs.Prelude.{◌≡◌, ◌≤◌, ◌<◌, ◌+◌, ◌↔◌, ℕ, true, false, [], length, IfOk, OnOk, OnErr};
+ghost use Rattle.std.specs.Prelude.{◌≡◌, ◌≤◌, ◌<◌, ◌+◌, ◌↔◌, ℕ, true, false, [], length, IfOk};
+ghost use Rattle.std.specs.Prelude.{OnOk, OnErr};
 ghost use Rattle.std.specs.Prelude.{◌^◌, IsTrue, IfNone, IsErrOf, vec_len, vec_capacity};
 ghost use Rattle.base.specs.declared.kinds.Kind.TheVariants as kinds;
 ghost use Rattle.kernel_rules.specs.History.{IsLegal, state_of, count};
@@ -94,7 +95,8 @@ fn make_room(
     ensures room { OnOk result (vec_len journal.new < vec_capacity journal.new) }
     ensures placed { OnOk result (place_of thread tallies.new.items < vec_len tallies.new) }
     ensures journal { journal.new.items ≡ journal.old.items }
-    ensures tallies { (other : ℕ) → tallied other tallies.new.items ≡ tallied other tallies.old.items }
+    ensures tallies { (other : ℕ)
+        → tallied other tallies.new.items ≡ tallied other tallies.old.items }
     ensures seats { vec_len tallies.new + seats ≤ vec_capacity tallies.new }
 {
     journal.reserve(1)?;
@@ -162,7 +164,8 @@ impl<B: Naming> Book<B> {
         ensures journal { OnOk result (self.new ≡ with_event B.limits self.old pass.old call.now) }
         ensures pass { OnOk result (pass.new ≡ passed_on self.old pass.old) }
 
-        ensures turn { IsErrOf result SubmitRefusal.OutOfTurn ↔ (is_turn self.old pass.old ≡ false) }
+        ensures turn { IsErrOf result SubmitRefusal.OutOfTurn
+            ↔ (is_turn self.old pass.old ≡ false) }
         ensures kept { OnErr result ((self.new ≡ self.old) × (pass.new ≡ pass.old)) }
         ensures legal { IsLegal B.limits self.new }
     {

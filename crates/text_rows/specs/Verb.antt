@@ -3,7 +3,8 @@ use Rattle.std.specs.Prelude.{ℕ, Bool, true, false, List, [], ◌∷◌, codes
 use Rattle.text_rows.specs.declared.verbs.Verb.{Verb}
 use Rattle.text_rows.specs.declared.verbs.Verb.TheVariants as verbs
 use Rattle.text_rows.specs.declared.args.Kind.{Kind}
-use Rattle.text_rows.specs.declared.args.Kind.TheVariants.{Object, Number, Wide, Signed, Label, Data, Types, Rights}
+use Rattle.text_rows.specs.declared.args.Kind.TheVariants.{Object, Number, Wide, Signed, Label}
+use Rattle.text_rows.specs.declared.args.Kind.TheVariants.{Data, Types, Rights}
 
 -- the word of a call
 abbrev pub name_of : Verb → List ℕ

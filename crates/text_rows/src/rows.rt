@@ -63,7 +63,8 @@ fn read_args(alloc: Global, kinds: &[Kind], words: &[&[u8]]) -> Result<Option<Ve
 
 /// The words that stand in the line.
 fn split(alloc: Global, line: &[u8]) -> Result<Vec<&[u8]>, AllocError>
-    ensures { IfOk result (λ words. map (λ w. w.now) words.items ≡ slice_split (λ b. b == 32) line.now) }
+    ensures { IfOk result
+        (λ words. map (λ w. w.now) words.items ≡ slice_split (λ b. b == 32) line.now) }
 {
     line.split(|b| *b == b' ').collect(alloc)
 }

@@ -1,5 +1,6 @@
 -- Names.
-use Rattle.std.specs.Prelude.{◌≡◌, ◌==◌, ◌&&◌, ◌||◌, Bool, true, false, ℕ, nat_le, List, [], ◌∷◌, length}
+use Rattle.std.specs.Prelude.{◌≡◌, ◌==◌, ◌&&◌, ◌||◌, Bool, true, false, ℕ, nat_le, List, [], ◌∷◌}
+use Rattle.std.specs.Prelude.{length}
 use Rattle.std.specs.List.{list_all}
 use Rattle.std.specs.declared.cmp.Ordering.{Ordering}
 use Rattle.std.specs.Ordering.{nat_cmp, ordering_then}
@@ -30,4 +31,5 @@ name_text bytes = bytes
 -- the order of names as keys: by length, and then by bytes
 abbrev pub name_cmp : List ℕ → List ℕ → Ordering
 name_cmp a b =
-    ordering_then (nat_cmp (length a) (length b)) (slice_cmp nat_cmp (padded 16 0 a) (padded 16 0 b))
+    ordering_then (nat_cmp (length a) (length b))
+    (slice_cmp nat_cmp (padded 16 0 a) (padded 16 0 b))

@@ -2,14 +2,16 @@
 use Rattle.std.specs.Prelude.{ℕ, ◌<◌, ◌==◌, List, [], ◌∷◌, codes, if◌then◌else◌, fold}
 use Rattle.std.specs.Int.RustNames.{bit_or}
 use Rattle.base.specs.declared.kinds.Kind.{Kind}
-use Rattle.base.specs.declared.kinds.Kind.TheVariants.{Container, Segment, AddressSpace, Thread, Gate, Device}
+use Rattle.base.specs.declared.kinds.Kind.TheVariants.{Container, Segment, AddressSpace, Thread}
+use Rattle.base.specs.declared.kinds.Kind.TheVariants.{Gate, Device}
 use Rattle.base.specs.declared.sets.TypeSet.{TypeSet}
 use Rattle.base.specs.Sets.{has_kind, bit_of_kind}
 
 -- the letters csatgd, in the order in which they are written, each with its kind
 abbrev pub letters : List (ℕ × Kind)
 letters =
-    (99, Container) ∷ (115, Segment) ∷ (97, AddressSpace) ∷ (116, Thread) ∷ (103, Gate) ∷ (100, Device) ∷ []
+    (99, Container) ∷ (115, Segment) ∷ (97, AddressSpace) ∷ (116, Thread) ∷ (103, Gate)
+    ∷ (100, Device) ∷ []
 
 -- the letters of the kinds in the set
 abbrev pub letters_of : TypeSet → List (ℕ × Kind) → List ℕ

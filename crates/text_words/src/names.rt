@@ -24,7 +24,8 @@ impl Model for Name {
 
     ghost view = { λ a. take a.len a.bytes };
 
-    ghost invariant = { λ a. (a.len ≤ 16) × (length a.bytes ≡ 16) × (a.bytes ≡ padded 16 0 (take a.len a.bytes))
+    ghost invariant = { λ a. (a.len ≤ 16) × (length a.bytes ≡ 16)
+        × (a.bytes ≡ padded 16 0 (take a.len a.bytes))
         × IsName (take a.len a.bytes) };
 
     ghost inverse = { λ bytes. record { len = length bytes; bytes = padded 16 0 bytes } };

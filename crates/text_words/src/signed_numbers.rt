@@ -1,5 +1,6 @@
 //! Numbers with a sign: a number, or `-` and a number that isn't 0.
-ghost use Rattle.std.specs.Prelude.{◌≡◌, ◌-◌, ◌^◌, ◌≤◌, ◌++◌, ◌∷◌, ℕ, List, negsuc, OnOk, IfSome, IfNone};
+ghost use Rattle.std.specs.Prelude.{◌≡◌, ◌-◌, ◌^◌, ◌≤◌, ◌++◌, ◌∷◌, ℕ, List, negsuc, OnOk, IfSome};
+ghost use Rattle.std.specs.Prelude.{IfNone};
 ghost use Rattle.text_words.specs.Reading.{Reads};
 ghost use Rattle.text_words.specs.SignedWord.{signed_text, IsSigned};
 

@@ -1,5 +1,6 @@
 //! Labels as a script writes them: `{c:3,#7:*,1}`.
-ghost use Rattle.std.specs.Prelude.{◌≡◌, ◌==◌, ◌≤◌, ◌++◌, ◌∷◌, [], ℕ, List, length, map, IfOk, OnOk, IfSome, IfNone};
+ghost use Rattle.std.specs.Prelude.{◌≡◌, ◌==◌, ◌≤◌, ◌++◌, ◌∷◌, [], ℕ, List, length, map, IfOk};
+ghost use Rattle.std.specs.Prelude.{OnOk, IfSome, IfNone};
 ghost use Rattle.std.specs.List.{slice_split};
 ghost use Rattle.text_words.specs.Reading.{Reads};
 ghost use Rattle.text_words.specs.Label.{pair_text, IsPair, label_text, IsLabel, ReadsPairs};
@@ -82,7 +83,8 @@ fn inside(word: &[u8]) -> Option<&[u8]>
 
 /// The parts between commas.
 fn split(alloc: Global, text: &[u8]) -> Result<Vec<&[u8]>, AllocError>
-    ensures { IfOk result (λ words. map (λ w. w.now) words.items ≡ slice_split (λ b. b == 44) text.now) }
+    ensures { IfOk result
+        (λ words. map (λ w. w.now) words.items ≡ slice_split (λ b. b == 44) text.now) }
 {
     text.split(|b| *b == b',').collect(alloc)
 }

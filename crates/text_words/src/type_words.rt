@@ -1,7 +1,8 @@
 //! Sets of kinds: `-`, or the letters of `csatgd` for the kinds in the set, in this order.
 ghost use Rattle.std.specs.Prelude.{◌≡◌, ◌++◌, IsTrue, ◌↔◌, OnOk};
 ghost use Rattle.text_words.specs.Reading.{Reads};
-ghost use Rattle.text_words.specs.TypeWord.{letters, letters_of, types_text, AreKinds, bit_of, bits_of};
+ghost use Rattle.text_words.specs.TypeWord.{letters, letters_of, types_text, AreKinds, bit_of};
+ghost use Rattle.text_words.specs.TypeWord.{bits_of};
 
 use crate::compared::is_same;
 use base::{Kind, TypeSet};

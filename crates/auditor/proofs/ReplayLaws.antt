@@ -1,0 +1,56 @@
+-- Laws of events that are replayed.
+use Rattle.std.proofs.Common.{◌≡◌, ℕ, ◌+◌, List, [], ◌∷◌, ◌++◌, refl, sym, ap, ◌∙◌, subst}
+use Rattle.std.proofs.lemmas.List.{append_assoc, append-nil}
+use Rattle.base.specs.declared.ranges.Limits.{Limits}
+use Rattle.kernel_rules.specs.History.{Follows, IsLegal}
+use Rattle.kernel_rules.proofs.HistoryLaws.{legal_none, legal-snoc}
+use Rattle.kernel_rules.specs.declared.events.Event.{Event}
+use Rattle.auditor.specs.Replay.{true_event, replayed_after, replayed}
+
+-- one event more is replayed after the others
+pub replayed-snoc : (limits : Limits) (before es : List Event) (e : Event)
+    → replayed_after limits before (es ++ e ∷ [])
+    ≡ replayed_after limits before es ++ true_event limits (replayed_after limits before es) e ∷ []
+replayed-snoc limits before [] e = refl
+replayed-snoc limits before (x ∷ xs) e =
+    replayed-snoc limits (before ++ true_event limits before x ∷ []) xs e
+
+-- an event with its true number and reply follows
+true_follows : (limits : Limits) (before : List Event) (e : Event)
+    → Follows limits before (true_event limits before e)
+true_follows limits before e = record { number = refl; reply = refl }
+
+legal_after : (limits : Limits) (before es : List Event) → IsLegal limits before
+    → IsLegal limits (replayed_after limits before es)
+legal_after limits before [] legal = legal
+legal_after limits before (e ∷ es) legal =
+    legal_after limits (before ++ true_event limits before e ∷ []) es
+    (legal-snoc limits before (true_event limits before e) legal (true_follows limits before e))
+
+-- replayed events are legal
+pub replayed_legal : (limits : Limits) (es : List Event) → IsLegal limits (replayed limits es)
+replayed_legal limits es = legal_after limits [] es (legal_none limits [] refl)
+
+-- an event that follows has its true number and reply
+follows_true : (limits : Limits) (before : List Event) (e : Event) → Follows limits before e
+    → true_event limits before e ≡ e
+follows_true limits before e f = λ i. record {
+  thread = e.thread;
+  number = sym f.number i;
+  call = e.call;
+  reply = sym f.reply i;
+}
+
+same_after : (limits : Limits) (before es : List Event) → IsLegal limits (before ++ es)
+    → replayed_after limits before es ≡ before ++ es
+same_after limits before [] legal = sym (append-nil before)
+same_after limits before (e ∷ es) legal =
+    ap (λ (x : Event). replayed_after limits (before ++ x ∷ []) es)
+        (follows_true limits before e (legal before es e refl))
+    ∙ (same_after limits (before ++ e ∷ []) es
+        (subst (λ (l : List Event). IsLegal limits l) (sym (append_assoc before (e ∷ []) es)) legal)
+    ∙ append_assoc before (e ∷ []) es)
+
+-- legal events are what they are replayed as
+pub replayed_same : (limits : Limits) (es : List Event) → IsLegal limits es → replayed limits es ≡ es
+replayed_same limits es legal = same_after limits [] es legal

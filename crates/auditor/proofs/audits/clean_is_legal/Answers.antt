@@ -1,0 +1,8 @@
+use Rattle.auditor.proofs.VerdictLaws.{clean_legal, legal_clean}
+use Rattle.auditor.proofs.audits.clean_is_legal.Goals as goal
+
+pub returns-clause-legal : goal.returns-clause-legal
+returns-clause-legal c = clean_legal
+
+pub returns-clause-clean : goal.returns-clause-clean
+returns-clause-clean c = legal_clean

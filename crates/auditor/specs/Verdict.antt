@@ -1,0 +1,41 @@
+-- What an audit finds.
+use Rattle.std.specs.Prelude.{◌≡◌, ℕ, ◌+◌, ◌==◌, if◌then◌else◌, List, [], ◌∷◌, Option, Some, None}
+use Rattle.base.specs.declared.ranges.Limits.{Limits}
+use Rattle.kernel_rules.specs.History.{IsLegal}
+use Rattle.kernel_rules.specs.declared.events.Event.{Event}
+use Rattle.dump_text.specs.Dump.{dump_text, IsDump, DumpFaultsAt}
+use Rattle.dump_text.specs.Lists.{DumpLists}
+use Rattle.dump_text.specs.Whole.{whole_dump}
+use Rattle.auditor.specs.Replay.{replayed}
+use Rattle.auditor.specs.declared.verdicts.Verdict.{Verdict}
+use Rattle.auditor.specs.declared.verdicts.Verdict.TheVariants as is
+
+-- the dump of a dump's own limits and calls, with the numbers, the replies and the tables of the rules
+abbrev pub true_dump : DumpLists → DumpLists
+true_dump d = whole_dump d.limits (replayed d.limits d.events)
+
+-- the first line in which two texts differ that begin in line n
+abbrev pub first_difference : ℕ → List ℕ → List ℕ → Option ℕ
+first_difference n [] [] = None
+first_difference n (x ∷ xs) (y ∷ ys) =
+    if x == y then first_difference (if x == 10 then n + 1 else n) xs ys else Some n
+first_difference n (x ∷ xs) [] = Some n
+first_difference n [] (y ∷ ys) = Some n
+
+-- The first line in which the bytes differ from the text of the true dump. Each line of an event keeps its
+-- thread and its call there, so it differs where its number or its reply is not the rules'.
+abbrev pub false_line : List ℕ → DumpLists → Option ℕ
+false_line bytes d = first_difference 1 bytes (dump_text (true_dump d))
+
+-- Clean: a dump that differs in no line from the true one. False: it differs in line n first. Unreadable:
+-- line n is the first at which the bytes stop being the beginning of a dump.
+abbrev pub IsVerdict : List ℕ → Verdict → Type 0
+IsVerdict bytes is.Clean = (d : DumpLists) × IsDump bytes d × (false_line bytes d ≡ None)
+IsVerdict bytes (is.False n) = (d : DumpLists) × IsDump bytes d × (false_line bytes d ≡ Some n)
+IsVerdict bytes (is.Unreadable n) = DumpFaultsAt bytes n
+
+-- the bytes are the text of the dump of a legal list of events
+abbrev pub IsLegalText : List ℕ → Type 0
+IsLegalText bytes =
+    (limits : Limits) × (events : List Event) × IsLegal limits events
+    × (bytes ≡ dump_text (whole_dump limits events))

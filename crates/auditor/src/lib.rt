@@ -1,0 +1,16 @@
+//! Whether a dump is true: its calls are played again on a plain kernel, booted with its limits, and what they make
+//! is written as a dump. The dump that is audited is true where the two are the same text.
+#![tactic(auto)]
+
+mod audits;
+mod differences;
+mod program;
+mod replays;
+mod verdicts;
+
+pub use audits::{audit, clean_is_legal, one_verdict};
+pub use program::{Ended, audit_on};
+pub use verdicts::Verdict;
+
+#[cfg(test)]
+mod tests;
