@@ -10,7 +10,7 @@ use Rattle.call_text.proofs.TextLemmas.{IsGrammar}
 module _ {S V : Type 0} (text : V → List ℕ) (Fits : V → Type 0) (next : S → V → Option S)
     (g : IsGrammar text Fits) where
   -- no line that may stand in this state comes next
-  NoMore : S → List ℕ → Type 0
+  abbrev NoMore : S → List ℕ → Type 0
   NoMore s rest = (v : V) (more : List ℕ) → Fits v → IsSome (next s v) → rest ≡ text v ++ 10 ∷ more → ⊥
 
   some_here : (o : Option S) (vs : List V) (t : S) → run next o vs ≡ Some t → IsSome o
