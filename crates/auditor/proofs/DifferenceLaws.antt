@@ -6,7 +6,7 @@ use Rattle.std.proofs.lemmas.Bool.Decides.{eqb_tells}
 use Rattle.auditor.specs.Verdict.{first_difference}
 
 -- what is told of two texts whose first bytes are the same, or not
-told : Bool → ℕ → ℕ → List ℕ → List ℕ → Option ℕ
+abbrev told : Bool → ℕ → ℕ → List ℕ → List ℕ → Option ℕ
 told same n m xs ys = if same then first_difference m xs ys else Some n
 
 pub none_same : (n : ℕ) (xs ys : List ℕ) → first_difference n xs ys ≡ None → xs ≡ ys

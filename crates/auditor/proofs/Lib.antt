@@ -1,3 +1,4 @@
+pub mod CountLaws
 pub mod ReplayLaws
 pub mod DifferenceLaws
 pub mod VerdictLaws

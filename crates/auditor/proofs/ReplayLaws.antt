@@ -1,5 +1,7 @@
 -- Laws of events that are replayed.
-use Rattle.std.proofs.Common.{◌≡◌, ℕ, ◌+◌, List, [], ◌∷◌, ◌++◌, refl, sym, ap, ◌∙◌, subst}
+use Rattle.std.proofs.Common.{◌≡◌, ℕ, ◌+◌, ◌<◌, List, [], ◌∷◌, ◌++◌, length, take, get_or}
+use Rattle.std.proofs.Common.{refl, sym, ap, ◌∙◌, subst, add-one}
+use Rattle.std.proofs.Math.Seq.{take-suc}
 use Rattle.std.proofs.lemmas.List.{append_assoc, append-nil}
 use Rattle.base.specs.declared.ranges.Limits.{Limits}
 use Rattle.kernel_rules.specs.History.{Follows, IsLegal}
@@ -46,11 +48,21 @@ same_after : (limits : Limits) (before es : List Event) → IsLegal limits (befo
 same_after limits before [] legal = sym (append-nil before)
 same_after limits before (e ∷ es) legal =
     ap (λ (x : Event). replayed_after limits (before ++ x ∷ []) es)
-        (follows_true limits before e (legal before es e refl))
+    (follows_true limits before e (legal before es e refl))
     ∙ (same_after limits (before ++ e ∷ []) es
-        (subst (λ (l : List Event). IsLegal limits l) (sym (append_assoc before (e ∷ []) es)) legal)
+    (subst (λ (l : List Event). IsLegal limits l) (sym (append_assoc before (e ∷ []) es)) legal)
     ∙ append_assoc before (e ∷ []) es)
 
 -- legal events are what they are replayed as
 pub replayed_same : (limits : Limits) (es : List Event) → IsLegal limits es → replayed limits es ≡ es
 replayed_same limits es legal = same_after limits [] es legal
+
+-- one event more of a list is taken again
+pub replayed_more : (limits kept : Limits) (events : List Event) (i : ℕ) (x : Event) (old new : List Event)
+    → kept ≡ limits → old ≡ replayed limits (take i events) → new ≡ old ++ true_event kept old x ∷ []
+    → i < length events → x ≡ get_or events i x → new ≡ replayed limits (take (i + 1) events)
+replayed_more limits kept events i x old new kept_is old_is new_is less at =
+    let more : take (i + 1) events ≡ take i events ++ x ∷ [] =
+    rw (add-one i) (take-suc events i x less ∙ ap (λ e. take i events ++ e ∷ []) (sym at)) in
+    new_is ∙ (λ k. old_is k ++ true_event (kept_is k) (old_is k) x ∷ [])
+    ∙ sym (replayed-snoc limits [] (take i events) x) ∙ ap (replayed limits) (sym more)

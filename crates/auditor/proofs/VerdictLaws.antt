@@ -27,23 +27,26 @@ module _ (bytes : List ℕ) (one : OneReading bytes) where
   pub verdicts_same : (v w : Verdict) → IsVerdict bytes v → IsVerdict bytes w → v ≡ w
   verdicts_same is.Clean is.Clean a b = refl
   verdicts_same is.Clean (is.False n) a b =
-      absurd (cc (lines_same a.0 b.0 None (Some n) a.1.0 b.1.0 a.1.1 b.1.1))
-  verdicts_same is.Clean (is.Unreadable n) a b = absurd (one.fault n a.0 b a.1.0)
+      absurd (cc (lines_same a.0 b.0 None (Some n) a.1 b.1 a.2 b.2))
+  verdicts_same is.Clean (is.Unreadable n) a b = absurd (one.fault n a.0 b a.1)
   verdicts_same (is.False n) is.Clean a b =
-      absurd (cc (lines_same a.0 b.0 (Some n) None a.1.0 b.1.0 a.1.1 b.1.1))
+      absurd (cc (lines_same a.0 b.0 (Some n) None a.1 b.1 a.2 b.2))
   verdicts_same (is.False n) (is.False m) a b =
-      let same : n ≡ m = cc (lines_same a.0 b.0 (Some n) (Some m) a.1.0 b.1.0 a.1.1 b.1.1) in ap is.False same
-  verdicts_same (is.False n) (is.Unreadable m) a b = absurd (one.fault m a.0 b a.1.0)
-  verdicts_same (is.Unreadable n) is.Clean a b = absurd (one.fault n b.0 a b.1.0)
-  verdicts_same (is.Unreadable n) (is.False m) a b = absurd (one.fault n b.0 a b.1.0)
+      let same : n ≡ m = cc (lines_same a.0 b.0 (Some n) (Some m) a.1 b.1 a.2 b.2) in ap is.False same
+  verdicts_same (is.False n) (is.Unreadable m) a b = absurd (one.fault m a.0 b a.1)
+  verdicts_same (is.Unreadable n) is.Clean a b = absurd (one.fault n b.0 a b.1)
+  verdicts_same (is.Unreadable n) (is.False m) a b = absurd (one.fault n b.0 a b.1)
   verdicts_same (is.Unreadable n) (is.Unreadable m) a b = ap is.Unreadable (one.line n m a b)
 
 -- a dump that differs nowhere from the true one is that one, whose events are legal
 pub clean_legal : (bytes : List ℕ) → IsVerdict bytes is.Clean → IsLegalText bytes
 clean_legal bytes v =
-    let d = v.0 in
-    (d.limits, (replayed d.limits d.events, (replayed_legal d.limits d.events,
-    none_same 1 bytes (dump_text (true_dump d)) v.1.1)))
+    let d = v.0 in (
+      d.limits,
+      replayed d.limits d.events,
+      replayed_legal d.limits d.events,
+      none_same 1 bytes (dump_text (true_dump d)) v.2,
+    )
 
 true_same : (limits : Limits) (events : List Event) → IsLegal limits events
     → true_dump (whole_dump limits events) ≡ whole_dump limits events
@@ -54,5 +57,8 @@ pub legal_clean : (bytes : List ℕ) (limits : Limits) (events : List Event) →
     → IsDump bytes (whole_dump limits events) → IsVerdict bytes is.Clean
 legal_clean bytes limits events legal is_dump =
     let same : bytes ≡ dump_text (true_dump (whole_dump limits events)) =
-        is_dump.bytes_are ∙ sym (ap dump_text (true_same limits events legal)) in
-    (whole_dump limits events, (is_dump, equal_none 1 bytes _ same))
+    is_dump.bytes_are ∙ sym (ap dump_text (true_same limits events legal)) in (
+      whole_dump limits events,
+      is_dump,
+      equal_none 1 bytes (dump_text (true_dump (whole_dump limits events))) same,
+    )

@@ -10,7 +10,7 @@ ghost use Rattle.auditor.specs.declared.verdicts.Verdict.TheVariants.{Clean as L
 ghost use Rattle.auditor.specs.Verdict.{true_dump, IsVerdict, IsLegalText};
 
 use crate::differences::first_difference;
-use crate::replays::replay;
+use crate::replays::take_all;
 use crate::verdicts::Verdict;
 use base::NoMemory;
 use dump_text::{Dump, DumpError, dump_with, one_reading, read_dump, write_dump};
@@ -21,7 +21,7 @@ use std::alloc::Global;
 fn true_text(alloc: Global, dump: &Dump) -> Result<Vec<u8>, NoMemory>
     ensures { IfOk result (λ text. text.items ≡ dump_text (true_dump dump.now)) }
 {
-    let mut replay = replay(alloc, &dump.limits, dump.events.as_slice())?;
+    let mut replay = take_all(alloc, &dump.limits, dump.events.as_slice())?;
     let tables = replay.kernel.tables(&mut replay.meter)?;
     let told = dump_with(alloc, &dump.limits, replay.events, tables)?;
     write_dump(alloc, &told)

@@ -30,7 +30,7 @@ fn count_of(counts: &BTreeMap<u64, u64>, events: &[Event], thread: ObjectId) -> 
     ensures count { result ≡ count thread events.now }
     ensures within { result ≤ length events.now }
 {
-    match counts.get(thread.number()) {
+    match counts.get(&thread.number()) {
         None => 0,
         Some(count) => *count,
     }
@@ -64,7 +64,9 @@ impl Replay {
             ++ true_event self.old.limits self.old.events.items event.now ∷ []) }
     {
         let number = count_of(&self.counts, self.events.as_slice(), event.thread) + 1;
-        let reply = self.kernel.step(event.thread, &event.call, &mut self.meter)?;
+        let reply = self
+            .kernel
+            .step(event.thread, &event.call, &mut self.meter)?;
         self.events.push(Event {
             thread: event.thread,
             number,
@@ -77,7 +79,7 @@ impl Replay {
 }
 
 /// Takes the calls of events again, from a boot with these limits.
-pub fn replay(alloc: Global, limits: &Limits, events: &[Event]) -> Result<Replay, NoMemory>
+pub fn take_all(alloc: Global, limits: &Limits, events: &[Event]) -> Result<Replay, NoMemory>
     ensures replay { IfOk result IsReplay }
     ensures limits { IfOk result (λ r. r.limits ≡ limits.now) }
     ensures events { IfOk result (λ r. r.events.items ≡ replayed limits.now events.now) }

@@ -13,7 +13,7 @@ const BOOT: &str =
 /// The dump of a run in which thread 2 made two categories and wrote to a segment, and thread 7, which there is not, made
 /// a call.
 const CALLS: &str =
-    "histar-dump 1\nlimits 8 1 4 1\nevent 2 1 cat_create => cat #1\nevent 2 2 cat_create => cat #2\nevent 7 1 cat_create => refused 1 Halted\nevent 2 3 segment_create #1 {#1:3,1} 2 1 => id #4\nevent 2 4 segment_write #1 #4 0 00ff => ok\nevent 2 5 dev_recv #1 #3 => refused 24 DeviceEmpty\nlive 1\nlive 2\nlive 3\nlive 4\nuse 1 6\nuse 2 1\nuse 3 2\nuse 4 2\nlabel 0 {#1:*,#2:*,1}\nlabel 1 {#1:3,1}\nlabel 2 {1}\nlabel 3 {#1:3,#2:3,2}\nlabel 4 {3}\norder 0 0 3\norder 0 1 7\norder 0 2 7\norder 0 3 7\norder 0 4 7\norder 1 0 6\norder 1 1 7\norder 1 2 0\norder 1 3 7\norder 1 4 7\norder 2 0 6\norder 2 1 7\norder 2 2 7\norder 2 3 7\norder 2 4 7\norder 3 0 0\norder 3 1 0\norder 3 2 0\norder 3 3 7\norder 3 4 7\norder 4 0 0\norder 4 1 0\norder 4 2 0\norder 4 3 0\norder 4 4 7\nend\n";
+    "histar-dump 1\nlimits 8 1 4 1\nevent 2 1 cat_create => cat #1\nevent 2 2 cat_create => cat #2\nevent 7 1 cat_create => refused 1 Halted\nevent 2 3 segment_create #1 {#1:3,1} 2 1 => id #4\nevent 2 4 segment_write #1 #4 0 00ff => ok\nevent 2 5 dev_recv #1 #3 => refused 24 DeviceEmpty\nlive 1\nlive 2\nlive 3\nlive 4\nuse 1 6\nuse 2 1\nuse 3 2\nuse 4 2\nlabel 0 {1}\nlabel 1 {#1:*,#2:*,1}\nlabel 2 {#1:3,1}\nlabel 3 {#1:3,#2:3,2}\nlabel 4 {3}\norder 0 0 7\norder 0 1 6\norder 0 2 7\norder 0 3 7\norder 0 4 7\norder 1 0 3\norder 1 1 7\norder 1 2 3\norder 1 3 3\norder 1 4 3\norder 2 0 0\norder 2 1 6\norder 2 2 7\norder 2 3 7\norder 2 4 7\norder 3 0 0\norder 3 1 0\norder 3 2 0\norder 3 3 7\norder 3 4 7\norder 4 0 0\norder 4 1 0\norder 4 2 0\norder 4 3 0\norder 4 4 7\nend\n";
 
 /// The dump with one of its lines, from 1, changed.
 fn with_line(alloc: Global, dump: &str, line: usize, other: &str) -> Result<Vec<u8>, AllocError> {
@@ -57,11 +57,18 @@ fn each_untrue_line_is_told(rt: HostRuntime) -> Result<(), Fail> {
         (CALLS, 4, "event 2 1 cat_create => cat #2"),
         (CALLS, 5, "event 7 1 cat_create => ok"),
         (CALLS, 5, "event 7 2 cat_create => refused 1 Halted"),
-        (CALLS, 6, "event 2 3 segment_create #1 {#1:3,1} 2 1 => id #5"),
+        (
+            CALLS,
+            6,
+            "event 2 3 segment_create #1 {#1:3,1} 2 1 => id #5",
+        ),
         (CALLS, 8, "event 2 5 dev_recv #1 #3 => data 00"),
     ];
     for (dump, line, other) in cases {
-        assert_eq!(rt; changed(rt.alloc(), dump, line, other)?, Verdict::False(line as u64));
+        assert_eq!(rt;
+            changed(rt.alloc(), dump, line, other)?,
+            Verdict::False(line as u64)
+        );
     }
     Ok(())
 }
@@ -71,9 +78,15 @@ fn an_untrue_call_shows_where_it_is_seen(rt: HostRuntime) -> Result<(), Fail> {
     let gone = "event 2 4 unref #1 #4 => ok";
     assert_eq!(rt; changed(rt.alloc(), CALLS, 7, gone)?, Verdict::False(12));
     let other = "event 2 3 segment_create #1 {#2:3,1} 2 1 => id #4";
-    assert_eq!(rt; changed(rt.alloc(), CALLS, 6, other)?, Verdict::False(18));
-    assert_eq!(rt; changed(rt.alloc(), CALLS, 2, "limits 8 0 4 1")?, Verdict::False(17));
-    assert_eq!(rt; changed(rt.alloc(), CALLS, 2, "limits 9 1 4 2")?, Verdict::False(3));
+    assert_eq!(rt; changed(rt.alloc(), CALLS, 6, other)?, Verdict::False(19));
+    assert_eq!(rt;
+        changed(rt.alloc(), CALLS, 2, "limits 8 0 4 1")?,
+        Verdict::False(8)
+    );
+    assert_eq!(rt;
+        changed(rt.alloc(), CALLS, 2, "limits 9 1 4 2")?,
+        Verdict::False(3)
+    );
     Ok(())
 }
 
@@ -121,7 +134,10 @@ fn what_is_no_dump_is_unreadable(rt: HostRuntime) -> Result<(), Fail> {
         (21, "End"),
     ];
     for (line, other) in cases {
-        assert_eq!(rt; changed(rt.alloc(), BOOT, line, other)?, Verdict::Unreadable(line as u64));
+        assert_eq!(rt;
+            changed(rt.alloc(), BOOT, line, other)?,
+            Verdict::Unreadable(line as u64)
+        );
     }
     Ok(())
 }
@@ -163,6 +179,7 @@ fn the_verdict_is_printed(rt: HostRuntime) -> Result<(), Fail> {
 }
 
 /// A reader and a writer that always fail.
+#[derive(Drop)]
 struct Broken;
 
 impl Read for Broken {

@@ -1,6 +1,6 @@
 use Rattle.std.proofs.Common.{◌≡◌, take}
 use Rattle.auditor.specs.Replay.{replayed, IsReplay}
-use Rattle.auditor.proofs.replays.replay.Given as goal
+use Rattle.auditor.proofs.replays.take_all.Given as goal
 
 abbrev pub invariant-loop-event : goal.invariant-loop-event
 invariant-loop-event l =
