@@ -1,12 +1,15 @@
 //! Plays a script on a newly booted kernel, and runs the program over a reader and two writers.
 //!
-//! A script is read whole before a line of it is played, and all output is made before a byte of it goes out. That a
-//! line printed is the text of what its call answered, and which status and fault line a run ends with, is shown by
-//! tests. So are the order of the lines and that the workers of a phase run at once.
+//! A script is read whole before a line of it is played, and all output is made before a byte of it goes out. The dump
+//! of a run is proved to be that of a legal journal, the book's at the end. That a line printed is the text of what its
+//! call answered, and which status and fault line a run ends with, is shown by tests. So are the order of the lines and
+//! that the workers of a phase run at once.
 #![tactic(auto)]
 
+mod dumps;
 mod faults;
 mod gates;
+mod closings;
 mod names;
 mod parts;
 mod play;
@@ -14,12 +17,15 @@ mod printing;
 mod program;
 mod workers;
 
+pub use dumps::dump_of;
 pub use faults::PlayFault;
 pub use gates::{Always, Gate, Turn};
 pub use names::{BoundNames, WorkerNames};
 pub use play::{Played, play_all};
 pub use program::{Ended, histar_on};
 
+#[cfg(test)]
+mod dump_tests;
 #[cfg(test)]
 mod row_tests;
 #[cfg(test)]

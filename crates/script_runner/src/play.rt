@@ -1,8 +1,10 @@
 //! Playing a script: each worker of a phase in a thread of its own.
-ghost use Rattle.std.specs.Prelude.{◌≡◌};
+ghost use Rattle.std.specs.Prelude.{◌≡◌, IfOk};
+ghost use Rattle.script_runner.specs.Dumps.{IsClosing};
 
 use crate::faults::PlayFault;
 use crate::gates::Gate;
+use crate::closings::{Closing, closing_of};
 use crate::names::BoundNames;
 use crate::parts::{Parts, parts_of, workers_of};
 use crate::printing::output_of;
@@ -10,7 +12,7 @@ use crate::workers::{Ended, Worker};
 use base::{Limits, ObjectId};
 use call_text::{Known, Phase, Script, Value};
 use indexmap::IndexSet;
-use kernel_rules::Event;
+use kernel_rules::{Event, Tables};
 use published_copy::{Blank, Naming, Shared};
 use std::alloc::{AllocError, Global};
 use std::marker::Brand;
@@ -27,6 +29,8 @@ pub struct Played {
     pub output: Vec<u8>,
     /// The journal: each write call that was made, in the order in which the kernel took them.
     pub events: Vec<Event>,
+    /// The tables of the state that the journal leads to.
+    pub tables: Tables,
 }
 
 /// The workers that play a phase, by their places among all.
@@ -185,23 +189,14 @@ fn play_phase<'s, B: Naming + Send, R: Threads + Wait + Sync, G: Gate>(
     settle(rt, alloc, &parts, played, names)
 }
 
-fn events_of<B: Naming, R: Wait>(
-    rt: &R,
-    alloc: Global,
-    shared: &Shared<B>,
-) -> Result<Vec<Event>, AllocError> {
-    let mut events = Vec::new(alloc);
-    events.extend_from_slice(shared.book(rt).events())?;
-    Ok(events)
-}
-
-fn play_shared<'s, B: Naming + Send, R: Threads + Wait + Sync, G: Gate>(
+/// Plays the phases one after another, and makes the output.
+fn play_phases<'s, B: Naming + Send, R: Threads + Wait + Sync, G: Gate>(
     rt: &R,
     alloc: Global,
     shared: &'s Shared<B>,
     script: &Script,
     gate: &G,
-) -> Result<Played, PlayFault> {
+) -> Result<Vec<u8>, PlayFault> {
     let workers = workers_of(alloc, script)?;
     let played: Vec<Mutex<Worker<'s, B>>> = idle(alloc, workers.len())?;
     let mut names = BoundNames::start(alloc)?;
@@ -217,9 +212,25 @@ fn play_shared<'s, B: Naming + Send, R: Threads + Wait + Sync, G: Gate>(
             &mut names,
         )?;
     }
-    let output = output_of(rt, alloc, &workers, played.as_slice(), &names)?;
-    let events = events_of(rt, alloc, shared)?;
-    Ok(Played { output, events })
+    Ok(output_of(rt, alloc, &workers, played.as_slice(), &names)?)
+}
+
+fn play_shared<'s, B: Naming + Send, R: Threads + Wait + Sync, G: Gate>(
+    rt: &R,
+    alloc: Global,
+    shared: &'s Shared<B>,
+    script: &Script,
+    gate: &G,
+) -> Result<Played, PlayFault>
+    ensures { IfOk result (λ played. IsClosing B.limits played.events.items played.tables) }
+{
+    let output = play_phases(rt, alloc, shared, script, gate)?;
+    let Closing { events, tables } = closing_of(rt, alloc, shared)?;
+    Ok(Played {
+        output,
+        events,
+        tables,
+    })
 }
 
 fn play_booted<B: Naming + Send, R: Threads + Wait + Sync, G: Gate>(
@@ -230,6 +241,7 @@ fn play_booted<B: Naming + Send, R: Threads + Wait + Sync, G: Gate>(
     gate: &G,
 ) -> Result<Played, PlayFault>
     requires { blank ≡ B.limits }
+    ensures { IfOk result (λ played. IsClosing B.limits played.events.items played.tables) }
 {
     let shared = blank.open::<B>();
     play_shared(rt, alloc, &shared, script, gate)
@@ -238,14 +250,17 @@ fn play_booted<B: Naming + Send, R: Threads + Wait + Sync, G: Gate>(
 /// Plays a script on a newly booted kernel: its phases one after another, in each the workers at once, each one with a
 /// seat in a thread of its own. A name is known to the worker that bound it from its next line on, and to all others from
 /// the next phase on. The replies print the names of the script as they are bound when all is played, and `#` and the
-/// number of what has none. It waits for all threads that it starts. Nothing is printed after a fault.
+/// number of what has none. It waits for all threads that it starts. Nothing is printed after a fault. The journal and
+/// the tables are the book's at the end: the journal is legal, and the tables are those of the state that it leads to.
 pub fn play_all<R: Threads + Wait + Sync, G: Gate>(
     rt: &R,
     alloc: Global,
     script: &Script,
     limits: &Limits,
     gate: &G,
-) -> Result<Played, PlayFault> {
+) -> Result<Played, PlayFault>
+    ensures { IfOk result (λ played. IsClosing limits.now played.events.items played.tables) }
+{
     match Blank::boot(alloc, limits) {
         Ok(blank) => play_booted::<Brand, R, G>(rt, alloc, blank, script, gate),
         Err(refusal) => Err(PlayFault::Boot(refusal)),

@@ -1,7 +1,13 @@
 //! The program, over a reader and two writers.
+ghost use Rattle.std.specs.Prelude.{◌≡◌, ◌<◌, [], IfOk};
+ghost use Rattle.script_runner.specs.Dumps.{IsClosing, IsFile};
+
+use crate::dumps::dump_of;
 use crate::gates::Always;
-use crate::play::play_all;
+use crate::play::{Played, play_all};
+use base::NoMemory;
 use call_text::{Script, ScriptError, read_script};
+use kernel_rules::{Event, Tables};
 use script_words::Options;
 use std::alloc::Global;
 use std::io::{ErrorKind, Read, Write};
@@ -9,11 +15,13 @@ use std::sync::Wait;
 use std::thread::Threads;
 
 /// How a run ended.
-#[derive(Clone, Copy, PartialEq, Eq, Debug)]
+#[derive(PartialEq, Eq, Debug, Drop)]
 pub struct Ended {
     /// 0 where the script was played, 1 where it has a fault, 3 where it can't be read or the output can't be written, 4
     /// where there was no memory. (2 is a fault of usage, of which the words tell.)
     pub status: u8,
+    /// What goes to the dump's file: the dump where one is asked for and the status is 0, and else nothing.
+    pub file: Vec<u8>,
 }
 
 /// Why a run ends with another status than 0.
@@ -23,6 +31,21 @@ enum Fault {
     Script(u32),
     Memory,
     Output,
+}
+
+impl From<NoMemory> for Fault {
+    fn from(_: NoMemory) -> Fault {
+        Fault::Memory
+    }
+}
+
+/// What a run writes.
+#[derive(Drop)]
+struct Texts {
+    /// The replies.
+    output: Vec<u8>,
+    /// What goes to the dump's file.
+    file: Vec<u8>,
 }
 
 fn input_of<I: Read>(alloc: Global, script: &mut I) -> Result<Vec<u8>, Fault> {
@@ -45,25 +68,65 @@ fn script_of(alloc: Global, bytes: &[u8]) -> Result<Script, Fault> {
     }
 }
 
+/// The dump, where one is asked for.
+fn file_of(
+    alloc: Global,
+    options: &Options,
+    events: Vec<Event>,
+    tables: Tables,
+) -> Result<Vec<u8>, NoMemory>
+    requires { IsClosing options.now.limits events.items tables }
+    ensures { IfOk result (λ file. IsFile options.now.dump options.now.limits file.items) }
+{
+    if !options.dump {
+        return Ok(Vec::new(alloc));
+    }
+    dump_of(alloc, &options.limits, events, tables)
+}
+
+/// Plays a script, and makes all that the run writes.
+fn texts_of<R: Threads + Wait + Sync>(
+    rt: &R,
+    alloc: Global,
+    script: &Script,
+    options: &Options,
+) -> Result<Texts, Fault>
+    ensures { IfOk result
+        (λ texts. IsFile options.now.dump options.now.limits texts.file.items) }
+{
+    let Ok(played) = play_all(rt, alloc, script, &options.limits, &Always) else {
+        return Err(Fault::Memory);
+    };
+    let Played {
+        output,
+        events,
+        tables,
+    } = played;
+    let file = file_of(alloc, options, events, tables)?;
+    Ok(Texts { output, file })
+}
+
 fn run<R: Threads + Wait + Sync, I: Read, O: Write>(
     rt: &R,
     alloc: Global,
     script: &mut I,
     options: &Options,
     out: &mut O,
-) -> Result<(), Fault> {
+) -> Result<Vec<u8>, Fault>
+    ensures { IfOk result (λ file. IsFile options.now.dump options.now.limits file.items) }
+{
     let bytes = input_of(alloc, script)?;
     let script = script_of(alloc, bytes.as_slice())?;
-    let Ok(played) = play_all(rt, alloc, &script, &options.limits, &Always) else {
-        return Err(Fault::Memory);
-    };
-    if out.write_all(played.output.as_slice()).is_err() || out.flush().is_err() {
+    let Texts { output, file } = texts_of(rt, alloc, &script, options)?;
+    if out.write_all(output.as_slice()).is_err() || out.flush().is_err() {
         return Err(Fault::Output);
     }
-    Ok(())
+    Ok(file)
 }
 
-fn told<E: Write>(err: &mut E, fault: Fault) -> u8 {
+fn told<E: Write>(err: &mut E, fault: Fault) -> u8
+    ensures { 0 < result }
+{
     match fault {
         Fault::Script(line) => {
             let _ = writeln!(err, "histar: line {line}: script fault");
@@ -85,8 +148,8 @@ fn told<E: Write>(err: &mut E, fault: Fault) -> u8 {
 }
 
 /// Plays the script that a reader gives, and writes its replies. The faults are found in this order, the first one ending
-/// the run with one line on `err`: reading, the script's, want of memory in playing, writing. No byte goes to `out`
-/// before the output is whole. It waits for all threads that it starts.
+/// the run with one line on `err`: reading, the script's, want of memory in playing and in making the texts, writing. No
+/// byte goes to `out` before the replies and the dump are whole. It waits for all threads that it starts.
 pub fn histar_on<R: Threads + Wait + Sync, I: Read, O: Write, E: Write>(
     rt: &R,
     alloc: Global,
@@ -94,11 +157,16 @@ pub fn histar_on<R: Threads + Wait + Sync, I: Read, O: Write, E: Write>(
     options: &Options,
     out: &mut O,
     err: &mut E,
-) -> Ended {
+) -> Ended
+    ensures ok { result.status ≡ 0
+        → IsFile options.now.dump options.now.limits result.file.items }
+    ensures fault { 0 < result.status → result.file.items ≡ [] }
+{
     match run(rt, alloc, script, options, out) {
-        Ok(()) => Ended { status: 0 },
+        Ok(file) => Ended { status: 0, file },
         Err(fault) => Ended {
             status: told(err, fault),
+            file: Vec::new(alloc),
         },
     }
 }

@@ -279,7 +279,10 @@ const ROWS: [Row; 23] = [
 
 fn check_row<R: Abort + AllocGlobal + Threads + Wait + Sync>(rt: &R, row: &Row) {
     let alloc = rt.alloc();
-    let options = Options { limits: row.limits };
+    let options = Options {
+        limits: row.limits,
+        dump: false,
+    };
     let mut out = Vec::new(alloc);
     let mut err = Vec::new(alloc);
     let mut input = row.script;

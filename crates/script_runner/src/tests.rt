@@ -31,6 +31,7 @@ fn check<R: Abort + AllocGlobal + Threads + Wait + Sync>(
     let mut input = script;
     let ended = histar_on(rt, alloc, &mut input, &DEFAULTS, &mut out, &mut err);
     assert_eq!(rt; ended.status, status);
+    assert!(rt; ended.file.is_empty());
     assert_eq!(rt; out.as_slice(), wanted);
     assert_eq!(rt; err.as_slice(), told);
 }

@@ -7,7 +7,7 @@ use std::test::Fail;
 fn reads_the_options(rt: HostRuntime) -> Result<(), Fail> {
     let words = ["histar", "run", "a.histar"];
     let told = read_words(rt.alloc(), words.as_slice())?;
-    assert!(rt; told.script == "a.histar" && told.options == DEFAULTS);
+    assert!(rt; told.script == "a.histar" && told.options == DEFAULTS && told.dump.is_none());
     let words = [
         "histar",
         "run",
@@ -29,7 +29,7 @@ fn reads_the_options(rt: HostRuntime) -> Result<(), Fail> {
         next_id: spent,
         next_category: spent,
     };
-    assert!(rt; told.options.limits == limits && limits.is_in_range());
+    assert!(rt; told.options.limits == limits && limits.is_in_range() && !told.options.dump);
     let words = [
         "histar",
         "run",
@@ -55,6 +55,35 @@ fn reads_the_options(rt: HostRuntime) -> Result<(), Fail> {
 }
 
 #[test]
+fn reads_the_path_of_the_dump(rt: HostRuntime) -> Result<(), Fail> {
+    let words = ["histar", "run", "--dump", "a.dump", "a.histar"];
+    let told = read_words(rt.alloc(), words.as_slice())?;
+    assert!(rt; told.script == "a.histar" && told.dump == Some("a.dump"));
+    assert!(rt; told.options.limits == DEFAULTS.limits && told.options.dump);
+    let words = ["histar", "run", "a.histar", "--dump=d", "--pages", "8"];
+    let told = read_words(rt.alloc(), words.as_slice())?;
+    assert!(rt; told.script == "a.histar" && told.dump == Some("d"));
+    assert!(rt; told.options.limits.pages == 8 && told.options.dump);
+    Ok(())
+}
+
+#[test]
+fn refuses_a_dump_without_a_path_or_twice(rt: HostRuntime) -> Result<(), Fail> {
+    let unread: [&[&str]; 3] = [
+        &["histar", "run", "a.histar", "--dump"],
+        &["histar", "run", "--dump", "--pages", "8"],
+        &["histar", "run", "a.histar", "--dump", "d", "--dump", "d"],
+    ];
+    for words in unread {
+        match read_words(rt.alloc(), words) {
+            Ok(_) => assert!(rt; false, "{words:?}"),
+            Err(error) => assert!(rt; error.exit_code() == 2 && error.use_stderr(), "{words:?}"),
+        }
+    }
+    Ok(())
+}
+
+#[test]
 fn refuses_what_is_out_of_range(rt: HostRuntime) -> Result<(), Fail> {
     let cases = [
         ["--pages", "7"],
@@ -65,7 +94,7 @@ fn refuses_what_is_out_of_range(rt: HostRuntime) -> Result<(), Fail> {
         ["--next-category", "0"],
         ["--next-category", "2305843009213693953"],
         ["--pages", "x"],
-        ["--dump", "d"],
+        ["--dumps", "d"],
     ];
     for case in cases {
         let words = ["histar", "run", "a.histar", case[0], case[1]];

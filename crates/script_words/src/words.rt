@@ -1,4 +1,6 @@
 //! The command line of `histar`.
+ghost use Rattle.std.specs.Prelude.{◌≡◌, IfOk, is_some};
+
 use base::{Level, Limits};
 use clap::{Arg, ArgAction, ArgMatches, Command, Error, value_parser};
 use std::alloc::Global;
@@ -9,9 +11,12 @@ use std::convert::AsStr;
 pub struct Options {
     /// What the kernel is booted with.
     pub limits: Limits,
+    /// Whether a dump of the run is made.
+    pub dump: bool,
 }
 
-/// The options of a run that is told none: 64 pages, a device of level 1, the first id 4 and the first category 1.
+/// The options of a run that is told none: 64 pages, a device of level 1, the first id 4 and the first category 1, and no
+/// dump.
 pub const DEFAULTS: Options = Options {
     limits: Limits {
         pages: 64,
@@ -19,6 +24,7 @@ pub const DEFAULTS: Options = Options {
         next_id: 4,
         next_category: 1,
     },
+    dump: false,
 };
 
 /// What the words say.
@@ -27,6 +33,8 @@ pub struct Told<'a> {
     pub options: Options,
     /// The path of the script.
     pub script: &'a str,
+    /// The path of the file that the dump goes to, where one is asked for.
+    pub dump: Option<&'a str>,
 }
 
 fn number<'a>(alloc: Global, name: &'a str, default: &'a str, help: &'a str) -> Arg<'a> {
@@ -35,6 +43,14 @@ fn number<'a>(alloc: Global, name: &'a str, default: &'a str, help: &'a str) -> 
         .value_name("N")
         .default_value(default)
         .help(help)
+}
+
+fn dump<'a>(alloc: Global) -> Arg<'a> {
+    Arg::new(alloc, "dump")
+        .long("dump")
+        .value_name("FILE")
+        .action(ArgAction::Set)
+        .help("Where to write the write calls of the run and the tables of what is left")
 }
 
 fn command<'a>(alloc: Global) -> Result<Command<'a>, Error> {
@@ -68,7 +84,8 @@ fn command<'a>(alloc: Global) -> Result<Command<'a>, Error> {
         .arg(pages)?
         .arg(device)?
         .arg(next_id)?
-        .arg(next_category)?;
+        .arg(next_category)?
+        .arg(dump(alloc))?;
     Ok(
         Command::new(alloc, "histar")
             .about("A kernel of labels, containers, segments, address spaces, threads and gates")
@@ -98,17 +115,24 @@ fn limits_of(run: &ArgMatches<'_>) -> Limits {
 
 /// What the words say, the first of them being the program's name, or what `clap` answers to them: help, a fault of
 /// usage, or want of memory.
-pub fn read_words<'a, S: AsStr>(alloc: Global, words: &'a [S]) -> Result<Told<'a>, Error> {
+pub fn read_words<'a, S: AsStr>(alloc: Global, words: &'a [S]) -> Result<Told<'a>, Error>
+    ensures { IfOk result (λ told. told.options.dump ≡ is_some told.dump) }
+{
     let matches = command(alloc)?.try_get_matches_from(words)?;
     let Some((_name, run)) = matches.subcommand() else {
         return Ok(Told {
             options: DEFAULTS,
             script: "",
+            dump: None,
         });
     };
-    let options = Options {
-        limits: limits_of(run),
-    };
-    let script = run.get_str("SCRIPT").unwrap_or("");
-    Ok(Told { options, script })
+    let dump = run.get_str("dump");
+    Ok(Told {
+        options: Options {
+            limits: limits_of(run),
+            dump: dump.is_some(),
+        },
+        script: run.get_str("SCRIPT").unwrap_or(""),
+        dump,
+    })
 }

@@ -1,0 +1,24 @@
+-- What stands in the book at the end of a run, and the file that the run writes.
+use Rattle.std.specs.Prelude.{◌≡◌, ℕ, Bool, true, false, List, []}
+use Rattle.base.specs.declared.ranges.Limits.{Limits}
+use Rattle.kernel_rules.specs.History.{IsLegal, state_of}
+use Rattle.kernel_rules.specs.Scratch.{scratch}
+use Rattle.kernel_rules.specs.Tables.{TableLists}
+use Rattle.kernel_rules.specs.declared.events.Event.{Event}
+use Rattle.dump_text.specs.Dump.{dump_text}
+use Rattle.dump_text.specs.Whole.{whole_dump}
+
+-- a legal journal after a boot with these limits, and the tables of the state that it leads to
+abbrev pub IsClosing : Limits → List Event → TableLists → Type 0
+IsClosing limits events tables =
+    IsLegal limits events × (tables ≡ scratch (state_of limits events))
+
+-- the bytes are the dump of a legal journal after a boot with these limits
+abbrev pub IsDumpOf : Limits → List ℕ → Type 0
+IsDumpOf limits bytes =
+    (events : List Event) × IsLegal limits events × (bytes ≡ dump_text (whole_dump limits events))
+
+-- the bytes of a run's file: such a dump where one is asked for, and else none
+abbrev pub IsFile : Bool → Limits → List ℕ → Type 0
+IsFile true limits bytes = IsDumpOf limits bytes
+IsFile false limits bytes = bytes ≡ []
