@@ -27,6 +27,4 @@ pub use program::{Ended, histar_on};
 #[cfg(test)]
 mod dump_tests;
 #[cfg(test)]
-mod row_tests;
-#[cfg(test)]
 mod tests;

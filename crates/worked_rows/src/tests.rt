@@ -1,12 +1,12 @@
-//! Scripts of many calls, with what their lines answer, played as the program does and by `run` on a plain kernel.
-use crate::gates::Always;
-use crate::play::play_all;
-use crate::program::histar_on;
+//! Scripts of many calls, with what their lines answer: played as the program does, their dumps audited, and their write
+//! calls made by `run` on a plain kernel.
+use auditor::{Verdict, audit};
 use base::{Level, Limits, NoMemory, ObjectId};
 use call_text::{NameList, put_reply, read_script};
 use kernel_rules::{Call, Event, Reply};
 use plain_core::{PlainKernel, run};
-use script_words::Options;
+use script_runner::{Always, histar_on, play_all};
+use script_words::{DEFAULTS, Options};
 use std::alloc::Global;
 use std::process::Abort;
 use std::sync::Wait;
@@ -277,11 +277,15 @@ const ROWS: [Row; 23] = [
     },
 ];
 
-fn check_row<R: Abort + AllocGlobal + Threads + Wait + Sync>(rt: &R, row: &Row) {
+// A script's output is this, and its dump is clean.
+fn check_row<R: Abort + AllocGlobal + Threads + Wait + Sync>(
+    rt: &R,
+    row: &Row,
+) -> Result<(), Fail> {
     let alloc = rt.alloc();
     let options = Options {
         limits: row.limits,
-        dump: false,
+        dump: true,
     };
     let mut out = Vec::new(alloc);
     let mut err = Vec::new(alloc);
@@ -290,13 +294,26 @@ fn check_row<R: Abort + AllocGlobal + Threads + Wait + Sync>(rt: &R, row: &Row) 
     assert_eq!(rt; ended.status, 0);
     assert_eq!(rt; out.as_slice(), row.output);
     assert!(rt; err.is_empty());
+    assert_eq!(rt; audit(alloc, ended.file.as_slice())?, Verdict::Clean);
+    Ok(())
 }
 
 #[test]
-fn rows_are_played(rt: HostRuntime) {
+fn rows_are_played_and_audited(rt: HostRuntime) -> Result<(), Fail> {
     for row in &ROWS {
-        check_row(&rt, row);
+        check_row(&rt, row)?;
     }
+    Ok(())
+}
+
+#[test]
+fn a_run_of_no_call_is_audited(rt: HostRuntime) -> Result<(), Fail> {
+    let row = Row {
+        limits: DEFAULTS.limits,
+        script: b"",
+        output: b"",
+    };
+    check_row(&rt, &row)
 }
 
 /// A reply as text, without names.
