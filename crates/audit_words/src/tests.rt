@@ -59,7 +59,7 @@ fn refuses_other_words(rt: HostRuntime) -> Result<(), Fail> {
 #[test]
 fn tells_what_is_wrong(rt: HostRuntime) -> Result<(), Fail> {
     let alloc = rt.alloc();
-    let words = ["histar-audit"];
+    let words = ["out/histar_audit"];
     let text = text_of(alloc, words.as_slice())?;
     assert_eq!(rt;
         text.as_str(),

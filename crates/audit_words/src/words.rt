@@ -27,7 +27,8 @@ pub fn read_words<'a, S: AsStr>(alloc: Global, words: &'a [S]) -> Result<Told<'a
         .required(true)
         .action(ArgAction::Set)
         .help("The dump to audit");
-    let command = Command::new(alloc, "histar-audit")
+    let named = Command::new(alloc, "histar-audit").bin_name("histar-audit")?;
+    let command = named
         .about("Says whether a dump is that of a run by the rules")
         .arg(file)?;
     let matches = command.try_get_matches_from(words)?;

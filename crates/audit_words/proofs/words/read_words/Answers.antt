@@ -118,7 +118,7 @@ returns-clause-path g c = λ path named.
     let words = map g.S.AsStr.text c.args.words.now in
     let file_is : rule_of c.help-file.result ≡ file = search rules in
     let shape : app_of c.in_ok-command.command ≡ audit = c.in_ok-command.ensures.shape (search rules)
-    ∙ ap₂ with_rule (ap app_of_fields c.about.ensures ∙ c.new-2.ensures.app) file_is in
+    ∙ ap₂ with_rule (ap app_of_fields c.about.ensures ∙ ap app_of_fields c.in_ok-named.ensures.0 ∙ c.new-2.ensures.app) file_is in
     let rows : rows_of (found_of c.in_ok-matches.matches) ≡ matches_of audit words =
     (c.in_ok-matches.ensures.matches (ap is_simple shape ∙ is_plain)).0 ∙ ap (λ a. matches_of a words) shape in
     let read : option_map (λ s. s.now) c.get_str.result ≡ Some path = c.get_str.ensures
@@ -131,7 +131,7 @@ returns-in_err-matches-clause-memory g c = λ path named.
     let words = map g.S.AsStr.text c.args.words.now in
     let file_is : rule_of c.help-file.result ≡ file = search rules in
     let shape : app_of c.in_ok-command.command ≡ audit = c.in_ok-command.ensures.shape (search rules)
-    ∙ ap₂ with_rule (ap app_of_fields c.about.ensures ∙ c.new-2.ensures.app) file_is in
+    ∙ ap₂ with_rule (ap app_of_fields c.about.ensures ∙ ap app_of_fields c.in_ok-named.ensures.0 ∙ c.new-2.ensures.app) file_is in
     let accepted : takes (app_of c.in_ok-command.command) words ≡ true = ap (λ a. takes a words) shape ∙ taken words path named in
     let kind : kind_of c.in_err-matches.field-0.0 ≡ OutOfMemory = c.in_err-matches.ensures.passes accepted in
     grind (arith, kind)
