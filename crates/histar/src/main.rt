@@ -5,14 +5,20 @@
 use clap::error::ErrorKind;
 use script_runner::histar_on;
 use script_words::{DEFAULTS, read_words};
-use std::fs::File;
+use std::fs::{File, OpenFile};
 use std::io::Write;
 use std::process::ExitCode;
 use std::rt::Files;
 use std::{fs, io};
 
 /// Writes a new file, and gives it its name once it is whole.
-fn put_new<R: Files>(rt: &R, file: &mut R::File, beside: &str, path: &str, bytes: &[u8]) -> io::Result<()> {
+fn put_new<R: Files>(
+    rt: &R,
+    file: &mut R::File,
+    beside: &str,
+    path: &str,
+    bytes: &[u8],
+) -> io::Result<()> {
     file.write_all(bytes)?;
     file.sync_all()?;
     fs::rename(rt, beside, path)

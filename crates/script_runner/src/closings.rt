@@ -1,5 +1,5 @@
 //! What stands in the book at the end of a run.
-ghost use Rattle.std.specs.Prelude.{IfOk};
+ghost use Rattle.std.specs.Prelude.{◌≡◌, IfOk};
 ghost use Rattle.script_runner.specs.Dumps.{IsClosing};
 
 use base::{Meter, NoMemory};
@@ -19,7 +19,9 @@ pub struct Closing {
 
 /// What stands in a book.
 fn closing_in<B: Naming>(alloc: Global, book: &Book<B>) -> Result<Closing, NoMemory>
-    ensures { IfOk result (λ closing. IsClosing B.limits closing.events.items closing.tables) }
+    ensures journal { IfOk result (λ closing. closing.events.items ≡ book.now) }
+    ensures closing { IfOk result
+        (λ closing. IsClosing B.limits closing.events.items closing.tables) }
 {
     let mut meter = Meter::new(alloc)?;
     let mut events = Vec::new(alloc);

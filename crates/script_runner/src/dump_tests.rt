@@ -1,6 +1,6 @@
 //! What goes to the dump's file.
 use crate::program::histar_on;
-use base::Limits;
+use base::{Level, Limits};
 use script_words::{DEFAULTS, Options};
 use std::io;
 use std::io::{ErrorKind, Read};
@@ -13,7 +13,9 @@ use std::thread::Threads;
 const EIGHT_PAGES: Options = Options {
     limits: Limits {
         pages: 8,
-        ..DEFAULTS.limits
+        device: Level::L1,
+        next_id: 4,
+        next_category: 1,
     },
     dump: true,
 };
@@ -24,16 +26,16 @@ const BOOTED: &str =
 
 /// The output and the file of a run that goes well.
 #[derive(Drop)]
-struct Made {
+struct Texts {
     output: Vec<u8>,
     file: Vec<u8>,
 }
 
-fn made<R: Abort + AllocGlobal + Threads + Wait + Sync>(
+fn texts_of<R: Abort + AllocGlobal + Threads + Wait + Sync>(
     rt: &R,
     script: &[u8],
     options: &Options,
-) -> Made {
+) -> Texts {
     let alloc = rt.alloc();
     let mut output = Vec::new(alloc);
     let mut err = Vec::new(alloc);
@@ -41,7 +43,7 @@ fn made<R: Abort + AllocGlobal + Threads + Wait + Sync>(
     let ended = histar_on(rt, alloc, &mut input, options, &mut output, &mut err);
     assert_eq!(rt; ended.status, 0);
     assert!(rt; err.is_empty());
-    Made {
+    Texts {
         output,
         file: ended.file,
     }
@@ -49,25 +51,21 @@ fn made<R: Abort + AllocGlobal + Threads + Wait + Sync>(
 
 #[test]
 fn an_empty_script_is_dumped(rt: HostRuntime) -> Result<(), Fail> {
-    let made = made(&rt, b"", &EIGHT_PAGES);
-    assert!(rt; made.output.is_empty());
+    let texts = texts_of(&rt, b"", &EIGHT_PAGES);
+    assert!(rt; texts.output.is_empty());
     let wanted = format!(in rt.alloc(); "histar-dump 1\nlimits 8 1 4 1\n{BOOTED}")?;
-    assert_eq!(rt; made.file.as_slice(), wanted.as_bytes());
+    assert_eq!(rt; texts.file.as_slice(), wanted.as_bytes());
     Ok(())
 }
 
 #[test]
 fn events_are_dumped_in_order(rt: HostRuntime) -> Result<(), Fail> {
-    let made = made(
-        &rt,
-        b"boot: cat_create\nboot: cat_create\n",
-        &EIGHT_PAGES,
-    );
+    let texts = texts_of(&rt, b"boot: cat_create\nboot: cat_create\n", &EIGHT_PAGES);
     let beginning =
         b"histar-dump 1\nlimits 8 1 4 1\nevent 2 1 cat_create => cat #1\nevent 2 2 cat_create => cat #2\nlive 1\n";
-    assert!(rt; made.file.starts_with(beginning));
+    assert!(rt; texts.file.starts_with(beginning));
     assert_eq!(rt;
-        made.output.as_slice(),
+        texts.output.as_slice(),
         b"boot 1: cat #1\nboot 2: cat #2\n".as_slice()
     );
     Ok(())
@@ -75,9 +73,9 @@ fn events_are_dumped_in_order(rt: HostRuntime) -> Result<(), Fail> {
 
 #[test]
 fn no_dump_is_made_unasked(rt: HostRuntime) {
-    let made = made(&rt, b"boot: cat_create\n", &DEFAULTS);
-    assert_eq!(rt; made.output.as_slice(), b"boot 1: cat #1\n".as_slice());
-    assert!(rt; made.file.is_empty());
+    let texts = texts_of(&rt, b"boot: cat_create\n", &DEFAULTS);
+    assert_eq!(rt; texts.output.as_slice(), b"boot 1: cat #1\n".as_slice());
+    assert!(rt; texts.file.is_empty());
 }
 
 /// A reader that only fails.
@@ -133,7 +131,9 @@ fn is_written<R: Abort + AllocGlobal + Threads + Wait + Sync>(rt: &R) -> bool {
     let left = out.len();
     if ended.status == 0 {
         assert_eq!(rt; ended.file.as_slice(), BY_ENTRY_DUMP);
-        assert!(rt; left + BY_ENTRY_OUTPUT.len() == 1024 && room.starts_with(BY_ENTRY_OUTPUT));
+        assert!(rt;
+            left.saturating_add(BY_ENTRY_OUTPUT.len()) == 1024 && room.starts_with(BY_ENTRY_OUTPUT)
+        );
         return true;
     }
     assert_eq!(rt; ended.status, 4);

@@ -6,10 +6,10 @@
 //! that the workers of a phase run at once.
 #![tactic(auto)]
 
+mod closings;
 mod dumps;
 mod faults;
 mod gates;
-mod closings;
 mod names;
 mod parts;
 mod play;

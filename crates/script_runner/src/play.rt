@@ -2,9 +2,9 @@
 ghost use Rattle.std.specs.Prelude.{◌≡◌, IfOk};
 ghost use Rattle.script_runner.specs.Dumps.{IsClosing};
 
+use crate::closings::{Closing, closing_of};
 use crate::faults::PlayFault;
 use crate::gates::Gate;
-use crate::closings::{Closing, closing_of};
 use crate::names::BoundNames;
 use crate::parts::{Parts, parts_of, workers_of};
 use crate::printing::output_of;
