@@ -29,10 +29,10 @@ lengthen() {
         { print }'
 }
 
-# The microseconds of the fastest of five audits of a dump, which is clean.
+# The microseconds of the fastest of three audits of a dump, which is clean.
 fastest() {
     local best='' began took
-    for _ in 1 2 3 4 5; do
+    for _ in 1 2 3; do
         began=${EPOCHREALTIME/[.,]/}
         "$program" "$1" >"$folder/said" || { echo "audit: $1: $(cat "$folder/said")" >&2; exit 1; }
         took=$((${EPOCHREALTIME/[.,]/} - began))
