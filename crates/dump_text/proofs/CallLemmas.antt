@@ -1,5 +1,5 @@
 -- Calls whose rows name nothing are read as they were written.
-use Rattle.std.proofs.Common.{◌≡◌, ℕ, zero, suc, ◌+◌, ◌<◌, List, [], ◌∷◌, ◌++◌, length, map, Option, Some, None, Result, Ok, Err, refl, ap, ap₂, ◌∙◌, sym, subst, arith, append_assoc, length-append}
+use Rattle.std.proofs.Common.{◌≡◌, ℕ, ◌+◌, List, [], ◌∷◌, ◌++◌, length, map, Option, Some, None, Result, Ok, Err, refl, ap, ap₂, ◌∙◌, sym, subst, arith, append_assoc, length-append}
 use Rattle.std.specs.Prelude.{slice_get}
 use Rattle.label_lattice.specs.declared.pairings.Pair.{Pair}
 use Rattle.label_lattice.specs.declared.raw_labels.RawLabel.{RawLabel}
@@ -16,7 +16,7 @@ use Rattle.text_rows.specs.declared.args.Kind.{Kind}
 use Rattle.text_rows.specs.declared.args.Kind.TheVariants as kinds
 use Rattle.text_rows.specs.declared.args.Arg.{Arg}
 use Rattle.text_rows.specs.declared.args.Arg.TheVariants as args
-use Rattle.text_rows.specs.Arg.{IsArg, kind_of}
+use Rattle.text_rows.specs.Arg.{kind_of}
 use Rattle.text_rows.specs.Verb.{kinds_of}
 use Rattle.text_rows.specs.Row.{AreArgs, Spoken, IsRow, row_text}
 use Rattle.text_rows.proofs.RowLemmas.{row_is_one}

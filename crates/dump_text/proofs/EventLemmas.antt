@@ -1,5 +1,5 @@
 -- Events: what parts a call from its reply stands in no call.
-use Rattle.std.proofs.Common.{lit<, ◌≡◌, ℕ, ◌+◌, ◌^◌, ◌<◌, Bool, true, false, cond, eqb, List, [], ◌∷◌, ◌++◌, map, refl, ap, ap₂, ◌∙◌, sym, subst, arith, append_assoc, decimal, ℤ, pos, negsuc}
+use Rattle.std.proofs.Common.{lit<, ◌≡◌, ℕ, ◌+◌, ◌^◌, ◌<◌, true, false, eqb, List, [], ◌∷◌, ◌++◌, map, refl, ap₂, ◌∙◌, sym, subst, arith, append_assoc, decimal, ℤ, pos, negsuc}
 use Rattle.std.specs.Prelude.{codes}
 use Rattle.std.specs.List.{AllByRecursion, join_with_byte}
 use Rattle.std.proofs.lemmas.Bool.{ne_eqb}

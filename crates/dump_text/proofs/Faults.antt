@@ -32,24 +32,24 @@ module _ {S V : Type 0} (text : V → List ℕ) (Fits : V → Type 0) (next : S 
   as_many (Some s) (x ∷ xs) [] t u rest other fx fy rx ry e nx ny =
       let here : s ≡ u = cc in
       absurd (ny x (lines_text text xs ++ rest) fx.0
-          (subst (λ z. IsSome (next z x)) here (some_here (next s x) xs t rx))
-          (sym e ∙ head_apart x xs rest))
+      (subst (λ z. IsSome (next z x)) here (some_here (next s x) xs t rx))
+      (sym e ∙ head_apart x xs rest))
   as_many (Some s) [] (y ∷ ys) t u rest other fx fy rx ry e nx ny =
       let here : s ≡ t = cc in
       absurd (nx y (lines_text text ys ++ other) fy.0
-          (subst (λ z. IsSome (next z y)) here (some_here (next s y) ys u ry))
-          (e ∙ head_apart y ys other))
+      (subst (λ z. IsSome (next z y)) here (some_here (next s y) ys u ry))
+      (e ∙ head_apart y ys other))
   as_many (Some s) (x ∷ xs) (y ∷ ys) t u rest other fx fy rx ry e nx ny =
       let k = sym (head_apart x xs rest) ∙ e ∙ head_apart y ys other in
       let p = first_part 10 (text x) (text y) (lines_text text xs ++ rest) (lines_text text ys ++ other)
-          (g.lacks_end x fx.0) (g.lacks_end y fy.0) k in
+      (g.lacks_end x fx.0) (g.lacks_end y fy.0) k in
       let same : y ≡ x = sym (g.one x y fx.0 fy.0 p.0) in
       ap suc (as_many (next s x) xs ys t u rest other fx.1 fy.1 rx
-          (subst (λ z. run next (next s z) ys ≡ Some u) same ry) p.1 nx ny)
+      (subst (λ z. run next (next s z) ys ≡ Some u) same ry) p.1 nx ny)
 
   pub faults_once : (ends : S → Bool) (start : S) (bytes : List ℕ) (n m : ℕ)
       → FaultsAt text Fits next ends start bytes n → FaultsAt text Fits next ends start bytes m → n ≡ m
   faults_once ends start bytes n m a b =
       let many = as_many (Some start) a.before b.before a.state b.state a.rest b.rest a.fit b.fit a.ran b.ran
-          (sym a.bytes_are ∙ b.bytes_are) a.no_more b.no_more in
+      (sym a.bytes_are ∙ b.bytes_are) a.no_more b.no_more in
       a.number ∙ ap (λ z. z + 1) many ∙ sym b.number

@@ -1,15 +1,13 @@
 -- Lines: no two have one spelling, and none holds a line's end.
-use Rattle.std.proofs.Common.{lit<, ◌≡◌, ℕ, ◌<◌, cond, eqb, true, List, [], ◌∷◌, ◌++◌, length, get_or, refl, ap, ◌∙◌, sym, arith}
+use Rattle.std.proofs.Common.{lit<, ◌≡◌, ℕ, ◌<◌, cond, eqb, true, List, [], ◌++◌, length, get_or, refl, ap, ◌∙◌, sym, arith}
 use Rattle.std.specs.Prelude.{codes}
 use Rattle.base.specs.declared.levels.Level.{Level}
 use Rattle.base.specs.declared.levels.Level.TheVariants.{Star, L0, L1, L2, L3}
 use Rattle.base.specs.declared.ranges.Limits.{Limits}
-use Rattle.label_lattice.specs.declared.raw_labels.RawLabel.{RawLabel}
 use Rattle.text_words.specs.Lacks.{lacks}
 use Rattle.text_words.specs.Label.{LabelValue}
 use Rattle.text_words.proofs.LackLemmas.{lacks-append}
 use Rattle.text_rows.specs.declared.args.Kind.{Kind}
-use Rattle.text_rows.specs.declared.args.Arg.{Arg}
 use Rattle.text_rows.specs.Row.{AreArgs}
 use Rattle.text_rows.proofs.RowLemmas.{arguments_are_one, arguments_lack_end}
 use Rattle.call_text.specs.Place.{raw_of}

@@ -1,5 +1,5 @@
 -- Which line may come next, and how the lines so far are those of the dump so far.
-use Rattle.std.proofs.Common.{◌≡◌, ℕ, ◌+◌, ◌<◌, ◌≤◌, inl, inr, Bool, true, false, cond, eqb, leb, List, [], ◌∷◌, ◌++◌, length, map, Option, Some, None, refl, ap, ◌∙◌, sym, subst, arith, append_assoc}
+use Rattle.std.proofs.Common.{◌≡◌, ℕ, ◌≤◌, inl, inr, Bool, true, false, cond, eqb, leb, List, [], ◌∷◌, ◌++◌, map, Option, Some, None, refl, ap, ◌∙◌, sym, subst, arith, append_assoc}
 use Rattle.std.proofs.lemmas.Bool.{eqb-true, leb-true, leb-false, cases_Bool}
 use Rattle.std.proofs.lemmas.List.{append-nil, map_push}
 use Rattle.base.specs.declared.ranges.Limits.{Limits}
@@ -10,7 +10,7 @@ use Rattle.dump_text.specs.declared.tables.Stored.{Stored}
 use Rattle.kernel_rules.specs.declared.tables.Compared.{Compared}
 use Rattle.dump_text.specs.declared.lines.Line.{Line}
 use Rattle.dump_text.specs.declared.lines.Line.TheVariants as lines
-use Rattle.dump_text.specs.Lists.{TableLists, DumpLists}
+use Rattle.dump_text.specs.Lists.{DumpLists}
 use Rattle.dump_text.specs.Dump.{table_lines, lines_of, rank_of, after_rank, may_come, next}
 use Rattle.dump_text.specs.Reading.{nothing, added}
 

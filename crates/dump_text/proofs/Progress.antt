@@ -1,5 +1,5 @@
 -- How far a dump has been read.
-use Rattle.std.proofs.Common.{◌≡◌, ◌≢◌, ℕ, ◌+◌, ◌<◌, ◌≤◌, Bool, eqb, true, false, List, [], ◌∷◌, ◌++◌, length, Option, Some, None, refl, ap, ◌∙◌, sym, arith, subst, length-append}
+use Rattle.std.proofs.Common.{◌≡◌, ◌≢◌, ℕ, ◌+◌, ◌<◌, ◌≤◌, Bool, true, List, [], ◌∷◌, ◌++◌, length, Option, Some, None, refl, ap, ◌∙◌, sym, arith, subst, length-append}
 use Rattle.std.specs.Prelude.{IsSome}
 use Rattle.std.proofs.lemmas.Bool.{ne_eqb}
 use Rattle.std.proofs.lemmas.List.{append-nil}
@@ -8,9 +8,9 @@ use Rattle.call_text.proofs.TextLemmas.{Came, came_more, fault_no_end, fault_lin
 use Rattle.dump_text.specs.declared.lines.Line.{Line}
 use Rattle.dump_text.specs.Lists.{DumpLists}
 use Rattle.dump_text.specs.Line.{line_text, IsLine}
-use Rattle.dump_text.specs.Dump.{next, ends, start, lines_of, dump_text, IsDump, DumpFaultsAt}
+use Rattle.dump_text.specs.Dump.{next, ends, start, dump_text, IsDump, DumpFaultsAt}
 use Rattle.dump_text.specs.Making.{Fills}
-use Rattle.dump_text.specs.Reading.{nothing, added, Takes}
+use Rattle.dump_text.specs.Reading.{nothing, Takes}
 use Rattle.dump_text.proofs.LineLemmas.{dump_grammar}
 use Rattle.dump_text.proofs.Ordering.{Shows, shows_nothing, shows_more, shows_all}
 

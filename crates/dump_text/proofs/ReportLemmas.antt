@@ -1,5 +1,5 @@
 -- The replies of events.
-use Rattle.std.proofs.Common.{lit<, ◌≡◌, ℕ, ◌+◌, ◌-◌, ◌^◌, ◌<◌, ◌≤◌, Bool, true, false, List, [], ◌∷◌, ◌++◌, length, Option, Some, None, get_or, refl, ap, ap₂, ◌∙◌, sym, subst, arith, decimal}
+use Rattle.std.proofs.Common.{lit<, ◌≡◌, ℕ, ◌-◌, ◌^◌, ◌<◌, ◌≤◌, true, List, [], ◌∷◌, ◌++◌, Option, Some, None, get_or, refl, ap, ap₂, ◌∙◌, sym, subst, arith, decimal}
 use Rattle.std.specs.Prelude.{codes}
 use Rattle.std.proofs.lemmas.List.{append-nil}
 use Rattle.base.specs.declared.refusals.Refusal.{Refusal}

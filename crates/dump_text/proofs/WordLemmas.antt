@@ -1,14 +1,17 @@
 -- Labels whose categories are numbers.
-use Rattle.std.proofs.Common.{◌≡◌, ℕ, zero, suc, ◌<◌, List, [], ◌∷◌, ◌++◌, length, get_or, map, ap, ◌∙◌, arith, append_assoc}
+use Rattle.std.proofs.Common.{◌≡◌, ℕ, zero, suc, ◌<◌, List, [], ◌∷◌, ◌++◌, length, get_or, map, refl, ap, ◌∙◌, sym, arith, append_assoc}
 use Rattle.std.specs.List.{flat_map, join_with_byte}
 use Rattle.std.proofs.lemmas.List.{append-nil}
 use Rattle.label_lattice.specs.declared.pairings.Pair.{Pair}
-use Rattle.text_words.specs.declared.references.Reference.{Reference}
 use Rattle.text_words.specs.declared.references.Reference.TheVariants as references
 use Rattle.text_words.specs.declared.spoken_labels.SpokenPair.{SpokenPair}
 use Rattle.text_rows.specs.Arg.{arg_text}
+use Rattle.text_rows.specs.declared.verbs.Verb.{Verb}
+use Rattle.text_rows.specs.Row.{row_text}
+use Rattle.text_rows.specs.Verb.{name_of}
 use Rattle.dump_text.specs.declared.words.Word.{Word}
 use Rattle.dump_text.specs.Word.{spoken_pair, arg_of, args_of}
+use Rattle.dump_text.specs.Call.{row_of}
 
 -- no category among them is a name
 pub no_name : (ps : List SpokenPair) (i : ℕ) (p : SpokenPair) (name : List ℕ) (qs : List Pair) → i < length ps → p ≡ get_or ps i p → p.category ≡ references.Name name → ps ≡ map spoken_pair qs → ⊥
@@ -30,3 +33,20 @@ put_two out one two a b p q = q ∙ ap (λ (xs : List ℕ). xs ++ b) p ∙ appen
 
 pub put_three : (out one two three a b c : List ℕ) → one ≡ out ++ a → two ≡ one ++ b → three ≡ two ++ c → three ≡ out ++ (a ++ (b ++ c))
 put_three out one two three a b c p q r = put_two out one three a (b ++ c) p (put_two one two three b c q r)
+
+further-append : (ws vs : List Word) → flat_map (λ w. 32 ∷ arg_text (arg_of w)) ws ++ flat_map (λ w. 32 ∷ arg_text (arg_of w)) vs ≡ flat_map (λ w. 32 ∷ arg_text (arg_of w)) (ws ++ vs)
+further-append [] vs = refl
+further-append (w ∷ ws) vs =
+    append_assoc (32 ∷ arg_text (arg_of w)) (flat_map (λ w. 32 ∷ arg_text (arg_of w)) ws) (flat_map (λ w. 32 ∷ arg_text (arg_of w)) vs)
+    ∙ ap (λ (rest : List ℕ). (32 ∷ arg_text (arg_of w)) ++ rest) (further-append ws vs)
+
+row_further : (verb : Verb) (ws vs : List Word) → row_text (row_of verb ws) ++ flat_map (λ w. 32 ∷ arg_text (arg_of w)) vs ≡ row_text (row_of verb (ws ++ vs))
+row_further verb ws vs =
+    ap (λ (xs : List ℕ). xs ++ flat_map (λ w. 32 ∷ arg_text (arg_of w)) vs) (sym (words_after (name_of verb) ws))
+    ∙ append_assoc (name_of verb) (flat_map (λ w. 32 ∷ arg_text (arg_of w)) ws) (flat_map (λ w. 32 ∷ arg_text (arg_of w)) vs)
+    ∙ ap (λ (xs : List ℕ). name_of verb ++ xs) (further-append ws vs)
+    ∙ words_after (name_of verb) (ws ++ vs)
+
+-- a row, and then further words
+pub put_more : (verb : Verb) (ws vs : List Word) (out one two : List ℕ) → one ≡ out ++ row_text (row_of verb ws) → two ≡ one ++ flat_map (λ w. 32 ∷ arg_text (arg_of w)) vs → two ≡ out ++ row_text (row_of verb (ws ++ vs))
+put_more verb ws vs out one two p q = put_two out one two (row_text (row_of verb ws)) (flat_map (λ w. 32 ∷ arg_text (arg_of w)) vs) p q ∙ ap (λ (xs : List ℕ). out ++ xs) (row_further verb ws vs)

@@ -1,7 +1,10 @@
 -- The spelling of calls in dumps: each object and category by its number.
-use Rattle.std.specs.Prelude.{ℕ, List, [], ◌∷◌, Option, Some, None, Result, Ok, Err}
+use Rattle.std.specs.Prelude.{ℕ, List, [], ◌∷◌, ◌++◌, Option, Some, None, Result, Ok, Err}
+use Rattle.label_lattice.specs.declared.raw_labels.RawLabel.{RawLabel}
 use Rattle.kernel_rules.specs.declared.calls.Call.{Call}
 use Rattle.kernel_rules.specs.declared.calls.Call.TheVariants as calls
+use Rattle.kernel_rules.specs.declared.calls.Entry.{Entry}
+use Rattle.kernel_rules.specs.declared.objects.Mapping.{Mapping}
 use Rattle.text_rows.specs.declared.verbs.Verb.{Verb}
 use Rattle.text_rows.specs.declared.verbs.Verb.TheVariants as verbs
 use Rattle.text_rows.specs.Row.{Spoken, IsRow, row_text}
@@ -15,77 +18,56 @@ use Rattle.dump_text.specs.Word.{args_of}
 abbrev pub row_of : Verb → List Word → Spoken
 row_of verb ws = record { verb = verb; args = args_of ws }
 
+-- the words of an entry
+abbrev pub entry_words : Entry → List Word
+entry_words e = words.Object e.container ∷ words.Object e.object ∷ []
+
+-- where a new object is listed, its label and its quota
+abbrev pub creation_words : ℕ → RawLabel → ℕ → List Word
+creation_words d l q = words.Object d ∷ words.Label l ∷ words.Number q ∷ []
+
+-- a mapping in a slot
+abbrev pub mapping_words : ℕ → Mapping → List Word
+mapping_words n m =
+    words.Number n ∷ words.Number m.page ∷ words.Object m.entry.container
+    ∷ words.Object m.entry.object ∷ words.Number m.first ∷ words.Number m.count
+    ∷ words.Rights m.rights ∷ []
+
 -- the row of a call
 abbrev pub spoken_of : Call → Spoken
 spoken_of calls.CatCreate = row_of verbs.CatCreate []
 spoken_of (calls.SelfSetLabel l) = row_of verbs.SelfSetLabel (words.Label l ∷ [])
 spoken_of (calls.SelfSetClearance l) = row_of verbs.SelfSetClearance (words.Label l ∷ [])
-spoken_of (calls.SelfSetAs e) =
-    row_of verbs.SelfSetAs
-    (words.Object e.container ∷ words.Object e.object ∷ [])
+spoken_of (calls.SelfSetAs e) = row_of verbs.SelfSetAs (entry_words e)
 spoken_of (calls.ContainerCreate d l q a) =
-    row_of verbs.ContainerCreate
-    (words.Object d ∷ words.Label l ∷ words.Number q ∷ words.Types a ∷ [])
+    row_of verbs.ContainerCreate (creation_words d l q ++ words.Types a ∷ [])
 spoken_of (calls.SegmentCreate d l q n) =
-    row_of verbs.SegmentCreate
-    (words.Object d ∷ words.Label l ∷ words.Number q ∷ words.Number n ∷ [])
+    row_of verbs.SegmentCreate (creation_words d l q ++ words.Number n ∷ [])
 spoken_of (calls.SegmentCopy d l q e) =
-    row_of verbs.SegmentCopy
-    (words.Object d ∷ words.Label l ∷ words.Number q ∷ words.Object e.container
-    ∷ words.Object e.object ∷ [])
-spoken_of (calls.AsCreate d l q) =
-    row_of verbs.AsCreate
-    (words.Object d ∷ words.Label l ∷ words.Number q ∷ [])
+    row_of verbs.SegmentCopy (creation_words d l q ++ entry_words e)
+spoken_of (calls.AsCreate d l q) = row_of verbs.AsCreate (creation_words d l q)
 spoken_of (calls.ThreadCreate d l q c p) =
-    row_of verbs.ThreadCreate
-    (words.Object d ∷ words.Label l ∷ words.Number q ∷ words.Label c ∷ words.Wide p ∷ [])
+    row_of verbs.ThreadCreate (creation_words d l q ++ words.Label c ∷ words.Wide p ∷ [])
 spoken_of (calls.GateCreate d l q c e p x) =
     row_of verbs.GateCreate
-    (words.Object d ∷ words.Label l ∷ words.Number q ∷ words.Label c ∷ words.Object e.container
-    ∷ words.Object e.object ∷ words.Wide p ∷ words.Wide x ∷ [])
-spoken_of (calls.Link t e) =
-    row_of verbs.Link
-    (words.Object t ∷ words.Object e.container ∷ words.Object e.object ∷ [])
-spoken_of (calls.Unref e) =
-    row_of verbs.Unref
-    (words.Object e.container ∷ words.Object e.object ∷ [])
-spoken_of (calls.QuotaMove e z) =
-    row_of verbs.QuotaMove
-    (words.Object e.container ∷ words.Object e.object ∷ words.Signed z ∷ [])
-spoken_of (calls.SetFixed e) =
-    row_of verbs.SetFixed
-    (words.Object e.container ∷ words.Object e.object ∷ [])
-spoken_of (calls.SetImmutable e) =
-    row_of verbs.SetImmutable
-    (words.Object e.container ∷ words.Object e.object ∷ [])
-spoken_of (calls.MetaSet e b) =
-    row_of verbs.MetaSet
-    (words.Object e.container ∷ words.Object e.object ∷ words.Data b ∷ [])
+    (creation_words d l q ++ words.Label c ∷ (entry_words e ++ words.Wide p ∷ words.Wide x ∷ []))
+spoken_of (calls.Link t e) = row_of verbs.Link (words.Object t ∷ entry_words e)
+spoken_of (calls.Unref e) = row_of verbs.Unref (entry_words e)
+spoken_of (calls.QuotaMove e z) = row_of verbs.QuotaMove (entry_words e ++ words.Signed z ∷ [])
+spoken_of (calls.SetFixed e) = row_of verbs.SetFixed (entry_words e)
+spoken_of (calls.SetImmutable e) = row_of verbs.SetImmutable (entry_words e)
+spoken_of (calls.MetaSet e b) = row_of verbs.MetaSet (entry_words e ++ words.Data b ∷ [])
 spoken_of (calls.SegmentResize e n) =
-    row_of verbs.SegmentResize
-    (words.Object e.container ∷ words.Object e.object ∷ words.Number n ∷ [])
+    row_of verbs.SegmentResize (entry_words e ++ words.Number n ∷ [])
 spoken_of (calls.SegmentWrite e n b) =
-    row_of verbs.SegmentWrite
-    (words.Object e.container ∷ words.Object e.object ∷ words.Number n ∷ words.Data b ∷ [])
-spoken_of (calls.AsMap e n m) =
-    row_of verbs.AsMap
-    (words.Object e.container ∷ words.Object e.object ∷ words.Number n ∷ words.Number m.page
-    ∷ words.Object m.entry.container ∷ words.Object m.entry.object ∷ words.Number m.first
-    ∷ words.Number m.count ∷ words.Rights m.rights ∷ [])
-spoken_of (calls.AsUnmap e n) =
-    row_of verbs.AsUnmap
-    (words.Object e.container ∷ words.Object e.object ∷ words.Number n ∷ [])
+    row_of verbs.SegmentWrite (entry_words e ++ words.Number n ∷ words.Data b ∷ [])
+spoken_of (calls.AsMap e n m) = row_of verbs.AsMap (entry_words e ++ mapping_words n m)
+spoken_of (calls.AsUnmap e n) = row_of verbs.AsUnmap (entry_words e ++ words.Number n ∷ [])
 spoken_of (calls.Store p b) = row_of verbs.Store (words.Wide p ∷ words.Data b ∷ [])
 spoken_of (calls.GateEnter e l c v) =
-    row_of verbs.GateEnter
-    (words.Object e.container ∷ words.Object e.object ∷ words.Label l ∷ words.Label c
-    ∷ words.Label v ∷ [])
-spoken_of (calls.DevSend e b) =
-    row_of verbs.DevSend
-    (words.Object e.container ∷ words.Object e.object ∷ words.Data b ∷ [])
-spoken_of (calls.DevRecv e) =
-    row_of verbs.DevRecv
-    (words.Object e.container ∷ words.Object e.object ∷ [])
+    row_of verbs.GateEnter (entry_words e ++ words.Label l ∷ words.Label c ∷ words.Label v ∷ [])
+spoken_of (calls.DevSend e b) = row_of verbs.DevSend (entry_words e ++ words.Data b ∷ [])
+spoken_of (calls.DevRecv e) = row_of verbs.DevRecv (entry_words e)
 
 -- a call's one spelling
 abbrev pub call_text : Call → List ℕ

@@ -1,6 +1,7 @@
 pub mod Word
 pub mod Making
 pub mod Call
+pub mod Group
 pub mod Report
 pub mod Event
 pub mod Lists

@@ -1,13 +1,18 @@
 //! Write calls, each object and category by its number.
 ghost use Rattle.std.specs.Prelude.{◌≡◌, ◌++◌, [], IfOk, OnOk};
 ghost use Rattle.text_words.specs.Reading.{Reads};
-ghost use Rattle.call_text.specs.Resolve.{resolved};
-ghost use Rattle.dump_text.specs.Call.{call_text, IsCall, write_of, spoken_of, row_of};
 ghost use Rattle.text_rows.specs.Row.{row_text};
+ghost use Rattle.call_text.specs.Resolve.{resolved};
+ghost use Rattle.dump_text.specs.Call.{call_text, IsCall, write_of, row_of, creation_words};
+ghost use Rattle.dump_text.specs.Call.{entry_words, mapping_words};
+ghost use Rattle.dump_text.specs.Group.{text_of, is_own, makes_object, makes_bearer, is_of_pages};
+ghost use Rattle.dump_text.specs.Group.{is_of_entry};
 
-use crate::words::{Word, put_row};
+use crate::words::{Word, put_further, put_row};
+use base::ObjectId;
 use call_text::{Asked, NameList, resolve};
-use kernel_rules::Call;
+use kernel_rules::{Call, Entry, Mapping};
+use label_lattice::RawLabel;
 use std::alloc::{AllocError, Global};
 use text_rows::{Row, Verb, read_row};
 
@@ -31,37 +36,97 @@ pub fn read_call(alloc: Global, text: &[u8]) -> Result<Option<Call>, AllocError>
     Ok(write_call(&row))
 }
 
-/// Adds the spelling of the call.
-pub fn put_call(out: &mut Vec<u8>, call: &Call) -> Result<(), AllocError>
-    ensures { OnOk result (out.new.items ≡ out.old.items ++ call_text call.now) }
+/// Adds a verb and the entry that it names.
+fn put_on_entry(out: &mut Vec<u8>, verb: Verb, entry: Entry) -> Result<(), AllocError>
+    ensures { OnOk result (out.new.items
+        ≡ out.old.items ++ row_text (row_of verb (entry_words entry))) }
+{
+    let words = [Word::Object(entry.container), Word::Object(entry.object)];
+    put_row(out, verb, &words)
+}
+
+/// Adds a verb, where the object that it makes is listed, its label and its quota.
+fn put_creation(
+    out: &mut Vec<u8>,
+    verb: Verb,
+    container: ObjectId,
+    label: RawLabel,
+    quota: u32,
+) -> Result<(), AllocError>
+    ensures { OnOk result (out.new.items
+        ≡ out.old.items ++ row_text (row_of verb (creation_words container label quota))) }
+{
+    let words = [
+        Word::Object(container),
+        Word::Label(label),
+        Word::Number(quota),
+    ];
+    put_row(out, verb, &words)
+}
+
+/// The words of a mapping in a slot.
+fn words_of(slot: u32, mapping: &Mapping) -> [Word; 7]
+    ensures { result ≡ mapping_words slot mapping.now }
+{
+    [
+        Word::Number(slot),
+        Word::Number(mapping.page),
+        Word::Object(mapping.entry.container),
+        Word::Object(mapping.entry.object),
+        Word::Number(mapping.first),
+        Word::Number(mapping.count),
+        Word::Rights(mapping.rights),
+    ]
+}
+
+/// Adds the spelling of a call of the thread on itself, and nothing for another.
+#[tactic(auto, using(crate::proofs::WordLemmas::put_more))]
+fn put_own(out: &mut Vec<u8>, call: &Call) -> Result<(), AllocError>
+    ensures { OnOk result (out.new.items ≡ out.old.items ++ text_of is_own call.now) }
 {
     match *call {
         Call::CatCreate => put_row(out, Verb::CatCreate, &[]),
-        Call::SelfSetLabel { label } => {
-            let words = [Word::Label(label)];
-            put_row(out, Verb::SelfSetLabel, &words)
-        }
+        Call::SelfSetLabel { label } => put_row(out, Verb::SelfSetLabel, &[Word::Label(label)]),
         Call::SelfSetClearance { clearance } => {
-            let words = [Word::Label(clearance)];
-            put_row(out, Verb::SelfSetClearance, &words)
+            put_row(out, Verb::SelfSetClearance, &[Word::Label(clearance)])
         }
-        Call::SelfSetAs { space } => {
-            let words = [Word::Object(space.container), Word::Object(space.object)];
-            put_row(out, Verb::SelfSetAs, &words)
+        Call::SelfSetAs { space } => put_on_entry(out, Verb::SelfSetAs, space),
+        Call::Store { address, data } => {
+            put_row(out, Verb::Store, &[Word::Wide(address), Word::Data(data)])
         }
+        Call::GateEnter {
+            gate,
+            label,
+            clearance,
+            verify,
+        } => {
+            let labels = [
+                Word::Label(label),
+                Word::Label(clearance),
+                Word::Label(verify),
+            ];
+            put_on_entry(out, Verb::GateEnter, gate)?;
+            put_further(out, &labels)
+        }
+        _ => Ok(()),
+    }
+}
+
+/// Adds the spelling of a call that makes a container, a segment or an address space, and nothing
+/// for another.
+#[tactic(auto, using(crate::proofs::WordLemmas::put_more))]
+fn put_new_object(out: &mut Vec<u8>, call: &Call) -> Result<(), AllocError>
+    ensures { OnOk result (out.new.items ≡ out.old.items ++ text_of makes_object call.now) }
+{
+    match *call {
         Call::ContainerCreate {
             container,
             label,
             quota,
             avoid,
         } => {
-            let words = [
-                Word::Object(container),
-                Word::Label(label),
-                Word::Number(quota),
-                Word::Types(avoid),
-            ];
-            put_row(out, Verb::ContainerCreate, &words)
+            put_creation(out, Verb::ContainerCreate, container, label, quota)?;
+            put_further(out, &[Word::Types(avoid)])
         }
         Call::SegmentCreate {
             container,
@@ -69,13 +134,8 @@ pub fn put_call(out: &mut Vec<u8>, call: &Call) -> Result<(), AllocError>
             quota,
             pages,
         } => {
-            let words = [
-                Word::Object(container),
-                Word::Label(label),
-                Word::Number(quota),
-                Word::Number(pages),
-            ];
-            put_row(out, Verb::SegmentCreate, &words)
+            put_creation(out, Verb::SegmentCreate, container, label, quota)?;
+            put_further(out, &[Word::Number(pages)])
         }
         Call::SegmentCopy {
             container,
@@ -83,27 +143,25 @@ pub fn put_call(out: &mut Vec<u8>, call: &Call) -> Result<(), AllocError>
             quota,
             source,
         } => {
-            let words = [
-                Word::Object(container),
-                Word::Label(label),
-                Word::Number(quota),
-                Word::Object(source.container),
-                Word::Object(source.object),
-            ];
-            put_row(out, Verb::SegmentCopy, &words)
+            let source = [Word::Object(source.container), Word::Object(source.object)];
+            put_creation(out, Verb::SegmentCopy, container, label, quota)?;
+            put_further(out, &source)
         }
         Call::AsCreate {
             container,
             label,
             quota,
-        } => {
-            let words = [
-                Word::Object(container),
-                Word::Label(label),
-                Word::Number(quota),
-            ];
-            put_row(out, Verb::AsCreate, &words)
-        }
+        } => put_creation(out, Verb::AsCreate, container, label, quota),
+        _ => Ok(()),
+    }
+}
+
+/// Adds the spelling of a call that makes a thread or a gate, and nothing for another.
+#[tactic(auto, using(crate::proofs::WordLemmas::put_more))]
+fn put_new_bearer(out: &mut Vec<u8>, call: &Call) -> Result<(), AllocError>
+    ensures { OnOk result (out.new.items ≡ out.old.items ++ text_of makes_bearer call.now) }
+{
+    match *call {
         Call::ThreadCreate {
             container,
             label,
@@ -111,14 +169,8 @@ pub fn put_call(out: &mut Vec<u8>, call: &Call) -> Result<(), AllocError>
             clearance,
             entry_point,
         } => {
-            let words = [
-                Word::Object(container),
-                Word::Label(label),
-                Word::Number(quota),
-                Word::Label(clearance),
-                Word::Wide(entry_point),
-            ];
-            put_row(out, Verb::ThreadCreate, &words)
+            put_creation(out, Verb::ThreadCreate, container, label, quota)?;
+            put_further(out, &[Word::Label(clearance), Word::Wide(entry_point)])
         }
         Call::GateCreate {
             container,
@@ -130,130 +182,93 @@ pub fn put_call(out: &mut Vec<u8>, call: &Call) -> Result<(), AllocError>
             closure,
         } => {
             let words = [
-                Word::Object(container),
-                Word::Label(label),
-                Word::Number(quota),
                 Word::Label(clearance),
                 Word::Object(space.container),
                 Word::Object(space.object),
                 Word::Wide(entry_point),
                 Word::Wide(closure),
             ];
-            put_row(out, Verb::GateCreate, &words)
+            put_creation(out, Verb::GateCreate, container, label, quota)?;
+            put_further(out, &words)
         }
-        Call::Link { target, entry } => {
-            let words = [
-                Word::Object(target),
-                Word::Object(entry.container),
-                Word::Object(entry.object),
-            ];
-            put_row(out, Verb::Link, &words)
-        }
-        Call::Unref { entry } => {
-            let words = [Word::Object(entry.container), Word::Object(entry.object)];
-            put_row(out, Verb::Unref, &words)
-        }
-        Call::QuotaMove { entry, change } => {
-            let words = [
-                Word::Object(entry.container),
-                Word::Object(entry.object),
-                Word::Signed(change),
-            ];
-            put_row(out, Verb::QuotaMove, &words)
-        }
-        Call::SetFixed { entry } => {
-            let words = [Word::Object(entry.container), Word::Object(entry.object)];
-            put_row(out, Verb::SetFixed, &words)
-        }
-        Call::SetImmutable { entry } => {
-            let words = [Word::Object(entry.container), Word::Object(entry.object)];
-            put_row(out, Verb::SetImmutable, &words)
-        }
-        Call::MetaSet { entry, data } => {
-            let words = [
-                Word::Object(entry.container),
-                Word::Object(entry.object),
-                Word::Data(data),
-            ];
-            put_row(out, Verb::MetaSet, &words)
-        }
+        _ => Ok(()),
+    }
+}
+
+/// Adds the spelling of a call on the pages of a segment or an address space, and nothing for
+/// another.
+#[tactic(auto, using(crate::proofs::WordLemmas::put_more))]
+fn put_of_pages(out: &mut Vec<u8>, call: &Call) -> Result<(), AllocError>
+    ensures { OnOk result (out.new.items ≡ out.old.items ++ text_of is_of_pages call.now) }
+{
+    match *call {
         Call::SegmentResize { entry, pages } => {
-            let words = [
-                Word::Object(entry.container),
-                Word::Object(entry.object),
-                Word::Number(pages),
-            ];
-            put_row(out, Verb::SegmentResize, &words)
+            put_on_entry(out, Verb::SegmentResize, entry)?;
+            put_further(out, &[Word::Number(pages)])
         }
         Call::SegmentWrite {
             entry,
             offset,
             data,
         } => {
-            let words = [
-                Word::Object(entry.container),
-                Word::Object(entry.object),
-                Word::Number(offset),
-                Word::Data(data),
-            ];
-            put_row(out, Verb::SegmentWrite, &words)
+            put_on_entry(out, Verb::SegmentWrite, entry)?;
+            put_further(out, &[Word::Number(offset), Word::Data(data)])
         }
         Call::AsMap {
             space,
             slot,
             mapping,
         } => {
-            let words = [
-                Word::Object(space.container),
-                Word::Object(space.object),
-                Word::Number(slot),
-                Word::Number(mapping.page),
-                Word::Object(mapping.entry.container),
-                Word::Object(mapping.entry.object),
-                Word::Number(mapping.first),
-                Word::Number(mapping.count),
-                Word::Rights(mapping.rights),
-            ];
-            put_row(out, Verb::AsMap, &words)
+            put_on_entry(out, Verb::AsMap, space)?;
+            put_further(out, &words_of(slot, &mapping))
         }
         Call::AsUnmap { space, slot } => {
-            let words = [
-                Word::Object(space.container),
-                Word::Object(space.object),
-                Word::Number(slot),
-            ];
-            put_row(out, Verb::AsUnmap, &words)
+            put_on_entry(out, Verb::AsUnmap, space)?;
+            put_further(out, &[Word::Number(slot)])
         }
-        Call::Store { address, data } => {
-            let words = [Word::Wide(address), Word::Data(data)];
-            put_row(out, Verb::Store, &words)
+        _ => Ok(()),
+    }
+}
+
+/// Adds the spelling of another call on an object by its entry, and nothing for a call that has
+/// none.
+#[tactic(auto, using(crate::proofs::WordLemmas::put_more))]
+fn put_of_entry(out: &mut Vec<u8>, call: &Call) -> Result<(), AllocError>
+    ensures { OnOk result (out.new.items ≡ out.old.items ++ text_of is_of_entry call.now) }
+{
+    match *call {
+        Call::Link { target, entry } => {
+            let entry = [Word::Object(entry.container), Word::Object(entry.object)];
+            put_row(out, Verb::Link, &[Word::Object(target)])?;
+            put_further(out, &entry)
         }
-        Call::GateEnter {
-            gate,
-            label,
-            clearance,
-            verify,
-        } => {
-            let words = [
-                Word::Object(gate.container),
-                Word::Object(gate.object),
-                Word::Label(label),
-                Word::Label(clearance),
-                Word::Label(verify),
-            ];
-            put_row(out, Verb::GateEnter, &words)
+        Call::Unref { entry } => put_on_entry(out, Verb::Unref, entry),
+        Call::QuotaMove { entry, change } => {
+            put_on_entry(out, Verb::QuotaMove, entry)?;
+            put_further(out, &[Word::Signed(change)])
+        }
+        Call::SetFixed { entry } => put_on_entry(out, Verb::SetFixed, entry),
+        Call::SetImmutable { entry } => put_on_entry(out, Verb::SetImmutable, entry),
+        Call::MetaSet { entry, data } => {
+            put_on_entry(out, Verb::MetaSet, entry)?;
+            put_further(out, &[Word::Data(data)])
         }
         Call::DevSend { entry, data } => {
-            let words = [
-                Word::Object(entry.container),
-                Word::Object(entry.object),
-                Word::Data(data),
-            ];
-            put_row(out, Verb::DevSend, &words)
+            put_on_entry(out, Verb::DevSend, entry)?;
+            put_further(out, &[Word::Data(data)])
         }
-        Call::DevRecv { entry } => {
-            let words = [Word::Object(entry.container), Word::Object(entry.object)];
-            put_row(out, Verb::DevRecv, &words)
-        }
+        Call::DevRecv { entry } => put_on_entry(out, Verb::DevRecv, entry),
+        _ => Ok(()),
     }
+}
+
+/// Adds the spelling of the call.
+pub fn put_call(out: &mut Vec<u8>, call: &Call) -> Result<(), AllocError>
+    ensures { OnOk result (out.new.items ≡ out.old.items ++ call_text call.now) }
+{
+    put_own(out, call)?;
+    put_new_object(out, call)?;
+    put_new_bearer(out, call)?;
+    put_of_pages(out, call)?;
+    put_of_entry(out, call)
 }

@@ -119,11 +119,13 @@ pub fn order_of(args: &[Arg]) -> Option<Compared>
     ensures { Makes order_words HasThreeBits args.now result }
 {
     match args {
-        [Arg::Number(first), Arg::Number(second), Arg::Number(bits)] if *bits <= 7 => Some(Compared {
-            first: *first as usize,
-            second: *second as usize,
-            bits: *bits as u8,
-        }),
+        [Arg::Number(first), Arg::Number(second), Arg::Number(bits)] if *bits <= 7 => Some(
+            Compared {
+                first: *first as usize,
+                second: *second as usize,
+                bits: *bits as u8,
+            },
+        ),
         _ => None,
     }
 }

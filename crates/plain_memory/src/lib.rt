@@ -7,6 +7,8 @@ mod accesses;
 mod devices;
 mod lengths;
 mod metadata;
+#[cfg(test)]
+mod samples;
 mod segments;
 mod spaces;
 #[cfg(test)]

@@ -25,4 +25,12 @@ pub use refusals::{SeatRefusal, SubmitRefusal};
 pub use seats::Seat;
 
 #[cfg(test)]
+mod memory_tests;
+#[cfg(test)]
+mod samples;
+#[cfg(test)]
 mod tests;
+#[cfg(test)]
+mod thread_tests;
+#[cfg(test)]
+mod turn_tests;

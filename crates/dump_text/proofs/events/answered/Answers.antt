@@ -1,6 +1,6 @@
-use Rattle.std.proofs.Common.{◌≡◌, true, List, ℕ, subst, ◌++◌, ◌∷◌, []}
+use Rattle.std.proofs.Common.{◌≡◌, true, List, ℕ, subst, ◌∷◌, []}
 use Rattle.text_words.specs.Lacks.{lacks}
-use Rattle.dump_text.proofs.EventLemmas.{lacks_front, no_answer, answer_first, answer_is}
+use Rattle.dump_text.proofs.EventLemmas.{lacks_front, no_answer, answer_first}
 use Rattle.dump_text.proofs.events.answered.Goals as goal
 
 pub returns-in_default-clause-none : goal.returns-in_default-clause-none

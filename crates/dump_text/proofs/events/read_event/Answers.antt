@@ -1,4 +1,4 @@
-use Rattle.std.proofs.Common.{arith, ◌∙◌, sym}
+use Rattle.std.proofs.Common.{arith}
 use Rattle.text_words.proofs.ReadLemmas.{read_not}
 use Rattle.dump_text.specs.Call.{call_text, IsCall}
 use Rattle.dump_text.proofs.EventLemmas.{no_thread, no_number, thread_is, number_is, no_call, answer_same}

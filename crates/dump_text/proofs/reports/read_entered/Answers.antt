@@ -1,5 +1,4 @@
 use Rattle.std.proofs.Common.{arith}
-use Rattle.text_words.proofs.ReadLemmas.{read_not}
 use Rattle.dump_text.proofs.ReportLemmas.{entered_first, entered_none}
 use Rattle.dump_text.proofs.reports.read_entered.Goals as goal
 

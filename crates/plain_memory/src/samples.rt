@@ -1,0 +1,234 @@
+//! Each call, made where nothing refuses it, and what its reply is.
+use super::*;
+use base::{Data, Level, Limits, Meter, NoMemory, ObjectId, Refusal};
+use kernel_rules::{Entry, Mapping, Reply};
+use label_lattice::RawLabel;
+use plain_state::PlainState;
+
+pub const LIMITS: Limits = Limits {
+    pages: 64,
+    device: Level::L1,
+    next_id: 4,
+    next_category: 1,
+};
+
+pub fn boot() -> ObjectId {
+    ObjectId::new(2)
+}
+
+pub fn in_root(number: u64) -> Entry {
+    Entry {
+        container: ObjectId::root(),
+        object: ObjectId::new(number),
+    }
+}
+
+fn plain() -> RawLabel {
+    RawLabel::new(Level::L1, &[])
+}
+
+pub fn is_data(reply: Reply, wanted: &[u8]) -> bool {
+    match reply {
+        Reply::Bytes(data) => data.as_slice() == wanted,
+        _ => false,
+    }
+}
+
+pub fn is_done(reply: Reply) -> bool {
+    matches!(reply, Reply::Done)
+}
+
+pub fn is_pages(reply: Reply, wanted: u32) -> bool {
+    matches!(reply, Reply::Pages(pages) if pages == wanted)
+}
+
+pub fn is_mapped(reply: Reply, wanted: u32) -> bool {
+    matches!(reply, Reply::Mapping(Some(mapping)) if mapping.page == wanted)
+}
+
+pub fn refusal_in(reply: Reply) -> Option<Refusal> {
+    match reply {
+        Reply::Refused(refusal) => Some(refusal),
+        _ => None,
+    }
+}
+
+fn answered(outcome: Result<Reply, NoMemory>) -> Result<Option<Refusal>, NoMemory> {
+    match outcome {
+        Ok(reply) => Ok(refusal_in(reply)),
+        Err(error) => Err(error),
+    }
+}
+
+fn object_in(reply: Reply) -> Option<ObjectId> {
+    match reply {
+        Reply::Object(id) => Some(id),
+        _ => None,
+    }
+}
+
+fn made(outcome: Result<Reply, NoMemory>) -> Result<Option<ObjectId>, NoMemory> {
+    match outcome {
+        Ok(reply) => Ok(object_in(reply)),
+        Err(error) => Err(error),
+    }
+}
+
+/// A segment of one page and two pages of quota.
+pub fn make_segment(state: &mut PlainState, meter: &mut Meter) -> Result<Option<ObjectId>, NoMemory> {
+    let (thread, root, raw) = (boot(), ObjectId::root(), plain());
+    if refused_segment_create(state, thread, root, &raw, 2, 1, meter).is_none() {
+        return made(segment_create(state, thread, root, &raw, 2, 1, meter));
+    }
+    Ok(None)
+}
+
+pub fn copy(
+    state: &mut PlainState,
+    source: &Entry,
+    meter: &mut Meter,
+) -> Result<Option<ObjectId>, NoMemory> {
+    let (thread, root, raw) = (boot(), ObjectId::root(), plain());
+    if refused_segment_copy(state, thread, root, &raw, 2, source, meter).is_none() {
+        return made(segment_copy(state, thread, root, &raw, 2, source, meter));
+    }
+    Ok(None)
+}
+
+pub fn resize(
+    state: &mut PlainState,
+    entry: &Entry,
+    pages: u32,
+    meter: &mut Meter,
+) -> Result<Option<Refusal>, NoMemory> {
+    let thread = boot();
+    let refused = refused_segment_resize(state, thread, entry, pages, meter);
+    if refused.is_none() {
+        return answered(segment_resize(state, thread, entry, pages));
+    }
+    Ok(refused)
+}
+
+pub fn make_space(state: &mut PlainState, meter: &mut Meter) -> Result<Option<ObjectId>, NoMemory> {
+    let (thread, root, raw) = (boot(), ObjectId::root(), plain());
+    if refused_as_create(state, thread, root, &raw, 1, meter).is_none() {
+        return made(as_create(state, thread, root, &raw, 1, meter));
+    }
+    Ok(None)
+}
+
+pub fn send(
+    state: &mut PlainState,
+    entry: &Entry,
+    data: &Data,
+    meter: &mut Meter,
+) -> Result<Option<Refusal>, NoMemory> {
+    let thread = boot();
+    let refused = refused_dev_send(state, thread, entry, data, meter);
+    if refused.is_none() {
+        return answered(dev_send(state, thread, entry, data));
+    }
+    Ok(refused)
+}
+
+pub fn receive(state: &mut PlainState, entry: &Entry, meter: &mut Meter) -> Reply {
+    let thread = boot();
+    match refused_dev_recv(state, thread, entry, meter) {
+        Some(refusal) => Reply::Refused(refusal),
+        None => dev_recv(state, thread, entry),
+    }
+}
+
+pub fn write(
+    state: &mut PlainState,
+    entry: &Entry,
+    offset: u32,
+    data: &Data,
+    meter: &mut Meter,
+) -> Reply {
+    let thread = boot();
+    match refused_segment_write(state, thread, entry, offset, data, meter) {
+        Some(refusal) => Reply::Refused(refusal),
+        None => segment_write(state, thread, entry, offset, data),
+    }
+}
+
+pub fn read(state: &PlainState, entry: &Entry, offset: u32, count: u32, meter: &mut Meter) -> Reply {
+    let thread = boot();
+    match refused_segment_read(state, thread, entry, offset, count, meter) {
+        Some(refusal) => Reply::Refused(refusal),
+        None => segment_read(state, thread, entry, offset, count),
+    }
+}
+
+pub fn pages_of(state: &PlainState, entry: &Entry, meter: &mut Meter) -> Reply {
+    let thread = boot();
+    match refused_segment_len(state, thread, entry, meter) {
+        Some(refusal) => Reply::Refused(refusal),
+        None => segment_len(state, thread, entry),
+    }
+}
+
+pub fn note(state: &mut PlainState, entry: &Entry, data: &Data, meter: &mut Meter) -> Reply {
+    let thread = boot();
+    match refused_meta_set(state, thread, entry, data, meter) {
+        Some(refusal) => Reply::Refused(refusal),
+        None => meta_set(state, thread, entry, data),
+    }
+}
+
+pub fn noted(state: &PlainState, entry: &Entry, meter: &mut Meter) -> Reply {
+    let thread = boot();
+    match refused_meta_get(state, thread, entry, meter) {
+        Some(refusal) => Reply::Refused(refusal),
+        None => meta_get(state, thread, entry),
+    }
+}
+
+pub fn freeze(state: &mut PlainState, entry: &Entry, meter: &mut Meter) -> Reply {
+    let thread = boot();
+    match refused_set_immutable(state, thread, entry, meter) {
+        Some(refusal) => Reply::Refused(refusal),
+        None => set_immutable(state, thread, entry),
+    }
+}
+
+pub fn map(state: &mut PlainState, space: &Entry, mapping: &Mapping, meter: &mut Meter) -> Reply {
+    let thread = boot();
+    match refused_as_map(state, thread, space, 0, mapping, meter) {
+        Some(refusal) => Reply::Refused(refusal),
+        None => as_map(state, thread, space, 0, mapping),
+    }
+}
+
+pub fn unmap(state: &mut PlainState, space: &Entry, meter: &mut Meter) -> Reply {
+    let thread = boot();
+    match refused_as_unmap(state, thread, space, 0, meter) {
+        Some(refusal) => Reply::Refused(refusal),
+        None => as_unmap(state, thread, space, 0),
+    }
+}
+
+pub fn mapped(state: &PlainState, space: &Entry, meter: &mut Meter) -> Reply {
+    let thread = boot();
+    match refused_as_get(state, thread, space, 0, meter) {
+        Some(refusal) => Reply::Refused(refusal),
+        None => as_get(state, thread, space, 0),
+    }
+}
+
+pub fn put(state: &mut PlainState, address: u64, data: &Data, meter: &mut Meter) -> Reply {
+    let thread = boot();
+    match refused_store(state, thread, address, data, meter) {
+        Some(refusal) => Reply::Refused(refusal),
+        None => store(state, thread, address, data, meter),
+    }
+}
+
+pub fn fetch(state: &PlainState, address: u64, count: u32, meter: &mut Meter) -> Reply {
+    let thread = boot();
+    match refused_load(state, thread, address, count, meter) {
+        Some(refusal) => Reply::Refused(refusal),
+        None => load(state, thread, address, count, meter),
+    }
+}
