@@ -10,7 +10,8 @@ use Rattle.auditor.specs.Replay.{replayed}
 use Rattle.auditor.specs.declared.verdicts.Verdict.{Verdict}
 use Rattle.auditor.specs.declared.verdicts.Verdict.TheVariants as is
 
--- the dump of a dump's own limits and calls, with the numbers, the replies and the tables of the rules
+-- the dump of a dump's own limits and calls, with the numbers, the replies and the tables of the
+-- rules
 abbrev pub true_dump : DumpLists → DumpLists
 true_dump d = whole_dump d.limits (replayed d.limits d.events)
 
@@ -22,13 +23,14 @@ first_difference n (x ∷ xs) (y ∷ ys) =
 first_difference n (x ∷ xs) [] = Some n
 first_difference n [] (y ∷ ys) = Some n
 
--- The first line in which the bytes differ from the text of the true dump. Each line of an event keeps its
--- thread and its call there, so it differs where its number or its reply is not the rules'.
+-- The first line in which the bytes differ from the text of the true dump. Each line of an event
+-- keeps its thread and its call there, so it differs where its number or its reply is not the
+-- rules'.
 abbrev pub false_line : List ℕ → DumpLists → Option ℕ
 false_line bytes d = first_difference 1 bytes (dump_text (true_dump d))
 
--- Clean: a dump that differs in no line from the true one. False: it differs in line n first. Unreadable:
--- line n is the first at which the bytes stop being the beginning of a dump.
+-- Clean: a dump that differs in no line from the true one. False: it differs in line n first.
+-- Unreadable: line n is the first at which the bytes stop being the beginning of a dump.
 abbrev pub IsVerdict : List ℕ → Verdict → Type 0
 IsVerdict bytes is.Clean = (d : DumpLists) × IsDump bytes d × (false_line bytes d ≡ None)
 IsVerdict bytes (is.False n) = (d : DumpLists) × IsDump bytes d × (false_line bytes d ≡ Some n)

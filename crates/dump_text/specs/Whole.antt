@@ -24,7 +24,8 @@ placed t = record {
   orders = t.orders;
 }
 
--- the dump of events after a boot with these limits: its tables are those of the state that they lead to
+-- the dump of events after a boot with these limits: its tables are those of the state that they
+-- lead to
 abbrev pub whole_dump : Limits → List Event → DumpLists
 whole_dump limits events = record {
   limits = limits;
