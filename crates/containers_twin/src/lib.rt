@@ -14,4 +14,6 @@ pub use hierarchy::{Hierarchy, is_container};
 pub use twin::Twin;
 
 #[cfg(test)]
+mod seen;
+#[cfg(test)]
 mod tests;

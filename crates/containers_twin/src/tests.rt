@@ -1,15 +1,13 @@
+//! Ten thousand random calls on both.
 use super::*;
+use crate::seen::{POOL, Seen, compare_seen};
 use base::{NoMemory, ObjectId, Slot};
-use containers::{Place, Visitor};
 use std::process::Abort;
 use std::test::Fail;
 
 const CALLS: usize = 10_000;
 
 const SEED: u64 = 2006;
-
-// As many objects, and as many links.
-const POOL: usize = 24;
 
 // How often at least each kind of call is to be made, and to be refused.
 const ENOUGH: u32 = 100;
@@ -32,82 +30,6 @@ impl Numbers {
 
     fn below(&mut self, end: u64) -> u64 {
         self.next() % end.max(1)
-    }
-}
-
-// What a visitor was handed by one call, as far as it has places, and how much that was.
-#[derive(Drop)]
-struct Seen {
-    links: [(u64, u64); POOL],
-    link_count: usize,
-    objects: [(u64, usize); POOL],
-    object_count: usize,
-}
-
-impl Seen {
-    fn new() -> Seen {
-        Seen {
-            links: [(0, 0); POOL],
-            link_count: 0,
-            objects: [(0, 0); POOL],
-            object_count: 0,
-        }
-    }
-
-    fn times_link(&self, link: (u64, u64)) -> usize {
-        let mut count = 0usize;
-        for i in 0..self.link_count.min(POOL) {
-            if self.links[i] == link {
-                count = count.saturating_add(1);
-            }
-        }
-        count
-    }
-
-    fn times_object(&self, id: u64) -> usize {
-        let mut count = 0usize;
-        for i in 0..self.object_count.min(POOL) {
-            if self.objects[i].0 == id {
-                count = count.saturating_add(1);
-            }
-        }
-        count
-    }
-}
-
-impl Visitor for Seen {
-    ghost link_gives = { λ _ _ _ _. Unit {0} };
-
-    ghost object_gives = { λ _ _ _. Unit {0} };
-
-    fn link(&mut self, container: Place, object: Place) {
-        if self.link_count < POOL {
-            self.links[self.link_count] = (container.id.number(), object.id.number());
-        }
-        self.link_count = self.link_count.saturating_add(1);
-    }
-
-    fn object(&mut self, object: Place) {
-        if self.object_count < POOL {
-            self.objects[self.object_count] = (object.id.number(), object.slot.0);
-        }
-        self.object_count = self.object_count.saturating_add(1);
-    }
-}
-
-// Both were handed the same links and the same objects, each once.
-fn compare_seen(rt: &impl Abort, one: &Seen, other: &Seen) {
-    assert_eq!(rt; one.link_count, other.link_count);
-    assert_eq!(rt; one.object_count, other.object_count);
-    assert!(rt; one.link_count <= POOL);
-    assert!(rt; one.object_count <= POOL);
-    for i in 0..one.link_count {
-        assert_eq!(rt; one.times_link(one.links[i]), 1);
-        assert_eq!(rt; other.times_link(one.links[i]), 1);
-    }
-    for i in 0..one.object_count {
-        assert_eq!(rt; one.times_object(one.objects[i].0), 1);
-        assert_eq!(rt; other.times_object(one.objects[i].0), 1);
     }
 }
 

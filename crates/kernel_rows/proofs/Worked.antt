@@ -1,540 +1,130 @@
--- Scripts with what each line answers, by computation. Made by rows/make.py from rows/worked.txt.
-use Rattle.std.proofs.Common.{◌≡◌, List, [], ◌∷◌, refl, false, pos, negsuc, Some}
+-- The scripts by computation. Made by rows/make.py from rows/worked.txt.
+use Rattle.std.specs.Prelude.{refl}
 use Rattle.base.specs.Live.{is_live}
-use Rattle.base.specs.declared.levels.Level.TheVariants.{Star, L0, L1, L2, L3}
-use Rattle.base.specs.declared.refusals.Refusal.TheVariants.{Halted, WrongType, CannotObserve}
-use Rattle.base.specs.declared.refusals.Refusal.TheVariants.{CannotModify, BadLabel, LabelRange}
-use Rattle.base.specs.declared.refusals.Refusal.TheVariants.{ClearanceRange, LabelFull, AvoidType}
-use Rattle.base.specs.declared.refusals.Refusal.TheVariants.{NoQuota, FixedQuota, NotFixed}
-use Rattle.base.specs.declared.refusals.Refusal.TheVariants.{AlreadyLinked, RootKept, Immutable}
-use Rattle.base.specs.declared.refusals.Refusal.TheVariants.{Bounds, NotMapped, RightsDenied}
-use Rattle.base.specs.declared.refusals.Refusal.TheVariants.{Overlap, GateDenied, DeviceFull}
-use Rattle.base.specs.declared.refusals.Refusal.TheVariants.{DeviceEmpty, Spent}
 use Rattle.threads_gates.specs.LabelRules.{stored, with_category, below, visible, shown, below_join}
 use Rattle.threads_gates.specs.LabelRules.{below_join_up, above_floor}
-use Rattle.kernel_rules.specs.Runs.{booted}
 use Rattle.kernel_rules.specs.State.{live_part}
 use Rattle.kernel_rules.specs.Step.{answer, next, query_answer}
 use Rattle.kernel_rules.specs.Table.{refused, query_refused}
 use Rattle.kernel_rules.specs.Translate.{translate, place_of}
-use Rattle.kernel_rows.specs.Play.{Line, W, R, play, limits, raw, label, at, entry, mapping, kinds}
-use Rattle.kernel_rows.specs.Play.{category}
-use Rattle.kernel_rules.specs.declared.calls.Call.TheVariants as call
-use Rattle.kernel_rules.specs.declared.calls.Query.TheVariants as query
-use Rattle.kernel_rules.specs.declared.replies.Reply.TheVariants as reply
+use Rattle.kernel_rows.specs.Worked.{WorkedAnswer, SecretSegment, Clearances}
+use Rattle.kernel_rows.specs.Worked.{ObservedAndNotModified, Gates, QuotasAndLinks, MappingsByEntry}
+use Rattle.kernel_rows.specs.Worked.{SecondLinks, QuotasMoved, AThreadThatDies, ReadOnlyForGood}
+use Rattle.kernel_rows.specs.Worked.{AMappingThatReturns, AvoidedKinds, AllPagesUsed}
+use Rattle.kernel_rows.specs.Worked.{SixteenExceptions, SixteenCategories, TheLastId, FourPackets}
+use Rattle.kernel_rows.specs.Worked.{FirstPath, CutBytesAreGone, Metadata, ASpaceThatDies}
+use Rattle.kernel_rows.specs.Worked.{ARaisedLabel}
 
-abbrev secret_segment_lines : List Line
-secret_segment_lines =
-    W 2 (call.CatCreate)
-    ∷ W 2 (call.SegmentCreate 1 (raw L1 (at 1 L3 ∷ [])) 2 1)
-    ∷ W 2 (call.SegmentWrite (entry 1 4) 0 (0 ∷ 1 ∷ 2 ∷ 3 ∷ 4 ∷ 5 ∷ 6 ∷ 7 ∷ 8 ∷ 9 ∷ 10 ∷ 11 ∷ 12 ∷ 13 ∷ 14 ∷ 15 ∷ 16 ∷ 17 ∷ 18 ∷ 19 ∷ 20 ∷ 21 ∷ 22 ∷ 23 ∷ 24 ∷ 25 ∷ 26 ∷ 27 ∷ 28 ∷ 29 ∷ 30 ∷ 31 ∷ 32 ∷ 33 ∷ 34 ∷ 35 ∷ 36 ∷ 37 ∷ 38 ∷ 39 ∷ 40 ∷ 41 ∷ 42 ∷ 43 ∷ 44 ∷ 45 ∷ 46 ∷ 47 ∷ 48 ∷ 49 ∷ 50 ∷ 51 ∷ 52 ∷ 53 ∷ 54 ∷ 55 ∷ 56 ∷ 57 ∷ 58 ∷ 59 ∷ 60 ∷ 61 ∷ 62 ∷ 63 ∷ []))
-    ∷ R 2 (query.SegmentRead (entry 1 4) 0 64)
-    ∷ W 2 (call.ThreadCreate 1 (raw L1 ([])) 1 (raw L2 ([])) 0)
-    ∷ R 5 (query.SegmentRead (entry 1 4) 0 4)
-    ∷ W 5 (call.SelfSetLabel (raw L1 (at 1 L3 ∷ []))) ∷ []
-
-pub secret_segment : play (booted (limits 64 L1 4 1)) secret_segment_lines
-    ≡ reply.Category (category 1)
-    ∷ reply.Object 4
-    ∷ reply.Done
-    ∷ reply.Bytes (0 ∷ 1 ∷ 2 ∷ 3 ∷ 4 ∷ 5 ∷ 6 ∷ 7 ∷ 8 ∷ 9 ∷ 10 ∷ 11 ∷ 12 ∷ 13 ∷ 14 ∷ 15 ∷ 16 ∷ 17 ∷ 18 ∷ 19 ∷ 20 ∷ 21 ∷ 22 ∷ 23 ∷ 24 ∷ 25 ∷ 26 ∷ 27 ∷ 28 ∷ 29 ∷ 30 ∷ 31 ∷ 32 ∷ 33 ∷ 34 ∷ 35 ∷ 36 ∷ 37 ∷ 38 ∷ 39 ∷ 40 ∷ 41 ∷ 42 ∷ 43 ∷ 44 ∷ 45 ∷ 46 ∷ 47 ∷ 48 ∷ 49 ∷ 50 ∷ 51 ∷ 52 ∷ 53 ∷ 54 ∷ 55 ∷ 56 ∷ 57 ∷ 58 ∷ 59 ∷ 60 ∷ 61 ∷ 62 ∷ 63 ∷ [])
-    ∷ reply.Object 5
-    ∷ reply.Refused CannotObserve
-    ∷ reply.Refused LabelRange ∷ []
+pub secret_segment : SecretSegment
 unfolding answer next query_answer is_live live_part refused query_refused stored with_category below visible shown below_join below_join_up above_floor translate place_of
 secret_segment = refl
 
-abbrev clearances_lines : List Line
-clearances_lines =
-    W 2 (call.CatCreate)
-    ∷ W 2 (call.SelfSetClearance (raw L2 ([])))
-    ∷ W 2 (call.SelfSetClearance (raw L2 (at 1 L3 ∷ [])))
-    ∷ W 2 (call.ThreadCreate 1 (raw L1 ([])) 1 (raw L2 ([])) 0)
-    ∷ W 4 (call.SelfSetClearance (raw L2 (at 1 L3 ∷ []))) ∷ []
-
-pub clearances : play (booted (limits 64 L1 4 1)) clearances_lines
-    ≡ reply.Category (category 1)
-    ∷ reply.Done
-    ∷ reply.Done
-    ∷ reply.Object 4
-    ∷ reply.Refused ClearanceRange ∷ []
+pub clearances : Clearances
 unfolding answer next query_answer is_live live_part refused query_refused stored with_category below visible shown below_join below_join_up above_floor translate place_of
 clearances = refl
 
-abbrev observed_and_not_modified_lines : List Line
-observed_and_not_modified_lines =
-    W 2 (call.CatCreate)
-    ∷ W 2 (call.SegmentCreate 1 (raw L1 (at 1 L0 ∷ [])) 2 1)
-    ∷ R 2 (query.SegmentRead (entry 1 4) 250 7)
-    ∷ W 2 (call.ThreadCreate 1 (raw L1 ([])) 1 (raw L2 ([])) 0)
-    ∷ R 5 (query.SegmentRead (entry 1 4) 0 1)
-    ∷ W 5 (call.SegmentWrite (entry 1 4) 0 (255 ∷ [])) ∷ []
-
-pub observed_and_not_modified : play (booted (limits 64 L1 4 1)) observed_and_not_modified_lines
-    ≡ reply.Category (category 1)
-    ∷ reply.Object 4
-    ∷ reply.Refused Bounds
-    ∷ reply.Object 5
-    ∷ reply.Bytes (0 ∷ [])
-    ∷ reply.Refused CannotModify ∷ []
+pub observed_and_not_modified : ObservedAndNotModified
 unfolding answer next query_answer is_live live_part refused query_refused stored with_category below visible shown below_join below_join_up above_floor translate place_of
 observed_and_not_modified = refl
 
-abbrev gates_lines : List Line
-gates_lines =
-    W 2 (call.CatCreate)
-    ∷ W 2 (call.GateCreate 1 (raw L1 (at 1 Star ∷ [])) 1 (raw L2 ([])) (entry 0 0) 7 9)
-    ∷ W 2 (call.GateCreate 1 (raw L1 (at 1 Star ∷ [])) 1 (raw L2 (at 1 L3 ∷ [])) (entry 0 0) 7 9)
-    ∷ W 2 (call.ThreadCreate 1 (raw L1 ([])) 1 (raw L2 ([])) 0)
-    ∷ W 2 (call.ThreadCreate 1 (raw L1 (at 1 L3 ∷ [])) 1 (raw L2 (at 1 L3 ∷ [])) 0)
-    ∷ W 6 (call.GateEnter (entry 1 4) (raw L1 (at 1 Star ∷ [])) (raw L2 (at 1 L3 ∷ [])) (raw L3 ([])))
-    ∷ W 6 (call.GateEnter (entry 1 4) (raw L1 (at 1 Star ∷ [])) (raw L2 ([])) (raw L3 ([])))
-    ∷ W 6 (call.GateEnter (entry 1 5) (raw L1 (at 1 Star ∷ [])) (raw L2 (at 1 L3 ∷ [])) (raw L3 ([])))
-    ∷ R 6 (query.SelfGet)
-    ∷ W 7 (call.GateEnter (entry 1 4) (raw L1 (at 1 L3 ∷ [])) (raw L2 (at 1 L3 ∷ [])) (raw L3 ([])))
-    ∷ W 7 (call.GateEnter (entry 1 5) (raw L1 ([])) (raw L2 ([])) (raw L1 (at 1 L3 ∷ [])))
-    ∷ R 7 (query.SelfGet) ∷ []
-
-pub gates : play (booted (limits 64 L1 4 1)) gates_lines
-    ≡ reply.Category (category 1)
-    ∷ reply.Object 4
-    ∷ reply.Object 5
-    ∷ reply.Object 6
-    ∷ reply.Object 7
-    ∷ reply.Refused GateDenied
-    ∷ reply.Entered 7 9
-    ∷ reply.Entered 7 9
-    ∷ reply.Own (label L1 (at 1 Star ∷ [])) (label L2 (at 1 L3 ∷ [])) (label L3 ([])) (entry 0 0) 7 9
-    ∷ reply.Refused GateDenied
-    ∷ reply.Entered 7 9
-    ∷ reply.Own (label L1 ([])) (label L2 ([])) (label L1 (at 1 L3 ∷ [])) (entry 0 0) 7 9 ∷ []
+pub gates : Gates
 unfolding answer next query_answer is_live live_part refused query_refused stored with_category below visible shown below_join below_join_up above_floor translate place_of
 gates = refl
 
-abbrev quotas_and_links_lines : List Line
-quotas_and_links_lines =
-    W 2 (call.ContainerCreate 1 (raw L1 ([])) 10 (kinds 0))
-    ∷ W 2 (call.ContainerCreate 4 (raw L1 ([])) 8 (kinds 0))
-    ∷ W 2 (call.ContainerCreate 5 (raw L1 ([])) 6 (kinds 0))
-    ∷ W 2 (call.SegmentCreate 6 (raw L1 ([])) 2 1)
-    ∷ W 2 (call.SegmentWrite (entry 6 7) 0 (97 ∷ 98 ∷ []))
-    ∷ W 2 (call.SetFixed (entry 6 7))
-    ∷ W 2 (call.Link 1 (entry 6 7))
-    ∷ R 2 (query.ObjQuota (entry 1 1))
-    ∷ W 2 (call.Unref (entry 1 4))
-    ∷ R 2 (query.ObjQuota (entry 1 1))
-    ∷ R 2 (query.SegmentRead (entry 1 7) 0 2)
-    ∷ R 2 (query.ContainerList 1 0) ∷ []
-
-pub quotas_and_links : play (booted (limits 64 L1 4 1)) quotas_and_links_lines
-    ≡ reply.Object 4
-    ∷ reply.Object 5
-    ∷ reply.Object 6
-    ∷ reply.Object 7
-    ∷ reply.Done
-    ∷ reply.Done
-    ∷ reply.Done
-    ∷ reply.Quota 64 16 false false
-    ∷ reply.Done
-    ∷ reply.Quota 64 6 false false
-    ∷ reply.Bytes (97 ∷ 98 ∷ [])
-    ∷ reply.Listed 3 (2 ∷ 3 ∷ 7 ∷ []) ∷ []
+pub quotas_and_links : QuotasAndLinks
 unfolding answer next query_answer is_live live_part refused query_refused stored with_category below visible shown below_join below_join_up above_floor translate place_of
 quotas_and_links = refl
 
-abbrev mappings_by_entry_lines : List Line
-mappings_by_entry_lines =
-    W 2 (call.ContainerCreate 1 (raw L1 ([])) 10 (kinds 0))
-    ∷ W 2 (call.ContainerCreate 4 (raw L1 ([])) 8 (kinds 0))
-    ∷ W 2 (call.ContainerCreate 5 (raw L1 ([])) 6 (kinds 0))
-    ∷ W 2 (call.SegmentCreate 6 (raw L1 ([])) 2 1)
-    ∷ W 2 (call.SegmentWrite (entry 6 7) 0 (97 ∷ 98 ∷ []))
-    ∷ W 2 (call.SetFixed (entry 6 7))
-    ∷ W 2 (call.Link 1 (entry 6 7))
-    ∷ W 2 (call.AsCreate 1 (raw L1 ([])) 1)
-    ∷ W 2 (call.AsMap (entry 1 8) 0 (mapping 0 (entry 6 7) 0 1 3))
-    ∷ W 2 (call.AsMap (entry 1 8) 1 (mapping 4 (entry 1 7) 0 1 3))
-    ∷ W 2 (call.SelfSetAs (entry 1 8))
-    ∷ R 2 (query.Load 0 2)
-    ∷ W 2 (call.Unref (entry 1 4))
-    ∷ R 2 (query.Load 0 2)
-    ∷ R 2 (query.Load 1024 2)
-    ∷ R 2 (query.AsGet (entry 1 8) 0) ∷ []
-
-pub mappings_by_entry : play (booted (limits 64 L1 4 1)) mappings_by_entry_lines
-    ≡ reply.Object 4
-    ∷ reply.Object 5
-    ∷ reply.Object 6
-    ∷ reply.Object 7
-    ∷ reply.Done
-    ∷ reply.Done
-    ∷ reply.Done
-    ∷ reply.Object 8
-    ∷ reply.Done
-    ∷ reply.Done
-    ∷ reply.Done
-    ∷ reply.Bytes (97 ∷ 98 ∷ [])
-    ∷ reply.Done
-    ∷ reply.Refused NotMapped
-    ∷ reply.Bytes (97 ∷ 98 ∷ [])
-    ∷ reply.Mapping (Some (mapping 0 (entry 6 7) 0 1 3)) ∷ []
+pub mappings_by_entry : MappingsByEntry
 unfolding answer next query_answer is_live live_part refused query_refused stored with_category below visible shown below_join below_join_up above_floor translate place_of
 mappings_by_entry = refl
 
-abbrev second_links_lines : List Line
-second_links_lines =
-    W 2 (call.ContainerCreate 1 (raw L1 ([])) 10 (kinds 0))
-    ∷ W 2 (call.SegmentCreate 1 (raw L1 ([])) 2 1)
-    ∷ W 2 (call.Link 4 (entry 1 5))
-    ∷ W 2 (call.SetFixed (entry 1 5))
-    ∷ W 2 (call.Link 4 (entry 1 5))
-    ∷ W 2 (call.QuotaMove (entry 1 5) (pos 1))
-    ∷ W 2 (call.Link 4 (entry 1 5)) ∷ []
-
-pub second_links : play (booted (limits 64 L1 4 1)) second_links_lines
-    ≡ reply.Object 4
-    ∷ reply.Object 5
-    ∷ reply.Refused NotFixed
-    ∷ reply.Done
-    ∷ reply.Done
-    ∷ reply.Refused FixedQuota
-    ∷ reply.Refused AlreadyLinked ∷ []
+pub second_links : SecondLinks
 unfolding answer next query_answer is_live live_part refused query_refused stored with_category below visible shown below_join below_join_up above_floor translate place_of
 second_links = refl
 
-abbrev quotas_moved_lines : List Line
-quotas_moved_lines =
-    W 2 (call.SegmentCreate 1 (raw L1 ([])) 4 3)
-    ∷ W 2 (call.SegmentCreate 1 (raw L1 ([])) 1 0)
-    ∷ W 2 (call.SegmentResize (entry 1 4) 4)
-    ∷ W 2 (call.QuotaMove (entry 1 4) (negsuc 0))
-    ∷ W 2 (call.SegmentResize (entry 1 4) 2)
-    ∷ W 2 (call.QuotaMove (entry 1 4) (negsuc 0))
-    ∷ R 2 (query.ObjQuota (entry 1 4)) ∷ []
-
-pub quotas_moved : play (booted (limits 8 L1 4 1)) quotas_moved_lines
-    ≡ reply.Object 4
-    ∷ reply.Refused NoQuota
-    ∷ reply.Refused NoQuota
-    ∷ reply.Refused NoQuota
-    ∷ reply.Done
-    ∷ reply.Done
-    ∷ reply.Quota 3 3 false false ∷ []
+pub quotas_moved : QuotasMoved
 unfolding answer next query_answer is_live live_part refused query_refused stored with_category below visible shown below_join below_join_up above_floor translate place_of
 quotas_moved = refl
 
-abbrev a_thread_that_dies_lines : List Line
-a_thread_that_dies_lines =
-    W 2 (call.Unref (entry 1 1))
-    ∷ W 2 (call.ContainerCreate 1 (raw L1 ([])) 4 (kinds 0))
-    ∷ W 2 (call.ThreadCreate 4 (raw L1 ([])) 1 (raw L2 ([])) 0)
-    ∷ W 5 (call.Unref (entry 1 4))
-    ∷ R 5 (query.SelfGet) ∷ []
-
-pub a_thread_that_dies : play (booted (limits 64 L1 4 1)) a_thread_that_dies_lines
-    ≡ reply.Refused RootKept
-    ∷ reply.Object 4
-    ∷ reply.Object 5
-    ∷ reply.Done
-    ∷ reply.Refused Halted ∷ []
+pub a_thread_that_dies : AThreadThatDies
 unfolding answer next query_answer is_live live_part refused query_refused stored with_category below visible shown below_join below_join_up above_floor translate place_of
 a_thread_that_dies = refl
 
-abbrev read_only_for_good_lines : List Line
-read_only_for_good_lines =
-    W 2 (call.SegmentCreate 1 (raw L1 ([])) 2 1)
-    ∷ W 2 (call.AsCreate 1 (raw L1 ([])) 1)
-    ∷ W 2 (call.AsMap (entry 1 5) 0 (mapping 0 (entry 1 4) 0 1 3))
-    ∷ W 2 (call.SelfSetAs (entry 1 5))
-    ∷ W 2 (call.Store 0 (190 ∷ 239 ∷ []))
-    ∷ W 2 (call.SetImmutable (entry 1 4))
-    ∷ W 2 (call.Store 0 (0 ∷ 0 ∷ []))
-    ∷ R 2 (query.Load 0 2)
-    ∷ W 2 (call.AsMap (entry 1 5) 1 (mapping 0 (entry 1 4) 0 1 1))
-    ∷ W 2 (call.SegmentWrite (entry 1 4) 0 (0 ∷ [])) ∷ []
-
-pub read_only_for_good : play (booted (limits 64 L1 4 1)) read_only_for_good_lines
-    ≡ reply.Object 4
-    ∷ reply.Object 5
-    ∷ reply.Done
-    ∷ reply.Done
-    ∷ reply.Done
-    ∷ reply.Done
-    ∷ reply.Refused RightsDenied
-    ∷ reply.Bytes (190 ∷ 239 ∷ [])
-    ∷ reply.Refused Overlap
-    ∷ reply.Refused Immutable ∷ []
+pub read_only_for_good : ReadOnlyForGood
 unfolding answer next query_answer is_live live_part refused query_refused stored with_category below visible shown below_join below_join_up above_floor translate place_of
 read_only_for_good = refl
 
-abbrev a_mapping_that_returns_lines : List Line
-a_mapping_that_returns_lines =
-    W 2 (call.ContainerCreate 1 (raw L1 ([])) 4 (kinds 0))
-    ∷ W 2 (call.SegmentCreate 1 (raw L1 ([])) 2 1)
-    ∷ W 2 (call.SetFixed (entry 1 5))
-    ∷ W 2 (call.Link 4 (entry 1 5))
-    ∷ W 2 (call.AsCreate 1 (raw L1 ([])) 1)
-    ∷ W 2 (call.AsMap (entry 1 6) 15 (mapping 65535 (entry 1 5) 0 1 1))
-    ∷ W 2 (call.SelfSetAs (entry 1 6))
-    ∷ W 2 (call.Unref (entry 1 5))
-    ∷ R 2 (query.Load 16776960 1)
-    ∷ W 2 (call.Link 1 (entry 4 5))
-    ∷ R 2 (query.Load 16776960 1)
-    ∷ W 2 (call.Store 16776960 (1 ∷ [])) ∷ []
-
-pub a_mapping_that_returns : play (booted (limits 64 L1 4 1)) a_mapping_that_returns_lines
-    ≡ reply.Object 4
-    ∷ reply.Object 5
-    ∷ reply.Done
-    ∷ reply.Done
-    ∷ reply.Object 6
-    ∷ reply.Done
-    ∷ reply.Done
-    ∷ reply.Done
-    ∷ reply.Refused NotMapped
-    ∷ reply.Done
-    ∷ reply.Bytes (0 ∷ [])
-    ∷ reply.Refused RightsDenied ∷ []
+pub a_mapping_that_returns : AMappingThatReturns
 unfolding answer next query_answer is_live live_part refused query_refused stored with_category below visible shown below_join below_join_up above_floor translate place_of
 a_mapping_that_returns = refl
 
-abbrev avoided_kinds_lines : List Line
-avoided_kinds_lines =
-    W 2 (call.ContainerCreate 1 (raw L1 ([])) 9 (kinds 2))
-    ∷ W 2 (call.ContainerCreate 4 (raw L1 ([])) 4 (kinds 0))
-    ∷ W 2 (call.SegmentCreate 5 (raw L1 ([])) 1 0)
-    ∷ W 2 (call.AsCreate 5 (raw L1 ([])) 1) ∷ []
-
-pub avoided_kinds : play (booted (limits 64 L1 4 1)) avoided_kinds_lines
-    ≡ reply.Object 4
-    ∷ reply.Object 5
-    ∷ reply.Refused AvoidType
-    ∷ reply.Object 6 ∷ []
+pub avoided_kinds : AvoidedKinds
 unfolding answer next query_answer is_live live_part refused query_refused stored with_category below visible shown below_join below_join_up above_floor translate place_of
 avoided_kinds = refl
 
-abbrev all_pages_used_lines : List Line
-all_pages_used_lines =
-    W 2 (call.Unref (entry 1 3))
-    ∷ W 2 (call.SegmentCreate 1 (raw L1 ([])) 1 0)
-    ∷ W 2 (call.SegmentCreate 1 (raw L1 ([])) 1 0)
-    ∷ W 2 (call.SegmentCreate 1 (raw L1 ([])) 1 0)
-    ∷ W 2 (call.SegmentCreate 1 (raw L1 ([])) 1 0)
-    ∷ W 2 (call.SegmentCreate 1 (raw L1 ([])) 1 0)
-    ∷ W 2 (call.SegmentCreate 1 (raw L1 ([])) 1 0)
-    ∷ W 2 (call.SegmentCreate 1 (raw L1 ([])) 1 0)
-    ∷ R 2 (query.ContainerList 1 0) ∷ []
-
-pub all_pages_used : play (booted (limits 8 L1 4 1)) all_pages_used_lines
-    ≡ reply.Done
-    ∷ reply.Object 4
-    ∷ reply.Object 5
-    ∷ reply.Object 6
-    ∷ reply.Object 7
-    ∷ reply.Object 8
-    ∷ reply.Object 9
-    ∷ reply.Refused NoQuota
-    ∷ reply.Listed 7 (2 ∷ 4 ∷ 5 ∷ 6 ∷ 7 ∷ 8 ∷ 9 ∷ []) ∷ []
+pub all_pages_used : AllPagesUsed
 unfolding answer next query_answer is_live live_part refused query_refused stored with_category below visible shown below_join below_join_up above_floor translate place_of
 all_pages_used = refl
 
-abbrev sixteen_exceptions_lines : List Line
-sixteen_exceptions_lines =
-    W 2 (call.SegmentCreate 1 (raw L1 (at 1 L2 ∷ at 2 L2 ∷ at 3 L2 ∷ at 4 L2 ∷ at 5 L2 ∷ at 6 L2 ∷ at 7 L2 ∷ at 8 L2 ∷ at 9 L2 ∷ at 10 L2 ∷ at 11 L2 ∷ at 12 L2 ∷ at 13 L2 ∷ at 14 L2 ∷ at 15 L2 ∷ at 16 L2 ∷ [])) 1 0)
-    ∷ W 2 (call.SegmentCreate 1 (raw L1 (at 1 L2 ∷ at 2 L2 ∷ at 3 L2 ∷ at 4 L2 ∷ at 5 L2 ∷ at 6 L2 ∷ at 7 L2 ∷ at 8 L2 ∷ at 9 L2 ∷ at 10 L2 ∷ at 11 L2 ∷ at 12 L2 ∷ at 13 L2 ∷ at 14 L2 ∷ at 15 L2 ∷ at 16 L2 ∷ at 17 L2 ∷ [])) 1 0) ∷ []
-
-pub sixteen_exceptions : play (booted (limits 64 L1 4 18)) sixteen_exceptions_lines
-    ≡ reply.Object 4
-    ∷ reply.Refused BadLabel ∷ []
+pub sixteen_exceptions : SixteenExceptions
 unfolding answer next query_answer is_live live_part refused query_refused stored with_category below visible shown below_join below_join_up above_floor translate place_of
 sixteen_exceptions = refl
 
-abbrev sixteen_categories_lines : List Line
-sixteen_categories_lines =
-    W 2 (call.CatCreate)
-    ∷ W 2 (call.CatCreate)
-    ∷ W 2 (call.CatCreate)
-    ∷ W 2 (call.CatCreate)
-    ∷ W 2 (call.CatCreate)
-    ∷ W 2 (call.CatCreate)
-    ∷ W 2 (call.CatCreate)
-    ∷ W 2 (call.CatCreate)
-    ∷ W 2 (call.CatCreate)
-    ∷ W 2 (call.CatCreate)
-    ∷ W 2 (call.CatCreate)
-    ∷ W 2 (call.CatCreate)
-    ∷ W 2 (call.CatCreate)
-    ∷ W 2 (call.CatCreate)
-    ∷ W 2 (call.CatCreate)
-    ∷ W 2 (call.CatCreate)
-    ∷ W 2 (call.CatCreate) ∷ []
-
-pub sixteen_categories : play (booted (limits 64 L1 4 1)) sixteen_categories_lines
-    ≡ reply.Category (category 1)
-    ∷ reply.Category (category 2)
-    ∷ reply.Category (category 3)
-    ∷ reply.Category (category 4)
-    ∷ reply.Category (category 5)
-    ∷ reply.Category (category 6)
-    ∷ reply.Category (category 7)
-    ∷ reply.Category (category 8)
-    ∷ reply.Category (category 9)
-    ∷ reply.Category (category 10)
-    ∷ reply.Category (category 11)
-    ∷ reply.Category (category 12)
-    ∷ reply.Category (category 13)
-    ∷ reply.Category (category 14)
-    ∷ reply.Category (category 15)
-    ∷ reply.Category (category 16)
-    ∷ reply.Refused LabelFull ∷ []
+pub sixteen_categories : SixteenCategories
 unfolding answer next query_answer is_live live_part refused query_refused stored with_category below visible shown below_join below_join_up above_floor translate place_of
 sixteen_categories = refl
 
-abbrev the_last_id_lines : List Line
-the_last_id_lines =
-    W 2 (call.SegmentCreate 1 (raw L1 ([])) 1 0)
-    ∷ W 2 (call.SegmentCreate 1 (raw L1 ([])) 1 0) ∷ []
-
-pub the_last_id : play (booted (limits 64 L1 2305843009213693951 1)) the_last_id_lines
-    ≡ reply.Object 2305843009213693951
-    ∷ reply.Refused Spent ∷ []
+pub the_last_id : TheLastId
 unfolding answer next query_answer is_live live_part refused query_refused stored with_category below visible shown below_join below_join_up above_floor translate place_of
 the_last_id = refl
 
-abbrev four_packets_lines : List Line
-four_packets_lines =
-    W 2 (call.DevSend (entry 1 3) (1 ∷ []))
-    ∷ W 2 (call.DevSend (entry 1 3) (1 ∷ []))
-    ∷ W 2 (call.DevSend (entry 1 3) (1 ∷ []))
-    ∷ W 2 (call.DevSend (entry 1 3) (1 ∷ []))
-    ∷ W 2 (call.DevSend (entry 1 3) (1 ∷ []))
-    ∷ W 2 (call.DevRecv (entry 1 3))
-    ∷ W 2 (call.DevRecv (entry 1 3))
-    ∷ W 2 (call.DevRecv (entry 1 3))
-    ∷ W 2 (call.DevRecv (entry 1 3))
-    ∷ W 2 (call.DevRecv (entry 1 3)) ∷ []
-
-pub four_packets : play (booted (limits 64 L1 4 1)) four_packets_lines
-    ≡ reply.Done
-    ∷ reply.Done
-    ∷ reply.Done
-    ∷ reply.Done
-    ∷ reply.Refused DeviceFull
-    ∷ reply.Bytes (1 ∷ [])
-    ∷ reply.Bytes (1 ∷ [])
-    ∷ reply.Bytes (1 ∷ [])
-    ∷ reply.Bytes (1 ∷ [])
-    ∷ reply.Refused DeviceEmpty ∷ []
+pub four_packets : FourPackets
 unfolding answer next query_answer is_live live_part refused query_refused stored with_category below visible shown below_join below_join_up above_floor translate place_of
 four_packets = refl
 
-abbrev first_path_lines : List Line
-first_path_lines =
-    W 2 (call.CatCreate)
-    ∷ W 2 (call.ContainerCreate 1 (raw L1 ([])) 8 (kinds 0))
-    ∷ W 2 (call.SegmentCreate 4 (raw L1 (at 1 L3 ∷ [])) 2 1)
-    ∷ W 2 (call.SegmentWrite (entry 4 5) 62 (104 ∷ 105 ∷ []))
-    ∷ R 2 (query.SegmentRead (entry 4 5) 62 2)
-    ∷ R 2 (query.SegmentRead (entry 4 5) 255 2) ∷ []
-
-pub first_path : play (booted (limits 64 L1 4 1)) first_path_lines
-    ≡ reply.Category (category 1)
-    ∷ reply.Object 4
-    ∷ reply.Object 5
-    ∷ reply.Done
-    ∷ reply.Bytes (104 ∷ 105 ∷ [])
-    ∷ reply.Refused Bounds ∷ []
+pub first_path : FirstPath
 unfolding answer next query_answer is_live live_part refused query_refused stored with_category below visible shown below_join below_join_up above_floor translate place_of
 first_path = refl
 
-abbrev cut_bytes_are_gone_lines : List Line
-cut_bytes_are_gone_lines =
-    W 2 (call.SegmentCreate 1 (raw L1 ([])) 3 2)
-    ∷ W 2 (call.SegmentWrite (entry 1 4) 256 (255 ∷ []))
-    ∷ W 2 (call.SegmentResize (entry 1 4) 1)
-    ∷ W 2 (call.SegmentResize (entry 1 4) 2)
-    ∷ R 2 (query.SegmentRead (entry 1 4) 256 1)
-    ∷ W 2 (call.SegmentCopy 1 (raw L1 ([])) 3 (entry 1 4))
-    ∷ R 2 (query.SegmentLen (entry 1 5)) ∷ []
-
-pub cut_bytes_are_gone : play (booted (limits 64 L1 4 1)) cut_bytes_are_gone_lines
-    ≡ reply.Object 4
-    ∷ reply.Done
-    ∷ reply.Done
-    ∷ reply.Done
-    ∷ reply.Bytes (0 ∷ [])
-    ∷ reply.Object 5
-    ∷ reply.Pages 2 ∷ []
+pub cut_bytes_are_gone : CutBytesAreGone
 unfolding answer next query_answer is_live live_part refused query_refused stored with_category below visible shown below_join below_join_up above_floor translate place_of
 cut_bytes_are_gone = refl
 
-abbrev metadata_lines : List Line
-metadata_lines =
-    W 2 (call.MetaSet (entry 1 1) (10 ∷ 11 ∷ []))
-    ∷ R 2 (query.MetaGet (entry 1 1))
-    ∷ W 2 (call.SetImmutable (entry 1 3))
-    ∷ W 2 (call.SetImmutable (entry 1 1))
-    ∷ W 2 (call.MetaSet (entry 1 1) (0 ∷ []))
-    ∷ W 2 (call.CatCreate) ∷ []
-
-pub metadata : play (booted (limits 64 L1 4 1)) metadata_lines
-    ≡ reply.Done
-    ∷ reply.Bytes (10 ∷ 11 ∷ 0 ∷ 0 ∷ 0 ∷ 0 ∷ 0 ∷ 0 ∷ 0 ∷ 0 ∷ 0 ∷ 0 ∷ 0 ∷ 0 ∷ 0 ∷ 0 ∷ 0 ∷ 0 ∷ 0 ∷ 0 ∷ 0 ∷ 0 ∷ 0 ∷ 0 ∷ 0 ∷ 0 ∷ 0 ∷ 0 ∷ 0 ∷ 0 ∷ 0 ∷ 0 ∷ 0 ∷ 0 ∷ 0 ∷ 0 ∷ 0 ∷ 0 ∷ 0 ∷ 0 ∷ 0 ∷ 0 ∷ 0 ∷ 0 ∷ 0 ∷ 0 ∷ 0 ∷ 0 ∷ 0 ∷ 0 ∷ 0 ∷ 0 ∷ 0 ∷ 0 ∷ 0 ∷ 0 ∷ 0 ∷ 0 ∷ 0 ∷ 0 ∷ 0 ∷ 0 ∷ 0 ∷ 0 ∷ [])
-    ∷ reply.Refused WrongType
-    ∷ reply.Done
-    ∷ reply.Refused Immutable
-    ∷ reply.Category (category 1) ∷ []
+pub metadata : Metadata
 unfolding answer next query_answer is_live live_part refused query_refused stored with_category below visible shown below_join below_join_up above_floor translate place_of
 metadata = refl
 
-abbrev a_space_that_dies_lines : List Line
-a_space_that_dies_lines =
-    W 2 (call.ContainerCreate 1 (raw L1 ([])) 4 (kinds 0))
-    ∷ W 2 (call.AsCreate 4 (raw L1 ([])) 1)
-    ∷ W 2 (call.SegmentCreate 1 (raw L1 ([])) 2 1)
-    ∷ W 2 (call.AsMap (entry 4 5) 0 (mapping 0 (entry 1 6) 0 1 3))
-    ∷ W 2 (call.SelfSetAs (entry 4 5))
-    ∷ W 2 (call.Store 0 (7 ∷ []))
-    ∷ W 2 (call.Unref (entry 4 5))
-    ∷ R 2 (query.Load 0 1)
-    ∷ R 2 (query.SelfGet) ∷ []
-
-pub a_space_that_dies : play (booted (limits 64 L1 4 1)) a_space_that_dies_lines
-    ≡ reply.Object 4
-    ∷ reply.Object 5
-    ∷ reply.Object 6
-    ∷ reply.Done
-    ∷ reply.Done
-    ∷ reply.Done
-    ∷ reply.Done
-    ∷ reply.Refused NotMapped
-    ∷ reply.Own (label L1 ([])) (label L2 ([])) (label L3 ([])) (entry 4 5) 0 0 ∷ []
+pub a_space_that_dies : ASpaceThatDies
 unfolding answer next query_answer is_live live_part refused query_refused stored with_category below visible shown below_join below_join_up above_floor translate place_of
 a_space_that_dies = refl
 
-abbrev a_raised_label_lines : List Line
-a_raised_label_lines =
-    W 2 (call.CatCreate)
-    ∷ W 2 (call.SegmentCreate 1 (raw L1 ([])) 2 1)
-    ∷ W 2 (call.AsCreate 1 (raw L1 ([])) 1)
-    ∷ W 2 (call.AsMap (entry 1 5) 0 (mapping 0 (entry 1 4) 0 1 3))
-    ∷ W 2 (call.ThreadCreate 1 (raw L1 ([])) 1 (raw L2 (at 1 L3 ∷ [])) 0)
-    ∷ W 6 (call.SelfSetAs (entry 1 5))
-    ∷ W 6 (call.Store 0 (1 ∷ []))
-    ∷ W 6 (call.SelfSetLabel (raw L1 (at 1 L2 ∷ [])))
-    ∷ W 6 (call.Store 0 (2 ∷ []))
-    ∷ R 6 (query.Load 0 1) ∷ []
-
-pub a_raised_label : play (booted (limits 64 L1 4 1)) a_raised_label_lines
-    ≡ reply.Category (category 1)
-    ∷ reply.Object 4
-    ∷ reply.Object 5
-    ∷ reply.Done
-    ∷ reply.Object 6
-    ∷ reply.Done
-    ∷ reply.Done
-    ∷ reply.Done
-    ∷ reply.Refused RightsDenied
-    ∷ reply.Bytes (1 ∷ []) ∷ []
+pub a_raised_label : ARaisedLabel
 unfolding answer next query_answer is_live live_part refused query_refused stored with_category below visible shown below_join below_join_up above_floor translate place_of
 a_raised_label = refl
+
+pub every : WorkedAnswer
+every = (
+  secret_segment,
+  clearances,
+  observed_and_not_modified,
+  gates,
+  quotas_and_links,
+  mappings_by_entry,
+  second_links,
+  quotas_moved,
+  a_thread_that_dies,
+  read_only_for_good,
+  a_mapping_that_returns,
+  avoided_kinds,
+  all_pages_used,
+  sixteen_exceptions,
+  sixteen_categories,
+  the_last_id,
+  four_packets,
+  first_path,
+  cut_bytes_are_gone,
+  metadata,
+  a_space_that_dies,
+  a_raised_label,
+)

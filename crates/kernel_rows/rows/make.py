@@ -1,5 +1,6 @@
 #!/usr/bin/env python3
-"""Makes proofs/*.antt from rows/*.txt: each script, with what each of its lines answers, as a theorem by computation.
+"""Makes specs/*.antt and proofs/*.antt from rows/*.txt: each script, with what each of its lines answers, as a statement and its
+proof by computation, and all of a file as one statement, which is the contract of a function of src/scripts.rt.
 
 A script begins with '## NAME' and words OPTION=VALUE (pages, device, next-id, next-category). Each line is
 'WORKER: CALL => REPLY' or 'NAME = WORKER: CALL => REPLY' in the words of scripts and replies; data may be NxBB, N bytes BB.
@@ -8,6 +9,7 @@ the uses of some, the next id. Run it in crates/kernel_rows as: rows/make.py
 """
 import re
 import sys
+import textwrap
 from pathlib import Path
 
 REFUSALS = (
@@ -60,7 +62,7 @@ class Row:
         if word == '-':
             return '[]'
         many = re.fullmatch(r'(\d+)x([0-9a-f]{2})', word)
-        return listed([int(many[2], 16)] * int(many[1]) if many else bytes.fromhex(word))
+        return f'(replicate {many[1]} {int(many[2], 16)})' if many else listed(bytes.fromhex(word))
 
     def mapping(self, words):
         page, container, thing, first, count, rights = words
@@ -190,35 +192,53 @@ class Row:
         elif kind == 'uses':
             self.ends += [f'use_of ended {o} ≡ {n}' for o, n in zip(words[::2], words[1::2])]
 
-    def theorem(self):
-        calls = '\n    ∷ '.join(self.lines)
-        replies = '\n    ∷ '.join(self.replies)
-        text = f'''abbrev {self.name}_lines : List Line
-{self.name}_lines =
-    {calls} ∷ []
-
-pub {self.name} : play (booted {self.limits}) {self.name}_lines
-    ≡ {replies} ∷ []
-unfolding {UNFOLDING}
-{self.name} = refl
-'''
+    def claims(self):
+        """The statements by their names."""
+        claims = {self.name: [f'play (booted {self.limits}) {self.name}_lines', *chained('≡ ', self.replies)]}
         for place, end in enumerate(self.ends):
             said = end.replace('ended', f'(after (booted {self.limits}) {self.name}_lines)')
-            said = said.replace(').next_id', ').next_id')
-            text += f'''
-pub {self.name}_end_{place} : {said}
-unfolding {UNFOLDING}
-{self.name}_end_{place} = refl
-'''
+            claims[f'{self.name}_end_{place}'] = [said]
+        return claims
+
+    def statements(self):
+        text = defined(f'{self.name}_lines', 'List Line', chained('', self.lines))
+        for name, claim in self.claims().items():
+            text += '\n' + defined(stated(name), 'Type 0', claim)
         return text
 
+    def theorems(self):
+        return '\n'.join(f'pub {name} : {stated(name)}\nunfolding {UNFOLDING}\n{name} = refl\n' for name in self.claims())
 
+
+def chained(sign, items):
+    """A list, an item a line."""
+    lines = [f'∷ {item}' for item in items]
+    lines[0] = sign + items[0]
+    lines[-1] += ' ∷ []'
+    return lines
+
+
+def stated(name):
+    return ''.join(word.capitalize() for word in name.split('_'))
+
+
+def defined(name, kind, parts):
+    """A definition, its lines within 100 columns."""
+    head = f'abbrev pub {name} : {kind}\n{name} =\n'
+    return head + ''.join(wrapped(part) + '\n' for part in parts)
+
+
+def wrapped(text):
+    return textwrap.fill(text, 100, initial_indent=INDENT, subsequent_indent=INDENT, break_long_words=False)
+
+
+INDENT = '    '
 UNFOLDING = (
     'answer next query_answer is_live live_part refused query_refused stored with_category below visible shown below_join '
     'below_join_up above_floor translate place_of'
 )
 IMPORTS = [
-    ('Rattle.std.proofs.Common', '◌≡◌ ℕ List [] ◌∷◌ refl true false pos negsuc Some None'),
+    ('Rattle.std.specs.Prelude', '◌≡◌ List [] ◌∷◌ replicate refl true false pos negsuc Some None'),
     ('Rattle.base.specs.Live', 'is_live'),
     ('Rattle.base.specs.declared.levels.Level.TheVariants', 'Star L0 L1 L2 L3'),
     ('Rattle.base.specs.declared.refusals.Refusal.TheVariants', ' '.join(REFUSALS)),
@@ -233,12 +253,12 @@ IMPORTS = [
 VARIANTS = {'call': 'calls.Call', 'query': 'calls.Query', 'reply': 'replies.Reply'}
 
 
-def imports(body):
+def imports(body, *more):
     """The use lines of the names that the text has, each line within 100 columns."""
     words = set(re.findall(r'[A-Za-z_0-9]+', body))
-    signs = {'◌≡◌': '≡', '◌∷◌': '∷', '[]': '[]', 'ℕ': 'ℕ'}
+    signs = {'◌≡◌': '≡', '◌∷◌': '∷', '[]': '[]'}
     lines = []
-    for module, names in IMPORTS:
+    for module, names in [*IMPORTS, *more]:
         group = []
         for name in names.split():
             if signs[name] not in body if name in signs else name not in words:
@@ -255,10 +275,14 @@ def imports(body):
     return '\n'.join(lines)
 
 
+def write(path, told, body, *more):
+    path.write_text(f'{told}\n{imports(body, *more)}\n\n{body}')
+
+
 def main():
-    here = Path(__file__).resolve().parent
+    crate = Path(__file__).resolve().parent.parent
     modules = []
-    for path in sorted(here.glob('*.txt')):
+    for path in sorted(crate.glob('rows/*.txt')):
         rows = []
         for text in path.read_text().splitlines():
             text = text.strip()
@@ -271,11 +295,19 @@ def main():
                 rows[-1].line(text)
         module = path.stem.capitalize()
         modules.append(module)
-        out = here.parent / 'proofs' / f'{module}.antt'
-        body = '\n'.join(row.theorem() for row in rows)
-        told = f'-- Scripts with what each line answers, by computation. Made by rows/make.py from rows/{path.stem}.txt.\n'
-        out.write_text(f'{told}{imports(body)}\n\n{body}')
-    (here.parent / 'proofs' / 'Lib.antt').write_text(''.join(f'pub mod {module}\n' for module in modules))
+        told = f'Made by rows/make.py from rows/{path.stem}.txt.'
+        names = [name for row in rows for name in row.claims()]
+        every = defined(f'{module}Answer', 'Type 0', [' × '.join(map(stated, names))])
+        body = '\n'.join([*(row.statements() for row in rows), f'-- all of these\n{every}'])
+        write(crate / f'specs/{module}.antt', f'-- Scripts, and what each line answers. {told}', body)
+        body = '\n'.join(row.theorems() for row in rows)
+        proofs = '(\n' + ''.join(f'  {name},\n' for name in names) + ')' if names[1:] else names[0]
+        body += f'\npub every : {module}Answer\nevery = {proofs}\n'
+        stands = (f'Rattle.kernel_rows.specs.{module}', f"{module}Answer {' '.join(map(stated, names))}")
+        write(crate / f'proofs/{module}.antt', f'-- The scripts by computation. {told}', body, stands)
+    for folder, first in (('specs', ['Play']), ('proofs', [])):
+        names = sorted(first + modules)
+        (crate / folder / 'Lib.antt').write_text(''.join(f'pub mod {name}\n' for name in names))
 
 
 main()

@@ -1,1 +1,5 @@
+pub mod Corners
+pub mod Hostile
+pub mod Large
 pub mod Play
+pub mod Worked

@@ -75,7 +75,10 @@ fn made(outcome: Result<Reply, NoMemory>) -> Result<Option<ObjectId>, NoMemory> 
 }
 
 /// A segment of one page and two pages of quota.
-pub fn make_segment(state: &mut PlainState, meter: &mut Meter) -> Result<Option<ObjectId>, NoMemory> {
+pub fn make_segment(
+    state: &mut PlainState,
+    meter: &mut Meter,
+) -> Result<Option<ObjectId>, NoMemory> {
     let (thread, root, raw) = (boot(), ObjectId::root(), plain());
     if refused_segment_create(state, thread, root, &raw, 2, 1, meter).is_none() {
         return made(segment_create(state, thread, root, &raw, 2, 1, meter));
@@ -153,7 +156,13 @@ pub fn write(
     }
 }
 
-pub fn read(state: &PlainState, entry: &Entry, offset: u32, count: u32, meter: &mut Meter) -> Reply {
+pub fn read(
+    state: &PlainState,
+    entry: &Entry,
+    offset: u32,
+    count: u32,
+    meter: &mut Meter,
+) -> Reply {
     let thread = boot();
     match refused_segment_read(state, thread, entry, offset, count, meter) {
         Some(refusal) => Reply::Refused(refusal),

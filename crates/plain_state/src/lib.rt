@@ -4,6 +4,8 @@
 #![tactic(auto)]
 
 mod boots;
+#[cfg(test)]
+mod change_tests;
 mod changes;
 mod edits;
 mod link_edits;
@@ -14,6 +16,8 @@ mod memory_edits;
 mod reads;
 mod records;
 mod rows;
+#[cfg(test)]
+mod samples;
 mod states;
 #[cfg(test)]
 mod tests;
