@@ -1,5 +1,5 @@
 -- What bytes with a verdict are.
-use Rattle.std.proofs.Common.{◌≡◌, ℕ, List, [], Option, Some, None, refl, sym, ap, ◌∙◌, subst}
+use Rattle.std.proofs.Common.{◌≡◌, ℕ, List, Option, Some, None, refl, sym, ap, ◌∙◌}
 use Rattle.base.specs.declared.ranges.Limits.{Limits}
 use Rattle.kernel_rules.specs.History.{IsLegal}
 use Rattle.kernel_rules.specs.declared.events.Event.{Event}
@@ -7,7 +7,7 @@ use Rattle.dump_text.specs.Dump.{dump_text, IsDump, DumpFaultsAt}
 use Rattle.dump_text.specs.Lists.{DumpLists}
 use Rattle.dump_text.specs.Whole.{whole_dump}
 use Rattle.auditor.specs.Replay.{replayed}
-use Rattle.auditor.specs.Verdict.{true_dump, false_line, first_difference, IsVerdict, IsLegalText}
+use Rattle.auditor.specs.Verdict.{true_dump, false_line, IsVerdict, IsLegalText}
 use Rattle.auditor.specs.declared.verdicts.Verdict.{Verdict}
 use Rattle.auditor.specs.declared.verdicts.Verdict.TheVariants as is
 use Rattle.auditor.proofs.ReplayLaws.{replayed_legal, replayed_same}

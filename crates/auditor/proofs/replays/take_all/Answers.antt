@@ -1,4 +1,4 @@
-use Rattle.std.proofs.Common.{◌∙◌, sym, ap}
+use Rattle.std.proofs.Common.{◌∙◌}
 use Rattle.auditor.proofs.ReplayLaws.{replayed_more}
 use Rattle.auditor.proofs.replays.take_all.Goals as goal
 
