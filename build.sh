@@ -43,16 +43,20 @@ show_build() {
     printf '\n' >&2
 }
 
-# Proves and builds the program, which then runs once on its stored input.
+# Proves and builds the program, which then runs once on its stored input. Whoever interrupts it ends the build too, which
+# is a process group of its own.
 build() {
     command -v rt >/dev/null || { echo "$name: rt (the Rattle toolchain) is not on the path" >&2; exit 70; }
-    (cd "$top/crates/$crate" && rt run <stdin >"$log" 2>&1) &
+    (cd "$top/crates/$crate" && exec setsid rt run <stdin >"$log" 2>&1) &
     job=$!
+    trap 'kill -- "-$job" 2>/dev/null; exit 130' INT
+    trap 'kill -- "-$job" 2>/dev/null; exit 143' HUP TERM
     show_build
     if ! wait "$job"; then
         tail -n 20 "$log" >&2
         exit 70
     fi
+    trap - INT HUP TERM
     touch "$program"
 }
 
