@@ -21,4 +21,8 @@ pub use machine::{Machine, run};
 pub use plain_state::BootRefusal;
 
 #[cfg(test)]
+mod samples;
+#[cfg(test)]
+mod table_tests;
+#[cfg(test)]
 mod tests;
