@@ -5,10 +5,15 @@ ghost use Rattle.base.specs.Level.{rank_of};
 /// A level of a stored label. `Star` is ownership (HiStar, OSDI 2006).
 #[derive(Clone, Copy, PartialEq, Eq, Debug)]
 pub enum Level {
+    /// Ownership, the least level.
     Star,
+    /// 0.
     L0,
+    /// 1.
     L1,
+    /// 2.
     L2,
+    /// 3, the greatest level.
     L3,
 }
 

@@ -10,7 +10,9 @@ use text_words::Name;
 /// What a name can be bound to.
 #[derive(Clone, Copy, PartialEq, Eq)]
 pub enum Value {
+    /// An object, live or not.
     Object(ObjectId),
+    /// A category.
     Category(Category),
 }
 
@@ -30,7 +32,9 @@ impl Value {
 /// A name with what it is bound to.
 #[derive(Clone, Copy)]
 pub struct Named {
+    /// The name: 1 to 16 bytes.
     pub name: Name,
+    /// What it is bound to.
     pub value: Value,
 }
 
@@ -72,6 +76,7 @@ pub trait Known {
 /// Names in a list, each looked up from its beginning.
 #[derive(Clone, Copy)]
 pub struct NameList<'a> {
+    /// The names, in the order in which they count.
     pub named: &'a [Named],
 }
 

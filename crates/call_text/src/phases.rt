@@ -12,13 +12,16 @@ pub struct Line {
     pub number: u32,
     /// The name that is bound to what the call makes.
     pub binds: Option<Name>,
+    /// The name of the worker that makes the call.
     pub worker: Name,
+    /// The call, as its words say it.
     pub call: Row,
 }
 
 /// Lines that are played at once. A contract sees the list of the lines.
 #[derive(Drop)]
 pub struct Phase {
+    /// The lines, in the text's order.
     pub lines: Vec<Line>,
 }
 
@@ -35,6 +38,7 @@ impl Model for Phase {
 /// phases, each the list of its lines.
 #[derive(Drop)]
 pub struct Script {
+    /// The phases, in the text's order.
     pub phases: Vec<Phase>,
 }
 

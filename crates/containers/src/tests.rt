@@ -32,7 +32,8 @@ impl Visitor for Seen {
 
 // The root lists 4 and 6, 4 lists 5 and 6.
 fn family(alloc: Global, meter: &mut Meter) -> Result<Containers<char>, NoMemory>
-    ensures { IfOk result (λ t. t.lists ≡ (1, 4 ∷ 6 ∷ []) ∷ (4, 5 ∷ 6 ∷ []) ∷ (5, []) ∷ (6, []) ∷ []) }
+    ensures { IfOk result
+        (λ t. t.lists ≡ (1, 4 ∷ 6 ∷ []) ∷ (4, 5 ∷ 6 ∷ []) ∷ (5, []) ∷ (6, []) ∷ []) }
 {
     let mut tree = Containers::boot(alloc, 4, 'r')?;
     let root = ObjectId::root();
@@ -94,7 +95,8 @@ fn what_no_path_leads_to_goes(rt: HostRuntime) -> Result<(), Fail> {
 
 // The same, made once more where the first making had no memory.
 fn family_again(alloc: Global, meter: &mut Meter) -> Result<Containers<char>, NoMemory>
-    ensures { IfOk result (λ t. t.lists ≡ (1, 4 ∷ 6 ∷ []) ∷ (4, 5 ∷ 6 ∷ []) ∷ (5, []) ∷ (6, []) ∷ []) }
+    ensures { IfOk result
+        (λ t. t.lists ≡ (1, 4 ∷ 6 ∷ []) ∷ (4, 5 ∷ 6 ∷ []) ∷ (5, []) ∷ (6, []) ∷ []) }
 {
     match family(alloc, meter) {
         Ok(tree) => Ok(tree),

@@ -6,7 +6,9 @@ use base::{ObjectId, Slot};
 /// Where an object lies: its id and its slot.
 #[derive(Clone, Copy, PartialEq, Eq, Debug)]
 pub struct Place {
+    /// The object's id.
     pub id: ObjectId,
+    /// Where its record lies, from 0 and below the number of objects that there is room for.
     pub slot: Slot,
 }
 

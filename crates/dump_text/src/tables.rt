@@ -9,17 +9,24 @@ use std::marker::Model;
 /// A label with its place among the labels, from 0.
 #[derive(Clone, Copy)]
 pub struct Stored {
+    /// Its place. In a text it is below 2^32.
     pub index: usize,
+    /// The label, with its pairs as they stand in the text.
     pub label: RawLabel,
 }
 
 /// The tables at the end of a run. A contract sees the five lists.
 #[derive(Drop)]
 pub struct Tables {
+    /// The live ids.
     pub live: Vec<ObjectId>,
+    /// What objects use.
     pub uses: Vec<Used>,
+    /// What the slots of threads show.
     pub maps: Vec<Shown>,
+    /// The labels that objects store.
     pub labels: Vec<Stored>,
+    /// How every two of them compare.
     pub orders: Vec<Compared>,
 }
 
@@ -40,8 +47,11 @@ impl Model for Tables {
 /// What a run was booted with, the journal, and the tables at the end. A contract sees the lists.
 #[derive(Drop)]
 pub struct Dump {
+    /// What the run was booted with.
     pub limits: Limits,
+    /// The journal, the oldest event first.
     pub events: Vec<Event>,
+    /// The tables at the end.
     pub tables: Tables,
 }
 

@@ -258,14 +258,16 @@ pub enum Query {
         /// The object.
         entry: Entry,
     },
-    /// The length of a container's list, and up to 16 of its ids. It is refused by `Bounds`.
+    /// The length of a container's list, and up to 16 of its ids. It is refused by `NoAccess`
+    /// and `Bounds`.
     ContainerList {
         /// The container.
         container: ObjectId,
         /// The place of the first id, from 0.
         from: u32,
     },
-    /// The container that lists a container; the root's is the root (HiStar, OSDI 2006).
+    /// The container that lists a container; the root's is the root (HiStar, OSDI 2006). It is
+    /// refused by `NoAccess`.
     ContainerParent {
         /// The container.
         container: ObjectId,

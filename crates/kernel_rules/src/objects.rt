@@ -10,15 +10,15 @@ use label_lattice::Label;
 /// Pages of a segment, of 256 bytes each, shown from a virtual page on (HiStar, OSDI 2006).
 #[derive(Clone, Copy)]
 pub struct Mapping {
-    /// The first virtual page.
+    /// The first virtual page: the mapping ends at page 65,536 at most.
     pub page: u32,
     /// The segment, by the entry through which it is mapped.
     pub entry: Entry,
-    /// The first page of the segment.
+    /// The first page of the segment: with `count` at most 16.
     pub first: u32,
-    /// How many pages.
+    /// How many pages: 1 to 16.
     pub count: u32,
-    /// What may be done with them.
+    /// What may be done with them: at least one right.
     pub rights: Rights,
 }
 

@@ -7,7 +7,9 @@ use std::marker::Model;
 /// A category with its level. Whether the category was made is told by `RawLabel::all_made`.
 #[derive(Clone, Copy, PartialEq, Eq, Debug)]
 pub struct Pair {
+    /// The category.
     pub category: Category,
+    /// Its level.
     pub level: Level,
 }
 

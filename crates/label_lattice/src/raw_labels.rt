@@ -13,6 +13,7 @@ use base::Level;
 pub struct RawLabel {
     /// The level of each category that stands in no pair.
     pub default: Level,
+    /// Categories with their levels, in any order: 0 to 24 of them.
     pub pairs: Pairs<24>,
 }
 

@@ -30,6 +30,7 @@ pub const DEFAULTS: Options = Options {
 /// What the words say.
 #[derive(Clone, Copy)]
 pub struct Told<'a> {
+    /// How the script is played.
     pub options: Options,
     /// The path of the script.
     pub script: &'a str,

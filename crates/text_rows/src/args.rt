@@ -34,13 +34,21 @@ pub enum Kind {
 /// A value at a place of a call.
 #[derive(Drop)]
 pub enum Arg {
+    /// An object, by its number or a name.
     Object(Reference),
+    /// A number below 2^32.
     Number(u32),
+    /// A number below 2^64.
     Wide(u64),
+    /// A number from -2^31, below 2^31.
     Signed(i32),
+    /// A label, as it is written.
     Label(SpokenLabel),
+    /// 0 to 64 bytes.
     Data(Data),
+    /// A set of kinds of objects.
     Types(TypeSet),
+    /// What a mapping allows.
     Rights(Rights),
 }
 

@@ -14,7 +14,9 @@ use std::marker::Model;
 /// A category with its level.
 #[derive(Clone, Copy)]
 pub struct SpokenPair {
+    /// The category, by its number or a name.
     pub category: Reference,
+    /// Its level.
     pub level: Level,
 }
 
