@@ -194,7 +194,7 @@ fn is_text(answer: Result<Vec<u8>, base::NoMemory>, text: &[u8]) -> Option<bool>
 }
 
 #[test]
-fn after_want_of_memory_a_call_answers_as_before(rt: HostRuntime) {
+fn after_want_of_memory_a_script_is_read_as_before(rt: HostRuntime) {
     for (text, line) in [
         (TEXT, 1_000_000),
         ("c = boot: cat_create\nc = boot: cat_create\n", 2),
@@ -204,6 +204,10 @@ fn after_want_of_memory_a_call_answers_as_before(rt: HostRuntime) {
         let second = fault(rt.alloc(), text.as_bytes());
         assert!(rt; second == line || (first == line && second == 0));
     }
+}
+
+#[test]
+fn after_want_of_memory_a_reply_is_written_as_before(rt: HostRuntime) {
     let reply = Reply::Refused(Refusal::NoQuota);
     let first = is_text(
         write_reply(rt.alloc(), &reply, &named()),
