@@ -32,8 +32,8 @@ pub struct Compared {
     pub first: usize,
     /// The place of the label B.
     pub second: usize,
-    /// From 0 to 7: the sum of 1 where A is at most B at each category, 2 where it is once B's star is raised
-    /// above all levels, and 4 where it is once the star of both is raised.
+    /// From 0 to 7: the sum of 1 where A is at most B at each category, 2 where it is once B's
+    /// star is raised above all levels, and 4 where it is once the star of both is raised.
     pub bits: u8,
 }
 
