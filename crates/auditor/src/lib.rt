@@ -9,7 +9,7 @@ mod replays;
 mod verdicts;
 
 pub use audits::{audit, clean_is_legal, one_verdict};
-pub use program::{Ended, audit_on};
+pub use program::{Ended, NAME, audit_on};
 pub use verdicts::Verdict;
 
 #[cfg(test)]

@@ -1,8 +1,12 @@
 //! The program, over a reader and two writers.
 use crate::audits::audit;
 use crate::verdicts::Verdict;
+use program_ends::{Fault, bytes_of};
 use std::alloc::Global;
-use std::io::{ErrorKind, Read, Write};
+use std::io::{Read, Write};
+
+/// The program's name, with which its lines on standard error begin.
+pub const NAME: &str = "histar-audit";
 
 /// How an audit ended.
 #[derive(Clone, Copy, PartialEq, Eq, Debug)]
@@ -10,26 +14,6 @@ pub struct Ended {
     /// 0 where the dump is clean, 1 where a line of it is not true, 2 where it is unreadable, 3 where it can't be read or
     /// the answer can't be written, 4 where there was no memory. (A fault of usage is 2 too; of that the words tell.)
     pub status: u8,
-}
-
-/// Why an audit ends with no answer.
-#[derive(Clone, Copy)]
-enum Fault {
-    Input,
-    Memory,
-    Output,
-}
-
-fn input_of<I: Read>(alloc: Global, dump: &mut I) -> Result<Vec<u8>, Fault> {
-    let mut bytes = Vec::new(alloc);
-    match dump.read_to_end(&mut bytes) {
-        Ok(_) => Ok(bytes),
-        Err(error) => Err(if error.kind() == ErrorKind::OutOfMemory {
-            Fault::Memory
-        } else {
-            Fault::Input
-        }),
-    }
 }
 
 fn put_verdict<O: Write>(out: &mut O, verdict: Verdict) -> Result<(), Fault> {
@@ -45,33 +29,14 @@ fn put_verdict<O: Write>(out: &mut O, verdict: Verdict) -> Result<(), Fault> {
 }
 
 fn run<I: Read, O: Write>(alloc: Global, dump: &mut I, out: &mut O) -> Result<u8, Fault> {
-    let bytes = input_of(alloc, dump)?;
-    let Ok(verdict) = audit(alloc, bytes.as_slice()) else {
-        return Err(Fault::Memory);
-    };
+    let bytes = bytes_of(alloc, dump)?;
+    let verdict = audit(alloc, bytes.as_slice())?;
     put_verdict(out, verdict)?;
     Ok(match verdict {
         Verdict::Clean => 0,
         Verdict::False(_) => 1,
         Verdict::Unreadable(_) => 2,
     })
-}
-
-fn told<E: Write>(err: &mut E, fault: Fault) -> u8 {
-    match fault {
-        Fault::Input => {
-            let _ = err.write_all(b"histar-audit: input fault\n");
-            3
-        }
-        Fault::Output => {
-            let _ = err.write_all(b"histar-audit: output fault\n");
-            3
-        }
-        Fault::Memory => {
-            let _ = err.write_all(b"histar-audit: out of memory\n");
-            4
-        }
-    }
 }
 
 /// Audits the dump that a reader gives, and prints `clean`, `false at line N` or `unreadable at line N`. The faults are
@@ -85,7 +50,7 @@ pub fn audit_on<I: Read, O: Write, E: Write>(
     match run(alloc, dump, out) {
         Ok(status) => Ended { status },
         Err(fault) => Ended {
-            status: told(err, fault),
+            status: fault.tell(NAME, err),
         },
     }
 }

@@ -2,9 +2,8 @@
 //! default options.
 #![tactic(auto)]
 
-use clap::Error;
-use clap::error::ErrorKind;
-use script_runner::{Ended, histar_on};
+use program_ends::{Fault, tell_answer, words_of};
+use script_runner::{Ended, NAME, histar_on};
 use script_words::{DEFAULTS, Told, read_words};
 use std::fs::{File, OpenFile};
 use std::io::Write;
@@ -41,50 +40,21 @@ fn put_file<R: Files>(rt: &R, path: &str, beside: &str, bytes: &[u8]) -> io::Res
     put
 }
 
-/// The words that the program was started with, its name first.
-fn words_of(rt: &HostRuntime) -> io::Result<Vec<String>> {
-    Ok(std::env::args(rt)?.collect(rt.alloc())?)
-}
-
-/// Tells a fault on standard error. The status is that of the fault, whether it could be told or not.
-fn fault(rt: &HostRuntime, text: &str, status: u8) -> ExitCode {
-    let _ = eprintln!(rt; "histar: {text}");
-    ExitCode::from(status)
-}
-
-/// Tells why the words can't be had.
-fn no_words(rt: &HostRuntime, error: &io::Error) -> ExitCode {
-    if error.kind() == io::ErrorKind::OutOfMemory {
-        fault(rt, "out of memory", 4)
-    } else {
-        fault(rt, "input fault", 3)
-    }
-}
-
-/// Tells what `clap` answers to the words: help, a fault of usage, or want of memory.
-fn other_words(rt: &HostRuntime, error: &Error) -> ExitCode {
-    if error.kind() == ErrorKind::OutOfMemory {
-        return fault(rt, "out of memory", 4);
-    }
-    let printed = error.print(rt);
-    if error.use_stderr() {
-        ExitCode::from(2)
-    } else if printed.is_err() {
-        fault(rt, "output fault", 3)
-    } else {
-        ExitCode::from(0)
-    }
-}
-
-/// Ends a run that was played: writes the dump where one is asked for.
-fn ended_with(rt: &HostRuntime, told: &Told<'_>, beside: &str, ended: &Ended) -> ExitCode {
+/// Ends a run that was played: writes the dump where one is asked for. The answer is the status.
+fn ended_with<E: Write>(
+    rt: &HostRuntime,
+    told: &Told<'_>,
+    beside: &str,
+    ended: &Ended,
+    err: &mut E,
+) -> u8 {
     let path = told.dump.unwrap_or("");
     if told.options.dump && ended.status == 0 {
         if put_file(rt, path, beside, ended.file.as_slice()).is_err() {
-            return fault(rt, "output fault", 3);
+            return Fault::Output.tell(NAME, err);
         }
     }
-    ExitCode::from(ended.status)
+    ended.status
 }
 
 fn main(rt: HostRuntime) -> ExitCode {
@@ -93,7 +63,7 @@ fn main(rt: HostRuntime) -> ExitCode {
     let mut err = rt.stderr();
     let words = match words_of(&rt) {
         Ok(words) => words,
-        Err(error) => return no_words(&rt, &error),
+        Err(fault) => return ExitCode::from(fault.tell(NAME, &mut err)),
     };
     if words.len() <= 1 {
         let mut script = rt.reader();
@@ -102,14 +72,14 @@ fn main(rt: HostRuntime) -> ExitCode {
     }
     let told = match read_words(alloc, words.as_slice()) {
         Ok(told) => told,
-        Err(error) => return other_words(&rt, &error),
+        Err(answer) => return ExitCode::from(tell_answer(&rt, NAME, &answer, &mut err)),
     };
     let Ok(mut script) = File::open(&rt, told.script) else {
-        return fault(&rt, "input fault", 3);
+        return ExitCode::from(Fault::Input.tell(NAME, &mut err));
     };
     let Ok(beside) = format!(in alloc; "{}.new", told.dump.unwrap_or("")) else {
-        return fault(&rt, "out of memory", 4);
+        return ExitCode::from(Fault::Memory.tell(NAME, &mut err));
     };
     let ended = histar_on(&rt, alloc, &mut script, &told.options, &mut out, &mut err);
-    ended_with(&rt, &told, beside.as_str(), &ended)
+    ExitCode::from(ended_with(&rt, &told, beside.as_str(), &ended, &mut err))
 }

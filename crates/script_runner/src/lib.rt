@@ -22,7 +22,7 @@ pub use faults::PlayFault;
 pub use gates::{Always, Gate, Turn};
 pub use names::{BoundNames, WorkerNames};
 pub use play::{Played, play_all};
-pub use program::{Ended, histar_on};
+pub use program::{Ended, NAME, histar_on};
 
 #[cfg(test)]
 mod dump_tests;

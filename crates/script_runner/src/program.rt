@@ -8,11 +8,15 @@ use crate::play::{Played, play_all};
 use base::NoMemory;
 use call_text::{Script, ScriptError, read_script};
 use kernel_rules::{Event, Tables};
+use program_ends::{Fault, bytes_of};
 use script_words::Options;
 use std::alloc::Global;
-use std::io::{ErrorKind, Read, Write};
+use std::io::{Read, Write};
 use std::sync::Wait;
 use std::thread::Threads;
+
+/// The program's name, with which its lines on standard error begin.
+pub const NAME: &str = "histar";
 
 /// How a run ended.
 #[derive(PartialEq, Eq, Debug, Drop)]
@@ -26,16 +30,21 @@ pub struct Ended {
 
 /// Why a run ends with another status than 0.
 #[derive(Clone, Copy)]
-enum Fault {
-    Input,
+enum RunFault {
+    /// A line of the script is at fault, the first one from 1.
     Script(u32),
-    Memory,
-    Output,
+    Other(Fault),
 }
 
-impl From<NoMemory> for Fault {
-    fn from(_: NoMemory) -> Fault {
-        Fault::Memory
+impl From<Fault> for RunFault {
+    fn from(fault: Fault) -> RunFault {
+        RunFault::Other(fault)
+    }
+}
+
+impl From<NoMemory> for RunFault {
+    fn from(_: NoMemory) -> RunFault {
+        RunFault::Other(Fault::Memory)
     }
 }
 
@@ -48,23 +57,11 @@ struct Texts {
     file: Vec<u8>,
 }
 
-fn input_of<I: Read>(alloc: Global, script: &mut I) -> Result<Vec<u8>, Fault> {
-    let mut bytes = Vec::new(alloc);
-    match script.read_to_end(&mut bytes) {
-        Ok(_) => Ok(bytes),
-        Err(error) => Err(if error.kind() == ErrorKind::OutOfMemory {
-            Fault::Memory
-        } else {
-            Fault::Input
-        }),
-    }
-}
-
-fn script_of(alloc: Global, bytes: &[u8]) -> Result<Script, Fault> {
+fn script_of(alloc: Global, bytes: &[u8]) -> Result<Script, RunFault> {
     match read_script(alloc, bytes) {
         Ok(script) => Ok(script),
-        Err(ScriptError::Memory) => Err(Fault::Memory),
-        Err(ScriptError::Line(line)) => Err(Fault::Script(line)),
+        Err(ScriptError::Memory) => Err(RunFault::Other(Fault::Memory)),
+        Err(ScriptError::Line(line)) => Err(RunFault::Script(line)),
     }
 }
 
@@ -90,12 +87,12 @@ fn texts_of<R: Threads + Wait + Sync>(
     alloc: Global,
     script: &Script,
     options: &Options,
-) -> Result<Texts, Fault>
+) -> Result<Texts, RunFault>
     ensures { IfOk result
         (λ texts. IsFile options.now.dump options.now.limits texts.file.items) }
 {
     let Ok(played) = play_all(rt, alloc, script, &options.limits, &Always) else {
-        return Err(Fault::Memory);
+        return Err(RunFault::Other(Fault::Memory));
     };
     let Played {
         output,
@@ -112,38 +109,27 @@ fn run<R: Threads + Wait + Sync, I: Read, O: Write>(
     script: &mut I,
     options: &Options,
     out: &mut O,
-) -> Result<Vec<u8>, Fault>
+) -> Result<Vec<u8>, RunFault>
     ensures { IfOk result (λ file. IsFile options.now.dump options.now.limits file.items) }
 {
-    let bytes = input_of(alloc, script)?;
+    let bytes = bytes_of(alloc, script)?;
     let script = script_of(alloc, bytes.as_slice())?;
     let Texts { output, file } = texts_of(rt, alloc, &script, options)?;
     if out.write_all(output.as_slice()).is_err() || out.flush().is_err() {
-        return Err(Fault::Output);
+        return Err(RunFault::Other(Fault::Output));
     }
     Ok(file)
 }
 
-fn told<E: Write>(err: &mut E, fault: Fault) -> u8
+fn told<E: Write>(err: &mut E, fault: RunFault) -> u8
     ensures { 0 < result }
 {
     match fault {
-        Fault::Script(line) => {
-            let _ = writeln!(err, "histar: line {line}: script fault");
+        RunFault::Script(line) => {
+            let _ = writeln!(err, "{NAME}: line {line}: script fault");
             1
         }
-        Fault::Input => {
-            let _ = err.write_all(b"histar: input fault\n");
-            3
-        }
-        Fault::Output => {
-            let _ = err.write_all(b"histar: output fault\n");
-            3
-        }
-        Fault::Memory => {
-            let _ = err.write_all(b"histar: out of memory\n");
-            4
-        }
+        RunFault::Other(fault) => fault.tell(NAME, err),
     }
 }
 
