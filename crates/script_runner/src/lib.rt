@@ -27,4 +27,8 @@ pub use program::{Ended, NAME, histar_on};
 #[cfg(test)]
 mod dump_tests;
 #[cfg(test)]
-mod tests;
+mod name_tests;
+#[cfg(test)]
+mod play_tests;
+#[cfg(test)]
+mod program_tests;

@@ -1,21 +1,12 @@
 //! What the program prints, and how it ends.
-use crate::faults::PlayFault;
-use crate::gates::{Always, Gate, Turn};
-use crate::names::BoundNames;
-use crate::play::play_all;
 use crate::program::histar_on;
-use base::{Category, ObjectId};
-use call_text::{Known, Named, ScriptError, Value, read_script, write_reply};
-use kernel_rules::Reply;
 use script_words::DEFAULTS;
 use std::io;
 use std::io::{ErrorKind, Read};
 use std::process::Abort;
 use std::sync::Wait;
-use std::sync::atomic::{AtomicU64, Ordering};
 use std::test::Fail;
 use std::thread::Threads;
-use text_words::Name;
 
 /// What a script prints, on which stream, and the status.
 fn check<R: Abort + AllocGlobal + Threads + Wait + Sync>(
@@ -179,116 +170,6 @@ fn names_are_known_from_the_next_phase(rt: HostRuntime) {
     );
 }
 
-/// How often a worker looks for another's line.
-const TURNS: u64 = 100_000_000;
-
-/// Two workers, each of which waits for the other's line, from a line of the script on.
-#[derive(Drop)]
-struct Pace {
-    answered: [AtomicU64; 2],
-    from: usize,
-}
-
-impl Gate for Pace {
-    fn before(&self, _worker: usize, _line: usize) -> Turn {
-        Turn::Go
-    }
-
-    fn after(&self, worker: usize, line: usize) -> Turn {
-        if line < self.from {
-            return Turn::Go;
-        }
-        let (own, other) = if worker == 0 {
-            (&self.answered[0], &self.answered[1])
-        } else {
-            (&self.answered[1], &self.answered[0])
-        };
-        let done = own.fetch_add(1, Ordering::SeqCst);
-        for _ in 0..TURNS {
-            if other.load(Ordering::SeqCst) > done {
-                return Turn::Go;
-            }
-        }
-        Turn::Stop
-    }
-}
-
-fn paced_from(line: usize) -> Pace {
-    Pace {
-        answered: [AtomicU64::new(0), AtomicU64::new(0)],
-        from: line,
-    }
-}
-
-// Two workers of four lines each, which go on only line by line.
-#[test]
-fn two_workers_run_at_once(rt: HostRuntime) -> Result<(), Fail> {
-    let alloc = rt.alloc();
-    let text =
-        b"t = boot: thread_create root {1} 1 {2} 0\n--\nboot: cat_create\nboot: self_get\nboot: cat_create\nboot: self_get\nt: cat_create\nt: self_get\nt: cat_create\nt: self_get\n";
-    let script = read_script(alloc, text)?;
-    let played = play_all(&rt, alloc, &script, &DEFAULTS.limits, &paced_from(3));
-    assert!(rt; played.is_ok());
-    Ok(())
-}
-
-// Those without a seat have no thread of their own, so that none goes on before another one.
-#[test]
-fn workers_of_one_thread_are_stopped(rt: HostRuntime) -> Result<(), Fail> {
-    let alloc = rt.alloc();
-    let script = read_script(alloc, b"t: self_get\nu: self_get\n")?;
-    let played = play_all(&rt, alloc, &script, &DEFAULTS.limits, &paced_from(1));
-    assert!(rt; matches!(played, Err(PlayFault::Stopped)));
-    Ok(())
-}
-
-/// Lets lines go in the order of the script, in which one line parts two phases.
-#[derive(Drop)]
-struct InOrder {
-    answered: AtomicU64,
-    parting: usize,
-}
-
-impl Gate for InOrder {
-    fn before(&self, _worker: usize, line: usize) -> Turn {
-        let lines = if line < self.parting {
-            line.saturating_sub(1)
-        } else {
-            line.saturating_sub(2)
-        };
-        for _ in 0..TURNS {
-            if self.answered.load(Ordering::SeqCst) >= lines as u64 {
-                return Turn::Go;
-            }
-        }
-        Turn::Stop
-    }
-
-    fn after(&self, _worker: usize, _line: usize) -> Turn {
-        let _ = self.answered.fetch_add(1, Ordering::SeqCst);
-        Turn::Go
-    }
-}
-
-// A thread that another one takes away in a phase is halted from its next line on.
-#[test]
-fn a_thread_is_halted_within_a_phase(rt: HostRuntime) -> Result<(), Fail> {
-    let alloc = rt.alloc();
-    let text =
-        b"a = boot: container_create root {1} 4 -\nt = boot: thread_create a {1} 1 {2} 0\n--\nt: self_set_label {1}\nboot: unref root a\nt: self_set_label {1}\nt: self_get\n";
-    let script = read_script(alloc, text)?;
-    let gate = InOrder {
-        answered: AtomicU64::new(0),
-        parting: 3,
-    };
-    let played = play_all(&rt, alloc, &script, &DEFAULTS.limits, &gate)?;
-    assert_eq!(rt;
-        played.output.as_slice(),
-        b"boot 1: id a\nboot 2: id t\nboot 5: ok\nt 4: ok\nt 6: refused 1 Halted\nt 7: refused 1 Halted\n".as_slice()
-    );
-    Ok(())
-}
-
 #[test]
 fn faults_of_scripts(rt: HostRuntime) {
     let faults: [(&[u8], &[u8]); 12] = [
@@ -361,83 +242,5 @@ fn faults_of_streams(rt: HostRuntime) -> Result<(), Fail> {
     assert_eq!(rt; ended.status, 3);
     assert_eq!(rt; err.as_slice(), b"histar: output fault\n".as_slice());
     assert_eq!(rt; out.len(), 0);
-    Ok(())
-}
-
-// Where an allocation is refused, the call that is made again answers what it would have.
-#[test]
-fn want_of_memory_changes_nothing(rt: HostRuntime) -> Result<(), Fail> {
-    let alloc = rt.alloc();
-    let text = b"c = boot: cat_create\nboot: segment_create root {c:3,1} 1 0\n";
-    let script = match read_script(alloc, text) {
-        Err(ScriptError::Memory) => read_script(alloc, text)?,
-        answered => answered?,
-    };
-    let played = match play_all(&rt, alloc, &script, &DEFAULTS.limits, &Always) {
-        Err(PlayFault::Memory | PlayFault::Boot(_)) => play_all(
-            &rt,
-            alloc,
-            &script,
-            &DEFAULTS.limits,
-            &Always,
-        )?,
-        answered => answered?,
-    };
-    assert_eq!(rt;
-        played.output.as_slice(),
-        b"boot 1: cat c\nboot 2: id #4\n".as_slice()
-    );
-    let names = [Named {
-        name: Name::from_slice(b"c"),
-        value: Value::Category(Category(1)),
-    }];
-    let reply = Reply::Category(Category(1));
-    let text = match write_reply(alloc, &reply, &names) {
-        Ok(text) => text,
-        Err(_) => write_reply(alloc, &reply, &names)?,
-    };
-    assert_eq!(rt; text.as_slice(), b"cat c".as_slice());
-    Ok(())
-}
-
-/// Whether the names answer as a list of them would.
-fn are_known(names: &BoundNames) -> bool {
-    let root = Name::from_slice(b"root");
-    let c = Name::from_slice(b"c");
-    let known = match (names.value_of(&root), names.value_of(&c)) {
-        (Some(first), Some(second)) => {
-            first.is_same(&Value::Object(ObjectId::root()))
-                && second.is_same(&Value::Category(Category(7)))
-        }
-        _ => false,
-    };
-    known
-        && names.value_of(&Name::from_slice(b"d")).is_none()
-        && names.name_of(&Value::Category(Category(7))) == Some(c)
-        && names.name_of(&Value::Category(Category(1))).is_none()
-        && names.name_of(&Value::Object(ObjectId::root())) == Some(root)
-}
-
-// A name that is bound stays bound, and of two names of one value the first is told.
-#[test]
-fn names_are_bound_once(rt: HostRuntime) -> Result<(), Fail> {
-    let mut names = match BoundNames::start(rt.alloc()) {
-        Ok(names) => names,
-        Err(_) => BoundNames::start(rt.alloc())?,
-    };
-    for (name, value) in [
-        (b"c".as_slice(), Value::Category(Category(7))),
-        (b"again", Value::Category(Category(7))),
-        (b"c", Value::Object(ObjectId::root())),
-    ] {
-        let named = Named {
-            name: Name::from_slice(name),
-            value,
-        };
-        if names.bind(&named).is_err() {
-            names.bind(&named)?;
-        }
-    }
-    assert!(rt; are_known(&names));
     Ok(())
 }
