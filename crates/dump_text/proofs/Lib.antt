@@ -7,3 +7,7 @@ pub mod LineLemmas
 pub mod Ordering
 pub mod Progress
 pub mod Faults
+pub mod Sequence
+pub mod KernelReplies
+pub mod Places
+pub mod KernelDumps

@@ -8,5 +8,6 @@ pub mod Lists
 pub mod Line
 pub mod Dump
 pub mod Whole
+pub mod Fits
 pub mod Reading
 pub mod Refused

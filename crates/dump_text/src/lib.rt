@@ -10,6 +10,7 @@ mod dumps;
 mod errors;
 mod events;
 mod labels;
+mod laws;
 mod line_words;
 mod lines;
 mod reports;
@@ -21,6 +22,7 @@ mod writing;
 
 pub use dumps::{one_reading, read_dump};
 pub use errors::DumpError;
+pub use laws::legal_is_dump;
 pub use tables::{Dump, Stored, Tables};
 pub use whole::dump_with;
 pub use writing::write_dump;

@@ -1,0 +1,115 @@
+-- The text of the dump of legal events is a dump's, where each value fits its word.
+use Rattle.std.proofs.Common.{lit<, ◌≡◌, ℕ, ◌<◌, ◌^◌, ◌&&◌, not, nat_le, ◌==◌, List, [], ◌∷◌, ◌++◌, map, length, refl, sym, ◌∙◌, subst, arith, append_assoc}
+use Rattle.std.specs.List.{AllByRecursion}
+use Rattle.std.proofs.lemmas.Bool.{and_parts, leb-true}
+use Rattle.std.proofs.lemmas.List.{length-map}
+use Rattle.base.specs.Level.{rank_of}
+use Rattle.base.specs.Limits.{spent}
+use Rattle.label_lattice.specs.Raw.{raw_of}
+use Rattle.base.specs.declared.ranges.Limits.{Limits}
+use Rattle.base.specs.declared.levels.Level.{Level}
+use Rattle.base.specs.declared.levels.Level.TheVariants.{Star, L0, L1, L2, L3}
+use Rattle.kernel_rules.specs.History.{IsLegal, Follows, state_of}
+use Rattle.kernel_rules.specs.Scratch.{scratch, stored_labels, compared_from}
+use Rattle.kernel_rules.specs.State.{State, live_part}
+use Rattle.kernel_rules.specs.declared.events.Event.{Event}
+use Rattle.dump_text.specs.declared.lines.Line.{Line}
+use Rattle.dump_text.specs.declared.lines.Line.TheVariants as lines
+use Rattle.text_words.specs.Label.{IsLabel}
+use Rattle.dump_text.specs.Word.{spoken_label}
+use Rattle.dump_text.specs.Event.{IsEvent}
+use Rattle.dump_text.specs.Report.{IsReport}
+use Rattle.dump_text.specs.Line.{IsLine, IsBootable, digit_of, AreAllowed, limits_kinds, limits_words}
+use Rattle.dump_text.specs.Dump.{IsDump, dump_text, lines_of, table_lines}
+use Rattle.dump_text.specs.Fits.{FitsEvent, FitsReply, FitsWords}
+use Rattle.dump_text.specs.Whole.{whole_dump, placed, placed_from}
+use Rattle.dump_text.proofs.KernelReplies.{answer_report}
+use Rattle.dump_text.proofs.Places.{labels_fit, orders_fit, labels_few, all_append}
+use Rattle.dump_text.proofs.Sequence.{dump_runs}
+
+all_map : {V : Type 0} (make : V → Line) (P : V → Type 0) → ((v : V) → P v → IsLine (make v)) → (vs : List V) → AllByRecursion P vs → AllByRecursion IsLine (map make vs)
+all_map make P gives [] all = tt
+all_map make P gives (v ∷ vs) all = (gives v all.0, all_map make P gives vs all.1)
+
+-- an event that follows legal ones
+follows_fits : (limits : Limits) (before : List Event) (e : Event) → Follows limits before e → FitsEvent e → IsEvent e
+follows_fits limits before e follows fits = record {
+  thread = fits.thread;
+  number = fits.number;
+  call = fits.call;
+  reply = subst IsReport (sym follows.reply) (answer_report (state_of limits before) e.thread e.call (subst FitsReply follows.reply fits.reply));
+}
+
+-- the events after the first ones
+events_fit : (limits : Limits) (events : List Event) → IsLegal limits events → (before es : List Event) → events ≡ before ++ es → AllByRecursion FitsEvent es → AllByRecursion IsEvent es
+events_fit limits events legal before [] is all = tt
+events_fit limits events legal before (e ∷ es) is all = (
+  follows_fits limits before e (legal before es e is) all.0,
+  events_fit limits events legal (before ++ e ∷ []) es (is ∙ sym (append_assoc before (e ∷ []) es)) all.1,
+)
+
+digit_small : (level : Level) → digit_of level < 2 ^ 32
+digit_small L0 = lit< tt
+digit_small L1 = lit< tt
+digit_small L2 = lit< tt
+digit_small L3 = lit< tt
+digit_small Star = lit< tt
+
+limits_fit : (l : Limits) → IsBootable l → AreAllowed limits_kinds limits_words IsBootable l
+limits_fit l bootable =
+    let a = and_parts (nat_le 8 l.pages && nat_le l.pages 512 && not (rank_of l.device == 0) && nat_le 4 l.next_id && nat_le l.next_id spent && nat_le 1 l.next_category) (nat_le l.next_category spent) bootable in
+    let b = and_parts (nat_le 8 l.pages && nat_le l.pages 512 && not (rank_of l.device == 0) && nat_le 4 l.next_id && nat_le l.next_id spent) (nat_le 1 l.next_category) a.0 in
+    let c = and_parts (nat_le 8 l.pages && nat_le l.pages 512 && not (rank_of l.device == 0) && nat_le 4 l.next_id) (nat_le l.next_id spent) b.0 in
+    let d = and_parts (nat_le 8 l.pages && nat_le l.pages 512 && not (rank_of l.device == 0)) (nat_le 4 l.next_id) c.0 in
+    let e = and_parts (nat_le 8 l.pages && nat_le l.pages 512) (not (rank_of l.device == 0)) d.0 in
+    let f = and_parts (nat_le 8 l.pages) (nat_le l.pages 512) e.0 in
+    let pages : l.pages < 2 ^ 32 = omega (arith, leb-true l.pages 512 f.1) in
+    let id : l.next_id < 2 ^ 64 = omega (arith, leb-true l.next_id spent c.1) in
+    let category : l.next_category < 2 ^ 64 = omega (arith, leb-true l.next_category spent a.1) in
+    ((record { kind_is = refl; fits = pages }, (record { kind_is = refl; fits = digit_small l.device }, (record { kind_is = refl; fits = id }, (record { kind_is = refl; fits = category }, tt)))), bootable)
+
+-- the labels of a state
+labels_of_state : (s : State) → AllByRecursion (λ x. IsLabel (spoken_label x.label)) (placed (scratch s)).labels → length (placed (scratch s)).orders < 2 ^ 64 → AllByRecursion IsLine (map lines.Label (placed (scratch s)).labels)
+unfolding scratch
+labels_of_state s all few =
+    let names = stored_labels (live_part s.objects) in
+    let count = length-map names raw_of in
+    let at_most = labels_few names few in
+    all_map lines.Label _ (λ x fits. fits) (placed_from 0 (map raw_of names)) (labels_fit 0 (map raw_of names) (omega (arith, count, at_most)) all)
+
+-- how they compare
+orders_of_state : (s : State) → length (placed (scratch s)).orders < 2 ^ 64 → AllByRecursion IsLine (map lines.Order (placed (scratch s)).orders)
+unfolding scratch
+orders_of_state s few =
+    let names = stored_labels (live_part s.objects) in
+    let at_most = labels_few names few in
+    all_map lines.Order _ (λ x fits. fits) (compared_from names 0 names) (orders_fit names 0 names at_most (omega (arith, at_most)))
+
+live_fits : (id : ℕ) → id < 2 ^ 64 → IsLine (lines.Live id)
+live_fits id lt = ((record { kind_is = refl; fits = lt }, tt), tt)
+
+-- the lines of the tables
+tables_fit : (limits : Limits) (events : List Event) → FitsWords (whole_dump limits events) → AllByRecursion IsLine (table_lines (placed (scratch (state_of limits events))))
+tables_fit limits events fits =
+    let t = placed (scratch (state_of limits events)) in
+    all_append IsLine (map lines.Live t.live) _ (all_map lines.Live _ live_fits t.live fits.live)
+    (all_append IsLine (map lines.Use t.uses) _ (all_map lines.Use _ (λ u fits. (fits, tt)) t.uses fits.uses)
+    (all_append IsLine (map lines.Map t.maps) _ (all_map lines.Map _ (λ x fits. (fits, tt)) t.maps fits.maps)
+    (all_append IsLine (map lines.Label t.labels) (map lines.Order t.orders) (labels_of_state (state_of limits events) fits.labels fits.few)
+    (orders_of_state (state_of limits events) fits.few))))
+
+-- all lines
+lines_fit : (limits : Limits) (events : List Event) → IsBootable limits → IsLegal limits events → FitsWords (whole_dump limits events) → AllByRecursion IsLine (lines_of (whole_dump limits events))
+lines_fit limits events bootable legal fits =
+    let t = placed (scratch (state_of limits events)) in
+    let told = all_map lines.Event IsEvent (λ e fits. fits) events (events_fit limits events legal [] events refl fits.events) in
+    (tt, (limits_fit limits bootable, all_append IsLine (map lines.Event events ++ table_lines t) (lines.End ∷ []) (all_append IsLine (map lines.Event events) (table_lines t) told (tables_fit limits events fits)) (tt, tt)))
+
+pub legal_dump : (limits : Limits) (events : List Event) → IsBootable limits → IsLegal limits events → FitsWords (whole_dump limits events) → IsDump (dump_text (whole_dump limits events)) (whole_dump limits events)
+legal_dump limits events bootable legal fits = record {
+  fit = lines_fit limits events bootable legal fits;
+  state = 9;
+  ran = dump_runs (whole_dump limits events);
+  ended = refl;
+  bytes_are = refl;
+}
