@@ -4,6 +4,8 @@ ghost use Rattle.base.specs.declared.ranges.Limits.{Limits as Booted};
 ghost use Rattle.kernel_rules.specs.History.{IsLegal};
 ghost use Rattle.kernel_rules.specs.declared.events.Event.{Event as Done};
 ghost use Rattle.dump_text.specs.Dump.{dump_text, IsDump};
+ghost use Rattle.dump_text.specs.Fits.{FitsWords};
+ghost use Rattle.dump_text.specs.Line.{IsBootable};
 ghost use Rattle.dump_text.specs.Whole.{whole_dump};
 ghost use Rattle.auditor.specs.declared.verdicts.Verdict.{Verdict as Found};
 ghost use Rattle.auditor.specs.declared.verdicts.Verdict.TheVariants.{Clean as Legal};
@@ -13,7 +15,7 @@ use crate::differences::first_difference;
 use crate::replays::take_all;
 use crate::verdicts::Verdict;
 use base::NoMemory;
-use dump_text::{Dump, DumpError, dump_with, one_reading, read_dump, write_dump};
+use dump_text::{Dump, DumpError, dump_with, legal_is_dump, one_reading, read_dump, write_dump};
 use std::alloc::Global;
 
 /// The text of the true dump: that of the dump's own limits and calls, with the numbers, the replies and the tables of
@@ -52,9 +54,15 @@ pub fn one_verdict()
 }
 
 /// A law, which does nothing when it is called: what is clean is the dump of a legal list of events, and each dump of one
-/// is clean.
+/// is clean. The text of such a list, after a boot with limits in range, is a dump, and so clean, where each value in it
+/// fits its word.
 pub fn clean_is_legal()
     ensures legal { (bytes : List ℕ) → IsVerdict bytes Legal → IsLegalText bytes }
     ensures clean { (bytes : List ℕ) (limits : Booted) (events : List Done) → IsLegal limits events
         → IsDump bytes (whole_dump limits events) → IsVerdict bytes Legal }
-{}
+    ensures fits { (limits : Booted) (events : List Done) → IsBootable limits → IsLegal limits events
+        → FitsWords (whole_dump limits events)
+        → IsVerdict (dump_text (whole_dump limits events)) Legal }
+{
+    legal_is_dump();
+}
