@@ -1,6 +1,6 @@
 //! Playing a script: each worker of a phase in a thread of its own.
 ghost use Rattle.std.specs.Prelude.{◌≡◌, IfOk};
-ghost use Rattle.script_runner.specs.Dumps.{IsClosing};
+ghost use Rattle.script_runner.specs.Dumps.{IsClosing, IsPlayed};
 
 use crate::closings::{Closing, closing_of};
 use crate::faults::PlayFault;
@@ -251,7 +251,8 @@ fn play_booted<B: Naming + Send, R: Threads + Wait + Sync, G: Gate>(
 /// seat in a thread of its own. A name is known to the worker that bound it from its next line on, and to all others from
 /// the next phase on. The replies print the names of the script as they are bound when all is played, and `#` and the
 /// number of what has none. It waits for all threads that it starts. Nothing is printed after a fault. The journal and
-/// the tables are the book's at the end: the journal is legal, and the tables are those of the state that it leads to.
+/// the tables are the book's at the end: the journal is legal, and the tables are those of the state that it leads to. The
+/// limits are then in range.
 pub fn play_all<R: Threads + Wait + Sync, G: Gate>(
     rt: &R,
     alloc: Global,
@@ -259,7 +260,7 @@ pub fn play_all<R: Threads + Wait + Sync, G: Gate>(
     limits: &Limits,
     gate: &G,
 ) -> Result<Played, PlayFault>
-    ensures { IfOk result (λ played. IsClosing limits.now played.events.items played.tables) }
+    ensures { IfOk result (λ played. IsPlayed limits.now played.events.items played.tables) }
 {
     match Blank::boot(alloc, limits) {
         Ok(blank) => play_booted::<Brand, R, G>(rt, alloc, blank, script, gate),

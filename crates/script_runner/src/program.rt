@@ -1,6 +1,6 @@
 //! The program, over a reader and two writers.
 ghost use Rattle.std.specs.Prelude.{◌≡◌, ◌<◌, [], IfOk};
-ghost use Rattle.script_runner.specs.Dumps.{IsClosing, IsFile};
+ghost use Rattle.script_runner.specs.Dumps.{IsFile, IsPlayed};
 
 use crate::dumps::dump_of;
 use crate::gates::Always;
@@ -72,7 +72,7 @@ fn file_of(
     events: Vec<Event>,
     tables: Tables,
 ) -> Result<Vec<u8>, NoMemory>
-    requires { IsClosing options.now.limits events.items tables }
+    requires { IsPlayed options.now.limits events.items tables }
     ensures { IfOk result (λ file. IsFile options.now.dump options.now.limits file.items) }
 {
     if !options.dump {
