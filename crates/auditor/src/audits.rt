@@ -60,8 +60,8 @@ pub fn clean_is_legal()
     ensures legal { (bytes : List ℕ) → IsVerdict bytes Legal → IsLegalText bytes }
     ensures clean { (bytes : List ℕ) (limits : Booted) (events : List Done) → IsLegal limits events
         → IsDump bytes (whole_dump limits events) → IsVerdict bytes Legal }
-    ensures fits { (limits : Booted) (events : List Done) → IsBootable limits → IsLegal limits events
-        → FitsWords (whole_dump limits events)
+    ensures fits { (limits : Booted) (events : List Done) → IsBootable limits
+        → IsLegal limits events → FitsWords (whole_dump limits events)
         → IsVerdict (dump_text (whole_dump limits events)) Legal }
 {
     legal_is_dump();
