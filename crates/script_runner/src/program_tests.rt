@@ -172,7 +172,7 @@ fn names_are_known_from_the_next_phase(rt: HostRuntime) {
 
 #[test]
 fn faults_of_scripts(rt: HostRuntime) {
-    let faults: [(&[u8], &[u8]); 12] = [
+    let faults: [(&[u8], &[u8]); 13] = [
         (b"boot: load 0\n", b"histar: line 1: script fault\n"),
         (b"boot: cat_create", b"histar: line 1: script fault\n"),
         (b"boot: cat_create\n\n", b"histar: line 2: script fault\n"),
@@ -203,11 +203,39 @@ fn faults_of_scripts(rt: HostRuntime) {
         ),
         (b"--\n--", b"histar: line 2: script fault\n"),
         (b"t: cat\n", b"histar: line 1: script fault\n"),
+        (
+            b"boot: self_get\nboot: self_get\xff\n",
+            b"histar: line 2: script fault\n",
+        ),
     ];
     for (script, told) in faults {
         check(&rt, script, 1, b"", told);
     }
     check(&rt, b"", 0, b"", b"");
+}
+
+#[test]
+fn a_line_too_many_is_a_fault(rt: HostRuntime) -> Result<(), Fail> {
+    let mut script = Vec::new(rt.alloc());
+    for _ in 0..65_537 {
+        script.extend_from_slice(b"boot: self_get\n")?;
+    }
+    let told = b"histar: line 65537: script fault\n";
+    check(&rt, script.as_slice(), 1, b"", told);
+    Ok(())
+}
+
+#[test]
+fn a_line_too_long_is_a_fault(rt: HostRuntime) -> Result<(), Fail> {
+    let mut script = Vec::new(rt.alloc());
+    script.extend_from_slice(b"boot: self_get\nboot: ")?;
+    for _ in 0..4_096 {
+        script.push(b'a')?;
+    }
+    script.extend_from_slice(b"\nboot: self_get\n")?;
+    let told = b"histar: line 2: script fault\n";
+    check(&rt, script.as_slice(), 1, b"", told);
+    Ok(())
 }
 
 /// A reader that only fails.
