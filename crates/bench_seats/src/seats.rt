@@ -2,7 +2,7 @@
 use crate::clock::nanos_since;
 use anyhow::{Result, bail};
 use base::{Data, Level, ObjectId};
-use kernel_rules::{Call, Entry, Query, Reply};
+use kernel_rules::{Call, Entry, NewSegment, NewThread, Query, Reply};
 use label_lattice::{Pairs, RawLabel};
 use published_copy::{Naming, Seat, Shared};
 use std::alloc::Global;
@@ -31,22 +31,22 @@ fn segment() -> Entry {
 }
 
 fn new_segment() -> Call {
-    Call::SegmentCreate {
+    Call::SegmentCreate(NewSegment {
         container: ObjectId::root(),
         label: everywhere(Level::L1),
         quota: 2,
         pages: 1,
-    }
+    })
 }
 
 fn new_thread() -> Call {
-    Call::ThreadCreate {
+    Call::ThreadCreate(NewThread {
         container: ObjectId::root(),
         label: everywhere(Level::L1),
         quota: 1,
         clearance: everywhere(Level::L2),
         entry_point: 0,
-    }
+    })
 }
 
 fn object_in(reply: Reply) -> Option<ObjectId> {

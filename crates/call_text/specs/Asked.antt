@@ -19,26 +19,55 @@ asked_of verbs.SelfSetClearance xs names = Write (calls.SelfSetClearance (label_
 asked_of verbs.SelfSetAs xs names = Write (calls.SelfSetAs (entry_at 0 xs names))
 asked_of verbs.ContainerCreate xs names =
     Write
-    (calls.ContainerCreate (object_at 0 xs names) (label_at 1 xs names) (number_at 2 xs)
-    (types_at 3 xs))
+    (calls.ContainerCreate (record {
+      container = object_at 0 xs names;
+      label = label_at 1 xs names;
+      quota = number_at 2 xs;
+      avoid = types_at 3 xs;
+    }))
 asked_of verbs.SegmentCreate xs names =
     Write
-    (calls.SegmentCreate (object_at 0 xs names) (label_at 1 xs names) (number_at 2 xs)
-    (number_at 3 xs))
+    (calls.SegmentCreate (record {
+      container = object_at 0 xs names;
+      label = label_at 1 xs names;
+      quota = number_at 2 xs;
+      pages = number_at 3 xs;
+    }))
 asked_of verbs.SegmentCopy xs names =
     Write
-    (calls.SegmentCopy (object_at 0 xs names) (label_at 1 xs names) (number_at 2 xs)
-    (entry_at 3 xs names))
+    (calls.SegmentCopy (record {
+      container = object_at 0 xs names;
+      label = label_at 1 xs names;
+      quota = number_at 2 xs;
+      source = entry_at 3 xs names;
+    }))
 asked_of verbs.AsCreate xs names =
-    Write (calls.AsCreate (object_at 0 xs names) (label_at 1 xs names) (number_at 2 xs))
+    Write
+    (calls.AsCreate (record {
+      container = object_at 0 xs names;
+      label = label_at 1 xs names;
+      quota = number_at 2 xs;
+    }))
 asked_of verbs.ThreadCreate xs names =
     Write
-    (calls.ThreadCreate (object_at 0 xs names) (label_at 1 xs names) (number_at 2 xs)
-    (label_at 3 xs names) (wide_at 4 xs))
+    (calls.ThreadCreate (record {
+      container = object_at 0 xs names;
+      label = label_at 1 xs names;
+      quota = number_at 2 xs;
+      clearance = label_at 3 xs names;
+      entry_point = wide_at 4 xs;
+    }))
 asked_of verbs.GateCreate xs names =
     Write
-    (calls.GateCreate (object_at 0 xs names) (label_at 1 xs names) (number_at 2 xs)
-    (label_at 3 xs names) (entry_at 4 xs names) (wide_at 6 xs) (wide_at 7 xs))
+    (calls.GateCreate (record {
+      container = object_at 0 xs names;
+      label = label_at 1 xs names;
+      quota = number_at 2 xs;
+      clearance = label_at 3 xs names;
+      space = entry_at 4 xs names;
+      entry_point = wide_at 6 xs;
+      closure = wide_at 7 xs;
+    }))
 asked_of verbs.Link xs names = Write (calls.Link (object_at 0 xs names) (entry_at 1 xs names))
 asked_of verbs.Unref xs names = Write (calls.Unref (entry_at 0 xs names))
 asked_of verbs.QuotaMove xs names = Write (calls.QuotaMove (entry_at 0 xs names) (signed_at 2 xs))

@@ -39,18 +39,26 @@ spoken_of calls.CatCreate = row_of verbs.CatCreate []
 spoken_of (calls.SelfSetLabel l) = row_of verbs.SelfSetLabel (words.Label l ∷ [])
 spoken_of (calls.SelfSetClearance l) = row_of verbs.SelfSetClearance (words.Label l ∷ [])
 spoken_of (calls.SelfSetAs e) = row_of verbs.SelfSetAs (entry_words e)
-spoken_of (calls.ContainerCreate d l q a) =
-    row_of verbs.ContainerCreate (creation_words d l q ++ words.Types a ∷ [])
-spoken_of (calls.SegmentCreate d l q n) =
-    row_of verbs.SegmentCreate (creation_words d l q ++ words.Number n ∷ [])
-spoken_of (calls.SegmentCopy d l q e) =
-    row_of verbs.SegmentCopy (creation_words d l q ++ entry_words e)
-spoken_of (calls.AsCreate d l q) = row_of verbs.AsCreate (creation_words d l q)
-spoken_of (calls.ThreadCreate d l q c p) =
-    row_of verbs.ThreadCreate (creation_words d l q ++ words.Label c ∷ words.Wide p ∷ [])
-spoken_of (calls.GateCreate d l q c e p x) =
+spoken_of (calls.ContainerCreate n) =
+    row_of verbs.ContainerCreate
+    (creation_words n.container n.label n.quota ++ words.Types n.avoid ∷ [])
+spoken_of (calls.SegmentCreate n) =
+    row_of verbs.SegmentCreate
+    (creation_words n.container n.label n.quota ++ words.Number n.pages ∷ [])
+spoken_of (calls.SegmentCopy n) =
+    row_of verbs.SegmentCopy
+    (creation_words n.container n.label n.quota ++ entry_words n.source)
+spoken_of (calls.AsCreate n) =
+    row_of verbs.AsCreate (creation_words n.container n.label n.quota)
+spoken_of (calls.ThreadCreate n) =
+    row_of verbs.ThreadCreate
+    (creation_words n.container n.label n.quota
+    ++ words.Label n.clearance ∷ words.Wide n.entry_point ∷ [])
+spoken_of (calls.GateCreate n) =
     row_of verbs.GateCreate
-    (creation_words d l q ++ words.Label c ∷ (entry_words e ++ words.Wide p ∷ words.Wide x ∷ []))
+    (creation_words n.container n.label n.quota
+    ++ words.Label n.clearance
+    ∷ (entry_words n.space ++ words.Wide n.entry_point ∷ words.Wide n.closure ∷ []))
 spoken_of (calls.Link t e) = row_of verbs.Link (words.Object t ∷ entry_words e)
 spoken_of (calls.Unref e) = row_of verbs.Unref (entry_words e)
 spoken_of (calls.QuotaMove e z) = row_of verbs.QuotaMove (entry_words e ++ words.Signed z ∷ [])

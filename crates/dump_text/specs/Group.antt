@@ -16,16 +16,16 @@ is_own c = false
 
 -- makes a container, a segment or an address space
 abbrev pub makes_object : Call → Bool
-makes_object (calls.ContainerCreate d l q a) = true
-makes_object (calls.SegmentCreate d l q n) = true
-makes_object (calls.SegmentCopy d l q e) = true
-makes_object (calls.AsCreate d l q) = true
+makes_object (calls.ContainerCreate n) = true
+makes_object (calls.SegmentCreate n) = true
+makes_object (calls.SegmentCopy n) = true
+makes_object (calls.AsCreate n) = true
 makes_object c = false
 
 -- makes a thread or a gate
 abbrev pub makes_bearer : Call → Bool
-makes_bearer (calls.ThreadCreate d l q c p) = true
-makes_bearer (calls.GateCreate d l q c e p x) = true
+makes_bearer (calls.ThreadCreate n) = true
+makes_bearer (calls.GateCreate n) = true
 makes_bearer c = false
 
 -- on the pages of a segment or an address space

@@ -45,23 +45,15 @@ fn put_on_entry(out: &mut Vec<u8>, verb: Verb, entry: Entry) -> Result<(), Alloc
     put_row(out, verb, &words)
 }
 
-/// Adds a verb, where the object that it makes is listed, its label and its quota.
-fn put_creation(
-    out: &mut Vec<u8>,
-    verb: Verb,
-    container: ObjectId,
-    label: RawLabel,
-    quota: u32,
-) -> Result<(), AllocError>
-    ensures { OnOk result (out.new.items
-        ≡ out.old.items ++ row_text (row_of verb (creation_words container label quota))) }
+/// The words of where a new object is listed, of its label and of its quota.
+fn creation_words(container: ObjectId, label: RawLabel, quota: u32) -> [Word; 3]
+    ensures { result ≡ creation_words container label quota }
 {
-    let words = [
+    [
         Word::Object(container),
         Word::Label(label),
         Word::Number(quota),
-    ];
-    put_row(out, verb, &words)
+    ]
 }
 
 /// The words of a mapping in a slot.
@@ -119,39 +111,29 @@ fn put_new_object(out: &mut Vec<u8>, call: &Call) -> Result<(), AllocError>
     ensures { OnOk result (out.new.items ≡ out.old.items ++ text_of makes_object call.now) }
 {
     match *call {
-        Call::ContainerCreate {
-            container,
-            label,
-            quota,
-            avoid,
-        } => {
-            put_creation(out, Verb::ContainerCreate, container, label, quota)?;
-            put_further(out, &[Word::Types(avoid)])
+        Call::ContainerCreate(made) => {
+            let creation = creation_words(made.container, made.label, made.quota);
+            put_row(out, Verb::ContainerCreate, &creation)?;
+            put_further(out, &[Word::Types(made.avoid)])
         }
-        Call::SegmentCreate {
-            container,
-            label,
-            quota,
-            pages,
-        } => {
-            put_creation(out, Verb::SegmentCreate, container, label, quota)?;
-            put_further(out, &[Word::Number(pages)])
+        Call::SegmentCreate(made) => {
+            let creation = creation_words(made.container, made.label, made.quota);
+            put_row(out, Verb::SegmentCreate, &creation)?;
+            put_further(out, &[Word::Number(made.pages)])
         }
-        Call::SegmentCopy {
-            container,
-            label,
-            quota,
-            source,
-        } => {
-            let source = [Word::Object(source.container), Word::Object(source.object)];
-            put_creation(out, Verb::SegmentCopy, container, label, quota)?;
+        Call::SegmentCopy(made) => {
+            let source = [
+                Word::Object(made.source.container),
+                Word::Object(made.source.object),
+            ];
+            let creation = creation_words(made.container, made.label, made.quota);
+            put_row(out, Verb::SegmentCopy, &creation)?;
             put_further(out, &source)
         }
-        Call::AsCreate {
-            container,
-            label,
-            quota,
-        } => put_creation(out, Verb::AsCreate, container, label, quota),
+        Call::AsCreate(made) => {
+            let creation = creation_words(made.container, made.label, made.quota);
+            put_row(out, Verb::AsCreate, &creation)
+        }
         _ => Ok(()),
     }
 }
@@ -162,33 +144,22 @@ fn put_new_bearer(out: &mut Vec<u8>, call: &Call) -> Result<(), AllocError>
     ensures { OnOk result (out.new.items ≡ out.old.items ++ text_of makes_bearer call.now) }
 {
     match *call {
-        Call::ThreadCreate {
-            container,
-            label,
-            quota,
-            clearance,
-            entry_point,
-        } => {
-            put_creation(out, Verb::ThreadCreate, container, label, quota)?;
-            put_further(out, &[Word::Label(clearance), Word::Wide(entry_point)])
+        Call::ThreadCreate(made) => {
+            let further = [Word::Label(made.clearance), Word::Wide(made.entry_point)];
+            let creation = creation_words(made.container, made.label, made.quota);
+            put_row(out, Verb::ThreadCreate, &creation)?;
+            put_further(out, &further)
         }
-        Call::GateCreate {
-            container,
-            label,
-            quota,
-            clearance,
-            space,
-            entry_point,
-            closure,
-        } => {
+        Call::GateCreate(made) => {
             let words = [
-                Word::Label(clearance),
-                Word::Object(space.container),
-                Word::Object(space.object),
-                Word::Wide(entry_point),
-                Word::Wide(closure),
+                Word::Label(made.clearance),
+                Word::Object(made.space.container),
+                Word::Object(made.space.object),
+                Word::Wide(made.entry_point),
+                Word::Wide(made.closure),
             ];
-            put_creation(out, Verb::GateCreate, container, label, quota)?;
+            let creation = creation_words(made.container, made.label, made.quota);
+            put_row(out, Verb::GateCreate, &creation)?;
             put_further(out, &words)
         }
         _ => Ok(()),

@@ -108,21 +108,21 @@ edit_frame s t (call.SelfSetLabel x) h =
 edit_frame s t (call.SelfSetClearance y) h =
     frame_value Still still_same s _ _ (λ l. thread_frame s t _ (acts_of s t (call.SelfSetClearance y) h))
 edit_frame s t (call.SelfSetAs e) h = thread_frame s t _ (acts_of s t (call.SelfSetAs e) h)
-edit_frame s t (call.ContainerCreate d x q avoid) h =
-    new_made s d _ q _ (none_hold (halted s t ++ row s t (call.ContainerCreate d x q avoid)) h).1.1.1.1.1.1.1.0
-edit_frame s t (call.SegmentCreate d x q pages) h =
-    new_made s d _ q _ (none_hold (halted s t ++ row s t (call.SegmentCreate d x q pages)) h).1.1.1.1.1.1.1.0
-edit_frame s t (call.SegmentCopy d x q e) h =
-    new_made s d _ q _
-    (none_hold (halted s t ++ row s t (call.SegmentCopy d x q e)) h).1.1.1.1.1.1.1.1.1.1.1.0
-edit_frame s t (call.AsCreate d x q) h =
-    new_made s d _ q _ (none_hold (halted s t ++ row s t (call.AsCreate d x q)) h).1.1.1.1.1.1.1.0
-edit_frame s t (call.ThreadCreate d x q y entry_point) h =
-    new_bearer s d _ q _ _
-    (none_hold (halted s t ++ row s t (call.ThreadCreate d x q y entry_point)) h).1.1.1.1.1.1.1.0
-edit_frame s t (call.GateCreate d x q y e entry_point closure) h =
-    new_bearer s d _ q _ _
-    (none_hold (halted s t ++ row s t (call.GateCreate d x q y e entry_point closure)) h).1.1.1.1.1.1.1.1.1.1.0
+edit_frame s t (call.ContainerCreate n) h =
+    new_made s n.container _ n.quota _ (none_hold (halted s t ++ row s t (call.ContainerCreate n)) h).1.1.1.1.1.1.1.0
+edit_frame s t (call.SegmentCreate n) h =
+    new_made s n.container _ n.quota _ (none_hold (halted s t ++ row s t (call.SegmentCreate n)) h).1.1.1.1.1.1.1.0
+edit_frame s t (call.SegmentCopy n) h =
+    new_made s n.container _ n.quota _
+    (none_hold (halted s t ++ row s t (call.SegmentCopy n)) h).1.1.1.1.1.1.1.1.1.1.1.0
+edit_frame s t (call.AsCreate n) h =
+    new_made s n.container _ n.quota _ (none_hold (halted s t ++ row s t (call.AsCreate n)) h).1.1.1.1.1.1.1.0
+edit_frame s t (call.ThreadCreate n) h =
+    new_bearer s n.container _ n.quota _ _
+    (none_hold (halted s t ++ row s t (call.ThreadCreate n)) h).1.1.1.1.1.1.1.0
+edit_frame s t (call.GateCreate n) h =
+    new_bearer s n.container _ n.quota _ _
+    (none_hold (halted s t ++ row s t (call.GateCreate n)) h).1.1.1.1.1.1.1.1.1.1.0
 edit_frame s t (call.Link d e) h =
     open_frame s d _ (none_hold (halted s t ++ row s t (call.Link d e)) h).1.1.1.1.1.1.1.1.1.1.1.1.0
 edit_frame s t (call.Unref e) h =

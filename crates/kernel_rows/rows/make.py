@@ -81,17 +81,17 @@ class Row:
             return 'W', f'call.SelfSetAs {entry(a[0], a[1])}'
         if verb == 'container_create':
             bits = sum(1 << place for place, letter in enumerate('csatgd') if letter in a[3])
-            return 'W', f'call.ContainerCreate {number(a[0])} {raw(a[1])} {a[2]} (kinds {bits})'
+            return 'W', f'container_create {number(a[0])} {raw(a[1])} {a[2]} (kinds {bits})'
         if verb == 'segment_create':
-            return 'W', f'call.SegmentCreate {number(a[0])} {raw(a[1])} {a[2]} {a[3]}'
+            return 'W', f'segment_create {number(a[0])} {raw(a[1])} {a[2]} {a[3]}'
         if verb == 'segment_copy':
-            return 'W', f'call.SegmentCopy {number(a[0])} {raw(a[1])} {a[2]} {entry(a[3], a[4])}'
+            return 'W', f'segment_copy {number(a[0])} {raw(a[1])} {a[2]} {entry(a[3], a[4])}'
         if verb == 'as_create':
-            return 'W', f'call.AsCreate {number(a[0])} {raw(a[1])} {a[2]}'
+            return 'W', f'as_create {number(a[0])} {raw(a[1])} {a[2]}'
         if verb == 'thread_create':
-            return 'W', f'call.ThreadCreate {number(a[0])} {raw(a[1])} {a[2]} {raw(a[3])} {a[4]}'
+            return 'W', f'thread_create {number(a[0])} {raw(a[1])} {a[2]} {raw(a[3])} {a[4]}'
         if verb == 'gate_create':
-            head = f'call.GateCreate {number(a[0])} {raw(a[1])} {a[2]} {raw(a[3])}'
+            head = f'gate_create {number(a[0])} {raw(a[1])} {a[2]} {raw(a[3])}'
             return 'W', f'{head} {entry(a[4], a[5])} {a[6]} {a[7]}'
         if verb == 'link':
             return 'W', f'call.Link {number(a[0])} {entry(a[1], a[2])}'
@@ -249,6 +249,7 @@ IMPORTS = [
     ('Rattle.kernel_rules.specs.Table', 'refused query_refused'),
     ('Rattle.kernel_rules.specs.Translate', 'translate place_of'),
     ('Rattle.kernel_rows.specs.Play', 'Line W R play after ids limits raw label at entry mapping kinds category'),
+    ('Rattle.kernel_rows.specs.Play', ' '.join(sorted(CREATES))),
 ]
 VARIANTS = {'call': 'calls.Call', 'query': 'calls.Query', 'reply': 'replies.Reply'}
 

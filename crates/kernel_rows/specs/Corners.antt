@@ -10,16 +10,18 @@ use Rattle.kernel_rules.specs.Runs.{booted}
 use Rattle.kernel_rules.specs.State.{use_of}
 use Rattle.kernel_rows.specs.Play.{Line, W, R, play, after, ids, limits, raw, label, at, entry}
 use Rattle.kernel_rows.specs.Play.{mapping, kinds, category}
+use Rattle.kernel_rows.specs.Play.{as_create, container_create, gate_create, segment_copy}
+use Rattle.kernel_rows.specs.Play.{segment_create, thread_create}
 use Rattle.kernel_rules.specs.declared.calls.Call.TheVariants as call
 use Rattle.kernel_rules.specs.declared.calls.Query.TheVariants as query
 use Rattle.kernel_rules.specs.declared.replies.Reply.TheVariants as reply
 
 abbrev pub link_above_own_label_lines : List Line
 link_above_own_label_lines =
-    W 2 (call.ThreadCreate 1 (raw L2 ([])) 1 (raw L2 ([])) 0)
-    ∷ W 2 (call.SegmentCreate 1 (raw L2 ([])) 1 0)
-    ∷ W 2 (call.ContainerCreate 1 (raw L1 ([])) 5 (kinds 0))
-    ∷ W 2 (call.ContainerCreate 1 (raw L2 ([])) 5 (kinds 0))
+    W 2 (thread_create 1 (raw L2 ([])) 1 (raw L2 ([])) 0)
+    ∷ W 2 (segment_create 1 (raw L2 ([])) 1 0)
+    ∷ W 2 (container_create 1 (raw L1 ([])) 5 (kinds 0))
+    ∷ W 2 (container_create 1 (raw L2 ([])) 5 (kinds 0))
     ∷ W 2 (call.SetFixed (entry 1 5))
     ∷ W 4 (call.SetFixed (entry 1 5))
     ∷ W 4 (call.Link 7 (entry 1 5))
@@ -47,16 +49,16 @@ LinkAboveOwnLabel =
 
 abbrev pub huge_numbers_lines : List Line
 huge_numbers_lines =
-    W 2 (call.SegmentCreate 1 (raw L1 ([])) 4294967295 4294967295)
-    ∷ W 2 (call.SegmentCreate 1 (raw L1 ([])) 4294967295 4294967294)
-    ∷ W 2 (call.SegmentCreate 1 (raw L1 ([])) 2 1)
+    W 2 (segment_create 1 (raw L1 ([])) 4294967295 4294967295)
+    ∷ W 2 (segment_create 1 (raw L1 ([])) 4294967295 4294967294)
+    ∷ W 2 (segment_create 1 (raw L1 ([])) 2 1)
     ∷ W 2 (call.SegmentWrite (entry 1 4) 4294967295 (0 ∷ []))
     ∷ R 2 (query.SegmentRead (entry 1 4) 4294967040 64)
     ∷ R 2 (query.Load 18446744073709551615 1)
     ∷ W 2 (call.Store 18446744073709551552 (replicate 64 1))
     ∷ W 2 (call.Store 18446744073709551553 (replicate 64 1))
     ∷ R 2 (query.ContainerList 1 4294967295)
-    ∷ W 2 (call.ThreadCreate 1 (raw L1 ([])) 1 (raw L2 ([])) 18446744073709551615)
+    ∷ W 2 (thread_create 1 (raw L1 ([])) 1 (raw L2 ([])) 18446744073709551615)
     ∷ R 5 (query.SelfGet) ∷ []
 
 abbrev pub HugeNumbers : Type 0
@@ -77,9 +79,9 @@ HugeNumbers =
 
 abbrev pub space_entry_revives_lines : List Line
 space_entry_revives_lines =
-    W 2 (call.ContainerCreate 1 (raw L1 ([])) 4 (kinds 0))
-    ∷ W 2 (call.AsCreate 4 (raw L1 ([])) 1)
-    ∷ W 2 (call.SegmentCreate 1 (raw L1 ([])) 2 1)
+    W 2 (container_create 1 (raw L1 ([])) 4 (kinds 0))
+    ∷ W 2 (as_create 4 (raw L1 ([])) 1)
+    ∷ W 2 (segment_create 1 (raw L1 ([])) 2 1)
     ∷ W 2 (call.AsMap (entry 4 5) 0 (mapping 0 (entry 1 6) 0 1 3))
     ∷ W 2 (call.SelfSetAs (entry 4 5))
     ∷ W 2 (call.SetFixed (entry 4 5))
@@ -126,10 +128,10 @@ SpaceEntryRevives =
 
 abbrev pub exact_quota_lines : List Line
 exact_quota_lines =
-    W 2 (call.ContainerCreate 1 (raw L1 ([])) 12 (kinds 0))
+    W 2 (container_create 1 (raw L1 ([])) 12 (kinds 0))
     ∷ R 2 (query.ObjQuota (entry 1 1))
-    ∷ W 2 (call.ContainerCreate 1 (raw L1 ([])) 1 (kinds 0))
-    ∷ W 2 (call.SegmentCreate 4 (raw L1 ([])) 11 0)
+    ∷ W 2 (container_create 1 (raw L1 ([])) 1 (kinds 0))
+    ∷ W 2 (segment_create 4 (raw L1 ([])) 11 0)
     ∷ R 2 (query.ObjQuota (entry 1 4))
     ∷ W 2 (call.SegmentResize (entry 4 5) 10)
     ∷ W 2 (call.SegmentResize (entry 4 5) 11)
@@ -166,14 +168,14 @@ ExactQuota =
 abbrev pub observed_mapping_container_lines : List Line
 observed_mapping_container_lines =
     W 2 (call.CatCreate)
-    ∷ W 2 (call.ContainerCreate 1 (raw L1 (at 1 L3 ∷ [])) 8 (kinds 0))
-    ∷ W 2 (call.SegmentCreate 4 (raw L1 ([])) 2 1)
-    ∷ W 2 (call.AsCreate 1 (raw L1 ([])) 1)
+    ∷ W 2 (container_create 1 (raw L1 (at 1 L3 ∷ [])) 8 (kinds 0))
+    ∷ W 2 (segment_create 4 (raw L1 ([])) 2 1)
+    ∷ W 2 (as_create 1 (raw L1 ([])) 1)
     ∷ W 2 (call.AsMap (entry 1 6) 0 (mapping 0 (entry 4 5) 0 1 3))
-    ∷ W 2 (call.ThreadCreate 1 (raw L1 ([])) 1 (raw L2 ([])) 0)
+    ∷ W 2 (thread_create 1 (raw L1 ([])) 1 (raw L2 ([])) 0)
     ∷ W 7 (call.SelfSetAs (entry 1 6))
     ∷ R 7 (query.Load 0 1)
-    ∷ W 2 (call.ThreadCreate 1 (raw L1 (at 1 L3 ∷ [])) 1 (raw L2 (at 1 L3 ∷ [])) 0)
+    ∷ W 2 (thread_create 1 (raw L1 (at 1 L3 ∷ [])) 1 (raw L2 (at 1 L3 ∷ [])) 0)
     ∷ W 8 (call.SelfSetAs (entry 1 6))
     ∷ R 8 (query.Load 0 1)
     ∷ W 8 (call.Store 0 (1 ∷ []))
@@ -208,9 +210,9 @@ ObservedMappingContainer =
 
 abbrev pub refused_changes_nothing_lines : List Line
 refused_changes_nothing_lines =
-    W 2 (call.SegmentCreate 1 (raw L1 ([])) 1 1)
-    ∷ W 2 (call.GateCreate 1 (raw L1 ([])) 1 (raw L3 ([])) (entry 0 0) 0 0)
-    ∷ W 2 (call.SegmentCreate 1 (raw L1 ([])) 1 0)
+    W 2 (segment_create 1 (raw L1 ([])) 1 1)
+    ∷ W 2 (gate_create 1 (raw L1 ([])) 1 (raw L3 ([])) (entry 0 0) 0 0)
+    ∷ W 2 (segment_create 1 (raw L1 ([])) 1 0)
     ∷ W 2 (call.CatCreate) ∷ []
 
 abbrev pub RefusedChangesNothing : Type 0
@@ -284,10 +286,10 @@ Fifo =
 abbrev pub quota_move_labels_lines : List Line
 quota_move_labels_lines =
     W 2 (call.CatCreate)
-    ∷ W 2 (call.SegmentCreate 1 (raw L1 (at 1 L3 ∷ [])) 3 1)
-    ∷ W 2 (call.SegmentCreate 1 (raw L2 ([])) 3 1)
-    ∷ W 2 (call.SegmentCreate 1 (raw L1 (at 1 L0 ∷ [])) 3 1)
-    ∷ W 2 (call.ThreadCreate 1 (raw L1 ([])) 1 (raw L2 ([])) 0)
+    ∷ W 2 (segment_create 1 (raw L1 (at 1 L3 ∷ [])) 3 1)
+    ∷ W 2 (segment_create 1 (raw L2 ([])) 3 1)
+    ∷ W 2 (segment_create 1 (raw L1 (at 1 L0 ∷ [])) 3 1)
+    ∷ W 2 (thread_create 1 (raw L1 ([])) 1 (raw L2 ([])) 0)
     ∷ W 7 (call.QuotaMove (entry 1 4) (pos 0))
     ∷ W 7 (call.QuotaMove (entry 1 4) (negsuc 0))
     ∷ W 7 (call.QuotaMove (entry 1 5) (pos 1))
@@ -338,8 +340,8 @@ FullAt16ThenDrop =
 
 abbrev pub quota_move_open_container_lines : List Line
 quota_move_open_container_lines =
-    W 2 (call.ContainerCreate 1 (raw L1 ([])) 10 (kinds 0))
-    ∷ W 2 (call.SegmentCreate 4 (raw L1 ([])) 2 1)
+    W 2 (container_create 1 (raw L1 ([])) 10 (kinds 0))
+    ∷ W 2 (segment_create 4 (raw L1 ([])) 2 1)
     ∷ W 2 (call.SetImmutable (entry 1 4))
     ∷ W 2 (call.QuotaMove (entry 4 5) (pos 0))
     ∷ W 2 (call.QuotaMove (entry 4 5) (pos 1))
@@ -359,8 +361,8 @@ QuotaMoveOpenContainer =
 
 abbrev pub space_by_gate_and_verify_unchanged_lines : List Line
 space_by_gate_and_verify_unchanged_lines =
-    W 2 (call.AsCreate 1 (raw L1 ([])) 1)
-    ∷ W 2 (call.GateCreate 1 (raw L1 ([])) 1 (raw L2 ([])) (entry 0 0) 3 4)
+    W 2 (as_create 1 (raw L1 ([])) 1)
+    ∷ W 2 (gate_create 1 (raw L1 ([])) 1 (raw L2 ([])) (entry 0 0) 3 4)
     ∷ W 2 (call.SelfSetAs (entry 1 4))
     ∷ W 2 (call.GateEnter (entry 1 5) (raw L1 ([])) (raw L2 ([])) (raw L2 ([])))
     ∷ R 2 (query.SelfGet)
@@ -381,10 +383,10 @@ SpaceByGateAndVerifyUnchanged =
 abbrev pub link_to_unobserved_source_lines : List Line
 link_to_unobserved_source_lines =
     W 2 (call.CatCreate)
-    ∷ W 2 (call.ContainerCreate 1 (raw L1 (at 1 L3 ∷ [])) 9 (kinds 0))
-    ∷ W 2 (call.SegmentCreate 4 (raw L1 ([])) 1 0)
+    ∷ W 2 (container_create 1 (raw L1 (at 1 L3 ∷ [])) 9 (kinds 0))
+    ∷ W 2 (segment_create 4 (raw L1 ([])) 1 0)
     ∷ W 2 (call.SetFixed (entry 4 5))
-    ∷ W 2 (call.ThreadCreate 1 (raw L1 ([])) 1 (raw L2 ([])) 0)
+    ∷ W 2 (thread_create 1 (raw L1 ([])) 1 (raw L2 ([])) 0)
     ∷ W 6 (call.Link 1 (entry 4 5))
     ∷ W 2 (call.Link 1 (entry 4 5))
     ∷ W 6 (call.Link 4 (entry 1 5))
@@ -405,13 +407,13 @@ LinkToUnobservedSource =
 
 abbrev pub self_copy_lines : List Line
 self_copy_lines =
-    W 2 (call.SegmentCreate 1 (raw L1 ([])) 2 1)
-    ∷ W 2 (call.SegmentCopy 99 (raw Star ([])) 0 (entry 1 98))
-    ∷ W 2 (call.SegmentCopy 1 (raw Star ([])) 0 (entry 1 98))
-    ∷ W 2 (call.SegmentCopy 1 (raw Star ([])) 0 (entry 1 3))
-    ∷ W 2 (call.SegmentCopy 1 (raw Star ([])) 0 (entry 1 4))
-    ∷ W 2 (call.SegmentCopy 1 (raw L0 ([])) 0 (entry 1 4))
-    ∷ W 2 (call.SegmentCopy 1 (raw L1 ([])) 1 (entry 1 4)) ∷ []
+    W 2 (segment_create 1 (raw L1 ([])) 2 1)
+    ∷ W 2 (segment_copy 99 (raw Star ([])) 0 (entry 1 98))
+    ∷ W 2 (segment_copy 1 (raw Star ([])) 0 (entry 1 98))
+    ∷ W 2 (segment_copy 1 (raw Star ([])) 0 (entry 1 3))
+    ∷ W 2 (segment_copy 1 (raw Star ([])) 0 (entry 1 4))
+    ∷ W 2 (segment_copy 1 (raw L0 ([])) 0 (entry 1 4))
+    ∷ W 2 (segment_copy 1 (raw L1 ([])) 1 (entry 1 4)) ∷ []
 
 abbrev pub SelfCopy : Type 0
 SelfCopy =
@@ -446,9 +448,9 @@ StarDeviceBoots =
 
 abbrev pub dead_are_gone_lines : List Line
 dead_are_gone_lines =
-    W 2 (call.ContainerCreate 1 (raw L1 ([])) 10 (kinds 0))
-    ∷ W 2 (call.ThreadCreate 4 (raw L1 ([])) 1 (raw L2 ([])) 0)
-    ∷ W 2 (call.SegmentCreate 4 (raw L1 ([])) 2 1)
+    W 2 (container_create 1 (raw L1 ([])) 10 (kinds 0))
+    ∷ W 2 (thread_create 4 (raw L1 ([])) 1 (raw L2 ([])) 0)
+    ∷ W 2 (segment_create 4 (raw L1 ([])) 2 1)
     ∷ W 2 (call.SetFixed (entry 4 6))
     ∷ W 2 (call.Link 1 (entry 4 6))
     ∷ W 5 (call.Unref (entry 1 4))

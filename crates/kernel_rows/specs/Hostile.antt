@@ -12,6 +12,8 @@ use Rattle.base.specs.declared.refusals.Refusal.TheVariants.{Spent}
 use Rattle.kernel_rules.specs.Runs.{booted}
 use Rattle.kernel_rows.specs.Play.{Line, W, R, play, limits, raw, label, at, entry, mapping, kinds}
 use Rattle.kernel_rows.specs.Play.{category}
+use Rattle.kernel_rows.specs.Play.{as_create, container_create, gate_create, segment_copy}
+use Rattle.kernel_rows.specs.Play.{segment_create, thread_create}
 use Rattle.kernel_rules.specs.declared.calls.Call.TheVariants as call
 use Rattle.kernel_rules.specs.declared.calls.Query.TheVariants as query
 use Rattle.kernel_rules.specs.declared.replies.Reply.TheVariants as reply
@@ -24,14 +26,14 @@ numbers_in_order_lines =
     ∷ R 2 (query.SegmentRead (entry 2 2) 0 1)
     ∷ W 2 (call.AsMap (entry 1 1) 16 (mapping 0 (entry 1 9) 0 0 0))
     ∷ W 2 (call.AsMap (entry 1 1) 16 (mapping 0 (entry 9 9) 0 0 0))
-    ∷ W 2 (call.GateCreate 9 (raw Star ([])) 0 (raw Star ([])) (entry 0 0) 0 0)
-    ∷ W 2 (call.GateCreate 1 (raw Star ([])) 0 (raw Star ([])) (entry 1 2) 0 0)
-    ∷ W 2 (call.GateCreate 1 (raw Star ([])) 0 (raw Star ([])) (entry 0 0) 0 0)
-    ∷ W 2 (call.SegmentCreate 1 (raw Star ([])) 0 17)
-    ∷ W 2 (call.SegmentCreate 1 (raw L0 ([])) 0 17)
-    ∷ W 2 (call.SegmentCreate 1 (raw L1 ([])) 0 17)
-    ∷ W 2 (call.SegmentCreate 1 (raw L1 ([])) 18 17)
-    ∷ W 2 (call.SegmentCreate 1 (raw L1 ([])) 17 16)
+    ∷ W 2 (gate_create 9 (raw Star ([])) 0 (raw Star ([])) (entry 0 0) 0 0)
+    ∷ W 2 (gate_create 1 (raw Star ([])) 0 (raw Star ([])) (entry 1 2) 0 0)
+    ∷ W 2 (gate_create 1 (raw Star ([])) 0 (raw Star ([])) (entry 0 0) 0 0)
+    ∷ W 2 (segment_create 1 (raw Star ([])) 0 17)
+    ∷ W 2 (segment_create 1 (raw L0 ([])) 0 17)
+    ∷ W 2 (segment_create 1 (raw L1 ([])) 0 17)
+    ∷ W 2 (segment_create 1 (raw L1 ([])) 18 17)
+    ∷ W 2 (segment_create 1 (raw L1 ([])) 17 16)
     ∷ W 77 (call.CatCreate)
     ∷ R 1 (query.SelfGet) ∷ []
 
@@ -58,12 +60,12 @@ NumbersInOrder =
 abbrev pub observe_not_modify_lines : List Line
 observe_not_modify_lines =
     W 2 (call.CatCreate)
-    ∷ W 2 (call.ContainerCreate 1 (raw L1 (at 1 L0 ∷ [])) 6 (kinds 0))
-    ∷ W 2 (call.SegmentCreate 4 (raw L1 ([])) 1 0)
-    ∷ W 2 (call.ThreadCreate 1 (raw L1 ([])) 1 (raw L2 ([])) 0)
+    ∷ W 2 (container_create 1 (raw L1 (at 1 L0 ∷ [])) 6 (kinds 0))
+    ∷ W 2 (segment_create 4 (raw L1 ([])) 1 0)
+    ∷ W 2 (thread_create 1 (raw L1 ([])) 1 (raw L2 ([])) 0)
     ∷ R 6 (query.ObjQuota (entry 4 5))
     ∷ R 6 (query.SegmentRead (entry 4 5) 0 1)
-    ∷ W 6 (call.SegmentCreate 4 (raw Star ([])) 1 0)
+    ∷ W 6 (segment_create 4 (raw Star ([])) 1 0)
     ∷ W 6 (call.Unref (entry 4 5))
     ∷ W 6 (call.Unref (entry 4 4))
     ∷ W 6 (call.QuotaMove (entry 4 5) (pos 0))
@@ -97,15 +99,15 @@ ObserveNotModify =
 abbrev pub modify_not_observe_lines : List Line
 modify_not_observe_lines =
     W 2 (call.CatCreate)
-    ∷ W 2 (call.ContainerCreate 1 (raw L1 (at 1 L3 ∷ [])) 6 (kinds 0))
-    ∷ W 2 (call.SegmentCreate 1 (raw L1 (at 1 L3 ∷ [])) 2 1)
-    ∷ W 2 (call.ThreadCreate 1 (raw L1 ([])) 1 (raw L2 ([])) 0)
+    ∷ W 2 (container_create 1 (raw L1 (at 1 L3 ∷ [])) 6 (kinds 0))
+    ∷ W 2 (segment_create 1 (raw L1 (at 1 L3 ∷ [])) 2 1)
+    ∷ W 2 (thread_create 1 (raw L1 ([])) 1 (raw L2 ([])) 0)
     ∷ W 6 (call.SegmentWrite (entry 1 5) 0 (0 ∷ []))
     ∷ W 6 (call.SegmentResize (entry 1 5) 0)
     ∷ W 6 (call.SetFixed (entry 1 5))
     ∷ W 6 (call.SetImmutable (entry 1 5))
     ∷ R 6 (query.MetaGet (entry 1 5))
-    ∷ W 6 (call.SegmentCreate 4 (raw L1 ([])) 1 0)
+    ∷ W 6 (segment_create 4 (raw L1 ([])) 1 0)
     ∷ R 6 (query.ContainerList 4 0)
     ∷ R 6 (query.ContainerParent 4)
     ∷ R 6 (query.ObjQuota (entry 4 4))
@@ -114,7 +116,7 @@ modify_not_observe_lines =
     ∷ W 6 (call.QuotaMove (entry 1 4) (pos 1))
     ∷ W 6 (call.QuotaMove (entry 1 4) (negsuc 0))
     ∷ W 6 (call.Link 1 (entry 1 5))
-    ∷ W 6 (call.SegmentCopy 1 (raw L1 ([])) 2 (entry 1 5))
+    ∷ W 6 (segment_copy 1 (raw L1 ([])) 2 (entry 1 5))
     ∷ W 6 (call.Unref (entry 1 4))
     ∷ R 2 (query.ContainerList 1 0)
     ∷ R 2 (query.ContainerList 4 0) ∷ []
@@ -147,8 +149,8 @@ ModifyNotObserve =
 
 abbrev pub as_map_edges_lines : List Line
 as_map_edges_lines =
-    W 2 (call.SegmentCreate 1 (raw L1 ([])) 5 4)
-    ∷ W 2 (call.AsCreate 1 (raw L1 ([])) 1)
+    W 2 (segment_create 1 (raw L1 ([])) 5 4)
+    ∷ W 2 (as_create 1 (raw L1 ([])) 1)
     ∷ W 2 (call.AsMap (entry 1 5) 0 (mapping 10 (entry 1 4) 0 4 3))
     ∷ W 2 (call.AsMap (entry 1 5) 1 (mapping 14 (entry 1 4) 0 1 1))
     ∷ W 2 (call.AsMap (entry 1 5) 2 (mapping 9 (entry 1 4) 0 1 1))
@@ -244,7 +246,7 @@ AsMapEdges =
 
 abbrev pub quota_move_lines : List Line
 quota_move_lines =
-    W 2 (call.SegmentCreate 1 (raw L1 ([])) 4 1)
+    W 2 (segment_create 1 (raw L1 ([])) 4 1)
     ∷ W 2 (call.QuotaMove (entry 1 4) (pos 0))
     ∷ W 2 (call.QuotaMove (entry 1 1) (pos 0))
     ∷ W 2 (call.QuotaMove (entry 1 4) (negsuc 2))
@@ -293,8 +295,8 @@ QuotaMove =
 
 abbrev pub quota_of_container_lines : List Line
 quota_of_container_lines =
-    W 2 (call.ContainerCreate 1 (raw L1 ([])) 8 (kinds 0))
-    ∷ W 2 (call.SegmentCreate 4 (raw L1 ([])) 4 1)
+    W 2 (container_create 1 (raw L1 ([])) 8 (kinds 0))
+    ∷ W 2 (segment_create 4 (raw L1 ([])) 4 1)
     ∷ W 2 (call.QuotaMove (entry 1 4) (negsuc 3))
     ∷ W 2 (call.QuotaMove (entry 1 4) (negsuc 2))
     ∷ R 2 (query.ObjQuota (entry 1 4))
@@ -302,10 +304,10 @@ quota_of_container_lines =
     ∷ W 2 (call.QuotaMove (entry 4 5) (pos 1))
     ∷ W 2 (call.QuotaMove (entry 4 5) (negsuc 0))
     ∷ W 2 (call.QuotaMove (entry 4 5) (pos 1))
-    ∷ W 2 (call.SegmentCreate 4 (raw L1 ([])) 1 0)
-    ∷ W 2 (call.ContainerCreate 1 (raw L1 ([])) 0 (kinds 0))
-    ∷ W 2 (call.ContainerCreate 1 (raw L1 ([])) 56 (kinds 0))
-    ∷ W 2 (call.ContainerCreate 1 (raw L1 ([])) 55 (kinds 0)) ∷ []
+    ∷ W 2 (segment_create 4 (raw L1 ([])) 1 0)
+    ∷ W 2 (container_create 1 (raw L1 ([])) 0 (kinds 0))
+    ∷ W 2 (container_create 1 (raw L1 ([])) 56 (kinds 0))
+    ∷ W 2 (container_create 1 (raw L1 ([])) 55 (kinds 0)) ∷ []
 
 abbrev pub QuotaOfContainer : Type 0
 QuotaOfContainer =
@@ -326,8 +328,8 @@ QuotaOfContainer =
 
 abbrev pub link_avoid_lines : List Line
 link_avoid_lines =
-    W 2 (call.ContainerCreate 1 (raw L1 ([])) 3 (kinds 2))
-    ∷ W 2 (call.SegmentCreate 1 (raw L1 ([])) 20 1)
+    W 2 (container_create 1 (raw L1 ([])) 3 (kinds 2))
+    ∷ W 2 (segment_create 1 (raw L1 ([])) 20 1)
     ∷ W 2 (call.Link 4 (entry 1 5))
     ∷ W 2 (call.Link 4 (entry 1 4))
     ∷ W 2 (call.Link 1 (entry 4 4))
@@ -377,24 +379,24 @@ LinkAvoid =
 
 abbrev pub avoid_kinds_lines : List Line
 avoid_kinds_lines =
-    W 2 (call.ContainerCreate 1 (raw L1 ([])) 30 (kinds 63))
-    ∷ W 2 (call.ContainerCreate 4 (raw L1 ([])) 1 (kinds 0))
-    ∷ W 2 (call.SegmentCreate 4 (raw L1 ([])) 1 0)
-    ∷ W 2 (call.AsCreate 4 (raw L1 ([])) 1)
-    ∷ W 2 (call.ThreadCreate 4 (raw L1 ([])) 1 (raw L2 ([])) 0)
-    ∷ W 2 (call.GateCreate 4 (raw L1 ([])) 1 (raw L2 ([])) (entry 0 0) 0 0)
-    ∷ W 2 (call.SegmentCopy 4 (raw L1 ([])) 1 (entry 1 2))
+    W 2 (container_create 1 (raw L1 ([])) 30 (kinds 63))
+    ∷ W 2 (container_create 4 (raw L1 ([])) 1 (kinds 0))
+    ∷ W 2 (segment_create 4 (raw L1 ([])) 1 0)
+    ∷ W 2 (as_create 4 (raw L1 ([])) 1)
+    ∷ W 2 (thread_create 4 (raw L1 ([])) 1 (raw L2 ([])) 0)
+    ∷ W 2 (gate_create 4 (raw L1 ([])) 1 (raw L2 ([])) (entry 0 0) 0 0)
+    ∷ W 2 (segment_copy 4 (raw L1 ([])) 1 (entry 1 2))
     ∷ W 2 (call.Link 4 (entry 1 3))
     ∷ W 2 (call.Link 4 (entry 1 2))
-    ∷ W 2 (call.ContainerCreate 1 (raw L1 ([])) 30 (kinds 8))
-    ∷ W 2 (call.ContainerCreate 5 (raw L1 ([])) 20 (kinds 16))
-    ∷ W 2 (call.ContainerCreate 6 (raw L1 ([])) 10 (kinds 4))
-    ∷ W 2 (call.ThreadCreate 7 (raw L1 ([])) 1 (raw L2 ([])) 0)
-    ∷ W 2 (call.GateCreate 7 (raw L1 ([])) 1 (raw L2 ([])) (entry 0 0) 0 0)
-    ∷ W 2 (call.AsCreate 7 (raw L1 ([])) 1)
-    ∷ W 2 (call.AsCreate 6 (raw L1 ([])) 1)
-    ∷ W 2 (call.SegmentCreate 7 (raw L1 ([])) 1 0)
-    ∷ W 2 (call.ContainerCreate 7 (raw L1 ([])) 1 (kinds 0))
+    ∷ W 2 (container_create 1 (raw L1 ([])) 30 (kinds 8))
+    ∷ W 2 (container_create 5 (raw L1 ([])) 20 (kinds 16))
+    ∷ W 2 (container_create 6 (raw L1 ([])) 10 (kinds 4))
+    ∷ W 2 (thread_create 7 (raw L1 ([])) 1 (raw L2 ([])) 0)
+    ∷ W 2 (gate_create 7 (raw L1 ([])) 1 (raw L2 ([])) (entry 0 0) 0 0)
+    ∷ W 2 (as_create 7 (raw L1 ([])) 1)
+    ∷ W 2 (as_create 6 (raw L1 ([])) 1)
+    ∷ W 2 (segment_create 7 (raw L1 ([])) 1 0)
+    ∷ W 2 (container_create 7 (raw L1 ([])) 1 (kinds 0))
     ∷ R 2 (query.ContainerParent 7)
     ∷ R 2 (query.ContainerParent 1)
     ∷ R 2 (query.ContainerParent 5)
@@ -428,10 +430,10 @@ AvoidKinds =
 
 abbrev pub thread_in_dead_container_lines : List Line
 thread_in_dead_container_lines =
-    W 2 (call.ContainerCreate 1 (raw L1 ([])) 10 (kinds 0))
-    ∷ W 2 (call.ContainerCreate 4 (raw L1 ([])) 5 (kinds 0))
-    ∷ W 2 (call.ThreadCreate 5 (raw L1 ([])) 1 (raw L2 ([])) 0)
-    ∷ W 2 (call.ThreadCreate 5 (raw L1 ([])) 1 (raw L2 ([])) 0)
+    W 2 (container_create 1 (raw L1 ([])) 10 (kinds 0))
+    ∷ W 2 (container_create 4 (raw L1 ([])) 5 (kinds 0))
+    ∷ W 2 (thread_create 5 (raw L1 ([])) 1 (raw L2 ([])) 0)
+    ∷ W 2 (thread_create 5 (raw L1 ([])) 1 (raw L2 ([])) 0)
     ∷ W 2 (call.SetFixed (entry 5 7))
     ∷ W 2 (call.Link 1 (entry 5 7))
     ∷ W 7 (call.Unref (entry 1 4))
@@ -469,28 +471,28 @@ ThreadInDeadContainer =
 
 abbrev pub thread_create_labels_lines : List Line
 thread_create_labels_lines =
-    W 2 (call.ThreadCreate 1 (raw L0 ([])) 1 (raw L2 ([])) 0)
-    ∷ W 2 (call.ThreadCreate 1 (raw L1 ([])) 1 (raw L3 ([])) 0)
-    ∷ W 2 (call.ThreadCreate 1 (raw L2 ([])) 1 (raw L1 ([])) 0)
-    ∷ W 2 (call.ThreadCreate 1 (raw L3 ([])) 1 (raw L3 ([])) 0)
-    ∷ W 2 (call.ThreadCreate 1 (raw L1 (at 1 Star ∷ [])) 1 (raw L2 ([])) 0)
-    ∷ W 2 (call.ThreadCreate 1 (raw L1 ([])) 1 (raw Star ([])) 0)
-    ∷ W 2 (call.ThreadCreate 1 (raw L1 ([])) 0 (raw L3 ([])) 0)
-    ∷ W 2 (call.ThreadCreate 1 (raw L2 ([])) 1 (raw L2 ([])) 5)
+    W 2 (thread_create 1 (raw L0 ([])) 1 (raw L2 ([])) 0)
+    ∷ W 2 (thread_create 1 (raw L1 ([])) 1 (raw L3 ([])) 0)
+    ∷ W 2 (thread_create 1 (raw L2 ([])) 1 (raw L1 ([])) 0)
+    ∷ W 2 (thread_create 1 (raw L3 ([])) 1 (raw L3 ([])) 0)
+    ∷ W 2 (thread_create 1 (raw L1 (at 1 Star ∷ [])) 1 (raw L2 ([])) 0)
+    ∷ W 2 (thread_create 1 (raw L1 ([])) 1 (raw Star ([])) 0)
+    ∷ W 2 (thread_create 1 (raw L1 ([])) 0 (raw L3 ([])) 0)
+    ∷ W 2 (thread_create 1 (raw L2 ([])) 1 (raw L2 ([])) 5)
     ∷ W 2 (call.CatCreate)
-    ∷ W 2 (call.ThreadCreate 1 (raw L1 (at 1 Star ∷ [])) 1 (raw L2 (at 1 L3 ∷ [])) 9)
-    ∷ W 2 (call.ThreadCreate 1 (raw L1 ([])) 1 (raw L2 (at 1 Star ∷ [])) 0)
-    ∷ W 2 (call.ThreadCreate 1 (raw L1 (at 1 Star ∷ [])) 1 (raw L2 (at 1 Star ∷ [])) 0)
-    ∷ W 2 (call.ThreadCreate 1 (raw L1 (at 1 L2 ∷ at 1 L2 ∷ [])) 1 (raw L2 ([])) 0)
-    ∷ W 2 (call.ThreadCreate 1 (raw L1 (at 0 L2 ∷ [])) 1 (raw L2 ([])) 0)
-    ∷ W 2 (call.ThreadCreate 1 (raw L1 (at 2 L2 ∷ [])) 1 (raw L2 ([])) 0)
-    ∷ W 2 (call.ThreadCreate 1 (raw L1 (at 1 L1 ∷ [])) 1 (raw L2 (at 1 L2 ∷ [])) 0)
+    ∷ W 2 (thread_create 1 (raw L1 (at 1 Star ∷ [])) 1 (raw L2 (at 1 L3 ∷ [])) 9)
+    ∷ W 2 (thread_create 1 (raw L1 ([])) 1 (raw L2 (at 1 Star ∷ [])) 0)
+    ∷ W 2 (thread_create 1 (raw L1 (at 1 Star ∷ [])) 1 (raw L2 (at 1 Star ∷ [])) 0)
+    ∷ W 2 (thread_create 1 (raw L1 (at 1 L2 ∷ at 1 L2 ∷ [])) 1 (raw L2 ([])) 0)
+    ∷ W 2 (thread_create 1 (raw L1 (at 0 L2 ∷ [])) 1 (raw L2 ([])) 0)
+    ∷ W 2 (thread_create 1 (raw L1 (at 2 L2 ∷ [])) 1 (raw L2 ([])) 0)
+    ∷ W 2 (thread_create 1 (raw L1 (at 1 L1 ∷ [])) 1 (raw L2 (at 1 L2 ∷ [])) 0)
     ∷ R 7 (query.SelfGet)
     ∷ R 5 (query.SelfGet)
-    ∷ W 7 (call.ThreadCreate 1 (raw L1 (at 1 Star ∷ [])) 1 (raw L2 ([])) 0)
-    ∷ W 6 (call.ThreadCreate 1 (raw L1 (at 1 Star ∷ [])) 1 (raw L2 (at 1 L0 ∷ [])) 0)
+    ∷ W 7 (thread_create 1 (raw L1 (at 1 Star ∷ [])) 1 (raw L2 ([])) 0)
+    ∷ W 6 (thread_create 1 (raw L1 (at 1 Star ∷ [])) 1 (raw L2 (at 1 L0 ∷ [])) 0)
     ∷ R 4 (query.SelfGet)
-    ∷ W 4 (call.ThreadCreate 1 (raw L2 ([])) 1 (raw L2 ([])) 0)
+    ∷ W 4 (thread_create 1 (raw L2 ([])) 1 (raw L2 ([])) 0)
     ∷ R 7 (query.ObjLabel (entry 1 5))
     ∷ R 7 (query.ObjLabel (entry 1 4))
     ∷ R 5 (query.ObjLabel (entry 1 7))
@@ -535,9 +537,9 @@ ThreadCreateLabels =
 
 abbrev pub immutable_container_lines : List Line
 immutable_container_lines =
-    W 2 (call.ContainerCreate 1 (raw L1 ([])) 20 (kinds 0))
-    ∷ W 2 (call.SegmentCreate 4 (raw L1 ([])) 4 1)
-    ∷ W 2 (call.SegmentCreate 1 (raw L1 ([])) 1 0)
+    W 2 (container_create 1 (raw L1 ([])) 20 (kinds 0))
+    ∷ W 2 (segment_create 4 (raw L1 ([])) 4 1)
+    ∷ W 2 (segment_create 1 (raw L1 ([])) 1 0)
     ∷ W 2 (call.SetFixed (entry 1 6))
     ∷ W 2 (call.SetImmutable (entry 1 4))
     ∷ W 2 (call.SetImmutable (entry 1 4))
@@ -546,10 +548,10 @@ immutable_container_lines =
     ∷ W 2 (call.MetaSet (entry 4 5) (1 ∷ []))
     ∷ W 2 (call.SetFixed (entry 4 5))
     ∷ W 2 (call.QuotaMove (entry 4 5) (pos 0))
-    ∷ W 2 (call.SegmentCreate 4 (raw L1 ([])) 1 0)
-    ∷ W 2 (call.SegmentCreate 4 (raw L1 ([])) 1 17)
-    ∷ W 2 (call.SegmentCreate 4 (raw L1 ([])) 18 17)
-    ∷ W 2 (call.SegmentCreate 4 (raw L1 ([])) 15 17)
+    ∷ W 2 (segment_create 4 (raw L1 ([])) 1 0)
+    ∷ W 2 (segment_create 4 (raw L1 ([])) 1 17)
+    ∷ W 2 (segment_create 4 (raw L1 ([])) 18 17)
+    ∷ W 2 (segment_create 4 (raw L1 ([])) 15 17)
     ∷ W 2 (call.Unref (entry 4 5))
     ∷ W 2 (call.Unref (entry 4 6))
     ∷ W 2 (call.QuotaMove (entry 1 4) (pos 1))
@@ -613,8 +615,8 @@ immutable_root_lines =
     W 2 (call.SetImmutable (entry 1 1))
     ∷ W 2 (call.Unref (entry 1 1))
     ∷ W 2 (call.Unref (entry 1 3))
-    ∷ W 2 (call.SegmentCreate 1 (raw L1 ([])) 1 0)
-    ∷ W 2 (call.ThreadCreate 1 (raw L1 ([])) 1 (raw L3 ([])) 0)
+    ∷ W 2 (segment_create 1 (raw L1 ([])) 1 0)
+    ∷ W 2 (thread_create 1 (raw L1 ([])) 1 (raw L3 ([])) 0)
     ∷ W 2 (call.DevSend (entry 1 3) (1 ∷ []))
     ∷ W 2 (call.MetaSet (entry 1 3) (1 ∷ []))
     ∷ W 2 (call.SelfSetLabel (raw L2 ([])))
@@ -635,8 +637,8 @@ ImmutableRoot =
 
 abbrev pub immutable_space_lines : List Line
 immutable_space_lines =
-    W 2 (call.SegmentCreate 1 (raw L1 ([])) 2 1)
-    ∷ W 2 (call.AsCreate 1 (raw L1 ([])) 1)
+    W 2 (segment_create 1 (raw L1 ([])) 2 1)
+    ∷ W 2 (as_create 1 (raw L1 ([])) 1)
     ∷ W 2 (call.AsMap (entry 1 5) 0 (mapping 0 (entry 1 4) 0 1 3))
     ∷ W 2 (call.SetImmutable (entry 1 5))
     ∷ W 2 (call.AsMap (entry 1 5) 16 (mapping 0 (entry 1 4) 0 0 0))
@@ -674,7 +676,7 @@ ImmutableSpace =
 
 abbrev pub resize_lines : List Line
 resize_lines =
-    W 2 (call.SegmentCreate 1 (raw L1 ([])) 20 2)
+    W 2 (segment_create 1 (raw L1 ([])) 20 2)
     ∷ W 2 (call.SegmentWrite (entry 1 4) 255 (170 ∷ []))
     ∷ W 2 (call.SegmentWrite (entry 1 4) 256 (187 ∷ []))
     ∷ W 2 (call.SegmentResize (entry 1 4) 17)
@@ -723,7 +725,7 @@ Resize =
 
 abbrev pub write_shape_lines : List Line
 write_shape_lines =
-    W 2 (call.SegmentCreate 1 (raw L1 ([])) 3 2)
+    W 2 (segment_create 1 (raw L1 ([])) 3 2)
     ∷ W 2 (call.SegmentWrite (entry 1 4) 192 (replicate 64 171))
     ∷ W 2 (call.SegmentWrite (entry 1 4) 193 (replicate 64 171))
     ∷ W 2 (call.SegmentWrite (entry 1 4) 448 (replicate 64 205))
@@ -758,10 +760,10 @@ abbrev pub gate_rules_lines : List Line
 gate_rules_lines =
     W 2 (call.CatCreate)
     ∷ W 2 (call.CatCreate)
-    ∷ W 2 (call.GateCreate 1 (raw L1 (at 1 Star ∷ [])) 1 (raw L2 (at 1 L3 ∷ [])) (entry 0 0) 7 9)
-    ∷ W 2 (call.GateCreate 1 (raw L1 ([])) 1 (raw L2 (at 1 L3 ∷ at 2 L3 ∷ [])) (entry 0 0) 1 2)
-    ∷ W 2 (call.ThreadCreate 1 (raw L1 (at 1 L3 ∷ [])) 1 (raw L2 (at 1 L3 ∷ [])) 0)
-    ∷ W 2 (call.ThreadCreate 1 (raw L1 (at 2 Star ∷ [])) 1 (raw L2 (at 2 L3 ∷ [])) 0)
+    ∷ W 2 (gate_create 1 (raw L1 (at 1 Star ∷ [])) 1 (raw L2 (at 1 L3 ∷ [])) (entry 0 0) 7 9)
+    ∷ W 2 (gate_create 1 (raw L1 ([])) 1 (raw L2 (at 1 L3 ∷ at 2 L3 ∷ [])) (entry 0 0) 1 2)
+    ∷ W 2 (thread_create 1 (raw L1 (at 1 L3 ∷ [])) 1 (raw L2 (at 1 L3 ∷ [])) 0)
+    ∷ W 2 (thread_create 1 (raw L1 (at 2 Star ∷ [])) 1 (raw L2 (at 2 L3 ∷ [])) 0)
     ∷ W 6 (call.GateEnter (entry 1 4) (raw L1 (at 1 L3 ∷ [])) (raw L2 (at 1 L3 ∷ [])) (raw L1 ([])))
     ∷ W 6 (call.GateEnter (entry 1 4) (raw L1 (at 1 L3 ∷ [])) (raw L2 (at 1 L3 ∷ [])) (raw L3 (at 1
     L2 ∷ [])))
@@ -852,23 +854,23 @@ GateRules =
 abbrev pub gate_clearance_first_rule_lines : List Line
 gate_clearance_first_rule_lines =
     W 2 (call.CatCreate)
-    ∷ W 2 (call.GateCreate 1 (raw L1 ([])) 1 (raw L2 ([])) (entry 0 0) 0 0)
-    ∷ W 2 (call.ThreadCreate 1 (raw L1 (at 1 L3 ∷ [])) 1 (raw L2 (at 1 L3 ∷ [])) 0)
+    ∷ W 2 (gate_create 1 (raw L1 ([])) 1 (raw L2 ([])) (entry 0 0) 0 0)
+    ∷ W 2 (thread_create 1 (raw L1 (at 1 L3 ∷ [])) 1 (raw L2 (at 1 L3 ∷ [])) 0)
     ∷ W 5 (call.GateEnter (entry 1 4) (raw L1 (at 1 L3 ∷ [])) (raw L2 (at 1 L3 ∷ [])) (raw L3 ([])))
-    ∷ W 2 (call.GateCreate 1 (raw L0 ([])) 1 (raw L2 ([])) (entry 0 0) 0 0)
-    ∷ W 2 (call.GateCreate 1 (raw L1 ([])) 1 (raw L0 ([])) (entry 0 0) 0 0)
-    ∷ W 2 (call.GateCreate 1 (raw L1 ([])) 1 (raw L3 ([])) (entry 0 0) 0 0)
-    ∷ W 2 (call.AsCreate 1 (raw L1 ([])) 1)
-    ∷ W 2 (call.GateCreate 1 (raw L1 ([])) 1 (raw L2 ([])) (entry 1 6) 5 6)
-    ∷ W 2 (call.GateCreate 1 (raw L1 ([])) 1 (raw L2 ([])) (entry 1 4) 5 6)
-    ∷ W 2 (call.GateCreate 1 (raw L1 ([])) 1 (raw L2 ([])) (entry 1 88) 5 6)
-    ∷ W 2 (call.GateCreate 1 (raw L1 ([])) 1 (raw L2 ([])) (entry 0 6) 5 6)
+    ∷ W 2 (gate_create 1 (raw L0 ([])) 1 (raw L2 ([])) (entry 0 0) 0 0)
+    ∷ W 2 (gate_create 1 (raw L1 ([])) 1 (raw L0 ([])) (entry 0 0) 0 0)
+    ∷ W 2 (gate_create 1 (raw L1 ([])) 1 (raw L3 ([])) (entry 0 0) 0 0)
+    ∷ W 2 (as_create 1 (raw L1 ([])) 1)
+    ∷ W 2 (gate_create 1 (raw L1 ([])) 1 (raw L2 ([])) (entry 1 6) 5 6)
+    ∷ W 2 (gate_create 1 (raw L1 ([])) 1 (raw L2 ([])) (entry 1 4) 5 6)
+    ∷ W 2 (gate_create 1 (raw L1 ([])) 1 (raw L2 ([])) (entry 1 88) 5 6)
+    ∷ W 2 (gate_create 1 (raw L1 ([])) 1 (raw L2 ([])) (entry 0 6) 5 6)
     ∷ W 2 (call.Unref (entry 1 6))
     ∷ W 2 (call.GateEnter (entry 1 7) (raw L1 (at 1 Star ∷ [])) (raw L2 (at 1 L3 ∷ [])) (raw L3
     ([])))
     ∷ R 2 (query.SelfGet)
     ∷ R 2 (query.Load 0 1)
-    ∷ W 2 (call.GateCreate 1 (raw L1 ([])) 1 (raw L2 ([])) (entry 1 6) 5 6) ∷ []
+    ∷ W 2 (gate_create 1 (raw L1 ([])) 1 (raw L2 ([])) (entry 1 6) 5 6) ∷ []
 
 abbrev pub GateClearanceFirstRule : Type 0
 GateClearanceFirstRule =
@@ -896,8 +898,8 @@ abbrev pub categories_spent_lines : List Line
 categories_spent_lines =
     W 2 (call.CatCreate)
     ∷ W 2 (call.CatCreate)
-    ∷ W 2 (call.SegmentCreate 1 (raw L1 (at 2305843009213693951 L2 ∷ [])) 1 0)
-    ∷ W 2 (call.SegmentCreate 1 (raw L1 (at 2305843009213693952 L2 ∷ [])) 1 0)
+    ∷ W 2 (segment_create 1 (raw L1 (at 2305843009213693951 L2 ∷ [])) 1 0)
+    ∷ W 2 (segment_create 1 (raw L1 (at 2305843009213693952 L2 ∷ [])) 1 0)
     ∷ R 2 (query.SelfGet) ∷ []
 
 abbrev pub CategoriesSpent : Type 0
@@ -913,10 +915,10 @@ CategoriesSpent =
 abbrev pub spent_at_boot_lines : List Line
 spent_at_boot_lines =
     W 2 (call.CatCreate)
-    ∷ W 2 (call.ContainerCreate 1 (raw L1 ([])) 1 (kinds 0))
-    ∷ W 2 (call.SegmentCreate 1 (raw L1 ([])) 18 17)
-    ∷ W 2 (call.ThreadCreate 1 (raw L1 ([])) 1 (raw L2 ([])) 0)
-    ∷ W 2 (call.SegmentCreate 1 (raw L2 ([])) 1 0) ∷ []
+    ∷ W 2 (container_create 1 (raw L1 ([])) 1 (kinds 0))
+    ∷ W 2 (segment_create 1 (raw L1 ([])) 18 17)
+    ∷ W 2 (thread_create 1 (raw L1 ([])) 1 (raw L2 ([])) 0)
+    ∷ W 2 (segment_create 1 (raw L2 ([])) 1 0) ∷ []
 
 abbrev pub SpentAtBoot : Type 0
 SpentAtBoot =
@@ -929,24 +931,24 @@ SpentAtBoot =
 
 abbrev pub list_window_lines : List Line
 list_window_lines =
-    W 2 (call.SegmentCreate 1 (raw L1 ([])) 1 0)
-    ∷ W 2 (call.SegmentCreate 1 (raw L1 ([])) 1 0)
-    ∷ W 2 (call.SegmentCreate 1 (raw L1 ([])) 1 0)
-    ∷ W 2 (call.SegmentCreate 1 (raw L1 ([])) 1 0)
-    ∷ W 2 (call.SegmentCreate 1 (raw L1 ([])) 1 0)
-    ∷ W 2 (call.SegmentCreate 1 (raw L1 ([])) 1 0)
-    ∷ W 2 (call.SegmentCreate 1 (raw L1 ([])) 1 0)
-    ∷ W 2 (call.SegmentCreate 1 (raw L1 ([])) 1 0)
-    ∷ W 2 (call.SegmentCreate 1 (raw L1 ([])) 1 0)
-    ∷ W 2 (call.SegmentCreate 1 (raw L1 ([])) 1 0)
-    ∷ W 2 (call.SegmentCreate 1 (raw L1 ([])) 1 0)
-    ∷ W 2 (call.SegmentCreate 1 (raw L1 ([])) 1 0)
-    ∷ W 2 (call.SegmentCreate 1 (raw L1 ([])) 1 0)
-    ∷ W 2 (call.SegmentCreate 1 (raw L1 ([])) 1 0)
-    ∷ W 2 (call.SegmentCreate 1 (raw L1 ([])) 1 0)
+    W 2 (segment_create 1 (raw L1 ([])) 1 0)
+    ∷ W 2 (segment_create 1 (raw L1 ([])) 1 0)
+    ∷ W 2 (segment_create 1 (raw L1 ([])) 1 0)
+    ∷ W 2 (segment_create 1 (raw L1 ([])) 1 0)
+    ∷ W 2 (segment_create 1 (raw L1 ([])) 1 0)
+    ∷ W 2 (segment_create 1 (raw L1 ([])) 1 0)
+    ∷ W 2 (segment_create 1 (raw L1 ([])) 1 0)
+    ∷ W 2 (segment_create 1 (raw L1 ([])) 1 0)
+    ∷ W 2 (segment_create 1 (raw L1 ([])) 1 0)
+    ∷ W 2 (segment_create 1 (raw L1 ([])) 1 0)
+    ∷ W 2 (segment_create 1 (raw L1 ([])) 1 0)
+    ∷ W 2 (segment_create 1 (raw L1 ([])) 1 0)
+    ∷ W 2 (segment_create 1 (raw L1 ([])) 1 0)
+    ∷ W 2 (segment_create 1 (raw L1 ([])) 1 0)
+    ∷ W 2 (segment_create 1 (raw L1 ([])) 1 0)
     ∷ W 2 (call.Unref (entry 1 6))
     ∷ R 2 (query.ContainerList 1 0)
-    ∷ W 2 (call.SegmentCreate 1 (raw L1 ([])) 1 0)
+    ∷ W 2 (segment_create 1 (raw L1 ([])) 1 0)
     ∷ R 2 (query.ContainerList 1 0)
     ∷ R 2 (query.ContainerList 1 1)
     ∷ R 2 (query.ContainerList 1 16)
@@ -984,19 +986,19 @@ ListWindow =
 
 abbrev pub link_order_lines : List Line
 link_order_lines =
-    W 2 (call.ContainerCreate 1 (raw L1 ([])) 20 (kinds 0))
-    ∷ W 2 (call.SegmentCreate 1 (raw L1 ([])) 1 0)
+    W 2 (container_create 1 (raw L1 ([])) 20 (kinds 0))
+    ∷ W 2 (segment_create 1 (raw L1 ([])) 1 0)
     ∷ W 2 (call.SetFixed (entry 1 5))
     ∷ W 2 (call.Link 4 (entry 1 5))
     ∷ W 2 (call.Unref (entry 1 5))
-    ∷ W 2 (call.SegmentCreate 1 (raw L1 ([])) 1 0)
+    ∷ W 2 (segment_create 1 (raw L1 ([])) 1 0)
     ∷ W 2 (call.Link 1 (entry 4 5))
     ∷ R 2 (query.ContainerList 1 0)
     ∷ W 2 (call.Unref (entry 4 5))
     ∷ R 2 (query.ContainerList 4 0)
     ∷ W 2 (call.Unref (entry 1 5))
     ∷ R 2 (query.ContainerList 1 0)
-    ∷ W 2 (call.SegmentCreate 1 (raw L1 ([])) 1 0) ∷ []
+    ∷ W 2 (segment_create 1 (raw L1 ([])) 1 0) ∷ []
 
 abbrev pub LinkOrder : Type 0
 LinkOrder =
@@ -1067,14 +1069,14 @@ abbrev pub stored_form_lines : List Line
 stored_form_lines =
     W 2 (call.CatCreate)
     ∷ W 2 (call.CatCreate)
-    ∷ W 2 (call.SegmentCreate 1 (raw L1 (at 2 L2 ∷ at 1 L1 ∷ [])) 1 0)
+    ∷ W 2 (segment_create 1 (raw L1 (at 2 L2 ∷ at 1 L1 ∷ [])) 1 0)
     ∷ R 2 (query.ObjLabel (entry 1 4))
-    ∷ W 2 (call.SegmentCreate 1 (raw L2 (at 2 L3 ∷ at 1 L0 ∷ [])) 1 0)
+    ∷ W 2 (segment_create 1 (raw L2 (at 2 L3 ∷ at 1 L0 ∷ [])) 1 0)
     ∷ R 2 (query.ObjLabel (entry 1 5))
-    ∷ W 2 (call.SegmentCreate 1 (raw L1 (at 2 Star ∷ [])) 1 0)
-    ∷ W 2 (call.ContainerCreate 1 (raw L1 (at 2 Star ∷ [])) 1 (kinds 0))
-    ∷ W 2 (call.AsCreate 1 (raw L1 (at 2 Star ∷ [])) 1)
-    ∷ W 2 (call.SegmentCopy 1 (raw L1 (at 2 Star ∷ [])) 1 (entry 1 4))
+    ∷ W 2 (segment_create 1 (raw L1 (at 2 Star ∷ [])) 1 0)
+    ∷ W 2 (container_create 1 (raw L1 (at 2 Star ∷ [])) 1 (kinds 0))
+    ∷ W 2 (as_create 1 (raw L1 (at 2 Star ∷ [])) 1)
+    ∷ W 2 (segment_copy 1 (raw L1 (at 2 Star ∷ [])) 1 (entry 1 4))
     ∷ R 2 (query.ObjLabel (entry 1 3)) ∷ []
 
 abbrev pub StoredForm : Type 0
@@ -1094,17 +1096,17 @@ StoredForm =
 
 abbrev pub bad_24_pairs_lines : List Line
 bad_24_pairs_lines =
-    W 2 (call.SegmentCreate 1 (raw L1 (at 1 L1 ∷ at 2 L1 ∷ at 3 L1 ∷ at 4 L1 ∷ at 5 L1 ∷ at 6 L1 ∷
-    at 7 L1 ∷ at 8 L1 ∷ at 9 L2 ∷ at 10 L2 ∷ at 11 L2 ∷ at 12 L2 ∷ at 13 L2 ∷ at 14 L2 ∷ at 15 L2 ∷
-    at 16 L2 ∷ at 17 L2 ∷ at 18 L2 ∷ at 19 L2 ∷ at 20 L2 ∷ at 21 L2 ∷ at 22 L2 ∷ at 23 L2 ∷ at 24 L2
-    ∷ [])) 1 0)
-    ∷ W 2 (call.SegmentCreate 1 (raw L1 (at 1 L1 ∷ at 2 L1 ∷ at 3 L1 ∷ at 4 L1 ∷ at 5 L1 ∷ at 6 L1 ∷
-    at 7 L1 ∷ at 8 L2 ∷ at 9 L2 ∷ at 10 L2 ∷ at 11 L2 ∷ at 12 L2 ∷ at 13 L2 ∷ at 14 L2 ∷ at 15 L2 ∷
-    at 16 L2 ∷ at 17 L2 ∷ at 18 L2 ∷ at 19 L2 ∷ at 20 L2 ∷ at 21 L2 ∷ at 22 L2 ∷ at 23 L2 ∷ at 24 L2
-    ∷ [])) 1 0)
-    ∷ W 2 (call.SegmentCreate 1 (raw L1 (at 1 L1 ∷ at 2 L1 ∷ at 1 L1 ∷ [])) 1 0)
-    ∷ W 2 (call.SegmentCreate 1 (raw L1 (at 29 L1 ∷ [])) 1 0)
-    ∷ W 2 (call.SegmentCreate 1 (raw L1 (at 30 L1 ∷ [])) 1 0)
+    W 2 (segment_create 1 (raw L1 (at 1 L1 ∷ at 2 L1 ∷ at 3 L1 ∷ at 4 L1 ∷ at 5 L1 ∷ at 6 L1 ∷ at 7
+    L1 ∷ at 8 L1 ∷ at 9 L2 ∷ at 10 L2 ∷ at 11 L2 ∷ at 12 L2 ∷ at 13 L2 ∷ at 14 L2 ∷ at 15 L2 ∷ at 16
+    L2 ∷ at 17 L2 ∷ at 18 L2 ∷ at 19 L2 ∷ at 20 L2 ∷ at 21 L2 ∷ at 22 L2 ∷ at 23 L2 ∷ at 24 L2 ∷
+    [])) 1 0)
+    ∷ W 2 (segment_create 1 (raw L1 (at 1 L1 ∷ at 2 L1 ∷ at 3 L1 ∷ at 4 L1 ∷ at 5 L1 ∷ at 6 L1 ∷ at
+    7 L1 ∷ at 8 L2 ∷ at 9 L2 ∷ at 10 L2 ∷ at 11 L2 ∷ at 12 L2 ∷ at 13 L2 ∷ at 14 L2 ∷ at 15 L2 ∷ at
+    16 L2 ∷ at 17 L2 ∷ at 18 L2 ∷ at 19 L2 ∷ at 20 L2 ∷ at 21 L2 ∷ at 22 L2 ∷ at 23 L2 ∷ at 24 L2 ∷
+    [])) 1 0)
+    ∷ W 2 (segment_create 1 (raw L1 (at 1 L1 ∷ at 2 L1 ∷ at 1 L1 ∷ [])) 1 0)
+    ∷ W 2 (segment_create 1 (raw L1 (at 29 L1 ∷ [])) 1 0)
+    ∷ W 2 (segment_create 1 (raw L1 (at 30 L1 ∷ [])) 1 0)
     ∷ R 2 (query.ObjLabel (entry 1 5)) ∷ []
 
 abbrev pub Bad24Pairs : Type 0
@@ -1119,21 +1121,21 @@ Bad24Pairs =
 
 abbrev pub copy_lines : List Line
 copy_lines =
-    W 2 (call.SegmentCreate 1 (raw L1 ([])) 2 1)
+    W 2 (segment_create 1 (raw L1 ([])) 2 1)
     ∷ W 2 (call.SegmentWrite (entry 1 4) 3 (10 ∷ 11 ∷ []))
     ∷ W 2 (call.MetaSet (entry 1 4) (255 ∷ []))
     ∷ W 2 (call.SetFixed (entry 1 4))
     ∷ W 2 (call.SetImmutable (entry 1 4))
-    ∷ W 2 (call.SegmentCopy 1 (raw L2 ([])) 4 (entry 1 4))
+    ∷ W 2 (segment_copy 1 (raw L2 ([])) 4 (entry 1 4))
     ∷ W 2 (call.SelfSetLabel (raw L2 ([])))
     ∷ R 2 (query.MetaGet (entry 1 5))
     ∷ R 2 (query.SegmentRead (entry 1 5) 3 2)
     ∷ R 2 (query.ObjQuota (entry 1 5))
     ∷ W 2 (call.SegmentWrite (entry 1 5) 3 (12 ∷ []))
     ∷ R 2 (query.SegmentRead (entry 1 4) 3 2)
-    ∷ W 2 (call.SegmentCopy 1 (raw L2 ([])) 4 (entry 1 4))
-    ∷ W 2 (call.SegmentCopy 1 (raw L2 ([])) 4 (entry 99 4))
-    ∷ W 2 (call.SegmentCopy 1 (raw L2 ([])) 4 (entry 1 3)) ∷ []
+    ∷ W 2 (segment_copy 1 (raw L2 ([])) 4 (entry 1 4))
+    ∷ W 2 (segment_copy 1 (raw L2 ([])) 4 (entry 99 4))
+    ∷ W 2 (segment_copy 1 (raw L2 ([])) 4 (entry 1 3)) ∷ []
 
 abbrev pub Copy : Type 0
 Copy =
@@ -1156,11 +1158,11 @@ Copy =
 
 abbrev pub copy_quota_lines : List Line
 copy_quota_lines =
-    W 2 (call.SegmentCreate 1 (raw L1 ([])) 3 2)
-    ∷ W 2 (call.SegmentCopy 1 (raw L1 ([])) 2 (entry 1 4))
-    ∷ W 2 (call.SegmentCopy 1 (raw L1 ([])) 3 (entry 1 4))
+    W 2 (segment_create 1 (raw L1 ([])) 3 2)
+    ∷ W 2 (segment_copy 1 (raw L1 ([])) 2 (entry 1 4))
+    ∷ W 2 (segment_copy 1 (raw L1 ([])) 3 (entry 1 4))
     ∷ W 2 (call.SegmentResize (entry 1 4) 0)
-    ∷ W 2 (call.SegmentCopy 1 (raw L1 ([])) 1 (entry 1 4)) ∷ []
+    ∷ W 2 (segment_copy 1 (raw L1 ([])) 1 (entry 1 4)) ∷ []
 
 abbrev pub CopyQuota : Type 0
 CopyQuota =
@@ -1233,9 +1235,9 @@ DeviceLabel0 =
 abbrev pub translate_labels_lines : List Line
 translate_labels_lines =
     W 2 (call.CatCreate)
-    ∷ W 2 (call.SegmentCreate 1 (raw L1 (at 1 L3 ∷ [])) 2 1)
-    ∷ W 2 (call.AsCreate 1 (raw L1 ([])) 1)
-    ∷ W 2 (call.ThreadCreate 1 (raw L1 ([])) 1 (raw L2 ([])) 0)
+    ∷ W 2 (segment_create 1 (raw L1 (at 1 L3 ∷ [])) 2 1)
+    ∷ W 2 (as_create 1 (raw L1 ([])) 1)
+    ∷ W 2 (thread_create 1 (raw L1 ([])) 1 (raw L2 ([])) 0)
     ∷ W 6 (call.AsMap (entry 1 5) 0 (mapping 0 (entry 1 4) 0 1 3))
     ∷ W 6 (call.SelfSetAs (entry 1 5))
     ∷ R 6 (query.Load 0 1)
@@ -1243,15 +1245,15 @@ translate_labels_lines =
     ∷ W 2 (call.SelfSetAs (entry 1 5))
     ∷ W 2 (call.Store 0 (5 ∷ []))
     ∷ R 2 (query.Load 0 1)
-    ∷ W 2 (call.AsCreate 1 (raw L1 (at 1 L3 ∷ [])) 1)
+    ∷ W 2 (as_create 1 (raw L1 (at 1 L3 ∷ [])) 1)
     ∷ W 6 (call.SelfSetAs (entry 1 7))
     ∷ R 6 (query.Load 0 1)
     ∷ R 6 (query.SelfGet)
-    ∷ W 2 (call.ContainerCreate 1 (raw L1 (at 1 L2 ∷ [])) 5 (kinds 0))
-    ∷ W 2 (call.AsCreate 8 (raw L1 ([])) 1)
+    ∷ W 2 (container_create 1 (raw L1 (at 1 L2 ∷ [])) 5 (kinds 0))
+    ∷ W 2 (as_create 8 (raw L1 ([])) 1)
     ∷ W 6 (call.SelfSetAs (entry 8 9))
     ∷ W 2 (call.AsMap (entry 1 5) 1 (mapping 1 (entry 8 8) 0 1 1))
-    ∷ W 2 (call.SegmentCreate 8 (raw L1 ([])) 2 1)
+    ∷ W 2 (segment_create 8 (raw L1 ([])) 2 1)
     ∷ W 2 (call.AsMap (entry 1 5) 1 (mapping 1 (entry 8 10) 0 1 3))
     ∷ W 2 (call.Store 256 (1 ∷ []))
     ∷ W 2 (call.SelfSetLabel (raw L1 (at 1 L1 ∷ [])))
@@ -1289,8 +1291,8 @@ TranslateLabels =
 
 abbrev pub past_end_lines : List Line
 past_end_lines =
-    W 2 (call.SegmentCreate 1 (raw L1 ([])) 4 3)
-    ∷ W 2 (call.AsCreate 1 (raw L1 ([])) 1)
+    W 2 (segment_create 1 (raw L1 ([])) 4 3)
+    ∷ W 2 (as_create 1 (raw L1 ([])) 1)
     ∷ W 2 (call.AsMap (entry 1 5) 0 (mapping 7 (entry 1 4) 1 3 3))
     ∷ W 2 (call.SelfSetAs (entry 1 5))
     ∷ W 2 (call.SegmentWrite (entry 1 4) 256 (17 ∷ []))
@@ -1327,12 +1329,12 @@ PastEnd =
 abbrev pub unref_order_lines : List Line
 unref_order_lines =
     W 2 (call.CatCreate)
-    ∷ W 2 (call.ThreadCreate 1 (raw L2 ([])) 1 (raw L2 ([])) 0)
+    ∷ W 2 (thread_create 1 (raw L2 ([])) 1 (raw L2 ([])) 0)
     ∷ W 4 (call.Unref (entry 1 1))
     ∷ W 4 (call.Unref (entry 1 50))
     ∷ W 4 (call.Unref (entry 1 3))
     ∷ W 4 (call.Unref (entry 50 1))
-    ∷ W 2 (call.ContainerCreate 1 (raw L1 (at 1 L3 ∷ [])) 5 (kinds 0))
+    ∷ W 2 (container_create 1 (raw L1 (at 1 L3 ∷ [])) 5 (kinds 0))
     ∷ W 4 (call.Unref (entry 5 5))
     ∷ W 2 (call.Unref (entry 5 5))
     ∷ W 2 (call.Unref (entry 5 1)) ∷ []

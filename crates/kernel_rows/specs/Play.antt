@@ -10,6 +10,7 @@ use Rattle.label_lattice.specs.declared.raw_labels.RawLabel.{RawLabel}
 use Rattle.kernel_rules.specs.State.{State}
 use Rattle.kernel_rules.specs.Step.{answer, next, query_answer}
 use Rattle.kernel_rules.specs.declared.calls.Call.{Call}
+use Rattle.kernel_rules.specs.declared.calls.Call.TheVariants as call
 use Rattle.kernel_rules.specs.declared.calls.Entry.{Entry}
 use Rattle.kernel_rules.specs.declared.calls.Query.{Query}
 use Rattle.kernel_rules.specs.declared.objects.Mapping.{Mapping}
@@ -65,3 +66,38 @@ mapping page e first count bits = record {
   count = count;
   rights = record { 0 = bits };
 }
+
+abbrev pub container_create : ℕ → RawLabel → ℕ → TypeSet → Call
+container_create d x q avoid =
+    call.ContainerCreate (record { container = d; label = x; quota = q; avoid = avoid })
+
+abbrev pub segment_create : ℕ → RawLabel → ℕ → ℕ → Call
+segment_create d x q pages =
+    call.SegmentCreate (record { container = d; label = x; quota = q; pages = pages })
+
+abbrev pub segment_copy : ℕ → RawLabel → ℕ → Entry → Call
+segment_copy d x q source =
+    call.SegmentCopy (record { container = d; label = x; quota = q; source = source })
+
+abbrev pub as_create : ℕ → RawLabel → ℕ → Call
+as_create d x q = call.AsCreate (record { container = d; label = x; quota = q })
+
+abbrev pub thread_create : ℕ → RawLabel → ℕ → RawLabel → ℕ → Call
+thread_create d x q y entry_point = call.ThreadCreate (record {
+  container = d;
+  label = x;
+  quota = q;
+  clearance = y;
+  entry_point = entry_point;
+})
+
+abbrev pub gate_create : ℕ → RawLabel → ℕ → RawLabel → Entry → ℕ → ℕ → Call
+gate_create d x q y e entry_point closure = call.GateCreate (record {
+  container = d;
+  label = x;
+  quota = q;
+  clearance = y;
+  space = e;
+  entry_point = entry_point;
+  closure = closure;
+})

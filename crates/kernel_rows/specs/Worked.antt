@@ -12,6 +12,8 @@ use Rattle.base.specs.declared.refusals.Refusal.TheVariants.{DeviceEmpty, Spent}
 use Rattle.kernel_rules.specs.Runs.{booted}
 use Rattle.kernel_rows.specs.Play.{Line, W, R, play, limits, raw, label, at, entry, mapping, kinds}
 use Rattle.kernel_rows.specs.Play.{category}
+use Rattle.kernel_rows.specs.Play.{as_create, container_create, gate_create, segment_copy}
+use Rattle.kernel_rows.specs.Play.{segment_create, thread_create}
 use Rattle.kernel_rules.specs.declared.calls.Call.TheVariants as call
 use Rattle.kernel_rules.specs.declared.calls.Query.TheVariants as query
 use Rattle.kernel_rules.specs.declared.replies.Reply.TheVariants as reply
@@ -19,13 +21,13 @@ use Rattle.kernel_rules.specs.declared.replies.Reply.TheVariants as reply
 abbrev pub secret_segment_lines : List Line
 secret_segment_lines =
     W 2 (call.CatCreate)
-    ∷ W 2 (call.SegmentCreate 1 (raw L1 (at 1 L3 ∷ [])) 2 1)
+    ∷ W 2 (segment_create 1 (raw L1 (at 1 L3 ∷ [])) 2 1)
     ∷ W 2 (call.SegmentWrite (entry 1 4) 0 (0 ∷ 1 ∷ 2 ∷ 3 ∷ 4 ∷ 5 ∷ 6 ∷ 7 ∷ 8 ∷ 9 ∷ 10 ∷ 11 ∷ 12 ∷
     13 ∷ 14 ∷ 15 ∷ 16 ∷ 17 ∷ 18 ∷ 19 ∷ 20 ∷ 21 ∷ 22 ∷ 23 ∷ 24 ∷ 25 ∷ 26 ∷ 27 ∷ 28 ∷ 29 ∷ 30 ∷ 31 ∷
     32 ∷ 33 ∷ 34 ∷ 35 ∷ 36 ∷ 37 ∷ 38 ∷ 39 ∷ 40 ∷ 41 ∷ 42 ∷ 43 ∷ 44 ∷ 45 ∷ 46 ∷ 47 ∷ 48 ∷ 49 ∷ 50 ∷
     51 ∷ 52 ∷ 53 ∷ 54 ∷ 55 ∷ 56 ∷ 57 ∷ 58 ∷ 59 ∷ 60 ∷ 61 ∷ 62 ∷ 63 ∷ []))
     ∷ R 2 (query.SegmentRead (entry 1 4) 0 64)
-    ∷ W 2 (call.ThreadCreate 1 (raw L1 ([])) 1 (raw L2 ([])) 0)
+    ∷ W 2 (thread_create 1 (raw L1 ([])) 1 (raw L2 ([])) 0)
     ∷ R 5 (query.SegmentRead (entry 1 4) 0 4)
     ∷ W 5 (call.SelfSetLabel (raw L1 (at 1 L3 ∷ []))) ∷ []
 
@@ -48,7 +50,7 @@ clearances_lines =
     W 2 (call.CatCreate)
     ∷ W 2 (call.SelfSetClearance (raw L2 ([])))
     ∷ W 2 (call.SelfSetClearance (raw L2 (at 1 L3 ∷ [])))
-    ∷ W 2 (call.ThreadCreate 1 (raw L1 ([])) 1 (raw L2 ([])) 0)
+    ∷ W 2 (thread_create 1 (raw L1 ([])) 1 (raw L2 ([])) 0)
     ∷ W 4 (call.SelfSetClearance (raw L2 (at 1 L3 ∷ []))) ∷ []
 
 abbrev pub Clearances : Type 0
@@ -63,9 +65,9 @@ Clearances =
 abbrev pub observed_and_not_modified_lines : List Line
 observed_and_not_modified_lines =
     W 2 (call.CatCreate)
-    ∷ W 2 (call.SegmentCreate 1 (raw L1 (at 1 L0 ∷ [])) 2 1)
+    ∷ W 2 (segment_create 1 (raw L1 (at 1 L0 ∷ [])) 2 1)
     ∷ R 2 (query.SegmentRead (entry 1 4) 250 7)
-    ∷ W 2 (call.ThreadCreate 1 (raw L1 ([])) 1 (raw L2 ([])) 0)
+    ∷ W 2 (thread_create 1 (raw L1 ([])) 1 (raw L2 ([])) 0)
     ∷ R 5 (query.SegmentRead (entry 1 4) 0 1)
     ∷ W 5 (call.SegmentWrite (entry 1 4) 0 (255 ∷ [])) ∷ []
 
@@ -82,10 +84,10 @@ ObservedAndNotModified =
 abbrev pub gates_lines : List Line
 gates_lines =
     W 2 (call.CatCreate)
-    ∷ W 2 (call.GateCreate 1 (raw L1 (at 1 Star ∷ [])) 1 (raw L2 ([])) (entry 0 0) 7 9)
-    ∷ W 2 (call.GateCreate 1 (raw L1 (at 1 Star ∷ [])) 1 (raw L2 (at 1 L3 ∷ [])) (entry 0 0) 7 9)
-    ∷ W 2 (call.ThreadCreate 1 (raw L1 ([])) 1 (raw L2 ([])) 0)
-    ∷ W 2 (call.ThreadCreate 1 (raw L1 (at 1 L3 ∷ [])) 1 (raw L2 (at 1 L3 ∷ [])) 0)
+    ∷ W 2 (gate_create 1 (raw L1 (at 1 Star ∷ [])) 1 (raw L2 ([])) (entry 0 0) 7 9)
+    ∷ W 2 (gate_create 1 (raw L1 (at 1 Star ∷ [])) 1 (raw L2 (at 1 L3 ∷ [])) (entry 0 0) 7 9)
+    ∷ W 2 (thread_create 1 (raw L1 ([])) 1 (raw L2 ([])) 0)
+    ∷ W 2 (thread_create 1 (raw L1 (at 1 L3 ∷ [])) 1 (raw L2 (at 1 L3 ∷ [])) 0)
     ∷ W 6 (call.GateEnter (entry 1 4) (raw L1 (at 1 Star ∷ [])) (raw L2 (at 1 L3 ∷ [])) (raw L3
     ([])))
     ∷ W 6 (call.GateEnter (entry 1 4) (raw L1 (at 1 Star ∷ [])) (raw L2 ([])) (raw L3 ([])))
@@ -115,10 +117,10 @@ Gates =
 
 abbrev pub quotas_and_links_lines : List Line
 quotas_and_links_lines =
-    W 2 (call.ContainerCreate 1 (raw L1 ([])) 10 (kinds 0))
-    ∷ W 2 (call.ContainerCreate 4 (raw L1 ([])) 8 (kinds 0))
-    ∷ W 2 (call.ContainerCreate 5 (raw L1 ([])) 6 (kinds 0))
-    ∷ W 2 (call.SegmentCreate 6 (raw L1 ([])) 2 1)
+    W 2 (container_create 1 (raw L1 ([])) 10 (kinds 0))
+    ∷ W 2 (container_create 4 (raw L1 ([])) 8 (kinds 0))
+    ∷ W 2 (container_create 5 (raw L1 ([])) 6 (kinds 0))
+    ∷ W 2 (segment_create 6 (raw L1 ([])) 2 1)
     ∷ W 2 (call.SegmentWrite (entry 6 7) 0 (97 ∷ 98 ∷ []))
     ∷ W 2 (call.SetFixed (entry 6 7))
     ∷ W 2 (call.Link 1 (entry 6 7))
@@ -146,14 +148,14 @@ QuotasAndLinks =
 
 abbrev pub mappings_by_entry_lines : List Line
 mappings_by_entry_lines =
-    W 2 (call.ContainerCreate 1 (raw L1 ([])) 10 (kinds 0))
-    ∷ W 2 (call.ContainerCreate 4 (raw L1 ([])) 8 (kinds 0))
-    ∷ W 2 (call.ContainerCreate 5 (raw L1 ([])) 6 (kinds 0))
-    ∷ W 2 (call.SegmentCreate 6 (raw L1 ([])) 2 1)
+    W 2 (container_create 1 (raw L1 ([])) 10 (kinds 0))
+    ∷ W 2 (container_create 4 (raw L1 ([])) 8 (kinds 0))
+    ∷ W 2 (container_create 5 (raw L1 ([])) 6 (kinds 0))
+    ∷ W 2 (segment_create 6 (raw L1 ([])) 2 1)
     ∷ W 2 (call.SegmentWrite (entry 6 7) 0 (97 ∷ 98 ∷ []))
     ∷ W 2 (call.SetFixed (entry 6 7))
     ∷ W 2 (call.Link 1 (entry 6 7))
-    ∷ W 2 (call.AsCreate 1 (raw L1 ([])) 1)
+    ∷ W 2 (as_create 1 (raw L1 ([])) 1)
     ∷ W 2 (call.AsMap (entry 1 8) 0 (mapping 0 (entry 6 7) 0 1 3))
     ∷ W 2 (call.AsMap (entry 1 8) 1 (mapping 4 (entry 1 7) 0 1 3))
     ∷ W 2 (call.SelfSetAs (entry 1 8))
@@ -185,8 +187,8 @@ MappingsByEntry =
 
 abbrev pub second_links_lines : List Line
 second_links_lines =
-    W 2 (call.ContainerCreate 1 (raw L1 ([])) 10 (kinds 0))
-    ∷ W 2 (call.SegmentCreate 1 (raw L1 ([])) 2 1)
+    W 2 (container_create 1 (raw L1 ([])) 10 (kinds 0))
+    ∷ W 2 (segment_create 1 (raw L1 ([])) 2 1)
     ∷ W 2 (call.Link 4 (entry 1 5))
     ∷ W 2 (call.SetFixed (entry 1 5))
     ∷ W 2 (call.Link 4 (entry 1 5))
@@ -206,8 +208,8 @@ SecondLinks =
 
 abbrev pub quotas_moved_lines : List Line
 quotas_moved_lines =
-    W 2 (call.SegmentCreate 1 (raw L1 ([])) 4 3)
-    ∷ W 2 (call.SegmentCreate 1 (raw L1 ([])) 1 0)
+    W 2 (segment_create 1 (raw L1 ([])) 4 3)
+    ∷ W 2 (segment_create 1 (raw L1 ([])) 1 0)
     ∷ W 2 (call.SegmentResize (entry 1 4) 4)
     ∷ W 2 (call.QuotaMove (entry 1 4) (negsuc 0))
     ∷ W 2 (call.SegmentResize (entry 1 4) 2)
@@ -228,8 +230,8 @@ QuotasMoved =
 abbrev pub a_thread_that_dies_lines : List Line
 a_thread_that_dies_lines =
     W 2 (call.Unref (entry 1 1))
-    ∷ W 2 (call.ContainerCreate 1 (raw L1 ([])) 4 (kinds 0))
-    ∷ W 2 (call.ThreadCreate 4 (raw L1 ([])) 1 (raw L2 ([])) 0)
+    ∷ W 2 (container_create 1 (raw L1 ([])) 4 (kinds 0))
+    ∷ W 2 (thread_create 4 (raw L1 ([])) 1 (raw L2 ([])) 0)
     ∷ W 5 (call.Unref (entry 1 4))
     ∷ R 5 (query.SelfGet) ∷ []
 
@@ -244,8 +246,8 @@ AThreadThatDies =
 
 abbrev pub read_only_for_good_lines : List Line
 read_only_for_good_lines =
-    W 2 (call.SegmentCreate 1 (raw L1 ([])) 2 1)
-    ∷ W 2 (call.AsCreate 1 (raw L1 ([])) 1)
+    W 2 (segment_create 1 (raw L1 ([])) 2 1)
+    ∷ W 2 (as_create 1 (raw L1 ([])) 1)
     ∷ W 2 (call.AsMap (entry 1 5) 0 (mapping 0 (entry 1 4) 0 1 3))
     ∷ W 2 (call.SelfSetAs (entry 1 5))
     ∷ W 2 (call.Store 0 (190 ∷ 239 ∷ []))
@@ -271,11 +273,11 @@ ReadOnlyForGood =
 
 abbrev pub a_mapping_that_returns_lines : List Line
 a_mapping_that_returns_lines =
-    W 2 (call.ContainerCreate 1 (raw L1 ([])) 4 (kinds 0))
-    ∷ W 2 (call.SegmentCreate 1 (raw L1 ([])) 2 1)
+    W 2 (container_create 1 (raw L1 ([])) 4 (kinds 0))
+    ∷ W 2 (segment_create 1 (raw L1 ([])) 2 1)
     ∷ W 2 (call.SetFixed (entry 1 5))
     ∷ W 2 (call.Link 4 (entry 1 5))
-    ∷ W 2 (call.AsCreate 1 (raw L1 ([])) 1)
+    ∷ W 2 (as_create 1 (raw L1 ([])) 1)
     ∷ W 2 (call.AsMap (entry 1 6) 15 (mapping 65535 (entry 1 5) 0 1 1))
     ∷ W 2 (call.SelfSetAs (entry 1 6))
     ∷ W 2 (call.Unref (entry 1 5))
@@ -302,10 +304,10 @@ AMappingThatReturns =
 
 abbrev pub avoided_kinds_lines : List Line
 avoided_kinds_lines =
-    W 2 (call.ContainerCreate 1 (raw L1 ([])) 9 (kinds 2))
-    ∷ W 2 (call.ContainerCreate 4 (raw L1 ([])) 4 (kinds 0))
-    ∷ W 2 (call.SegmentCreate 5 (raw L1 ([])) 1 0)
-    ∷ W 2 (call.AsCreate 5 (raw L1 ([])) 1) ∷ []
+    W 2 (container_create 1 (raw L1 ([])) 9 (kinds 2))
+    ∷ W 2 (container_create 4 (raw L1 ([])) 4 (kinds 0))
+    ∷ W 2 (segment_create 5 (raw L1 ([])) 1 0)
+    ∷ W 2 (as_create 5 (raw L1 ([])) 1) ∷ []
 
 abbrev pub AvoidedKinds : Type 0
 AvoidedKinds =
@@ -318,13 +320,13 @@ AvoidedKinds =
 abbrev pub all_pages_used_lines : List Line
 all_pages_used_lines =
     W 2 (call.Unref (entry 1 3))
-    ∷ W 2 (call.SegmentCreate 1 (raw L1 ([])) 1 0)
-    ∷ W 2 (call.SegmentCreate 1 (raw L1 ([])) 1 0)
-    ∷ W 2 (call.SegmentCreate 1 (raw L1 ([])) 1 0)
-    ∷ W 2 (call.SegmentCreate 1 (raw L1 ([])) 1 0)
-    ∷ W 2 (call.SegmentCreate 1 (raw L1 ([])) 1 0)
-    ∷ W 2 (call.SegmentCreate 1 (raw L1 ([])) 1 0)
-    ∷ W 2 (call.SegmentCreate 1 (raw L1 ([])) 1 0)
+    ∷ W 2 (segment_create 1 (raw L1 ([])) 1 0)
+    ∷ W 2 (segment_create 1 (raw L1 ([])) 1 0)
+    ∷ W 2 (segment_create 1 (raw L1 ([])) 1 0)
+    ∷ W 2 (segment_create 1 (raw L1 ([])) 1 0)
+    ∷ W 2 (segment_create 1 (raw L1 ([])) 1 0)
+    ∷ W 2 (segment_create 1 (raw L1 ([])) 1 0)
+    ∷ W 2 (segment_create 1 (raw L1 ([])) 1 0)
     ∷ R 2 (query.ContainerList 1 0) ∷ []
 
 abbrev pub AllPagesUsed : Type 0
@@ -342,12 +344,12 @@ AllPagesUsed =
 
 abbrev pub sixteen_exceptions_lines : List Line
 sixteen_exceptions_lines =
-    W 2 (call.SegmentCreate 1 (raw L1 (at 1 L2 ∷ at 2 L2 ∷ at 3 L2 ∷ at 4 L2 ∷ at 5 L2 ∷ at 6 L2 ∷
-    at 7 L2 ∷ at 8 L2 ∷ at 9 L2 ∷ at 10 L2 ∷ at 11 L2 ∷ at 12 L2 ∷ at 13 L2 ∷ at 14 L2 ∷ at 15 L2 ∷
-    at 16 L2 ∷ [])) 1 0)
-    ∷ W 2 (call.SegmentCreate 1 (raw L1 (at 1 L2 ∷ at 2 L2 ∷ at 3 L2 ∷ at 4 L2 ∷ at 5 L2 ∷ at 6 L2 ∷
-    at 7 L2 ∷ at 8 L2 ∷ at 9 L2 ∷ at 10 L2 ∷ at 11 L2 ∷ at 12 L2 ∷ at 13 L2 ∷ at 14 L2 ∷ at 15 L2 ∷
-    at 16 L2 ∷ at 17 L2 ∷ [])) 1 0) ∷ []
+    W 2 (segment_create 1 (raw L1 (at 1 L2 ∷ at 2 L2 ∷ at 3 L2 ∷ at 4 L2 ∷ at 5 L2 ∷ at 6 L2 ∷ at 7
+    L2 ∷ at 8 L2 ∷ at 9 L2 ∷ at 10 L2 ∷ at 11 L2 ∷ at 12 L2 ∷ at 13 L2 ∷ at 14 L2 ∷ at 15 L2 ∷ at 16
+    L2 ∷ [])) 1 0)
+    ∷ W 2 (segment_create 1 (raw L1 (at 1 L2 ∷ at 2 L2 ∷ at 3 L2 ∷ at 4 L2 ∷ at 5 L2 ∷ at 6 L2 ∷ at
+    7 L2 ∷ at 8 L2 ∷ at 9 L2 ∷ at 10 L2 ∷ at 11 L2 ∷ at 12 L2 ∷ at 13 L2 ∷ at 14 L2 ∷ at 15 L2 ∷ at
+    16 L2 ∷ at 17 L2 ∷ [])) 1 0) ∷ []
 
 abbrev pub SixteenExceptions : Type 0
 SixteenExceptions =
@@ -398,8 +400,8 @@ SixteenCategories =
 
 abbrev pub the_last_id_lines : List Line
 the_last_id_lines =
-    W 2 (call.SegmentCreate 1 (raw L1 ([])) 1 0)
-    ∷ W 2 (call.SegmentCreate 1 (raw L1 ([])) 1 0) ∷ []
+    W 2 (segment_create 1 (raw L1 ([])) 1 0)
+    ∷ W 2 (segment_create 1 (raw L1 ([])) 1 0) ∷ []
 
 abbrev pub TheLastId : Type 0
 TheLastId =
@@ -437,8 +439,8 @@ FourPackets =
 abbrev pub first_path_lines : List Line
 first_path_lines =
     W 2 (call.CatCreate)
-    ∷ W 2 (call.ContainerCreate 1 (raw L1 ([])) 8 (kinds 0))
-    ∷ W 2 (call.SegmentCreate 4 (raw L1 (at 1 L3 ∷ [])) 2 1)
+    ∷ W 2 (container_create 1 (raw L1 ([])) 8 (kinds 0))
+    ∷ W 2 (segment_create 4 (raw L1 (at 1 L3 ∷ [])) 2 1)
     ∷ W 2 (call.SegmentWrite (entry 4 5) 62 (104 ∷ 105 ∷ []))
     ∷ R 2 (query.SegmentRead (entry 4 5) 62 2)
     ∷ R 2 (query.SegmentRead (entry 4 5) 255 2) ∷ []
@@ -455,12 +457,12 @@ FirstPath =
 
 abbrev pub cut_bytes_are_gone_lines : List Line
 cut_bytes_are_gone_lines =
-    W 2 (call.SegmentCreate 1 (raw L1 ([])) 3 2)
+    W 2 (segment_create 1 (raw L1 ([])) 3 2)
     ∷ W 2 (call.SegmentWrite (entry 1 4) 256 (255 ∷ []))
     ∷ W 2 (call.SegmentResize (entry 1 4) 1)
     ∷ W 2 (call.SegmentResize (entry 1 4) 2)
     ∷ R 2 (query.SegmentRead (entry 1 4) 256 1)
-    ∷ W 2 (call.SegmentCopy 1 (raw L1 ([])) 3 (entry 1 4))
+    ∷ W 2 (segment_copy 1 (raw L1 ([])) 3 (entry 1 4))
     ∷ R 2 (query.SegmentLen (entry 1 5)) ∷ []
 
 abbrev pub CutBytesAreGone : Type 0
@@ -497,9 +499,9 @@ Metadata =
 
 abbrev pub a_space_that_dies_lines : List Line
 a_space_that_dies_lines =
-    W 2 (call.ContainerCreate 1 (raw L1 ([])) 4 (kinds 0))
-    ∷ W 2 (call.AsCreate 4 (raw L1 ([])) 1)
-    ∷ W 2 (call.SegmentCreate 1 (raw L1 ([])) 2 1)
+    W 2 (container_create 1 (raw L1 ([])) 4 (kinds 0))
+    ∷ W 2 (as_create 4 (raw L1 ([])) 1)
+    ∷ W 2 (segment_create 1 (raw L1 ([])) 2 1)
     ∷ W 2 (call.AsMap (entry 4 5) 0 (mapping 0 (entry 1 6) 0 1 3))
     ∷ W 2 (call.SelfSetAs (entry 4 5))
     ∷ W 2 (call.Store 0 (7 ∷ []))
@@ -523,10 +525,10 @@ ASpaceThatDies =
 abbrev pub a_raised_label_lines : List Line
 a_raised_label_lines =
     W 2 (call.CatCreate)
-    ∷ W 2 (call.SegmentCreate 1 (raw L1 ([])) 2 1)
-    ∷ W 2 (call.AsCreate 1 (raw L1 ([])) 1)
+    ∷ W 2 (segment_create 1 (raw L1 ([])) 2 1)
+    ∷ W 2 (as_create 1 (raw L1 ([])) 1)
     ∷ W 2 (call.AsMap (entry 1 5) 0 (mapping 0 (entry 1 4) 0 1 3))
-    ∷ W 2 (call.ThreadCreate 1 (raw L1 ([])) 1 (raw L2 (at 1 L3 ∷ [])) 0)
+    ∷ W 2 (thread_create 1 (raw L1 ([])) 1 (raw L2 (at 1 L3 ∷ [])) 0)
     ∷ W 6 (call.SelfSetAs (entry 1 5))
     ∷ W 6 (call.Store 0 (1 ∷ []))
     ∷ W 6 (call.SelfSetLabel (raw L1 (at 1 L2 ∷ [])))

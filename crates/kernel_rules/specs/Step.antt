@@ -93,18 +93,22 @@ edit s t call.CatCreate = owned s t (own_label s t) (own_clearance s t)
 edit s t (call.SelfSetLabel x) = with_value s (stored x) (λ l. changed s t (labelled l))
 edit s t (call.SelfSetClearance y) = with_value s (stored y) (λ c. changed s t (cleared c))
 edit s t (call.SelfSetAs e) = changed s t (spaced e)
-edit s t (call.ContainerCreate d x q avoid) =
-    made_of s d (stored x) q (is.Container (joined_at s avoid d) [])
-edit s t (call.SegmentCreate d x q pages) =
-    made_of s d (stored x) q (is.Segment (replicate (256 * pages) 0))
-edit s t (call.SegmentCopy d x q e) =
-    made_of s d (stored x) q (is.Segment (bytes_at s e.object))
-edit s t (call.AsCreate d x q) =
-    made_of s d (stored x) q (is.AddressSpace (record { slots = replicate 16 None }))
-edit s t (call.ThreadCreate d x q y entry_point) =
-    made_bearer s d (stored x) q (stored y) (λ c. new_thread c entry_point)
-edit s t (call.GateCreate d x q y e entry_point closure) =
-    made_bearer s d (stored x) q (stored y) (λ c. new_gate c e entry_point closure)
+edit s t (call.ContainerCreate n) =
+    made_of s n.container (stored n.label) n.quota
+    (is.Container (joined_at s n.avoid n.container) [])
+edit s t (call.SegmentCreate n) =
+    made_of s n.container (stored n.label) n.quota (is.Segment (replicate (256 * n.pages) 0))
+edit s t (call.SegmentCopy n) =
+    made_of s n.container (stored n.label) n.quota (is.Segment (bytes_at s n.source.object))
+edit s t (call.AsCreate n) =
+    made_of s n.container (stored n.label) n.quota
+    (is.AddressSpace (record { slots = replicate 16 None }))
+edit s t (call.ThreadCreate n) =
+    made_bearer s n.container (stored n.label) n.quota (stored n.clearance)
+    (λ c. new_thread c n.entry_point)
+edit s t (call.GateCreate n) =
+    made_bearer s n.container (stored n.label) n.quota (stored n.clearance)
+    (λ c. new_gate c n.space n.entry_point n.closure)
 edit s t (call.Link d e) = changed s d (listing e.object)
 edit s t (call.Unref e) = changed s e.container (delisting e.object)
 edit s t (call.QuotaMove e n) = changed s e.object (requoted (pages_up n) (pages_down n))
@@ -142,12 +146,12 @@ accepted s t call.CatCreate = reply.Category (record { 0 = s.next_category })
 accepted s t (call.SelfSetLabel x) = reply.Done
 accepted s t (call.SelfSetClearance y) = reply.Done
 accepted s t (call.SelfSetAs e) = reply.Done
-accepted s t (call.ContainerCreate d x q avoid) = reply.Object s.next_id
-accepted s t (call.SegmentCreate d x q pages) = reply.Object s.next_id
-accepted s t (call.SegmentCopy d x q e) = reply.Object s.next_id
-accepted s t (call.AsCreate d x q) = reply.Object s.next_id
-accepted s t (call.ThreadCreate d x q y entry_point) = reply.Object s.next_id
-accepted s t (call.GateCreate d x q y e entry_point closure) = reply.Object s.next_id
+accepted s t (call.ContainerCreate n) = reply.Object s.next_id
+accepted s t (call.SegmentCreate n) = reply.Object s.next_id
+accepted s t (call.SegmentCopy n) = reply.Object s.next_id
+accepted s t (call.AsCreate n) = reply.Object s.next_id
+accepted s t (call.ThreadCreate n) = reply.Object s.next_id
+accepted s t (call.GateCreate n) = reply.Object s.next_id
 accepted s t (call.Link d e) = reply.Done
 accepted s t (call.Unref e) = reply.Done
 accepted s t (call.QuotaMove e n) = reply.Done

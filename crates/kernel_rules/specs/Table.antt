@@ -79,16 +79,21 @@ module _ (s : State) (t : ℕ) where
       good_label s t y
       ++ (ClearanceRange, not (may_clear (label_at s t) (clearance_at s t) (stored y))) ∷ []
   row (call.SelfSetAs e) = space_entry s t e
-  row (call.ContainerCreate d x q avoid) = new_object s t kinds.Container d x q 1
-  row (call.SegmentCreate d x q pages) =
-      new_object s t kinds.Segment d x q (1 + pages) ++ (Bounds, nat_lt 16 pages) ∷ []
-  row (call.SegmentCopy d x q e) =
-      in_container s t e ++ of_kind s t kinds.Segment e.object ++ observed s t e.object
-      ++ new_object s t kinds.Segment d x q (1 + page_count s e.object)
-  row (call.AsCreate d x q) = new_object s t kinds.AddressSpace d x q 1
-  row (call.ThreadCreate d x q y entry_point) = new_bearer s t kinds.Thread d x q y
-  row (call.GateCreate d x q y e entry_point closure) =
-      space_entry s t e ++ new_bearer s t kinds.Gate d x q y
+  row (call.ContainerCreate n) = new_object s t kinds.Container n.container n.label n.quota 1
+  row (call.SegmentCreate n) =
+      new_object s t kinds.Segment n.container n.label n.quota (1 + n.pages)
+      ++ (Bounds, nat_lt 16 n.pages) ∷ []
+  row (call.SegmentCopy n) =
+      in_container s t n.source ++ of_kind s t kinds.Segment n.source.object
+      ++ observed s t n.source.object
+      ++ new_object s t kinds.Segment n.container n.label n.quota
+      (1 + page_count s n.source.object)
+  row (call.AsCreate n) = new_object s t kinds.AddressSpace n.container n.label n.quota 1
+  row (call.ThreadCreate n) =
+      new_bearer s t kinds.Thread n.container n.label n.quota n.clearance
+  row (call.GateCreate n) =
+      space_entry s t n.space
+      ++ new_bearer s t kinds.Gate n.container n.label n.quota n.clearance
   row (call.Link d e) =
       at_container s t d ++ in_container s t e ++ not_of_kind s t kinds.Container e.object
       ++ modified s t d

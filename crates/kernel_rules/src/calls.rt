@@ -1,6 +1,7 @@
 //! What a thread asks of a machine.
+use crate::creations::{NewAddressSpace, NewContainer, NewCopy, NewGate, NewSegment, NewThread};
 use crate::objects::Mapping;
-use base::{Data, ObjectId, TypeSet};
+use base::{Data, ObjectId};
 use label_lattice::RawLabel;
 
 /// How a call names an object: by a container, and an object in its list or the container itself
@@ -43,83 +44,23 @@ pub enum Call {
     /// A new container without entries, last in the list of a container (HiStar, OSDI 2006). It is
     /// refused by `NoAccess`, `CannotObserve`, `CannotModify`, `BadLabel`, `LabelRange`,
     /// `AvoidType`, `NoQuota`, `Immutable` and `Spent`.
-    ContainerCreate {
-        /// Where it is listed.
-        container: ObjectId,
-        /// Its label, which has no star.
-        label: RawLabel,
-        /// What it may use, in pages of 256 bytes: at least 1.
-        quota: u32,
-        /// The kinds that it won't hold, beside those that `container` avoids.
-        avoid: TypeSet,
-    },
+    ContainerCreate(NewContainer),
     /// A new segment of zero bytes, last in the list of a container (HiStar, OSDI 2006). It is
     /// refused by what refuses a new container, and by `Bounds`.
-    SegmentCreate {
-        /// Where it is listed.
-        container: ObjectId,
-        /// Its label, which has no star.
-        label: RawLabel,
-        /// What it may use, in pages of 256 bytes: at least one more than its length.
-        quota: u32,
-        /// Its length in pages of 256 bytes: 0 to 16.
-        pages: u32,
-    },
+    SegmentCreate(NewSegment),
     /// A new segment with the bytes of another, last in the list of a container (HiStar, OSDI
     /// 2006). It is refused by what refuses a new container, and by `NoEntry` and `WrongType`.
-    SegmentCopy {
-        /// Where it is listed.
-        container: ObjectId,
-        /// Its label, which has no star.
-        label: RawLabel,
-        /// What it may use, in pages of 256 bytes: at least one more than the other's length.
-        quota: u32,
-        /// The segment that is copied.
-        source: Entry,
-    },
+    SegmentCopy(NewCopy),
     /// A new address space of sixteen empty slots, last in the list of a container (HiStar, OSDI
     /// 2006). It is refused by what refuses a new container.
-    AsCreate {
-        /// Where it is listed.
-        container: ObjectId,
-        /// Its label, which has no star.
-        label: RawLabel,
-        /// What it may use, in pages of 256 bytes: at least 1.
-        quota: u32,
-    },
+    AsCreate(NewAddressSpace),
     /// A new thread, last in the list of a container, with the verify label `{3}`, no address space
     /// and closure 0 (HiStar, OSDI 2006). It is refused by what refuses a new container, and by
     /// `ClearanceRange`.
-    ThreadCreate {
-        /// Where it is listed.
-        container: ObjectId,
-        /// Its label, which may have star.
-        label: RawLabel,
-        /// What it may use, in pages of 256 bytes: at least 1.
-        quota: u32,
-        /// Its clearance.
-        clearance: RawLabel,
-        /// Where it runs: any number.
-        entry_point: u64,
-    },
+    ThreadCreate(NewThread),
     /// A new gate, last in the list of a container (HiStar, OSDI 2006). It is refused by what
     /// refuses a new thread, and by `NoEntry` and `WrongType`.
-    GateCreate {
-        /// Where it is listed.
-        container: ObjectId,
-        /// Its label, which may have star.
-        label: RawLabel,
-        /// What it may use, in pages of 256 bytes: at least 1.
-        quota: u32,
-        /// What a thread's label has to be at most.
-        clearance: RawLabel,
-        /// The address space of a thread that enters, (0, 0) for none.
-        space: Entry,
-        /// Where the thread runs: any number.
-        entry_point: u64,
-        /// What it is handed: any number.
-        closure: u64,
-    },
+    GateCreate(NewGate),
     /// A second link to an object whose quota is fixed, last in the list of a container, which is
     /// charged the object's whole quota (HiStar, OSDI 2006). It is refused by `WrongType` for a
     /// container, and by `CannotObserve`, `CannotModify`, `LabelRange`, `AvoidType`, `NoQuota`,

@@ -6,6 +6,7 @@
 #![tactic(auto)]
 
 mod calls;
+mod creations;
 mod events;
 mod lists;
 mod objects;
@@ -17,6 +18,7 @@ mod tables;
 mod tests;
 
 pub use calls::{Call, Entry, Query};
+pub use creations::{NewAddressSpace, NewContainer, NewCopy, NewGate, NewSegment, NewThread};
 pub use events::Event;
 pub use lists::{Bytes, IdList, Ids, Packets, Slots};
 pub use objects::{Body, Gate, Mapping, Object, Thread, fresh_object};

@@ -14,8 +14,8 @@ mod refusals;
 
 pub use kernel::PlainKernel;
 pub use kernel_rules::{
-    Body, Call, Compared, Entry, Event, Gate, Ids, Mapping, Object, Query, Reply, Shown, Tables,
-    Thread, Used,
+    Body, Call, Compared, Entry, Event, Gate, Ids, Mapping, NewAddressSpace, NewContainer, NewCopy,
+    NewGate, NewSegment, NewThread, Object, Query, Reply, Shown, Tables, Thread, Used,
 };
 pub use machine::{Machine, run};
 pub use plain_state::BootRefusal;

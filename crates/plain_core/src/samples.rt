@@ -1,6 +1,6 @@
 //! What the tests call, and how they look at what is answered.
-use crate::{Call, Machine, PlainKernel, Reply};
-use base::{Category, Level, Limits, Meter, NoMemory, ObjectId};
+use crate::{Call, Entry, Machine, NewContainer, NewSegment, PlainKernel, Reply};
+use base::{Category, Level, Limits, Meter, NoMemory, ObjectId, TypeSet};
 use label_lattice::{Pair, Pairs, RawLabel};
 
 pub const LIMITS: Limits = Limits {
@@ -26,6 +26,34 @@ pub fn plain() -> RawLabel {
     RawLabel {
         default: Level::L1,
         pairs: Pairs::new(),
+    }
+}
+
+/// A call that makes a container in the root.
+pub fn new_container(quota: u32) -> Call {
+    Call::ContainerCreate(NewContainer {
+        container: ObjectId::root(),
+        label: plain(),
+        quota,
+        avoid: TypeSet::none(),
+    })
+}
+
+/// A call that makes a segment of one page in the root.
+pub fn new_segment(label: RawLabel) -> Call {
+    Call::SegmentCreate(NewSegment {
+        container: ObjectId::root(),
+        label,
+        quota: 2,
+        pages: 1,
+    })
+}
+
+/// The entry of an object in the root.
+pub fn in_root(object: ObjectId) -> Entry {
+    Entry {
+        container: ObjectId::root(),
+        object,
     }
 }
 

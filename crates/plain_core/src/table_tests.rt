@@ -1,6 +1,6 @@
 //! The tables of the plain machine's states.
 use super::*;
-use crate::samples::{LIMITS, made, plain};
+use crate::samples::{LIMITS, in_root, made, new_segment, plain};
 use base::{Level, Meter, NoMemory, ObjectId, Rights};
 use bitflags::Flags;
 use std::test::Fail;
@@ -45,34 +45,21 @@ fn tables_are_recomputed(rt: HostRuntime) -> Result<(), Fail> {
     Ok(())
 }
 
-fn boot_entry(object: ObjectId) -> Entry {
-    Entry {
-        container: ObjectId::root(),
-        object,
-    }
-}
-
 /// A segment 4 and an address space 5, whose slot 2 shows the segment to the boot thread.
 fn mapped(kernel: &mut PlainKernel, meter: &mut Meter) -> Result<(), NoMemory> {
-    let segment = Call::SegmentCreate {
-        container: ObjectId::root(),
-        label: plain(),
-        quota: 2,
-        pages: 1,
-    };
-    made(kernel, &segment, meter)?;
-    let space = Call::AsCreate {
+    made(kernel, &new_segment(plain()), meter)?;
+    let space = Call::AsCreate(NewAddressSpace {
         container: ObjectId::root(),
         label: plain(),
         quota: 1,
-    };
+    });
     made(kernel, &space, meter)?;
     let map = Call::AsMap {
-        space: boot_entry(ObjectId::new(5)),
+        space: in_root(ObjectId::new(5)),
         slot: 2,
         mapping: Mapping {
             page: 0,
-            entry: boot_entry(ObjectId::new(4)),
+            entry: in_root(ObjectId::new(4)),
             first: 0,
             count: 1,
             rights: Rights::all(),
@@ -80,7 +67,7 @@ fn mapped(kernel: &mut PlainKernel, meter: &mut Meter) -> Result<(), NoMemory> {
     };
     made(kernel, &map, meter)?;
     let set = Call::SelfSetAs {
-        space: boot_entry(ObjectId::new(5)),
+        space: in_root(ObjectId::new(5)),
     };
     made(kernel, &set, meter)?;
     Ok(())

@@ -1,7 +1,7 @@
 //! The plain machine on its happy path, and without memory.
 use super::*;
-use crate::samples::{LIMITS, made, plain, secret};
-use base::{Category, Data, Meter, NoMemory, ObjectId, Refusal, TypeSet};
+use crate::samples::{LIMITS, in_root, made, new_container, new_segment, secret};
+use base::{Category, Data, Meter, NoMemory, ObjectId, Refusal};
 use std::test::Fail;
 
 fn refusal_in(reply: Reply) -> Option<Refusal> {
@@ -29,22 +29,16 @@ fn a_write_is_read(rt: HostRuntime) -> Result<(), Fail> {
     let mut kernel = PlainKernel::boot(rt.alloc(), &LIMITS)?;
     kernel.well_formed();
     assert!(rt; made(&mut kernel, &Call::CatCreate, &mut meter)?.is_none());
-    let container = Call::ContainerCreate {
-        container: ObjectId::root(),
-        label: plain(),
-        quota: 8,
-        avoid: TypeSet::none(),
-    };
-    let Some(container) = made(&mut kernel, &container, &mut meter)? else {
+    let Some(container) = made(&mut kernel, &new_container(8), &mut meter)? else {
         return Err(Fail::from("no container"));
     };
     assert_eq!(rt; container.number(), 4);
-    let segment = Call::SegmentCreate {
+    let segment = Call::SegmentCreate(NewSegment {
         container,
         label: secret(),
         quota: 2,
         pages: 1,
-    };
+    });
     let Some(segment) = made(&mut kernel, &segment, &mut meter)? else {
         return Err(Fail::from("no segment"));
     };
@@ -92,29 +86,15 @@ fn want_of_memory_changes_nothing(rt: HostRuntime) -> Result<(), Fail> {
     let mut kernel = booted(&rt)?;
     let made = step_again(&mut kernel, &Call::CatCreate, &mut meter)?;
     assert!(rt; matches!(made, Reply::Category(Category(1))));
-    let segment = Call::SegmentCreate {
-        container: ObjectId::root(),
-        label: secret(),
-        quota: 2,
-        pages: 1,
-    };
+    let segment = new_segment(secret());
     let made = step_again(&mut kernel, &segment, &mut meter)?;
     assert!(rt; matches!(made, Reply::Object(id) if id.number() == 4));
     let made = step_again(&mut kernel, &segment, &mut meter)?;
     assert!(rt; matches!(made, Reply::Object(id) if id.number() == 5));
-    let container = Call::ContainerCreate {
-        container: ObjectId::root(),
-        label: plain(),
-        quota: 60,
-        avoid: TypeSet::none(),
-    };
-    let made = step_again(&mut kernel, &container, &mut meter)?;
+    let made = step_again(&mut kernel, &new_container(60), &mut meter)?;
     assert!(rt; matches!(made, Reply::Refused(refusal) if refusal.number() == 12));
     let write = Call::SegmentWrite {
-        entry: Entry {
-            container: ObjectId::root(),
-            object: ObjectId::new(5),
-        },
+        entry: in_root(ObjectId::new(5)),
         offset: 0,
         data: Data::from_slice(b"ok"),
     };
@@ -146,22 +126,17 @@ fn three_writes_are_run(rt: HostRuntime) -> Result<(), Fail> {
         48, 49, 50, 51, 52, 53, 54, 55, 56, 57, 58, 59, 60, 61, 62, 63,
     ];
     let boot = ObjectId::new(2);
-    let entry = Entry {
-        container: ObjectId::root(),
-        object: ObjectId::new(4),
-    };
-    let create = Call::SegmentCreate {
-        container: ObjectId::root(),
-        label: secret(),
-        quota: 2,
-        pages: 1,
-    };
+    let entry = in_root(ObjectId::new(4));
     let write = Call::SegmentWrite {
         entry,
         offset: 0,
         data: Data::from_slice(&bytes),
     };
-    let calls = [(boot, Call::CatCreate), (boot, create), (boot, write)];
+    let calls = [
+        (boot, Call::CatCreate),
+        (boot, new_segment(secret())),
+        (boot, write),
+    ];
     let mut kernel = PlainKernel::boot(rt.alloc(), &LIMITS)?;
     let replies = run(rt.alloc(), &mut kernel, &calls)?;
     assert_eq!(rt; replies.len(), 3);

@@ -6,9 +6,8 @@ ghost use Rattle.plain_state.specs.StateOf.{state_of};
 ghost use Rattle.kernel_rules.specs.declared.calls.Call.TheVariants as call;
 ghost use Rattle.kernel_rules.specs.declared.calls.Query.TheVariants as query;
 
-use base::{Kind, Meter, NoMemory, ObjectId, Refusal, TypeSet};
-use kernel_rules::{Body, IdList, Ids, Reply, least, least_of};
-use label_lattice::RawLabel;
+use base::{Kind, Meter, NoMemory, ObjectId, Refusal};
+use kernel_rules::{Body, IdList, Ids, NewContainer, Reply, least, least_of};
 use plain_state::PlainState;
 use threads_gates::stored_of;
 
@@ -16,17 +15,21 @@ use threads_gates::stored_of;
 pub fn refused_container_create(
     state: &PlainState,
     thread: ObjectId,
-    container: ObjectId,
-    raw: &RawLabel,
-    quota: u32,
-    avoid: TypeSet,
+    made: &NewContainer,
     meter: &mut Meter,
 ) -> Option<Refusal>
-    ensures { result ≡ refused (state_of state.now) thread
-        (call.ContainerCreate container raw.now quota avoid) }
+    ensures { result ≡ refused (state_of state.now) thread (call.ContainerCreate made.now) }
 {
     let halted = state.halted(thread);
-    let fresh = state.new_object(thread, Kind::Container, container, quota, 1, raw, meter);
+    let fresh = state.new_object(
+        thread,
+        Kind::Container,
+        made.container,
+        made.quota,
+        1,
+        &made.label,
+        meter,
+    );
     least_of(halted, fresh)
 }
 
@@ -34,24 +37,20 @@ pub fn refused_container_create(
 pub fn container_create(
     state: &mut PlainState,
     thread: ObjectId,
-    container: ObjectId,
-    raw: &RawLabel,
-    quota: u32,
-    avoid: TypeSet,
+    made: &NewContainer,
     meter: &mut Meter,
 ) -> Result<Reply, NoMemory>
-    requires { refused (state_of state.old) thread
-        (call.ContainerCreate container raw.now quota avoid) ≡ None }
+    requires { refused (state_of state.old) thread (call.ContainerCreate made.now) ≡ None }
     ensures reply { IfOk result (λ reply. reply ≡ accepted (state_of state.old) thread
-        (call.ContainerCreate container raw.now quota avoid)) }
+        (call.ContainerCreate made.now)) }
     ensures ok { OnOk result (state_of state.new ≡ edit (state_of state.old) thread
-        (call.ContainerCreate container raw.now quota avoid)) }
+        (call.ContainerCreate made.now)) }
     ensures err { OnErr result (state_of state.new ≡ state_of state.old) }
 {
-    let kinds = state.joined(container, avoid);
+    let kinds = state.joined(made.container, made.avoid);
     let body = Body::Container(kinds, IdList::new(state.alloc()));
-    let label = stored_of(raw, meter);
-    let id = state.create(container, label, quota, body)?;
+    let label = stored_of(&made.label, meter);
+    let id = state.create(made.container, label, made.quota, body)?;
     Ok(Reply::Object(id))
 }
 

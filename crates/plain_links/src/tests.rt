@@ -1,7 +1,7 @@
 //! Each call once where nothing refuses it, once where something does, and without memory.
 use super::*;
 use base::{Level, Limits, Meter, NoMemory, ObjectId, Refusal, TypeSet};
-use kernel_rules::{Entry, Reply};
+use kernel_rules::{Entry, NewContainer, Reply};
 use label_lattice::{Pairs, RawLabel};
 use plain_state::{BootRefusal, PlainState};
 use std::test::Fail;
@@ -78,12 +78,15 @@ fn create(
     meter: &mut Meter,
 ) -> Result<Option<Refusal>, NoMemory> {
     let thread = boot();
-    let raw = plain();
-    let root = ObjectId::root();
-    let avoid = TypeSet::none();
-    let refused = refused_container_create(state, thread, root, &raw, quota, avoid, meter);
+    let container = NewContainer {
+        container: ObjectId::root(),
+        label: plain(),
+        quota,
+        avoid: TypeSet::none(),
+    };
+    let refused = refused_container_create(state, thread, &container, meter);
     if refused.is_none() {
-        return answered(container_create(state, thread, root, &raw, quota, avoid, meter));
+        return answered(container_create(state, thread, &container, meter));
     }
     Ok(refused)
 }

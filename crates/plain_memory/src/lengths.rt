@@ -9,8 +9,7 @@ ghost use Rattle.kernel_rules.specs.declared.calls.Call.TheVariants as call;
 ghost use Rattle.kernel_rules.specs.declared.calls.Query.TheVariants as query;
 
 use base::{Kind, Meter, NoMemory, ObjectId, Refusal};
-use kernel_rules::{Body, Bytes, Entry, Reply, least, least_of};
-use label_lattice::RawLabel;
+use kernel_rules::{Body, Bytes, Entry, NewCopy, Reply, least, least_of};
 use plain_state::PlainState;
 use threads_gates::stored_of;
 
@@ -42,19 +41,23 @@ fn refused_source(
 pub fn refused_segment_copy(
     state: &PlainState,
     thread: ObjectId,
-    container: ObjectId,
-    raw: &RawLabel,
-    quota: u32,
-    source: &Entry,
+    made: &NewCopy,
     meter: &mut Meter,
 ) -> Option<Refusal>
-    ensures { result ≡ refused (state_of state.now) thread
-        (call.SegmentCopy container raw.now quota source.now) }
+    ensures { result ≡ refused (state_of state.now) thread (call.SegmentCopy made.now) }
 {
     let halted = state.halted(thread);
-    let unread = refused_source(state, thread, source, meter);
-    let used = 1 + state.page_count(source.object) as u64;
-    let fresh = state.new_object(thread, Kind::Segment, container, quota, used, raw, meter);
+    let unread = refused_source(state, thread, &made.source, meter);
+    let used = 1 + state.page_count(made.source.object) as u64;
+    let fresh = state.new_object(
+        thread,
+        Kind::Segment,
+        made.container,
+        made.quota,
+        used,
+        &made.label,
+        meter,
+    );
     least_of(halted, least_of(unread, fresh))
 }
 
@@ -63,24 +66,20 @@ pub fn refused_segment_copy(
 pub fn segment_copy(
     state: &mut PlainState,
     thread: ObjectId,
-    container: ObjectId,
-    raw: &RawLabel,
-    quota: u32,
-    source: &Entry,
+    made: &NewCopy,
     meter: &mut Meter,
 ) -> Result<Reply, NoMemory>
-    requires { refused (state_of state.old) thread
-        (call.SegmentCopy container raw.now quota source.now) ≡ None }
+    requires { refused (state_of state.old) thread (call.SegmentCopy made.now) ≡ None }
     ensures reply { IfOk result (λ reply. reply ≡ accepted (state_of state.old) thread
-        (call.SegmentCopy container raw.now quota source.now)) }
+        (call.SegmentCopy made.now)) }
     ensures ok { OnOk result (state_of state.new ≡ edit (state_of state.old) thread
-        (call.SegmentCopy container raw.now quota source.now)) }
+        (call.SegmentCopy made.now)) }
     ensures err { OnErr result (state_of state.new ≡ state_of state.old) }
 {
-    state.bytes_are_whole(source.object);
-    let bytes = Bytes::copied(state.alloc(), state.bytes(source.object))?;
-    let label = stored_of(raw, meter);
-    let id = state.create(container, label, quota, Body::Segment(bytes))?;
+    state.bytes_are_whole(made.source.object);
+    let bytes = Bytes::copied(state.alloc(), state.bytes(made.source.object))?;
+    let label = stored_of(&made.label, meter);
+    let id = state.create(made.container, label, made.quota, Body::Segment(bytes))?;
     Ok(Reply::Object(id))
 }
 

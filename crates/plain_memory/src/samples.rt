@@ -1,7 +1,7 @@
 //! Each call, made where nothing refuses it, and what its reply is.
 use super::*;
 use base::{Data, Level, Limits, Meter, NoMemory, ObjectId, Refusal};
-use kernel_rules::{Entry, Mapping, Reply};
+use kernel_rules::{Entry, Mapping, NewAddressSpace, NewCopy, NewSegment, Reply};
 use label_lattice::RawLabel;
 use plain_state::PlainState;
 
@@ -79,9 +79,14 @@ pub fn make_segment(
     state: &mut PlainState,
     meter: &mut Meter,
 ) -> Result<Option<ObjectId>, NoMemory> {
-    let (thread, root, raw) = (boot(), ObjectId::root(), plain());
-    if refused_segment_create(state, thread, root, &raw, 2, 1, meter).is_none() {
-        return made(segment_create(state, thread, root, &raw, 2, 1, meter));
+    let segment = NewSegment {
+        container: ObjectId::root(),
+        label: plain(),
+        quota: 2,
+        pages: 1,
+    };
+    if refused_segment_create(state, boot(), &segment, meter).is_none() {
+        return made(segment_create(state, boot(), &segment, meter));
     }
     Ok(None)
 }
@@ -91,9 +96,14 @@ pub fn copy(
     source: &Entry,
     meter: &mut Meter,
 ) -> Result<Option<ObjectId>, NoMemory> {
-    let (thread, root, raw) = (boot(), ObjectId::root(), plain());
-    if refused_segment_copy(state, thread, root, &raw, 2, source, meter).is_none() {
-        return made(segment_copy(state, thread, root, &raw, 2, source, meter));
+    let copy = NewCopy {
+        container: ObjectId::root(),
+        label: plain(),
+        quota: 2,
+        source: *source,
+    };
+    if refused_segment_copy(state, boot(), &copy, meter).is_none() {
+        return made(segment_copy(state, boot(), &copy, meter));
     }
     Ok(None)
 }
@@ -113,9 +123,13 @@ pub fn resize(
 }
 
 pub fn make_space(state: &mut PlainState, meter: &mut Meter) -> Result<Option<ObjectId>, NoMemory> {
-    let (thread, root, raw) = (boot(), ObjectId::root(), plain());
-    if refused_as_create(state, thread, root, &raw, 1, meter).is_none() {
-        return made(as_create(state, thread, root, &raw, 1, meter));
+    let space = NewAddressSpace {
+        container: ObjectId::root(),
+        label: plain(),
+        quota: 1,
+    };
+    if refused_as_create(state, boot(), &space, meter).is_none() {
+        return made(as_create(state, boot(), &space, meter));
     }
     Ok(None)
 }

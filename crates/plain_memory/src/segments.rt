@@ -7,8 +7,7 @@ ghost use Rattle.kernel_rules.specs.declared.calls.Call.TheVariants as call;
 ghost use Rattle.kernel_rules.specs.declared.calls.Query.TheVariants as query;
 
 use base::{Data, Kind, Meter, NoMemory, ObjectId, Refusal};
-use kernel_rules::{Body, Bytes, Entry, Reply, least, least_of};
-use label_lattice::RawLabel;
+use kernel_rules::{Body, Bytes, Entry, NewSegment, Reply, least, least_of};
 use plain_state::{PlainState, has_shape};
 use threads_gates::stored_of;
 
@@ -16,19 +15,23 @@ use threads_gates::stored_of;
 pub fn refused_segment_create(
     state: &PlainState,
     thread: ObjectId,
-    container: ObjectId,
-    raw: &RawLabel,
-    quota: u32,
-    pages: u32,
+    made: &NewSegment,
     meter: &mut Meter,
 ) -> Option<Refusal>
-    ensures { result ≡ refused (state_of state.now) thread
-        (call.SegmentCreate container raw.now quota pages) }
+    ensures { result ≡ refused (state_of state.now) thread (call.SegmentCreate made.now) }
 {
     let halted = state.halted(thread);
-    let used = 1 + pages as u64;
-    let fresh = state.new_object(thread, Kind::Segment, container, quota, used, raw, meter);
-    let long = least(&[(Refusal::Bounds, 16 < pages)]);
+    let used = 1 + made.pages as u64;
+    let fresh = state.new_object(
+        thread,
+        Kind::Segment,
+        made.container,
+        made.quota,
+        used,
+        &made.label,
+        meter,
+    );
+    let long = least(&[(Refusal::Bounds, 16 < made.pages)]);
     least_of(halted, least_of(fresh, long))
 }
 
@@ -36,23 +39,19 @@ pub fn refused_segment_create(
 pub fn segment_create(
     state: &mut PlainState,
     thread: ObjectId,
-    container: ObjectId,
-    raw: &RawLabel,
-    quota: u32,
-    pages: u32,
+    made: &NewSegment,
     meter: &mut Meter,
 ) -> Result<Reply, NoMemory>
-    requires { refused (state_of state.old) thread
-        (call.SegmentCreate container raw.now quota pages) ≡ None }
+    requires { refused (state_of state.old) thread (call.SegmentCreate made.now) ≡ None }
     ensures reply { IfOk result (λ reply. reply ≡ accepted (state_of state.old) thread
-        (call.SegmentCreate container raw.now quota pages)) }
+        (call.SegmentCreate made.now)) }
     ensures ok { OnOk result (state_of state.new ≡ edit (state_of state.old) thread
-        (call.SegmentCreate container raw.now quota pages)) }
+        (call.SegmentCreate made.now)) }
     ensures err { OnErr result (state_of state.new ≡ state_of state.old) }
 {
-    let bytes = Bytes::zeroed(state.alloc(), 256 * pages as usize)?;
-    let label = stored_of(raw, meter);
-    let id = state.create(container, label, quota, Body::Segment(bytes))?;
+    let bytes = Bytes::zeroed(state.alloc(), 256 * made.pages as usize)?;
+    let label = stored_of(&made.label, meter);
+    let id = state.create(made.container, label, made.quota, Body::Segment(bytes))?;
     Ok(Reply::Object(id))
 }
 

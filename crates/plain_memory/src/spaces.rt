@@ -16,8 +16,7 @@ ghost use Rattle.kernel_rules.specs.declared.calls.Call.TheVariants as call;
 ghost use Rattle.kernel_rules.specs.declared.calls.Query.TheVariants as query;
 
 use base::{Kind, Meter, NoMemory, ObjectId, Refusal};
-use kernel_rules::{Body, Entry, Mapping, Reply, Slots, least, least_of};
-use label_lattice::RawLabel;
+use kernel_rules::{Body, Entry, Mapping, NewAddressSpace, Reply, Slots, least, least_of};
 use plain_state::PlainState;
 use threads_gates::stored_of;
 
@@ -25,15 +24,21 @@ use threads_gates::stored_of;
 pub fn refused_as_create(
     state: &PlainState,
     thread: ObjectId,
-    container: ObjectId,
-    raw: &RawLabel,
-    quota: u32,
+    made: &NewAddressSpace,
     meter: &mut Meter,
 ) -> Option<Refusal>
-    ensures { result ≡ refused (state_of state.now) thread (call.AsCreate container raw.now quota) }
+    ensures { result ≡ refused (state_of state.now) thread (call.AsCreate made.now) }
 {
     let halted = state.halted(thread);
-    let fresh = state.new_object(thread, Kind::AddressSpace, container, quota, 1, raw, meter);
+    let fresh = state.new_object(
+        thread,
+        Kind::AddressSpace,
+        made.container,
+        made.quota,
+        1,
+        &made.label,
+        meter,
+    );
     least_of(halted, fresh)
 }
 
@@ -41,21 +46,19 @@ pub fn refused_as_create(
 pub fn as_create(
     state: &mut PlainState,
     thread: ObjectId,
-    container: ObjectId,
-    raw: &RawLabel,
-    quota: u32,
+    made: &NewAddressSpace,
     meter: &mut Meter,
 ) -> Result<Reply, NoMemory>
-    requires { refused (state_of state.old) thread (call.AsCreate container raw.now quota) ≡ None }
+    requires { refused (state_of state.old) thread (call.AsCreate made.now) ≡ None }
     ensures reply { IfOk result (λ reply. reply ≡ accepted (state_of state.old) thread
-        (call.AsCreate container raw.now quota)) }
+        (call.AsCreate made.now)) }
     ensures ok { OnOk result (state_of state.new ≡ edit (state_of state.old) thread
-        (call.AsCreate container raw.now quota)) }
+        (call.AsCreate made.now)) }
     ensures err { OnErr result (state_of state.new ≡ state_of state.old) }
 {
-    let label = stored_of(raw, meter);
+    let label = stored_of(&made.label, meter);
     let body = Body::AddressSpace(Slots::empty());
-    let id = state.create(container, label, quota, body)?;
+    let id = state.create(made.container, label, made.quota, body)?;
     Ok(Reply::Object(id))
 }
 

@@ -12,7 +12,7 @@ ghost use Rattle.plain_state.specs.StateOf.{state_of};
 ghost use Rattle.kernel_rules.specs.declared.calls.Call.TheVariants as call;
 
 use base::{Kind, Meter, NoMemory, ObjectId, Refusal};
-use kernel_rules::{Body, Entry, Gate, Reply, least, least_of};
+use kernel_rules::{Body, Entry, Gate, NewGate, Reply, least, least_of};
 use label_lattice::RawLabel;
 use plain_state::PlainState;
 use threads_gates::{Asked, Bearer, may_enter, stored_of};
@@ -21,27 +21,20 @@ use threads_gates::{Asked, Bearer, may_enter, stored_of};
 pub fn refused_gate_create(
     state: &PlainState,
     thread: ObjectId,
-    container: ObjectId,
-    raw: &RawLabel,
-    quota: u32,
-    raw_clearance: &RawLabel,
-    space: &Entry,
-    entry_point: u64,
-    closure: u64,
+    made: &NewGate,
     meter: &mut Meter,
 ) -> Option<Refusal>
-    ensures { result ≡ refused (state_of state.now) thread (call.GateCreate container raw.now quota
-        raw_clearance.now space.now entry_point closure) }
+    ensures { result ≡ refused (state_of state.now) thread (call.GateCreate made.now) }
 {
     let halted = state.halted(thread);
-    let named = state.space_entry(thread, space, meter);
+    let named = state.space_entry(thread, &made.space, meter);
     let fresh = state.new_bearer(
         thread,
         Kind::Gate,
-        container,
-        quota,
-        raw,
-        raw_clearance,
+        made.container,
+        made.quota,
+        &made.label,
+        &made.clearance,
         meter,
     );
     least_of(halted, least_of(named, fresh))
@@ -51,34 +44,27 @@ pub fn refused_gate_create(
 pub fn gate_create(
     state: &mut PlainState,
     thread: ObjectId,
-    container: ObjectId,
-    raw: &RawLabel,
-    quota: u32,
-    raw_clearance: &RawLabel,
-    space: &Entry,
-    entry_point: u64,
-    closure: u64,
+    made: &NewGate,
     meter: &mut Meter,
 ) -> Result<Reply, NoMemory>
-    requires { refused (state_of state.old) thread (call.GateCreate container raw.now quota
-        raw_clearance.now space.now entry_point closure) ≡ None }
+    requires { refused (state_of state.old) thread (call.GateCreate made.now) ≡ None }
     ensures reply { IfOk result (λ reply. reply ≡ accepted (state_of state.old) thread
-        (call.GateCreate container raw.now quota raw_clearance.now space.now entry_point closure)) }
+        (call.GateCreate made.now)) }
     ensures ok { OnOk result (state_of state.new ≡ edit (state_of state.old) thread
-        (call.GateCreate container raw.now quota raw_clearance.now space.now entry_point closure)) }
+        (call.GateCreate made.now)) }
     ensures err { OnErr result (state_of state.new ≡ state_of state.old) }
 {
-    let label = stored_of(raw, meter);
-    let Some(clearance) = stored_of(raw_clearance, meter) else {
+    let label = stored_of(&made.label, meter);
+    let Some(clearance) = stored_of(&made.clearance, meter) else {
         return Ok(Reply::Object(state.next_id()));
     };
     let body = Body::Gate(Gate {
         clearance,
-        space: *space,
-        entry_point,
-        closure,
+        space: made.space,
+        entry_point: made.entry_point,
+        closure: made.closure,
     });
-    let id = state.create(container, label, quota, body)?;
+    let id = state.create(made.container, label, made.quota, body)?;
     Ok(Reply::Object(id))
 }
 

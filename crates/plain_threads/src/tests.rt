@@ -1,7 +1,7 @@
 //! Each call where nothing refuses it, some where something does, and without memory.
 use super::*;
 use base::{Category, Level, Limits, Meter, NoMemory, ObjectId, Refusal};
-use kernel_rules::{Entry, Reply};
+use kernel_rules::{Entry, NewGate, NewThread, Reply};
 use label_lattice::{Label, Pair, RawLabel};
 use plain_state::{BootRefusal, PlainState};
 use std::test::Fail;
@@ -104,22 +104,32 @@ fn make_category(state: &mut PlainState, meter: &mut Meter) -> Option<Category> 
 }
 
 fn make_thread(state: &mut PlainState, meter: &mut Meter) -> Result<Option<ObjectId>, NoMemory> {
-    let (thread, root, raw) = (boot(), ObjectId::root(), plain());
-    if refused_thread_create(state, thread, root, &raw, 1, &raw, 5, meter).is_none() {
-        return made(thread_create(state, thread, root, &raw, 1, &raw, 5, meter));
+    let thread = NewThread {
+        container: ObjectId::root(),
+        label: plain(),
+        quota: 1,
+        clearance: plain(),
+        entry_point: 5,
+    };
+    if refused_thread_create(state, boot(), &thread, meter).is_none() {
+        return made(thread_create(state, boot(), &thread, meter));
     }
     Ok(None)
 }
 
 /// A gate that owns category 1, enters at 7 and hands on 9.
 fn make_gate(state: &mut PlainState, meter: &mut Meter) -> Result<Option<ObjectId>, NoMemory> {
-    let (thread, root) = (boot(), ObjectId::root());
-    let raw = label_with(Level::Star, Level::L1);
-    let cleared = label_with(Level::L3, Level::L1);
-    let space = no_space();
-    let refused = refused_gate_create(state, thread, root, &raw, 1, &cleared, &space, 7, 9, meter);
-    if refused.is_none() {
-        return made(gate_create(state, thread, root, &raw, 1, &cleared, &space, 7, 9, meter));
+    let gate = NewGate {
+        container: ObjectId::root(),
+        label: label_with(Level::Star, Level::L1),
+        quota: 1,
+        clearance: label_with(Level::L3, Level::L1),
+        space: no_space(),
+        entry_point: 7,
+        closure: 9,
+    };
+    if refused_gate_create(state, boot(), &gate, meter).is_none() {
+        return made(gate_create(state, boot(), &gate, meter));
     }
     Ok(None)
 }

@@ -11,8 +11,8 @@ ghost use Rattle.kernel_rules.specs.declared.calls.Call.TheVariants as call;
 ghost use Rattle.kernel_rules.specs.declared.calls.Query.TheVariants as query;
 
 use base::{Kind, Meter, NoMemory, ObjectId, Refusal};
-use kernel_rules::{Body, Entry, Object, Reply, Thread, least, least_of};
-use label_lattice::{Label, RawLabel};
+use kernel_rules::{Body, Entry, NewThread, Object, Reply, Thread, least, least_of};
+use label_lattice::Label;
 use plain_state::{PlainState, uniform};
 use threads_gates::{is_shown, stored_of};
 
@@ -45,24 +45,19 @@ pub fn self_set_as(state: &mut PlainState, thread: ObjectId, space: &Entry) -> R
 pub fn refused_thread_create(
     state: &PlainState,
     thread: ObjectId,
-    container: ObjectId,
-    raw: &RawLabel,
-    quota: u32,
-    raw_clearance: &RawLabel,
-    entry_point: u64,
+    made: &NewThread,
     meter: &mut Meter,
 ) -> Option<Refusal>
-    ensures { result ≡ refused (state_of state.now) thread
-        (call.ThreadCreate container raw.now quota raw_clearance.now entry_point) }
+    ensures { result ≡ refused (state_of state.now) thread (call.ThreadCreate made.now) }
 {
     let halted = state.halted(thread);
     let fresh = state.new_bearer(
         thread,
         Kind::Thread,
-        container,
-        quota,
-        raw,
-        raw_clearance,
+        made.container,
+        made.quota,
+        &made.label,
+        &made.clearance,
         meter,
     );
     least_of(halted, fresh)
@@ -72,27 +67,22 @@ pub fn refused_thread_create(
 pub fn thread_create(
     state: &mut PlainState,
     thread: ObjectId,
-    container: ObjectId,
-    raw: &RawLabel,
-    quota: u32,
-    raw_clearance: &RawLabel,
-    entry_point: u64,
+    made: &NewThread,
     meter: &mut Meter,
 ) -> Result<Reply, NoMemory>
-    requires { refused (state_of state.old) thread
-        (call.ThreadCreate container raw.now quota raw_clearance.now entry_point) ≡ None }
+    requires { refused (state_of state.old) thread (call.ThreadCreate made.now) ≡ None }
     ensures reply { IfOk result (λ reply. reply ≡ accepted (state_of state.old) thread
-        (call.ThreadCreate container raw.now quota raw_clearance.now entry_point)) }
+        (call.ThreadCreate made.now)) }
     ensures ok { OnOk result (state_of state.new ≡ edit (state_of state.old) thread
-        (call.ThreadCreate container raw.now quota raw_clearance.now entry_point)) }
+        (call.ThreadCreate made.now)) }
     ensures err { OnErr result (state_of state.new ≡ state_of state.old) }
 {
-    let label = stored_of(raw, meter);
-    let Some(clearance) = stored_of(raw_clearance, meter) else {
+    let label = stored_of(&made.label, meter);
+    let Some(clearance) = stored_of(&made.clearance, meter) else {
         return Ok(Reply::Object(state.next_id()));
     };
-    let body = new_thread(clearance, entry_point, meter);
-    let id = state.create(container, label, quota, body)?;
+    let body = new_thread(clearance, made.entry_point, meter);
+    let id = state.create(made.container, label, made.quota, body)?;
     Ok(Reply::Object(id))
 }
 

@@ -1,7 +1,7 @@
 //! What the tests call, and how they look at what is answered.
 use crate::SeatRefusal;
 use base::{Data, Level, Limits, ObjectId};
-use kernel_rules::{Call, Entry, Reply};
+use kernel_rules::{Call, Entry, NewSegment, NewThread, Reply};
 use label_lattice::{Pairs, RawLabel};
 
 pub const LIMITS: Limits = Limits {
@@ -23,22 +23,22 @@ pub fn boot_thread() -> ObjectId {
 }
 
 pub fn new_thread() -> Call {
-    Call::ThreadCreate {
+    Call::ThreadCreate(NewThread {
         container: ObjectId::root(),
         label: everywhere(Level::L1),
         quota: 1,
         clearance: everywhere(Level::L2),
         entry_point: 0,
-    }
+    })
 }
 
 pub fn new_segment() -> Call {
-    Call::SegmentCreate {
+    Call::SegmentCreate(NewSegment {
         container: ObjectId::root(),
         label: everywhere(Level::L1),
         quota: 2,
         pages: 1,
-    }
+    })
 }
 
 pub fn in_root(id: u64) -> Entry {

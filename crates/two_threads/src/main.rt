@@ -6,7 +6,7 @@ ghost use Rattle.std.specs.Prelude.{◌≡◌};
 
 use base::{Level, Limits, ObjectId};
 use label_lattice::RawLabel;
-use plain_core::{Call, Event, Reply};
+use plain_core::{Call, Event, NewThread, Reply};
 use published_copy::{Blank, Naming, SeatRefusal, Shared, SubmitRefusal};
 use std::io;
 use std::marker::Brand;
@@ -32,13 +32,13 @@ struct Counts {
 
 /// A new thread of the label {1} and the clearance {2}, in the root container.
 fn new_thread() -> Call {
-    Call::ThreadCreate {
+    Call::ThreadCreate(NewThread {
         container: ObjectId::root(),
         label: RawLabel::new(Level::L1, &[]),
         quota: 1,
         clearance: RawLabel::new(Level::L2, &[]),
         entry_point: 0,
-    }
+    })
 }
 
 /// The object that was made, and the root where none was.

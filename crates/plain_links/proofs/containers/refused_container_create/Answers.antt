@@ -12,5 +12,5 @@ returns c =
     c.least_of.ensures
     ∙ (λ i. least_of (c.halted-halted.ensures i) (c.new_object-fresh.ensures i))
     ∙ sym (appended (halted (state_of c.args.state.now) c.args.thread)
-    (new_object (state_of c.args.state.now) c.args.thread kinds.Container c.args.container
-    c.args.raw.now c.args.quota 1))
+    (new_object (state_of c.args.state.now) c.args.thread kinds.Container c.args.made.now.container
+    c.args.made.now.label c.args.made.now.quota 1))

@@ -12,19 +12,19 @@ unfolding refused
 returns c =
     c.least_of-2.ensures
     ∙ joined_rows (halted (state_of c.args.state.now) c.args.thread)
-    (in_container (state_of c.args.state.now) c.args.thread c.args.source.now
-    ++ of_kind (state_of c.args.state.now) c.args.thread kinds.Segment c.args.source.now.object
-    ++ observed (state_of c.args.state.now) c.args.thread c.args.source.now.object
-    ++ new_object (state_of c.args.state.now) c.args.thread kinds.Segment c.args.container c.args.raw.now
-    c.args.quota (1 + page_count (state_of c.args.state.now) c.args.source.now.object)) _ _
+    (in_container (state_of c.args.state.now) c.args.thread c.args.made.now.source
+    ++ of_kind (state_of c.args.state.now) c.args.thread kinds.Segment c.args.made.now.source.object
+    ++ observed (state_of c.args.state.now) c.args.thread c.args.made.now.source.object
+    ++ new_object (state_of c.args.state.now) c.args.thread kinds.Segment c.args.made.now.container c.args.made.now.label
+    c.args.made.now.quota (1 + page_count (state_of c.args.state.now) c.args.made.now.source.object)) _ _
     c.halted-halted.ensures
     (c.least_of.ensures
     ∙ joined_rows
-    (in_container (state_of c.args.state.now) c.args.thread c.args.source.now
-    ++ of_kind (state_of c.args.state.now) c.args.thread kinds.Segment c.args.source.now.object
-    ++ observed (state_of c.args.state.now) c.args.thread c.args.source.now.object)
-    (new_object (state_of c.args.state.now) c.args.thread kinds.Segment c.args.container c.args.raw.now
-    c.args.quota (1 + page_count (state_of c.args.state.now) c.args.source.now.object)) _ _
+    (in_container (state_of c.args.state.now) c.args.thread c.args.made.now.source
+    ++ of_kind (state_of c.args.state.now) c.args.thread kinds.Segment c.args.made.now.source.object
+    ++ observed (state_of c.args.state.now) c.args.thread c.args.made.now.source.object)
+    (new_object (state_of c.args.state.now) c.args.thread kinds.Segment c.args.made.now.container c.args.made.now.label
+    c.args.made.now.quota (1 + page_count (state_of c.args.state.now) c.args.made.now.source.object)) _ _
     c.refused_source-unread.ensures
     (c.new_object-fresh.ensures ∙ (λ i. refusal_of (new_object (state_of c.args.state.now) c.args.thread kinds.Segment
-    c.args.container c.args.raw.now c.args.quota (1 + c.page_count.ensures i)))))
+    c.args.made.now.container c.args.made.now.label c.args.made.now.quota (1 + c.page_count.ensures i)))))

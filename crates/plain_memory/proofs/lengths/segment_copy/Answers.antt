@@ -8,8 +8,8 @@ use Rattle.plain_memory.proofs.lengths.segment_copy.Goals as goal
 pub create-requires-clause-fitting : goal.create-requires-clause-fitting
 create-requires-clause-fitting c =
     let P : List ℕ → Type 0 =
-    λ bytes. IsFitting (state_of c.args.state.now) c.args.container c.args.quota (is.Segment bytes)
+    λ bytes. IsFitting (state_of c.args.state.now) c.args.made.now.container c.args.made.now.quota (is.Segment bytes)
     in
     subst P (sym (c.in_ok-bytes.ensures ∙ c.bytes.ensures))
-    (copy_fits (state_of c.args.state.now) c.args.thread c.args.container c.args.raw.now
-    c.args.quota c.args.source.now c.requires c.bytes_are_whole.ensures)
+    (copy_fits (state_of c.args.state.now) c.args.thread c.args.made.now c.requires
+    c.bytes_are_whole.ensures)

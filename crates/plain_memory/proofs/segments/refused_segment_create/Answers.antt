@@ -14,10 +14,10 @@ returns c =
     ∙ (λ i. least_of (c.halted-halted.ensures i) ((c.least_of.ensures
     ∙ (λ j. least_of (c.new_object-fresh.ensures j) (c.least-long.ensures j))
     ∙ sym (appended
-    (new_object (state_of c.args.state.now) c.args.thread kinds.Segment c.args.container
-    c.args.raw.now c.args.quota (1 + c.args.pages))
-    ((Bounds, nat_lt 16 c.args.pages) ∷ []))) i))
+    (new_object (state_of c.args.state.now) c.args.thread kinds.Segment c.args.made.now.container
+    c.args.made.now.label c.args.made.now.quota (1 + c.args.made.now.pages))
+    ((Bounds, nat_lt 16 c.args.made.now.pages) ∷ []))) i))
     ∙ sym (appended (halted (state_of c.args.state.now) c.args.thread)
-    (new_object (state_of c.args.state.now) c.args.thread kinds.Segment c.args.container
-    c.args.raw.now c.args.quota (1 + c.args.pages)
-    ++ (Bounds, nat_lt 16 c.args.pages) ∷ []))
+    (new_object (state_of c.args.state.now) c.args.thread kinds.Segment c.args.made.now.container
+    c.args.made.now.label c.args.made.now.quota (1 + c.args.made.now.pages)
+    ++ (Bounds, nat_lt 16 c.args.made.now.pages) ∷ []))

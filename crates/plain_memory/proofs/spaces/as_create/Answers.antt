@@ -9,8 +9,7 @@ use Rattle.plain_memory.proofs.spaces.as_create.Goals as goal
 pub create-requires-clause-fitting : goal.create-requires-clause-fitting
 create-requires-clause-fitting c =
     let P : Slots → Type 0 =
-    λ slots. IsFitting (state_of c.args.state.now) c.args.container c.args.quota
+    λ slots. IsFitting (state_of c.args.state.now) c.args.made.now.container c.args.made.now.quota
     (is.AddressSpace slots) in
     subst P (sym c.empty.ensures)
-    (space_fits (state_of c.args.state.now) c.args.thread c.args.container c.args.raw.now
-    c.args.quota c.requires)
+    (space_fits (state_of c.args.state.now) c.args.thread c.args.made.now c.requires)

@@ -11,5 +11,5 @@ unfolding refused
 returns c =
     c.least_of.ensures
     ∙ joined_rows (halted (state_of c.args.state.now) c.args.thread)
-    (new_object (state_of c.args.state.now) c.args.thread kinds.AddressSpace c.args.container
-    c.args.raw.now c.args.quota 1) _ _ c.halted-halted.ensures c.new_object-fresh.ensures
+    (new_object (state_of c.args.state.now) c.args.thread kinds.AddressSpace c.args.made.now.container
+    c.args.made.now.label c.args.made.now.quota 1) _ _ c.halted-halted.ensures c.new_object-fresh.ensures

@@ -6,7 +6,6 @@ use Rattle.plain_threads.proofs.gates.gate_create.Goals as goal
 
 pub create-requires-clause-fitting : goal.create-requires-clause-fitting
 create-requires-clause-fitting c =
-    gate_fits (state_of c.args.state.now) c.args.thread c.args.container c.args.raw.now
-    c.args.quota c.args.raw_clearance.now c.args.space.now c.args.entry_point c.args.closure
+    gate_fits (state_of c.args.state.now) c.args.thread c.args.made.now
     c.in-Some.clearance c.requires
     (subst (λ (v : Option LabelValue). IfSome v IsStored) c.in-Some.is c.stored_of.ensures.fit)

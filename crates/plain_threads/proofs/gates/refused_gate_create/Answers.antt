@@ -11,12 +11,12 @@ unfolding refused
 returns c =
     c.least_of-2.ensures
     ∙ joined_rows (halted (state_of c.args.state.now) c.args.thread)
-    (space_entry (state_of c.args.state.now) c.args.thread c.args.space.now
-    ++ new_bearer (state_of c.args.state.now) c.args.thread kinds.Gate c.args.container
-    c.args.raw.now c.args.quota c.args.raw_clearance.now) _ _
+    (space_entry (state_of c.args.state.now) c.args.thread c.args.made.now.space
+    ++ new_bearer (state_of c.args.state.now) c.args.thread kinds.Gate c.args.made.now.container
+    c.args.made.now.label c.args.made.now.quota c.args.made.now.clearance) _ _
     c.halted-halted.ensures
     (c.least_of.ensures
-    ∙ joined_rows (space_entry (state_of c.args.state.now) c.args.thread c.args.space.now)
-    (new_bearer (state_of c.args.state.now) c.args.thread kinds.Gate c.args.container
-    c.args.raw.now c.args.quota c.args.raw_clearance.now) _ _
+    ∙ joined_rows (space_entry (state_of c.args.state.now) c.args.thread c.args.made.now.space)
+    (new_bearer (state_of c.args.state.now) c.args.thread kinds.Gate c.args.made.now.container
+    c.args.made.now.label c.args.made.now.quota c.args.made.now.clearance) _ _
     c.space_entry-named.ensures c.new_bearer-fresh.ensures)

@@ -10,6 +10,6 @@ pub returns : goal.returns
 unfolding refused
 returns c =
     c.least_of.ensures ∙ joined_rows (halted (state_of c.args.state.now) c.args.thread)
-    (new_bearer (state_of c.args.state.now) c.args.thread kinds.Thread c.args.container
-    c.args.raw.now c.args.quota c.args.raw_clearance.now) _ _
+    (new_bearer (state_of c.args.state.now) c.args.thread kinds.Thread c.args.made.now.container
+    c.args.made.now.label c.args.made.now.quota c.args.made.now.clearance) _ _
     c.halted-halted.ensures c.new_bearer-fresh.ensures

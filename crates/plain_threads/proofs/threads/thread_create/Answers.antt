@@ -9,8 +9,8 @@ use Rattle.plain_threads.proofs.threads.thread_create.Goals as goal
 pub create-requires-clause-fitting : goal.create-requires-clause-fitting
 create-requires-clause-fitting c =
     let P : Body → Type 0 =
-    λ b. IsFitting (state_of c.args.state.now) c.args.container c.args.quota b in
+    λ b. IsFitting (state_of c.args.state.now) c.args.made.now.container c.args.made.now.quota b in
     subst P (sym c.new_thread-body.ensures)
-    (thread_fits (state_of c.args.state.now) c.args.thread c.args.container c.args.raw.now
-    c.args.quota c.args.raw_clearance.now c.args.entry_point c.in-Some.clearance c.requires
+    (thread_fits (state_of c.args.state.now) c.args.thread c.args.made.now
+    c.in-Some.clearance c.requires
     (subst (λ (v : Option LabelValue). IfSome v IsStored) c.in-Some.is c.stored_of.ensures.fit))
