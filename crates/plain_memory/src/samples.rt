@@ -79,14 +79,15 @@ pub fn make_segment(
     state: &mut PlainState,
     meter: &mut Meter,
 ) -> Result<Option<ObjectId>, NoMemory> {
+    let thread = boot();
     let segment = NewSegment {
         container: ObjectId::root(),
         label: plain(),
         quota: 2,
         pages: 1,
     };
-    if refused_segment_create(state, boot(), &segment, meter).is_none() {
-        return made(segment_create(state, boot(), &segment, meter));
+    if refused_segment_create(state, thread, &segment, meter).is_none() {
+        return made(segment_create(state, thread, &segment, meter));
     }
     Ok(None)
 }
@@ -96,14 +97,15 @@ pub fn copy(
     source: &Entry,
     meter: &mut Meter,
 ) -> Result<Option<ObjectId>, NoMemory> {
+    let thread = boot();
     let copy = NewCopy {
         container: ObjectId::root(),
         label: plain(),
         quota: 2,
         source: *source,
     };
-    if refused_segment_copy(state, boot(), &copy, meter).is_none() {
-        return made(segment_copy(state, boot(), &copy, meter));
+    if refused_segment_copy(state, thread, &copy, meter).is_none() {
+        return made(segment_copy(state, thread, &copy, meter));
     }
     Ok(None)
 }
@@ -123,13 +125,14 @@ pub fn resize(
 }
 
 pub fn make_space(state: &mut PlainState, meter: &mut Meter) -> Result<Option<ObjectId>, NoMemory> {
+    let thread = boot();
     let space = NewAddressSpace {
         container: ObjectId::root(),
         label: plain(),
         quota: 1,
     };
-    if refused_as_create(state, boot(), &space, meter).is_none() {
-        return made(as_create(state, boot(), &space, meter));
+    if refused_as_create(state, thread, &space, meter).is_none() {
+        return made(as_create(state, thread, &space, meter));
     }
     Ok(None)
 }

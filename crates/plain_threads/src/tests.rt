@@ -104,21 +104,23 @@ fn make_category(state: &mut PlainState, meter: &mut Meter) -> Option<Category> 
 }
 
 fn make_thread(state: &mut PlainState, meter: &mut Meter) -> Result<Option<ObjectId>, NoMemory> {
-    let thread = NewThread {
+    let thread = boot();
+    let asked = NewThread {
         container: ObjectId::root(),
         label: plain(),
         quota: 1,
         clearance: plain(),
         entry_point: 5,
     };
-    if refused_thread_create(state, boot(), &thread, meter).is_none() {
-        return made(thread_create(state, boot(), &thread, meter));
+    if refused_thread_create(state, thread, &asked, meter).is_none() {
+        return made(thread_create(state, thread, &asked, meter));
     }
     Ok(None)
 }
 
 /// A gate that owns category 1, enters at 7 and hands on 9.
 fn make_gate(state: &mut PlainState, meter: &mut Meter) -> Result<Option<ObjectId>, NoMemory> {
+    let thread = boot();
     let gate = NewGate {
         container: ObjectId::root(),
         label: label_with(Level::Star, Level::L1),
@@ -128,8 +130,8 @@ fn make_gate(state: &mut PlainState, meter: &mut Meter) -> Result<Option<ObjectI
         entry_point: 7,
         closure: 9,
     };
-    if refused_gate_create(state, boot(), &gate, meter).is_none() {
-        return made(gate_create(state, boot(), &gate, meter));
+    if refused_gate_create(state, thread, &gate, meter).is_none() {
+        return made(gate_create(state, thread, &gate, meter));
     }
     Ok(None)
 }
