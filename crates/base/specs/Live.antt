@@ -1,6 +1,6 @@
 -- Which ids are live: those that a path of entries leads to from the root. A list of (id, list of
 -- ids) says what each id lists.
-use Rattle.std.specs.Prelude.{◌≡◌, ◌↔◌, ℕ, zero, suc, Bool, true, false, IsTrue, ◌&&◌, ◌==◌, List}
+use Rattle.std.specs.Prelude.{◌≡◌, ◌↔◌, ℕ, zero, suc, Bool, true, IsTrue, ◌&&◌, ◌==◌, List}
 use Rattle.std.specs.Prelude.{[], ◌∷◌, length, if◌then◌else◌}
 use Rattle.std.specs.List.{list_any, list_all, flat_map}
 

@@ -1,9 +1,9 @@
 -- Lists of events with one event more.
 use Rattle.std.proofs.Common.{◌≡◌, ℕ, ◌+◌, ◌≤◌, Bool, true, false, ◌⊎◌, ◌==◌, if◌then◌else◌, length}
-use Rattle.std.proofs.Common.{List, [], ◌∷◌, ◌++◌, refl, sym, ap, ◌∙◌, subst, inl, inr, arith, zero-add}
+use Rattle.std.proofs.Common.{List, [], ◌∷◌, ◌++◌, refl, sym, ap, subst, inl, inr, arith, zero-add}
 use Rattle.base.specs.declared.ranges.Limits.{Limits}
 use Rattle.kernel_rules.specs.State.{State}
-use Rattle.kernel_rules.specs.Step.{answer, next}
+use Rattle.kernel_rules.specs.Step.{next}
 use Rattle.kernel_rules.specs.Runs.{booted, state_after}
 use Rattle.kernel_rules.specs.History.{calls_of, state_of, count, Follows, IsLegal}
 use Rattle.kernel_rules.specs.declared.events.Event.{Event}

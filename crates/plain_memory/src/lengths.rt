@@ -10,7 +10,7 @@ ghost use Rattle.kernel_rules.specs.declared.calls.Query.TheVariants as query;
 
 use base::{Kind, Meter, NoMemory, ObjectId, Refusal};
 use kernel_rules::{Body, Bytes, Entry, NewCopy, Reply, least, least_of};
-use plain_state::PlainState;
+use plain_state::{NewObject, PlainState};
 use threads_gates::stored_of;
 
 /// What refuses the segment that is to be copied.
@@ -49,15 +49,13 @@ pub fn refused_segment_copy(
     let halted = state.halted(thread);
     let unread = refused_source(state, thread, &made.source, meter);
     let used = 1 + state.page_count(made.source.object) as u64;
-    let fresh = state.new_object(
-        thread,
-        Kind::Segment,
-        made.container,
-        made.quota,
-        used,
-        &made.label,
-        meter,
-    );
+    let object = NewObject {
+        kind: Kind::Segment,
+        container: made.container,
+        quota: made.quota,
+        label: made.label,
+    };
+    let fresh = state.new_object(thread, &object, used, meter);
     least_of(halted, least_of(unread, fresh))
 }
 

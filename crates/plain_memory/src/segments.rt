@@ -8,7 +8,7 @@ ghost use Rattle.kernel_rules.specs.declared.calls.Query.TheVariants as query;
 
 use base::{Data, Kind, Meter, NoMemory, ObjectId, Refusal};
 use kernel_rules::{Body, Bytes, Entry, NewSegment, Reply, least, least_of};
-use plain_state::{PlainState, has_shape};
+use plain_state::{NewObject, PlainState, has_shape};
 use threads_gates::stored_of;
 
 /// What refuses to make a segment of so many pages.
@@ -22,15 +22,13 @@ pub fn refused_segment_create(
 {
     let halted = state.halted(thread);
     let used = 1 + made.pages as u64;
-    let fresh = state.new_object(
-        thread,
-        Kind::Segment,
-        made.container,
-        made.quota,
-        used,
-        &made.label,
-        meter,
-    );
+    let object = NewObject {
+        kind: Kind::Segment,
+        container: made.container,
+        quota: made.quota,
+        label: made.label,
+    };
+    let fresh = state.new_object(thread, &object, used, meter);
     let long = least(&[(Refusal::Bounds, 16 < made.pages)]);
     least_of(halted, least_of(fresh, long))
 }

@@ -17,7 +17,7 @@ ghost use Rattle.kernel_rules.specs.declared.calls.Query.TheVariants as query;
 
 use base::{Kind, Meter, NoMemory, ObjectId, Refusal};
 use kernel_rules::{Body, Entry, Mapping, NewAddressSpace, Reply, Slots, least, least_of};
-use plain_state::PlainState;
+use plain_state::{NewObject, PlainState};
 use threads_gates::stored_of;
 
 /// What refuses to make an address space.
@@ -30,15 +30,13 @@ pub fn refused_as_create(
     ensures { result ≡ refused (state_of state.now) thread (call.AsCreate made.now) }
 {
     let halted = state.halted(thread);
-    let fresh = state.new_object(
-        thread,
-        Kind::AddressSpace,
-        made.container,
-        made.quota,
-        1,
-        &made.label,
-        meter,
-    );
+    let object = NewObject {
+        kind: Kind::AddressSpace,
+        container: made.container,
+        quota: made.quota,
+        label: made.label,
+    };
+    let fresh = state.new_object(thread, &object, 1, meter);
     least_of(halted, fresh)
 }
 

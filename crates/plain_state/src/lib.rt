@@ -29,4 +29,5 @@ mod unlinks;
 pub use boots::{BootRefusal, uniform};
 pub use reads::has_shape;
 pub use records::Records;
+pub use rows::NewObject;
 pub use states::PlainState;

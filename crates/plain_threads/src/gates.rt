@@ -14,7 +14,7 @@ ghost use Rattle.kernel_rules.specs.declared.calls.Call.TheVariants as call;
 use base::{Kind, Meter, NoMemory, ObjectId, Refusal};
 use kernel_rules::{Body, Entry, Gate, NewGate, Reply, least, least_of};
 use label_lattice::RawLabel;
-use plain_state::PlainState;
+use plain_state::{NewObject, PlainState};
 use threads_gates::{Asked, Bearer, may_enter, stored_of};
 
 /// What refuses to make a gate.
@@ -28,15 +28,13 @@ pub fn refused_gate_create(
 {
     let halted = state.halted(thread);
     let named = state.space_entry(thread, &made.space, meter);
-    let fresh = state.new_bearer(
-        thread,
-        Kind::Gate,
-        made.container,
-        made.quota,
-        &made.label,
-        &made.clearance,
-        meter,
-    );
+    let object = NewObject {
+        kind: Kind::Gate,
+        container: made.container,
+        quota: made.quota,
+        label: made.label,
+    };
+    let fresh = state.new_bearer(thread, &object, &made.clearance, meter);
     least_of(halted, least_of(named, fresh))
 }
 

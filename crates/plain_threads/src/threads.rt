@@ -13,7 +13,7 @@ ghost use Rattle.kernel_rules.specs.declared.calls.Query.TheVariants as query;
 use base::{Kind, Meter, NoMemory, ObjectId, Refusal};
 use kernel_rules::{Body, Entry, NewThread, Object, Reply, Thread, least, least_of};
 use label_lattice::Label;
-use plain_state::{PlainState, uniform};
+use plain_state::{NewObject, PlainState, uniform};
 use threads_gates::{is_shown, stored_of};
 
 /// What refuses another address space.
@@ -51,15 +51,13 @@ pub fn refused_thread_create(
     ensures { result ≡ refused (state_of state.now) thread (call.ThreadCreate made.now) }
 {
     let halted = state.halted(thread);
-    let fresh = state.new_bearer(
-        thread,
-        Kind::Thread,
-        made.container,
-        made.quota,
-        &made.label,
-        &made.clearance,
-        meter,
-    );
+    let object = NewObject {
+        kind: Kind::Thread,
+        container: made.container,
+        quota: made.quota,
+        label: made.label,
+    };
+    let fresh = state.new_bearer(thread, &object, &made.clearance, meter);
     least_of(halted, fresh)
 }
 

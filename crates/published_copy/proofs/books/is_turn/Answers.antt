@@ -1,5 +1,4 @@
-use Rattle.std.proofs.Common.{◌≡◌, ◌≤◌, ◌∙◌, length, arith, rules, ◌<◌, ◌+◌, ◌^◌}
-use Rattle.kernel_rules.specs.History.{count}
+use Rattle.std.proofs.Common.{◌∙◌, length, arith, rules, ◌<◌, ◌+◌, ◌^◌}
 use Rattle.kernel_rules.proofs.HistoryLaws.{count_within}
 use Rattle.published_copy.proofs.books.is_turn.Goals as goal
 

@@ -1,4 +1,4 @@
-use Rattle.std.proofs.Common.{sym, ap, ◌∙◌, ◌≡◌, ◌<◌, ◌++◌, ◌∷◌, [], length, suc, vec_len, arith, rules}
+use Rattle.std.proofs.Common.{◌≡◌, ◌++◌, ◌∷◌, [], length, suc, vec_len, rules}
 use Rattle.published_copy.specs.Tallies.{tallied, place_of}
 use Rattle.published_copy.proofs.TallyLaws.{idle, tallied-admitted, place-admitted}
 use Rattle.published_copy.proofs.tallies.admit.Goals as goal

@@ -1,7 +1,6 @@
-use Rattle.std.proofs.Common.{◌≡◌, ◌+◌, ◌==◌, true, false, drop, sym, ap, ◌∙◌, arith, get_or}
+use Rattle.std.proofs.Common.{◌≡◌, ◌==◌, true, false, sym, ap, ◌∙◌, arith, get_or}
 use Rattle.published_copy.specs.declared.tallies.Tally.{Tally}
-use Rattle.published_copy.specs.Tallies.{place_of}
-use Rattle.published_copy.proofs.TallyLaws.{place-hit, place-miss, place-end}
+use Rattle.published_copy.proofs.TallyLaws.{place-hit, place-miss}
 use Rattle.published_copy.proofs.tallies.place_of.Goals as goal
 
 pub returns-then-eq-clause-place : goal.returns-then-eq-clause-place

@@ -1,11 +1,10 @@
-use Rattle.std.proofs.Common.{◌≡◌, ◌∷◌, ◌++◌, [], ◌∙◌, sym, ap, subst, List, rules, arith, length, ◌≤◌, ◌<◌, ◌+◌, ℕ, ◌==◌, if◌then◌else◌, take, take_at, drop}
+use Rattle.std.proofs.Common.{◌≡◌, ◌∷◌, ◌++◌, [], ◌∙◌, sym, ap, subst, List, rules, length, ◌≤◌, ◌+◌, ℕ, ◌==◌, if◌then◌else◌, take_at}
 use Rattle.kernel_rules.specs.Step.{next, answer}
-use Rattle.kernel_rules.specs.State.{State}
 use Rattle.kernel_rules.specs.History.{IsLegal, Follows, state_of, count}
 use Rattle.kernel_rules.specs.declared.events.Event.{Event}
 use Rattle.kernel_rules.proofs.HistoryLaws.{legal-snoc, state_of-snoc}
 use Rattle.plain_core.specs.Kernel.{kernel_state}
-use Rattle.published_copy.specs.Tallies.{IsTallied, tallied}
+use Rattle.published_copy.specs.Tallies.{tallied}
 use Rattle.published_copy.proofs.TallyLaws.{tallied-more}
 use Rattle.published_copy.proofs.books.Book.commit.Goals as goal
 

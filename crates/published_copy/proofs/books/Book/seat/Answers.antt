@@ -1,5 +1,4 @@
-use Rattle.std.proofs.Common.{◌≡◌, ◌∷◌, ◌++◌, [], ◌∙◌, sym, ap, rules, arith, length, ◌≤◌, ◌+◌, ℕ}
-use Rattle.kernel_rules.specs.History.{count}
+use Rattle.std.proofs.Common.{◌≡◌, ◌∷◌, ◌++◌, [], ◌∙◌, sym, ap, rules, length, ◌≤◌, ◌+◌}
 use Rattle.published_copy.specs.Tallies.{tallied, place_of}
 use Rattle.published_copy.proofs.TallyLaws.{idle, tallied-admitted, no-event}
 use Rattle.published_copy.proofs.books.Book.seat.Goals as goal

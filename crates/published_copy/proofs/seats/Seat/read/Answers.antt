@@ -1,4 +1,4 @@
-use Rattle.std.proofs.Common.{◌≡◌, Result, Ok, Err, IfOk, OnOk, List, length, sym, ap, ◌∙◌, subst}
+use Rattle.std.proofs.Common.{◌≡◌, Result, Ok, Err, IfOk, OnOk, List, length}
 use Rattle.base.specs.declared.memory.NoMemory.{NoMemory}
 use Rattle.base.specs.declared.ranges.Limits.{Limits}
 use Rattle.kernel_rules.specs.History.{IsLegal, state_of}
