@@ -1,5 +1,7 @@
+pub mod Apart
 pub mod Bounds
 pub mod Frames
+pub mod Given
 pub mod Labels
 pub mod Listed
 pub mod Places

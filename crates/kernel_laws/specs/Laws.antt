@@ -1,7 +1,7 @@
 -- Laws of the next state, which a reader may ask for.
-use Rattle.std.specs.Prelude.{List, ◌≡◌, ◌≢◌, ◌↔◌, ℕ, true, is_some, Some, IsTrue}
+use Rattle.std.specs.Prelude.{List, [], ◌∷◌, ◌≡◌, ◌≢◌, ◌↔◌, ℕ, true, is_some, Some, IsTrue}
 use Rattle.std.specs.List.{flat_map}
-use Rattle.std.specs.List.Sorted.{IsStrictlySortedBy}
+use Rattle.std.specs.List.Sorted.{IsStrictlySortedBy, IsStrictlyIncreasing}
 use Rattle.label_lattice.specs.Label.{LabelValue}
 use Rattle.label_lattice.specs.Listing.{label_cmp}
 use Rattle.kernel_rules.specs.Scratch.{stored_labels, is_stored_in, labels_of}
@@ -9,7 +9,12 @@ use Rattle.base.specs.Live.{IsLive, links}
 use Rattle.base.specs.declared.kinds.Kind.TheVariants as kinds
 use Rattle.kernel_rules.specs.State.{State, object_at, lists_of, is_kind}
 use Rattle.kernel_rules.specs.Step.{next, edit}
+use Rattle.kernel_rules.specs.Runs.{booted, replies_to, state_after}
+use Rattle.kernel_rules.specs.Translate.{covers, slot_at}
+use Rattle.base.specs.declared.ranges.Limits.{Limits}
 use Rattle.kernel_rules.specs.Table.{refused}
+use Rattle.kernel_rules.specs.declared.replies.Reply.{Reply}
+use Rattle.kernel_rules.specs.declared.replies.Reply.TheVariants as reply
 use Rattle.kernel_rules.specs.declared.calls.Call.{Call}
 use Rattle.kernel_rules.specs.declared.objects.Object.{Object}
 use Rattle.std.specs.Prelude.{None, Bool, false, ◌≤◌, ◌+◌, length, sum_by}
@@ -91,3 +96,32 @@ LabelsAreListed =
     (objects : List (ℕ × Object)) → IsStrictlySortedBy label_cmp (stored_labels objects)
     × ((l : LabelValue) → is_stored_in l (stored_labels objects)
     ≡ is_stored_in l (flat_map (λ e. labels_of e.1) objects))
+
+-- the id of the new object that a reply tells of
+abbrev pub new_id : Reply → List ℕ
+new_id (reply.Object id) = id ∷ []
+new_id r = []
+
+-- the category that a reply tells of
+abbrev pub new_category : Reply → List ℕ
+new_category (reply.Category c) = c.0 ∷ []
+new_category r = []
+
+-- an id is never given again: those that a list of calls was given, from any state on, rise
+abbrev pub IdsRise : Type 0
+IdsRise =
+    (s : State) (calls : List (ℕ × Call))
+    → IsStrictlyIncreasing (flat_map new_id (replies_to s calls))
+
+-- nor is a category
+abbrev pub CategoriesRise : Type 0
+CategoriesRise =
+    (s : State) (calls : List (ℕ × Call))
+    → IsStrictlyIncreasing (flat_map new_category (replies_to s calls))
+
+-- in each state that calls lead to from a boot, at most one slot of an address space covers a page
+abbrev pub MappingsApart : Type 0
+MappingsApart =
+    (limits : Limits) (calls : List (ℕ × Call)) (a page i j : ℕ)
+    → covers page (slot_at (state_after (booted limits) calls) a i) ≡ true
+    → covers page (slot_at (state_after (booted limits) calls) a j) ≡ true → i ≡ j

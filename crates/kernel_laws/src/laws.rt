@@ -2,6 +2,7 @@
 ghost use Rattle.kernel_laws.specs.Laws.{LabelsAreOwn, LabelsRise, ReadOnlyStays};
 ghost use Rattle.kernel_laws.specs.Laws.{LinkedStays, RecordedAreLive};
 ghost use Rattle.kernel_laws.specs.Laws.{RecordedAreEdited, RootBoundsAll, LabelsAreListed};
+ghost use Rattle.kernel_laws.specs.Laws.{IdsRise, CategoriesRise, MappingsApart};
 
 /// The label of an object changes by its own calls alone.
 pub fn labels_are_own()
@@ -43,4 +44,20 @@ pub fn root_bounds_all()
 /// other.
 pub fn labels_are_listed()
     ensures { LabelsAreListed }
+{}
+
+/// An id is never given again: the ids of the objects that a list of calls makes rise.
+pub fn ids_rise()
+    ensures { IdsRise }
+{}
+
+/// Nor is a category.
+pub fn categories_rise()
+    ensures { CategoriesRise }
+{}
+
+/// In each state that calls lead to from a boot, at most one slot of an address space covers a page:
+/// so the mapping that a `load` or a `store` goes by is the only one.
+pub fn mappings_are_apart()
+    ensures { MappingsApart }
 {}

@@ -6,6 +6,6 @@
 mod laws;
 
 pub use laws::{
-    labels_are_listed, labels_are_own, labels_rise, linked_stays, read_only_stays,
-    recorded_are_edited, recorded_are_live, root_bounds_all,
+    categories_rise, ids_rise, labels_are_listed, labels_are_own, labels_rise, linked_stays,
+    mappings_are_apart, read_only_stays, recorded_are_edited, recorded_are_live, root_bounds_all,
 };
