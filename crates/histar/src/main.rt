@@ -24,14 +24,15 @@ fn put_new<R: Files>(
     fs::rename(rt, beside, path)
 }
 
-/// Writes a file: whole or not at all where its path names a plain file, or nothing yet. A file `beside`, which must not
-/// be there, takes the path's name then.
+/// Writes a file: whole or not at all where its path names a plain file, or nothing yet. A file `beside` takes the path's
+/// name then; what a run that was killed left there goes first.
 fn put_file<R: Files>(rt: &R, path: &str, beside: &str, bytes: &[u8]) -> io::Result<()> {
     if let Ok(found) = fs::symlink_metadata(rt, path) {
         if !found.is_file() {
             return fs::write(rt, path, bytes);
         }
     }
+    let _ = fs::remove_file(rt, beside);
     let mut file = File::create_new(rt, beside)?;
     let put = put_new(rt, &mut file, beside, path, bytes);
     if put.is_err() {
@@ -77,7 +78,7 @@ fn main(rt: HostRuntime) -> ExitCode {
     let Ok(mut script) = File::open(&rt, told.script) else {
         return ExitCode::from(Fault::Input.tell(NAME, &mut err));
     };
-    let Ok(beside) = format!(in alloc; "{}.new", told.dump.unwrap_or("")) else {
+    let Ok(beside) = format!(in alloc; "{}.histar-new", told.dump.unwrap_or("")) else {
         return ExitCode::from(Fault::Memory.tell(NAME, &mut err));
     };
     let ended = histar_on(&rt, alloc, &mut script, &told.options, &mut out, &mut err);
