@@ -30,6 +30,7 @@ is_old() {
 # Says that a build runs until it has ended: on a terminal with how far it is, elsewhere once.
 show_build() {
     text="$name: proving and building the program, which takes some minutes"
+    [ "$name" = histar ] && text="$text; ./try run SCRIPT plays one at once, unproved"
     if [ ! -t 2 ]; then
         printf '%s\n' "$text" >&2
         return

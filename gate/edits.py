@@ -1,0 +1,216 @@
+"""Must-fail edits, which the prover has to refuse: crates/NAME/must-fail/*.edit, tried many in one check.
+
+A check costs its start more than what it looks for. So a round puts one edit into each function that has some left, and
+checks the crate once. An edit is refused there where the check tells an open goal of that very function: that a function
+it calls is not proved says nothing of it. What a round proves all the same, or can't tell, is tried alone, as rt
+must-fail does. Rounds keep their work, and last the crate as it is has to be proved over it; else each is tried alone.
+
+What is refused only because a proof names what the edit took away fails as well: that says nothing of the contract."""
+import glob
+import importlib.machinery
+import importlib.util
+import os
+import re
+import shutil
+import sys
+import tempfile
+
+from gate.proofs import TIMES
+from gate.times import Times
+
+FLAGS = ["--jobs", "1"]
+HEAD = re.compile(r"^([ \t]*)(?:pub(?:\([^)]*\))?\s+)?(?:const\s+|unsafe\s+)*fn\s+(\w+)", re.M)
+OPEN = r": it is not proved that |: error"
+GONE = r"has no field|is not in scope|has no `|was not admitted"
+NAME_GONE = "only because a proof file names what the edit took away"
+
+
+def toolchain():
+    """rt itself, whose checks these are."""
+    path = os.path.realpath(shutil.which("rt"))
+    loader = importlib.machinery.SourceFileLoader("rt", path)
+    made = importlib.util.module_from_spec(importlib.util.spec_from_loader("rt", loader))
+    loader.exec_module(made)
+    return made
+
+
+def function_around(text, at):
+    """The function that a place of a file lies in: its name, and its first and last line; None where it lies in none."""
+    heads = [it for it in HEAD.finditer(text) if it.start() <= at]
+    if not heads:
+        return None
+    end = re.compile(rf"^{heads[-1][1]}\}}", re.M).search(text, heads[-1].end())
+    if not end or end.start() < at:
+        return None
+    return heads[-1][2], text.count("\n", 0, heads[-1].start()) + 1, text.count("\n", 0, end.start()) + 1
+
+
+def names_in(folder):
+    """The names of all functions of the files in a folder, each as often as it stands there."""
+    found = []
+    for file in glob.glob(f"{folder}/**/*.rt", recursive=True):
+        with open(file, encoding="utf-8") as it:
+            found += [head[2] for head in HEAD.finditer(it.read())]
+    return found
+
+
+class Edit:
+    """One edit: its file, its name, and the one function of src/ that it changes, where it changes just one."""
+
+    def __init__(self, file, folder):
+        self.file = file
+        self.name = os.path.basename(file).removesuffix(".edit")
+        places = set(self.places(folder))
+        self.place = places.pop() if len(places) == 1 else None
+
+    def places(self, folder):
+        path = ""
+        with open(self.file, encoding="utf-8") as it:
+            lines = it.read().split("\n")
+        for line in lines:
+            if line.startswith("file: "):
+                path = line[len("file: ") :].strip()
+            if line.startswith("old: "):
+                found = None
+                if path.startswith("src/") and os.path.isfile(f"{folder}/{path}"):
+                    with open(f"{folder}/{path}", encoding="utf-8") as it:
+                        text = it.read()
+                    at = text.find(line[len("old: ") :])
+                    found = function_around(text, at) if at >= 0 else None
+                yield found and (path, *found)
+
+
+class Batch:
+    """Edits of different functions, put into a copy of a crate's sources and checked at once."""
+
+    def __init__(self, rt, crate, edits):
+        self.taken, self.texts, self.named = [], {}, names_in(f"{crate.folder}/src")
+        with tempfile.TemporaryDirectory(prefix="batch-") as room:
+            shutil.copytree(f"{crate.folder}/src", f"{room}/src")
+            for edit in edits:
+                changed = rt.read_edit(edit.file, room)[0]
+                if changed and edit.place not in [it.place for it in self.taken]:
+                    self.taken.append(edit)
+                    self.texts.update(changed)
+                    for path, text in changed.items():
+                        with open(f"{room}/{path}", "w", encoding="utf-8") as it:
+                            it.write(text)
+
+    def check(self, rt, crate, kept):
+        """What the check says, or None where it judged no contract, as where a text can't be read."""
+        ran = rt.checked(crate, self.texts, FLAGS, kept)
+        lines = ran.stdout.rstrip("\n").split("\n")
+        is_judged = ran.returncode == 1 and lines[-1].startswith("logic=not-proved")
+        return lines if is_judged and not any(rt.unread(it, self.texts) for it in lines) else None
+
+    def verdict(self, edit, lines):
+        """'refused', 'proved', or 'hidden' where the check can't tell of this edit."""
+        if any(self.is_own_goal(edit, it) for it in lines):
+            return "refused"
+        path, name = edit.place[:2]
+        module = "::".join(path[len("src/") : -len(".rt")].split("/"))
+        said = [it for it in lines if re.match(rf"fn \S+::{name}: ", it)]
+        near = [it for it in said if f"::{module}::" in it] if len(said) > 1 else said
+        return "proved" if len(near) == 1 and near[0].endswith(": proved") else "hidden"
+
+    def is_own_goal(self, edit, line):
+        """Whether a line tells a goal that is open in the edit's function itself, and not of a name that is gone."""
+        path, name = edit.place[:2]
+        at = re.match(r"(?:note: )?(?:\./)?(\S+?):(\d+):\d+: ", line)
+        if not at or not re.search(OPEN, line) or re.search(GONE, line):
+            return False
+        if at[1] == path:
+            return self.function_at(path, int(at[2])) == edit.place[1:]
+        return at[1].startswith("proofs/") and f"/{name}/" in at[1] and self.named.count(name) == 1
+
+    def function_at(self, path, line):
+        """The function around a line, or the one that an attribute there stands above. (An edit changes no count of lines.)"""
+        text = self.texts[path]
+        before = text.split("\n")[:line]
+        at = len("\n".join(before))
+        if before[-1].lstrip().startswith("#["):
+            head = HEAD.search(text, at)
+            at = head.end() if head else at
+        return function_around(text, at)
+
+
+class Trial:
+    """All edits of one crate, each with its verdict once it was tried."""
+
+    def __init__(self, rt, crate, files, report):
+        self.rt, self.crate, self.report = rt, crate, report
+        self.edits = [Edit(it, crate.folder) for it in files]
+
+    def rounds(self, kept):
+        """The edits that were refused beside others, and those that are left to be tried alone."""
+        left = [it for it in self.edits if it.place]
+        refused, alone, count = [], [it for it in self.edits if not it.place], 0
+        while len(left) > 1:
+            batch = Batch(self.rt, self.crate, left)
+            lines = batch.check(self.rt, self.crate, kept)
+            if lines is None:
+                break
+            verdicts = {it: batch.verdict(it, lines) for it in batch.taken}
+            own = [it for it in batch.taken if verdicts[it] == "refused"]
+            refused += own
+            alone += [it for it in batch.taken if verdicts[it] == "proved"]
+            left = [it for it in left if verdicts.get(it, "hidden") == "hidden"]
+            count += 1
+            self.report.say(f"  {self.crate.name}, check {count}: {len(own)} of {len(batch.taken)} edits refused, {len(left)} left")
+            if not own:
+                break
+        return refused, alone + left
+
+    def alone(self, edit, kept):
+        """An edit tried by itself: over kept work first, and from nothing where it isn't refused so."""
+        well, text = self.rt.must_fail(self.crate, edit.file, FLAGS, kept)
+        if not well or NAME_GONE in text:
+            well, text = self.rt.must_fail(self.crate, edit.file, FLAGS)
+        return well and NAME_GONE not in text, text.partition(": ")[2]
+
+    def is_proved(self, kept):
+        return self.rt.checked(self.crate, {}, FLAGS, kept).returncode == 0
+
+    def run(self):
+        with tempfile.TemporaryDirectory(prefix="kept-") as kept:
+            refused, alone = self.rounds(kept)
+            if not self.is_proved(kept):
+                refused, alone, kept = [], self.edits, None
+            for edit in refused:
+                self.report.passes(f"edit {self.crate.name}/{edit.name}: refused")
+            for edit in alone:
+                is_well, text = self.alone(edit, kept)
+                self.report.counts(is_well, f"edit {self.crate.name}/{edit.name}: {text}")
+
+
+def tasks_of(rt, crates, wanted, is_built, report):
+    """For rt's scheduler: the libraries that are needed, each after those below it, and then each crate's edits."""
+    tasks = {}
+    for crate in crates:
+        files = sorted(glob.glob(f"crates/{crate.name}/must-fail/*.edit"))
+        below = [(it.name, "library") for it in crate.below()] if not is_built else []
+        needed = any(crate in it.below() for it in crates if it.name in wanted)
+        if needed and not is_built:
+            build = lambda given, jobs, it=crate: it.build_rlib(FLAGS, anew=False)  # noqa: E731
+            tasks[crate.name, "library"] = (below, crate.count(rb"\n"), rt.need(crate), build)
+        if files and crate.name in wanted:
+            trial = Trial(rt, crate, [os.path.abspath(it) for it in files], report)
+            tasks[crate.name, "edits"] = (below, 50 * len(files), rt.need(crate), lambda given, jobs, it=trial: it.run())
+    return tasks
+
+
+def try_all(report, names, tree):
+    """Tries the edits of these crates, or of all: in a tree in which all is proved, or else here, over what is kept."""
+    report.heading("Must-fail edits")
+    rt = toolchain()
+    rt.rtlib.Crate.cuts_libraries = tree is not None
+    rt.rtlib.guarded()
+    crates = rt.rtlib.crates_below(tree or os.getcwd())
+    known = {it.name for it in crates}
+    for name in names:
+        if name not in known:
+            report.fails(f"{name}: crates.txt names no such crate")
+    wanted = known & set(names) if names else known
+    with Times() as times:
+        rt.in_lanes(tasks_of(rt, crates, wanted, tree is not None, report))
+    times.keep(TIMES)

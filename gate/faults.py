@@ -1,0 +1,76 @@
+"""What the programs do where something outside them fails: one clear line, a status, and no file lost."""
+import os
+import subprocess
+import tempfile
+
+SCRIPT = "boot: cat_create\n"
+OLD = "what was there before\n"
+
+
+class Fault:
+    """A command that ends with a fault: its words, its status, its line, and where its standard output goes. The words name
+    files of a folder of its own, in which stand a script, a faulty one, and a dump of an earlier run."""
+
+    def __init__(self, program, words, status, line, out="/dev/null"):
+        self.program, self.words, self.status, self.line, self.out = program, words, status, line, out
+
+    def run(self, folder):
+        with open(self.out, "wb") as out:
+            how = {"cwd": folder, "stdin": subprocess.DEVNULL, "stdout": out, "stderr": subprocess.PIPE, "text": True}
+            done = subprocess.run([os.path.abspath(self.program), *self.words], **how)
+        return done.returncode, done.stderr
+
+    def name(self):
+        return f"{self.program} {' '.join(self.words)}" + ("" if self.out == "/dev/null" else f" >{self.out}")
+
+
+FAULTS = [
+    Fault("./histar", ["run", "nothing"], 3, "histar: input fault\n"),
+    Fault("./histar", ["run", "faulty", "--dump", "dump"], 1, "histar: line 1: script fault\n"),
+    Fault("./histar", ["run", "script", "--dump", "dump"], 3, "histar: output fault\n", out="/dev/full"),
+    Fault("./histar", ["run", "script", "--dump", "nowhere/dump"], 3, "histar: output fault\n"),
+    Fault("./histar-audit", ["nothing"], 3, "histar-audit: input fault\n"),
+    Fault("./histar-audit", ["dump"], 3, "histar-audit: output fault\n", out="/dev/full"),
+]
+
+
+def put(file, text):
+    with open(file, "w", encoding="utf-8") as it:
+        it.write(text)
+
+
+def text(file):
+    with open(file, encoding="utf-8") as it:
+        return it.read()
+
+
+def files_in(folder):
+    put(f"{folder}/script", SCRIPT)
+    put(f"{folder}/faulty", "boot: no_call\n")
+    put(f"{folder}/dump", OLD)
+
+
+def try_fault(report, fault):
+    """The fault's status and line, and the earlier dump as it was."""
+    with tempfile.TemporaryDirectory(prefix="fault-") as folder:
+        files_in(folder)
+        status, said = fault.run(folder)
+        is_well = (status, said, text(f"{folder}/dump"), len(os.listdir(folder))) == (fault.status, fault.line, OLD, 3)
+        report.counts(is_well, f"{fault.name()}: status {status}, {said.strip()}")
+
+
+def try_left_over(report):
+    """What a run that was killed left beside a dump doesn't stop the next one from writing it."""
+    with tempfile.TemporaryDirectory(prefix="fault-") as folder:
+        files_in(folder)
+        put(f"{folder}/dump.histar-new", OLD)
+        status, said = Fault("./histar", ["run", "script", "--dump", "dump"], 0, "").run(folder)
+        is_well = (status, said, os.listdir(folder).count("dump.histar-new")) == (0, "", 0) and text(f"{folder}/dump").startswith("histar-dump ")
+        report.counts(is_well, f"a dump beside a left-over of an earlier run: status {status}, {said.strip()}")
+
+
+def fail(report):
+    report.heading("Faults")
+    for fault in FAULTS:
+        try_fault(report, fault)
+    try_left_over(report)

@@ -1,0 +1,124 @@
+"""Each request for memory refused in turn, in tests and programs that are linked already: the Nth of a run by an allocator
+that is loaded first, N from 1 until a run meets no Nth."""
+import glob
+import os
+import subprocess
+import tempfile
+from concurrent.futures import ThreadPoolExecutor
+
+LIMIT = 60
+TESTS = "want_of_memory_"
+
+
+def kit():
+    """The toolchain's folder."""
+    return os.path.dirname(subprocess.run(["rt", "doc"], check=True, stdout=subprocess.PIPE, text=True).stdout.strip())
+
+
+def allocator(room):
+    """The library that refuses, made by the toolchain's own compiler."""
+    made = f"{room}/refuse.so"
+    words = [f"{kit()}/toolchain/bin/clang", "-shared", "-fPIC", "-O2", "-nostdlib", "-fuse-ld=lld", "-o", made, "gate/refuse.c"]
+    subprocess.run(words, check=True)
+    return made
+
+
+class Run:
+    """How one run of a command ended: its status (None where it was still running at the limit), what it wrote, and
+    whether a request was refused."""
+
+    def __init__(self, library, number, words, folder):
+        with tempfile.TemporaryFile() as mark:
+            environment = {**os.environ, "LD_PRELOAD": library, "REFUSE": str(number), "REFUSED": str(mark.fileno())}
+            how = {"cwd": folder, "env": environment, "stdin": subprocess.DEVNULL, "stdout": subprocess.PIPE, "stderr": subprocess.PIPE}
+            started = subprocess.Popen(words, pass_fds=[mark.fileno()], **how)
+            try:
+                self.out, self.err = started.communicate(timeout=LIMIT)
+                self.status = started.returncode
+            except subprocess.TimeoutExpired:
+                started.kill()
+                self.out, self.err = started.communicate()
+                self.status = None
+            mark.seek(0)
+            self.was_refused = bool(mark.read())
+
+
+def first_wrong(library, words, folder, is_right):
+    """How many requests were refused, and whether the last of these made the run end otherwise than it should."""
+    number = 0
+    while True:
+        number += 1
+        run = Run(library, number, words, folder)
+        if not is_right(run):
+            return number, True
+        if not run.was_refused:
+            return number - 1, False
+
+
+def tests_of(program):
+    listed = subprocess.run([program, "--list"], check=True, stdout=subprocess.PIPE, text=True).stdout
+    return [name for name, _, kind in (line.partition(": ") for line in listed.split("\n")) if kind == "test" and TESTS in name]
+
+
+class Case:
+    """A command whose requests are refused, its name, and what tells whether a run of it ended as it should."""
+
+    def __init__(self, name, words, is_right):
+        self.name, self.words, self.is_right = name, words, is_right
+
+    def tried(self, library):
+        with tempfile.TemporaryDirectory(prefix="refused-") as folder:
+            count, is_wrong = first_wrong(library, self.words, folder, lambda run: self.is_right(run, folder))
+        if is_wrong:
+            return False, f"{self.name}: request {count} refused changes an answer"
+        return True, f"{self.name}: {count} requests refused in turn"
+
+
+def test_cases(tree):
+    """Each test of want of memory, in each linked test program below a tree: it passes whatever is refused."""
+    for program in sorted(glob.glob(f"{tree}/crates/*/out/*_tests")):
+        for test in tests_of(program):
+            crate = os.path.basename(program)[: -len("_tests")]
+            yield Case(f"{crate} {test}", [program, test], lambda run, _: run.status == 0)
+
+
+def program_case(program, words):
+    """A program's command: it ends as it does with memory, or with status 4, its line, and nothing else written. A dump
+    goes to the file 'dump' of the folder that it runs in."""
+    name = os.path.basename(program)
+    line = f"{name.replace('_', '-')}: out of memory\n".encode()
+
+    def outcome(run, folder):
+        dump = b""
+        if os.path.exists(f"{folder}/dump"):
+            with open(f"{folder}/dump", "rb") as it:
+                dump = it.read()
+            os.remove(f"{folder}/dump")
+        return run.status, run.out, run.err, dump
+
+    with tempfile.TemporaryDirectory(prefix="refused-") as folder:
+        before = outcome(Run("", 0, [program, *words], folder), folder)
+    right = (before, (4, b"", line, b""))
+    return Case(f"{name} {' '.join(map(os.path.basename, words))}", [program, *words], lambda run, folder: outcome(run, folder) in right)
+
+
+def program_cases(tree, room):
+    """A whole run with its dump, the audit of that dump, and words that are asked for help or wrong."""
+    script, dump = os.path.abspath("examples/by_entry.histar"), f"{room}/by_entry.dump"
+    histar, audit = (f"{tree}/crates/{it}/out/{it}" for it in ("histar", "histar_audit"))
+    subprocess.run([histar, "run", script, "--dump", dump], check=True, stdout=subprocess.DEVNULL)
+    yield program_case(histar, ["run", script, "--dump", "dump"])
+    yield program_case(histar, ["run", script, "--pages", "7"])
+    yield program_case(histar, ["--help"])
+    yield program_case(audit, [dump])
+    yield program_case(audit, ["--help"])
+
+
+def refuse(report, tree, room):
+    """Refuses each request in turn in the tests of want of memory and in the programs."""
+    report.heading("Refused allocations")
+    library = allocator(room)
+    cases = [*test_cases(tree), *program_cases(tree, room)]
+    with ThreadPoolExecutor(os.cpu_count()) as pool:
+        for is_well, text in pool.map(lambda case: case.tried(library), cases):
+            report.counts(is_well, text)

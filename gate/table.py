@@ -1,0 +1,106 @@
+#!/usr/bin/env python3
+"""Writes the table of docs/GATE.md anew, between its two marks: each crate's lines and edits as they stand, its seconds as
+the last whole ./test (and ./test edits) left them in out/times, the longest chain of crates, and minutes for each
+thousand lines."""
+import glob
+import os
+import re
+import sys
+
+sys.dont_write_bytecode = True
+os.chdir(os.path.dirname(os.path.dirname(os.path.realpath(__file__))))
+sys.path.insert(0, os.getcwd())
+
+from gate import times  # noqa: E402
+from gate.proofs import TIMES  # noqa: E402
+
+BEGIN, END = "<!-- made by gate/table.py -->\n", "<!-- end of what gate/table.py made -->\n"
+
+
+def lines(files):
+    """How many lines are not blank, comments among them."""
+    count = 0
+    for file in files:
+        with open(file, encoding="utf-8") as it:
+            count += sum(bool(line.strip()) for line in it)
+    return count
+
+
+def below(pattern):
+    return glob.glob(pattern, recursive=True)
+
+
+class Crate:
+    """A crate of crates.txt: the crates that it uses, its lines and edits, and its seconds of processor."""
+
+    def __init__(self, name, uses, seconds):
+        root = f"crates/{name}"
+        self.name, self.uses = name, uses
+        sources = below(f"{root}/src/**/*.rt")
+        tests = [it for it in sources if self.is_test(it)]
+        self.code, self.tests = lines(set(sources) - set(tests)), lines(tests)
+        self.definitions, self.proofs = lines(below(f"{root}/specs/**/*.antt")), lines(below(f"{root}/proofs/**/*.antt"))
+        self.edits = len(glob.glob(f"{root}/must-fail/*.edit"))
+        self.seconds = {kind: seconds.get((name, kind)) for kind in times.KINDS}
+
+    def is_test(self, file):
+        """Whether a file is of tests alone: its module is compiled for tests only, or the crate is of tests."""
+        if self.name.endswith("_tests") or self.name == "test_support":
+            return True
+        with open(f"crates/{self.name}/src/{'main' if os.path.exists(f'crates/{self.name}/src/main.rt') else 'lib'}.rt", encoding="utf-8") as it:
+            return os.path.basename(file)[: -len(".rt")] in re.findall(r"#\[cfg\(test\)\]\nmod (\w+);", it.read())
+
+    def row(self):
+        cells = [f"`{self.name}`", self.code, self.tests, self.definitions, self.proofs, self.edits]
+        shown = [str(it) if it else "" for it in cells] + ["" if it is None else str(it) for it in self.seconds.values()]
+        return f"| {' | '.join(shown)} |"
+
+
+def crates():
+    seconds = times.read(TIMES)
+    with open("crates.txt", encoding="utf-8") as it:
+        rows = [line.split("#")[0].split(":") for line in it if ":" in line.split("#")[0]]
+    return [Crate(row[0].split()[0], row[1].split(), seconds) for row in rows]
+
+
+def longest_chain(found):
+    """The chain of crates, each using the one before, whose checks take longest one after another, with its seconds."""
+    known, best = {it.name: it for it in found}, {}
+
+    def chain_to(crate):
+        if crate.name not in best:
+            under = [chain_to(known[it]) for it in crate.uses if it in known]
+            seconds, names = max(under, default=(0, []))
+            own = crate.seconds["check"] or crate.seconds["tests"] or 0
+            best[crate.name] = seconds + own, [*names, crate.name]
+        return best[crate.name]
+
+    return max(map(chain_to, found))
+
+
+def table():
+    found = crates()
+    yield "| Crate | Code | Tests | Definitions | Proofs | Edits | Check, s | Tests, s | Edits, s |\n|---|---|---|---|---|---|---|---|---|"
+    for crate in found:
+        yield crate.row()
+    sums = [sum(getattr(it, part) for it in found) for part in ("code", "tests", "definitions", "proofs", "edits")]
+    seconds = [sum(it.seconds[kind] or 0 for it in found) for kind in times.KINDS]
+    yield f"| all | {' | '.join(map(str, sums + seconds))} |\n"
+    taken, names = longest_chain(found)
+    yield f"The longest chain of crates takes {taken} s of processor: {', '.join(f'`{it}`' for it in names)}.\n"
+    thousands = sum(sums[:4]) / 1000
+    yield (
+        f"For each thousand lines of code, tests, definitions and proofs: {seconds[0] / 60 / thousands:.1f} minutes of processor "
+        f"for checks, {seconds[1] / 60 / thousands:.1f} for tests, {seconds[2] / 60 / thousands:.1f} for edits."
+    )
+
+
+def main():
+    with open("docs/GATE.md", encoding="utf-8") as it:
+        head, _, rest = it.read().partition(BEGIN)
+    tail = rest.partition(END)[2]
+    with open("docs/GATE.md", "w", encoding="utf-8") as it:
+        it.write(head + BEGIN + "\n" + "\n".join(table()) + "\n\n" + END + tail)
+
+
+main()
