@@ -1,5 +1,6 @@
 pub mod PartLemmas
 pub mod LineLemmas
 pub mod TextLemmas
+pub mod Faults
 pub mod ScriptLemmas
 pub mod Progress

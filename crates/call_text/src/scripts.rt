@@ -110,10 +110,13 @@ pub fn read_script(alloc: Global, bytes: &[u8]) -> Result<Script, ScriptError>
     Ok(Script { phases })
 }
 
-/// Bytes spell one script, and what spells one has no faulty line.
+/// A law, which does nothing when it is called: bytes spell one script, what spells one has no faulty line, and the first
+/// faulty line is one.
 pub fn one_reading()
     ensures value { (bytes : List ℕ) (a b : List (List LineValue))
         → IsScript bytes a → IsScript bytes b → a ≡ b }
     ensures fault { (bytes : List ℕ) (n : ℕ) (a : List (List LineValue))
         → ScriptFaultsAt bytes n → IsScript bytes a → ⊥ }
+    ensures line { (bytes : List ℕ) (n m : ℕ)
+        → ScriptFaultsAt bytes n → ScriptFaultsAt bytes m → n ≡ m }
 {}

@@ -6,7 +6,6 @@ pub mod EventLemmas
 pub mod LineLemmas
 pub mod Ordering
 pub mod Progress
-pub mod Faults
 pub mod Sequence
 pub mod KernelReplies
 pub mod Places
