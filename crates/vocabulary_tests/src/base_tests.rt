@@ -1,5 +1,5 @@
-//! Each public call once, with values from the table.
-use super::*;
+//! The words: each public call once, with values from the table.
+use base::{Data, Kind, Level, Limits, Meter, ObjectId, Refusal, Rights, TypeSet, live_by_path};
 use bitflags::Flags;
 use std::test::Fail;
 

@@ -1,13 +1,8 @@
-use super::*;
+//! Labels: their orders, their exceptions, and their raw form.
 use base::{Category, Level, Meter, Refusal};
+use label_lattice::{Label, Pair, RawLabel, laws};
 use std::test::Fail;
-
-fn pair(category: u64, level: Level) -> Pair {
-    Pair {
-        category: Category(category),
-        level,
-    }
-}
+use test_support::{label_with, pair};
 
 /// The label {1}.
 fn plain(meter: &mut Meter) -> Result<Label, Refusal> {
@@ -16,7 +11,7 @@ fn plain(meter: &mut Meter) -> Result<Label, Refusal> {
 
 /// The label {1} with one exception, at category 1.
 fn with_first(level: Level, meter: &mut Meter) -> Result<Label, Refusal> {
-    Label::from_raw(&RawLabel::new(Level::L1, &[pair(1, level)]), meter)
+    Label::from_raw(&label_with(level, Level::L1), meter)
 }
 
 /// The categories 1 to 17 at level 3.

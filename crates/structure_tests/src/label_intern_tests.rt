@@ -1,10 +1,12 @@
+//! Labels that have one index each, and without memory.
 ghost use Rattle.std.specs.Prelude.{◌≡◌, None, IfOk, replicate};
 
-use super::*;
-use base::{Category, Level, Meter, NoMemory};
-use label_lattice::{Label, Pair, Pairs, RawLabel};
+use base::{Level, Meter, NoMemory};
+use label_intern::{Labels, OrderBits};
+use label_lattice::Label;
 use std::alloc::Global;
 use std::test::Fail;
+use test_support::{everywhere, label_with, meter_again, plain};
 
 // Three indexes, booted once more where the first boot had no memory.
 fn booted_again(alloc: Global) -> Result<Labels, NoMemory>
@@ -20,16 +22,8 @@ fn booted_again(alloc: Global) -> Result<Labels, NoMemory>
 fn order_is_kept(rt: HostRuntime) -> Result<(), Fail> {
     let mut meter = Meter::new(rt.alloc())?;
     let mut labels = Labels::boot(rt.alloc(), 3)?;
-    let mut raw = RawLabel {
-        default: Level::L1,
-        pairs: Pairs::new(),
-    };
-    let plain = Label::from_raw(&raw, &mut meter)?;
-    raw.pairs.push(Pair {
-        category: Category(1),
-        level: Level::Star,
-    });
-    let owner = Label::from_raw(&raw, &mut meter)?;
+    let plain = Label::from_raw(&plain(), &mut meter)?;
+    let owner = Label::from_raw(&label_with(Level::Star, Level::L1), &mut meter)?;
 
     let a = labels.intern(&owner, &mut meter);
     let b = labels.intern(&plain, &mut meter);
@@ -53,22 +47,11 @@ fn order_is_kept(rt: HostRuntime) -> Result<(), Fail> {
 // Where an allocation is refused, a pool that is booted again is as if nothing had been.
 #[test]
 fn want_of_memory_changes_nothing(rt: HostRuntime) -> Result<(), Fail> {
-    let mut meter = match Meter::new(rt.alloc()) {
-        Ok(meter) => meter,
-        Err(_) => Meter::new(rt.alloc())?,
-    };
+    let mut meter = meter_again(rt.alloc())?;
     let mut labels = booted_again(rt.alloc())?;
     assert_eq!(rt; labels.len(), 0);
-    let low = RawLabel {
-        default: Level::L1,
-        pairs: Pairs::new(),
-    };
-    let high = RawLabel {
-        default: Level::L2,
-        pairs: Pairs::new(),
-    };
-    let low = Label::from_raw(&low, &mut meter)?;
-    let high = Label::from_raw(&high, &mut meter)?;
+    let low = Label::from_raw(&plain(), &mut meter)?;
+    let high = Label::from_raw(&everywhere(Level::L2), &mut meter)?;
     let a = labels.intern(&low, &mut meter);
     let b = labels.intern(&high, &mut meter);
     assert_eq!(rt; labels.order(a, b), OrderBits(7));

@@ -1,8 +1,11 @@
 //! What objects hold, and the refusal of a row.
-use super::*;
-use base::{Data, Level, Meter, ObjectId, Refusal, Rights};
-use label_lattice::{Label, RawLabel};
+use base::{Data, Meter, ObjectId, Refusal, Rights};
+use kernel_rules::{
+    Body, Bytes, IdList, Ids, Mapping, Packets, Slots, fresh_object, least, least_of,
+};
+use label_lattice::Label;
 use std::test::Fail;
+use test_support::{in_root, plain};
 
 #[test]
 fn bytes_are_written_and_cut_off(rt: HostRuntime) -> Result<(), Fail> {
@@ -44,10 +47,7 @@ fn a_new_object_and_its_slots(rt: HostRuntime) -> Result<(), Fail> {
     let mut meter = Meter::new(rt.alloc())?;
     let mapping = Mapping {
         page: 3,
-        entry: Entry {
-            container: ObjectId::root(),
-            object: ObjectId::new(4),
-        },
+        entry: in_root(4),
         first: 0,
         count: 1,
         rights: Rights::READ,
@@ -56,7 +56,7 @@ fn a_new_object_and_its_slots(rt: HostRuntime) -> Result<(), Fail> {
     assert!(rt; slots.slots[15].is_none());
     slots.set(15, Some(mapping));
     assert!(rt; matches!(slots.slots[15], Some(filled) if filled.page == 3));
-    let label = Label::from_raw(&RawLabel::new(Level::L1, &[]), &mut meter)?;
+    let label = Label::from_raw(&plain(), &mut meter)?;
     let object = fresh_object(label, 2, Body::AddressSpace(slots));
     assert_eq!(rt; object.quota, 2);
     assert!(rt; !object.fixed && !object.immutable);
@@ -79,4 +79,42 @@ fn the_least_number_wins(rt: HostRuntime) {
         Some(Refusal::NoQuota)
     );
     assert_eq!(rt; least_of(None, immutable), immutable);
+}
+
+// Where an allocation is refused, what is made or pushed again is as if nothing had been.
+#[test]
+fn want_of_memory_changes_nothing(rt: HostRuntime) -> Result<(), Fail> {
+    let alloc = rt.alloc();
+    let bytes = match Bytes::copied(alloc, &[7, 8]) {
+        Ok(bytes) => bytes,
+        Err(_) => Bytes::copied(alloc, &[7, 8])?,
+    };
+    let longer = match bytes.resized(alloc, 3) {
+        Ok(longer) => longer,
+        Err(_) => bytes.resized(alloc, 3)?,
+    };
+    assert_eq!(rt; longer.as_slice(), [7, 8, 0].as_slice());
+    let none = match Bytes::zeroed(alloc, 2) {
+        Ok(none) => none,
+        Err(_) => Bytes::zeroed(alloc, 2)?,
+    };
+    assert_eq!(rt; none.as_slice(), [0, 0].as_slice());
+    let listed = [4, 5, 6, 7, 8, 9].map(ObjectId::new);
+    let mut ids = IdList::new(alloc);
+    for id in listed {
+        if ids.push(id).is_err() {
+            ids.push(id)?;
+        }
+    }
+    assert_eq!(rt; ids.as_slice(), listed.as_slice());
+    let mut packets = Packets::new(alloc);
+    for byte in [1, 2, 3, 4, 5, 6] {
+        let packet = Data::from_slice(&[byte]);
+        if packets.push(packet).is_err() {
+            packets.push(packet)?;
+        }
+    }
+    assert_eq!(rt; packets.as_slice().len(), 6);
+    assert_eq!(rt; packets.as_slice()[5].as_slice(), [6].as_slice());
+    Ok(())
 }

@@ -1,10 +1,12 @@
+//! Lists by index, and without memory.
 ghost use Rattle.std.specs.Prelude.{◌≡◌, [], ◌∷◌, map, IfOk};
 ghost use Rattle.entry_lists.specs.Lists.{empty_lists};
 
-use super::*;
 use base::{Meter, NoMemory};
+use entry_lists::Rings;
 use std::alloc::Global;
 use std::test::Fail;
+use test_support::meter_again;
 
 // Two families of four cells, made once more where the first making had no memory.
 fn rings_again(alloc: Global) -> Result<Rings<2>, NoMemory>
@@ -44,10 +46,7 @@ fn cells_stand_in_one_list_of_each_family(rt: HostRuntime) -> Result<(), Fail> {
 // Where an allocation is refused, lists that are made again are as if nothing had been.
 #[test]
 fn want_of_memory_changes_nothing(rt: HostRuntime) -> Result<(), Fail> {
-    let mut meter = match Meter::new(rt.alloc()) {
-        Ok(meter) => meter,
-        Err(_) => Meter::new(rt.alloc())?,
-    };
+    let mut meter = meter_again(rt.alloc())?;
     let mut rings = rings_again(rt.alloc())?;
     rings.push_back(0, 1, 3, &mut meter);
     rings.push_back(0, 1, 0, &mut meter);

@@ -1,10 +1,12 @@
+//! Objects under their ids, and without memory.
 ghost use Rattle.std.specs.Prelude.{◌≡◌, IfOk};
 ghost use Rattle.object_arena.specs.Objects.{no_objects};
 
-use super::*;
-use base::{Meter, NoMemory, ObjectId, Slot};
+use base::{Meter, NoMemory, ObjectId};
+use object_arena::Arena;
 use std::alloc::Global;
 use std::test::Fail;
+use test_support::meter_again;
 
 // Three slots, booted once more where the first boot had no memory.
 fn booted_again(alloc: Global) -> Result<Arena<char>, NoMemory>
@@ -66,10 +68,7 @@ fn objects_go_together(rt: HostRuntime) -> Result<(), Fail> {
 // Where an allocation is refused, an arena that is booted again is as if nothing had been.
 #[test]
 fn want_of_memory_changes_nothing(rt: HostRuntime) -> Result<(), Fail> {
-    let mut meter = match Meter::new(rt.alloc()) {
-        Ok(meter) => meter,
-        Err(_) => Meter::new(rt.alloc())?,
-    };
+    let mut meter = meter_again(rt.alloc())?;
     let mut arena = booted_again(rt.alloc())?;
     assert_eq!(rt; arena.len(), 0);
     let first = arena.insert(ObjectId::new(4), 'a');
