@@ -1,5 +1,5 @@
-//! Tests of the plain state: what a booted one shows, each change once, and each change that takes memory made again
-//! where there was none.
+//! Tests of the plain state: what a booted one shows, each change once, and each change that takes
+//! memory made again where there was none.
 #![tactic(auto)]
 
 /// This crate has tests alone.

@@ -1,5 +1,5 @@
-//! Tests of the structures that a faster kernel will stand on: values from outside, and each boot made again where there
-//! was no memory for it.
+//! Tests of the structures that a faster kernel will stand on: values from outside, and each boot
+//! made again where there was no memory for it.
 #![tactic(auto)]
 
 /// This crate has tests alone.

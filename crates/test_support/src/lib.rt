@@ -1,5 +1,5 @@
-//! What the test crates share: limits, labels, entries and calls to ask with, looks at what is answered, streams that
-//! fail, and the text of a dump.
+//! What the test crates share: limits, labels, entries and calls to ask with, looks at what is
+//! answered, streams that fail, and the text of a dump.
 //!
 //! It is for tests alone, and promises nothing: what it makes and sees is what the tests say.
 #![tactic(auto)]

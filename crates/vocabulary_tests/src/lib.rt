@@ -1,5 +1,6 @@
-//! Tests of the words that every layer speaks, of labels, of the label rules of calls, and of what objects hold: values
-//! from outside, each public call once, and the calls that take memory made again where there was none.
+//! Tests of the words that every layer speaks, of labels, of the label rules of calls, and of what
+//! objects hold: values from outside, each public call once, and the calls that take memory made
+//! again where there was none.
 #![tactic(auto)]
 
 /// This crate has tests alone.

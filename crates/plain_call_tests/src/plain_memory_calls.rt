@@ -1,42 +1,16 @@
-//! Each call, made where nothing refuses it, and what its reply is.
-use super::*;
-use base::{Data, Level, Limits, Meter, NoMemory, ObjectId, Refusal};
+//! Each call on memory, made where nothing refuses it, and what its reply is.
+use base::{Data, Meter, NoMemory, ObjectId, Refusal};
 use kernel_rules::{Entry, Mapping, NewAddressSpace, NewCopy, NewSegment, Reply};
-use label_lattice::RawLabel;
-use plain_state::PlainState;
-
-pub const LIMITS: Limits = Limits {
-    pages: 64,
-    device: Level::L1,
-    next_id: 4,
-    next_category: 1,
+use plain_memory::{
+    as_create, as_get, as_map, as_unmap, dev_recv, dev_send, load, meta_get, meta_set,
+    refused_as_create, refused_as_get, refused_as_map, refused_as_unmap, refused_dev_recv,
+    refused_dev_send, refused_load, refused_meta_get, refused_meta_set, refused_segment_copy,
+    refused_segment_create, refused_segment_len, refused_segment_read, refused_segment_resize,
+    refused_segment_write, refused_set_immutable, refused_store, segment_copy, segment_create,
+    segment_len, segment_read, segment_resize, segment_write, set_immutable, store,
 };
-
-pub fn boot() -> ObjectId {
-    ObjectId::new(2)
-}
-
-pub fn in_root(number: u64) -> Entry {
-    Entry {
-        container: ObjectId::root(),
-        object: ObjectId::new(number),
-    }
-}
-
-fn plain() -> RawLabel {
-    RawLabel::new(Level::L1, &[])
-}
-
-pub fn is_data(reply: Reply, wanted: &[u8]) -> bool {
-    match reply {
-        Reply::Bytes(data) => data.as_slice() == wanted,
-        _ => false,
-    }
-}
-
-pub fn is_done(reply: Reply) -> bool {
-    matches!(reply, Reply::Done)
-}
+use plain_state::PlainState;
+use test_support::{answered, boot_thread, made, plain};
 
 pub fn is_pages(reply: Reply, wanted: u32) -> bool {
     matches!(reply, Reply::Pages(pages) if pages == wanted)
@@ -46,40 +20,12 @@ pub fn is_mapped(reply: Reply, wanted: u32) -> bool {
     matches!(reply, Reply::Mapping(Some(mapping)) if mapping.page == wanted)
 }
 
-pub fn refusal_in(reply: Reply) -> Option<Refusal> {
-    match reply {
-        Reply::Refused(refusal) => Some(refusal),
-        _ => None,
-    }
-}
-
-fn answered(outcome: Result<Reply, NoMemory>) -> Result<Option<Refusal>, NoMemory> {
-    match outcome {
-        Ok(reply) => Ok(refusal_in(reply)),
-        Err(error) => Err(error),
-    }
-}
-
-fn object_in(reply: Reply) -> Option<ObjectId> {
-    match reply {
-        Reply::Object(id) => Some(id),
-        _ => None,
-    }
-}
-
-fn made(outcome: Result<Reply, NoMemory>) -> Result<Option<ObjectId>, NoMemory> {
-    match outcome {
-        Ok(reply) => Ok(object_in(reply)),
-        Err(error) => Err(error),
-    }
-}
-
 /// A segment of one page and two pages of quota.
 pub fn make_segment(
     state: &mut PlainState,
     meter: &mut Meter,
 ) -> Result<Option<ObjectId>, NoMemory> {
-    let thread = boot();
+    let thread = boot_thread();
     let segment = NewSegment {
         container: ObjectId::root(),
         label: plain(),
@@ -97,7 +43,7 @@ pub fn copy(
     source: &Entry,
     meter: &mut Meter,
 ) -> Result<Option<ObjectId>, NoMemory> {
-    let thread = boot();
+    let thread = boot_thread();
     let copy = NewCopy {
         container: ObjectId::root(),
         label: plain(),
@@ -116,7 +62,7 @@ pub fn resize(
     pages: u32,
     meter: &mut Meter,
 ) -> Result<Option<Refusal>, NoMemory> {
-    let thread = boot();
+    let thread = boot_thread();
     let refused = refused_segment_resize(state, thread, entry, pages, meter);
     if refused.is_none() {
         return answered(segment_resize(state, thread, entry, pages));
@@ -125,7 +71,7 @@ pub fn resize(
 }
 
 pub fn make_space(state: &mut PlainState, meter: &mut Meter) -> Result<Option<ObjectId>, NoMemory> {
-    let thread = boot();
+    let thread = boot_thread();
     let space = NewAddressSpace {
         container: ObjectId::root(),
         label: plain(),
@@ -143,7 +89,7 @@ pub fn send(
     data: &Data,
     meter: &mut Meter,
 ) -> Result<Option<Refusal>, NoMemory> {
-    let thread = boot();
+    let thread = boot_thread();
     let refused = refused_dev_send(state, thread, entry, data, meter);
     if refused.is_none() {
         return answered(dev_send(state, thread, entry, data));
@@ -152,7 +98,7 @@ pub fn send(
 }
 
 pub fn receive(state: &mut PlainState, entry: &Entry, meter: &mut Meter) -> Reply {
-    let thread = boot();
+    let thread = boot_thread();
     match refused_dev_recv(state, thread, entry, meter) {
         Some(refusal) => Reply::Refused(refusal),
         None => dev_recv(state, thread, entry),
@@ -166,7 +112,7 @@ pub fn write(
     data: &Data,
     meter: &mut Meter,
 ) -> Reply {
-    let thread = boot();
+    let thread = boot_thread();
     match refused_segment_write(state, thread, entry, offset, data, meter) {
         Some(refusal) => Reply::Refused(refusal),
         None => segment_write(state, thread, entry, offset, data),
@@ -180,7 +126,7 @@ pub fn read(
     count: u32,
     meter: &mut Meter,
 ) -> Reply {
-    let thread = boot();
+    let thread = boot_thread();
     match refused_segment_read(state, thread, entry, offset, count, meter) {
         Some(refusal) => Reply::Refused(refusal),
         None => segment_read(state, thread, entry, offset, count),
@@ -188,7 +134,7 @@ pub fn read(
 }
 
 pub fn pages_of(state: &PlainState, entry: &Entry, meter: &mut Meter) -> Reply {
-    let thread = boot();
+    let thread = boot_thread();
     match refused_segment_len(state, thread, entry, meter) {
         Some(refusal) => Reply::Refused(refusal),
         None => segment_len(state, thread, entry),
@@ -196,7 +142,7 @@ pub fn pages_of(state: &PlainState, entry: &Entry, meter: &mut Meter) -> Reply {
 }
 
 pub fn note(state: &mut PlainState, entry: &Entry, data: &Data, meter: &mut Meter) -> Reply {
-    let thread = boot();
+    let thread = boot_thread();
     match refused_meta_set(state, thread, entry, data, meter) {
         Some(refusal) => Reply::Refused(refusal),
         None => meta_set(state, thread, entry, data),
@@ -204,7 +150,7 @@ pub fn note(state: &mut PlainState, entry: &Entry, data: &Data, meter: &mut Mete
 }
 
 pub fn noted(state: &PlainState, entry: &Entry, meter: &mut Meter) -> Reply {
-    let thread = boot();
+    let thread = boot_thread();
     match refused_meta_get(state, thread, entry, meter) {
         Some(refusal) => Reply::Refused(refusal),
         None => meta_get(state, thread, entry),
@@ -212,7 +158,7 @@ pub fn noted(state: &PlainState, entry: &Entry, meter: &mut Meter) -> Reply {
 }
 
 pub fn freeze(state: &mut PlainState, entry: &Entry, meter: &mut Meter) -> Reply {
-    let thread = boot();
+    let thread = boot_thread();
     match refused_set_immutable(state, thread, entry, meter) {
         Some(refusal) => Reply::Refused(refusal),
         None => set_immutable(state, thread, entry),
@@ -220,7 +166,7 @@ pub fn freeze(state: &mut PlainState, entry: &Entry, meter: &mut Meter) -> Reply
 }
 
 pub fn map(state: &mut PlainState, space: &Entry, mapping: &Mapping, meter: &mut Meter) -> Reply {
-    let thread = boot();
+    let thread = boot_thread();
     match refused_as_map(state, thread, space, 0, mapping, meter) {
         Some(refusal) => Reply::Refused(refusal),
         None => as_map(state, thread, space, 0, mapping),
@@ -228,7 +174,7 @@ pub fn map(state: &mut PlainState, space: &Entry, mapping: &Mapping, meter: &mut
 }
 
 pub fn unmap(state: &mut PlainState, space: &Entry, meter: &mut Meter) -> Reply {
-    let thread = boot();
+    let thread = boot_thread();
     match refused_as_unmap(state, thread, space, 0, meter) {
         Some(refusal) => Reply::Refused(refusal),
         None => as_unmap(state, thread, space, 0),
@@ -236,7 +182,7 @@ pub fn unmap(state: &mut PlainState, space: &Entry, meter: &mut Meter) -> Reply 
 }
 
 pub fn mapped(state: &PlainState, space: &Entry, meter: &mut Meter) -> Reply {
-    let thread = boot();
+    let thread = boot_thread();
     match refused_as_get(state, thread, space, 0, meter) {
         Some(refusal) => Reply::Refused(refusal),
         None => as_get(state, thread, space, 0),
@@ -244,7 +190,7 @@ pub fn mapped(state: &PlainState, space: &Entry, meter: &mut Meter) -> Reply {
 }
 
 pub fn put(state: &mut PlainState, address: u64, data: &Data, meter: &mut Meter) -> Reply {
-    let thread = boot();
+    let thread = boot_thread();
     match refused_store(state, thread, address, data, meter) {
         Some(refusal) => Reply::Refused(refusal),
         None => store(state, thread, address, data, meter),
@@ -252,7 +198,7 @@ pub fn put(state: &mut PlainState, address: u64, data: &Data, meter: &mut Meter)
 }
 
 pub fn fetch(state: &PlainState, address: u64, count: u32, meter: &mut Meter) -> Reply {
-    let thread = boot();
+    let thread = boot_thread();
     match refused_load(state, thread, address, count, meter) {
         Some(refusal) => Reply::Refused(refusal),
         None => load(state, thread, address, count, meter),

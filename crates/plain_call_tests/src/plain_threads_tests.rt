@@ -1,52 +1,20 @@
 //! Each call where nothing refuses it, some where something does, and without memory.
-use super::*;
-use base::{Category, Level, Limits, Meter, NoMemory, ObjectId, Refusal};
+use crate::boots::booted_again;
+use base::{Category, Level, Meter, NoMemory, ObjectId, Refusal};
 use kernel_rules::{Entry, NewGate, NewThread, Reply};
-use label_lattice::{Label, Pair, RawLabel};
-use plain_state::{BootRefusal, PlainState};
-use std::test::Fail;
-
-const LIMITS: Limits = Limits {
-    pages: 64,
-    device: Level::L1,
-    next_id: 4,
-    next_category: 1,
+use label_lattice::{Label, RawLabel};
+use plain_state::PlainState;
+use plain_threads::{
+    cat_create, gate_create, gate_enter, obj_label, refused_cat_create, refused_gate_create,
+    refused_gate_enter, refused_obj_label, refused_self_get, refused_self_set_as,
+    refused_self_set_clearance, refused_self_set_label, refused_thread_create, self_get,
+    self_set_as, self_set_clearance, self_set_label, thread_create,
 };
-
-fn no_space() -> Entry {
-    Entry {
-        container: ObjectId::new(0),
-        object: ObjectId::new(0),
-    }
-}
-
-fn boot() -> ObjectId {
-    ObjectId::new(2)
-}
-
-fn in_root(number: u64) -> Entry {
-    Entry {
-        container: ObjectId::root(),
-        object: ObjectId::new(number),
-    }
-}
-
-/// The raw label with category 1 at a level, and this default.
-fn label_with(level: Level, default: Level) -> RawLabel {
-    let first = Pair {
-        category: Category(1),
-        level,
-    };
-    RawLabel::new(default, &[first])
-}
-
-fn plain() -> RawLabel {
-    RawLabel::new(Level::L1, &[])
-}
-
-fn is_done(reply: Reply) -> bool {
-    matches!(reply, Reply::Done)
-}
+use std::test::Fail;
+use test_support::{
+    LIMITS, boot_thread, everywhere, in_root, is_done, label_with, made, meter_again, no_entry,
+    plain, refusal_in,
+};
 
 fn is_entered(reply: Reply, wanted: u64, handed: u64) -> bool {
     match reply {
@@ -55,13 +23,6 @@ fn is_entered(reply: Reply, wanted: u64, handed: u64) -> bool {
             closure,
         } => entry_point == wanted && closure == handed,
         _ => false,
-    }
-}
-
-fn refusal_in(reply: Reply) -> Option<Refusal> {
-    match reply {
-        Reply::Refused(refusal) => Some(refusal),
-        _ => None,
     }
 }
 
@@ -81,22 +42,8 @@ fn label_in(reply: Reply) -> Option<Label> {
     }
 }
 
-fn object_in(reply: Reply) -> Option<ObjectId> {
-    match reply {
-        Reply::Object(id) => Some(id),
-        _ => None,
-    }
-}
-
-fn made(outcome: Result<Reply, NoMemory>) -> Result<Option<ObjectId>, NoMemory> {
-    match outcome {
-        Ok(reply) => Ok(object_in(reply)),
-        Err(error) => Err(error),
-    }
-}
-
 fn make_category(state: &mut PlainState, meter: &mut Meter) -> Option<Category> {
-    let thread = boot();
+    let thread = boot_thread();
     if refused_cat_create(state, thread, meter).is_none() {
         return category_in(cat_create(state, thread, meter));
     }
@@ -104,7 +51,7 @@ fn make_category(state: &mut PlainState, meter: &mut Meter) -> Option<Category> 
 }
 
 fn make_thread(state: &mut PlainState, meter: &mut Meter) -> Result<Option<ObjectId>, NoMemory> {
-    let thread = boot();
+    let thread = boot_thread();
     let asked = NewThread {
         container: ObjectId::root(),
         label: plain(),
@@ -120,13 +67,13 @@ fn make_thread(state: &mut PlainState, meter: &mut Meter) -> Result<Option<Objec
 
 /// A gate that owns category 1, enters at 7 and hands on 9.
 fn make_gate(state: &mut PlainState, meter: &mut Meter) -> Result<Option<ObjectId>, NoMemory> {
-    let thread = boot();
+    let thread = boot_thread();
     let gate = NewGate {
         container: ObjectId::root(),
         label: label_with(Level::Star, Level::L1),
         quota: 1,
         clearance: label_with(Level::L3, Level::L1),
-        space: no_space(),
+        space: no_entry(),
         entry_point: 7,
         closure: 9,
     };
@@ -139,7 +86,7 @@ fn make_gate(state: &mut PlainState, meter: &mut Meter) -> Result<Option<ObjectI
 fn enter_gate(state: &mut PlainState, thread: ObjectId, gate: &Entry, meter: &mut Meter) -> Reply {
     let raw = label_with(Level::Star, Level::L1);
     let cleared = label_with(Level::L3, Level::L1);
-    let verify = RawLabel::new(Level::L3, &[]);
+    let verify = everywhere(Level::L3);
     match refused_gate_enter(state, thread, gate, &raw, &cleared, &verify, meter) {
         Some(refusal) => Reply::Refused(refusal),
         None => gate_enter(state, thread, gate, &raw, &cleared, &verify, meter),
@@ -147,7 +94,7 @@ fn enter_gate(state: &mut PlainState, thread: ObjectId, gate: &Entry, meter: &mu
 }
 
 fn relabel(state: &mut PlainState, raw: &RawLabel, meter: &mut Meter) -> Reply {
-    let thread = boot();
+    let thread = boot_thread();
     match refused_self_set_label(state, thread, raw, meter) {
         Some(refusal) => Reply::Refused(refusal),
         None => self_set_label(state, thread, raw, meter),
@@ -155,7 +102,7 @@ fn relabel(state: &mut PlainState, raw: &RawLabel, meter: &mut Meter) -> Reply {
 }
 
 fn clear(state: &mut PlainState, raw: &RawLabel, meter: &mut Meter) -> Reply {
-    let thread = boot();
+    let thread = boot_thread();
     match refused_self_set_clearance(state, thread, raw, meter) {
         Some(refusal) => Reply::Refused(refusal),
         None => self_set_clearance(state, thread, raw, meter),
@@ -163,7 +110,7 @@ fn clear(state: &mut PlainState, raw: &RawLabel, meter: &mut Meter) -> Reply {
 }
 
 fn set_space(state: &mut PlainState, space: &Entry, meter: &mut Meter) -> Reply {
-    let thread = boot();
+    let thread = boot_thread();
     match refused_self_set_as(state, thread, space, meter) {
         Some(refusal) => Reply::Refused(refusal),
         None => self_set_as(state, thread, space),
@@ -171,7 +118,7 @@ fn set_space(state: &mut PlainState, space: &Entry, meter: &mut Meter) -> Reply 
 }
 
 fn label_of(state: &PlainState, entry: &Entry, meter: &mut Meter) -> Reply {
-    let thread = boot();
+    let thread = boot_thread();
     match refused_obj_label(state, thread, entry, meter) {
         Some(refusal) => Reply::Refused(refusal),
         None => obj_label(state, thread, entry),
@@ -208,10 +155,10 @@ fn a_thread_changes_itself(rt: HostRuntime) -> Result<(), Fail> {
     let mut meter = Meter::new(rt.alloc())?;
     let mut state = PlainState::boot(rt.alloc(), &LIMITS)?;
     assert!(rt; is_done(clear(&mut state, &plain(), &mut meter)));
-    let above = refusal_in(relabel(&mut state, &RawLabel::new(Level::L2, &[]), &mut meter));
+    let above = refusal_in(relabel(&mut state, &everywhere(Level::L2), &mut meter));
     assert_eq!(rt; above, Some(Refusal::LabelRange));
     assert!(rt; is_done(relabel(&mut state, &plain(), &mut meter)));
-    assert!(rt; is_done(set_space(&mut state, &no_space(), &mut meter)));
+    assert!(rt; is_done(set_space(&mut state, &no_entry(), &mut meter)));
     let device = refusal_in(set_space(&mut state, &in_root(3), &mut meter));
     assert_eq!(rt; device, Some(Refusal::WrongType));
     let container = refusal_in(own(&state, ObjectId::root()));
@@ -219,22 +166,12 @@ fn a_thread_changes_itself(rt: HostRuntime) -> Result<(), Fail> {
     Ok(())
 }
 
-fn booted(rt: &HostRuntime) -> Result<PlainState, BootRefusal> {
-    match PlainState::boot(rt.alloc(), &LIMITS) {
-        Ok(state) => Ok(state),
-        Err(_) => PlainState::boot(rt.alloc(), &LIMITS),
-    }
-}
-
 // Where an allocation is refused, the state before stands: the call that is made again answers as
 // if nothing had been.
 #[test]
 fn want_of_memory_changes_nothing(rt: HostRuntime) -> Result<(), Fail> {
-    let mut meter = match Meter::new(rt.alloc()) {
-        Ok(meter) => meter,
-        Err(_) => Meter::new(rt.alloc())?,
-    };
-    let mut state = booted(&rt)?;
+    let mut meter = meter_again(rt.alloc())?;
+    let mut state = booted_again(rt.alloc())?;
     assert_eq!(rt; make_category(&mut state, &mut meter), Some(Category(1)));
     let made = match make_thread(&mut state, &mut meter) {
         Ok(made) => made,

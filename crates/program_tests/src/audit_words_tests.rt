@@ -1,5 +1,5 @@
-//! What the command line takes and refuses.
-use super::*;
+//! What the command line of the auditor takes and refuses.
+use audit_words::read_words;
 use clap::error::ErrorKind;
 use std::alloc::Global;
 use std::test::Fail;

@@ -1,6 +1,8 @@
-//! What the command line takes and refuses.
-use super::*;
+//! What the command line of the program takes and refuses.
 use base::{Level, Limits};
+use clap::error::ErrorKind;
+use script_words::{DEFAULTS, read_words};
+use std::alloc::Global;
 use std::test::Fail;
 
 #[test]
@@ -129,5 +131,29 @@ fn tells_what_is_wrong(rt: HostRuntime) -> Result<(), Fail> {
         Ok(_) => assert!(rt; false),
         Err(error) => assert!(rt; error.exit_code() == 2),
     }
+    Ok(())
+}
+
+/// The paths of the script and of the dump that are read, or nothing for want of memory.
+fn paths_of<'a>(
+    alloc: Global,
+    words: &'a [&'a str],
+) -> Result<Option<(&'a str, Option<&'a str>)>, Fail> {
+    match read_words(alloc, words) {
+        Ok(told) => Ok(Some((told.script, told.dump))),
+        Err(error) if error.kind() == ErrorKind::OutOfMemory => Ok(None),
+        Err(_) => Err(Fail::from("a fault of usage")),
+    }
+}
+
+// Where an allocation is refused, the words that are read again are the same.
+#[test]
+fn want_of_memory_changes_nothing(rt: HostRuntime) -> Result<(), Fail> {
+    let words = ["histar", "run", "a.histar", "--dump", "d", "--pages", "8"];
+    let first = paths_of(rt.alloc(), words.as_slice())?;
+    let second = paths_of(rt.alloc(), words.as_slice())?;
+    let wanted = Some(("a.histar", Some("d")));
+    assert!(rt; first == None || first == wanted);
+    assert!(rt; second == wanted || (second == None && first == wanted));
     Ok(())
 }

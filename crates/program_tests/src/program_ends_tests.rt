@@ -1,6 +1,6 @@
 //! What the programs print at their ends, and what reading gives.
-use super::*;
 use clap::{Command, Error};
+use program_ends::{Fault, bytes_of, input_fault, tell_answer, words_of};
 use std::alloc::{AllocError, Global};
 use std::env::{Env, FillError};
 use std::fmt::Display;
@@ -201,8 +201,7 @@ fn are_had<R: Abort + AllocGlobal>(rt: &R) -> bool {
     }
 }
 
-/// Each allocation is refused in turn (by `rt try --test --fail-alloc N`): the fault is want of memory, and what is made
-/// again is had.
+/// Where an allocation is refused, the fault is want of memory, and what is made again is had.
 #[test]
 fn want_of_memory_is_told(rt: HostRuntime) {
     let first = are_had(&rt);

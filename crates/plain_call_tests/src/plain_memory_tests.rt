@@ -1,13 +1,14 @@
 //! Each call where nothing refuses it, some where something does, and without memory.
-use crate::samples::{
-    LIMITS, boot, copy, fetch, freeze, in_root, is_data, is_done, is_mapped, is_pages,
-    make_segment, make_space, map, mapped, note, noted, pages_of, put, read, receive, refusal_in,
-    resize, send, unmap, write,
+use crate::boots::booted_again;
+use crate::plain_memory_calls::{
+    copy, fetch, freeze, is_mapped, is_pages, make_segment, make_space, map, mapped, note, noted,
+    pages_of, put, read, receive, resize, send, unmap, write,
 };
 use base::{Data, Meter, ObjectId, Refusal, Rights};
 use kernel_rules::Mapping;
-use plain_state::{BootRefusal, PlainState};
+use plain_state::PlainState;
 use std::test::Fail;
+use test_support::{LIMITS, boot_thread, in_root, is_data, is_done, meter_again, refusal_in};
 
 #[test]
 fn segments_are_written_copied_and_cut_off(rt: HostRuntime) -> Result<(), Fail> {
@@ -79,7 +80,7 @@ fn pages_are_seen_while_they_are_mapped(rt: HostRuntime) -> Result<(), Fail> {
     assert_eq!(rt; make_space(&mut state, &mut meter)?, Some(space.object));
     assert!(rt; is_done(map(&mut state, &space, &mapping, &mut meter)));
     assert!(rt; is_mapped(mapped(&state, &space, &mut meter), 3));
-    state.set_space(boot(), space);
+    state.set_space(boot_thread(), space);
     // The page is 3, so its bytes are those from 768 on.
     assert!(rt; is_done(put(&mut state, 778, &byte, &mut meter)));
     assert!(rt; is_data(fetch(&state, 777, 2, &mut meter), &[0, 5]));
@@ -90,22 +91,12 @@ fn pages_are_seen_while_they_are_mapped(rt: HostRuntime) -> Result<(), Fail> {
     Ok(())
 }
 
-fn booted(rt: &HostRuntime) -> Result<PlainState, BootRefusal> {
-    match PlainState::boot(rt.alloc(), &LIMITS) {
-        Ok(state) => Ok(state),
-        Err(_) => PlainState::boot(rt.alloc(), &LIMITS),
-    }
-}
-
 // Where an allocation is refused, the state before stands: the call that is made again answers as
 // if nothing had been.
 #[test]
 fn want_of_memory_changes_nothing(rt: HostRuntime) -> Result<(), Fail> {
-    let mut meter = match Meter::new(rt.alloc()) {
-        Ok(meter) => meter,
-        Err(_) => Meter::new(rt.alloc())?,
-    };
-    let mut state = booted(&rt)?;
+    let mut meter = meter_again(rt.alloc())?;
+    let mut state = booted_again(rt.alloc())?;
     let (segment, device) = (in_root(4), in_root(3));
     let made = match make_segment(&mut state, &mut meter) {
         Ok(made) => made,

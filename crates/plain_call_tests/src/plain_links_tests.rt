@@ -1,46 +1,18 @@
 //! Each call once where nothing refuses it, once where something does, and without memory.
-use super::*;
-use base::{Level, Limits, Meter, NoMemory, ObjectId, Refusal, TypeSet};
+use crate::boots::booted_again;
+use base::{Meter, NoMemory, ObjectId, Refusal, TypeSet};
 use kernel_rules::{Entry, NewContainer, Reply};
-use label_lattice::{Pairs, RawLabel};
-use plain_state::{BootRefusal, PlainState};
-use std::test::Fail;
-
-const LIMITS: Limits = Limits {
-    pages: 64,
-    device: Level::L1,
-    next_id: 4,
-    next_category: 1,
+use plain_links::{
+    container_create, container_list, container_parent, link, obj_quota, quota_move,
+    refused_container_create, refused_container_list, refused_container_parent, refused_link,
+    refused_obj_quota, refused_quota_move, refused_set_fixed, refused_unref, set_fixed, unref,
 };
+use plain_state::PlainState;
+use std::test::Fail;
+use test_support::{LIMITS, answered, boot_thread, in_root, meter_again, plain, refusal_in};
 
-fn boot() -> ObjectId {
-    ObjectId::new(2)
-}
-
-fn in_root(number: u64) -> Entry {
-    Entry {
-        container: ObjectId::root(),
-        object: ObjectId::new(number),
-    }
-}
-
-fn refusal_in(reply: Reply) -> Option<Refusal> {
+fn parent_in(reply: Reply) -> Option<ObjectId> {
     match reply {
-        Reply::Refused(refusal) => Some(refusal),
-        _ => None,
-    }
-}
-
-fn answered(outcome: Result<Reply, NoMemory>) -> Result<Option<Refusal>, NoMemory> {
-    match outcome {
-        Ok(reply) => Ok(refusal_in(reply)),
-        Err(error) => Err(error),
-    }
-}
-
-fn object_in(reply: Reply) -> Option<ObjectId> {
-    match reply {
-        Reply::Object(id) => Some(id),
         Reply::Parent(id) => Some(id),
         _ => None,
     }
@@ -65,19 +37,12 @@ fn is_list(reply: Reply, wanted: &[ObjectId]) -> bool {
     }
 }
 
-fn plain() -> RawLabel {
-    RawLabel {
-        default: Level::L1,
-        pairs: Pairs::new(),
-    }
-}
-
 fn create(
     state: &mut PlainState,
     quota: u32,
     meter: &mut Meter,
 ) -> Result<Option<Refusal>, NoMemory> {
-    let thread = boot();
+    let thread = boot_thread();
     let container = NewContainer {
         container: ObjectId::root(),
         label: plain(),
@@ -97,7 +62,7 @@ fn link_in(
     entry: &Entry,
     meter: &mut Meter,
 ) -> Result<Option<Refusal>, NoMemory> {
-    let thread = boot();
+    let thread = boot_thread();
     let refused = refused_link(state, thread, target, entry, meter);
     if refused.is_none() {
         return answered(link(state, thread, target, entry));
@@ -110,7 +75,7 @@ fn take_out(
     entry: &Entry,
     meter: &mut Meter,
 ) -> Result<Option<Refusal>, NoMemory> {
-    let thread = boot();
+    let thread = boot_thread();
     let refused = refused_unref(state, thread, entry, meter);
     if refused.is_none() {
         return answered(unref(state, thread, entry));
@@ -124,7 +89,7 @@ fn change_quota(
     change: i32,
     meter: &mut Meter,
 ) -> Option<Refusal> {
-    let thread = boot();
+    let thread = boot_thread();
     let refused = refused_quota_move(state, thread, entry, change, meter);
     if refused.is_none() {
         return refusal_in(quota_move(state, thread, entry, change));
@@ -133,7 +98,7 @@ fn change_quota(
 }
 
 fn fix(state: &mut PlainState, entry: &Entry, meter: &mut Meter) -> Option<Refusal> {
-    let thread = boot();
+    let thread = boot_thread();
     let refused = refused_set_fixed(state, thread, entry, meter);
     if refused.is_none() {
         return refusal_in(set_fixed(state, thread, entry));
@@ -142,7 +107,7 @@ fn fix(state: &mut PlainState, entry: &Entry, meter: &mut Meter) -> Option<Refus
 }
 
 fn quota_of(state: &PlainState, entry: &Entry, meter: &mut Meter) -> Reply {
-    let thread = boot();
+    let thread = boot_thread();
     match refused_obj_quota(state, thread, entry, meter) {
         Some(refusal) => Reply::Refused(refusal),
         None => obj_quota(state, thread, entry),
@@ -150,7 +115,7 @@ fn quota_of(state: &PlainState, entry: &Entry, meter: &mut Meter) -> Reply {
 }
 
 fn list_of(state: &PlainState, container: ObjectId, from: u32, meter: &mut Meter) -> Reply {
-    let thread = boot();
+    let thread = boot_thread();
     match refused_container_list(state, thread, container, from, meter) {
         Some(refusal) => Reply::Refused(refusal),
         None => container_list(state, thread, container, from),
@@ -158,7 +123,7 @@ fn list_of(state: &PlainState, container: ObjectId, from: u32, meter: &mut Meter
 }
 
 fn parent_of(state: &PlainState, container: ObjectId, meter: &mut Meter) -> Reply {
-    let thread = boot();
+    let thread = boot_thread();
     match refused_container_parent(state, thread, container, meter) {
         Some(refusal) => Reply::Refused(refusal),
         None => container_parent(state, thread, container),
@@ -178,7 +143,7 @@ fn an_object_lives_while_a_list_has_it(rt: HostRuntime) -> Result<(), Fail> {
     assert_eq!(rt; take_out(&mut state, &in_root(3), &mut meter)?, None);
     assert!(rt; state.object(device).is_some());
     assert!(rt; is_list(list_of(&state, made, 0, &mut meter), &[device]));
-    let parent = object_in(parent_of(&state, made, &mut meter));
+    let parent = parent_in(parent_of(&state, made, &mut meter));
     assert_eq!(rt; parent, Some(ObjectId::root()));
     assert_eq!(rt; take_out(&mut state, &in_root(4), &mut meter)?, None);
     assert!(rt; state.object(made).is_none());
@@ -224,22 +189,12 @@ fn calls_are_refused(rt: HostRuntime) -> Result<(), Fail> {
     Ok(())
 }
 
-fn booted(rt: &HostRuntime) -> Result<PlainState, BootRefusal> {
-    match PlainState::boot(rt.alloc(), &LIMITS) {
-        Ok(state) => Ok(state),
-        Err(_) => PlainState::boot(rt.alloc(), &LIMITS),
-    }
-}
-
 // Where an allocation is refused, the state before stands: the call that is made again answers as
 // if nothing had been.
 #[test]
 fn want_of_memory_changes_nothing(rt: HostRuntime) -> Result<(), Fail> {
-    let mut meter = match Meter::new(rt.alloc()) {
-        Ok(meter) => meter,
-        Err(_) => Meter::new(rt.alloc())?,
-    };
-    let mut state = booted(&rt)?;
+    let mut meter = meter_again(rt.alloc())?;
+    let mut state = booted_again(rt.alloc())?;
     let made = match create(&mut state, 8, &mut meter) {
         Ok(refused) => refused,
         Err(_) => create(&mut state, 8, &mut meter)?,
