@@ -1,21 +1,20 @@
 //! Seats and books on their happy paths, and where they refuse.
 ghost use Rattle.std.specs.Prelude.{◌≡◌};
 
-use crate::samples::{
-    LIMITS, boot_thread, in_root, is_bytes, is_object, is_refusal, new_segment, new_thread, write,
-};
-use crate::{Blank, BootRefusal, Naming, SeatRefusal, Shared, SubmitRefusal};
+use crate::samples::{is_refusal, open_segment, write};
 use base::{Data, ObjectId, Refusal};
 use kernel_rules::{Call, Query, Reply};
+use published_copy::{Blank, BootRefusal, Naming, SeatRefusal, Shared, SubmitRefusal};
 use std::marker::Brand;
 use std::process::Abort;
 use std::sync::Wait;
 use std::test::Fail;
+use test_support::{MOST_PAGES, boot_thread, in_root, is_data, is_object, new_thread};
 
 fn use_one_boot<B: Naming, R: Wait + Abort>(rt: &R, shared: &Shared<B>) -> Result<(), Fail> {
     let mut seat = shared.open_seat(rt, boot_thread())?;
-    let made = seat.submit(rt, &new_segment())?;
-    assert!(rt; is_object(&made.reply, 4) && made.number == 1 && made.length == 1);
+    let made = seat.submit(rt, &open_segment())?;
+    assert!(rt; is_object(made.reply, 4) && made.number == 1 && made.length == 1);
     let written = seat.submit(rt, &write(4, Data::from_slice(b"ok")))?;
     assert!(rt; matches!(written.reply, Reply::Done) && written.number == 2 && written.length == 2);
     let query = Query::SegmentRead {
@@ -24,14 +23,14 @@ fn use_one_boot<B: Naming, R: Wait + Abort>(rt: &R, shared: &Shared<B>) -> Resul
         count: 2,
     };
     let read = seat.read(rt, &query)?;
-    assert!(rt; is_bytes(&read, &Data::from_slice(b"ok")));
+    assert!(rt; is_data(read, b"ok"));
     let mut pass = seat.into_pass();
     assert!(rt; pass.thread() == boot_thread() && pass.number() == 3 && pass.length() == 2);
     let mut book = shared.book(rt);
     let receipt = book.commit(&mut pass, &write(5, Data::from_slice(b"no")))?;
     assert!(rt; matches!(receipt.reply, Reply::Refused(Refusal::NoEntry)));
     assert!(rt; receipt.number == 3 && receipt.length == 3 && pass.number() == 4);
-    assert!(rt; book.limits() == &LIMITS && book.events().len() == 3);
+    assert!(rt; book.limits() == &MOST_PAGES && book.events().len() == 3);
     assert!(rt; book.events()[2].thread == boot_thread() && book.events()[2].number == 3);
     assert!(rt; book.kernel().is_thread(boot_thread()));
     assert!(rt; !book.kernel().is_thread(ObjectId::new(4)));
@@ -47,13 +46,13 @@ fn use_boot<B: Naming, R: Wait + Abort>(rt: &R, blank: Blank) -> Result<(), Fail
 
 #[test]
 fn a_call_is_an_event(rt: HostRuntime) -> Result<(), Fail> {
-    let blank = Blank::boot(rt.alloc(), &LIMITS)?;
+    let blank = Blank::boot(rt.alloc(), &MOST_PAGES)?;
     use_boot::<Brand, HostRuntime>(&rt, blank)
 }
 
 #[test]
 fn limits_are_tested(rt: HostRuntime) {
-    let mut limits = LIMITS;
+    let mut limits = MOST_PAGES;
     limits.pages = 513;
     match Blank::boot(rt.alloc(), &limits) {
         Ok(_) => assert!(rt; false),
@@ -71,13 +70,13 @@ fn refusals_have_their_numbers(rt: HostRuntime) {
     assert_eq!(rt; SeatRefusal::SeatsSpent.refusal().number(), 43);
 }
 
-// The boot thread makes threads 4 to 67 and a thread 68, which dies. With the boot thread's, 64 seats are
-// opened, for threads up to 66.
+// The boot thread makes threads 4 to 67 and a thread 68, which dies. With the boot thread's, 64
+// seats are opened, for threads up to 66.
 fn refuse_seats_at<B: Naming, R: Wait + Abort>(rt: &R, shared: &Shared<B>) -> Result<(), Fail> {
     assert!(rt; is_refusal(&shared.open_seat(rt, ObjectId::root()), 42));
     let mut seat = shared.open_seat(rt, boot_thread())?;
     for id in 4..69u64 {
-        assert!(rt; is_object(&seat.submit(rt, &new_thread())?.reply, id));
+        assert!(rt; is_object(seat.submit(rt, &new_thread())?.reply, id));
     }
     let gone = Call::Unref { entry: in_root(68) };
     assert!(rt; matches!(seat.submit(rt, &gone)?.reply, Reply::Done));
@@ -104,6 +103,6 @@ fn refuse_seats<B: Naming, R: Wait + Abort>(rt: &R, blank: Blank) -> Result<(), 
 
 #[test]
 fn seats_are_refused(rt: HostRuntime) -> Result<(), Fail> {
-    let blank = Blank::boot(rt.alloc(), &LIMITS)?;
+    let blank = Blank::boot(rt.alloc(), &MOST_PAGES)?;
     refuse_seats::<Brand, HostRuntime>(&rt, blank)
 }

@@ -1,11 +1,10 @@
-use super::*;
+//! Dumps as text: what is read and written again, where the first fault is told, and without
+//! memory.
 use base::ObjectId;
+use dump_text::{DumpError, read_dump, write_dump};
 use std::alloc::Global;
 use std::test::Fail;
-
-/// The dump of a run of no call, of a machine booted with 8 pages.
-const EMPTY: &str =
-    "histar-dump 1\nlimits 8 1 4 1\nlive 1\nlive 2\nlive 3\nuse 1 4\nuse 2 1\nuse 3 2\nlabel 0 {1}\nlabel 1 {2}\nlabel 2 {3}\norder 0 0 7\norder 0 1 7\norder 0 2 7\norder 1 0 0\norder 1 1 7\norder 1 2 7\norder 2 0 0\norder 2 1 0\norder 2 2 7\nend\n";
+use test_support::EMPTY_DUMP;
 
 /// What stands before the lines of events.
 const HEAD: &str = "histar-dump 1\nlimits 8 1 4 1\n";
@@ -65,7 +64,7 @@ fn fault_at_event(alloc: Global, event: &[u8]) -> Result<u64, Fail> {
 fn fault_with(alloc: Global, line: usize, other: &[u8]) -> Result<u64, Fail> {
     let mut text = Vec::new(alloc);
     let mut at = 1usize;
-    for whole in EMPTY.lines() {
+    for whole in EMPTY_DUMP.lines() {
         let kept = if at == line { other } else { whole.as_bytes() };
         text.extend_from_slice(kept)?;
         text.push(b'\n')?;
@@ -76,7 +75,7 @@ fn fault_with(alloc: Global, line: usize, other: &[u8]) -> Result<u64, Fail> {
 
 #[test]
 fn a_dump_is_read_and_written(rt: HostRuntime) -> Result<(), Fail> {
-    let dump = read_dump(rt.alloc(), EMPTY.as_bytes())?;
+    let dump = read_dump(rt.alloc(), EMPTY_DUMP.as_bytes())?;
     assert_eq!(rt; dump.limits.pages, 8);
     assert_eq!(rt; dump.events.len(), 0);
     assert_eq!(rt; dump.tables.live.len(), 3);
@@ -89,7 +88,7 @@ fn a_dump_is_read_and_written(rt: HostRuntime) -> Result<(), Fail> {
         assert_eq!(rt; used.pages, 4);
     }
     let bytes = write_dump(rt.alloc(), &dump)?;
-    assert!(rt; bytes.as_slice() == EMPTY.as_bytes());
+    assert!(rt; bytes.as_slice() == EMPTY_DUMP.as_bytes());
     Ok(())
 }
 
@@ -131,7 +130,7 @@ fn events_are_read_and_written(rt: HostRuntime) -> Result<(), Fail> {
 
 #[test]
 fn a_dump_that_ends_early_is_faulty_where_it_ends(rt: HostRuntime) {
-    let bytes = EMPTY.as_bytes();
+    let bytes = EMPTY_DUMP.as_bytes();
     let mut line = 1u64;
     for end in 0..bytes.len() {
         let told = fault(rt.alloc(), &bytes[..end]);
@@ -194,11 +193,11 @@ fn the_first_faulty_line_is_told(rt: HostRuntime) -> Result<(), Fail> {
         );
     }
     let mut more = Vec::new(rt.alloc());
-    more.extend_from_slice(EMPTY.as_bytes())?;
+    more.extend_from_slice(EMPTY_DUMP.as_bytes())?;
     more.extend_from_slice(b"end\n")?;
     assert_eq!(rt; fault(rt.alloc(), more.as_slice()), 22);
     let mut fewer = Vec::new(rt.alloc());
-    for line in EMPTY.lines() {
+    for line in EMPTY_DUMP.lines() {
         if line == "order 2 2 7" {
             continue;
         }
@@ -251,7 +250,7 @@ fn events_of_no_spelling_are_faulty(rt: HostRuntime) -> Result<(), Fail> {
 #[test]
 fn want_of_memory_changes_nothing(rt: HostRuntime) -> Result<(), Fail> {
     for (text, line) in [
-        (EMPTY, 1_000_000),
+        (EMPTY_DUMP, 1_000_000),
         ("histar-dump 1\nlimits 8 1 4 1\nuse 1 04\n", 3),
     ] {
         let first = fault(rt.alloc(), text.as_bytes());
@@ -259,15 +258,15 @@ fn want_of_memory_changes_nothing(rt: HostRuntime) -> Result<(), Fail> {
         let second = fault(rt.alloc(), text.as_bytes());
         assert!(rt; second == line || (first == line && second == 0));
     }
-    let dump = match read_dump(rt.alloc(), EMPTY.as_bytes()) {
+    let dump = match read_dump(rt.alloc(), EMPTY_DUMP.as_bytes()) {
         Ok(dump) => dump,
-        Err(_) => read_dump(rt.alloc(), EMPTY.as_bytes())?,
+        Err(_) => read_dump(rt.alloc(), EMPTY_DUMP.as_bytes())?,
     };
     let bytes = match write_dump(rt.alloc(), &dump) {
         Ok(bytes) => bytes,
         Err(_) => write_dump(rt.alloc(), &dump)?,
     };
-    assert!(rt; bytes.as_slice() == EMPTY.as_bytes());
+    assert!(rt; bytes.as_slice() == EMPTY_DUMP.as_bytes());
     Ok(())
 }
 

@@ -1,11 +1,11 @@
 //! Threads that call at once.
 ghost use Rattle.std.specs.Prelude.{◌≡◌};
 
-use crate::samples::{LIMITS, boot_thread, in_root, is_bytes, new_segment, new_thread, write};
-use crate::{Blank, Event, Naming, Seat, Shared};
+use crate::samples::{open_segment, write};
 use base::{Data, Meter, ObjectId};
-use kernel_rules::{Call, Query, Reply};
+use kernel_rules::{Call, Event, Query, Reply};
 use plain_core::{Machine, PlainKernel};
+use published_copy::{Blank, Naming, Seat, Shared};
 use std::alloc::Global;
 use std::marker::Brand;
 use std::process::Abort;
@@ -13,6 +13,7 @@ use std::sync::{Mutex, Wait};
 use std::test::Fail;
 use std::thread;
 use std::thread::Threads;
+use test_support::{MOST_PAGES, boot_thread, in_root, is_data, new_thread};
 
 /// How many threads call at once, and how often each.
 const WORKERS: u64 = 63;
@@ -98,7 +99,7 @@ fn work_at<B: Naming + Send, R: Threads + Wait + Sync + Abort>(
     for id in 4..WORKERS + 4 {
         assert!(rt; is_numbered(events, ObjectId::new(id), CALLS));
     }
-    let mut kernel = PlainKernel::boot(alloc, &LIMITS)?;
+    let mut kernel = PlainKernel::boot(alloc, &MOST_PAGES)?;
     let mut meter = Meter::new(alloc)?;
     assert!(rt; is_replayed(&mut kernel, &mut meter, events));
     Ok(())
@@ -117,7 +118,7 @@ fn work<B: Naming + Send, R: Threads + Wait + Sync + Abort>(
 
 #[test]
 fn the_journal_has_every_call(rt: HostRuntime) -> Result<(), Fail> {
-    let blank = Blank::boot(rt.alloc(), &LIMITS)?;
+    let blank = Blank::boot(rt.alloc(), &MOST_PAGES)?;
     work::<Brand, HostRuntime>(&rt, rt.alloc(), blank)
 }
 
@@ -128,7 +129,7 @@ fn is_read<B: Naming, R: Wait>(rt: &R, reader: &Mutex<Seat<'_, B>>, text: &Data)
         count: 5,
     };
     match reader.lock(rt).read(rt, &query) {
-        Ok(reply) => is_bytes(&reply, text),
+        Ok(reply) => is_data(reply, text.as_slice()),
         Err(_) => false,
     }
 }
@@ -152,7 +153,7 @@ fn write_here_at<B: Naming + Send, R: Threads + Wait + Sync + Abort>(
 ) -> Result<(), Fail> {
     let mut boot = shared.open_seat(rt, boot_thread())?;
     boot.submit(rt, &new_thread())?;
-    boot.submit(rt, &new_segment())?;
+    boot.submit(rt, &open_segment())?;
     let reader = Mutex::new(shared.open_seat(rt, ObjectId::new(4))?);
     for text in [Data::from_slice(b"first"), Data::from_slice(b"then.")] {
         boot.submit(rt, &write(5, text))?;
@@ -173,6 +174,6 @@ fn write_here<B: Naming + Send, R: Threads + Wait + Sync + Abort>(
 
 #[test]
 fn one_writes_and_another_reads(rt: HostRuntime) -> Result<(), Fail> {
-    let blank = Blank::boot(rt.alloc(), &LIMITS)?;
+    let blank = Blank::boot(rt.alloc(), &MOST_PAGES)?;
     write_here::<Brand, HostRuntime>(&rt, blank)
 }

@@ -1,14 +1,14 @@
 //! Passes that are used where it is not their turn.
 ghost use Rattle.std.specs.Prelude.{◌≡◌};
 
-use crate::samples::{LIMITS, boot_thread, new_thread};
-use crate::{Blank, Book, Naming, Pass, Shared, SubmitRefusal};
 use base::{ObjectId, Refusal};
 use kernel_rules::{Call, Reply};
+use published_copy::{Blank, Book, Naming, Pass, Shared, SubmitRefusal};
 use std::marker::Brand;
 use std::process::Abort;
 use std::sync::Wait;
 use std::test::Fail;
+use test_support::{MOST_PAGES, boot_thread, new_thread};
 
 fn is_out_of_turn<B: Naming>(book: &mut Book<B>, pass: &mut Pass<B>) -> bool {
     let (events, number) = (book.events().len(), pass.number());
@@ -77,14 +77,14 @@ fn take_lengths<B: Naming, R: Wait + Abort>(rt: &R, one: Blank, other: Blank) ->
 
 #[test]
 fn a_pass_of_another_boot_is_out_of_turn(rt: HostRuntime) -> Result<(), Fail> {
-    let one = Blank::boot(rt.alloc(), &LIMITS)?;
-    let other = Blank::boot(rt.alloc(), &LIMITS)?;
+    let one = Blank::boot(rt.alloc(), &MOST_PAGES)?;
+    let other = Blank::boot(rt.alloc(), &MOST_PAGES)?;
     take_turns::<Brand, HostRuntime>(&rt, one, other)
 }
 
 #[test]
 fn a_pass_that_saw_more_is_out_of_turn(rt: HostRuntime) -> Result<(), Fail> {
-    let one = Blank::boot(rt.alloc(), &LIMITS)?;
-    let other = Blank::boot(rt.alloc(), &LIMITS)?;
+    let one = Blank::boot(rt.alloc(), &MOST_PAGES)?;
+    let other = Blank::boot(rt.alloc(), &MOST_PAGES)?;
     take_lengths::<Brand, HostRuntime>(&rt, one, other)
 }
