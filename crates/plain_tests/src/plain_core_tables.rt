@@ -1,9 +1,10 @@
 //! The tables of the plain machine's states.
-use super::*;
-use crate::samples::{LIMITS, in_root, made, new_segment, plain};
+use crate::samples::{make, new_space};
 use base::{Level, Meter, NoMemory, ObjectId, Rights};
 use bitflags::Flags;
+use plain_core::{Call, Mapping, PlainKernel};
 use std::test::Fail;
+use test_support::{LIMITS, in_root, new_segment, plain};
 
 /// How every two of the labels {1}, {2} and {3} compare, by rising places.
 const BOOT_ORDERS: [(usize, usize, u8); 9] = [
@@ -47,29 +48,22 @@ fn tables_are_recomputed(rt: HostRuntime) -> Result<(), Fail> {
 
 /// A segment 4 and an address space 5, whose slot 2 shows the segment to the boot thread.
 fn mapped(kernel: &mut PlainKernel, meter: &mut Meter) -> Result<(), NoMemory> {
-    made(kernel, &new_segment(plain()), meter)?;
-    let space = Call::AsCreate(NewAddressSpace {
-        container: ObjectId::root(),
-        label: plain(),
-        quota: 1,
-    });
-    made(kernel, &space, meter)?;
+    make(kernel, &new_segment(plain()), meter)?;
+    make(kernel, &new_space(), meter)?;
     let map = Call::AsMap {
-        space: in_root(ObjectId::new(5)),
+        space: in_root(5),
         slot: 2,
         mapping: Mapping {
             page: 0,
-            entry: in_root(ObjectId::new(4)),
+            entry: in_root(4),
             first: 0,
             count: 1,
             rights: Rights::all(),
         },
     };
-    made(kernel, &map, meter)?;
-    let set = Call::SelfSetAs {
-        space: in_root(ObjectId::new(5)),
-    };
-    made(kernel, &set, meter)?;
+    make(kernel, &map, meter)?;
+    let set = Call::SelfSetAs { space: in_root(5) };
+    make(kernel, &set, meter)?;
     Ok(())
 }
 
