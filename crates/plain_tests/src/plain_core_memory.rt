@@ -84,6 +84,54 @@ fn send(byte: u8) -> Call {
     }
 }
 
+/// A call that takes the device's first packet.
+fn receive() -> Call {
+    Call::DevRecv { entry: in_root(3) }
+}
+
+fn fix(number: u64) -> Call {
+    Call::SetFixed {
+        entry: in_root(number),
+    }
+}
+
+fn link_in(container: u64, number: u64) -> Call {
+    Call::Link {
+        target: ObjectId::new(container),
+        entry: in_root(number),
+    }
+}
+
+fn take_out(number: u64) -> Call {
+    Call::Unref {
+        entry: in_root(number),
+    }
+}
+
+/// The last byte of a segment of one page.
+fn last_byte(number: u64) -> Query {
+    Query::SegmentRead {
+        entry: in_root(number),
+        offset: 255,
+        count: 1,
+    }
+}
+
+/// The list of the root.
+fn listing() -> Query {
+    Query::ContainerList {
+        container: ObjectId::root(),
+        from: 0,
+    }
+}
+
+fn is_count(reply: Reply, wanted: u64) -> bool {
+    match reply {
+        Reply::Listed { count, .. } => count == wanted,
+        _ => false,
+    }
+}
+
 // Each call that takes memory, and reads of what they left.
 #[test]
 fn want_of_memory_makes_no_call_by_half(rt: HostRuntime) -> Result<(), Fail> {
@@ -103,31 +151,14 @@ fn want_of_memory_makes_no_call_by_half(rt: HostRuntime) -> Result<(), Fail> {
     assert!(rt; is_object(step_again(&mut kernel, &new_gate(), &mut meter)?, 9));
     // The device gets a second link, in container 4, and a packet. Segment 6 loses its page and
     // gets it again. Container 4 goes.
-    let fix = Call::SetFixed { entry: in_root(3) };
-    assert!(rt; is_done(step_again(&mut kernel, &fix, &mut meter)?));
-    let link = Call::Link {
-        target: ObjectId::new(4),
-        entry: in_root(3),
-    };
-    assert!(rt; is_done(step_again(&mut kernel, &link, &mut meter)?));
+    assert!(rt; is_done(step_again(&mut kernel, &fix(3), &mut meter)?));
+    assert!(rt; is_done(step_again(&mut kernel, &link_in(4, 3), &mut meter)?));
     assert!(rt; is_done(step_again(&mut kernel, &send(5), &mut meter)?));
     assert!(rt; is_done(step_again(&mut kernel, &resize(6, 0), &mut meter)?));
     assert!(rt; is_done(step_again(&mut kernel, &resize(6, 1), &mut meter)?));
-    let unref = Call::Unref { entry: in_root(4) };
-    assert!(rt; is_done(step_again(&mut kernel, &unref, &mut meter)?));
-    let read = Query::SegmentRead {
-        entry: in_root(6),
-        offset: 255,
-        count: 1,
-    };
-    assert!(rt; is_data(ask_again(&kernel, &read, &mut meter)?, &[0]));
-    let list = Query::ContainerList {
-        container: ObjectId::root(),
-        from: 0,
-    };
-    let listed = ask_again(&kernel, &list, &mut meter)?;
-    assert!(rt; matches!(listed, Reply::Listed { count: 7, .. }));
-    let receive = Call::DevRecv { entry: in_root(3) };
-    assert!(rt; is_data(step_again(&mut kernel, &receive, &mut meter)?, &[5]));
+    assert!(rt; is_done(step_again(&mut kernel, &take_out(4), &mut meter)?));
+    assert!(rt; is_data(ask_again(&kernel, &last_byte(6), &mut meter)?, &[0]));
+    assert!(rt; is_count(ask_again(&kernel, &listing(), &mut meter)?, 7));
+    assert!(rt; is_data(step_again(&mut kernel, &receive(), &mut meter)?, &[5]));
     Ok(())
 }

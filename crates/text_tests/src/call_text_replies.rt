@@ -1,34 +1,18 @@
 //! Each kind of reply, as text.
-use super::{Named, Value, write_reply};
+use crate::names::named;
 use base::{Category, Data, Level, Meter, ObjectId, Refusal};
-use kernel_rules::{Entry, Ids, Mapping, Reply};
-use label_lattice::{Label, Pair, RawLabel};
+use call_text::write_reply;
+use kernel_rules::{Ids, Mapping, Reply};
+use label_lattice::Label;
 use std::alloc::Global;
 use std::test::Fail;
-use text_words::{Name, read_rights};
-
-/// Names as they might be bound when a script has been played.
-fn named() -> [Named; 3] {
-    [
-        Named {
-            name: Name::from_slice(b"root"),
-            value: Value::Object(ObjectId::root()),
-        },
-        Named {
-            name: Name::from_slice(b"c"),
-            value: Value::Category(Category(4)),
-        },
-        Named {
-            name: Name::from_slice(b"again"),
-            value: Value::Object(ObjectId::root()),
-        },
-    ]
-}
+use test_support::{everywhere, in_root, no_entry, pair};
+use text_words::{is_same, read_rights};
 
 /// Whether the reply has the text.
 fn is_text(alloc: Global, reply: &Reply, text: &str) -> Result<bool, Fail> {
     let bytes = write_reply(alloc, reply, &named())?;
-    Ok(text_words::is_same(bytes.as_slice(), text.as_bytes()))
+    Ok(is_same(bytes.as_slice(), text.as_bytes()))
 }
 
 #[test]
@@ -55,10 +39,7 @@ fn replies_of_one_value(rt: HostRuntime) -> Result<(), Fail> {
 fn replies_of_several_values(rt: HostRuntime) -> Result<(), Fail> {
     let mapping = Mapping {
         page: 65_535,
-        entry: Entry {
-            container: ObjectId::root(),
-            object: ObjectId::new(9),
-        },
+        entry: in_root(9),
         first: 15,
         count: 1,
         rights: read_rights(b"rw").expect(&rt, "rights"),
@@ -112,13 +93,10 @@ fn lists_of_ids(rt: HostRuntime) -> Result<(), Fail> {
 /// The label that these pairs and this default make.
 fn label(alloc: Global, default: Level, pairs: &[(u64, Level)]) -> Result<Option<Label>, Fail> {
     let mut meter = Meter::new(alloc)?;
-    let mut raw = RawLabel::new(default, &[]);
+    let mut raw = everywhere(default);
     for (number, level) in pairs {
         if raw.pairs.as_slice().len() < 24 {
-            raw.pairs.push(Pair {
-                category: Category(*number),
-                level: *level,
-            });
+            raw.pairs.push(pair(*number, *level));
         }
     }
     Ok(Label::from_raw(&raw, &mut meter).ok())
@@ -136,10 +114,7 @@ fn labels_with_names(rt: HostRuntime) -> Result<(), Fail> {
         label: owning,
         clearance: plain,
         verify: plain,
-        space: Entry {
-            container: ObjectId::new(0),
-            object: ObjectId::new(0),
-        },
+        space: no_entry(),
         entry_point: 5,
         closure: 6,
     };

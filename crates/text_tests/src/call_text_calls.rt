@@ -1,8 +1,6 @@
 //! Each call, as a line of a script.
-use super::{
-    Asked, Known, NameList, Named, ScriptError, Value, read_script, resolve, write_script,
-};
-use base::{Category, ObjectId};
+use crate::names::{category_named, object_named};
+use call_text::{Asked, Known, NameList, Named, ScriptError, read_script, resolve, write_script};
 use kernel_rules::{Call, Query};
 use std::alloc::Global;
 use std::test::Fail;
@@ -75,24 +73,12 @@ fn each_call_is_read_and_written(rt: HostRuntime) -> Result<(), Fail> {
 }
 
 /// The names of the lines.
-fn named() -> [Named; 4] {
+fn named_in_lines() -> [Named; 4] {
     [
-        Named {
-            name: Name::from_slice(b"root"),
-            value: Value::Object(ObjectId::root()),
-        },
-        Named {
-            name: Name::from_slice(b"c"),
-            value: Value::Category(Category(4)),
-        },
-        Named {
-            name: Name::from_slice(b"s"),
-            value: Value::Object(ObjectId::new(5)),
-        },
-        Named {
-            name: Name::from_slice(b"a1"),
-            value: Value::Object(ObjectId::new(6)),
-        },
+        object_named(Name::from_slice(b"root"), 1),
+        category_named(Name::from_slice(b"c"), 4),
+        object_named(Name::from_slice(b"s"), 5),
+        object_named(Name::from_slice(b"a1"), 6),
     ]
 }
 
@@ -116,7 +102,7 @@ fn asked<K: Known>(alloc: Global, text: &[u8], names: &K) -> Result<(usize, usiz
 #[test]
 fn each_call_is_resolved(rt: HostRuntime) -> Result<(), Fail> {
     let text = script_of(rt.alloc(), &LINES)?;
-    let names = named();
+    let names = named_in_lines();
     let counts = asked(rt.alloc(), text.as_slice(), &NameList { named: &names })?;
     assert!(rt; counts == (24, 10));
     Ok(())
@@ -125,7 +111,7 @@ fn each_call_is_resolved(rt: HostRuntime) -> Result<(), Fail> {
 /// What the one line of a script asks.
 fn asked_by(alloc: Global, text: &[u8]) -> Result<Option<Asked>, Fail> {
     let script = read_script(alloc, text)?;
-    let names = named();
+    let names = named_in_lines();
     for phase in &script.phases {
         for line in &phase.lines {
             return Ok(resolve(&line.call, &NameList { named: &names }).ok());

@@ -1,5 +1,7 @@
-use super::*;
+//! A row of each call, read and written, what is none, and without memory.
+use std::alloc::{AllocError, Global};
 use std::test::Fail;
+use text_rows::{Kind, put_row, read_arguments, read_row};
 
 /// A row of each call.
 const ROWS: [&str; 34] = [
@@ -101,6 +103,29 @@ fn arguments_are_read_alone(rt: HostRuntime) -> Result<(), Fail> {
     for text in ["", "7", "7 ", "7  rw", "07 rw", "7 rw rw", " 7 rw"] {
         let read = read_arguments(rt.alloc(), &kinds, text.as_bytes())?;
         assert!(rt; read.is_none(), "{text}");
+    }
+    Ok(())
+}
+
+/// Whether a row is read and written as it stands.
+fn is_kept(alloc: Global, line: &[u8]) -> Result<bool, AllocError> {
+    let Some(row) = read_row(alloc, line)? else {
+        return Ok(false);
+    };
+    let mut out = Vec::new(alloc);
+    put_row(&mut out, &row)?;
+    Ok(out.as_slice() == line)
+}
+
+// Where an allocation is refused, the row that is read again is the same.
+#[test]
+fn want_of_memory_reads_no_other_rows(rt: HostRuntime) -> Result<(), Fail> {
+    for line in ROWS {
+        let is_same = match is_kept(rt.alloc(), line.as_bytes()) {
+            Ok(is_same) => is_same,
+            Err(_) => is_kept(rt.alloc(), line.as_bytes())?,
+        };
+        assert!(rt; is_same, "{line}");
     }
     Ok(())
 }

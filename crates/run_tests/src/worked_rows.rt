@@ -1,7 +1,7 @@
-//! Scripts of many calls, with what their lines answer: played as the program does, their dumps audited, and their write
-//! calls made by `run` on a plain kernel.
+//! Scripts of many calls, with what their lines answer: played as the program does, their dumps
+//! audited, and their write calls made by `run` on a plain kernel.
 use auditor::{Verdict, audit};
-use base::{Level, Limits, NoMemory, ObjectId};
+use base::{Limits, NoMemory, ObjectId};
 use call_text::{NameList, put_reply, read_script};
 use kernel_rules::{Call, Event, Reply};
 use plain_core::{PlainKernel, run};
@@ -12,6 +12,7 @@ use std::process::Abort;
 use std::sync::Wait;
 use std::test::Fail;
 use std::thread::Threads;
+use test_support::{EIGHT_PAGES, LIMITS, MOST_PAGES};
 
 /// A script, the limits of the kernel that plays it, and its output.
 #[derive(Clone, Copy)]
@@ -20,14 +21,6 @@ struct Row {
     script: &'static [u8],
     output: &'static [u8],
 }
-
-/// Those of most rows: 64 pages.
-const LIMITS: Limits = Limits {
-    pages: 64,
-    device: Level::L1,
-    next_id: 4,
-    next_category: 1,
-};
 
 const ROWS: [Row; 23] = [
     // secret segment
@@ -74,12 +67,7 @@ const ROWS: [Row; 23] = [
     },
     // quotas moved
     Row {
-        limits: Limits {
-            pages: 8,
-            device: Level::L1,
-            next_id: 4,
-            next_category: 1,
-        },
+        limits: EIGHT_PAGES,
         script: b"s = boot: segment_create root {1} 4 3\nboot: segment_create root {1} 1 0\nboot: segment_resize root s 4\nboot: quota_move root s -1\nboot: segment_resize root s 2\nboot: quota_move root s -1\nboot: obj_quota root s\n",
         output: b"boot 1: id s\nboot 2: refused 12 NoQuota\nboot 3: refused 12 NoQuota\nboot 4: refused 12 NoQuota\nboot 5: ok\nboot 6: ok\nboot 7: quota 3 3 0 0\n",
     },
@@ -109,22 +97,15 @@ const ROWS: [Row; 23] = [
     },
     // all pages used
     Row {
-        limits: Limits {
-            pages: 8,
-            device: Level::L1,
-            next_id: 4,
-            next_category: 1,
-        },
+        limits: EIGHT_PAGES,
         script: b"boot: unref root dev\np1 = boot: segment_create root {1} 1 0\np2 = boot: segment_create root {1} 1 0\np3 = boot: segment_create root {1} 1 0\np4 = boot: segment_create root {1} 1 0\np5 = boot: segment_create root {1} 1 0\np6 = boot: segment_create root {1} 1 0\nboot: segment_create root {1} 1 0\nboot: container_list root 0\n",
         output: b"boot 1: ok\nboot 2: id p1\nboot 3: id p2\nboot 4: id p3\nboot 5: id p4\nboot 6: id p5\nboot 7: id p6\nboot 8: refused 12 NoQuota\nboot 9: list 7 boot p1 p2 p3 p4 p5 p6\n",
     },
     // sixteen exceptions
     Row {
         limits: Limits {
-            pages: 64,
-            device: Level::L1,
-            next_id: 4,
             next_category: 18,
+            ..LIMITS
         },
         script: b"boot: segment_create root {#1:2,#2:2,#3:2,#4:2,#5:2,#6:2,#7:2,#8:2,#9:2,#10:2,#11:2,#12:2,#13:2,#14:2,#15:2,#16:2,1} 1 0\nboot: segment_create root {#1:2,#2:2,#3:2,#4:2,#5:2,#6:2,#7:2,#8:2,#9:2,#10:2,#11:2,#12:2,#13:2,#14:2,#15:2,#16:2,#17:2,1} 1 0\n",
         output: b"boot 1: id #4\nboot 2: refused 7 BadLabel\n",
@@ -138,10 +119,8 @@ const ROWS: [Row; 23] = [
     // the last id
     Row {
         limits: Limits {
-            pages: 64,
-            device: Level::L1,
             next_id: 2305843009213693951,
-            next_category: 1,
+            ..LIMITS
         },
         script: b"boot: segment_create root {1} 1 0\nboot: segment_create root {1} 1 0\n",
         output: b"boot 1: id #2305843009213693951\nboot 2: refused 25 Spent\n",
@@ -184,12 +163,7 @@ const ROWS: [Row; 23] = [
     },
     // the whole root
     Row {
-        limits: Limits {
-            pages: 512,
-            device: Level::L1,
-            next_id: 4,
-            next_category: 1,
-        },
+        limits: MOST_PAGES,
         script: b"boot: segment_create root {1} 17 16\nboot: segment_create root {1} 17 16\nboot: segment_create root {1} 17 16\nboot: segment_create root {1} 17 16\nboot: segment_create root {1} 17 16\nboot: segment_create root {1} 17 16\nboot: segment_create root {1} 17 16\nboot: segment_create root {1} 17 16\nboot: segment_create root {1} 17 16\nboot: segment_create root {1} 17 16\nboot: segment_create root {1} 17 16\nboot: segment_create root {1} 17 16\nboot: segment_create root {1} 17 16\nboot: segment_create root {1} 17 16\nboot: segment_create root {1} 17 16\nboot: segment_create root {1} 17 16\nboot: segment_create root {1} 17 16\nboot: segment_create root {1} 17 16\nboot: segment_create root {1} 17 16\nboot: segment_create root {1} 17 16\nboot: segment_create root {1} 17 16\nboot: segment_create root {1} 17 16\nboot: segment_create root {1} 17 16\nboot: segment_create root {1} 17 16\nboot: segment_create root {1} 17 16\nboot: segment_create root {1} 17 16\nboot: segment_create root {1} 17 16\nboot: segment_create root {1} 17 16\nboot: segment_create root {1} 17 16\nboot: segment_create root {1} 15 14\nboot: segment_create root {1} 1 0\nboot: obj_quota root root\n",
         output: b"boot 1: id #4\nboot 2: id #5\nboot 3: id #6\nboot 4: id #7\nboot 5: id #8\nboot 6: id #9\nboot 7: id #10\nboot 8: id #11\nboot 9: id #12\nboot 10: id #13\nboot 11: id #14\nboot 12: id #15\nboot 13: id #16\nboot 14: id #17\nboot 15: id #18\nboot 16: id #19\nboot 17: id #20\nboot 18: id #21\nboot 19: id #22\nboot 20: id #23\nboot 21: id #24\nboot 22: id #25\nboot 23: id #26\nboot 24: id #27\nboot 25: id #28\nboot 26: id #29\nboot 27: id #30\nboot 28: id #31\nboot 29: id #32\nboot 30: id #33\nboot 31: refused 12 NoQuota\nboot 32: quota 512 512 0 0\n",
     },
@@ -249,7 +223,8 @@ fn calls_of(alloc: Global, events: &[Event]) -> Result<Vec<(ObjectId, Call)>, No
     Ok(calls)
 }
 
-// The write calls of a row, in the order of the journal, answer the same by `run` on a new plain kernel.
+// The write calls of a row, in the order of the journal, answer the same by `run` on a new plain
+// kernel.
 fn check_run<R: Abort + AllocGlobal + Threads + Wait + Sync>(
     rt: &R,
     row: &Row,

@@ -1,28 +1,18 @@
 //! What goes to the dump's file.
-use crate::program::histar_on;
-use base::{Level, Limits};
+use script_runner::histar_on;
 use script_words::{DEFAULTS, Options};
-use std::io;
-use std::io::{ErrorKind, Read};
+use std::io::ErrorKind;
 use std::process::Abort;
 use std::sync::Wait;
 use std::test::Fail;
 use std::thread::Threads;
+use test_support::{Broken, EIGHT_PAGES, EMPTY_DUMP};
 
 /// A run with 8 pages, of which a dump is made.
-const EIGHT_PAGES: Options = Options {
-    limits: Limits {
-        pages: 8,
-        device: Level::L1,
-        next_id: 4,
-        next_category: 1,
-    },
+const DUMPED: Options = Options {
+    limits: EIGHT_PAGES,
     dump: true,
 };
-
-/// The tables after a boot, and the end.
-const BOOTED: &str =
-    "live 1\nlive 2\nlive 3\nuse 1 4\nuse 2 1\nuse 3 2\nlabel 0 {1}\nlabel 1 {2}\nlabel 2 {3}\norder 0 0 7\norder 0 1 7\norder 0 2 7\norder 1 0 0\norder 1 1 7\norder 1 2 7\norder 2 0 0\norder 2 1 0\norder 2 2 7\nend\n";
 
 /// The output and the file of a run that goes well.
 #[derive(Drop)]
@@ -50,17 +40,15 @@ fn texts_of<R: Abort + AllocGlobal + Threads + Wait + Sync>(
 }
 
 #[test]
-fn an_empty_script_is_dumped(rt: HostRuntime) -> Result<(), Fail> {
-    let texts = texts_of(&rt, b"", &EIGHT_PAGES);
+fn an_empty_script_is_dumped(rt: HostRuntime) {
+    let texts = texts_of(&rt, b"", &DUMPED);
     assert!(rt; texts.output.is_empty());
-    let wanted = format!(in rt.alloc(); "histar-dump 1\nlimits 8 1 4 1\n{BOOTED}")?;
-    assert_eq!(rt; texts.file.as_slice(), wanted.as_bytes());
-    Ok(())
+    assert_eq!(rt; texts.file.as_slice(), EMPTY_DUMP.as_bytes());
 }
 
 #[test]
 fn events_are_dumped_in_order(rt: HostRuntime) -> Result<(), Fail> {
-    let texts = texts_of(&rt, b"boot: cat_create\nboot: cat_create\n", &EIGHT_PAGES);
+    let texts = texts_of(&rt, b"boot: cat_create\nboot: cat_create\n", &DUMPED);
     let beginning =
         b"histar-dump 1\nlimits 8 1 4 1\nevent 2 1 cat_create => cat #1\nevent 2 2 cat_create => cat #2\nlive 1\n";
     assert!(rt; texts.file.starts_with(beginning));
@@ -78,16 +66,6 @@ fn no_dump_is_made_unasked(rt: HostRuntime) {
     assert!(rt; texts.file.is_empty());
 }
 
-/// A reader that only fails.
-#[derive(Drop)]
-struct Broken;
-
-impl Read for Broken {
-    fn read(&mut self, _: &mut [u8]) -> io::Result<usize> {
-        Err(io::Error::from(ErrorKind::OutOfMemory))
-    }
-}
-
 #[test]
 fn no_dump_is_made_after_a_fault(rt: HostRuntime) -> Result<(), Fail> {
     let alloc = rt.alloc();
@@ -95,13 +73,13 @@ fn no_dump_is_made_after_a_fault(rt: HostRuntime) -> Result<(), Fail> {
     let mut room = [0u8; 4];
     let mut full: &mut [u8] = &mut room;
     let mut script: &[u8] = b"boot: cat_create\nboot\n";
-    let ended = histar_on(&rt, alloc, &mut script, &EIGHT_PAGES, &mut full, &mut err);
+    let ended = histar_on(&rt, alloc, &mut script, &DUMPED, &mut full, &mut err);
     assert!(rt; ended.status == 1 && ended.file.is_empty());
     let mut script: &[u8] = b"boot: cat_create\n";
-    let ended = histar_on(&rt, alloc, &mut script, &EIGHT_PAGES, &mut full, &mut err);
+    let ended = histar_on(&rt, alloc, &mut script, &DUMPED, &mut full, &mut err);
     assert!(rt; ended.status == 3 && ended.file.is_empty());
-    let mut script = Broken;
-    let ended = histar_on(&rt, alloc, &mut script, &EIGHT_PAGES, &mut full, &mut err);
+    let mut script = Broken(ErrorKind::OutOfMemory);
+    let ended = histar_on(&rt, alloc, &mut script, &DUMPED, &mut full, &mut err);
     assert!(rt; ended.status == 4 && ended.file.is_empty());
     Ok(())
 }

@@ -1,8 +1,14 @@
-use super::*;
-use base::{Category, Data, ObjectId, Refusal};
+//! Scripts and replies as text, and without memory.
+use crate::names::named;
+use base::{NoMemory, ObjectId, Refusal};
+use call_text::{
+    Asked, NameList, Named, ScriptError, read_script, resolve, start_names, write_reply,
+    write_script,
+};
 use kernel_rules::{Call, Query, Reply};
 use std::alloc::Global;
 use std::test::Fail;
+use text_words::{Name, is_same};
 
 /// A script of two phases, the second with no lines.
 const TEXT: &str =
@@ -23,7 +29,7 @@ fn a_script_is_read_and_written(rt: HostRuntime) -> Result<(), Fail> {
     assert_eq!(rt; script.phases.len(), 3);
     for phase in &script.phases {
         for line in &phase.lines {
-            assert!(rt; text_words::is_same(line.worker.as_slice(), b"boot"));
+            assert!(rt; is_same(line.worker.as_slice(), b"boot"));
         }
     }
     let bytes = write_script(rt.alloc(), &script)?;
@@ -98,26 +104,8 @@ fn a_script_has_at_most_65536_lines(rt: HostRuntime) -> Result<(), Fail> {
     Ok(())
 }
 
-/// Names as they might be bound when a script has been played.
-fn named() -> [Named; 3] {
-    [
-        Named {
-            name: text_words::Name::from_slice(b"root"),
-            value: Value::Object(ObjectId::root()),
-        },
-        Named {
-            name: text_words::Name::from_slice(b"c"),
-            value: Value::Category(Category(4)),
-        },
-        Named {
-            name: text_words::Name::from_slice(b"again"),
-            value: Value::Object(ObjectId::root()),
-        },
-    ]
-}
-
 /// What a line asks: the name that is unbound, or nothing.
-fn unbound(alloc: Global, line: &[u8], named: &[Named]) -> Result<Option<text_words::Name>, Fail> {
+fn unbound(alloc: Global, line: &[u8], named: &[Named]) -> Result<Option<Name>, Fail> {
     let script = read_script(alloc, line)?;
     for phase in &script.phases {
         for line in &phase.lines {
@@ -186,15 +174,15 @@ fn three_names_are_known_at_the_start(rt: HostRuntime) -> Result<(), Fail> {
 }
 
 /// Whether what a call answered is a reply's text.
-fn is_text(answer: Result<Vec<u8>, base::NoMemory>, text: &[u8]) -> Option<bool> {
+fn is_text(answer: Result<Vec<u8>, NoMemory>, text: &[u8]) -> Option<bool> {
     match answer {
-        Ok(bytes) => Some(text_words::is_same(bytes.as_slice(), text)),
+        Ok(bytes) => Some(is_same(bytes.as_slice(), text)),
         Err(_) => None,
     }
 }
 
 #[test]
-fn after_want_of_memory_a_script_is_read_as_before(rt: HostRuntime) {
+fn want_of_memory_reads_a_script_as_before(rt: HostRuntime) {
     for (text, line) in [
         (TEXT, 1_000_000),
         ("c = boot: cat_create\nc = boot: cat_create\n", 2),
@@ -207,7 +195,7 @@ fn after_want_of_memory_a_script_is_read_as_before(rt: HostRuntime) {
 }
 
 #[test]
-fn after_want_of_memory_a_reply_is_written_as_before(rt: HostRuntime) {
+fn want_of_memory_writes_a_reply_as_before(rt: HostRuntime) {
     let reply = Reply::Refused(Refusal::NoQuota);
     let first = is_text(
         write_reply(rt.alloc(), &reply, &named()),
@@ -225,4 +213,19 @@ fn after_want_of_memory_a_reply_is_written_as_before(rt: HostRuntime) {
 fn faults_are_refusals(rt: HostRuntime) {
     assert_eq!(rt; ScriptError::Line(7).refusal().number(), 50);
     assert_eq!(rt; ScriptError::Memory.refusal().number(), 51);
+}
+
+// Where an allocation is refused, the script that is read again is written again as it stood.
+#[test]
+fn want_of_memory_writes_a_script_as_before(rt: HostRuntime) -> Result<(), Fail> {
+    let script = match read_script(rt.alloc(), TEXT.as_bytes()) {
+        Ok(script) => script,
+        Err(_) => read_script(rt.alloc(), TEXT.as_bytes())?,
+    };
+    let bytes = match write_script(rt.alloc(), &script) {
+        Ok(bytes) => bytes,
+        Err(_) => write_script(rt.alloc(), &script)?,
+    };
+    assert!(rt; is_same(bytes.as_slice(), TEXT.as_bytes()));
+    Ok(())
 }

@@ -1,17 +1,13 @@
 //! Audits of dumps.
-use super::*;
+use auditor::{Verdict, audit, audit_on};
 use base::NoMemory;
 use std::alloc::{AllocError, Global};
-use std::io;
-use std::io::{ErrorKind, Read, Write};
+use std::io::ErrorKind;
 use std::test::Fail;
+use test_support::{Broken, EMPTY_DUMP};
 
-/// The dump of a run of no call, of a machine booted with 8 pages.
-const BOOT: &str =
-    "histar-dump 1\nlimits 8 1 4 1\nlive 1\nlive 2\nlive 3\nuse 1 4\nuse 2 1\nuse 3 2\nlabel 0 {1}\nlabel 1 {2}\nlabel 2 {3}\norder 0 0 7\norder 0 1 7\norder 0 2 7\norder 1 0 0\norder 1 1 7\norder 1 2 7\norder 2 0 0\norder 2 1 0\norder 2 2 7\nend\n";
-
-/// The dump of a run in which thread 2 made two categories and wrote to a segment, and thread 7, which there is not, made
-/// a call.
+/// The dump of a run in which thread 2 made two categories and wrote to a segment, and thread 7,
+/// which there is not, made a call.
 const CALLS: &str =
     "histar-dump 1\nlimits 8 1 4 1\nevent 2 1 cat_create => cat #1\nevent 2 2 cat_create => cat #2\nevent 7 1 cat_create => refused 1 Halted\nevent 2 3 segment_create #1 {#1:3,1} 2 1 => id #4\nevent 2 4 segment_write #1 #4 0 00ff => ok\nevent 2 5 dev_recv #1 #3 => refused 24 DeviceEmpty\nlive 1\nlive 2\nlive 3\nlive 4\nuse 1 6\nuse 2 1\nuse 3 2\nuse 4 2\nlabel 0 {1}\nlabel 1 {#1:*,#2:*,1}\nlabel 2 {#1:3,1}\nlabel 3 {#1:3,#2:3,2}\nlabel 4 {3}\norder 0 0 7\norder 0 1 6\norder 0 2 7\norder 0 3 7\norder 0 4 7\norder 1 0 3\norder 1 1 7\norder 1 2 3\norder 1 3 3\norder 1 4 3\norder 2 0 0\norder 2 1 6\norder 2 2 7\norder 2 3 7\norder 2 4 7\norder 3 0 0\norder 3 1 0\norder 3 2 0\norder 3 3 7\norder 3 4 7\norder 4 0 0\norder 4 1 0\norder 4 2 0\norder 4 3 0\norder 4 4 7\nend\n";
 
@@ -34,7 +30,7 @@ fn changed(alloc: Global, dump: &str, line: usize, other: &str) -> Result<Verdic
 
 #[test]
 fn true_dumps_are_clean(rt: HostRuntime) -> Result<(), Fail> {
-    assert_eq!(rt; audit(rt.alloc(), BOOT.as_bytes())?, Verdict::Clean);
+    assert_eq!(rt; audit(rt.alloc(), EMPTY_DUMP.as_bytes())?, Verdict::Clean);
     assert_eq!(rt; audit(rt.alloc(), CALLS.as_bytes())?, Verdict::Clean);
     Ok(())
 }
@@ -42,15 +38,15 @@ fn true_dumps_are_clean(rt: HostRuntime) -> Result<(), Fail> {
 #[test]
 fn each_untrue_line_is_told(rt: HostRuntime) -> Result<(), Fail> {
     let cases = [
-        (BOOT, 3, "live 4"),
-        (BOOT, 5, "live 4"),
-        (BOOT, 6, "use 1 5"),
-        (BOOT, 9, "label 1 {1}"),
-        (BOOT, 9, "label 0 {#1:1,1}"),
-        (BOOT, 10, "label 1 {1}"),
-        (BOOT, 12, "order 0 0 3"),
-        (BOOT, 14, "order 0 3 7"),
-        (BOOT, 20, "order 0 0 7"),
+        (EMPTY_DUMP, 3, "live 4"),
+        (EMPTY_DUMP, 5, "live 4"),
+        (EMPTY_DUMP, 6, "use 1 5"),
+        (EMPTY_DUMP, 9, "label 1 {1}"),
+        (EMPTY_DUMP, 9, "label 0 {#1:1,1}"),
+        (EMPTY_DUMP, 10, "label 1 {1}"),
+        (EMPTY_DUMP, 12, "order 0 0 3"),
+        (EMPTY_DUMP, 14, "order 0 3 7"),
+        (EMPTY_DUMP, 20, "order 0 0 7"),
         (CALLS, 3, "event 2 2 cat_create => cat #1"),
         (CALLS, 3, "event 2 1 cat_create => cat #2"),
         (CALLS, 3, "event 4 1 cat_create => cat #1"),
@@ -93,7 +89,7 @@ fn an_untrue_call_shows_where_it_is_seen(rt: HostRuntime) -> Result<(), Fail> {
 /// The boot's dump without one of its lines, and with one more at its end.
 fn without_line(alloc: Global, line: usize, last: &str) -> Result<Vec<u8>, AllocError> {
     let mut text = Vec::new(alloc);
-    for (index, whole) in BOOT.lines().enumerate() {
+    for (index, whole) in EMPTY_DUMP.lines().enumerate() {
         if index + 1 != line {
             text.extend_from_slice(whole.as_bytes())?;
             text.push(b'\n')?;
@@ -135,18 +131,18 @@ fn what_is_no_dump_is_unreadable(rt: HostRuntime) -> Result<(), Fail> {
     ];
     for (line, other) in cases {
         assert_eq!(rt;
-            changed(rt.alloc(), BOOT, line, other)?,
+            changed(rt.alloc(), EMPTY_DUMP, line, other)?,
             Verdict::Unreadable(line as u64)
         );
     }
     Ok(())
 }
 
-/// Each beginning of the boot's dump, cut after a line and in the middle of it too, is unreadable in the line that it
-/// ends in.
+/// Each beginning of the boot's dump, cut after a line and in the middle of it too, is unreadable
+/// in the line that it ends in.
 #[test]
 fn each_beginning_is_unreadable(rt: HostRuntime) -> Result<(), Fail> {
-    let bytes = BOOT.as_bytes();
+    let bytes = EMPTY_DUMP.as_bytes();
     let mut line = 1u64;
     for (index, byte) in bytes.iter().enumerate() {
         let found = audit(rt.alloc(), &bytes[..index])?;
@@ -170,32 +166,12 @@ fn ends(alloc: Global, text: &[u8], status: u8, line: &[u8]) -> bool {
 #[test]
 fn the_verdict_is_printed(rt: HostRuntime) -> Result<(), Fail> {
     let alloc = rt.alloc();
-    assert!(rt; ends(alloc, BOOT.as_bytes(), 0, b"clean\n"));
-    let untrue = with_line(alloc, BOOT, 6, "use 1 5")?;
+    assert!(rt; ends(alloc, EMPTY_DUMP.as_bytes(), 0, b"clean\n"));
+    let untrue = with_line(alloc, EMPTY_DUMP, 6, "use 1 5")?;
     assert!(rt; ends(alloc, untrue.as_slice(), 1, b"false at line 6\n"));
     let cut = without_line(alloc, 21, "en")?;
     assert!(rt; ends(alloc, cut.as_slice(), 2, b"unreadable at line 21\n"));
     Ok(())
-}
-
-/// A reader and a writer that always fail.
-#[derive(Drop)]
-struct Broken;
-
-impl Read for Broken {
-    fn read(&mut self, _: &mut [u8]) -> io::Result<usize> {
-        Err(io::Error::from(ErrorKind::Other))
-    }
-}
-
-impl Write for Broken {
-    fn write(&mut self, _: &[u8]) -> io::Result<usize> {
-        Err(io::Error::from(ErrorKind::Other))
-    }
-
-    fn flush(&mut self) -> io::Result<()> {
-        Err(io::Error::from(ErrorKind::Other))
-    }
 }
 
 #[test]
@@ -203,19 +179,19 @@ fn faults_of_streams(rt: HostRuntime) -> Result<(), Fail> {
     let alloc = rt.alloc();
     let mut out = Vec::new(alloc);
     let mut err = Vec::new(alloc);
-    let ended = audit_on(alloc, &mut Broken, &mut out, &mut err);
+    let ended = audit_on(alloc, &mut Broken(ErrorKind::Other), &mut out, &mut err);
     assert_eq!(rt; ended.status, 3);
     assert!(rt; out.is_empty() && err.as_slice() == b"histar-audit: input fault\n".as_slice());
-    let mut dump = BOOT.as_bytes();
+    let mut dump = EMPTY_DUMP.as_bytes();
     let mut told = Vec::new(alloc);
-    let ended = audit_on(alloc, &mut dump, &mut Broken, &mut told);
+    let ended = audit_on(alloc, &mut dump, &mut Broken(ErrorKind::Other), &mut told);
     assert_eq!(rt; ended.status, 3);
     assert!(rt; told.as_slice() == b"histar-audit: output fault\n".as_slice());
     Ok(())
 }
 
-/// Each of the first allocations of an audit is refused in turn (by `rt try --test --fail-alloc N`): the audit tells it,
-/// and the next answers what it would have.
+/// Where an allocation of an audit is refused, the audit tells it, and the next answers what it
+/// would have.
 #[test]
 fn want_of_memory_changes_nothing(rt: HostRuntime) -> Result<(), Fail> {
     let found = match audit(rt.alloc(), CALLS.as_bytes()) {
@@ -224,7 +200,7 @@ fn want_of_memory_changes_nothing(rt: HostRuntime) -> Result<(), Fail> {
     };
     assert_eq!(rt; found, Verdict::Clean);
     let alloc = rt.alloc();
-    let mut dump = BOOT.as_bytes();
+    let mut dump = EMPTY_DUMP.as_bytes();
     let mut out = Vec::new(alloc);
     let mut err = Vec::new(alloc);
     let ended = audit_on(alloc, &mut dump, &mut out, &mut err);

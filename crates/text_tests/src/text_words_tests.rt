@@ -1,10 +1,18 @@
-use super::*;
+//! Each kind of word, read and written, what is none, and without memory.
 use base::Level;
-use std::alloc::Global;
+use std::alloc::{AllocError, Global};
 use std::test::Fail;
+use text_words::{
+    Name, is_same, put_data, put_label, put_level, put_name, put_number, put_reference, put_rights,
+    put_signed, put_types, read_data, read_label, read_level, read_name, read_number,
+    read_reference, read_rights, read_signed, read_types,
+};
+
+/// A word of each kind.
+const WORDS: &[u8] = b"1024 * 00ff1a #18446744073709551615 csatgd {c:3,#7:*,1}";
 
 /// What the writers make of the values that the words spell, joined by spaces.
-fn again(alloc: Global) -> Result<Vec<u8>, Fail> {
+fn again(alloc: Global) -> Result<Vec<u8>, AllocError> {
     let mut out = Vec::new(alloc);
     if let Some(number) = read_number(b"1024", 1024) {
         put_number(&mut out, number)?;
@@ -35,12 +43,7 @@ fn again(alloc: Global) -> Result<Vec<u8>, Fail> {
 #[test]
 fn words_are_read_and_written(rt: HostRuntime) -> Result<(), Fail> {
     let out = again(rt.alloc())?;
-    assert!(rt;
-        is_same(
-            out.as_slice(),
-            b"1024 * 00ff1a #18446744073709551615 csatgd {c:3,#7:*,1}"
-        )
-    );
+    assert!(rt; is_same(out.as_slice(), WORDS));
     Ok(())
 }
 
@@ -143,4 +146,21 @@ fn a_label_keeps_its_pairs(rt: HostRuntime) -> Result<(), Fail> {
     assert_eq!(rt; label.pairs().len(), 2);
     assert!(rt; label.default() == Level::L2);
     Ok(())
+}
+
+/// Whether the words are written as they were read, if there was memory for it.
+fn are_kept(alloc: Global) -> Option<bool> {
+    match again(alloc) {
+        Ok(out) => Some(is_same(out.as_slice(), WORDS)),
+        Err(_) => None,
+    }
+}
+
+// Where an allocation is refused, nothing is written, and what is written again is the same.
+#[test]
+fn want_of_memory_writes_no_other_words(rt: HostRuntime) {
+    let first = are_kept(rt.alloc());
+    assert!(rt; first != Some(false));
+    let second = are_kept(rt.alloc());
+    assert!(rt; second == Some(true) || (first == Some(true) && second.is_none()));
 }

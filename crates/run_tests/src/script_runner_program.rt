@@ -1,12 +1,12 @@
 //! What the program prints, and how it ends.
-use crate::program::histar_on;
+use script_runner::histar_on;
 use script_words::DEFAULTS;
-use std::io;
-use std::io::{ErrorKind, Read};
+use std::io::ErrorKind;
 use std::process::Abort;
 use std::sync::Wait;
 use std::test::Fail;
 use std::thread::Threads;
+use test_support::Broken;
 
 /// What a script prints, on which stream, and the status.
 fn check<R: Abort + AllocGlobal + Threads + Wait + Sync>(
@@ -34,17 +34,6 @@ fn a_write_is_read(rt: HostRuntime) {
         b"c = boot: cat_create\ns = boot: segment_create root {c:3,1} 2 1\nboot: segment_write root s 0 000102030405060708090a0b0c0d0e0f101112131415161718191a1b1c1d1e1f202122232425262728292a2b2c2d2e2f303132333435363738393a3b3c3d3e3f\nboot: segment_read root s 0 64\n",
         0,
         b"boot 1: cat c\nboot 2: id s\nboot 3: ok\nboot 4: data 000102030405060708090a0b0c0d0e0f101112131415161718191a1b1c1d1e1f202122232425262728292a2b2c2d2e2f303132333435363738393a3b3c3d3e3f\n",
-        b"",
-    );
-}
-
-#[test]
-fn a_segment_in_a_container(rt: HostRuntime) {
-    check(
-        &rt,
-        b"c = boot: cat_create\na = boot: container_create root {1} 8 -\ns = boot: segment_create a {c:3,1} 2 1\nboot: segment_write a s 62 6869\nboot: segment_read a s 62 2\nboot: segment_read a s 255 2\n",
-        0,
-        b"boot 1: cat c\nboot 2: id a\nboot 3: id s\nboot 4: ok\nboot 5: data 6869\nboot 6: refused 18 Bounds\n",
         b"",
     );
 }
@@ -86,61 +75,7 @@ fn refusals_by_the_least_number(rt: HostRuntime) {
 }
 
 #[test]
-fn a_secret_stays_secret(rt: HostRuntime) {
-    check(
-        &rt,
-        b"c = boot: cat_create\ns = boot: segment_create root {c:3,1} 2 1\nboot: segment_write root s 0 000102030405060708090a0b0c0d0e0f101112131415161718191a1b1c1d1e1f202122232425262728292a2b2c2d2e2f303132333435363738393a3b3c3d3e3f\nboot: segment_read root s 0 64\nt = boot: thread_create root {1} 1 {2} 0\n--\nt: segment_read root s 0 4\nt: self_set_label {c:3,1}\n",
-        0,
-        b"boot 1: cat c\nboot 2: id s\nboot 3: ok\nboot 4: data 000102030405060708090a0b0c0d0e0f101112131415161718191a1b1c1d1e1f202122232425262728292a2b2c2d2e2f303132333435363738393a3b3c3d3e3f\nboot 5: id t\nt 7: refused 5 CannotObserve\nt 8: refused 8 LabelRange\n",
-        b"",
-    );
-    check(
-        &rt,
-        b"c = boot: cat_create\nboot: self_set_clearance {2}\nboot: self_set_clearance {c:3,2}\nt = boot: thread_create root {1} 1 {2} 0\n--\nt: self_set_clearance {c:3,2}\n",
-        0,
-        b"boot 1: cat c\nboot 2: ok\nboot 3: ok\nboot 4: id t\nt 6: refused 9 ClearanceRange\n",
-        b"",
-    );
-    check(
-        &rt,
-        b"c = boot: cat_create\ns = boot: segment_create root {c:0,1} 2 1\nboot: segment_read root s 250 7\nt = boot: thread_create root {1} 1 {2} 0\n--\nt: segment_read root s 0 1\nt: segment_write root s 0 ff\n",
-        0,
-        b"boot 1: cat c\nboot 2: id s\nboot 3: refused 18 Bounds\nboot 4: id t\nt 6: data 00\nt 7: refused 6 CannotModify\n",
-        b"",
-    );
-}
-
-#[test]
-fn gates_are_entered_at_once(rt: HostRuntime) {
-    check(
-        &rt,
-        b"c = boot: cat_create\ng = boot: gate_create root {c:*,1} 1 {2} #0 #0 7 9\nh = boot: gate_create root {c:*,1} 1 {c:3,2} #0 #0 7 9\nt = boot: thread_create root {1} 1 {2} 0\nu = boot: thread_create root {c:3,1} 1 {c:3,2} 0\n--\nt: gate_enter root g {c:*,1} {c:3,2} {3}\nt: gate_enter root g {c:*,1} {2} {3}\nt: gate_enter root h {c:*,1} {c:3,2} {3}\nt: self_get\nu: gate_enter root g {c:3,1} {c:3,2} {3}\nu: gate_enter root h {1} {2} {c:3,1}\nu: self_get\n",
-        0,
-        b"boot 1: cat c\nboot 2: id g\nboot 3: id h\nboot 4: id t\nboot 5: id u\nt 7: refused 22 GateDenied\nt 8: entered 7 9\nt 9: entered 7 9\nt 10: self {c:*,1} {c:3,2} {3} #0 #0 7 9\nu 11: refused 22 GateDenied\nu 12: entered 7 9\nu 13: self {1} {2} {c:3,1} #0 #0 7 9\n",
-        b"",
-    );
-}
-
-#[test]
-fn a_raised_label_takes_the_right_to_write(rt: HostRuntime) {
-    check(
-        &rt,
-        b"c = boot: cat_create\ns = boot: segment_create root {1} 2 1\nm = boot: as_create root {1} 1\nboot: as_map root m 0 0 root s 0 1 rw\nu = boot: thread_create root {1} 1 {c:3,2} 0\n--\nu: self_set_as root m\nu: store 0 01\nu: self_set_label {c:2,1}\nu: store 0 02\nu: load 0 1\n",
-        0,
-        b"boot 1: cat c\nboot 2: id s\nboot 3: id m\nboot 4: ok\nboot 5: id u\nu 7: ok\nu 8: ok\nu 9: ok\nu 10: refused 20 RightsDenied\nu 11: data 01\n",
-        b"",
-    );
-}
-
-#[test]
 fn a_thread_is_gone_with_its_container(rt: HostRuntime) {
-    check(
-        &rt,
-        b"boot: unref root root\na = boot: container_create root {1} 4 -\nt = boot: thread_create a {1} 1 {2} 0\n--\nt: unref root a\nt: self_get\n",
-        0,
-        b"boot 1: refused 16 RootKept\nboot 2: id a\nboot 3: id t\nt 5: ok\nt 6: refused 1 Halted\n",
-        b"",
-    );
     check(
         &rt,
         b"a = boot: container_create root {1} 4 -\nt = boot: thread_create a {1} 1 {2} 0\nboot: unref root a\n--\nt: self_get\nt: segment_read root x 0 1\n--\nt: self_get\n",
@@ -157,8 +92,8 @@ fn a_thread_is_gone_with_its_container(rt: HostRuntime) {
     );
 }
 
-// A name is known to its own worker at once, and to the others, the worker that it names among them, from the next
-// phase on.
+// A name is known to its own worker at once, and to the others, the worker that it names among
+// them, from the next phase on.
 #[test]
 fn names_are_known_from_the_next_phase(rt: HostRuntime) {
     check(
@@ -236,16 +171,6 @@ fn a_line_too_long_is_a_fault(rt: HostRuntime) -> Result<(), Fail> {
     let told = b"histar: line 2: script fault\n";
     check(&rt, script.as_slice(), 1, b"", told);
     Ok(())
-}
-
-/// A reader that only fails.
-#[derive(Drop)]
-struct Broken(ErrorKind);
-
-impl Read for Broken {
-    fn read(&mut self, _: &mut [u8]) -> io::Result<usize> {
-        Err(io::Error::from(self.0))
-    }
 }
 
 #[test]

@@ -1,13 +1,14 @@
 //! Plays scripts under gates that pace their workers, and where memory is refused.
-use crate::faults::PlayFault;
-use crate::gates::{Always, Gate, Turn};
-use crate::play::play_all;
 use base::Category;
-use call_text::{Named, ScriptError, Value, read_script, write_reply};
+use call_text::{Named, Script, ScriptError, Value, read_script, write_reply};
 use kernel_rules::Reply;
+use script_runner::{Always, Gate, PlayFault, Played, Turn, play_all};
 use script_words::DEFAULTS;
+use std::alloc::Global;
+use std::sync::Wait;
 use std::sync::atomic::{AtomicU64, Ordering};
 use std::test::Fail;
+use std::thread::Threads;
 use text_words::Name;
 
 /// How often a worker looks for another's line.
@@ -120,6 +121,20 @@ fn a_thread_is_halted_within_a_phase(rt: HostRuntime) -> Result<(), Fail> {
     Ok(())
 }
 
+/// A run, made once more where there was no memory for it.
+fn played_again<R: Threads + Wait + Sync>(
+    rt: &R,
+    alloc: Global,
+    script: &Script,
+) -> Result<Played, PlayFault> {
+    match play_all(rt, alloc, script, &DEFAULTS.limits, &Always) {
+        Err(PlayFault::Memory | PlayFault::Boot(_)) => {
+            play_all(rt, alloc, script, &DEFAULTS.limits, &Always)
+        }
+        answered => answered,
+    }
+}
+
 // Where an allocation is refused, the call that is made again answers what it would have.
 #[test]
 fn want_of_memory_changes_nothing(rt: HostRuntime) -> Result<(), Fail> {
@@ -129,16 +144,7 @@ fn want_of_memory_changes_nothing(rt: HostRuntime) -> Result<(), Fail> {
         Err(ScriptError::Memory) => read_script(alloc, text)?,
         answered => answered?,
     };
-    let played = match play_all(&rt, alloc, &script, &DEFAULTS.limits, &Always) {
-        Err(PlayFault::Memory | PlayFault::Boot(_)) => play_all(
-            &rt,
-            alloc,
-            &script,
-            &DEFAULTS.limits,
-            &Always,
-        )?,
-        answered => answered?,
-    };
+    let played = played_again(&rt, alloc, &script)?;
     assert_eq!(rt;
         played.output.as_slice(),
         b"boot 1: cat c\nboot 2: id #4\n".as_slice()
@@ -153,5 +159,23 @@ fn want_of_memory_changes_nothing(rt: HostRuntime) -> Result<(), Fail> {
         Err(_) => write_reply(alloc, &reply, &names)?,
     };
     assert_eq!(rt; text.as_slice(), b"cat c".as_slice());
+    Ok(())
+}
+
+// The same over two workers and three phases, in which threads are started.
+#[test]
+fn want_of_memory_stops_no_worker(rt: HostRuntime) -> Result<(), Fail> {
+    let alloc = rt.alloc();
+    let text =
+        b"t = boot: thread_create root {1} 1 {2} 0\n--\nboot: segment_create root {1} 1 0\nt: obj_label root root\n--\nt: cat_create\n";
+    let script = match read_script(alloc, text) {
+        Err(ScriptError::Memory) => read_script(alloc, text)?,
+        answered => answered?,
+    };
+    let played = played_again(&rt, alloc, &script)?;
+    assert_eq!(rt;
+        played.output.as_slice(),
+        b"boot 1: id t\nboot 3: id #5\nt 4: label {1}\nt 6: cat #1\n".as_slice()
+    );
     Ok(())
 }

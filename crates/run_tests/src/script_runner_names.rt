@@ -1,7 +1,7 @@
 //! The names that a script binds.
-use crate::names::BoundNames;
 use base::{Category, ObjectId};
 use call_text::{Known, Named, Value};
+use script_runner::BoundNames;
 use std::test::Fail;
 use text_words::Name;
 
@@ -23,9 +23,10 @@ fn are_known(names: &BoundNames) -> bool {
         && names.name_of(&Value::Object(ObjectId::root())) == Some(root)
 }
 
-// A name that is bound stays bound, and of two names of one value the first is told.
+// A name that is bound stays bound, and of two names of one value the first is told. Where an
+// allocation is refused, the name that is bound again is bound once.
 #[test]
-fn names_are_bound_once(rt: HostRuntime) -> Result<(), Fail> {
+fn want_of_memory_binds_no_name_by_half(rt: HostRuntime) -> Result<(), Fail> {
     let mut names = match BoundNames::start(rt.alloc()) {
         Ok(names) => names,
         Err(_) => BoundNames::start(rt.alloc())?,
@@ -44,5 +45,10 @@ fn names_are_bound_once(rt: HostRuntime) -> Result<(), Fail> {
         }
     }
     assert!(rt; are_known(&names));
+    let mut later = BoundNames::none(rt.alloc());
+    if later.bind_all(&names).is_err() {
+        later.bind_all(&names)?;
+    }
+    assert!(rt; are_known(&later));
     Ok(())
 }

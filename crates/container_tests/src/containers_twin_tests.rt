@@ -1,7 +1,7 @@
-//! Ten thousand random calls on both.
-use super::*;
+//! Ten thousand random calls on containers and on their twin.
 use crate::seen::{POOL, Seen, compare_seen};
 use base::{NoMemory, ObjectId, Slot};
+use containers_twin::{Guarded, Hierarchy, Twin};
 use std::process::Abort;
 use std::test::Fail;
 
@@ -12,10 +12,12 @@ const SEED: u64 = 2006;
 // How often at least each kind of call is to be made, and to be refused.
 const ENOUGH: u32 = 100;
 
-// How often at least three objects or more are to go at once, and an object is to stay since it is linked elsewhere.
+// How often at least three objects or more are to go at once, and an object is to stay since it is
+// linked elsewhere.
 const SOME: u32 = 50;
 
-// The generator: x becomes 6364136223846793005 x + 1442695040888963407 modulo 2^64, and gives its upper 31 bits.
+// The generator: x becomes 6364136223846793005 x + 1442695040888963407 modulo 2^64, and gives its
+// upper 31 bits.
 #[derive(Drop)]
 struct Numbers {
     state: u64,

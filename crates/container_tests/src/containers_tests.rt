@@ -1,9 +1,11 @@
+//! Links between containers and objects, and without memory.
 ghost use Rattle.std.specs.Prelude.{◌≡◌, ℕ, [], ◌∷◌, IfOk, length};
 
-use super::*;
-use base::{Meter, NoMemory, ObjectId, Slot};
+use base::{Meter, NoMemory, ObjectId};
+use containers::{Containers, Place, Visitor};
 use std::alloc::Global;
 use std::test::Fail;
+use test_support::meter_again;
 
 // Remembers the numbers of the first eight objects that it is handed, and how many links.
 #[derive(Drop)]
@@ -11,6 +13,16 @@ struct Seen {
     links: u8,
     objects: [u64; 8],
     len: usize,
+}
+
+fn nothing_seen() -> Seen
+    ensures { result.len ≡ 0 }
+{
+    Seen {
+        links: 0,
+        objects: [0; 8],
+        len: 0,
+    }
 }
 
 impl Visitor for Seen {
@@ -75,11 +87,7 @@ fn links_are_kept_in_order(rt: HostRuntime) -> Result<(), Fail> {
 fn what_no_path_leads_to_goes(rt: HostRuntime) -> Result<(), Fail> {
     let mut meter = Meter::new(rt.alloc())?;
     let mut tree = family(rt.alloc(), &mut meter)?;
-    let mut seen = Seen {
-        links: 0,
-        objects: [0; 8],
-        len: 0,
-    };
+    let mut seen = nothing_seen();
     let [root, four, five, six] = [1, 4, 5, 6].map(ObjectId::new);
     tree.unref(root, four, &mut seen, &mut meter);
     assert_eq!(rt; seen.links, 3);
@@ -107,18 +115,11 @@ fn family_again(alloc: Global, meter: &mut Meter) -> Result<Containers<char>, No
 // Where an allocation is refused, containers that are booted again are as if nothing had been.
 #[test]
 fn want_of_memory_changes_nothing(rt: HostRuntime) -> Result<(), Fail> {
-    let mut meter = match Meter::new(rt.alloc()) {
-        Ok(meter) => meter,
-        Err(_) => Meter::new(rt.alloc())?,
-    };
+    let mut meter = meter_again(rt.alloc())?;
     let mut tree = family_again(rt.alloc(), &mut meter)?;
     let [root, four, five, six] = [1, 4, 5, 6].map(ObjectId::new);
     assert_eq!(rt; tree.parent(five, &mut meter), Some(four));
-    let mut seen = Seen {
-        links: 0,
-        objects: [0; 8],
-        len: 0,
-    };
+    let mut seen = nothing_seen();
     tree.unref(root, four, &mut seen, &mut meter);
     assert_eq!(rt; seen.links, 3);
     assert_eq!(rt; seen.len, 2);
