@@ -7,6 +7,3 @@
 mod words;
 
 pub use words::{Told, read_words};
-
-#[cfg(test)]
-mod tests;

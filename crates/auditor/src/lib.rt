@@ -11,6 +11,3 @@ mod verdicts;
 pub use audits::{audit, clean_is_legal, one_verdict};
 pub use program::{Ended, NAME, audit_on};
 pub use verdicts::Verdict;
-
-#[cfg(test)]
-mod tests;

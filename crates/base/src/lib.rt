@@ -26,6 +26,3 @@ pub use meters::Meter;
 pub use ranges::Limits;
 pub use refusals::Refusal;
 pub use sets::{Rights, TypeSet};
-
-#[cfg(test)]
-mod tests;

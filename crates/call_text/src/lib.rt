@@ -28,10 +28,3 @@ pub use replies::{put_reply, write_reply};
 pub use resolving::resolve;
 pub use script_writing::write_script;
 pub use scripts::{one_reading, read_script};
-
-#[cfg(test)]
-mod call_tests;
-#[cfg(test)]
-mod reply_tests;
-#[cfg(test)]
-mod tests;

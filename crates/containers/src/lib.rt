@@ -14,6 +14,3 @@ mod windows;
 
 pub use tree::Containers;
 pub use visitor::{Place, Visitor};
-
-#[cfg(test)]
-mod tests;

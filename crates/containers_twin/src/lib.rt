@@ -12,8 +12,3 @@ mod twin;
 pub use guarded::Guarded;
 pub use hierarchy::{Hierarchy, is_container};
 pub use twin::Twin;
-
-#[cfg(test)]
-mod seen;
-#[cfg(test)]
-mod tests;

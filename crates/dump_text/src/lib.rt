@@ -26,6 +26,3 @@ pub use laws::legal_is_dump;
 pub use tables::{Dump, Stored, Tables};
 pub use whole::dump_with;
 pub use writing::write_dump;
-
-#[cfg(test)]
-mod tests;

@@ -10,6 +10,3 @@ mod chains;
 mod rings;
 
 pub use rings::Rings;
-
-#[cfg(test)]
-mod tests;

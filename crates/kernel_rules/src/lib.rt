@@ -14,8 +14,6 @@ mod places;
 mod refusing;
 mod replies;
 mod tables;
-#[cfg(test)]
-mod tests;
 
 pub use calls::{Call, Entry, Query};
 pub use creations::{NewAddressSpace, NewContainer, NewCopy, NewGate, NewSegment, NewThread};

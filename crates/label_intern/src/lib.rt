@@ -13,6 +13,3 @@ mod table;
 
 pub use order::OrderBits;
 pub use pool::{LabelIx, Labels};
-
-#[cfg(test)]
-mod tests;

@@ -19,6 +19,3 @@ mod walk;
 pub use labels::Label;
 pub use pairings::{Pair, Pairs};
 pub use raw_labels::RawLabel;
-
-#[cfg(test)]
-mod tests;

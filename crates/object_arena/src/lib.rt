@@ -11,6 +11,3 @@ mod gaps;
 mod search;
 
 pub use arena::Arena;
-
-#[cfg(test)]
-mod tests;

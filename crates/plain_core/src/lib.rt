@@ -19,10 +19,3 @@ pub use kernel_rules::{
 };
 pub use machine::{Machine, run};
 pub use plain_state::BootRefusal;
-
-#[cfg(test)]
-mod samples;
-#[cfg(test)]
-mod table_tests;
-#[cfg(test)]
-mod tests;

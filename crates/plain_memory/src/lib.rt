@@ -7,12 +7,8 @@ mod accesses;
 mod devices;
 mod lengths;
 mod metadata;
-#[cfg(test)]
-mod samples;
 mod segments;
 mod spaces;
-#[cfg(test)]
-mod tests;
 
 pub use accesses::{load, refused_load, refused_store, store};
 pub use devices::{dev_recv, dev_send, refused_dev_recv, refused_dev_send};

@@ -4,8 +4,6 @@
 #![tactic(auto)]
 
 mod boots;
-#[cfg(test)]
-mod change_tests;
 mod changes;
 mod edits;
 mod link_edits;
@@ -16,11 +14,7 @@ mod memory_edits;
 mod reads;
 mod records;
 mod rows;
-#[cfg(test)]
-mod samples;
 mod states;
-#[cfg(test)]
-mod tests;
 mod thread_changes;
 mod thread_edits;
 mod translations;

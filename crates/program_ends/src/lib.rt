@@ -12,6 +12,3 @@ mod words;
 pub use faults::Fault;
 pub use inputs::{bytes_of, input_fault};
 pub use words::{tell_answer, words_of};
-
-#[cfg(test)]
-mod tests;

@@ -23,14 +23,3 @@ pub use plain_core::BootRefusal;
 pub use receipts::Receipt;
 pub use refusals::{SeatRefusal, SubmitRefusal};
 pub use seats::Seat;
-
-#[cfg(test)]
-mod memory_tests;
-#[cfg(test)]
-mod samples;
-#[cfg(test)]
-mod tests;
-#[cfg(test)]
-mod thread_tests;
-#[cfg(test)]
-mod turn_tests;

@@ -23,12 +23,3 @@ pub use gates::{Always, Gate, Turn};
 pub use names::{BoundNames, WorkerNames};
 pub use play::{Played, play_all};
 pub use program::{Ended, NAME, histar_on};
-
-#[cfg(test)]
-mod dump_tests;
-#[cfg(test)]
-mod name_tests;
-#[cfg(test)]
-mod play_tests;
-#[cfg(test)]
-mod program_tests;

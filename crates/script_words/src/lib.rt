@@ -6,6 +6,3 @@
 mod words;
 
 pub use words::{DEFAULTS, Options, Told, read_words};
-
-#[cfg(test)]
-mod tests;

@@ -13,6 +13,3 @@ pub use args::{Arg, Kind};
 pub use rows::{Row, read_arguments, read_row};
 pub use verbs::Verb;
 pub use writing::put_row;
-
-#[cfg(test)]
-mod tests;

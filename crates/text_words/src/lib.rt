@@ -26,6 +26,3 @@ pub use rights_words::{put_rights, read_rights};
 pub use signed_numbers::{put_signed, read_signed};
 pub use spoken_labels::{SpokenLabel, SpokenPair, put_label, read_label};
 pub use type_words::{put_types, read_types};
-
-#[cfg(test)]
-mod tests;

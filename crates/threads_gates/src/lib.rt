@@ -8,8 +8,6 @@ mod creating;
 mod gates;
 mod orders;
 mod storing;
-#[cfg(test)]
-mod tests;
 
 pub use creating::{is_between, may_clear};
 pub use gates::{Asked, Bearer, may_enter};

@@ -1,0 +1,129 @@
+//! Links between containers and objects, and without memory.
+ghost use Rattle.std.specs.Prelude.{◌≡◌, ℕ, [], ◌∷◌, IfOk, length};
+
+use base::{Meter, NoMemory, ObjectId};
+use containers::{Containers, Place, Visitor};
+use std::alloc::Global;
+use std::test::Fail;
+use test_support::meter_again;
+
+// Remembers the numbers of the first eight objects that it is handed, and how many links.
+#[derive(Drop)]
+struct Seen {
+    links: u8,
+    objects: [u64; 8],
+    len: usize,
+}
+
+fn nothing_seen() -> Seen
+    ensures { result.len ≡ 0 }
+{
+    Seen {
+        links: 0,
+        objects: [0; 8],
+        len: 0,
+    }
+}
+
+impl Visitor for Seen {
+    ghost link_gives = { λ v c o w. (v.len ≡ w.len) };
+
+    ghost object_gives = { λ v o w. (v.links ≡ w.links) };
+
+    fn link(&mut self, _container: Place, _object: Place) {
+        self.links = self.links.saturating_add(1);
+    }
+
+    fn object(&mut self, object: Place) {
+        if self.len < 8 {
+            self.objects[self.len] = object.id.number();
+            self.len += 1;
+        }
+    }
+}
+
+// The root lists 4 and 6, 4 lists 5 and 6.
+fn family(alloc: Global, meter: &mut Meter) -> Result<Containers<char>, NoMemory>
+    ensures { IfOk result
+        (λ t. t.lists ≡ (1, 4 ∷ 6 ∷ []) ∷ (4, 5 ∷ 6 ∷ []) ∷ (5, []) ∷ (6, []) ∷ []) }
+{
+    let mut tree = Containers::boot(alloc, 4, 'r')?;
+    let root = ObjectId::root();
+    tree.create(root, ObjectId::new(4), 'a', meter);
+    tree.create(ObjectId::new(4), ObjectId::new(5), 'b', meter);
+    tree.create(root, ObjectId::new(6), 'c', meter);
+    tree.link(ObjectId::new(4), ObjectId::new(6), meter);
+    Ok(tree)
+}
+
+#[test]
+fn links_are_kept_in_order(rt: HostRuntime) -> Result<(), Fail> {
+    let mut meter = Meter::new(rt.alloc())?;
+    let mut tree = family(rt.alloc(), &mut meter)?;
+    let [root, four, five, six] = [1, 4, 5, 6].map(ObjectId::new);
+    assert_eq!(rt; tree.len(), 4);
+    assert_eq!(rt; tree.live(2, &mut meter), five);
+    assert_eq!(rt; tree.entry_count(root, &mut meter), 2);
+    assert_eq!(rt; tree.parent(five, &mut meter), Some(four));
+    assert_eq!(rt; tree.parent(root, &mut meter), None);
+    assert!(rt; tree.is_listed(four, six, &mut meter));
+    assert!(rt; !tree.is_listed(root, five, &mut meter));
+
+    let mut window = [root; 3];
+    assert_eq!(rt; tree.entries(four, 0, &mut window, &mut meter), 2);
+    assert_eq!(rt; window, [five, six, root]);
+    assert_eq!(rt; tree.entries(four, 1, &mut window, &mut meter), 1);
+    assert_eq!(rt; window, [six, six, root]);
+
+    assert_eq!(rt; meter.scans(), 0);
+    if let Some(slot) = tree.find(six, &mut meter) {
+        *tree.get_mut(slot) = 'x';
+        assert_eq!(rt; *tree.get(slot), 'x');
+    }
+    Ok(())
+}
+
+#[test]
+fn what_no_path_leads_to_goes(rt: HostRuntime) -> Result<(), Fail> {
+    let mut meter = Meter::new(rt.alloc())?;
+    let mut tree = family(rt.alloc(), &mut meter)?;
+    let mut seen = nothing_seen();
+    let [root, four, five, six] = [1, 4, 5, 6].map(ObjectId::new);
+    tree.unref(root, four, &mut seen, &mut meter);
+    assert_eq!(rt; seen.links, 3);
+    assert_eq!(rt; seen.len, 2);
+    assert_eq!(rt; seen.objects[0].min(seen.objects[1]), 4);
+    assert_eq!(rt; seen.objects[0].max(seen.objects[1]), 5);
+    assert_eq!(rt; tree.len(), 2);
+    assert_eq!(rt; tree.find(four, &mut meter), None);
+    assert_eq!(rt; tree.find(five, &mut meter), None);
+    assert!(rt; tree.find(six, &mut meter).is_some());
+    Ok(())
+}
+
+// The same, made once more where the first making had no memory.
+fn family_again(alloc: Global, meter: &mut Meter) -> Result<Containers<char>, NoMemory>
+    ensures { IfOk result
+        (λ t. t.lists ≡ (1, 4 ∷ 6 ∷ []) ∷ (4, 5 ∷ 6 ∷ []) ∷ (5, []) ∷ (6, []) ∷ []) }
+{
+    match family(alloc, meter) {
+        Ok(tree) => Ok(tree),
+        Err(_) => family(alloc, meter),
+    }
+}
+
+// Where an allocation is refused, containers that are booted again are as if nothing had been.
+#[test]
+fn want_of_memory_changes_nothing(rt: HostRuntime) -> Result<(), Fail> {
+    let mut meter = meter_again(rt.alloc())?;
+    let mut tree = family_again(rt.alloc(), &mut meter)?;
+    let [root, four, five, six] = [1, 4, 5, 6].map(ObjectId::new);
+    assert_eq!(rt; tree.parent(five, &mut meter), Some(four));
+    let mut seen = nothing_seen();
+    tree.unref(root, four, &mut seen, &mut meter);
+    assert_eq!(rt; seen.links, 3);
+    assert_eq!(rt; seen.len, 2);
+    assert_eq!(rt; tree.len(), 2);
+    assert_eq!(rt; tree.live(1, &mut meter), six);
+    Ok(())
+}

@@ -1,0 +1,100 @@
+//! The plain machine on its happy path.
+use crate::samples::{make, secret};
+use base::{Category, Data, Meter, NoMemory, Refusal};
+use plain_core::{BootRefusal, Call, Entry, Machine, NewSegment, PlainKernel, Query, Reply, run};
+use std::test::Fail;
+use test_support::{LIMITS, answered, boot_thread, in_root, is_object, new_container, new_segment};
+
+/// What refuses a read of the boot thread.
+fn refused(
+    kernel: &PlainKernel,
+    query: &Query,
+    meter: &mut Meter,
+) -> Result<Option<Refusal>, NoMemory> {
+    answered(kernel.ask(boot_thread(), query, meter))
+}
+
+#[test]
+fn a_write_is_read(rt: HostRuntime) -> Result<(), Fail> {
+    let mut meter = Meter::new(rt.alloc())?;
+    let mut kernel = PlainKernel::boot(rt.alloc(), &LIMITS)?;
+    kernel.well_formed();
+    assert!(rt; make(&mut kernel, &Call::CatCreate, &mut meter)?.is_none());
+    let Some(container) = make(&mut kernel, &new_container(8), &mut meter)? else {
+        return Err(Fail::from("no container"));
+    };
+    assert_eq!(rt; container.number(), 4);
+    let segment = Call::SegmentCreate(NewSegment {
+        container,
+        label: secret(),
+        quota: 2,
+        pages: 1,
+    });
+    let Some(segment) = make(&mut kernel, &segment, &mut meter)? else {
+        return Err(Fail::from("no segment"));
+    };
+    assert_eq!(rt; segment.number(), 5);
+    let entry = Entry {
+        container,
+        object: segment,
+    };
+    let past = Query::SegmentRead {
+        entry,
+        offset: 255,
+        count: 2,
+    };
+    let Some(refusal) = refused(&kernel, &past, &mut meter)? else {
+        return Err(Fail::from("no refusal"));
+    };
+    assert_eq!(rt; refusal.number(), 18);
+    Ok(())
+}
+
+#[test]
+fn three_writes_are_run(rt: HostRuntime) -> Result<(), Fail> {
+    let bytes = [
+        0, 1, 2, 3, 4, 5, 6, 7, 8, 9, 10, 11, 12, 13, 14, 15, 16, 17, 18, 19, 20, 21, 22, 23, 24,
+        25, 26, 27, 28, 29, 30, 31, 32, 33, 34, 35, 36, 37, 38, 39, 40, 41, 42, 43, 44, 45, 46, 47,
+        48, 49, 50, 51, 52, 53, 54, 55, 56, 57, 58, 59, 60, 61, 62, 63,
+    ];
+    let boot = boot_thread();
+    let entry = in_root(4);
+    let write = Call::SegmentWrite {
+        entry,
+        offset: 0,
+        data: Data::from_slice(&bytes),
+    };
+    let calls = [
+        (boot, Call::CatCreate),
+        (boot, new_segment(secret())),
+        (boot, write),
+    ];
+    let mut kernel = PlainKernel::boot(rt.alloc(), &LIMITS)?;
+    let replies = run(rt.alloc(), &mut kernel, &calls)?;
+    assert_eq!(rt; replies.len(), 3);
+    assert!(rt; matches!(replies[0], Reply::Category(Category(1))));
+    assert!(rt; is_object(replies[1], 4));
+    assert!(rt; matches!(replies[2], Reply::Done));
+    let read = Query::SegmentRead {
+        entry,
+        offset: 0,
+        count: 64,
+    };
+    let mut meter = Meter::new(rt.alloc())?;
+    let Reply::Bytes(found) = kernel.ask(boot, &read, &mut meter)? else {
+        return Err(Fail::from("no bytes"));
+    };
+    assert_eq!(rt; found.as_slice(), bytes.as_slice());
+    Ok(())
+}
+
+#[test]
+fn limits_are_tested(rt: HostRuntime) {
+    let mut limits = LIMITS;
+    limits.pages = 7;
+    match PlainKernel::boot(rt.alloc(), &limits) {
+        Ok(_) => assert!(rt; false),
+        Err(refusal) => assert_eq!(rt; refusal.refusal().number(), 31),
+    }
+    assert!(rt; BootRefusal::Unavailable.refusal().name() == "Unavailable");
+}

@@ -1,0 +1,14 @@
+//! Tests of what the programs are started with and of their two ends: words that are taken and
+//! refused, texts of `clap`, faults of streams, and each reading made again where there was no
+//! memory.
+#![tactic(auto)]
+
+/// This crate has tests alone.
+pub fn programs_are_tested() {}
+
+#[cfg(test)]
+mod audit_words_tests;
+#[cfg(test)]
+mod program_ends_tests;
+#[cfg(test)]
+mod script_words_tests;

@@ -1,4 +1,0 @@
-use Rattle.published_copy.proofs.memory_tests.want_of_memory_changes_nothing.Given as goal
-
-abbrev pub ghosts-want_memory : goal.ghosts-want_memory
-ghosts-want_memory g a = record { limits = a.blank }

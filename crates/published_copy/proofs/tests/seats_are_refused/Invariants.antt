@@ -1,4 +1,0 @@
-use Rattle.published_copy.proofs.tests.seats_are_refused.Given as goal
-
-abbrev pub ghosts-refuse_seats : goal.ghosts-refuse_seats
-ghosts-refuse_seats g a = record { limits = a.blank }

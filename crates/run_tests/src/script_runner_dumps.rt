@@ -1,0 +1,129 @@
+//! What goes to the dump's file.
+use script_runner::histar_on;
+use script_words::{DEFAULTS, Options};
+use std::io::ErrorKind;
+use std::process::Abort;
+use std::sync::Wait;
+use std::test::Fail;
+use std::thread::Threads;
+use test_support::{Broken, EIGHT_PAGES, EMPTY_DUMP};
+
+/// A run with 8 pages, of which a dump is made.
+const DUMPED: Options = Options {
+    limits: EIGHT_PAGES,
+    dump: true,
+};
+
+/// The output and the file of a run that goes well.
+#[derive(Drop)]
+struct Texts {
+    output: Vec<u8>,
+    file: Vec<u8>,
+}
+
+fn texts_of<R: Abort + AllocGlobal + Threads + Wait + Sync>(
+    rt: &R,
+    script: &[u8],
+    options: &Options,
+) -> Texts {
+    let alloc = rt.alloc();
+    let mut output = Vec::new(alloc);
+    let mut err = Vec::new(alloc);
+    let mut input = script;
+    let ended = histar_on(rt, alloc, &mut input, options, &mut output, &mut err);
+    assert_eq!(rt; ended.status, 0);
+    assert!(rt; err.is_empty());
+    Texts {
+        output,
+        file: ended.file,
+    }
+}
+
+#[test]
+fn an_empty_script_is_dumped(rt: HostRuntime) {
+    let texts = texts_of(&rt, b"", &DUMPED);
+    assert!(rt; texts.output.is_empty());
+    assert_eq!(rt; texts.file.as_slice(), EMPTY_DUMP.as_bytes());
+}
+
+#[test]
+fn events_are_dumped_in_order(rt: HostRuntime) -> Result<(), Fail> {
+    let texts = texts_of(&rt, b"boot: cat_create\nboot: cat_create\n", &DUMPED);
+    let beginning =
+        b"histar-dump 1\nlimits 8 1 4 1\nevent 2 1 cat_create => cat #1\nevent 2 2 cat_create => cat #2\nlive 1\n";
+    assert!(rt; texts.file.starts_with(beginning));
+    assert_eq!(rt;
+        texts.output.as_slice(),
+        b"boot 1: cat #1\nboot 2: cat #2\n".as_slice()
+    );
+    Ok(())
+}
+
+#[test]
+fn no_dump_is_made_unasked(rt: HostRuntime) {
+    let texts = texts_of(&rt, b"boot: cat_create\n", &DEFAULTS);
+    assert_eq!(rt; texts.output.as_slice(), b"boot 1: cat #1\n".as_slice());
+    assert!(rt; texts.file.is_empty());
+}
+
+#[test]
+fn no_dump_is_made_after_a_fault(rt: HostRuntime) -> Result<(), Fail> {
+    let alloc = rt.alloc();
+    let mut err = Vec::new(alloc);
+    let mut room = [0u8; 4];
+    let mut full: &mut [u8] = &mut room;
+    let mut script: &[u8] = b"boot: cat_create\nboot\n";
+    let ended = histar_on(&rt, alloc, &mut script, &DUMPED, &mut full, &mut err);
+    assert!(rt; ended.status == 1 && ended.file.is_empty());
+    let mut script: &[u8] = b"boot: cat_create\n";
+    let ended = histar_on(&rt, alloc, &mut script, &DUMPED, &mut full, &mut err);
+    assert!(rt; ended.status == 3 && ended.file.is_empty());
+    let mut script = Broken(ErrorKind::OutOfMemory);
+    let ended = histar_on(&rt, alloc, &mut script, &DUMPED, &mut full, &mut err);
+    assert!(rt; ended.status == 4 && ended.file.is_empty());
+    Ok(())
+}
+
+/// The script of `examples/by_entry.histar`, which ends with one mapping that shows something.
+const BY_ENTRY: &[u8] =
+    b"a = boot: container_create root {1} 10 -\nb = boot: container_create a {1} 8 -\nd = boot: container_create b {1} 6 -\ns = boot: segment_create d {1} 2 1\nboot: segment_write d s 0 6162\nboot: set_fixed d s\nboot: link root d s\nm = boot: as_create root {1} 1\nboot: as_map root m 0 0 d s 0 1 rw\nboot: as_map root m 1 4 root s 0 1 rw\nboot: self_set_as root m\nboot: load 0 2\nboot: unref root a\nboot: load 0 2\nboot: load 1024 2\nboot: as_get root m 0\n";
+
+const BY_ENTRY_OUTPUT: &[u8] =
+    b"boot 1: id a\nboot 2: id b\nboot 3: id d\nboot 4: id s\nboot 5: ok\nboot 6: ok\nboot 7: ok\nboot 8: id m\nboot 9: ok\nboot 10: ok\nboot 11: ok\nboot 12: data 6162\nboot 13: ok\nboot 14: refused 19 NotMapped\nboot 15: data 6162\nboot 16: mapping 0 d s 0 1 rw\n";
+
+const BY_ENTRY_DUMP: &[u8] =
+    b"histar-dump 1\nlimits 64 1 4 1\nevent 2 1 container_create #1 {1} 10 - => id #4\nevent 2 2 container_create #4 {1} 8 - => id #5\nevent 2 3 container_create #5 {1} 6 - => id #6\nevent 2 4 segment_create #6 {1} 2 1 => id #7\nevent 2 5 segment_write #6 #7 0 6162 => ok\nevent 2 6 set_fixed #6 #7 => ok\nevent 2 7 link #1 #6 #7 => ok\nevent 2 8 as_create #1 {1} 1 => id #8\nevent 2 9 as_map #1 #8 0 0 #6 #7 0 1 rw => ok\nevent 2 10 as_map #1 #8 1 4 #1 #7 0 1 rw => ok\nevent 2 11 self_set_as #1 #8 => ok\nevent 2 12 unref #1 #4 => ok\nlive 1\nlive 2\nlive 3\nlive 7\nlive 8\nuse 1 7\nuse 2 1\nuse 3 2\nuse 7 2\nuse 8 1\nmap 2 1 7 rw\nlabel 0 {1}\nlabel 1 {2}\nlabel 2 {3}\norder 0 0 7\norder 0 1 7\norder 0 2 7\norder 1 0 0\norder 1 1 7\norder 1 2 7\norder 2 0 0\norder 2 1 0\norder 2 2 7\nend\n";
+
+/// Whether the run writes all. Else it ends for want of memory, and writes nothing.
+fn is_written<R: Abort + AllocGlobal + Threads + Wait + Sync>(rt: &R) -> bool {
+    let options = Options {
+        dump: true,
+        ..DEFAULTS
+    };
+    let mut room = [0u8; 1024];
+    let mut out: &mut [u8] = &mut room;
+    let mut told = [0u8; 64];
+    let mut err: &mut [u8] = &mut told;
+    let mut script = BY_ENTRY;
+    let ended = histar_on(rt, rt.alloc(), &mut script, &options, &mut out, &mut err);
+    let left = out.len();
+    if ended.status == 0 {
+        assert_eq!(rt; ended.file.as_slice(), BY_ENTRY_DUMP);
+        assert!(rt;
+            left.saturating_add(BY_ENTRY_OUTPUT.len()) == 1024 && room.starts_with(BY_ENTRY_OUTPUT)
+        );
+        return true;
+    }
+    assert_eq!(rt; ended.status, 4);
+    assert!(rt; left == 1024 && ended.file.is_empty());
+    assert!(rt; told.starts_with(b"histar: out of memory\n"));
+    false
+}
+
+// Where an allocation is refused, nothing is written, and the run that is made again writes all.
+#[test]
+fn want_of_memory_writes_nothing(rt: HostRuntime) {
+    let first = is_written(&rt);
+    let second = is_written(&rt);
+    assert!(rt; first || second);
+}

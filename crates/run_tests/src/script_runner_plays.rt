@@ -1,0 +1,181 @@
+//! Plays scripts under gates that pace their workers, and where memory is refused.
+use base::Category;
+use call_text::{Named, Script, ScriptError, Value, read_script, write_reply};
+use kernel_rules::Reply;
+use script_runner::{Always, Gate, PlayFault, Played, Turn, play_all};
+use script_words::DEFAULTS;
+use std::alloc::Global;
+use std::sync::Wait;
+use std::sync::atomic::{AtomicU64, Ordering};
+use std::test::Fail;
+use std::thread::Threads;
+use text_words::Name;
+
+/// How often a worker looks for another's line.
+const TURNS: u64 = 100_000_000;
+
+/// Two workers, each of which waits for the other's line, from a line of the script on.
+#[derive(Drop)]
+struct Pace {
+    answered: [AtomicU64; 2],
+    from: usize,
+}
+
+impl Gate for Pace {
+    fn before(&self, _worker: usize, _line: usize) -> Turn {
+        Turn::Go
+    }
+
+    fn after(&self, worker: usize, line: usize) -> Turn {
+        if line < self.from {
+            return Turn::Go;
+        }
+        let (own, other) = if worker == 0 {
+            (&self.answered[0], &self.answered[1])
+        } else {
+            (&self.answered[1], &self.answered[0])
+        };
+        let done = own.fetch_add(1, Ordering::SeqCst);
+        for _ in 0..TURNS {
+            if other.load(Ordering::SeqCst) > done {
+                return Turn::Go;
+            }
+        }
+        Turn::Stop
+    }
+}
+
+fn paced_from(line: usize) -> Pace {
+    Pace {
+        answered: [AtomicU64::new(0), AtomicU64::new(0)],
+        from: line,
+    }
+}
+
+// Two workers of four lines each, which go on only line by line.
+#[test]
+fn two_workers_run_at_once(rt: HostRuntime) -> Result<(), Fail> {
+    let alloc = rt.alloc();
+    let text =
+        b"t = boot: thread_create root {1} 1 {2} 0\n--\nboot: cat_create\nboot: self_get\nboot: cat_create\nboot: self_get\nt: cat_create\nt: self_get\nt: cat_create\nt: self_get\n";
+    let script = read_script(alloc, text)?;
+    let played = play_all(&rt, alloc, &script, &DEFAULTS.limits, &paced_from(3));
+    assert!(rt; played.is_ok());
+    Ok(())
+}
+
+// Those without a seat have no thread of their own, so that none goes on before another one.
+#[test]
+fn workers_of_one_thread_are_stopped(rt: HostRuntime) -> Result<(), Fail> {
+    let alloc = rt.alloc();
+    let script = read_script(alloc, b"t: self_get\nu: self_get\n")?;
+    let played = play_all(&rt, alloc, &script, &DEFAULTS.limits, &paced_from(1));
+    assert!(rt; matches!(played, Err(PlayFault::Stopped)));
+    Ok(())
+}
+
+/// Lets lines go in the order of the script, in which one line parts two phases.
+#[derive(Drop)]
+struct InOrder {
+    answered: AtomicU64,
+    parting: usize,
+}
+
+impl Gate for InOrder {
+    fn before(&self, _worker: usize, line: usize) -> Turn {
+        let lines = if line < self.parting {
+            line.saturating_sub(1)
+        } else {
+            line.saturating_sub(2)
+        };
+        for _ in 0..TURNS {
+            if self.answered.load(Ordering::SeqCst) >= lines as u64 {
+                return Turn::Go;
+            }
+        }
+        Turn::Stop
+    }
+
+    fn after(&self, _worker: usize, _line: usize) -> Turn {
+        let _ = self.answered.fetch_add(1, Ordering::SeqCst);
+        Turn::Go
+    }
+}
+
+// A thread that another one takes away in a phase is halted from its next line on.
+#[test]
+fn a_thread_is_halted_within_a_phase(rt: HostRuntime) -> Result<(), Fail> {
+    let alloc = rt.alloc();
+    let text =
+        b"a = boot: container_create root {1} 4 -\nt = boot: thread_create a {1} 1 {2} 0\n--\nt: self_set_label {1}\nboot: unref root a\nt: self_set_label {1}\nt: self_get\n";
+    let script = read_script(alloc, text)?;
+    let gate = InOrder {
+        answered: AtomicU64::new(0),
+        parting: 3,
+    };
+    let played = play_all(&rt, alloc, &script, &DEFAULTS.limits, &gate)?;
+    assert_eq!(rt;
+        played.output.as_slice(),
+        b"boot 1: id a\nboot 2: id t\nboot 5: ok\nt 4: ok\nt 6: refused 1 Halted\nt 7: refused 1 Halted\n".as_slice()
+    );
+    Ok(())
+}
+
+/// A run, made once more where there was no memory for it.
+fn played_again<R: Threads + Wait + Sync>(
+    rt: &R,
+    alloc: Global,
+    script: &Script,
+) -> Result<Played, PlayFault> {
+    match play_all(rt, alloc, script, &DEFAULTS.limits, &Always) {
+        Err(PlayFault::Memory | PlayFault::Boot(_)) => {
+            play_all(rt, alloc, script, &DEFAULTS.limits, &Always)
+        }
+        answered => answered,
+    }
+}
+
+// Where an allocation is refused, the call that is made again answers what it would have.
+#[test]
+fn want_of_memory_changes_nothing(rt: HostRuntime) -> Result<(), Fail> {
+    let alloc = rt.alloc();
+    let text = b"c = boot: cat_create\nboot: segment_create root {c:3,1} 1 0\n";
+    let script = match read_script(alloc, text) {
+        Err(ScriptError::Memory) => read_script(alloc, text)?,
+        answered => answered?,
+    };
+    let played = played_again(&rt, alloc, &script)?;
+    assert_eq!(rt;
+        played.output.as_slice(),
+        b"boot 1: cat c\nboot 2: id #4\n".as_slice()
+    );
+    let names = [Named {
+        name: Name::from_slice(b"c"),
+        value: Value::Category(Category(1)),
+    }];
+    let reply = Reply::Category(Category(1));
+    let text = match write_reply(alloc, &reply, &names) {
+        Ok(text) => text,
+        Err(_) => write_reply(alloc, &reply, &names)?,
+    };
+    assert_eq!(rt; text.as_slice(), b"cat c".as_slice());
+    Ok(())
+}
+
+// The same over two workers and three phases, in which threads are started.
+#[test]
+fn want_of_memory_stops_no_worker(rt: HostRuntime) -> Result<(), Fail> {
+    let alloc = rt.alloc();
+    let text =
+        b"t = boot: thread_create root {1} 1 {2} 0\n--\nboot: segment_create root {1} 1 0\nt: obj_label root root\n--\nt: cat_create\n";
+    let script = match read_script(alloc, text) {
+        Err(ScriptError::Memory) => read_script(alloc, text)?,
+        answered => answered?,
+    };
+    let played = played_again(&rt, alloc, &script)?;
+    assert_eq!(rt;
+        played.output.as_slice(),
+        b"boot 1: id t\nboot 3: id #5\nt 4: label {1}\nt 6: cat #1\n".as_slice()
+    );
+    Ok(())
+}

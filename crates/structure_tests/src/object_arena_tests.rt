@@ -1,0 +1,83 @@
+//! Objects under their ids, and without memory.
+ghost use Rattle.std.specs.Prelude.{◌≡◌, IfOk};
+ghost use Rattle.object_arena.specs.Objects.{no_objects};
+
+use base::{Meter, NoMemory, ObjectId};
+use object_arena::Arena;
+use std::alloc::Global;
+use std::test::Fail;
+use test_support::meter_again;
+
+// Three slots, booted once more where the first boot had no memory.
+fn booted_again(alloc: Global) -> Result<Arena<char>, NoMemory>
+    ensures { IfOk result (λ a. a ≡ no_objects 3) }
+{
+    match Arena::boot(alloc, 3) {
+        Ok(arena) => Ok(arena),
+        Err(_) => Arena::boot(alloc, 3),
+    }
+}
+
+#[test]
+fn objects_are_found_by_their_ids(rt: HostRuntime) -> Result<(), Fail> {
+    let mut meter = Meter::new(rt.alloc())?;
+    let mut arena = Arena::boot(rt.alloc(), 3)?;
+    let first = arena.insert(ObjectId::new(4), 'a');
+    let second = arena.insert(ObjectId::new(9), 'b');
+    assert_eq!(rt; arena.len(), 2);
+    assert!(rt; first != second);
+
+    assert_eq!(rt; arena.find(ObjectId::new(9), &mut meter), Some(second));
+    assert_eq!(rt; arena.find(ObjectId::new(5), &mut meter), None);
+    // Three slots are 11 in binary digits, so each finding has at most 3 probes.
+    assert!(rt; meter.probes() <= 6);
+    assert_eq!(rt; meter.scans(), 0);
+
+    *arena.get_mut(second) = 'c';
+    assert_eq!(rt; *arena.get(second), 'c');
+    assert_eq!(rt; *arena.get(first), 'a');
+    assert_eq!(rt; arena.id_at(1, &mut meter), ObjectId::new(9));
+
+    assert_eq!(rt; arena.remove(ObjectId::new(4), &mut meter), 'a');
+    assert_eq!(rt; arena.find(ObjectId::new(4), &mut meter), None);
+    assert_eq!(rt; arena.find(ObjectId::new(9), &mut meter), Some(second));
+    assert_eq!(rt; arena.len(), 1);
+    Ok(())
+}
+
+#[test]
+fn objects_go_together(rt: HostRuntime) -> Result<(), Fail> {
+    let mut meter = Meter::new(rt.alloc())?;
+    let mut arena = booted_again(rt.alloc())?;
+    arena.insert(ObjectId::new(4), 'a');
+    let second = arena.insert(ObjectId::new(9), 'b');
+    arena.insert(ObjectId::new(10), 'c');
+    // 7 is the id of none.
+    arena.remove_all(&[10, 7, 4].map(ObjectId::new), &mut meter);
+    assert_eq!(rt; arena.len(), 1);
+    assert_eq!(rt; arena.find(ObjectId::new(9), &mut meter), Some(second));
+    assert_eq!(rt; arena.find(ObjectId::new(4), &mut meter), None);
+    assert_eq!(rt; arena.find(ObjectId::new(10), &mut meter), None);
+    if let Some(slot) = arena.find(ObjectId::new(9), &mut meter) {
+        assert_eq!(rt; *arena.get(slot), 'b');
+    }
+    assert_eq!(rt; meter.scans(), 0);
+    Ok(())
+}
+
+// Where an allocation is refused, an arena that is booted again is as if nothing had been.
+#[test]
+fn want_of_memory_changes_nothing(rt: HostRuntime) -> Result<(), Fail> {
+    let mut meter = meter_again(rt.alloc())?;
+    let mut arena = booted_again(rt.alloc())?;
+    assert_eq!(rt; arena.len(), 0);
+    let first = arena.insert(ObjectId::new(4), 'a');
+    let second = arena.insert(ObjectId::new(9), 'b');
+    assert_eq!(rt; arena.find(ObjectId::new(9), &mut meter), Some(second));
+    assert_eq!(rt; arena.find(ObjectId::new(5), &mut meter), None);
+    assert_eq!(rt; *arena.get(first), 'a');
+    assert_eq!(rt; *arena.get(second), 'b');
+    assert_eq!(rt; arena.remove(ObjectId::new(4), &mut meter), 'a');
+    assert_eq!(rt; arena.len(), 1);
+    Ok(())
+}

@@ -1,0 +1,23 @@
+//! What the test crates share: limits, labels, entries and calls to ask with, looks at what is
+//! answered, streams that fail, and the text of a dump.
+//!
+//! It is for tests alone, and promises nothing: what it makes and sees is what the tests say.
+#![tactic(auto)]
+
+mod calls;
+mod dumps;
+mod labels;
+mod limits;
+mod memory;
+mod objects;
+mod replies;
+mod streams;
+
+pub use calls::{new_container, new_segment, new_thread};
+pub use dumps::EMPTY_DUMP;
+pub use labels::{everywhere, label_with, pair, plain};
+pub use limits::{EIGHT_PAGES, LIMITS, MOST_PAGES};
+pub use memory::meter_again;
+pub use objects::{boot_thread, device, in_root, no_entry};
+pub use replies::{answered, is_data, is_done, is_number, is_object, made, object_in, refusal_in};
+pub use streams::Broken;

@@ -1,0 +1,231 @@
+//! Scripts and replies as text, and without memory.
+use crate::names::named;
+use base::{NoMemory, ObjectId, Refusal};
+use call_text::{
+    Asked, NameList, Named, ScriptError, read_script, resolve, start_names, write_reply,
+    write_script,
+};
+use kernel_rules::{Call, Query, Reply};
+use std::alloc::Global;
+use std::test::Fail;
+use text_words::{Name, is_same};
+
+/// A script of two phases, the second with no lines.
+const TEXT: &str =
+    "c = boot: cat_create\n--\ns = boot: segment_create root {c:3,#7:*,1} 10 2\nboot: segment_read root s 0 64\n--\n";
+
+/// The line that is told, 0 for want of memory and 1,000,000 for a script.
+fn fault(alloc: Global, text: &[u8]) -> u32 {
+    match read_script(alloc, text) {
+        Ok(_) => 1_000_000,
+        Err(ScriptError::Line(number)) => number,
+        Err(ScriptError::Memory) => 0,
+    }
+}
+
+#[test]
+fn a_script_is_read_and_written(rt: HostRuntime) -> Result<(), Fail> {
+    let script = read_script(rt.alloc(), TEXT.as_bytes())?;
+    assert_eq!(rt; script.phases.len(), 3);
+    for phase in &script.phases {
+        for line in &phase.lines {
+            assert!(rt; is_same(line.worker.as_slice(), b"boot"));
+        }
+    }
+    let bytes = write_script(rt.alloc(), &script)?;
+    assert!(rt; bytes.as_slice() == TEXT.as_bytes());
+    let none = read_script(rt.alloc(), b"")?;
+    assert_eq!(rt; none.phases.len(), 1);
+    Ok(())
+}
+
+#[test]
+fn lines_have_their_numbers(rt: HostRuntime) -> Result<(), Fail> {
+    let script = read_script(rt.alloc(), TEXT.as_bytes())?;
+    let mut sum = 0u64;
+    for phase in &script.phases {
+        for line in &phase.lines {
+            sum = sum.wrapping_mul(10).wrapping_add(line.number as u64);
+        }
+    }
+    assert_eq!(rt; sum, 134);
+    Ok(())
+}
+
+#[test]
+fn the_first_faulty_line_is_told(rt: HostRuntime) {
+    for (text, line) in [
+        ("boot: cat_create\n", 1_000_000),
+        ("boot: cat_create", 1),
+        ("boot: cat_create\n\n", 2),
+        ("boot:  cat_create\n", 1),
+        ("boot: cat_create \n", 1),
+        ("boot: cat_create\r\n", 1),
+        ("--\n--\n-- \n", 3),
+        ("boot: segment_read #01 #1 0 1\n", 1),
+        ("boot: segment_write #1 #1 0 0F\n", 1),
+        ("c = boot: cat_create\nc = boot: cat_create\nx\n", 2),
+        ("dev = boot: cat_create\n", 1),
+        ("c =boot: cat_create\n", 1),
+        ("c = boot: segment_read #1 #1 0 1\n", 1),
+        ("Boot: cat_create\n", 1),
+    ] {
+        assert_eq!(rt; fault(rt.alloc(), text.as_bytes()), line, "{text}");
+    }
+}
+
+#[test]
+fn a_line_has_at_most_4096_bytes(rt: HostRuntime) -> Result<(), Fail> {
+    let mut text = Vec::new(rt.alloc());
+    text.extend_from_slice(b"boot: segment_create #1 {#1:1")?;
+    for _ in 0..23 {
+        text.extend_from_slice(b",#1:1")?;
+    }
+    text.extend_from_slice(b",1} 0 0\n")?;
+    assert_eq!(rt; fault(rt.alloc(), text.as_slice()), 1_000_000);
+    let mut long = Vec::new(rt.alloc());
+    for _ in 0..4097 {
+        long.push(b'a')?;
+    }
+    long.push(b'\n')?;
+    assert_eq!(rt; fault(rt.alloc(), long.as_slice()), 1);
+    Ok(())
+}
+
+#[test]
+fn a_script_has_at_most_65536_lines(rt: HostRuntime) -> Result<(), Fail> {
+    let mut text = Vec::new(rt.alloc());
+    for _ in 0..65_536u32 {
+        text.extend_from_slice(b"--\n")?;
+    }
+    assert_eq!(rt; fault(rt.alloc(), text.as_slice()), 1_000_000);
+    text.extend_from_slice(b"--\n")?;
+    assert_eq!(rt; fault(rt.alloc(), text.as_slice()), 65_537);
+    Ok(())
+}
+
+/// What a line asks: the name that is unbound, or nothing.
+fn unbound(alloc: Global, line: &[u8], named: &[Named]) -> Result<Option<Name>, Fail> {
+    let script = read_script(alloc, line)?;
+    for phase in &script.phases {
+        for line in &phase.lines {
+            if let Err(name) = resolve(&line.call, &NameList { named }) {
+                return Ok(Some(name));
+            }
+        }
+    }
+    Ok(None)
+}
+
+#[test]
+fn names_are_resolved(rt: HostRuntime) -> Result<(), Fail> {
+    for (line, name) in [
+        ("boot: segment_create root {c:3,1} 1 0\n", ""),
+        ("boot: segment_create c {c:3,1} 1 0\n", "c"),
+        ("boot: segment_create root {root:3,x:1,1} 1 0\n", "root"),
+        ("boot: segment_read x y 0 1\n", "x"),
+        ("boot: segment_read #9 #9 0 1\n", ""),
+    ] {
+        let found = unbound(rt.alloc(), line.as_bytes(), &named())?;
+        match found {
+            Some(found) => assert!(rt; found.as_slice() == name.as_bytes(), "{line}"),
+            None => assert!(rt; name.is_empty(), "{line}"),
+        }
+    }
+    Ok(())
+}
+
+#[test]
+fn numbers_stand_for_themselves(rt: HostRuntime) -> Result<(), Fail> {
+    let script = read_script(rt.alloc(), b"boot: segment_read root #7 8 9\n")?;
+    for phase in &script.phases {
+        for line in &phase.lines {
+            match resolve(&line.call, &NameList { named: &named() }) {
+                Ok(
+                    Asked::Read(
+                        Query::SegmentRead {
+                            entry,
+                            offset,
+                            count,
+                        },
+                    ),
+                ) => {
+                    assert_eq!(rt; entry.container.number(), 1);
+                    assert_eq!(rt; entry.object.number(), 7);
+                    assert_eq!(rt; offset, 8);
+                    assert_eq!(rt; count, 9);
+                }
+                Ok(Asked::Write(Call::CatCreate)) => assert!(rt; false),
+                _ => assert!(rt; false),
+            }
+        }
+    }
+    Ok(())
+}
+
+#[test]
+fn three_names_are_known_at_the_start(rt: HostRuntime) -> Result<(), Fail> {
+    let names = start_names();
+    for (number, text) in [(1, "id root"), (2, "id boot"), (3, "id dev"), (4, "id #4")] {
+        let bytes = write_reply(rt.alloc(), &Reply::Object(ObjectId::new(number)), &names)?;
+        assert!(rt; bytes.as_slice() == text.as_bytes(), "{text}");
+    }
+    Ok(())
+}
+
+/// Whether what a call answered is a reply's text.
+fn is_text(answer: Result<Vec<u8>, NoMemory>, text: &[u8]) -> Option<bool> {
+    match answer {
+        Ok(bytes) => Some(is_same(bytes.as_slice(), text)),
+        Err(_) => None,
+    }
+}
+
+#[test]
+fn want_of_memory_reads_a_script_as_before(rt: HostRuntime) {
+    for (text, line) in [
+        (TEXT, 1_000_000),
+        ("c = boot: cat_create\nc = boot: cat_create\n", 2),
+    ] {
+        let first = fault(rt.alloc(), text.as_bytes());
+        assert!(rt; first == 0 || first == line);
+        let second = fault(rt.alloc(), text.as_bytes());
+        assert!(rt; second == line || (first == line && second == 0));
+    }
+}
+
+#[test]
+fn want_of_memory_writes_a_reply_as_before(rt: HostRuntime) {
+    let reply = Reply::Refused(Refusal::NoQuota);
+    let first = is_text(
+        write_reply(rt.alloc(), &reply, &named()),
+        b"refused 12 NoQuota",
+    );
+    assert!(rt; first != Some(false));
+    let second = is_text(
+        write_reply(rt.alloc(), &reply, &named()),
+        b"refused 12 NoQuota",
+    );
+    assert!(rt; second == Some(true) || (first == Some(true) && second.is_none()));
+}
+
+#[test]
+fn faults_are_refusals(rt: HostRuntime) {
+    assert_eq!(rt; ScriptError::Line(7).refusal().number(), 50);
+    assert_eq!(rt; ScriptError::Memory.refusal().number(), 51);
+}
+
+// Where an allocation is refused, the script that is read again is written again as it stood.
+#[test]
+fn want_of_memory_writes_a_script_as_before(rt: HostRuntime) -> Result<(), Fail> {
+    let script = match read_script(rt.alloc(), TEXT.as_bytes()) {
+        Ok(script) => script,
+        Err(_) => read_script(rt.alloc(), TEXT.as_bytes())?,
+    };
+    let bytes = match write_script(rt.alloc(), &script) {
+        Ok(bytes) => bytes,
+        Err(_) => write_script(rt.alloc(), &script)?,
+    };
+    assert!(rt; is_same(bytes.as_slice(), TEXT.as_bytes()));
+    Ok(())
+}

@@ -1,0 +1,19 @@
+//! Tests of words, rows, scripts and replies as text: vectors from outside, what is no spelling,
+//! and each reader and writer called again where there was no memory.
+#![tactic(auto)]
+
+/// This crate has tests alone.
+pub fn texts_are_tested() {}
+
+#[cfg(test)]
+mod call_text_calls;
+#[cfg(test)]
+mod call_text_replies;
+#[cfg(test)]
+mod call_text_tests;
+#[cfg(test)]
+mod names;
+#[cfg(test)]
+mod text_rows_tests;
+#[cfg(test)]
+mod text_words_tests;

@@ -1,0 +1,75 @@
+//! The words: each public call once, with values from the table.
+use base::{Data, Kind, Level, Limits, Meter, ObjectId, Refusal, Rights, TypeSet, live_by_path};
+use bitflags::Flags;
+use std::test::Fail;
+
+#[test]
+fn a_meter_counts(rt: HostRuntime) -> Result<(), Fail> {
+    let mut meter = Meter::new(rt.alloc())?;
+    meter.scan();
+    meter.probe();
+    meter.probe();
+    assert_eq!(rt; meter.scans(), 1);
+    assert_eq!(rt; meter.probes(), 2);
+    Ok(())
+}
+
+#[test]
+fn words_are_those_of_the_table(rt: HostRuntime) {
+    assert_eq!(rt; Refusal::Halted.number(), 1);
+    assert_eq!(rt; Refusal::RootKept.number(), 16);
+    assert_eq!(rt; Refusal::NotClean.number(), 62);
+    assert!(rt; Refusal::NotFormat1.name() == "NotFormat1");
+    assert_eq!(rt; Refusal::Bounds.lesser(Refusal::NoQuota), Refusal::NoQuota);
+    assert_eq!(rt; Level::L3.rank(), 4);
+    assert_eq!(rt; ObjectId::root().number(), 1);
+    assert_eq!(rt; ObjectId::new(7).number(), 7);
+    live_by_path();
+}
+
+#[test]
+fn sets_hold_what_was_put_in(rt: HostRuntime) {
+    let both = TypeSet::of(Kind::Gate).with(TypeSet::of(Kind::Segment));
+    assert!(rt; both.has(Kind::Gate) && both.has(Kind::Segment) && !both.has(Kind::Device));
+    assert!(rt; !TypeSet::none().has(Kind::Container));
+    let rights = Rights::READ;
+    assert!(rt; rights.may_read() && !rights.may_write());
+    assert!(rt; Rights::WRITE.may_write() && Rights::READ.union(Rights::WRITE).may_read());
+}
+
+#[test]
+fn limits_have_ranges(rt: HostRuntime) {
+    let limits = Limits {
+        pages: 8,
+        device: Level::L0,
+        next_id: 4,
+        next_category: 1,
+    };
+    assert!(rt; limits.is_in_range());
+    let spent = 1u64 << 61;
+    for (pages, device, next_id, next_category, wanted) in [
+        (7, Level::L1, 4, 1, false),
+        (512, Level::L3, spent, spent, true),
+        (513, Level::L1, 4, 1, false),
+        (64, Level::Star, 4, 1, false),
+        (64, Level::L1, 3, 1, false),
+        (64, Level::L1, spent + 1, 1, false),
+        (64, Level::L1, 4, 0, false),
+        (64, Level::L1, 4, spent + 1, false),
+    ] {
+        let limits = Limits {
+            pages,
+            device,
+            next_id,
+            next_category,
+        };
+        assert_eq!(rt; limits.is_in_range(), wanted, "{limits:?}");
+    }
+}
+
+#[test]
+fn data_keeps_its_bytes(rt: HostRuntime) {
+    let data = Data::from_slice(b"label");
+    assert_eq!(rt; data.as_slice(), b"label".as_slice());
+    assert_eq!(rt; Data::from_slice(&[7; Data::MOST]).as_slice().len(), 64);
+}
