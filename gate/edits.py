@@ -164,23 +164,25 @@ class Trial:
     def alone(self, edit, kept):
         """An edit tried by itself: over kept work first, and from nothing where it isn't refused so."""
         well, text = self.rt.must_fail(self.crate, edit.file, FLAGS, kept)
-        if not well or NAME_GONE in text:
+        if kept and (not well or NAME_GONE in text):
             well, text = self.rt.must_fail(self.crate, edit.file, FLAGS)
         return well and NAME_GONE not in text, text.partition(": ")[2]
+
+    def over_kept(self, kept):
+        """Each edit's verdict, all over one another's work."""
+        refused, alone = self.rounds(kept)
+        return {**{it: (True, "refused") for it in refused}, **{it: self.alone(it, kept) for it in alone}}
 
     def is_proved(self, kept):
         return self.rt.checked(self.crate, {}, FLAGS, kept).returncode == 0
 
     def run(self):
         with tempfile.TemporaryDirectory(prefix="kept-") as kept:
-            refused, alone = self.rounds(kept)
-            if not self.is_proved(kept):
-                refused, alone, kept = [], self.edits, None
-            for edit in refused:
-                self.report.passes(f"edit {self.crate.name}/{edit.name}: refused")
-            for edit in alone:
-                is_well, text = self.alone(edit, kept)
-                self.report.counts(is_well, f"edit {self.crate.name}/{edit.name}: {text}")
+            found = self.over_kept(kept) if len(self.edits) > 1 else {}
+            if not found or not self.is_proved(kept):
+                found = {it: self.alone(it, None) for it in self.edits}
+        for edit in self.edits:
+            self.report.counts(found[edit][0], f"edit {self.crate.name}/{edit.name}: {found[edit][1]}")
 
 
 def tasks_of(rt, crates, wanted, is_built, report):
