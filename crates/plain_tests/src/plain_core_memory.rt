@@ -1,7 +1,7 @@
 //! The plain machine without memory: what is made again answers as if nothing had been.
 use crate::samples::{ask_again, booted_again, new_space, secret, step_again};
-use base::{Category, Data, Level, ObjectId};
-use plain_core::{Call, NewCopy, NewGate, Query, Reply, run};
+use base::{Category, Data, Level, Meter, NoMemory, ObjectId};
+use plain_core::{Call, NewCopy, NewGate, PlainKernel, Query, Reply, run};
 use std::test::Fail;
 use test_support::{
     boot_thread, in_root, is_data, is_done, is_number, is_object, label_with, meter_again,
@@ -125,11 +125,83 @@ fn listing() -> Query {
     }
 }
 
-fn is_count(reply: Reply, wanted: u64) -> bool {
-    match reply {
-        Reply::Listed { count, .. } => count == wanted,
-        _ => false,
+/// Whether a call makes the object of this number.
+fn makes(
+    kernel: &mut PlainKernel,
+    call: Call,
+    number: u64,
+    meter: &mut Meter,
+) -> Result<bool, NoMemory> {
+    match step_again(kernel, &call, meter) {
+        Ok(reply) => Ok(is_object(reply, number)),
+        Err(error) => Err(error),
     }
+}
+
+/// Whether a call is made, and answers nothing more.
+fn does(kernel: &mut PlainKernel, call: Call, meter: &mut Meter) -> Result<bool, NoMemory> {
+    match step_again(kernel, &call, meter) {
+        Ok(reply) => Ok(is_done(reply)),
+        Err(error) => Err(error),
+    }
+}
+
+/// Whether the thread gets category 1.
+fn owns(kernel: &mut PlainKernel, meter: &mut Meter) -> Result<bool, NoMemory> {
+    match step_again(kernel, &Call::CatCreate, meter) {
+        Ok(reply) => Ok(matches!(reply, Reply::Category(Category(1)))),
+        Err(error) => Err(error),
+    }
+}
+
+/// Whether the device has a packet of this byte.
+fn receives(kernel: &mut PlainKernel, byte: u8, meter: &mut Meter) -> Result<bool, NoMemory> {
+    match step_again(kernel, &receive(), meter) {
+        Ok(reply) => Ok(is_data(reply, &[byte])),
+        Err(error) => Err(error),
+    }
+}
+
+/// Whether the last byte of a segment of one page is 0.
+fn ends_in_zero(kernel: &PlainKernel, number: u64, meter: &mut Meter) -> Result<bool, NoMemory> {
+    match ask_again(kernel, &last_byte(number), meter) {
+        Ok(reply) => Ok(is_data(reply, &[0])),
+        Err(error) => Err(error),
+    }
+}
+
+/// Whether the root lists so many objects.
+fn lists(kernel: &PlainKernel, wanted: u64, meter: &mut Meter) -> Result<bool, NoMemory> {
+    match ask_again(kernel, &listing(), meter) {
+        Ok(Reply::Listed { count, .. }) => Ok(count == wanted),
+        Ok(_) => Ok(false),
+        Err(error) => Err(error),
+    }
+}
+
+/// Whether the objects 4 to 9 are made, one of each kind and a copy.
+fn are_made(kernel: &mut PlainKernel, meter: &mut Meter) -> Result<bool, NoMemory> {
+    Ok(
+        makes(kernel, new_container(8), 4, meter)?
+            && makes(kernel, new_segment(plain()), 5, meter)?
+            && makes(kernel, copied(), 6, meter)?
+            && makes(kernel, new_space(), 7, meter)?
+            && makes(kernel, new_thread(), 8, meter)?
+            && makes(kernel, new_gate(), 9, meter)?,
+    )
+}
+
+/// Whether the device gets a second link, in container 4, and a packet, segment 6 loses its page
+/// and gets it again, and container 4 goes.
+fn are_changed(kernel: &mut PlainKernel, meter: &mut Meter) -> Result<bool, NoMemory> {
+    Ok(
+        does(kernel, fix(3), meter)?
+            && does(kernel, link_in(4, 3), meter)?
+            && does(kernel, send(5), meter)?
+            && does(kernel, resize(6, 0), meter)?
+            && does(kernel, resize(6, 1), meter)?
+            && does(kernel, take_out(4), meter)?,
+    )
 }
 
 // Each call that takes memory, and reads of what they left.
@@ -137,28 +209,11 @@ fn is_count(reply: Reply, wanted: u64) -> bool {
 fn want_of_memory_makes_no_call_by_half(rt: HostRuntime) -> Result<(), Fail> {
     let mut meter = meter_again(rt.alloc())?;
     let mut kernel = booted_again(rt.alloc())?;
-    step_again(&mut kernel, &Call::CatCreate, &mut meter)?;
-    assert!(rt; is_object(step_again(&mut kernel, &new_container(8), &mut meter)?, 4));
-    assert!(rt;
-        is_object(
-            step_again(&mut kernel, &new_segment(plain()), &mut meter)?,
-            5
-        )
-    );
-    assert!(rt; is_object(step_again(&mut kernel, &copied(), &mut meter)?, 6));
-    assert!(rt; is_object(step_again(&mut kernel, &new_space(), &mut meter)?, 7));
-    assert!(rt; is_object(step_again(&mut kernel, &new_thread(), &mut meter)?, 8));
-    assert!(rt; is_object(step_again(&mut kernel, &new_gate(), &mut meter)?, 9));
-    // The device gets a second link, in container 4, and a packet. Segment 6 loses its page and
-    // gets it again. Container 4 goes.
-    assert!(rt; is_done(step_again(&mut kernel, &fix(3), &mut meter)?));
-    assert!(rt; is_done(step_again(&mut kernel, &link_in(4, 3), &mut meter)?));
-    assert!(rt; is_done(step_again(&mut kernel, &send(5), &mut meter)?));
-    assert!(rt; is_done(step_again(&mut kernel, &resize(6, 0), &mut meter)?));
-    assert!(rt; is_done(step_again(&mut kernel, &resize(6, 1), &mut meter)?));
-    assert!(rt; is_done(step_again(&mut kernel, &take_out(4), &mut meter)?));
-    assert!(rt; is_data(ask_again(&kernel, &last_byte(6), &mut meter)?, &[0]));
-    assert!(rt; is_count(ask_again(&kernel, &listing(), &mut meter)?, 7));
-    assert!(rt; is_data(step_again(&mut kernel, &receive(), &mut meter)?, &[5]));
+    assert!(rt; owns(&mut kernel, &mut meter)?);
+    assert!(rt; are_made(&mut kernel, &mut meter)?);
+    assert!(rt; are_changed(&mut kernel, &mut meter)?);
+    assert!(rt; ends_in_zero(&kernel, 6, &mut meter)?);
+    assert!(rt; lists(&kernel, 7, &mut meter)?);
+    assert!(rt; receives(&mut kernel, 5, &mut meter)?);
     Ok(())
 }
