@@ -1,0 +1,221 @@
+//! The calls that make and enter gates.
+ghost use Rattle.std.specs.Prelude.{◌≡◌, None, IfOk, OnOk, OnErr, IfSome, option_copied};
+ghost use Rattle.label_lattice.specs.Label.{IsStored};
+ghost use Rattle.threads_gates.specs.LabelRules.{may_enter, stored};
+ghost use Rattle.threads_gates.specs.declared.gates.Asked.{Asked};
+ghost use Rattle.threads_gates.specs.declared.gates.Bearer.{Bearer};
+ghost use Rattle.kernel_rules.specs.State.{gate_at};
+ghost use Rattle.label_lattice.specs.Raw.{is_bad_below};
+ghost use Rattle.kernel_rules.specs.Step.{accepted, edit, through_gate, told_by};
+ghost use Rattle.kernel_rules.specs.Table.{refused, own_bearer, gate_bearer};
+ghost use Rattle.kernel_rules.specs.declared.calls.Call.TheVariants as call;
+
+use base::{Kind, Meter, ObjectId, Refusal};
+use kernel_rules::{Entry, Gate, NewGate, Reply, least, least_of};
+use kernel_store::{NewObject, Store, halted, is_unfit, new_bearer, space_entry};
+use label_lattice::RawLabel;
+use threads_gates::{Asked, Bearer, may_enter, stored_of};
+
+/// What refuses to make a gate.
+pub fn refused_gate_create<S: Store>(
+    state: &S,
+    thread: ObjectId,
+    made: &NewGate,
+    meter: &mut Meter,
+) -> Option<Refusal>
+    ensures { result ≡ refused (S.state state.now) thread (call.GateCreate made.now) }
+{
+    let halted = halted(state, thread, meter);
+    let named = space_entry(state, thread, &made.space, meter);
+    let object = NewObject {
+        kind: Kind::Gate,
+        container: made.container,
+        quota: made.quota,
+        label: made.label,
+    };
+    let fresh = new_bearer(state, thread, &object, &made.clearance, meter);
+    least_of(halted, least_of(named, fresh))
+}
+
+/// Makes a gate. The error is want of memory, and nothing is changed then.
+pub fn gate_create<S: Store>(
+    state: &mut S,
+    thread: ObjectId,
+    made: &NewGate,
+    meter: &mut Meter,
+) -> Result<Reply, S::Want>
+    requires { refused (S.state state.old) thread (call.GateCreate made.now) ≡ None }
+    ensures reply { IfOk result (λ reply. reply ≡ accepted (S.state state.old) thread
+        (call.GateCreate made.now)) }
+    ensures ok { OnOk result (S.state state.new ≡ edit (S.state state.old) thread
+        (call.GateCreate made.now)) }
+    ensures err { OnErr result (S.state state.new ≡ S.state state.old) }
+{
+    let label = stored_of(&made.label, meter);
+    let Some(clearance) = stored_of(&made.clearance, meter) else {
+        return Ok(Reply::Object(state.next_id()));
+    };
+    let gate = Gate {
+        clearance,
+        space: made.space,
+        entry_point: made.entry_point,
+        closure: made.closure,
+    };
+    let id = state.create_gate(made.container, label, made.quota, gate)?;
+    Ok(Reply::Object(id))
+}
+
+fn own_bearer<S: Store>(state: &S, thread: ObjectId) -> Bearer
+    ensures { result ≡ own_bearer (S.state state.now) thread }
+{
+    Bearer {
+        label: state.label(thread).copied(),
+        clearance: state.clearance(thread).copied(),
+    }
+}
+
+fn gate_bearer<S: Store>(state: &S, gate: ObjectId) -> Bearer
+    ensures { result ≡ gate_bearer (S.state state.now) gate }
+{
+    let clearance = match state.gate(gate) {
+        None => None,
+        Some(gate) => Some(gate.clearance),
+    };
+    Bearer {
+        label: state.label(gate).copied(),
+        clearance,
+    }
+}
+
+fn is_open<S: Store>(
+    state: &S,
+    thread: ObjectId,
+    gate: ObjectId,
+    asked: &Asked,
+    meter: &mut Meter,
+) -> bool
+    ensures { result ≡ may_enter (own_bearer (S.state state.now) thread)
+        (gate_bearer (S.state state.now) gate) asked.now }
+{
+    let own = own_bearer(state, thread);
+    let gate = gate_bearer(state, gate);
+    may_enter(&own, &gate, asked, meter)
+}
+
+/// The three labels that a thread asks of a gate, where they can be stored.
+fn asked_of(
+    raw: &RawLabel,
+    raw_clearance: &RawLabel,
+    raw_verify: &RawLabel,
+    meter: &mut Meter,
+) -> Asked
+    ensures value { result ≡ record {
+      label = stored raw.now;
+      clearance = stored raw_clearance.now;
+      verify = stored raw_verify.now;
+    } }
+    ensures label { IfSome result.label IsStored }
+    ensures clearance { IfSome result.clearance IsStored }
+    ensures verify { IfSome result.verify IsStored }
+{
+    Asked {
+        label: stored_of(raw, meter),
+        clearance: stored_of(raw_clearance, meter),
+        verify: stored_of(raw_verify, meter),
+    }
+}
+
+fn is_raw_unfit<S: Store>(state: &S, raw: &RawLabel, meter: &mut Meter) -> bool
+    ensures { result ≡ is_bad_below (S.state state.now).next_category raw.now }
+{
+    let label = stored_of(raw, meter);
+    is_unfit(state, raw, label.as_ref())
+}
+
+/// What refuses to enter a gate.
+#[tactic(auto, unfolding(kernel_rules::specs::Table::refused))]
+pub fn refused_gate_enter<S: Store>(
+    state: &S,
+    thread: ObjectId,
+    gate: &Entry,
+    raw: &RawLabel,
+    raw_clearance: &RawLabel,
+    raw_verify: &RawLabel,
+    meter: &mut Meter,
+) -> Option<Refusal>
+    ensures { result ≡ refused (S.state state.now) thread
+        (call.GateEnter gate.now raw.now raw_clearance.now raw_verify.now) }
+{
+    let halted = !state.is_live_kind(Kind::Thread, thread, meter);
+    let accessible = state.is_accessible(thread, gate.container, meter);
+    let held = state.holds(gate);
+    let fit = state.is_kind(Kind::Gate, gate.object);
+    let unfit = is_raw_unfit(state, raw, meter);
+    let unfit_clearance = is_raw_unfit(state, raw_clearance, meter);
+    let unfit_verify = is_raw_unfit(state, raw_verify, meter);
+    let asked = asked_of(raw, raw_clearance, raw_verify, meter);
+    let open = is_open(state, thread, gate.object, &asked, meter);
+    let row = [
+        (Refusal::Halted, halted),
+        (Refusal::NoAccess, !accessible),
+        (Refusal::NoEntry, !held),
+        (Refusal::WrongType, !fit),
+        (Refusal::BadLabel, unfit),
+        (Refusal::BadLabel, unfit_clearance),
+        (Refusal::BadLabel, unfit_verify),
+        (Refusal::GateDenied, !open),
+    ];
+    least(&row)
+}
+
+fn enter<S: Store>(state: &mut S, thread: ObjectId, asked: &Asked, gate: &Option<Gate>)
+    requires label { IfSome asked.now.label IsStored }
+    requires clearance { IfSome asked.now.clearance IsStored }
+    requires verify { IfSome asked.now.verify IsStored }
+    ensures { S.state state.new ≡ through_gate (S.state state.old) thread
+        asked.now.label asked.now.clearance asked.now.verify gate.now }
+{
+    if let Some(label) = asked.label {
+        if let Some(clearance) = asked.clearance {
+            if let Some(verify) = asked.verify {
+                if let Some(gate) = gate {
+                    state.enter(thread, label, clearance, verify, gate);
+                }
+            }
+        }
+    }
+}
+
+fn told_by(gate: &Option<Gate>) -> Reply
+    ensures { result ≡ told_by gate.now }
+{
+    match gate {
+        None => Reply::Done,
+        Some(gate) => Reply::Entered {
+            entry_point: gate.entry_point,
+            closure: gate.closure,
+        },
+    }
+}
+
+/// The thread enters a gate: it has the asked labels, and the gate's address space, entry point and
+/// closure.
+pub fn gate_enter<S: Store>(
+    state: &mut S,
+    thread: ObjectId,
+    gate: &Entry,
+    raw: &RawLabel,
+    raw_clearance: &RawLabel,
+    raw_verify: &RawLabel,
+    meter: &mut Meter,
+) -> Reply
+    ensures reply { result ≡ accepted (S.state state.old) thread
+        (call.GateEnter gate.now raw.now raw_clearance.now raw_verify.now) }
+    ensures state { S.state state.new ≡ edit (S.state state.old) thread
+        (call.GateEnter gate.now raw.now raw_clearance.now raw_verify.now) }
+{
+    let asked = asked_of(raw, raw_clearance, raw_verify, meter);
+    let entered = state.gate(gate.object);
+    enter(state, thread, &asked, &entered);
+    told_by(&entered)
+}
