@@ -6,8 +6,8 @@ ghost use Rattle.kernel_rules.specs.declared.calls.Call.TheVariants as call;
 ghost use Rattle.kernel_rules.specs.declared.calls.Query.TheVariants as query;
 
 use base::{Kind, Meter, ObjectId, Refusal};
-use kernel_rules::{NewContainer, Reply, least, least_of};
-use kernel_store::{NewObject, Store, halted, new_object};
+use kernel_rules::{NewContainer, Reply};
+use kernel_store::{NewObject, Store, at_container, halted, itself, new_object, refusal_of};
 use threads_gates::stored_of;
 
 /// What refuses to make a container.
@@ -19,15 +19,16 @@ pub fn refused_container_create<S: Store>(
 ) -> Option<Refusal>
     ensures { result ≡ refused (S.state state.now) thread (call.ContainerCreate made.now) }
 {
-    let halted = halted(state, thread, meter);
     let object = NewObject {
         kind: Kind::Container,
         container: made.container,
         quota: made.quota,
         label: made.label,
     };
-    let fresh = new_object(state, thread, &object, 1, meter);
-    least_of(halted, fresh)
+    refusal_of(&[
+        &halted(state, thread, meter),
+        &new_object(state, thread, &object, 1, meter),
+    ])
 }
 
 /// Makes a container without entries. The error is want of memory, and nothing is changed then.
@@ -51,7 +52,6 @@ pub fn container_create<S: Store>(
 }
 
 /// What refuses to read a container's list.
-#[tactic(auto, unfolding(kernel_rules::specs::Table::query_refused))]
 pub fn refused_container_list<S: Store>(
     state: &S,
     thread: ObjectId,
@@ -63,15 +63,10 @@ pub fn refused_container_list<S: Store>(
         (query.ContainerList container from) }
     ensures meter { S.kept meter.new ≡ S.kept meter.old }
 {
-    let halted = !state.is_live_kind(Kind::Thread, thread, meter);
-    let accessible = state.is_accessible(thread, container, meter);
+    let halted = halted(state, thread, meter);
+    let seen = state.sight(thread, &itself(container), meter);
     let past = state.list_len(container) < from as usize;
-    let row = [
-        (Refusal::Halted, halted),
-        (Refusal::NoAccess, !accessible),
-        (Refusal::Bounds, past),
-    ];
-    least(&row)
+    refusal_of(&[&halted, &at_container(&seen), &[(Refusal::Bounds, past)]])
 }
 
 /// The length of a container's list, and up to 16 of its ids.
@@ -94,7 +89,6 @@ pub fn container_list<S: Store>(
 }
 
 /// What refuses to ask for a container's own container.
-#[tactic(auto, unfolding(kernel_rules::specs::Table::query_refused))]
 pub fn refused_container_parent<S: Store>(
     state: &S,
     thread: ObjectId,
@@ -105,9 +99,9 @@ pub fn refused_container_parent<S: Store>(
         (query.ContainerParent container) }
     ensures meter { S.kept meter.new ≡ S.kept meter.old }
 {
-    let halted = !state.is_live_kind(Kind::Thread, thread, meter);
-    let accessible = state.is_accessible(thread, container, meter);
-    least(&[(Refusal::Halted, halted), (Refusal::NoAccess, !accessible)])
+    let halted = halted(state, thread, meter);
+    let seen = state.sight(thread, &itself(container), meter);
+    refusal_of(&[&halted, &at_container(&seen)])
 }
 
 /// The container that lists a container; the root's is the root.

@@ -1,5 +1,5 @@
 //! The calls on segments and through address spaces, over whatever keeps the objects.
-#![tactic(auto)]
+#![tactic(auto, unfolding(kernel_rules::specs::Table::refused, kernel_rules::specs::Table::query_refused), using(kernel_store::proofs::SightLaws::kind_seen))]
 
 mod accesses;
 mod devices;

@@ -6,9 +6,9 @@ ghost use Rattle.kernel_rules.specs.Step.{accepted, edit};
 ghost use Rattle.kernel_rules.specs.Table.{refused};
 ghost use Rattle.kernel_rules.specs.declared.calls.Call.TheVariants as call;
 
-use base::{Category, Kind, Level, Meter, ObjectId, Refusal};
-use kernel_rules::{Reply, least};
-use kernel_store::Store;
+use base::{Category, Level, Meter, ObjectId, Refusal};
+use kernel_rules::Reply;
+use kernel_store::{Store, halted, refusal_of};
 use label_lattice::Label;
 use threads_gates::with_category;
 
@@ -44,7 +44,6 @@ fn is_full<S: Store>(state: &S, thread: ObjectId, meter: &mut Meter) -> bool
 }
 
 /// What refuses to make a category.
-#[tactic(auto, unfolding(kernel_rules::specs::Table::refused))]
 pub fn refused_cat_create<S: Store>(
     state: &S,
     thread: ObjectId,
@@ -52,15 +51,12 @@ pub fn refused_cat_create<S: Store>(
 ) -> Option<Refusal>
     ensures { result ≡ refused (S.state state.now) thread call.CatCreate }
 {
-    let halted = !state.is_live_kind(Kind::Thread, thread, meter);
     let full = is_full(state, thread, meter);
     let spent = 1 << 61 <= state.next_category();
-    let row = [
-        (Refusal::Halted, halted),
-        (Refusal::LabelFull, full),
-        (Refusal::Spent, spent),
-    ];
-    least(&row)
+    refusal_of(&[
+        &halted(state, thread, meter),
+        &[(Refusal::LabelFull, full), (Refusal::Spent, spent)],
+    ])
 }
 
 /// Makes a category, which the thread owns.

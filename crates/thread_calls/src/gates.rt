@@ -1,5 +1,6 @@
 //! The calls that make and enter gates.
-ghost use Rattle.std.specs.Prelude.{◌≡◌, None, IfOk, OnOk, OnErr, IfSome, option_copied};
+ghost use Rattle.std.specs.Prelude.{◌≡◌, ◌∷◌, [], None, IfOk, OnOk, OnErr, IfSome};
+ghost use Rattle.base.specs.declared.refusals.Refusal.TheVariants as refusal;
 ghost use Rattle.label_lattice.specs.Label.{IsStored};
 ghost use Rattle.threads_gates.specs.LabelRules.{may_enter, stored};
 ghost use Rattle.threads_gates.specs.declared.gates.Asked.{Asked};
@@ -11,8 +12,11 @@ ghost use Rattle.kernel_rules.specs.Table.{refused, own_bearer, gate_bearer};
 ghost use Rattle.kernel_rules.specs.declared.calls.Call.TheVariants as call;
 
 use base::{Kind, Meter, ObjectId, Refusal};
-use kernel_rules::{Entry, Gate, NewGate, Reply, least, least_of};
-use kernel_store::{NewObject, Store, halted, is_unfit, new_bearer, space_entry};
+use kernel_rules::{Entry, Gate, NewGate, Reply};
+use kernel_store::{
+    Condition, NewObject, Store, good_label, halted, in_container, new_bearer, of_kind, refusal_of,
+    space_entry,
+};
 use label_lattice::RawLabel;
 use threads_gates::{Asked, Bearer, may_enter, stored_of};
 
@@ -26,15 +30,18 @@ pub fn refused_gate_create<S: Store>(
     ensures { result ≡ refused (S.state state.now) thread (call.GateCreate made.now) }
 {
     let halted = halted(state, thread, meter);
-    let named = space_entry(state, thread, &made.space, meter);
+    let space = state.sight(thread, &made.space, meter);
     let object = NewObject {
         kind: Kind::Gate,
         container: made.container,
         quota: made.quota,
         label: made.label,
     };
-    let fresh = new_bearer(state, thread, &object, &made.clearance, meter);
-    least_of(halted, least_of(named, fresh))
+    refusal_of(&[
+        &halted,
+        &space_entry(&made.space, &space),
+        &new_bearer(state, thread, &object, &made.clearance, meter),
+    ])
 }
 
 /// Makes a gate. The error is want of memory, and nothing is changed then.
@@ -125,15 +132,16 @@ fn asked_of(
     }
 }
 
-fn is_raw_unfit<S: Store>(state: &S, raw: &RawLabel, meter: &mut Meter) -> bool
-    ensures { result ≡ is_bad_below (S.state state.now).next_category raw.now }
+/// The raw label can be that of a thread, a clearance or a verify label.
+fn good_raw_label<S: Store>(state: &S, raw: &RawLabel, meter: &mut Meter) -> [Condition; 1]
+    ensures { result ≡ (refusal.BadLabel, is_bad_below (S.state state.now).next_category raw.now)
+        ∷ [] }
 {
     let label = stored_of(raw, meter);
-    is_unfit(state, raw, label.as_ref())
+    good_label(state, raw, label.as_ref())
 }
 
 /// What refuses to enter a gate.
-#[tactic(auto, unfolding(kernel_rules::specs::Table::refused))]
 pub fn refused_gate_enter<S: Store>(
     state: &S,
     thread: ObjectId,
@@ -146,26 +154,19 @@ pub fn refused_gate_enter<S: Store>(
     ensures { result ≡ refused (S.state state.now) thread
         (call.GateEnter gate.now raw.now raw_clearance.now raw_verify.now) }
 {
-    let halted = !state.is_live_kind(Kind::Thread, thread, meter);
-    let accessible = state.is_accessible(thread, gate.container, meter);
-    let held = state.holds(gate);
-    let fit = state.is_kind(Kind::Gate, gate.object);
-    let unfit = is_raw_unfit(state, raw, meter);
-    let unfit_clearance = is_raw_unfit(state, raw_clearance, meter);
-    let unfit_verify = is_raw_unfit(state, raw_verify, meter);
+    let halted = halted(state, thread, meter);
+    let seen = state.sight(thread, gate, meter);
     let asked = asked_of(raw, raw_clearance, raw_verify, meter);
     let open = is_open(state, thread, gate.object, &asked, meter);
-    let row = [
-        (Refusal::Halted, halted),
-        (Refusal::NoAccess, !accessible),
-        (Refusal::NoEntry, !held),
-        (Refusal::WrongType, !fit),
-        (Refusal::BadLabel, unfit),
-        (Refusal::BadLabel, unfit_clearance),
-        (Refusal::BadLabel, unfit_verify),
-        (Refusal::GateDenied, !open),
-    ];
-    least(&row)
+    refusal_of(&[
+        &halted,
+        &in_container(&seen),
+        &of_kind(Kind::Gate, &seen.object),
+        &good_raw_label(state, raw, meter),
+        &good_raw_label(state, raw_clearance, meter),
+        &good_raw_label(state, raw_verify, meter),
+        &[(Refusal::GateDenied, !open)],
+    ])
 }
 
 fn enter<S: Store>(state: &mut S, thread: ObjectId, asked: &Asked, gate: &Option<Gate>)

@@ -6,14 +6,13 @@ ghost use Rattle.kernel_rules.specs.Step.{accepted, edit};
 ghost use Rattle.kernel_rules.specs.Table.{refused};
 ghost use Rattle.kernel_rules.specs.declared.calls.Call.TheVariants as call;
 
-use base::{Kind, Meter, ObjectId, Refusal};
-use kernel_rules::{Reply, least};
-use kernel_store::{Store, is_in_range, is_unfit};
+use base::{Meter, ObjectId, Refusal};
+use kernel_rules::Reply;
+use kernel_store::{Store, good_label, halted, is_in_range, refusal_of};
 use label_lattice::{Label, RawLabel};
 use threads_gates::{may_clear, stored_of};
 
 /// What refuses a new own label.
-#[tactic(auto, unfolding(kernel_rules::specs::Table::refused))]
 pub fn refused_self_set_label<S: Store>(
     state: &S,
     thread: ObjectId,
@@ -23,15 +22,13 @@ pub fn refused_self_set_label<S: Store>(
     ensures { result ≡ refused (S.state state.now) thread (call.SelfSetLabel raw.now) }
 {
     let label = stored_of(raw, meter);
-    let halted = !state.is_live_kind(Kind::Thread, thread, meter);
-    let unfit = is_unfit(state, raw, label.as_ref());
-    let in_range = is_in_range(state, thread, label.as_ref(), meter);
-    let row = [
-        (Refusal::Halted, halted),
-        (Refusal::BadLabel, unfit),
-        (Refusal::LabelRange, !in_range),
-    ];
-    least(&row)
+    let label = label.as_ref();
+    let in_range = is_in_range(state, thread, label, meter);
+    refusal_of(&[
+        &halted(state, thread, meter),
+        &good_label(state, raw, label),
+        &[(Refusal::LabelRange, !in_range)],
+    ])
 }
 
 /// The thread has another label.
@@ -63,7 +60,6 @@ fn may_clear_to<S: Store>(
 }
 
 /// What refuses a new own clearance.
-#[tactic(auto, unfolding(kernel_rules::specs::Table::refused))]
 pub fn refused_self_set_clearance<S: Store>(
     state: &S,
     thread: ObjectId,
@@ -73,15 +69,13 @@ pub fn refused_self_set_clearance<S: Store>(
     ensures { result ≡ refused (S.state state.now) thread (call.SelfSetClearance raw.now) }
 {
     let clearance = stored_of(raw, meter);
-    let halted = !state.is_live_kind(Kind::Thread, thread, meter);
-    let unfit = is_unfit(state, raw, clearance.as_ref());
-    let in_range = may_clear_to(state, thread, clearance.as_ref(), meter);
-    let row = [
-        (Refusal::Halted, halted),
-        (Refusal::BadLabel, unfit),
-        (Refusal::ClearanceRange, !in_range),
-    ];
-    least(&row)
+    let clearance = clearance.as_ref();
+    let in_range = may_clear_to(state, thread, clearance, meter);
+    refusal_of(&[
+        &halted(state, thread, meter),
+        &good_label(state, raw, clearance),
+        &[(Refusal::ClearanceRange, !in_range)],
+    ])
 }
 
 /// The thread has another clearance.

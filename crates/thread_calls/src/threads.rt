@@ -1,20 +1,16 @@
 //! The calls that make threads, give them an address space, and tell what they are.
-ghost use Rattle.std.specs.Prelude.{◌≡◌, ◌&&◌, not, None, IfOk, OnOk, OnErr, option_copied};
-ghost use Rattle.threads_gates.specs.LabelRules.{both, shown};
-ghost use Rattle.kernel_rules.specs.State.{label_at, is_kind_at};
-ghost use Rattle.kernel_rules.specs.Step.{accepted, edit, found, made_bearer};
+ghost use Rattle.std.specs.Prelude.{◌≡◌, None, IfOk, OnOk, OnErr};
+ghost use Rattle.kernel_rules.specs.Step.{accepted, edit, found};
 ghost use Rattle.kernel_rules.specs.Table.{refused, query_refused};
-ghost use Rattle.base.specs.declared.kinds.Kind.TheVariants as kinds;
 ghost use Rattle.kernel_rules.specs.declared.calls.Call.TheVariants as call;
 ghost use Rattle.kernel_rules.specs.declared.calls.Query.TheVariants as query;
 
 use base::{Kind, Meter, ObjectId, Refusal};
-use kernel_rules::{Entry, NewThread, Reply, least, least_of};
-use kernel_store::{NewObject, Store, halted, new_bearer, space_entry};
+use kernel_rules::{Entry, NewThread, Reply};
+use kernel_store::{NewObject, Store, halted, in_container, new_bearer, refusal_of, space_entry};
 use threads_gates::stored_of;
 
 /// What refuses another address space.
-#[tactic(auto, unfolding(kernel_rules::specs::Table::refused))]
 pub fn refused_self_set_as<S: Store>(
     state: &S,
     thread: ObjectId,
@@ -25,8 +21,8 @@ pub fn refused_self_set_as<S: Store>(
     ensures meter { S.kept meter.new ≡ S.kept meter.old }
 {
     let halted = halted(state, thread, meter);
-    let space = space_entry(state, thread, space, meter);
-    least_of(halted, space)
+    let seen = state.sight(thread, space, meter);
+    refusal_of(&[&halted, &space_entry(space, &seen)])
 }
 
 /// The thread has another address space.
@@ -48,15 +44,16 @@ pub fn refused_thread_create<S: Store>(
 ) -> Option<Refusal>
     ensures { result ≡ refused (S.state state.now) thread (call.ThreadCreate made.now) }
 {
-    let halted = halted(state, thread, meter);
     let object = NewObject {
         kind: Kind::Thread,
         container: made.container,
         quota: made.quota,
         label: made.label,
     };
-    let fresh = new_bearer(state, thread, &object, &made.clearance, meter);
-    least_of(halted, fresh)
+    refusal_of(&[
+        &halted(state, thread, meter),
+        &new_bearer(state, thread, &object, &made.clearance, meter),
+    ])
 }
 
 /// Makes a thread. The error is want of memory, and nothing is changed then.
@@ -89,15 +86,11 @@ pub fn thread_create<S: Store>(
 }
 
 /// What refuses to tell what the caller is.
-#[tactic(auto, unfolding(kernel_rules::specs::Table::query_refused))]
 pub fn refused_self_get<S: Store>(state: &S, thread: ObjectId, meter: &mut Meter) -> Option<Refusal>
     ensures value { result ≡ query_refused (S.state state.now) thread query.SelfGet }
     ensures meter { S.kept meter.new ≡ S.kept meter.old }
 {
-    least(&[(
-        Refusal::Halted,
-        !state.is_live_kind(Kind::Thread, thread, meter),
-    )])
+    refusal_of(&[&halted(state, thread, meter)])
 }
 
 /// What the caller is.
@@ -117,17 +110,7 @@ pub fn self_get<S: Store>(state: &S, thread: ObjectId) -> Reply
     }
 }
 
-fn is_hidden<S: Store>(state: &S, thread: ObjectId, id: ObjectId, meter: &mut Meter) -> bool
-    ensures value { result ≡ (is_kind_at (S.state state.now) kinds.Thread id
-        && not (both shown (label_at (S.state state.now) id)
-        (label_at (S.state state.now) thread))) }
-    ensures meter { S.kept meter.new ≡ S.kept meter.old }
-{
-    state.is_kind(Kind::Thread, id) && !state.is_shown(thread, id, meter)
-}
-
 /// What refuses to tell the label of an object.
-#[tactic(auto, unfolding(kernel_rules::specs::Table::query_refused))]
 pub fn refused_obj_label<S: Store>(
     state: &S,
     thread: ObjectId,
@@ -137,17 +120,14 @@ pub fn refused_obj_label<S: Store>(
     ensures value { result ≡ query_refused (S.state state.now) thread (query.ObjLabel entry.now) }
     ensures meter { S.kept meter.new ≡ S.kept meter.old }
 {
-    let halted = !state.is_live_kind(Kind::Thread, thread, meter);
-    let accessible = state.is_accessible(thread, entry.container, meter);
-    let held = state.holds(entry);
-    let hidden = is_hidden(state, thread, entry.object, meter);
-    let row = [
-        (Refusal::Halted, halted),
-        (Refusal::NoAccess, !accessible),
-        (Refusal::NoEntry, !held),
-        (Refusal::CannotObserve, hidden),
-    ];
-    least(&row)
+    let halted = halted(state, thread, meter);
+    let seen = state.sight(thread, entry, meter);
+    let hidden = seen.object.is(Kind::Thread) && !state.is_shown(thread, entry.object, meter);
+    refusal_of(&[
+        &halted,
+        &in_container(&seen),
+        &[(Refusal::CannotObserve, hidden)],
+    ])
 }
 
 /// The label of an object.

@@ -1,14 +1,15 @@
-//! The words of the table of calls: conditions that more calls than one have.
-ghost use Rattle.std.specs.Prelude.{◌≡◌, ◌||◌, not, is_none, option_copied};
+//! What refuses a new object.
+ghost use Rattle.std.specs.Prelude.{◌≡◌, ◌∷◌, [], ◌||◌, not, is_none, option_copied};
+ghost use Rattle.base.specs.declared.refusals.Refusal.TheVariants as refusal;
 ghost use Rattle.label_lattice.specs.Raw.{all_made, is_bad_below, raw_has_star};
 ghost use Rattle.threads_gates.specs.LabelRules.{both, below, between, stored};
-ghost use Rattle.kernel_rules.specs.Rows.{new_bearer, space_entry};
+ghost use Rattle.kernel_rules.specs.Rows.{fitting, new_object, new_bearer, in_range_of};
 ghost use Rattle.kernel_rules.specs.State.{label_at, clearance_at};
-ghost use Rattle.kernel_rules.specs.Rows.{refusal_of, halted, fitting, new_object, in_range_of};
 
+use crate::conditions::{Condition, at_container, modified, not_immutable, with_room};
+use crate::sights::itself;
 use crate::stores::Store;
 use base::{Kind, Meter, ObjectId, Refusal};
-use kernel_rules::{Entry, least, least_of};
 use label_lattice::{Label, RawLabel};
 use threads_gates::{is_below, is_between, stored_of};
 
@@ -25,48 +26,35 @@ pub struct NewObject {
     pub label: RawLabel,
 }
 
-/// Whether the caller is no live thread.
-pub fn halted<S: Store>(state: &S, thread: ObjectId, meter: &mut Meter) -> Option<Refusal>
-    ensures value { result ≡ refusal_of (halted (S.state state.now) thread) }
-    ensures meter { S.kept meter.new ≡ S.kept meter.old }
-{
-    least(&[(
-        Refusal::Halted,
-        !state.is_live_kind(Kind::Thread, thread, meter),
-    )])
-}
-
-/// What refuses a new object that uses so many pages itself.
+/// The new object, which uses so many pages itself, fits into its container.
 fn fitting<S: Store>(
     state: &S,
     thread: ObjectId,
     made: &NewObject,
     pages: u64,
     meter: &mut Meter,
-) -> Option<Refusal>
-    ensures value { result ≡ refusal_of (fitting (S.state state.now) thread
-        made.now.kind made.now.container made.now.quota pages) }
-    ensures meter { S.kept meter.new ≡ S.kept meter.old }
+) -> [Condition; 8]
+    ensures { result ≡ fitting (S.state state.now) thread
+        made.now.kind made.now.container made.now.quota pages }
 {
-    let accessible = state.is_accessible(thread, made.container, meter);
-    let observed = state.observes(thread, made.container, meter);
-    let below = state.flows_to(thread, made.container, meter);
+    let seen = state.sight(thread, &itself(made.container), meter);
+    let [access] = at_container(&seen);
+    let [observed, flowing] = modified(&seen.object);
     let avoided = state.avoids(made.kind, made.container);
     let small = u64::from(made.quota) < pages;
-    let full = state.is_over(made.container, made.quota);
-    let immutable = state.is_immutable(made.container);
+    let [room] = with_room(state, made.container, made.quota);
+    let [immutable] = not_immutable(&seen.object);
     let spent = 1 << 61 <= state.next_id().number();
-    let row = [
-        (Refusal::NoAccess, !accessible),
-        (Refusal::CannotObserve, !observed),
-        (Refusal::CannotModify, !below),
+    [
+        access,
+        observed,
+        flowing,
         (Refusal::AvoidType, avoided),
         (Refusal::NoQuota, small),
-        (Refusal::NoQuota, full),
-        (Refusal::Immutable, immutable),
+        room,
+        immutable,
         (Refusal::Spent, spent),
-    ];
-    least(&row)
+    ]
 }
 
 fn is_unmade<S: Store>(state: &S, raw: &RawLabel, label: Option<&Label>) -> bool
@@ -78,19 +66,34 @@ fn is_unmade<S: Store>(state: &S, raw: &RawLabel, label: Option<&Label>) -> bool
 }
 
 /// Whether a raw label cannot be that of a thread or a gate, a clearance or a verify label.
-pub fn is_unfit<S: Store>(state: &S, raw: &RawLabel, label: Option<&Label>) -> bool
+fn is_unfit<S: Store>(state: &S, raw: &RawLabel, label: Option<&Label>) -> bool
     requires { option_copied label ≡ stored raw.now }
     ensures { result ≡ is_bad_below (S.state state.now).next_category raw.now }
 {
     is_unmade(state, raw, label)
 }
 
-fn is_unfit_starless<S: Store>(state: &S, raw: &RawLabel, label: Option<&Label>) -> bool
+/// The raw label can be that of a thread or a gate, a clearance or a verify label.
+pub fn good_label<S: Store>(state: &S, raw: &RawLabel, label: Option<&Label>) -> [Condition; 1]
     requires { option_copied label ≡ stored raw.now }
-    ensures { result ≡ (is_bad_below (S.state state.now).next_category raw.now
-        || raw_has_star raw.now) }
+    ensures { result ≡ (refusal.BadLabel, is_bad_below (S.state state.now).next_category raw.now)
+        ∷ [] }
 {
-    is_unfit(state, raw, label) || raw.has_star()
+    [(Refusal::BadLabel, is_unfit(state, raw, label))]
+}
+
+/// The raw label can be that of a container, a segment or an address space.
+fn starless_label<S: Store>(state: &S, raw: &RawLabel, label: Option<&Label>) -> [Condition; 1]
+    requires { option_copied label ≡ stored raw.now }
+    ensures { result ≡ (
+      refusal.BadLabel,
+      is_bad_below (S.state state.now).next_category raw.now || raw_has_star raw.now,
+    ) ∷ [] }
+{
+    [(
+        Refusal::BadLabel,
+        is_unfit(state, raw, label) || raw.has_star(),
+    )]
 }
 
 /// Whether a stored label is at least the thread's, and at most its clearance.
@@ -113,16 +116,35 @@ fn new_of_label<S: Store>(
     pages: u64,
     label: Option<&Label>,
     meter: &mut Meter,
-) -> Option<Refusal>
+) -> [Condition; 10]
     requires { option_copied label ≡ stored made.now.label }
-    ensures { result ≡ refusal_of (new_object (S.state state.now) thread
-        made.now.kind made.now.container made.now.label made.now.quota pages) }
+    ensures { result ≡ new_object (S.state state.now) thread
+        made.now.kind made.now.container made.now.label made.now.quota pages }
 {
-    let fitting = fitting(state, thread, made, pages, meter);
-    let unfit = is_unfit_starless(state, &made.label, label);
+    let [
+        access,
+        observed,
+        flowing,
+        avoided,
+        small,
+        room,
+        immutable,
+        spent,
+    ] = fitting(state, thread, made, pages, meter);
+    let [unfit] = starless_label(state, &made.label, label);
     let in_range = is_in_range(state, thread, label, meter);
-    let ill = least(&[(Refusal::BadLabel, unfit), (Refusal::LabelRange, !in_range)]);
-    least_of(fitting, ill)
+    [
+        access,
+        observed,
+        flowing,
+        avoided,
+        small,
+        room,
+        immutable,
+        spent,
+        unfit,
+        (Refusal::LabelRange, !in_range),
+    ]
 }
 
 /// What refuses a new container, segment or address space, which uses so many pages itself.
@@ -132,34 +154,12 @@ pub fn new_object<S: Store>(
     made: &NewObject,
     pages: u64,
     meter: &mut Meter,
-) -> Option<Refusal>
-    ensures { result ≡ refusal_of (new_object (S.state state.now) thread
-        made.now.kind made.now.container made.now.label made.now.quota pages) }
+) -> [Condition; 10]
+    ensures { result ≡ new_object (S.state state.now) thread
+        made.now.kind made.now.container made.now.label made.now.quota pages }
 {
     let label = stored_of(&made.label, meter);
     new_of_label(state, thread, made, pages, label.as_ref(), meter)
-}
-
-/// What refuses the entry of an address space, where it is not that of none.
-pub fn space_entry<S: Store>(
-    state: &S,
-    thread: ObjectId,
-    space: &Entry,
-    meter: &mut Meter,
-) -> Option<Refusal>
-    ensures value { result ≡ refusal_of (space_entry (S.state state.now) thread space.now) }
-    ensures meter { S.kept meter.new ≡ S.kept meter.old }
-{
-    let named = space.container.number() != 0 || space.object.number() != 0;
-    let accessible = state.is_accessible(thread, space.container, meter);
-    let held = state.holds(space);
-    let fit = state.is_kind(Kind::AddressSpace, space.object);
-    let row = [
-        (Refusal::NoAccess, named && !accessible),
-        (Refusal::NoEntry, named && !held),
-        (Refusal::WrongType, named && !fit),
-    ];
-    least(&row)
 }
 
 fn is_above<S: Store>(state: &S, thread: ObjectId, label: Option<&Label>, meter: &mut Meter) -> bool
@@ -190,24 +190,40 @@ fn bearer_of_label<S: Store>(
     raw_clearance: &RawLabel,
     clearance: Option<&Label>,
     meter: &mut Meter,
-) -> Option<Refusal>
+) -> [Condition; 12]
     requires label { option_copied label ≡ stored made.now.label }
     requires clearance { option_copied clearance ≡ stored raw_clearance.now }
-    ensures { result ≡ refusal_of (new_bearer (S.state state.now) thread
-        made.now.kind made.now.container made.now.label made.now.quota raw_clearance.now) }
+    ensures { result ≡ new_bearer (S.state state.now) thread
+        made.now.kind made.now.container made.now.label made.now.quota raw_clearance.now }
 {
-    let fitting = fitting(state, thread, made, 1, meter);
-    let unfit = is_unfit(state, &made.label, label);
-    let unfit_clearance = is_unfit(state, raw_clearance, clearance);
+    let [
+        access,
+        observed,
+        flowing,
+        avoided,
+        small,
+        room,
+        immutable,
+        spent,
+    ] = fitting(state, thread, made, 1, meter);
+    let [unfit] = good_label(state, &made.label, label);
+    let [unfit_clearance] = good_label(state, raw_clearance, clearance);
     let above = is_above(state, thread, label, meter);
-    let in_range = is_bounded(state, thread, label, clearance, meter);
-    let ill = least(&[
-        (Refusal::BadLabel, unfit),
-        (Refusal::BadLabel, unfit_clearance),
+    let bounded = is_bounded(state, thread, label, clearance, meter);
+    [
+        access,
+        observed,
+        flowing,
+        avoided,
+        small,
+        room,
+        immutable,
+        spent,
+        unfit,
+        unfit_clearance,
         (Refusal::LabelRange, !above),
-        (Refusal::ClearanceRange, !in_range),
-    ]);
-    least_of(fitting, ill)
+        (Refusal::ClearanceRange, !bounded),
+    ]
 }
 
 /// What refuses a new thread or gate of a raw clearance.
@@ -217,9 +233,9 @@ pub fn new_bearer<S: Store>(
     made: &NewObject,
     raw_clearance: &RawLabel,
     meter: &mut Meter,
-) -> Option<Refusal>
-    ensures { result ≡ refusal_of (new_bearer (S.state state.now) thread
-        made.now.kind made.now.container made.now.label made.now.quota raw_clearance.now) }
+) -> [Condition; 12]
+    ensures { result ≡ new_bearer (S.state state.now) thread
+        made.now.kind made.now.container made.now.label made.now.quota raw_clearance.now }
 {
     let label = stored_of(&made.label, meter);
     let clearance = stored_of(raw_clearance, meter);
