@@ -5,8 +5,8 @@ use Rattle.kernel_rules.specs.State.{use_of, quota_at}
 use Rattle.link_calls.proofs.QuotaLaws.{IsMovable, movable}
 use Rattle.link_calls.proofs.quotas.quota_move.Goals as goal
 
-pub move_quota-requires : goal.move_quota-requires
-move_quota-requires g c =
+pub quota_move-requires : goal.quota_move-requires
+quota_move-requires g c =
     let passed : to_z w32 (of_z w32 c.args.change) ≡ c.args.change =
     to_z-of_z w32 c.args.change c.ranges.change in
     let may : IsMovable (g.S.Store.state c.args.state.now) c.args.entry.now c.args.change =
