@@ -1,5 +1,5 @@
 -- The refusal of a row that is put together of parts.
-use Rattle.std.proofs.Common.{◌≡◌, ◌≤◌, ◌-◌, ℕ, List, [], ◌∷◌, map, take, drop, get_or, length}
+use Rattle.std.proofs.Common.{◌≡◌, ◌≤◌, ◌-◌, List, [], ◌∷◌, map, take, drop, get_or, length}
 use Rattle.std.proofs.Common.{Bor, sym, ap, ◌∙◌, arith}
 use Rattle.std.proofs.lemmas.List.{take_rest}
 use Rattle.kernel_rules.specs.Rows.{Row, refusal_of, least_of}

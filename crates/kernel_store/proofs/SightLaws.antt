@@ -1,5 +1,5 @@
 -- What is seen of an object tells its kind.
-use Rattle.std.proofs.Common.{◌≡◌, ℕ, Bool, false, ◌==◌, Option, Some, None, refl}
+use Rattle.std.proofs.Common.{◌≡◌, ℕ, false, Option, Some, None, refl}
 use Rattle.std.specs.Option.{option_map}
 use Rattle.base.specs.declared.kinds.Kind as kind
 use Rattle.kernel_rules.specs.State.{State, object_at, of_object, kind_of, is_kind, is_kind_at}
