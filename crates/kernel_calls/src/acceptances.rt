@@ -15,7 +15,7 @@ use memory_calls::{
     segment_resize, segment_write, set_immutable, store,
 };
 use thread_calls::{
-    cat_create, gate_create, gate_enter, self_set_as, self_set_clearance, self_set_label,
+    Entering, cat_create, gate_create, gate_enter, self_set_as, self_set_clearance, self_set_label,
     thread_create,
 };
 
@@ -70,7 +70,14 @@ fn accept<S: Store>(
             label,
             clearance,
             verify,
-        } => Ok(gate_enter(state, thread, gate, label, clearance, verify, meter)),
+        } => {
+            let entering = Entering {
+                label: *label,
+                clearance: *clearance,
+                verify: *verify,
+            };
+            Ok(gate_enter(state, thread, gate, &entering, meter))
+        }
         Call::DevSend { entry, data } => dev_send(state, thread, entry, data),
         Call::DevRecv { entry } => Ok(dev_recv(state, thread, entry)),
     }

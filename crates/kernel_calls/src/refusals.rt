@@ -15,7 +15,7 @@ use memory_calls::{
     refused_segment_write, refused_set_immutable, refused_store,
 };
 use thread_calls::{
-    refused_cat_create, refused_gate_create, refused_gate_enter, refused_self_set_as,
+    Entering, refused_cat_create, refused_gate_create, refused_gate_enter, refused_self_set_as,
     refused_self_set_clearance, refused_self_set_label, refused_thread_create,
 };
 
@@ -70,7 +70,14 @@ pub fn refused<S: Store>(
             label,
             clearance,
             verify,
-        } => refused_gate_enter(state, thread, gate, label, clearance, verify, meter),
+        } => {
+            let entering = Entering {
+                label: *label,
+                clearance: *clearance,
+                verify: *verify,
+            };
+            refused_gate_enter(state, thread, gate, &entering, meter)
+        }
         Call::DevSend { entry, data } => refused_dev_send(state, thread, entry, data, meter),
         Call::DevRecv { entry } => refused_dev_recv(state, thread, entry, meter),
     }

@@ -109,18 +109,19 @@ pub fn is_in_range<S: Store>(
     is_between(state.label(thread), label, state.clearance(thread), meter)
 }
 
-fn new_of_label<S: Store>(
+/// What refuses a new container, segment or address space, which uses so many pages itself.
+pub fn new_object<S: Store>(
     state: &S,
     thread: ObjectId,
     made: &NewObject,
     pages: u64,
-    label: Option<&Label>,
     meter: &mut Meter,
 ) -> [Condition; 10]
-    requires { option_copied label ≡ stored made.now.label }
     ensures { result ≡ new_object (S.state state.now) thread
         made.now.kind made.now.container made.now.label made.now.quota pages }
 {
+    let stored = stored_of(&made.label, meter);
+    let label = stored.as_ref();
     let [
         access,
         observed,
@@ -147,21 +148,6 @@ fn new_of_label<S: Store>(
     ]
 }
 
-/// What refuses a new container, segment or address space, which uses so many pages itself.
-pub fn new_object<S: Store>(
-    state: &S,
-    thread: ObjectId,
-    made: &NewObject,
-    pages: u64,
-    meter: &mut Meter,
-) -> [Condition; 10]
-    ensures { result ≡ new_object (S.state state.now) thread
-        made.now.kind made.now.container made.now.label made.now.quota pages }
-{
-    let label = stored_of(&made.label, meter);
-    new_of_label(state, thread, made, pages, label.as_ref(), meter)
-}
-
 fn is_above<S: Store>(state: &S, thread: ObjectId, label: Option<&Label>, meter: &mut Meter) -> bool
     ensures { result ≡ both below (label_at (S.state state.now) thread)
         (option_copied label.entry) }
@@ -182,20 +168,21 @@ fn is_bounded<S: Store>(
     is_between(label, clearance, state.clearance(thread), meter)
 }
 
-fn bearer_of_label<S: Store>(
+/// What refuses a new thread or gate of a raw clearance.
+pub fn new_bearer<S: Store>(
     state: &S,
     thread: ObjectId,
     made: &NewObject,
-    label: Option<&Label>,
     raw_clearance: &RawLabel,
-    clearance: Option<&Label>,
     meter: &mut Meter,
 ) -> [Condition; 12]
-    requires label { option_copied label ≡ stored made.now.label }
-    requires clearance { option_copied clearance ≡ stored raw_clearance.now }
     ensures { result ≡ new_bearer (S.state state.now) thread
         made.now.kind made.now.container made.now.label made.now.quota raw_clearance.now }
 {
+    let stored = stored_of(&made.label, meter);
+    let label = stored.as_ref();
+    let stored_clearance = stored_of(raw_clearance, meter);
+    let clearance = stored_clearance.as_ref();
     let [
         access,
         observed,
@@ -224,28 +211,4 @@ fn bearer_of_label<S: Store>(
         (Refusal::LabelRange, !above),
         (Refusal::ClearanceRange, !bounded),
     ]
-}
-
-/// What refuses a new thread or gate of a raw clearance.
-pub fn new_bearer<S: Store>(
-    state: &S,
-    thread: ObjectId,
-    made: &NewObject,
-    raw_clearance: &RawLabel,
-    meter: &mut Meter,
-) -> [Condition; 12]
-    ensures { result ≡ new_bearer (S.state state.now) thread
-        made.now.kind made.now.container made.now.label made.now.quota raw_clearance.now }
-{
-    let label = stored_of(&made.label, meter);
-    let clearance = stored_of(raw_clearance, meter);
-    bearer_of_label(
-        state,
-        thread,
-        made,
-        label.as_ref(),
-        raw_clearance,
-        clearance.as_ref(),
-        meter,
-    )
 }

@@ -6,10 +6,10 @@ use label_lattice::{Label, Pair, RawLabel};
 use plain_state::PlainState;
 use std::test::Fail;
 use thread_calls::{
-    cat_create, gate_create, gate_enter, obj_label, refused_cat_create, refused_gate_create,
-    refused_gate_enter, refused_obj_label, refused_self_get, refused_self_set_as,
-    refused_self_set_clearance, refused_self_set_label, refused_thread_create, self_get,
-    self_set_as, self_set_clearance, self_set_label, thread_create,
+    Entering, cat_create, gate_create, gate_enter, obj_label, refused_cat_create,
+    refused_gate_create, refused_gate_enter, refused_obj_label, refused_self_get,
+    refused_self_set_as, refused_self_set_clearance, refused_self_set_label, refused_thread_create,
+    self_get, self_set_as, self_set_clearance, self_set_label, thread_create,
 };
 
 fn no_space() -> Entry {
@@ -117,9 +117,14 @@ fn enter_gate(state: &mut PlainState, thread: ObjectId, gate: &Entry, meter: &mu
     let raw = label_with(Level::Star, Level::L1);
     let cleared = label_with(Level::L3, Level::L1);
     let verify = RawLabel::new(Level::L3, &[]);
-    match refused_gate_enter(state, thread, gate, &raw, &cleared, &verify, meter) {
+    let entering = Entering {
+        label: raw,
+        clearance: cleared,
+        verify,
+    };
+    match refused_gate_enter(state, thread, gate, &entering, meter) {
         Some(refusal) => Reply::Refused(refusal),
-        None => gate_enter(state, thread, gate, &raw, &cleared, &verify, meter),
+        None => gate_enter(state, thread, gate, &entering, meter),
     }
 }
 

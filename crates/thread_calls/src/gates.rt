@@ -109,26 +109,32 @@ fn is_open<S: Store>(
     may_enter(&own, &gate, asked, meter)
 }
 
-/// The three labels that a thread asks of a gate, where they can be stored.
-fn asked_of(
-    raw: &RawLabel,
-    raw_clearance: &RawLabel,
-    raw_verify: &RawLabel,
-    meter: &mut Meter,
-) -> Asked
+/// The three labels that a thread asks of a gate, as they are given.
+#[derive(Clone, Copy)]
+pub struct Entering {
+    /// Its new label.
+    pub label: RawLabel,
+    /// Its new clearance.
+    pub clearance: RawLabel,
+    /// The label that it proves to the gate's owner.
+    pub verify: RawLabel,
+}
+
+/// The three labels, where they can be stored.
+fn asked_of(entering: &Entering, meter: &mut Meter) -> Asked
     ensures value { result ≡ record {
-      label = stored raw.now;
-      clearance = stored raw_clearance.now;
-      verify = stored raw_verify.now;
+      label = stored entering.now.label;
+      clearance = stored entering.now.clearance;
+      verify = stored entering.now.verify;
     } }
     ensures label { IfSome result.label IsStored }
     ensures clearance { IfSome result.clearance IsStored }
     ensures verify { IfSome result.verify IsStored }
 {
     Asked {
-        label: stored_of(raw, meter),
-        clearance: stored_of(raw_clearance, meter),
-        verify: stored_of(raw_verify, meter),
+        label: stored_of(&entering.label, meter),
+        clearance: stored_of(&entering.clearance, meter),
+        verify: stored_of(&entering.verify, meter),
     }
 }
 
@@ -146,25 +152,24 @@ pub fn refused_gate_enter<S: Store>(
     state: &S,
     thread: ObjectId,
     gate: &Entry,
-    raw: &RawLabel,
-    raw_clearance: &RawLabel,
-    raw_verify: &RawLabel,
+    entering: &Entering,
     meter: &mut Meter,
 ) -> Option<Refusal>
     ensures { result ≡ refused (S.state state.now) thread
-        (call.GateEnter gate.now raw.now raw_clearance.now raw_verify.now) }
+        (call.GateEnter gate.now entering.now.label
+        entering.now.clearance entering.now.verify) }
 {
     let halted = halted(state, thread, meter);
     let seen = state.sight(thread, gate, meter);
-    let asked = asked_of(raw, raw_clearance, raw_verify, meter);
+    let asked = asked_of(entering, meter);
     let open = is_open(state, thread, gate.object, &asked, meter);
     refusal_of(&[
         &halted,
         &in_container(&seen),
         &of_kind(Kind::Gate, &seen.object),
-        &good_raw_label(state, raw, meter),
-        &good_raw_label(state, raw_clearance, meter),
-        &good_raw_label(state, raw_verify, meter),
+        &good_raw_label(state, &entering.label, meter),
+        &good_raw_label(state, &entering.clearance, meter),
+        &good_raw_label(state, &entering.verify, meter),
         &[(Refusal::GateDenied, !open)],
     ])
 }
@@ -205,17 +210,17 @@ pub fn gate_enter<S: Store>(
     state: &mut S,
     thread: ObjectId,
     gate: &Entry,
-    raw: &RawLabel,
-    raw_clearance: &RawLabel,
-    raw_verify: &RawLabel,
+    entering: &Entering,
     meter: &mut Meter,
 ) -> Reply
     ensures reply { result ≡ accepted (S.state state.old) thread
-        (call.GateEnter gate.now raw.now raw_clearance.now raw_verify.now) }
+        (call.GateEnter gate.now entering.now.label
+        entering.now.clearance entering.now.verify) }
     ensures state { S.state state.new ≡ edit (S.state state.old) thread
-        (call.GateEnter gate.now raw.now raw_clearance.now raw_verify.now) }
+        (call.GateEnter gate.now entering.now.label
+        entering.now.clearance entering.now.verify) }
 {
-    let asked = asked_of(raw, raw_clearance, raw_verify, meter);
+    let asked = asked_of(entering, meter);
     let entered = state.gate(gate.object);
     enter(state, thread, &asked, &entered);
     told_by(&entered)
