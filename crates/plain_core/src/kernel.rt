@@ -6,10 +6,9 @@ ghost use Rattle.base.specs.declared.kinds.Kind.TheVariants as kinds;
 ghost use Rattle.kernel_rules.specs.State.{is_live_kind};
 ghost use Rattle.kernel_rules.specs.WellFormed.{is_well_formed};
 
-use crate::acceptances::step;
 use crate::machine::Machine;
-use crate::queries::ask;
 use base::{Kind, Limits, Meter, NoMemory, ObjectId};
+use kernel_calls::{ask, step};
 use kernel_rules::{Call, Query, Reply, Tables};
 use plain_state::{BootRefusal, PlainState};
 use plain_tables::tables;

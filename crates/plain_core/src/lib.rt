@@ -6,11 +6,8 @@
 //! others.
 #![tactic(auto)]
 
-mod acceptances;
 mod kernel;
 mod machine;
-mod queries;
-mod refusals;
 
 pub use kernel::PlainKernel;
 pub use kernel_rules::{

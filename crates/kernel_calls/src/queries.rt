@@ -1,0 +1,89 @@
+//! What a query is answered.
+ghost use Rattle.std.specs.Prelude.{◌≡◌, true, None};
+ghost use Rattle.kernel_rules.specs.Step.{found, query_answer};
+ghost use Rattle.kernel_rules.specs.Table.{query_refused};
+ghost use Rattle.kernel_calls.specs.Quiet.{is_load};
+
+use base::{Meter, ObjectId, Refusal};
+use kernel_rules::{Query, Reply};
+use kernel_store::Store;
+use link_calls::{
+    container_list, container_parent, obj_quota, refused_container_list, refused_container_parent,
+    refused_obj_quota,
+};
+use memory_calls::{
+    as_get, load, meta_get, refused_as_get, refused_load, refused_meta_get, refused_segment_len,
+    refused_segment_read, segment_len, segment_read,
+};
+use thread_calls::{obj_label, refused_obj_label, refused_self_get, self_get};
+
+fn refused<S: Store>(
+    state: &S,
+    thread: ObjectId,
+    query: &Query,
+    meter: &mut Meter,
+) -> Option<Refusal>
+    ensures value { result ≡ query_refused (S.state state.now) thread query.now }
+    ensures meter { S.kept meter.new ≡ S.kept meter.old }
+    ensures looks { is_load query.now ≡ true → S.spends 9 meter.old meter.new }
+{
+    match query {
+        Query::SelfGet => refused_self_get(state, thread, meter),
+        Query::ObjLabel { entry } => refused_obj_label(state, thread, entry, meter),
+        Query::ObjQuota { entry } => refused_obj_quota(state, thread, entry, meter),
+        Query::ContainerList { container, from } => {
+            refused_container_list(state, thread, *container, *from, meter)
+        }
+        Query::ContainerParent { container } => {
+            refused_container_parent(state, thread, *container, meter)
+        }
+        Query::SegmentLen { entry } => refused_segment_len(state, thread, entry, meter),
+        Query::SegmentRead {
+            entry,
+            offset,
+            count,
+        } => refused_segment_read(state, thread, entry, *offset, *count, meter),
+        Query::MetaGet { entry } => refused_meta_get(state, thread, entry, meter),
+        Query::AsGet { space, slot } => refused_as_get(state, thread, space, *slot, meter),
+        Query::Load { address, count } => refused_load(state, thread, *address, *count, meter),
+    }
+}
+
+fn found<S: Store>(state: &S, thread: ObjectId, query: &Query, meter: &mut Meter) -> Reply
+    requires { query_refused (S.state state.now) thread query.now ≡ None }
+    ensures value { result ≡ found (S.state state.now) thread query.now }
+    ensures meter { S.kept meter.new ≡ S.kept meter.old }
+    ensures looks { is_load query.now ≡ true → S.spends 8 meter.old meter.new }
+{
+    match query {
+        Query::SelfGet => self_get(state, thread),
+        Query::ObjLabel { entry } => obj_label(state, thread, entry),
+        Query::ObjQuota { entry } => obj_quota(state, thread, entry),
+        Query::ContainerList { container, from } => {
+            container_list(state, thread, *container, *from)
+        }
+        Query::ContainerParent { container } => container_parent(state, thread, *container),
+        Query::SegmentLen { entry } => segment_len(state, thread, entry),
+        Query::SegmentRead {
+            entry,
+            offset,
+            count,
+        } => segment_read(state, thread, entry, *offset, *count),
+        Query::MetaGet { entry } => meta_get(state, thread, entry),
+        Query::AsGet { space, slot } => as_get(state, thread, space, *slot),
+        Query::Load { address, count } => load(state, thread, *address, *count, meter),
+    }
+}
+
+/// One query: its refusal, or what it finds where nothing refuses it. It compares no label anew, and
+/// reading through the address space takes at most 17 looks.
+pub fn ask<S: Store>(state: &S, thread: ObjectId, query: &Query, meter: &mut Meter) -> Reply
+    ensures value { result ≡ query_answer (S.state state.now) thread query.now }
+    ensures meter { S.kept meter.new ≡ S.kept meter.old }
+    ensures looks { is_load query.now ≡ true → S.spends 17 meter.old meter.new }
+{
+    match refused(state, thread, query, meter) {
+        Some(refusal) => Reply::Refused(refusal),
+        None => found(state, thread, query, meter),
+    }
+}

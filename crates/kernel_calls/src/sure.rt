@@ -1,0 +1,28 @@
+//! Calls over a store that never wants memory.
+ghost use Rattle.std.specs.Prelude.{◌≡◌, true};
+ghost use Rattle.kernel_rules.specs.Step.{answer, next};
+ghost use Rattle.kernel_calls.specs.Quiet.{is_quiet};
+
+use crate::acceptances::step;
+use base::{Meter, ObjectId};
+use kernel_rules::{Call, Reply};
+use kernel_store::Store;
+use std::convert::Infallible;
+
+/// One call over a store that takes no memory after it was made: its refusal, or what it changes and
+/// answers where nothing refuses it. There is no error.
+pub fn step_surely<S: Store<Want = Infallible>>(
+    state: &mut S,
+    thread: ObjectId,
+    call: &Call,
+    meter: &mut Meter,
+) -> Reply
+    ensures reply { result ≡ answer (S.state state.old) thread call.now }
+    ensures state { S.state state.new ≡ next (S.state state.old) thread call.now }
+    ensures meter { is_quiet call.now ≡ true → S.kept meter.new ≡ S.kept meter.old }
+{
+    match step(state, thread, call, meter) {
+        Ok(reply) => reply,
+        Err(never) => match never {},
+    }
+}

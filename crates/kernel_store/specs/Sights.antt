@@ -1,0 +1,38 @@
+-- What a thread sees of an object and of an entry: each part is what the rules define.
+use Rattle.std.specs.Prelude.{ℕ, Bool, false, ◌==◌, Option, Some, None}
+use Rattle.std.specs.Option.{option_map}
+use Rattle.base.specs.Live.{has}
+use Rattle.base.specs.declared.kinds.Kind as kind
+use Rattle.kernel_rules.specs.State.{State, object_at, kind_of, kind_number, is_accessible, holds}
+use Rattle.kernel_rules.specs.State.{list_at, observes, flows_to, is_immutable, is_fixed}
+use Rattle.kernel_rules.specs.declared.calls.Entry.{Entry}
+use Rattle.kernel_store.specs.declared.sights.Seen.{Seen}
+use Rattle.kernel_store.specs.declared.sights.Sight.{Sight}
+
+-- the kind of o, where it is recorded
+unfoldable pub kind_at : State → ℕ → Option kind.Kind
+kind_at s o = option_map (λ x. kind_of x.body) (object_at s o)
+
+-- a kind is there, and is this one
+unfoldable pub is_of : kind.Kind → Option kind.Kind → Bool
+is_of k None = false
+is_of k (Some other) = kind_number other == kind_number k
+
+-- what thread t sees of object o
+abbrev pub seen_of : State → ℕ → ℕ → Seen
+seen_of s t o = record {
+  kind = kind_at s o;
+  observed = observes s t o;
+  flowing = flows_to s t o;
+  immutable = is_immutable s o;
+  fixed = is_fixed s o;
+}
+
+-- what thread t sees of an entry
+abbrev pub sight_of : State → ℕ → Entry → Sight
+sight_of s t e = record {
+  accessible = is_accessible s t e.container;
+  held = holds s e;
+  listed = has (list_at s e.container) e.object;
+  object = seen_of s t e.object;
+}

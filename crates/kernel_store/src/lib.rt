@@ -1,0 +1,19 @@
+//! What a kernel keeps its objects in: the reads and the changes that calls are made of, each with
+//! an exact contract against the rules, whatever the data structures are. Beside them stand the
+//! words of the table of calls, over any store: each promises the conditions of the definition of
+//! its name. Which call asks what is left to the crates above.
+#![tactic(auto)]
+
+mod conditions;
+mod new_objects;
+mod sights;
+mod stores;
+
+pub use conditions::{
+    Condition, at_container, flowing, halted, in_container, listed_in, mapped_to_read,
+    mapped_to_write, modified, not_immutable, not_of_kind, observed, of_kind, refusal_of, shaped,
+    space_entry, with_room, within,
+};
+pub use new_objects::{NewObject, good_label, is_in_range, new_bearer, new_object};
+pub use sights::{Seen, Sight, itself};
+pub use stores::Store;

@@ -1,0 +1,57 @@
+//! What a thread sees of an object and of an entry.
+ghost use Rattle.std.specs.Prelude.{◌≡◌};
+ghost use Rattle.kernel_store.specs.Sights.{is_of};
+
+use base::{Kind, ObjectId};
+use kernel_rules::Entry;
+
+/// What a thread sees of an object.
+#[derive(Clone, Copy)]
+pub struct Seen {
+    /// What it is, where it is recorded.
+    pub kind: Option<Kind>,
+    /// Whether the thread observes it: its label is at most the thread's with star raised.
+    pub observed: bool,
+    /// Whether the thread's label is at most the object's.
+    pub flowing: bool,
+    /// Whether it is read-only for good.
+    pub immutable: bool,
+    /// Whether its quota never changes again.
+    pub fixed: bool,
+}
+
+/// What a thread sees of an entry.
+#[derive(Clone, Copy)]
+pub struct Sight {
+    /// Whether the container is a live container that the thread observes.
+    pub accessible: bool,
+    /// Whether the entry stands: the container lists the object, or is the object.
+    pub held: bool,
+    /// Whether the container lists the object.
+    pub listed: bool,
+    /// What the thread sees of the object.
+    pub object: Seen,
+}
+
+impl Seen {
+    /// Whether it is of this kind.
+    #[tactic(auto, unfolding(crate::specs::Sights::is_of))]
+    pub fn is(&self, kind: Kind) -> bool
+        ensures { result ≡ is_of kind self.now.kind }
+    {
+        match self.kind {
+            None => false,
+            Some(seen) => seen == kind,
+        }
+    }
+}
+
+/// The entry by which a container names itself.
+pub fn itself(container: ObjectId) -> Entry
+    ensures { result ≡ record { container = container; object = container } }
+{
+    Entry {
+        container,
+        object: container,
+    }
+}

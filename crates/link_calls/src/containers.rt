@@ -1,0 +1,114 @@
+//! The calls that make containers and read their lists.
+ghost use Rattle.std.specs.Prelude.{◌≡◌, None, IfOk, OnOk, OnErr};
+ghost use Rattle.kernel_rules.specs.Step.{accepted, edit, found};
+ghost use Rattle.kernel_rules.specs.Table.{refused, query_refused};
+ghost use Rattle.kernel_rules.specs.declared.calls.Call.TheVariants as call;
+ghost use Rattle.kernel_rules.specs.declared.calls.Query.TheVariants as query;
+
+use base::{Kind, Meter, ObjectId, Refusal};
+use kernel_rules::{NewContainer, Reply};
+use kernel_store::{NewObject, Store, at_container, halted, itself, new_object, refusal_of};
+use threads_gates::stored_of;
+
+/// What refuses to make a container.
+pub fn refused_container_create<S: Store>(
+    state: &S,
+    thread: ObjectId,
+    made: &NewContainer,
+    meter: &mut Meter,
+) -> Option<Refusal>
+    ensures { result ≡ refused (S.state state.now) thread (call.ContainerCreate made.now) }
+{
+    let object = NewObject {
+        kind: Kind::Container,
+        container: made.container,
+        quota: made.quota,
+        label: made.label,
+    };
+    refusal_of(&[
+        &halted(state, thread, meter),
+        &new_object(state, thread, &object, 1, meter),
+    ])
+}
+
+/// Makes a container without entries. The error is want of memory, and nothing is changed then.
+pub fn container_create<S: Store>(
+    state: &mut S,
+    thread: ObjectId,
+    made: &NewContainer,
+    meter: &mut Meter,
+) -> Result<Reply, S::Want>
+    requires { refused (S.state state.old) thread (call.ContainerCreate made.now) ≡ None }
+    ensures reply { IfOk result (λ reply. reply ≡ accepted (S.state state.old) thread
+        (call.ContainerCreate made.now)) }
+    ensures ok { OnOk result (S.state state.new ≡ edit (S.state state.old) thread
+        (call.ContainerCreate made.now)) }
+    ensures err { OnErr result (S.state state.new ≡ S.state state.old) }
+{
+    let kinds = state.joined(made.container, made.avoid);
+    let label = stored_of(&made.label, meter);
+    let id = state.create_container(made.container, label, made.quota, kinds)?;
+    Ok(Reply::Object(id))
+}
+
+/// What refuses to read a container's list.
+pub fn refused_container_list<S: Store>(
+    state: &S,
+    thread: ObjectId,
+    container: ObjectId,
+    from: u32,
+    meter: &mut Meter,
+) -> Option<Refusal>
+    ensures value { result ≡ query_refused (S.state state.now) thread
+        (query.ContainerList container from) }
+    ensures meter { S.kept meter.new ≡ S.kept meter.old }
+{
+    let halted = halted(state, thread, meter);
+    let seen = state.sight(thread, &itself(container), meter);
+    let past = state.list_len(container) < from as usize;
+    refusal_of(&[&halted, &at_container(&seen), &[(Refusal::Bounds, past)]])
+}
+
+/// The length of a container's list, and up to 16 of its ids.
+#[tactic(auto, using(crate::proofs::ContainerLaws::list_reaches))]
+pub fn container_list<S: Store>(
+    state: &S,
+    thread: ObjectId,
+    container: ObjectId,
+    from: u32,
+) -> Reply
+    requires { query_refused (S.state state.now) thread
+        (query.ContainerList container from) ≡ None }
+    ensures { result ≡ found (S.state state.now) thread
+        (query.ContainerList container from) }
+{
+    Reply::Listed {
+        count: state.list_len(container) as u64,
+        ids: state.ids_from(container, from),
+    }
+}
+
+/// What refuses to ask for a container's own container.
+pub fn refused_container_parent<S: Store>(
+    state: &S,
+    thread: ObjectId,
+    container: ObjectId,
+    meter: &mut Meter,
+) -> Option<Refusal>
+    ensures value { result ≡ query_refused (S.state state.now) thread
+        (query.ContainerParent container) }
+    ensures meter { S.kept meter.new ≡ S.kept meter.old }
+{
+    let halted = halted(state, thread, meter);
+    let seen = state.sight(thread, &itself(container), meter);
+    refusal_of(&[&halted, &at_container(&seen)])
+}
+
+/// The container that lists a container; the root's is the root.
+pub fn container_parent<S: Store>(state: &S, thread: ObjectId, container: ObjectId) -> Reply
+    requires { query_refused (S.state state.now) thread
+        (query.ContainerParent container) ≡ None }
+    ensures { result ≡ found (S.state state.now) thread (query.ContainerParent container) }
+{
+    Reply::Parent(state.parent(container))
+}

@@ -1,0 +1,8 @@
+use Rattle.memory_calls.proofs.LengthLaws.{send_fits}
+use Rattle.memory_calls.proofs.devices.dev_send.Goals as goal
+
+pub dev_send-requires-clause-some : goal.dev_send-requires-clause-some
+dev_send-requires-clause-some g c = (send_fits _ _ _ _ c.requires).some
+
+pub dev_send-requires-clause-room : goal.dev_send-requires-clause-room
+dev_send-requires-clause-room g c = (send_fits _ _ _ _ c.requires).room

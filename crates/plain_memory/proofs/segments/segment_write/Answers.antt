@@ -1,5 +1,0 @@
-use Rattle.plain_memory.proofs.SegmentLaws.{write_fits}
-use Rattle.plain_memory.proofs.segments.segment_write.Goals as goal
-
-pub write_bytes-requires : goal.write_bytes-requires
-write_bytes-requires c = rw c.as_slice.ensures.value (write_fits _ _ _ _ _ c.requires)

@@ -1,0 +1,73 @@
+//! The call that makes a category.
+ghost use Rattle.std.specs.Prelude.{◌≡◌, ◌||◌, is_none, None, IfSome};
+ghost use Rattle.label_lattice.specs.Label.{IsStored};
+ghost use Rattle.kernel_rules.specs.Rows.{own_label, own_clearance};
+ghost use Rattle.kernel_rules.specs.Step.{accepted, edit};
+ghost use Rattle.kernel_rules.specs.Table.{refused};
+ghost use Rattle.kernel_rules.specs.declared.calls.Call.TheVariants as call;
+
+use base::{Category, Level, Meter, ObjectId, Refusal};
+use kernel_rules::Reply;
+use kernel_store::{Store, halted, refusal_of};
+use label_lattice::Label;
+use threads_gates::with_category;
+
+/// The thread's label with the next category as its own, where it has room for it.
+fn own_label<S: Store>(state: &S, thread: ObjectId, meter: &mut Meter) -> Option<Label>
+    ensures value { result ≡ own_label (S.state state.now) thread }
+    ensures fit { IfSome result IsStored }
+{
+    let category = Category(state.next_category());
+    match state.label(thread) {
+        None => None,
+        Some(label) => with_category(label, category, Level::Star, meter),
+    }
+}
+
+/// Its clearance with the next category at 3, where it has room for it.
+fn own_clearance<S: Store>(state: &S, thread: ObjectId, meter: &mut Meter) -> Option<Label>
+    ensures value { result ≡ own_clearance (S.state state.now) thread }
+    ensures fit { IfSome result IsStored }
+{
+    let category = Category(state.next_category());
+    match state.clearance(thread) {
+        None => None,
+        Some(clearance) => with_category(clearance, category, Level::L3, meter),
+    }
+}
+
+fn is_full<S: Store>(state: &S, thread: ObjectId, meter: &mut Meter) -> bool
+    ensures { result ≡ (is_none (own_label (S.state state.now) thread)
+        || is_none (own_clearance (S.state state.now) thread)) }
+{
+    own_label(state, thread, meter).is_none() || own_clearance(state, thread, meter).is_none()
+}
+
+/// What refuses to make a category.
+pub fn refused_cat_create<S: Store>(
+    state: &S,
+    thread: ObjectId,
+    meter: &mut Meter,
+) -> Option<Refusal>
+    ensures { result ≡ refused (S.state state.now) thread call.CatCreate }
+{
+    let full = is_full(state, thread, meter);
+    let spent = 1 << 61 <= state.next_category();
+    refusal_of(&[
+        &halted(state, thread, meter),
+        &[(Refusal::LabelFull, full), (Refusal::Spent, spent)],
+    ])
+}
+
+/// Makes a category, which the thread owns.
+pub fn cat_create<S: Store>(state: &mut S, thread: ObjectId, meter: &mut Meter) -> Reply
+    requires { refused (S.state state.old) thread call.CatCreate ≡ None }
+    ensures reply { result ≡ accepted (S.state state.old) thread call.CatCreate }
+    ensures state { S.state state.new ≡ edit (S.state state.old) thread call.CatCreate }
+{
+    let category = Category(state.next_category());
+    let label = own_label(state, thread, meter);
+    let clearance = own_clearance(state, thread, meter);
+    state.own_category(thread, label, clearance);
+    Reply::Category(category)
+}

@@ -1,0 +1,227 @@
+//! The calls that make and enter gates.
+ghost use Rattle.std.specs.Prelude.{◌≡◌, ◌∷◌, [], None, IfOk, OnOk, OnErr, IfSome};
+ghost use Rattle.base.specs.declared.refusals.Refusal.TheVariants as refusal;
+ghost use Rattle.label_lattice.specs.Label.{IsStored};
+ghost use Rattle.threads_gates.specs.LabelRules.{may_enter, stored};
+ghost use Rattle.threads_gates.specs.declared.gates.Asked.{Asked};
+ghost use Rattle.threads_gates.specs.declared.gates.Bearer.{Bearer};
+ghost use Rattle.kernel_rules.specs.State.{gate_at};
+ghost use Rattle.label_lattice.specs.Raw.{is_bad_below};
+ghost use Rattle.kernel_rules.specs.Step.{accepted, edit, through_gate, told_by};
+ghost use Rattle.kernel_rules.specs.Table.{refused, own_bearer, gate_bearer};
+ghost use Rattle.kernel_rules.specs.declared.calls.Call.TheVariants as call;
+
+use base::{Kind, Meter, ObjectId, Refusal};
+use kernel_rules::{Entry, Gate, NewGate, Reply};
+use kernel_store::{
+    Condition, NewObject, Store, good_label, halted, in_container, new_bearer, of_kind, refusal_of,
+    space_entry,
+};
+use label_lattice::RawLabel;
+use threads_gates::{Asked, Bearer, may_enter, stored_of};
+
+/// What refuses to make a gate.
+pub fn refused_gate_create<S: Store>(
+    state: &S,
+    thread: ObjectId,
+    made: &NewGate,
+    meter: &mut Meter,
+) -> Option<Refusal>
+    ensures { result ≡ refused (S.state state.now) thread (call.GateCreate made.now) }
+{
+    let halted = halted(state, thread, meter);
+    let space = state.sight(thread, &made.space, meter);
+    let object = NewObject {
+        kind: Kind::Gate,
+        container: made.container,
+        quota: made.quota,
+        label: made.label,
+    };
+    refusal_of(&[
+        &halted,
+        &space_entry(&made.space, &space),
+        &new_bearer(state, thread, &object, &made.clearance, meter),
+    ])
+}
+
+/// Makes a gate. The error is want of memory, and nothing is changed then.
+pub fn gate_create<S: Store>(
+    state: &mut S,
+    thread: ObjectId,
+    made: &NewGate,
+    meter: &mut Meter,
+) -> Result<Reply, S::Want>
+    requires { refused (S.state state.old) thread (call.GateCreate made.now) ≡ None }
+    ensures reply { IfOk result (λ reply. reply ≡ accepted (S.state state.old) thread
+        (call.GateCreate made.now)) }
+    ensures ok { OnOk result (S.state state.new ≡ edit (S.state state.old) thread
+        (call.GateCreate made.now)) }
+    ensures err { OnErr result (S.state state.new ≡ S.state state.old) }
+{
+    let label = stored_of(&made.label, meter);
+    let Some(clearance) = stored_of(&made.clearance, meter) else {
+        return Ok(Reply::Object(state.next_id()));
+    };
+    let gate = Gate {
+        clearance,
+        space: made.space,
+        entry_point: made.entry_point,
+        closure: made.closure,
+    };
+    let id = state.create_gate(made.container, label, made.quota, gate)?;
+    Ok(Reply::Object(id))
+}
+
+fn own_bearer<S: Store>(state: &S, thread: ObjectId) -> Bearer
+    ensures { result ≡ own_bearer (S.state state.now) thread }
+{
+    Bearer {
+        label: state.label(thread).copied(),
+        clearance: state.clearance(thread).copied(),
+    }
+}
+
+fn gate_bearer<S: Store>(state: &S, gate: ObjectId) -> Bearer
+    ensures { result ≡ gate_bearer (S.state state.now) gate }
+{
+    let clearance = match state.gate(gate) {
+        None => None,
+        Some(gate) => Some(gate.clearance),
+    };
+    Bearer {
+        label: state.label(gate).copied(),
+        clearance,
+    }
+}
+
+fn is_open<S: Store>(
+    state: &S,
+    thread: ObjectId,
+    gate: ObjectId,
+    asked: &Asked,
+    meter: &mut Meter,
+) -> bool
+    ensures { result ≡ may_enter (own_bearer (S.state state.now) thread)
+        (gate_bearer (S.state state.now) gate) asked.now }
+{
+    let own = own_bearer(state, thread);
+    let gate = gate_bearer(state, gate);
+    may_enter(&own, &gate, asked, meter)
+}
+
+/// The three labels that a thread asks of a gate, as they are given.
+#[derive(Clone, Copy)]
+pub struct Entering {
+    /// Its new label.
+    pub label: RawLabel,
+    /// Its new clearance.
+    pub clearance: RawLabel,
+    /// The label that it proves to the gate's owner.
+    pub verify: RawLabel,
+}
+
+/// The three labels, where they can be stored.
+fn asked_of(entering: &Entering, meter: &mut Meter) -> Asked
+    ensures value { result ≡ record {
+      label = stored entering.now.label;
+      clearance = stored entering.now.clearance;
+      verify = stored entering.now.verify;
+    } }
+    ensures label { IfSome result.label IsStored }
+    ensures clearance { IfSome result.clearance IsStored }
+    ensures verify { IfSome result.verify IsStored }
+{
+    Asked {
+        label: stored_of(&entering.label, meter),
+        clearance: stored_of(&entering.clearance, meter),
+        verify: stored_of(&entering.verify, meter),
+    }
+}
+
+/// The raw label can be that of a thread, a clearance or a verify label.
+fn good_raw_label<S: Store>(state: &S, raw: &RawLabel, meter: &mut Meter) -> [Condition; 1]
+    ensures { result ≡ (refusal.BadLabel, is_bad_below (S.state state.now).next_category raw.now)
+        ∷ [] }
+{
+    let label = stored_of(raw, meter);
+    good_label(state, raw, label.as_ref())
+}
+
+/// What refuses to enter a gate.
+pub fn refused_gate_enter<S: Store>(
+    state: &S,
+    thread: ObjectId,
+    gate: &Entry,
+    entering: &Entering,
+    meter: &mut Meter,
+) -> Option<Refusal>
+    ensures { result ≡ refused (S.state state.now) thread
+        (call.GateEnter gate.now entering.now.label
+        entering.now.clearance entering.now.verify) }
+{
+    let halted = halted(state, thread, meter);
+    let seen = state.sight(thread, gate, meter);
+    let asked = asked_of(entering, meter);
+    let open = is_open(state, thread, gate.object, &asked, meter);
+    refusal_of(&[
+        &halted,
+        &in_container(&seen),
+        &of_kind(Kind::Gate, &seen.object),
+        &good_raw_label(state, &entering.label, meter),
+        &good_raw_label(state, &entering.clearance, meter),
+        &good_raw_label(state, &entering.verify, meter),
+        &[(Refusal::GateDenied, !open)],
+    ])
+}
+
+fn enter<S: Store>(state: &mut S, thread: ObjectId, asked: &Asked, gate: &Option<Gate>)
+    requires label { IfSome asked.now.label IsStored }
+    requires clearance { IfSome asked.now.clearance IsStored }
+    requires verify { IfSome asked.now.verify IsStored }
+    ensures { S.state state.new ≡ through_gate (S.state state.old) thread
+        asked.now.label asked.now.clearance asked.now.verify gate.now }
+{
+    if let Some(label) = asked.label {
+        if let Some(clearance) = asked.clearance {
+            if let Some(verify) = asked.verify {
+                if let Some(gate) = gate {
+                    state.enter(thread, label, clearance, verify, gate);
+                }
+            }
+        }
+    }
+}
+
+fn told_by(gate: &Option<Gate>) -> Reply
+    ensures { result ≡ told_by gate.now }
+{
+    match gate {
+        None => Reply::Done,
+        Some(gate) => Reply::Entered {
+            entry_point: gate.entry_point,
+            closure: gate.closure,
+        },
+    }
+}
+
+/// The thread enters a gate: it has the asked labels, and the gate's address space, entry point and
+/// closure.
+pub fn gate_enter<S: Store>(
+    state: &mut S,
+    thread: ObjectId,
+    gate: &Entry,
+    entering: &Entering,
+    meter: &mut Meter,
+) -> Reply
+    ensures reply { result ≡ accepted (S.state state.old) thread
+        (call.GateEnter gate.now entering.now.label
+        entering.now.clearance entering.now.verify) }
+    ensures state { S.state state.new ≡ edit (S.state state.old) thread
+        (call.GateEnter gate.now entering.now.label
+        entering.now.clearance entering.now.verify) }
+{
+    let asked = asked_of(entering, meter);
+    let entered = state.gate(gate.object);
+    enter(state, thread, &asked, &entered);
+    told_by(&entered)
+}

@@ -1,0 +1,95 @@
+//! The calls by which a thread changes its label and its clearance.
+ghost use Rattle.std.specs.Prelude.{◌≡◌, None, option_copied};
+ghost use Rattle.threads_gates.specs.LabelRules.{may_clear};
+ghost use Rattle.kernel_rules.specs.State.{label_at, clearance_at};
+ghost use Rattle.kernel_rules.specs.Step.{accepted, edit};
+ghost use Rattle.kernel_rules.specs.Table.{refused};
+ghost use Rattle.kernel_rules.specs.declared.calls.Call.TheVariants as call;
+
+use base::{Meter, ObjectId, Refusal};
+use kernel_rules::Reply;
+use kernel_store::{Store, good_label, halted, is_in_range, refusal_of};
+use label_lattice::{Label, RawLabel};
+use threads_gates::{may_clear, stored_of};
+
+/// What refuses a new own label.
+pub fn refused_self_set_label<S: Store>(
+    state: &S,
+    thread: ObjectId,
+    raw: &RawLabel,
+    meter: &mut Meter,
+) -> Option<Refusal>
+    ensures { result ≡ refused (S.state state.now) thread (call.SelfSetLabel raw.now) }
+{
+    let label = stored_of(raw, meter);
+    let label = label.as_ref();
+    let in_range = is_in_range(state, thread, label, meter);
+    refusal_of(&[
+        &halted(state, thread, meter),
+        &good_label(state, raw, label),
+        &[(Refusal::LabelRange, !in_range)],
+    ])
+}
+
+/// The thread has another label.
+pub fn self_set_label<S: Store>(
+    state: &mut S,
+    thread: ObjectId,
+    raw: &RawLabel,
+    meter: &mut Meter,
+) -> Reply
+    ensures reply { result ≡ accepted (S.state state.old) thread (call.SelfSetLabel raw.now) }
+    ensures state { S.state state.new
+        ≡ edit (S.state state.old) thread (call.SelfSetLabel raw.now) }
+{
+    let label = stored_of(raw, meter);
+    state.set_label(thread, label);
+    Reply::Done
+}
+
+fn may_clear_to<S: Store>(
+    state: &S,
+    thread: ObjectId,
+    asked: Option<&Label>,
+    meter: &mut Meter,
+) -> bool
+    ensures { result ≡ may_clear (label_at (S.state state.now) thread)
+        (clearance_at (S.state state.now) thread) (option_copied asked.entry) }
+{
+    may_clear(state.label(thread), state.clearance(thread), asked, meter)
+}
+
+/// What refuses a new own clearance.
+pub fn refused_self_set_clearance<S: Store>(
+    state: &S,
+    thread: ObjectId,
+    raw: &RawLabel,
+    meter: &mut Meter,
+) -> Option<Refusal>
+    ensures { result ≡ refused (S.state state.now) thread (call.SelfSetClearance raw.now) }
+{
+    let clearance = stored_of(raw, meter);
+    let clearance = clearance.as_ref();
+    let in_range = may_clear_to(state, thread, clearance, meter);
+    refusal_of(&[
+        &halted(state, thread, meter),
+        &good_label(state, raw, clearance),
+        &[(Refusal::ClearanceRange, !in_range)],
+    ])
+}
+
+/// The thread has another clearance.
+pub fn self_set_clearance<S: Store>(
+    state: &mut S,
+    thread: ObjectId,
+    raw: &RawLabel,
+    meter: &mut Meter,
+) -> Reply
+    ensures reply { result ≡ accepted (S.state state.old) thread (call.SelfSetClearance raw.now) }
+    ensures state { S.state state.new
+        ≡ edit (S.state state.old) thread (call.SelfSetClearance raw.now) }
+{
+    let clearance = stored_of(raw, meter);
+    state.set_clearance(thread, clearance);
+    Reply::Done
+}
