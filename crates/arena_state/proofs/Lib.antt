@@ -1,0 +1,15 @@
+pub mod RowLaws
+pub mod ListLaws
+pub mod LabelLaws
+pub mod RecordLaws
+pub mod SoundLaws
+pub mod EditLaws
+pub mod DeathLaws
+pub mod UnlinkLaws
+pub mod LeftLaws
+pub mod StepLaws
+pub mod RoomLaws
+pub mod CreateLaws
+pub mod CreatedLaws
+pub mod NewLaws
+pub mod BootLaws
