@@ -1,9 +1,9 @@
 -- A new object of a fresh record: what is made of it, and what stays true.
-use Rattle.std.proofs.Common.{◌≡◌, ℕ, true, ◌+◌, List, [], Option, sym, ◌∙◌, ap, subst}
+use Rattle.std.proofs.Common.{◌≡◌, ℕ, true, ◌+◌, ◌<◌, List, [], Option, refl, sym, ◌∙◌, ap, arith}
 use Rattle.label_intern.specs.declared.held.Held.{Held}
 use Rattle.label_intern.specs.Held.{label_of}
 use Rattle.label_intern.specs.Owners.{one_at, Takes}
-use Rattle.label_intern.proofs.OwnersLemmas.{takes_as}
+use Rattle.label_intern.proofs.OwnersLemmas.{takes_as, one_same}
 use Rattle.label_lattice.specs.Label.{LabelValue}
 use Rattle.containers.specs.Tree.{HasSlot}
 use Rattle.kernel_rules.specs.State.{own_cost}
@@ -40,3 +40,9 @@ module _ (p : Pieces) (s : IsSound p) (d quota : ℕ) (l : LabelValue) (b : Body
 
   pub new_state : pieces_state q ≡ made (pieces_state p) d (fresh_object l quota b)
   new_state = created_state p s d quota l b fits stored pslot at_d ls x q c claims_are object_is used_is
+
+-- a label that was stored just now stays as more are
+pub still : (a b c : List (Option Held)) (j : ℕ) (n : ℕ → ℕ) (l : LabelValue) → Takes a b (λ i. one_at i j) → label_of b j ≡ l → Takes b c n
+    → label_of c j ≡ l
+still a b c j n l first label then =
+    then.labels j (omega (arith, first.owners j, one_same j j refl)) ∙ label

@@ -1,7 +1,8 @@
 -- What of a record its kept use and its place in the pool of labels leave as it is.
-use Rattle.std.proofs.Common.{◌≡◌, ◌≢◌, ◌⊎◌, ℕ, zero, suc, ◌+◌, ◌-◌, ◌*◌, ◌<◌, ◌≤◌, Bool, true, false, cond, not, ◌||◌, ◌&&◌, ◌==◌, nat_lt, nat_le, List, [], ◌∷◌, ◌++◌, length, get_or, set, replicate, Option, Some, None, IfSome, IsSome, is_some, refl, sym, ◌∙◌, ap, subst, arith, sum_by, inl, inr, length-set, length-append}
+use Rattle.std.proofs.Common.{◌≡◌, ◌≢◌, ◌⊎◌, ℕ, zero, suc, ◌+◌, ◌-◌, ◌*◌, ◌/◌, ◌<◌, ◌≤◌, Bool, true, false, cond, not, ◌||◌, ◌&&◌, ◌==◌, nat_lt, nat_le, List, [], ◌∷◌, ◌++◌, length, get_or, set, replicate, Option, Some, None, IfSome, IsSome, is_some, refl, sym, ◌∙◌, ap, subst, arith, sum_by, inl, inr, length-set, length-append}
 use Rattle.std.specs.List.{filter}
 use Rattle.std.proofs.lemmas.Bool.{both_ways, eq-eqb}
+use Rattle.std.proofs.lemmas.List.{length-replicate}
 use Rattle.std.proofs.lemmas.List.Sums.{sum_by-cons}
 use Rattle.base.specs.Live.{has}
 use Rattle.base.specs.declared.kinds.Kind.TheVariants as kinds
@@ -200,3 +201,12 @@ sum_same_in f g (x ∷ xs) same =
     right : (a b : Bool) → b ≡ true → (a || b) ≡ true
     right true b h = refl
     right false b h = h
+
+-- a segment's own cost, from its pages
+pub segment_cost : (pages : ℕ) → 1 + pages ≡ own_cost (is.Segment (replicate (256 * pages) 0))
+segment_cost pages =
+    let long : length {A = ℕ} (replicate (256 * pages) 0) ≡ 256 * pages = length-replicate (256 * pages) 0 in
+    omega (arith, ap (λ (n : ℕ). n / 256) long, whole pages)
+  where
+    whole : (n : ℕ) → 256 * n / 256 ≡ n
+    whole n = omega arith

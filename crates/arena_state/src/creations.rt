@@ -1,5 +1,5 @@
 //! New objects.
-ghost use Rattle.std.specs.Prelude.{◌≡◌, ◌≤◌, ◌+◌, ◌*◌, [], replicate};
+ghost use Rattle.std.specs.Prelude.{◌≡◌, ◌≤◌, ◌+◌, ◌*◌, [], replicate, None};
 ghost use Rattle.label_lattice.specs.Label.{IsStored};
 ghost use Rattle.kernel_rules.specs.Changes.{made, fresh_object};
 ghost use Rattle.kernel_rules.specs.Fitting.{IsFitting};
@@ -33,6 +33,57 @@ impl ArenaState {
             Some(parent) => {
                 let label = self.pieces.holdings.labels.intern(label, meter);
                 let given = fresh_record(label, quota, Kept::Container(avoid, 1));
+                place(&mut self.pieces, container, parent, given, meter)
+            }
+            None => unreachable!(),
+        }
+    }
+
+    /// A new segment of so many pages of 0 gets the next id, as a container does.
+    pub fn create_segment(
+        &mut self,
+        container: ObjectId,
+        label: &Label,
+        quota: u32,
+        pages: u32,
+        meter: &mut Meter,
+    ) -> ObjectId
+        requires fitting { IsFitting (state_of self.old) container quota
+            (is.Segment (replicate (256 * pages) 0)) }
+        requires label { IsStored label.now }
+        ensures id { result ≡ (state_of self.old).next_id }
+        ensures state { state_of self.new ≡ made (state_of self.old) container
+            (fresh_object label.now quota (is.Segment (replicate (256 * pages) 0))) }
+    {
+        match self.slot(container, meter) {
+            Some(parent) => {
+                let label = self.pieces.holdings.labels.intern(label, meter);
+                let given = fresh_record(label, quota, Kept::Segment(pages));
+                place(&mut self.pieces, container, parent, given, meter)
+            }
+            None => unreachable!(),
+        }
+    }
+
+    /// A new address space of sixteen empty slots gets the next id, as a container does.
+    pub fn create_space(
+        &mut self,
+        container: ObjectId,
+        label: &Label,
+        quota: u32,
+        meter: &mut Meter,
+    ) -> ObjectId
+        requires fitting { IsFitting (state_of self.old) container quota
+            (is.AddressSpace (record { slots = replicate 16 None })) }
+        requires label { IsStored label.now }
+        ensures id { result ≡ (state_of self.old).next_id }
+        ensures state { state_of self.new ≡ made (state_of self.old) container
+            (fresh_object label.now quota (is.AddressSpace (record { slots = replicate 16 None }))) }
+    {
+        match self.slot(container, meter) {
+            Some(parent) => {
+                let label = self.pieces.holdings.labels.intern(label, meter);
+                let given = fresh_record(label, quota, Kept::AddressSpace);
                 place(&mut self.pieces, container, parent, given, meter)
             }
             None => unreachable!(),

@@ -6,6 +6,7 @@
 //! segment's bytes, an address space's slots and a device's packets become, is left to the crates above.
 #![tactic(auto)]
 
+mod bearers;
 mod boots;
 mod creations;
 mod holdings;
