@@ -14,10 +14,12 @@ use Rattle.kernel_rules.proofs.WellFormedLaws.{soundness_of}
 use Rattle.kernel_rules.proofs.PlaceLaws.{immutable_well_formed}
 use Rattle.arena_state.specs.declared.records.Record.{Record}
 use Rattle.arena_state.specs.declared.pieces.Pieces.{Pieces}
+use Rattle.arena_state.specs.declared.states.ArenaState.{ArenaState}
+use Rattle.arena_state.specs.States.{Shows}
 use Rattle.arena_state.specs.Assembled.{pieces_state, record_in, assembled, blank, body_use, use_in}
 use Rattle.arena_state.specs.Sound.{IsSound}
 use Rattle.arena_state.proofs.RowLaws.{row_place}
-use Rattle.arena_state.proofs.SoundLaws.{held_label_there, with_record, changed_state, record_sound, object_here, row_found, slot_within, list, was}
+use Rattle.arena_state.proofs.SoundLaws.{held_label_there, with_record, changed_state, record_sound, object_here, held_claim, row_found, slot_within, list, was}
 
 abbrev pub unwritable : Record → Record
 unwritable q = record q { immutable = true }
@@ -63,3 +65,13 @@ module _ (p : Pieces) (s : IsSound p) (id slot : ℕ) (h : HasSlot p.places id s
       (sym (changed_state p s id slot h (unwritable old) made_immutable refl))
       (immutable_well_formed (pieces_state p) id s.formed))
       (λ i. refl) refl)
+
+-- what a slot's record shows
+pub shown : (a : ArenaState) (id slot : ℕ) → HasSlot a.pieces.places id slot → Shows a id (record_in a.pieces.holdings.records.items slot)
+shown a id slot h = record {
+  list = (row_place a.pieces.places.lists a.pieces.places.slots h.place).list;
+  is = object_here a.pieces a.sound id slot h;
+  stored = λ i some. held_claim a.pieces a.sound id slot i h some;
+  used = kept_use_is a.pieces a.sound id slot h;
+  within = use_within a.pieces a.sound id slot h;
+}

@@ -12,6 +12,7 @@ mod creations;
 mod holdings;
 mod pieces;
 mod placing;
+mod reads;
 mod records;
 mod states;
 mod unlinks;
