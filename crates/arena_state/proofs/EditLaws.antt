@@ -72,6 +72,7 @@ shown a id slot h = record {
   list = (row_place a.pieces.places.lists a.pieces.places.slots h.place).list;
   is = object_here a.pieces a.sound id slot h;
   stored = λ i some. held_claim a.pieces a.sound id slot i h some;
+  named = held_label_there a.pieces a.sound id slot h;
   used = kept_use_is a.pieces a.sound id slot h;
   within = use_within a.pieces a.sound id slot h;
 }

@@ -9,7 +9,9 @@
 mod bearers;
 mod boots;
 mod creations;
+mod edits;
 mod holdings;
+mod label_tests;
 mod pieces;
 mod placing;
 mod reads;
