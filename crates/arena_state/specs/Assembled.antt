@@ -4,6 +4,7 @@ use Rattle.std.specs.Prelude.{slice_index_or, sum_by}
 use Rattle.label_intern.specs.declared.held.Held.{Held}
 use Rattle.label_intern.specs.Held.{label_of}
 use Rattle.label_intern.specs.Owners.{one_at}
+use Rattle.kernel_rules.specs.declared.calls.Entry.{Entry}
 use Rattle.kernel_rules.specs.declared.objects.Object.{Object}
 use Rattle.kernel_rules.specs.declared.objects.Body as body
 use Rattle.kernel_rules.specs.declared.objects.Body.TheVariants as is
@@ -134,3 +135,16 @@ fresh_record label quota body = record {
   metadata = replicate 64 0;
   body = body;
 }
+
+-- a body of another address space, where it is a thread's
+abbrev pub respaced : Entry → kept.Kept → kept.Kept
+respaced e (keeps.Container avoid used) = keeps.Container avoid used
+respaced e (keeps.Segment pages) = keeps.Segment pages
+respaced e keeps.AddressSpace = keeps.AddressSpace
+respaced e (keeps.Thread t) = keeps.Thread (record t { space = e })
+respaced e (keeps.Gate g) = keeps.Gate g
+respaced e keeps.Device = keeps.Device
+
+-- a record of another address space, where it is a thread's
+abbrev pub with_space : Entry → Record → Record
+with_space e r = record r { body = respaced e r.body }

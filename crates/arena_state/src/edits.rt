@@ -1,11 +1,11 @@
 //! Changes of one object that keep its labels, its place and its use. No label is scanned.
-ghost use Rattle.std.specs.Prelude.{◌≡◌, ◌≤◌, length};
-ghost use Rattle.kernel_rules.specs.Changes.{changed, made_fixed, made_immutable, noted, spaced};
+ghost use Rattle.std.specs.Prelude.{◌≡◌};
+ghost use Rattle.kernel_rules.specs.Changes.{changed, made_fixed, made_immutable, spaced};
 ghost use Rattle.arena_state.specs.States.{state_of};
 
-use crate::records::Kept;
+use crate::records::respace;
 use crate::states::ArenaState;
-use base::{Data, Meter, ObjectId};
+use base::{Meter, ObjectId};
 use kernel_rules::Entry;
 
 impl ArenaState {
@@ -27,6 +27,17 @@ impl ArenaState {
     {
         match self.slot(id, meter) {
             Some(slot) => self.pieces.holdings.records[slot.0].fixed = true,
+            None => {}
+        }
+    }
+
+    /// A thread gets this address space.
+    pub fn set_space(&mut self, thread: ObjectId, space: Entry, meter: &mut Meter)
+        ensures state { state_of self.new ≡ changed (state_of self.old) thread (spaced space) }
+        ensures scans { meter.new.scans ≡ meter.old.scans }
+    {
+        match self.slot(thread, meter) {
+            Some(slot) => respace(&mut self.pieces.holdings.records[slot.0], space),
             None => {}
         }
     }

@@ -1,6 +1,6 @@
 //! What a slot keeps of its object.
 ghost use Rattle.std.specs.Prelude.{◌≡◌, ◌+◌, ◌-◌, ◌≤◌};
-ghost use Rattle.arena_state.specs.Assembled.{body_use, fresh_record, with_use};
+ghost use Rattle.arena_state.specs.Assembled.{body_use, fresh_record, with_space, with_use};
 
 use base::{Data, TypeSet};
 use kernel_rules::Entry;
@@ -100,5 +100,14 @@ pub fn discharge(given: &mut Record, pages: u32)
 {
     if let Kept::Container(_, used) = &mut given.body {
         *used -= pages;
+    }
+}
+
+/// A thread has another address space. No other record changes.
+pub fn respace(given: &mut Record, space: Entry)
+    ensures { given.new ≡ with_space space given.old }
+{
+    if let Kept::Thread(thread) = &mut given.body {
+        thread.space = space;
     }
 }
