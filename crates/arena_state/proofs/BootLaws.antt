@@ -1,10 +1,10 @@
--- The root alone is sound.
+-- The newly booted state is sound.
 use Rattle.std.proofs.Common.{◌≡◌, ℕ, ◌+◌, ◌*◌, ◌<◌, ◌≤◌, Bool, true, false, cond, ◌&&◌, ◌||◌, ◌==◌, nat_lt, nat_le, List, [], ◌∷◌, length, get_or, set, replicate, Option, Some, None, refl, sym, ◌∙◌, ap, subst, arith, sum_by, inl, inr, length-set}
 use Rattle.std.specs.List.{list_all}
 use Rattle.std.specs.Ordering.{nat_cmp}
 use Rattle.std.specs.Map.{lookup}
 use Rattle.std.specs.BTreeMap.{is_at}
-use Rattle.std.proofs.lemmas.Bool.{leb-true, and_parts, cases_Bool, cases_lt, eq-eqb, both_ways, eqb-true, and_from}
+use Rattle.std.proofs.lemmas.Bool.{leb-true, or_cases, and_parts, cases_Bool, cases_lt, eq-eqb, both_ways, eqb-true, and_from}
 use Rattle.std.proofs.lemmas.List.{get_or-set_same, get_or-set_other, get_or_past, length-replicate, get_or-replicate}
 use Rattle.std.proofs.lemmas.List.Sums.{sum_by-cons}
 use Rattle.base.specs.Limits.{in_range}
@@ -21,12 +21,16 @@ use Rattle.kernel_rules.specs.State.{State, lists_of, use_of, quota_at, of_objec
 use Rattle.kernel_rules.specs.Changes.{fresh_object}
 use Rattle.kernel_rules.specs.WellFormed.{is_well_formed, is_stored, is_kept}
 use Rattle.kernel_rules.specs.declared.objects.Body.TheVariants as is
-use Rattle.kernel_rules.proofs.WellFormedLaws.{well_formed_from}
+use Rattle.kernel_rules.specs.Runs.{booted, root_object, boot_thread, device_object}
+use Rattle.kernel_rules.specs.Step.{uniform}
+use Rattle.kernel_rules.proofs.BootLaws.{booted_well_formed}
+use Rattle.object_arena.specs.Objects.{Apart}
+use Rattle.base.specs.declared.levels.Level.TheVariants.{L1, L2, L3}
 use Rattle.arena_state.specs.declared.records.Record.{Record}
 use Rattle.arena_state.specs.declared.records.Kept.TheVariants as keeps
 use Rattle.arena_state.specs.declared.pieces.Pieces.{Pieces}
 use Rattle.arena_state.specs.Rows.{Row, rows_of}
-use Rattle.arena_state.specs.Assembled.{pieces_state, objects_in, object_in, record_in, assembled, blank, claims, claims_in, use_in, body_use}
+use Rattle.arena_state.specs.Assembled.{pieces_state, objects_in, object_in, record_in, assembled, blank, fresh_record, fresh_thread, claims, claims_in, use_in, body_use}
 use Rattle.arena_state.specs.Sound.{IsSound}
 use Rattle.arena_state.proofs.RowLaws.{at_is}
 
@@ -40,144 +44,133 @@ some_pages l h =
         (and_parts _ _ (and_parts _ _ (and_parts _ _ (and_parts _ _ (and_parts _ _ h).0).0).0).0).0).0 in
     omega arith
 
-empty_first : (n i : ℕ) → held_at (replicate n None) i ≡ None
+pub empty_first : (n i : ℕ) → held_at (replicate n None) i ≡ None
 empty_first n i = elim (cases_lt i n) [
   | inl within ↦ get_or-replicate n i None None within
   | inr past ↦ get_or_past (replicate n None) i None (omega (arith, past, length-replicate {A = Option Held} n None))
 ]
 
--- the pool in which one label was stored
-pub first_label : (n index : ℕ) (l : LabelValue) (old new : List (Option Held)) → old ≡ replicate n None
-    → new ≡ set old index (raised (held_at old index) l) → new ≡ set (replicate n None) index (raised None l)
-first_label n index l old new empty after =
-    after ∙ (λ i. set (empty i) index (raised (held_at (empty i) index) l))
-    ∙ ap (λ (v : Option Held). set (replicate n None) index (raised v l)) (empty_first n index)
+-- the links of a boot lead to later ids
+climbing : (a b : ℕ) → links ((1, 2 ∷ 3 ∷ []) ∷ (2, []) ∷ (3, []) ∷ []) a b ≡ true → a < b
+climbing a b h = elim (or_cases (a == 1 && has (2 ∷ 3 ∷ []) b) ((a == 2 && false) || ((a == 3 && false) || false)) h) [
+  | inl here ↦
+      let parts = and_parts (a == 1) (has (2 ∷ 3 ∷ []) b) here in
+      let first : a ≡ 1 = eqb-true a 1 parts.0 in
+      elim (or_cases (b == 2) ((b == 3) || false) parts.1) [
+        | inl two ↦ let e = eqb-true b 2 two in omega arith
+        | inr rest ↦ elim (or_cases (b == 3) false rest) [
+          | inl three ↦ let e = eqb-true b 3 three in omega arith
+          | inr bad ↦ absurd (both_ways false refl bad)
+        ]
+      ]
+  | inr there ↦ absurd (both_ways _ (unlinked (a == 2) (a == 3)) there)
+]
+  where
+    unlinked : (x y : Bool) → ((x && false) || ((y && false) || false)) ≡ false
+    unlinked true true = refl
+    unlinked true false = refl
+    unlinked false true = refl
+    unlinked false false = refl
 
-module _ (p : Pieces) (l : LabelValue) (slot index : ℕ) (stored : is_stored l ≡ true)
-    (some : 1 ≤ p.limits.pages) (begun : 4 ≤ p.next_id)
-    (lists : p.places.lists ≡ (1, []) ∷ []) (slots : p.places.slots ≡ slot ∷ []) (tree : IsWellFormed p.places)
-    (cells : length p.places.cells ≡ p.limits.pages) (within : slot < p.limits.pages)
-    (x : Record) (x_is : x ≡ record {
-      label = record { 0 = index };
-      quota = p.limits.pages;
-      fixed = false;
-      immutable = false;
-      metadata = replicate 64 0;
-      body = keeps.Container (record { 0 = 0 }) 1;
-    })
-    (records : p.holdings.records.items ≡ replicate p.limits.pages x)
-    (index_in : index < 3 * p.limits.pages + 3)
-    (labels : p.holdings.labels ≡ set (replicate (3 * p.limits.pages + 3) None) index (raised None l)) where
-  abbrev alone : State
-  alone = record {
-    limits = p.limits;
-    objects = (1, fresh_object l p.limits.pages (is.Container (record { 0 = 0 }) [])) ∷ [];
-    next_id = p.next_id;
-    next_category = p.next_category;
-  }
+module _ (p : Pieces) (root thread clearance verify device s1 s2 s3 : ℕ) (ok : in_range p.limits ≡ true)
+    (next_id : p.next_id ≡ p.limits.next_id) (next_category : p.next_category ≡ p.limits.next_category)
+    (lists : p.places.lists ≡ (1, 2 ∷ 3 ∷ []) ∷ (2, []) ∷ (3, []) ∷ []) (slots : p.places.slots ≡ s1 ∷ s2 ∷ s3 ∷ [])
+    (tree : IsWellFormed p.places) (cells : length p.places.cells ≡ p.limits.pages)
+    (x1 x2 x3 : Record) (x1_is : x1 ≡ fresh_record root p.limits.pages (keeps.Container (record { 0 = 0 }) 4))
+    (x2_is : x2 ≡ fresh_record thread 1 (keeps.Thread (fresh_thread clearance verify 0)))
+    (x3_is : x3 ≡ fresh_record device 2 keeps.Device)
+    (records : p.holdings.records.items ≡ set (set (replicate p.limits.pages x1) s2 x2) s3 x3)
+    (pool : length p.holdings.labels ≡ 3 * p.limits.pages + 3)
+    (owners : (i : ℕ) → owners_in (held_at p.holdings.labels i)
+    ≡ one_at i root + (one_at i thread + (one_at i clearance + one_at i verify)) + one_at i device)
+    (l1 : label_of p.holdings.labels root ≡ uniform L1) (l2 : label_of p.holdings.labels thread ≡ uniform L1)
+    (l3 : label_of p.holdings.labels clearance ≡ uniform L2) (l4 : label_of p.holdings.labels verify ≡ uniform L3)
+    (l5 : label_of p.holdings.labels device ≡ uniform p.limits.device) where
+  apart : Apart (s1 ∷ s2 ∷ s3 ∷ [])
+  apart = subst (λ (xs : List ℕ). Apart xs) slots tree.apart
 
-  abbrev none : List (Option Held)
-  none = replicate (3 * p.limits.pages + 3) None
+  within : (k : ℕ) → k < 3 → get_or (s1 ∷ s2 ∷ s3 ∷ []) k 0 < p.limits.pages
+  within k lt =
+      let long : length p.places.slots ≡ 3 = ap (λ (xs : List ℕ). length xs) slots in
+      let there : get_or p.places.slots k 0 < length p.places.cells = tree.within k (omega arith) in
+      omega (arith, ap (λ (xs : List ℕ). get_or xs k 0) slots, cells)
 
-  label_is : label_of p.holdings.labels index ≡ l
-  label_is = ap (λ (ls : List (Option Held)). label_of ls index) labels
-      ∙ ap label_in (get_or-set_same (replicate (3 * p.limits.pages + 3) None) index (raised None l) None
-      (omega (arith, index_in, length-replicate {A = Option Held} (3 * p.limits.pages + 3) None)))
+  sizes : (length (replicate p.limits.pages x1) ≡ p.limits.pages) × (length (set (replicate p.limits.pages x1) s2 x2) ≡ p.limits.pages)
+  sizes = (length-replicate p.limits.pages x1, length-set (replicate p.limits.pages x1) s2 x2 ∙ length-replicate p.limits.pages x1)
 
-  record_is : record_in p.holdings.records.items slot ≡ x
-  record_is = ap (λ (rs : List Record). record_in rs slot) records ∙ get_or-replicate p.limits.pages slot x blank within
+  at : (k : ℕ) → record_in p.holdings.records.items k ≡ record_in (set (set (replicate p.limits.pages x1) s2 x2) s3 x3) k
+  at k = ap (λ (rs : List Record). record_in rs k) records
 
-  pub alone_state : pieces_state p ≡ alone
-  alone_state =
-      (λ i. record (pieces_state p) {
-        objects = objects_in p.holdings (rows_of (lists i) (slots i));
-      })
+  first : record_in p.holdings.records.items s1 ≡ fresh_record root p.limits.pages (keeps.Container (record { 0 = 0 }) 4)
+  first = at s1 ∙ get_or-set_other (set (replicate p.limits.pages x1) s2 x2) s3 s1 x3 blank (apart 0 2 (omega arith) (omega arith))
+      ∙ get_or-set_other (replicate p.limits.pages x1) s2 s1 x2 blank (apart 0 1 (omega arith) (omega arith))
+      ∙ get_or-replicate p.limits.pages s1 x1 blank (within 0 (omega arith)) ∙ x1_is
+
+  second : record_in p.holdings.records.items s2 ≡ fresh_record thread 1 (keeps.Thread (fresh_thread clearance verify 0))
+  second = at s2 ∙ get_or-set_other (set (replicate p.limits.pages x1) s2 x2) s3 s2 x3 blank (apart 1 2 (omega arith) (omega arith))
+      ∙ get_or-set_same (replicate p.limits.pages x1) s2 x2 blank (omega (arith, within 1 (omega arith), sizes.0)) ∙ x2_is
+
+  third : record_in p.holdings.records.items s3 ≡ fresh_record device 2 keeps.Device
+  third = at s3 ∙ get_or-set_same (set (replicate p.limits.pages x1) s2 x2) s3 x3 blank (omega (arith, within 2 (omega arith), sizes.1)) ∙ x3_is
+
+  abbrev ls : List (Option Held)
+  ls = p.holdings.labels
+
+  pub booted_state : pieces_state p ≡ booted p.limits
+  booted_state =
+      (λ i. record (pieces_state p) { objects = objects_in p.holdings (rows_of (lists i) (slots i)) })
       ∙ (λ i. record (pieces_state p) {
-        objects = (1, assembled p.holdings.labels ((record_is ∙ x_is) i) []) ∷ [];
+        objects = (1, assembled ls (first i) (2 ∷ 3 ∷ [])) ∷ (2, assembled ls (second i) []) ∷ (3, assembled ls (third i) []) ∷ [];
       })
-      ∙ (λ i. record (pieces_state p) {
-        objects = (1, fresh_object (label_is i) p.limits.pages (is.Container (record { 0 = 0 }) [])) ∷ [];
+      ∙ (λ i. record {
+        limits = p.limits;
+        objects = (1, fresh_object (l1 i) p.limits.pages (is.Container (record { 0 = 0 }) (2 ∷ 3 ∷ [])))
+        ∷ (2, fresh_object (l2 i) 1 (is.Thread (record {
+          clearance = l3 i;
+          verify = l4 i;
+          space = record { container = 0; object = 0 };
+          entry_point = 0;
+          closure = 0;
+        })))
+        ∷ (3, fresh_object (l5 i) 2 (is.Device [])) ∷ [];
+        next_id = next_id i;
+        next_category = next_category i;
       })
 
-  alone_formed : is_well_formed alone ≡ true
-  unfolding is_live
-  alone_formed = well_formed_from alone (record {
-    begun = three p.next_id begun;
-    live = refl;
-    given = and_from (nat_lt 1 p.next_id) true (one p.next_id begun) refl;
-    rise = refl;
-    kept = (λ i. (true && true && at_least p.limits.pages some i && true && (stored i && true && true)) && true) ∙ refl;
-  })
+  owned : (i : ℕ) → owners_in (held_at ls i) ≡ claims_in p.holdings.records.items p.places.slots i
+  owned i =
+      let f : ℕ → ℕ = λ k. claims i (record_in p.holdings.records.items k) in
+      let all : claims_in p.holdings.records.items p.places.slots i ≡ sum_by f (s1 ∷ s2 ∷ s3 ∷ []) = ap (sum_by f) slots in
+      omega (arith, owners i, all, sum_by-cons f s1 (s2 ∷ s3 ∷ []), sum_by-cons f s2 (s3 ∷ []), sum_by-cons f s3 [],
+      ap (claims i) first, ap (claims i) second, ap (claims i) third)
+
+  uses : (o : ℕ) → use_in p.holdings.records.items (lookup (is_at (nat_cmp o)) (rows_of p.places.lists p.places.slots)) ≡ use_of (pieces_state p) o
+  uses o =
+      (λ i. use_in p.holdings.records.items (lookup (is_at (nat_cmp o)) (rows_of (lists i) (slots i))))
+      ∙ split (is_at (nat_cmp o) 1) (is_at (nat_cmp o) 2) (is_at (nat_cmp o) 3)
+      ∙ sym (ap (λ (z : State). use_of z o) booted_state)
     where
-      three : (n : ℕ) → 4 ≤ n → nat_lt 3 n ≡ true
-      three n h = grind arith
+      split : (a b c : Bool) → use_in p.holdings.records.items
+          (cond a (Some (record { slot = s1; list = 2 ∷ 3 ∷ [] })) (cond b (Some (record { slot = s2; list = [] })) (cond c (Some (record { slot = s3; list = [] })) None)))
+          ≡ of_object 0 (λ z. own_cost z.body) (cond a (Some (root_object p.limits)) (cond b (Some boot_thread) (cond c (Some (device_object p.limits)) None)))
+          + sum_by (quota_at (booted p.limits)) (of_object [] (λ z. listed z.body)
+          (cond a (Some (root_object p.limits)) (cond b (Some boot_thread) (cond c (Some (device_object p.limits)) None))))
+      split true b c = ap (λ (z : Record). body_use z.body) first
+      split false true c = ap (λ (z : Record). body_use z.body) second
+      split false false true = ap (λ (z : Record). body_use z.body) third
+      split false false false = refl
 
-      one : (n : ℕ) → 4 ≤ n → nat_lt 1 n ≡ true
-      one n h = grind arith
-
-      at_least : (n : ℕ) → 1 ≤ n → nat_le 1 n ≡ true
-      at_least n h = grind arith
-
-  pub alone_sound : IsSound p
-  alone_sound = record {
-    formed = subst (λ (z : State). is_well_formed z ≡ true) (sym alone_state) alone_formed;
+  pub booted_sound : IsSound p
+  booted_sound = record {
+    formed = subst (λ (z : State). is_well_formed z ≡ true) (sym booted_state) (booted_well_formed p.limits ok);
     tree = tree;
-    lists = ap (λ (z : State). lists_of z.objects) alone_state ∙ sym lists;
+    lists = ap (λ (z : State). lists_of z.objects) booted_state ∙ sym lists;
     owned = owned;
     uses = uses;
-    climbs = λ a b kind link. absurd (both_ways (links ((1, []) ∷ []) a b) (unlinked (a == 1))
-        (ap (λ (t : List (ℕ × List ℕ)). links t a b) (sym lists) ∙ link));
+    climbs = λ a b kind link. climbing a b (ap (λ (t : List (ℕ × List ℕ)). links t a b) (sym lists) ∙ link);
     cells = cells;
-    records = ap (λ (rs : List Record). length rs) records ∙ length-replicate p.limits.pages x;
-    pool = ap (λ (ls : List (Option Held)). length ls) labels ∙ length-set (replicate (3 * p.limits.pages + 3) None) index (raised None l)
-        ∙ length-replicate (3 * p.limits.pages + 3) None;
+    records = ap (λ (rs : List Record). length rs) records ∙ length-set (set (replicate p.limits.pages x1) s2 x2) s3 x3 ∙ sizes.1;
+    pool = pool;
     rooted = ap (λ (t : List (ℕ × List ℕ)). has (ids_in t) 1) lists;
-    root = ap (λ (z : State). quota_at z 1) alone_state;
+    root = ap (λ (z : State). quota_at z 1) booted_state;
   }
-    where
-      unlinked : (b : Bool) → ((b && false) || false) ≡ false
-      unlinked true = refl
-      unlinked false = refl
-
-      empty_at : (n i : ℕ) → held_at (replicate n None) i ≡ None
-      empty_at n i = elim (cases_lt i n) [
-        | inl within ↦ get_or-replicate n i None None within
-        | inr past ↦ get_or_past (replicate n None) i None (omega (arith, past, length-replicate {A = Option Held} n None))
-      ]
-
-      owned : (i : ℕ) → owners_in (held_at p.holdings.labels i)
-          ≡ claims_in p.holdings.records.items p.places.slots i
-      owned i =
-          let right : claims_in p.holdings.records.items p.places.slots i ≡ claims_in p.holdings.records.items (slot ∷ []) i
-          = ap (λ (xs : List ℕ). claims_in p.holdings.records.items xs i) slots in
-          let one = sum_by-cons (λ (k : ℕ). claims i (record_in p.holdings.records.items k)) slot [] in
-          let here : claims i (record_in p.holdings.records.items slot) ≡ one_at i index + 0 = ap (claims i) (record_is ∙ x_is) in
-          let left : owners_in (held_at p.holdings.labels i) ≡ one_at i index
-          = ap (λ (ls : List (Option Held)). owners_in (held_at ls i)) labels
-          ∙ elim (cases_Bool (i == index)) [
-            | inl is ↦
-                ap (λ (j : ℕ). owners_in (held_at (set (replicate (3 * p.limits.pages + 3) None) index (raised None l)) j)) (eqb-true i index is)
-                ∙ ap owners_in (get_or-set_same (replicate (3 * p.limits.pages + 3) None) index (raised None l) None
-                (omega (arith, index_in, length-replicate {A = Option Held} (3 * p.limits.pages + 3) None)))
-                ∙ sym (ap {B = ℕ} (λ (b : Bool). cond b 1 0) is)
-            | inr off ↦
-                ap owners_in (get_or-set_other (replicate (3 * p.limits.pages + 3) None) index i (raised None l) None
-                (λ (e : i ≡ index). both_ways (i == index) off (eq-eqb i index e))
-                ∙ empty_at (3 * p.limits.pages + 3) i)
-                ∙ sym (ap {B = ℕ} (λ (b : Bool). cond b 1 0) off)
-          ] in
-          omega (arith, right, one, here, left)
-
-      uses : (o : ℕ) → use_in p.holdings.records.items
-          (lookup (is_at (nat_cmp o)) (rows_of p.places.lists p.places.slots)) ≡ use_of (pieces_state p) o
-      uses o =
-          (λ i. use_in p.holdings.records.items (lookup (is_at (nat_cmp o)) (rows_of (lists i) (slots i))))
-          ∙ elim (is_at (nat_cmp o) 1)
-          as (λ v. use_in p.holdings.records.items (cond v (Some (record { slot = slot; list = [] })) None)
-          ≡ of_object 0 (λ z. own_cost z.body) (cond v (Some (fresh_object l p.limits.pages (is.Container (record { 0 = 0 }) []))) None)
-          + sum_by (quota_at alone) (of_object [] (λ z. listed z.body)
-          (cond v (Some (fresh_object l p.limits.pages (is.Container (record { 0 = 0 }) []))) None))) [
-            | true ↦ ap (λ (z : Record). body_use z.body) (record_is ∙ x_is)
-            | false ↦ refl
-          ]
-          ∙ sym (ap (λ (z : State). use_of z o) alone_state)

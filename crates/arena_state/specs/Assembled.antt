@@ -10,6 +10,7 @@ use Rattle.kernel_rules.specs.declared.objects.Body as body
 use Rattle.kernel_rules.specs.declared.objects.Body.TheVariants as is
 use Rattle.kernel_rules.specs.State.{State}
 use Rattle.arena_state.specs.declared.records.Record.{Record}
+use Rattle.arena_state.specs.declared.records.KeptThread.{KeptThread}
 use Rattle.arena_state.specs.declared.records.Kept as kept
 use Rattle.arena_state.specs.declared.records.Kept.TheVariants as keeps
 use Rattle.arena_state.specs.declared.holdings.Holdings.{Holdings}
@@ -148,3 +149,13 @@ respaced e keeps.Device = keeps.Device
 -- a record of another address space, where it is a thread's
 abbrev pub with_space : Entry → Record → Record
 with_space e r = record r { body = respaced e r.body }
+
+-- a new thread, which has no address space
+abbrev pub fresh_thread : ℕ → ℕ → ℕ → KeptThread
+fresh_thread clearance verify entry_point = record {
+  clearance = record { 0 = clearance };
+  verify = record { 0 = verify };
+  space = record { container = 0; object = 0 };
+  entry_point = entry_point;
+  closure = 0;
+}

@@ -1,34 +1,19 @@
 //! New threads and gates, which store labels beside their own.
-ghost use Rattle.std.specs.Prelude.{◌≡◌, false, ◌==◌};
-ghost use Rattle.base.specs.Level.{rank_of};
+ghost use Rattle.std.specs.Prelude.{◌≡◌};
 ghost use Rattle.label_lattice.specs.Label.{IsStored};
 ghost use Rattle.kernel_rules.specs.Changes.{made, fresh_object};
 ghost use Rattle.kernel_rules.specs.Fitting.{IsFitting};
-ghost use Rattle.kernel_rules.specs.Step.{new_thread, uniform};
+ghost use Rattle.kernel_rules.specs.Step.{new_thread};
 ghost use Rattle.kernel_rules.specs.declared.objects.Body.TheVariants as is;
 ghost use Rattle.arena_state.specs.States.{state_of};
 
 use crate::placing::place;
-use crate::records::{Kept, KeptGate, KeptThread, fresh_record};
+use crate::records::{Kept, KeptGate, fresh_record, kept_thread};
+use crate::uniform::uniform;
 use crate::states::ArenaState;
 use base::{Level, Meter, ObjectId};
-use kernel_rules::{Entry, Gate};
-use label_lattice::{Label, Pairs, RawLabel};
-
-// The label that gives each category this level, which is not star.
-fn uniform(level: Level, meter: &mut Meter) -> Label
-    requires { (rank_of level == 0) ≡ false }
-    ensures { result ≡ uniform level }
-{
-    let raw = RawLabel {
-        default: level,
-        pairs: Pairs::new(),
-    };
-    match Label::from_raw(&raw, meter) {
-        Ok(label) => label,
-        Err(_) => unreachable!(),
-    }
-}
+use kernel_rules::Gate;
+use label_lattice::Label;
 
 impl ArenaState {
     /// A new thread of a label and a clearance, without an address space, gets the next id, as a container does. It
@@ -55,16 +40,7 @@ impl ArenaState {
                 let label = self.pieces.holdings.labels.intern(label, meter);
                 let clearance = self.pieces.holdings.labels.intern(clearance, meter);
                 let verify = self.pieces.holdings.labels.intern(&top, meter);
-                let thread = KeptThread {
-                    clearance,
-                    verify,
-                    space: Entry {
-                        container: ObjectId::new(0),
-                        object: ObjectId::new(0),
-                    },
-                    entry_point,
-                    closure: 0,
-                };
+                let thread = kept_thread(clearance, verify, entry_point);
                 let given = fresh_record(label, quota, Kept::Thread(thread));
                 place(&mut self.pieces, container, parent, given, meter)
             }

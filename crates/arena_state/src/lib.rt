@@ -17,6 +17,7 @@ mod placing;
 mod reads;
 mod records;
 mod states;
+mod uniform;
 mod unlinks;
 mod uses;
 

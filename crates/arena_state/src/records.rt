@@ -1,8 +1,8 @@
 //! What a slot keeps of its object.
 ghost use Rattle.std.specs.Prelude.{◌≡◌, ◌+◌, ◌-◌, ◌≤◌};
-ghost use Rattle.arena_state.specs.Assembled.{body_use, fresh_record, with_space, with_use};
+ghost use Rattle.arena_state.specs.Assembled.{body_use, fresh_record, fresh_thread, with_space, with_use};
 
-use base::{Data, TypeSet};
+use base::{Data, ObjectId, TypeSet};
 use kernel_rules::Entry;
 use label_intern::LabelIx;
 
@@ -79,6 +79,22 @@ pub fn fresh_record(label: LabelIx, quota: u32, body: Kept) -> Record
         immutable: false,
         metadata: Data::from_slice(&[0; 64]),
         body,
+    }
+}
+
+/// A new thread, which has no address space.
+pub fn kept_thread(clearance: LabelIx, verify: LabelIx, entry_point: u64) -> KeptThread
+    ensures { result ≡ fresh_thread clearance.0 verify.0 entry_point }
+{
+    KeptThread {
+        clearance,
+        verify,
+        space: Entry {
+            container: ObjectId::new(0),
+            object: ObjectId::new(0),
+        },
+        entry_point,
+        closure: 0,
     }
 }
 

@@ -49,27 +49,27 @@ pub invariant_of-self : goal.invariant_of-self
 invariant_of-self c = record {
   sound = new_sound c.args.self.now.pieces c.args.self.now.sound c.args.container c.args.quota c.args.label.now (new_thread c.args.clearance.now c.args.entry_point)
       c.requires.fitting (stored_test c.args.label.now c.requires.label)
-      c.in-Some.parent.0 c.in-Some.ensures.found.has c.intern-verify.new.self c.intern-label.result.0 (keeps.Thread (record { clearance = c.intern-clearance.result; verify = c.intern-verify.result; space = record { container = c.new.result; object = c.new-in-Some.result }; entry_point = c.args.entry_point; closure = 0 }))
+      c.in-Some.parent.0 c.in-Some.ensures.found.has c.intern-verify.new.self c.intern-label.result.0 (keeps.Thread c.kept_thread-thread.result)
       c.fresh_record-given.result c.fresh_record-given.ensures c.place.new.pieces c.place.ensures.placed
-      (takes_as _ _ _ _ (λ i. omega arith) (takes_then _ _ _ _ _ (takes_then _ _ _ _ _ c.intern-label.ensures.takes c.intern-clearance.ensures.takes) c.intern-verify.ensures.takes)) (still _ _ _ _ _ _ c.intern-label.ensures.takes c.intern-label.ensures.given (takes_then _ _ _ _ _ c.intern-clearance.ensures.takes c.intern-verify.ensures.takes)) (λ i. is.Thread (record {
+      (takes_as _ _ _ _ (λ i. rw c.kept_thread-thread.ensures (omega arith)) (takes_then _ _ _ _ _ (takes_then _ _ _ _ _ c.intern-label.ensures.takes c.intern-clearance.ensures.takes) c.intern-verify.ensures.takes)) (still _ _ _ _ _ _ c.intern-label.ensures.takes c.intern-label.ensures.given (takes_then _ _ _ _ _ c.intern-clearance.ensures.takes c.intern-verify.ensures.takes)) (rw c.kept_thread-thread.ensures (λ i. is.Thread (record {
         clearance = still _ _ _ _ _ _ c.intern-clearance.ensures.takes c.intern-clearance.ensures.given c.intern-verify.ensures.takes i;
         verify = (c.intern-verify.ensures.given ∙ c.uniform-top.ensures) i;
-        space = record { container = c.new.ensures i; object = c.new-in-Some.ensures i };
+        space = record { container = 0; object = 0 };
         entry_point = c.args.entry_point;
         closure = 0;
-      })) (refl);
+      }))) (refl);
 }
 
 pub returns-clause-state : goal.returns-clause-state
 returns-clause-state c =
     new_state c.args.self.now.pieces c.args.self.now.sound c.args.container c.args.quota c.args.label.now (new_thread c.args.clearance.now c.args.entry_point)
     c.requires.fitting (stored_test c.args.label.now c.requires.label)
-    c.in-Some.parent.0 c.in-Some.ensures.found.has c.intern-verify.new.self c.intern-label.result.0 (keeps.Thread (record { clearance = c.intern-clearance.result; verify = c.intern-verify.result; space = record { container = c.new.result; object = c.new-in-Some.result }; entry_point = c.args.entry_point; closure = 0 }))
+    c.in-Some.parent.0 c.in-Some.ensures.found.has c.intern-verify.new.self c.intern-label.result.0 (keeps.Thread c.kept_thread-thread.result)
     c.fresh_record-given.result c.fresh_record-given.ensures c.place.new.pieces c.place.ensures.placed
-    (takes_as _ _ _ _ (λ i. omega arith) (takes_then _ _ _ _ _ (takes_then _ _ _ _ _ c.intern-label.ensures.takes c.intern-clearance.ensures.takes) c.intern-verify.ensures.takes)) (still _ _ _ _ _ _ c.intern-label.ensures.takes c.intern-label.ensures.given (takes_then _ _ _ _ _ c.intern-clearance.ensures.takes c.intern-verify.ensures.takes)) (λ i. is.Thread (record {
+    (takes_as _ _ _ _ (λ i. rw c.kept_thread-thread.ensures (omega arith)) (takes_then _ _ _ _ _ (takes_then _ _ _ _ _ c.intern-label.ensures.takes c.intern-clearance.ensures.takes) c.intern-verify.ensures.takes)) (still _ _ _ _ _ _ c.intern-label.ensures.takes c.intern-label.ensures.given (takes_then _ _ _ _ _ c.intern-clearance.ensures.takes c.intern-verify.ensures.takes)) (rw c.kept_thread-thread.ensures (λ i. is.Thread (record {
       clearance = still _ _ _ _ _ _ c.intern-clearance.ensures.takes c.intern-clearance.ensures.given c.intern-verify.ensures.takes i;
       verify = (c.intern-verify.ensures.given ∙ c.uniform-top.ensures) i;
-      space = record { container = c.new.ensures i; object = c.new-in-Some.ensures i };
+      space = record { container = 0; object = 0 };
       entry_point = c.args.entry_point;
       closure = 0;
-    })) (refl)
+    }))) (refl)
