@@ -12,4 +12,6 @@ pub mod RoomLaws
 pub mod CreateLaws
 pub mod CreatedLaws
 pub mod NewLaws
+pub mod RebindLaws
+pub mod BindLaws
 pub mod BootLaws

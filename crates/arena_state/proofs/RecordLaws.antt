@@ -116,57 +116,54 @@ cost_same a b n r l m = of_body r.body
     of_body (keeps.Gate g) = refl
     of_body keeps.Device = refl
 
+pub mine : (j n : ℕ) → 0 < one_at j j + n
+mine j n =
+    let one : one_at j j ≡ 1 = ap {B = ℕ} (λ (b : Bool). cond b 1 0) (eq-eqb j j refl) in
+    omega arith
+
+pub further : (m n : ℕ) → 0 < n → 0 < m + n
+further m n h = omega arith
+
+alone : (j : ℕ) → 0 < one_at j j
+alone j = let one = mine j 0 in omega arith
+
+last : (j n : ℕ) → 0 < n + one_at j j
+last j n = let one = mine j 0 in omega arith
+
+-- a body is the same in pools that agree on what it names
+pub body_same : (a b : List (Option Held)) (x : kept.Kept) (l : List ℕ) → ((j : ℕ) → 0 < body_claims j x → label_of a j ≡ label_of b j)
+    → body_of a x l ≡ body_of b x l
+body_same a b (keeps.Container avoid used) l h = refl
+body_same a b (keeps.Segment pages) l h = refl
+body_same a b keeps.AddressSpace l h = refl
+body_same a b (keeps.Thread t) l h =
+    let first : label_of a t.clearance.0 ≡ label_of b t.clearance.0 = h t.clearance.0 (mine t.clearance.0 (one_at t.clearance.0 t.verify.0)) in
+    let second : label_of a t.verify.0 ≡ label_of b t.verify.0 = h t.verify.0 (last t.verify.0 (one_at t.verify.0 t.clearance.0)) in
+    (λ i. is.Thread (record {
+      clearance = first i;
+      verify = second i;
+      space = t.space;
+      entry_point = t.entry_point;
+      closure = t.closure;
+    }))
+body_same a b (keeps.Gate g) l h =
+    let first : label_of a g.clearance.0 ≡ label_of b g.clearance.0 = h g.clearance.0 (alone g.clearance.0) in
+    (λ i. is.Gate (record {
+      clearance = first i;
+      space = g.space;
+      entry_point = g.entry_point;
+      closure = g.closure;
+    }))
+body_same a b keeps.Device l h = refl
+
 -- an object is the same in pools that agree on what its record names
 pub assembled_same : (a b : List (Option Held)) (r : Record) (l : List ℕ)
     → ((i : ℕ) → 0 < claims i r → label_of a i ≡ label_of b i) → assembled a r l ≡ assembled b r l
 assembled_same a b r l same =
     (λ i. record (assembled a r l) {
       label = same r.label.0 (mine r.label.0 (body_claims r.label.0 r.body)) i;
-      body = of_body r.body (λ j more. same j (further (one_at j r.label.0) (body_claims j r.body) more)) i;
+      body = body_same a b r.body l (λ j more. same j (further (one_at j r.label.0) (body_claims j r.body) more)) i;
     })
-  where
-    mine : (j n : ℕ) → 0 < one_at j j + n
-    mine j n =
-        let one : one_at j j ≡ 1 = ap {B = ℕ} (λ (b : Bool). cond b 1 0) (eq-eqb j j refl) in
-        omega arith
-
-    further : (m n : ℕ) → 0 < n → 0 < m + n
-    further m n h = omega arith
-
-    of_body : (x : kept.Kept) → ((j : ℕ) → 0 < body_claims j x → label_of a j ≡ label_of b j)
-        → body_of a x l ≡ body_of b x l
-    of_body (keeps.Container avoid used) h = refl
-    of_body (keeps.Thread t) h =
-        let first : label_of a t.clearance.0 ≡ label_of b t.clearance.0 = h t.clearance.0 (mine t.clearance.0 (one_at t.clearance.0 t.verify.0)) in
-        let second : label_of a t.verify.0 ≡ label_of b t.verify.0 = h t.verify.0 (last t.verify.0 (one_at t.verify.0 t.clearance.0)) in
-        (λ i. is.Thread (record {
-          clearance = first i;
-          verify = second i;
-          space = t.space;
-          entry_point = t.entry_point;
-          closure = t.closure;
-        }))
-      where
-        last : (j n : ℕ) → 0 < n + one_at j j
-        last j n =
-            let one : one_at j j ≡ 1 = ap {B = ℕ} (λ (b : Bool). cond b 1 0) (eq-eqb j j refl) in
-            omega arith
-    of_body (keeps.Segment pages) h = refl
-    of_body keeps.AddressSpace h = refl
-    of_body (keeps.Gate g) h =
-        let first : label_of a g.clearance.0 ≡ label_of b g.clearance.0 = h g.clearance.0 (alone g.clearance.0) in
-        (λ i. is.Gate (record {
-          clearance = first i;
-          space = g.space;
-          entry_point = g.entry_point;
-          closure = g.closure;
-        }))
-      where
-        alone : (j : ℕ) → 0 < one_at j j
-        alone j =
-            let one : one_at j j ≡ 1 = ap {B = ℕ} (λ (b : Bool). cond b 1 0) (eq-eqb j j refl) in
-            omega arith
-    of_body keeps.Device h = refl
 
 pub same_use : (b : kept.Kept) → reuse (body_use b) b ≡ b
 same_use (keeps.Container avoid used) = refl

@@ -121,3 +121,10 @@ slots_fit p s d q b l fits stored =
               (then ∙ ap (λ (v : Bool). cond v (Some (listing state.next_id at.object)) (object_at state 1)) off ∙ r.found) in
           omega (arith, bound.0, size, long, r.quota)
     ]
+
+-- so three indexes of labels are free for what one call stores
+pub labels_free : (p : Pieces) (s : IsSound p) → owned p.holdings.labels + 3 ≤ length p.holdings.labels
+labels_free p s =
+    let r = root_at p s in
+    let b = root_bounds (pieces_state p) r.root s.formed r.found in
+    omega (arith, labels_owned p s, b.0, objects_length p s, r.quota, s.pool, s.tree.beside)

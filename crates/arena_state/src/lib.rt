@@ -7,6 +7,7 @@
 #![tactic(auto)]
 
 mod bearers;
+mod bindings;
 mod boots;
 mod creations;
 mod edits;
