@@ -15,3 +15,4 @@ pub mod NewLaws
 pub mod RebindLaws
 pub mod BindLaws
 pub mod BootLaws
+pub mod ViewLaws

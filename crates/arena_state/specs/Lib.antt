@@ -4,3 +4,4 @@ pub mod Sound
 pub mod States
 pub mod Deaths
 pub mod Creations
+pub mod Kept
