@@ -1,5 +1,5 @@
 -- An object of another label.
-use Rattle.std.proofs.Common.{◌≡◌, ◌<◌, ◌+◌, ℕ, List, Option, refl, sym, ◌∙◌, ap, subst, arith}
+use Rattle.std.proofs.Common.{◌≡◌, ◌+◌, ℕ, List, Option, refl, sym, ◌∙◌, ap, subst, arith}
 use Rattle.label_lattice.specs.Label.{LabelValue, IsStored}
 use Rattle.containers.specs.Tree.{HasSlot}
 use Rattle.label_intern.specs.declared.held.Held.{Held}
@@ -12,7 +12,7 @@ use Rattle.kernel_rules.proofs.StoredLaws.{stored_test}
 use Rattle.kernel_rules.proofs.ThreadLaws.{labelled_keeps, labelled_well_formed}
 use Rattle.arena_state.specs.declared.records.Record.{Record}
 use Rattle.arena_state.specs.declared.pieces.Pieces.{Pieces}
-use Rattle.arena_state.specs.Assembled.{pieces_state, record_in, assembled, claims, body_claims, body_use}
+use Rattle.arena_state.specs.Assembled.{pieces_state, record_in, assembled, claims, body_claims}
 use Rattle.arena_state.specs.Sound.{IsSound}
 use Rattle.arena_state.proofs.RecordLaws.{body_same, mine, further}
 use Rattle.arena_state.proofs.RowLaws.{row_place}
@@ -36,12 +36,12 @@ module _ (p : Pieces) (s : IsSound p) (id slot : ℕ) (h : HasSlot p.places id s
   object : assembled ls (relabelled was) list ≡ labelled l (assembled p.holdings.labels was list)
   object =
       let label : label_of ls new ≡ l = lets.labels new
-          (owned_here p s id slot h (relabelled was) mid ls (λ i. one_at i new) (λ i. one_at i old) takes lets balance new (mine new (body_claims new was.body)))
-          ∙ given in
+      (owned_here p s id slot h (relabelled was) mid ls (λ i. one_at i new) (λ i. one_at i old) takes lets balance new (mine new (body_claims new was.body)))
+      ∙ given in
       let body = body_same ls p.holdings.labels was.body list
-          (λ j some. label_kept p s id slot h (relabelled was) mid ls (λ i. one_at i new) (λ i. one_at i old) takes lets balance j
-          (owned_before p s id slot h (relabelled was) mid ls (λ i. one_at i new) (λ i. one_at i old) takes lets balance j (further (one_at j was.label.0) (body_claims j was.body) some))
-          (owned_here p s id slot h (relabelled was) mid ls (λ i. one_at i new) (λ i. one_at i old) takes lets balance j (further (one_at j new) (body_claims j was.body) some))) in
+      (λ j some. label_kept p s id slot h (relabelled was) mid ls (λ i. one_at i new) (λ i. one_at i old) takes lets balance j
+      (owned_before p s id slot h (relabelled was) mid ls (λ i. one_at i new) (λ i. one_at i old) takes lets balance j (further (one_at j was.label.0) (body_claims j was.body) some))
+      (owned_here p s id slot h (relabelled was) mid ls (λ i. one_at i new) (λ i. one_at i old) takes lets balance j (further (one_at j new) (body_claims j was.body) some))) in
       (λ i. record (assembled p.holdings.labels was list) { label = label i; body = body i })
 
   keeps : (x : Object) → KeepsPlace x (labelled l x)

@@ -1,25 +1,22 @@
 -- The newly booted state is sound.
-use Rattle.std.proofs.Common.{◌≡◌, ℕ, ◌+◌, ◌*◌, ◌<◌, ◌≤◌, Bool, true, false, cond, ◌&&◌, ◌||◌, ◌==◌, nat_lt, nat_le, List, [], ◌∷◌, length, get_or, set, replicate, Option, Some, None, refl, sym, ◌∙◌, ap, subst, arith, sum_by, inl, inr, length-set}
-use Rattle.std.specs.List.{list_all}
+use Rattle.std.proofs.Common.{◌≡◌, ℕ, ◌+◌, ◌*◌, ◌<◌, ◌≤◌, Bool, true, false, cond, ◌&&◌, ◌||◌, ◌==◌, List, [], ◌∷◌, length, get_or, set, replicate, Option, Some, None, refl, sym, ◌∙◌, ap, subst, arith, sum_by, inl, inr, length-set}
 use Rattle.std.specs.Ordering.{nat_cmp}
 use Rattle.std.specs.Map.{lookup}
 use Rattle.std.specs.BTreeMap.{is_at}
-use Rattle.std.proofs.lemmas.Bool.{leb-true, or_cases, and_parts, cases_Bool, cases_lt, eq-eqb, both_ways, eqb-true, and_from}
+use Rattle.std.proofs.lemmas.Bool.{leb-true, or_cases, and_parts, cases_lt, both_ways, eqb-true}
 use Rattle.std.proofs.lemmas.List.{get_or-set_same, get_or-set_other, get_or_past, length-replicate, get_or-replicate}
 use Rattle.std.proofs.lemmas.List.Sums.{sum_by-cons}
 use Rattle.base.specs.Limits.{in_range}
 use Rattle.base.specs.declared.ranges.Limits.{Limits}
-use Rattle.base.specs.Live.{has, links, is_live, are_live}
-use Rattle.base.specs.declared.kinds.Kind.TheVariants as kinds
+use Rattle.base.specs.Live.{has, links}
 use Rattle.containers.specs.Tree.{ids_in}
 use Rattle.containers.specs.WellFormed.{IsWellFormed}
 use Rattle.label_intern.specs.declared.held.Held.{Held}
-use Rattle.label_intern.specs.Held.{held_at, owners_in, raised, label_in, label_of}
+use Rattle.label_intern.specs.Held.{held_at, owners_in, label_of}
 use Rattle.label_intern.specs.Owners.{one_at}
-use Rattle.label_lattice.specs.Label.{LabelValue}
 use Rattle.kernel_rules.specs.State.{State, lists_of, use_of, quota_at, of_object, own_cost, listed}
 use Rattle.kernel_rules.specs.Changes.{fresh_object}
-use Rattle.kernel_rules.specs.WellFormed.{is_well_formed, is_stored, is_kept}
+use Rattle.kernel_rules.specs.WellFormed.{is_well_formed}
 use Rattle.kernel_rules.specs.declared.objects.Body.TheVariants as is
 use Rattle.kernel_rules.specs.Runs.{booted, root_object, boot_thread, device_object}
 use Rattle.kernel_rules.specs.Step.{uniform}
@@ -29,10 +26,9 @@ use Rattle.base.specs.declared.levels.Level.TheVariants.{L1, L2, L3}
 use Rattle.arena_state.specs.declared.records.Record.{Record}
 use Rattle.arena_state.specs.declared.records.Kept.TheVariants as keeps
 use Rattle.arena_state.specs.declared.pieces.Pieces.{Pieces}
-use Rattle.arena_state.specs.Rows.{Row, rows_of}
-use Rattle.arena_state.specs.Assembled.{pieces_state, objects_in, object_in, record_in, assembled, blank, fresh_record, fresh_thread, claims, claims_in, use_in, body_use}
+use Rattle.arena_state.specs.Rows.{rows_of}
+use Rattle.arena_state.specs.Assembled.{pieces_state, objects_in, record_in, assembled, blank, fresh_record, fresh_thread, claims, claims_in, use_in, body_use}
 use Rattle.arena_state.specs.Sound.{IsSound}
-use Rattle.arena_state.proofs.RowLaws.{at_is}
 
 pub first_next : (l : Limits) → in_range l ≡ true → 4 ≤ l.next_id
 first_next l h = leb-true 4 l.next_id (and_parts _ _ (and_parts _ _ (and_parts _ _ (and_parts _ _ h).0).0).0).1
@@ -40,8 +36,8 @@ first_next l h = leb-true 4 l.next_id (and_parts _ _ (and_parts _ _ (and_parts _
 pub some_pages : (l : Limits) → in_range l ≡ true → 1 ≤ l.pages
 some_pages l h =
     let eight : 8 ≤ l.pages = leb-true 8 l.pages
-        (and_parts _ _
-        (and_parts _ _ (and_parts _ _ (and_parts _ _ (and_parts _ _ (and_parts _ _ h).0).0).0).0).0).0 in
+    (and_parts _ _
+    (and_parts _ _ (and_parts _ _ (and_parts _ _ (and_parts _ _ (and_parts _ _ h).0).0).0).0).0).0 in
     omega arith
 
 pub empty_first : (n i : ℕ) → held_at (replicate n None) i ≡ None
@@ -125,14 +121,17 @@ module _ (p : Pieces) (root thread clearance verify device s1 s2 s3 : ℕ) (ok :
       ∙ (λ i. record {
         limits = p.limits;
         objects = (1, fresh_object (l1 i) p.limits.pages (is.Container (record { 0 = 0 }) (2 ∷ 3 ∷ [])))
-        ∷ (2, fresh_object (l2 i) 1 (is.Thread (record {
-          clearance = l3 i;
-          verify = l4 i;
-          space = record { container = 0; object = 0 };
-          entry_point = 0;
-          closure = 0;
-        })))
-        ∷ (3, fresh_object (l5 i) 2 (is.Device [])) ∷ [];
+            ∷ (
+              2,
+              fresh_object (l2 i) 1 (is.Thread (record {
+                clearance = l3 i;
+                verify = l4 i;
+                space = record { container = 0; object = 0 };
+                entry_point = 0;
+                closure = 0;
+              })),
+            )
+            ∷ (3, fresh_object (l5 i) 2 (is.Device [])) ∷ [];
         next_id = next_id i;
         next_category = next_category i;
       })
@@ -141,8 +140,17 @@ module _ (p : Pieces) (root thread clearance verify device s1 s2 s3 : ℕ) (ok :
   owned i =
       let f : ℕ → ℕ = λ k. claims i (record_in p.holdings.records.items k) in
       let all : claims_in p.holdings.records.items p.places.slots i ≡ sum_by f (s1 ∷ s2 ∷ s3 ∷ []) = ap (sum_by f) slots in
-      omega (arith, owners i, all, sum_by-cons f s1 (s2 ∷ s3 ∷ []), sum_by-cons f s2 (s3 ∷ []), sum_by-cons f s3 [],
-      ap (claims i) first, ap (claims i) second, ap (claims i) third)
+      omega (
+        arith,
+        owners i,
+        all,
+        sum_by-cons f s1 (s2 ∷ s3 ∷ []),
+        sum_by-cons f s2 (s3 ∷ []),
+        sum_by-cons f s3 [],
+        ap (claims i) first,
+        ap (claims i) second,
+        ap (claims i) third,
+      )
 
   uses : (o : ℕ) → use_in p.holdings.records.items (lookup (is_at (nat_cmp o)) (rows_of p.places.lists p.places.slots)) ≡ use_of (pieces_state p) o
   uses o =

@@ -1,49 +1,42 @@
 -- A new object among sound pieces: its state.
-use Rattle.std.proofs.Common.{◌≡◌, ◌≢◌, ◌⊎◌, ℕ, zero, suc, ◌+◌, ◌-◌, ◌*◌, ◌<◌, ◌≤◌, Bool, true, false, cond, not, ◌||◌, ◌&&◌, ◌==◌, nat_lt, nat_le, List, [], ◌∷◌, ◌++◌, length, get_or, set, replicate, Option, Some, None, IfSome, IsSome, is_some, refl, sym, ◌∙◌, ap, subst, arith, sum_by, inl, inr, length-set, length-append}
-use Rattle.std.specs.Prelude.{map, All}
+use Rattle.std.proofs.Common.{◌≡◌, ◌≢◌, ℕ, zero, suc, ◌+◌, ◌<◌, ◌≤◌, Bool, true, false, cond, ◌==◌, nat_lt, List, [], ◌∷◌, ◌++◌, length, get_or, set, Option, Some, IsSome, is_some, refl, sym, ◌∙◌, ap, subst, arith, inl, inr, length-set}
+use Rattle.std.specs.Prelude.{All}
 use Rattle.std.specs.List.{list_all}
 use Rattle.std.specs.Ordering.{nat_cmp}
 use Rattle.std.specs.Map.{lookup, set_value}
 use Rattle.std.specs.BTreeMap.{is_at}
-use Rattle.std.proofs.lemmas.Bool.{cases_Bool, cases_eq, both_ways, eqb-true, eq-eqb, and_parts, ltb-true}
-use Rattle.std.proofs.lemmas.List.{get_or-set_same, get_or-set_other, get_or_read, get_or_default}
-use Rattle.std.proofs.lemmas.Option.{none-some, same_Some}
-use Rattle.std.proofs.lemmas.List.Sums.{sum_by_push}
-use Rattle.base.specs.Live.{has, links}
+use Rattle.std.proofs.lemmas.Bool.{cases_Bool, cases_eq, both_ways, eqb-true, and_parts, ltb-true}
+use Rattle.std.proofs.lemmas.List.{get_or-set_same, get_or-set_other}
+use Rattle.std.proofs.lemmas.Option.{same_Some}
+use Rattle.base.specs.Live.{has}
 use Rattle.base.specs.declared.kinds.Kind.TheVariants as kinds
-use Rattle.base.specs.declared.ranges.Limits.{Limits}
-use Rattle.object_arena.specs.Objects.{Rises}
-use Rattle.containers.specs.Tree.{Tree, ids_in, list_of, add_lists, link_count, HasSlot, record_at}
-use Rattle.containers.specs.WellFormed.{IsWellFormed}
-use Rattle.containers.proofs.Views.{has_at, at_has}
-use Rattle.containers.proofs.Lists.{no_room, ids_added, list_at_place, links_last, has_first, links_added}
+use Rattle.containers.specs.Tree.{ids_in, list_of, add_lists, link_count, HasSlot, record_at}
+use Rattle.containers.proofs.Views.{has_at}
+use Rattle.containers.proofs.Lists.{ids_added, list_at_place}
 use Rattle.label_intern.specs.declared.held.Held.{Held}
 use Rattle.label_intern.specs.Held.{held_at, owners_in, owned, label_of}
 use Rattle.label_intern.specs.Owners.{Takes}
 use Rattle.label_lattice.specs.Label.{LabelValue}
-use Rattle.kernel_rules.specs.State.{State, object_at, of_object, use_of, quota_at, cost_at, list_at, own_cost, is_kind_at, is_kind, lists_of, listed}
+use Rattle.kernel_rules.specs.State.{of_object, use_of, quota_at, own_cost, is_kind, lists_of, listed}
 use Rattle.kernel_rules.specs.Changes.{listing, made, fresh_object}
 use Rattle.kernel_rules.specs.Fitting.{IsFitting}
-use Rattle.kernel_rules.specs.WellFormed.{is_stored, is_well_formed, is_kept}
+use Rattle.kernel_rules.specs.WellFormed.{is_stored}
 use Rattle.kernel_rules.specs.declared.objects.Object.{Object}
 use Rattle.kernel_rules.specs.declared.objects.Body.{Body}
-use Rattle.kernel_rules.proofs.GrownLaws.{Making, making_from, made_is, grown, grown_other, use_other, use_here, use_new}
-use Rattle.kernel_rules.proofs.ListerLaws.{kept_parts}
-use Rattle.kernel_rules.proofs.LookupLaws.{all_at}
-use Rattle.kernel_rules.proofs.MadeLaws.{made_well_formed}
+use Rattle.kernel_rules.proofs.GrownLaws.{making_from, made_is}
 use Rattle.kernel_rules.proofs.ListingLaws.{container_at}
 use Rattle.kernel_rules.proofs.WellFormedLaws.{soundness_of}
 use Rattle.arena_state.specs.declared.records.Record.{Record}
 use Rattle.arena_state.specs.declared.pieces.Pieces.{Pieces}
 use Rattle.arena_state.specs.Rows.{Row, rows_of}
-use Rattle.arena_state.specs.Assembled.{pieces_state, object_in, record_in, assembled, blank, claims, claims_in, body_use, use_in, with_use}
-use Rattle.arena_state.specs.Creations.{IsPlaced, charged}
+use Rattle.arena_state.specs.Assembled.{pieces_state, object_in, record_in, assembled, blank, claims, body_use, use_in, with_use}
+use Rattle.arena_state.specs.Creations.{IsPlaced}
 use Rattle.arena_state.specs.Sound.{IsSound}
-use Rattle.arena_state.proofs.RowLaws.{row_place, row_at, row_none, seen, at_is, rows_last, seen_last, found_last, other_last}
+use Rattle.arena_state.proofs.RowLaws.{row_place, seen, rows_last, seen_last}
 use Rattle.arena_state.proofs.LabelLaws.{at_most_sum}
-use Rattle.arena_state.proofs.SoundLaws.{row_found, object_here, object_none, slot_within, apart_at}
-use Rattle.arena_state.proofs.ListLaws.{by_id, rows_by_id, sum_places, add_is_set}
-use Rattle.arena_state.proofs.RecordLaws.{use_unseen, use_claims, assembled_same, relisted, listed_container, same_use, set_use}
+use Rattle.arena_state.proofs.SoundLaws.{row_found, object_here, slot_within}
+use Rattle.arena_state.proofs.ListLaws.{by_id, rows_by_id, add_is_set}
+use Rattle.arena_state.proofs.RecordLaws.{use_unseen, assembled_same, relisted, listed_container, same_use}
 use Rattle.arena_state.proofs.UnlinkLaws.{row_slot, slot_at}
 use Rattle.arena_state.proofs.RoomLaws.{labels_owned, links_fit, slots_fit}
 
@@ -156,18 +149,20 @@ module _ (p : Pieces) (s : IsSound p) (d quota : ℕ) (l : LabelValue) (b : Body
   pub record_kept : (y : ℕ) → y ≢ c.slot → (n : ℕ) × (record_in q.holdings.records.items y
       ≡ with_use n (record_in p.holdings.records.items y))
   record_kept y off = elim (cases_eq y pslot) [
-    | inl same ↦
-        (body_use parent.body + quota,
-        ap (record_in q.holdings.records.items) same ∙ record_parent
-        ∙ ap (λ (j : ℕ). with_use (body_use parent.body + quota) (record_in p.holdings.records.items j)) (sym same))
-    | inr far ↦
-        (body_use (record_in p.holdings.records.items y).body,
-        ap (λ (rs : List Record). record_in rs y) c.records
-        ∙ get_or-set_other (set p.holdings.records.items c.slot x) pslot y _ blank far
-        ∙ get_or-set_other p.holdings.records.items c.slot y x blank off
-        ∙ sym (λ i. record (record_in p.holdings.records.items y) {
-          body = same_use (record_in p.holdings.records.items y).body i;
-        }))
+    | inl same ↦ (
+      body_use parent.body + quota,
+      ap (record_in q.holdings.records.items) same ∙ record_parent
+          ∙ ap (λ (j : ℕ). with_use (body_use parent.body + quota) (record_in p.holdings.records.items j)) (sym same),
+    )
+    | inr far ↦ (
+      body_use (record_in p.holdings.records.items y).body,
+      ap (λ (rs : List Record). record_in rs y) c.records
+          ∙ get_or-set_other (set p.holdings.records.items c.slot x) pslot y _ blank far
+          ∙ get_or-set_other p.holdings.records.items c.slot y x blank off
+          ∙ sym (λ i. record (record_in p.holdings.records.items y) {
+            body = same_use (record_in p.holdings.records.items y).body i;
+          }),
+    )
   ]
 
   pub record_new : record_in q.holdings.records.items c.slot ≡ x
@@ -238,21 +233,21 @@ module _ (p : Pieces) (s : IsSound p) (d quota : ℕ) (l : LabelValue) (b : Body
       let making = making_from state d at (soundness_of state s.formed) in
       let was : at.object ≡ shape d (list_of p.places.lists d)
       = same_Some at.object (shape d (list_of p.places.lists d))
-          (sym at.found ∙ object_here p s d pslot at_d
-          ∙ ap (λ (j : ℕ). Some (assembled p.holdings.labels (record_in p.holdings.records.items j)
-          (row_place p.places.lists p.places.slots at_d.place).list)) (sym (slot_is d pslot at_d))
-          ∙ ap (λ (list : List ℕ). Some (shape d list))
-          (sym (ap (list_of p.places.lists) (sym at_d.id_is)
-          ∙ list_at_place p.places.lists at_d.place s.tree.rises at_d.within))) in
+      (sym at.found ∙ object_here p s d pslot at_d
+      ∙ ap (λ (j : ℕ). Some (assembled p.holdings.labels (record_in p.holdings.records.items j)
+      (row_place p.places.lists p.places.slots at_d.place).list)) (sym (slot_is d pslot at_d))
+      ∙ ap (λ (list : List ℕ). Some (shape d list))
+      (sym (ap (list_of p.places.lists) (sym at_d.id_is)
+      ∙ list_at_place p.places.lists at_d.place s.tree.rises at_d.within))) in
       let set_one : by_id shape grown_lists
       ≡ set_value (is_at (nat_cmp d)) state.objects (listing p.next_id at.object)
       = add_is_set shape p.places.lists d p.next_id s.tree.rises (there p s d quota l b fits stored pslot at_d)
-          ∙ ap (set_value (is_at (nat_cmp d)) (by_id shape p.places.lists))
-          (relisted p.holdings.labels (record_in p.holdings.records.items
-          (row_slot (lookup (is_at (nat_cmp d)) (rows_of p.places.lists p.places.slots))))
-          (list_of p.places.lists d) p.next_id ∙ ap (listing p.next_id) (sym was))
-          ∙ ap (λ (es : List (ℕ × Object)). set_value (is_at (nat_cmp d)) es (listing p.next_id at.object))
-          (sym old_objects) in
+      ∙ ap (set_value (is_at (nat_cmp d)) (by_id shape p.places.lists))
+      (relisted p.holdings.labels (record_in p.holdings.records.items
+      (row_slot (lookup (is_at (nat_cmp d)) (rows_of p.places.lists p.places.slots))))
+      (list_of p.places.lists d) p.next_id ∙ ap (listing p.next_id) (sym was))
+      ∙ ap (λ (es : List (ℕ × Object)). set_value (is_at (nat_cmp d)) es (listing p.next_id at.object))
+      (sym old_objects) in
       (λ i. record {
         limits = c.limits i;
         objects = (new_objects ∙ ap (λ (es : List (ℕ × Object)).

@@ -1,28 +1,25 @@
 -- A new object among sound pieces: they stay sound.
-use Rattle.std.proofs.Common.{◌≡◌, ◌≢◌, ◌⊎◌, ℕ, zero, suc, ◌+◌, ◌-◌, ◌*◌, ◌<◌, ◌≤◌, Bool, true, false, cond, not, ◌||◌, ◌&&◌, ◌==◌, nat_lt, nat_le, List, [], ◌∷◌, ◌++◌, length, get_or, set, replicate, Option, Some, None, IfSome, IsSome, is_some, refl, sym, ◌∙◌, ap, subst, arith, sum_by, inl, inr, length-set, length-append}
-use Rattle.std.specs.Prelude.{map, All}
+use Rattle.std.proofs.Common.{◌≡◌, ◌≢◌, ℕ, ◌+◌, ◌*◌, ◌<◌, Bool, true, false, cond, ◌==◌, List, [], length, get_or, set, Option, Some, None, is_some, refl, sym, ◌∙◌, ap, subst, arith, sum_by, inl, inr, length-set}
 use Rattle.std.specs.List.{list_all}
 use Rattle.std.specs.Ordering.{nat_cmp}
-use Rattle.std.specs.Map.{lookup, set_value}
+use Rattle.std.specs.Map.{lookup}
 use Rattle.std.specs.BTreeMap.{is_at}
-use Rattle.std.proofs.lemmas.Bool.{cases_Bool, cases_eq, both_ways, eqb-true, eq-eqb, and_parts, ltb-true}
-use Rattle.std.proofs.lemmas.List.{get_or-set_same, get_or-set_other, get_or_read, get_or_default}
-use Rattle.std.proofs.lemmas.Option.{none-some, same_Some}
+use Rattle.std.proofs.lemmas.Bool.{cases_Bool, cases_eq, both_ways, eqb-true, eq-eqb}
+use Rattle.std.proofs.lemmas.List.{get_or-set_other}
 use Rattle.std.proofs.lemmas.List.Sums.{sum_by_push}
 use Rattle.base.specs.Live.{has, links}
 use Rattle.base.specs.declared.kinds.Kind.TheVariants as kinds
 use Rattle.base.specs.declared.ranges.Limits.{Limits}
 use Rattle.object_arena.specs.Objects.{Rises}
-use Rattle.containers.specs.Tree.{Tree, ids_in, list_of, add_lists, link_count, HasSlot, record_at}
-use Rattle.containers.specs.WellFormed.{IsWellFormed}
-use Rattle.containers.proofs.Views.{has_at, at_has}
-use Rattle.containers.proofs.Lists.{no_room, ids_added, list_at_place, links_last, has_first, links_added}
+use Rattle.containers.specs.Tree.{ids_in, add_lists, HasSlot}
+use Rattle.containers.proofs.Views.{at_has}
+use Rattle.containers.proofs.Lists.{ids_added, links_last, has_first, links_added}
 use Rattle.label_intern.specs.declared.held.Held.{Held}
-use Rattle.label_intern.specs.Held.{held_at, owners_in, owned, label_of}
+use Rattle.label_intern.specs.Held.{held_at, owners_in}
 use Rattle.label_intern.specs.Owners.{Takes}
 use Rattle.label_lattice.specs.Label.{LabelValue}
-use Rattle.kernel_rules.specs.State.{State, object_at, of_object, use_of, quota_at, cost_at, list_at, own_cost, is_kind_at, is_kind, lists_of, listed}
-use Rattle.kernel_rules.specs.Changes.{listing, made, fresh_object}
+use Rattle.kernel_rules.specs.State.{State, object_at, of_object, use_of, quota_at, cost_at, list_at, own_cost, is_kind_at, is_kind, listed}
+use Rattle.kernel_rules.specs.Changes.{listing, fresh_object}
 use Rattle.kernel_rules.specs.Fitting.{IsFitting}
 use Rattle.kernel_rules.specs.WellFormed.{is_stored, is_well_formed, is_kept}
 use Rattle.kernel_rules.specs.declared.objects.Object.{Object}
@@ -35,17 +32,15 @@ use Rattle.kernel_rules.proofs.ListingLaws.{container_at}
 use Rattle.kernel_rules.proofs.WellFormedLaws.{soundness_of}
 use Rattle.arena_state.specs.declared.records.Record.{Record}
 use Rattle.arena_state.specs.declared.pieces.Pieces.{Pieces}
-use Rattle.arena_state.specs.Rows.{Row, rows_of}
-use Rattle.arena_state.specs.Assembled.{pieces_state, object_in, record_in, assembled, blank, claims, claims_in, body_use, use_in, with_use}
-use Rattle.arena_state.specs.Creations.{IsPlaced, charged}
+use Rattle.arena_state.specs.Rows.{rows_of}
+use Rattle.arena_state.specs.Assembled.{pieces_state, record_in, assembled, blank, claims, claims_in, body_use, use_in}
+use Rattle.arena_state.specs.Creations.{IsPlaced}
 use Rattle.arena_state.specs.Sound.{IsSound}
-use Rattle.arena_state.proofs.RowLaws.{row_place, row_at, row_none, seen, at_is, rows_last, seen_last, found_last, other_last}
-use Rattle.arena_state.proofs.LabelLaws.{at_most_sum}
-use Rattle.arena_state.proofs.SoundLaws.{row_found, object_here, object_none, slot_within, apart_at}
-use Rattle.arena_state.proofs.ListLaws.{by_id, rows_by_id, sum_places, add_is_set}
-use Rattle.arena_state.proofs.RecordLaws.{use_unseen, use_claims, assembled_same, relisted, listed_container, same_use, set_use}
-use Rattle.arena_state.proofs.UnlinkLaws.{row_slot, slot_at}
-use Rattle.arena_state.proofs.RoomLaws.{labels_owned, links_fit, slots_fit}
+use Rattle.arena_state.proofs.RowLaws.{row_place, row_at, row_none, at_is, rows_last, found_last, other_last}
+use Rattle.arena_state.proofs.SoundLaws.{row_found, object_here, object_none, apart_at}
+use Rattle.arena_state.proofs.ListLaws.{sum_places}
+use Rattle.arena_state.proofs.RecordLaws.{use_claims, set_use}
+use Rattle.arena_state.proofs.UnlinkLaws.{row_slot}
 use Rattle.arena_state.proofs.CreateLaws.{lookup_at, with_labels, below_next, there, use_is, other, record_kept, record_new, record_parent, created_state, long, lists_now, slot_is, is_container}
 
 module _ (p : Pieces) (s : IsSound p) (d quota : ℕ) (l : LabelValue) (b : Body) (fits : IsFitting (pieces_state p) d quota b)
@@ -63,10 +58,10 @@ module _ (p : Pieces) (s : IsSound p) (d quota : ℕ) (l : LabelValue) (b : Body
       let kept_same : sum_by (λ j. claims i (record_in q.holdings.records.items j)) p.places.slots
       ≡ sum_by (λ j. claims i (record_in p.holdings.records.items j)) p.places.slots
       = sum_places (λ j. claims i (record_in q.holdings.records.items j))
-          (λ j. claims i (record_in p.holdings.records.items j)) p.places.slots p.places.slots refl
-          (λ k lt.
-          let e = (record_kept p s d quota l b fits stored pslot at_d ls x q c takes object used) (get_or p.places.slots k 0) ((other p s d quota l b fits stored pslot at_d ls x q c takes object used) k lt) in
-          ap (claims i) e.1 ∙ use_claims i e.0 (record_in p.holdings.records.items (get_or p.places.slots k 0))) in
+      (λ j. claims i (record_in p.holdings.records.items j)) p.places.slots p.places.slots refl
+      (λ k lt.
+      let e = (record_kept p s d quota l b fits stored pslot at_d ls x q c takes object used) (get_or p.places.slots k 0) ((other p s d quota l b fits stored pslot at_d ls x q c takes object used) k lt) in
+      ap (claims i) e.1 ∙ use_claims i e.0 (record_in p.holdings.records.items (get_or p.places.slots k 0))) in
       let new : claims i (record_in q.holdings.records.items c.slot) ≡ claims i x
       = ap (claims i) (record_new p s d quota l b fits stored pslot at_d ls x q c takes object used) in
       let was = s.owned i in
@@ -130,10 +125,10 @@ module _ (p : Pieces) (s : IsSound p) (d quota : ℕ) (l : LabelValue) (b : Body
       let in_slots : at.0 < length p.places.slots = omega (arith, at.1, s.tree.beside) in
       let row : lookup_at (add_lists p.places.lists d p.next_id) p.places.slots i ≡ Some (row_place (add_lists p.places.lists d p.next_id) p.places.slots at.0)
       = subst (λ (j : ℕ). lookup_at (add_lists p.places.lists d p.next_id) p.places.slots j ≡ Some (row_place (add_lists p.places.lists d p.next_id) p.places.slots at.0))
-          (ap (λ (xs : List ℕ). get_or xs at.0 0) (ids_added p.places.lists d p.next_id) ∙ at.2)
-          (row_at (add_lists p.places.lists d p.next_id) p.places.slots at.0 (long p s d quota l b fits stored pslot at_d ls x q c takes object used)
-          (subst (λ (xs : List ℕ). Rises xs) (sym (ids_added p.places.lists d p.next_id)) s.tree.rises)
-          (omega (arith, in_slots, (long p s d quota l b fits stored pslot at_d ls x q c takes object used)))) in
+      (ap (λ (xs : List ℕ). get_or xs at.0 0) (ids_added p.places.lists d p.next_id) ∙ at.2)
+      (row_at (add_lists p.places.lists d p.next_id) p.places.slots at.0 (long p s d quota l b fits stored pslot at_d ls x q c takes object used)
+      (subst (λ (xs : List ℕ). Rises xs) (sym (ids_added p.places.lists d p.next_id)) s.tree.rises)
+      (omega (arith, in_slots, (long p s d quota l b fits stored pslot at_d ls x q c takes object used)))) in
       let kept_use : use_in q.holdings.records.items (lookup_at q.places.lists q.places.slots i)
       ≡ body_use (record_in q.holdings.records.items k).body
       = ap (use_in q.holdings.records.items) (row_then i new_off ∙ row) in

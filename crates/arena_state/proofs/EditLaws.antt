@@ -1,5 +1,5 @@
 -- Edits of one record.
-use Rattle.std.proofs.Common.{◌≡◌, ◌≤◌, ◌∙◌, ◌+◌, ℕ, true, List, Option, refl, sym, ap, subst, arith, length, get_or, IsSome}
+use Rattle.std.proofs.Common.{◌≡◌, ◌≤◌, ◌∙◌, ◌+◌, ℕ, true, List, Option, refl, sym, ap, subst, arith, get_or, IsSome}
 use Rattle.std.proofs.lemmas.Bool.{leb-true}
 use Rattle.std.proofs.lemmas.List.{get_or_read}
 use Rattle.containers.specs.Tree.{HasSlot}

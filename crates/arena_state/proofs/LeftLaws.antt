@@ -1,6 +1,5 @@
 -- What is left after an entry is taken out is sound.
-use Rattle.std.proofs.Common.{◌≡◌, ℕ, ◌+◌, ◌-◌, ◌*◌, ◌<◌, ◌≤◌, Bool, true, false, cond, not, ◌&&◌, ◌||◌, ◌==◌, List, [], ◌∷◌, length, get_or, Option, Some, None, refl, sym, ◌∙◌, ap, subst, arith, sum_by, inl, inr}
-use Rattle.std.specs.List.{filter}
+use Rattle.std.proofs.Common.{◌≡◌, ℕ, ◌+◌, ◌*◌, ◌<◌, Bool, true, false, cond, ◌==◌, List, [], ◌∷◌, Some, refl, sym, ◌∙◌, ap, subst, arith, sum_by, inl, inr}
 use Rattle.std.specs.Ordering.{nat_cmp}
 use Rattle.std.specs.Map.{lookup}
 use Rattle.std.specs.BTreeMap.{is_at}
@@ -9,22 +8,22 @@ use Rattle.base.specs.Live.{has, links, is_live}
 use Rattle.base.specs.declared.kinds.Kind.TheVariants as kinds
 use Rattle.base.specs.declared.ranges.Limits.{Limits}
 use Rattle.base.proofs.LiveLaw.{live_from_path}
-use Rattle.containers.specs.Tree.{ids_in, list_of, cut_lists, without, HasSlot}
+use Rattle.containers.specs.Tree.{ids_in, list_of, cut_lists, without}
 use Rattle.containers.proofs.Unrefs.{cut_links}
-use Rattle.kernel_rules.specs.State.{State, object_at, of_object, use_of, quota_at, cost_at, list_at, is_kind_at, is_kind, lists_of, own_cost, listed}
+use Rattle.kernel_rules.specs.State.{State, of_object, use_of, quota_at, cost_at, list_at, is_kind_at, is_kind, lists_of, own_cost, listed}
 use Rattle.kernel_rules.specs.WellFormed.{is_well_formed}
 use Rattle.kernel_rules.specs.declared.objects.Object.{Object}
 use Rattle.kernel_rules.proofs.UnrefLaws.{unref_well_formed}
 use Rattle.arena_state.specs.declared.records.Record.{Record}
 use Rattle.arena_state.specs.declared.pieces.Pieces.{Pieces}
-use Rattle.arena_state.specs.Rows.{Row, rows_of}
+use Rattle.arena_state.specs.Rows.{rows_of}
 use Rattle.arena_state.specs.Assembled.{pieces_state, record_in, use_in, body_use, with_use}
 use Rattle.arena_state.specs.Sound.{IsSound}
 use Rattle.arena_state.proofs.RowLaws.{row_none, row_at, row_place, at_is}
 use Rattle.containers.proofs.Distinct.{distinct_from, sum_without_one}
 use Rattle.containers.proofs.Lists.{has_filter, links_of_list, links_filter, list_of_filter, list_of_cut}
 use Rattle.arena_state.proofs.RecordLaws.{kind_same, cost_same, sum_same_in}
-use Rattle.arena_state.proofs.UnlinkLaws.{IsUnlinked, slot_of, slot_is, shape, ids_left, left_stays, object_was, object_left, object_gone, was_there, quota_left, lists_left, unlinked_state, has_left, owned, lets}
+use Rattle.arena_state.proofs.UnlinkLaws.{IsUnlinked, slot_of, slot_is, ids_left, left_stays, object_was, object_left, object_gone, was_there, quota_left, lists_left, unlinked_state, has_left, owned, lets}
 
 -- the list of an id among the lists of objects
 pub list_of_objects : (es : List (ℕ × Object)) (i : ℕ)
@@ -78,7 +77,7 @@ module _ (p q : Pieces) (s : IsSound p) (d o : ℕ) (u : IsUnlinked p q d o)
         let same : d ≡ i = eqb-true d i is in
         let there : has (list_of p.places.lists i) o ≡ true = ap (λ (k : ℕ). has (list_of p.places.lists k) o) (sym same) ∙ held in
         let one = sum_without_one (quota_at (pieces_state p)) o (list_of p.places.lists i)
-            (distinct_from (list_of p.places.lists i) (s.tree.once i)) there in
+        (distinct_from (list_of p.places.lists i) (s.tree.once i)) there in
         ap {B = ℕ} (λ (v : Bool). sum_by (quota_at (pieces_state p))
         (cond v (without o (list_of p.places.lists i)) (list_of p.places.lists i))
         + cond v (quota_at (pieces_state p) o) 0) is ∙ one
@@ -100,7 +99,7 @@ module _ (p q : Pieces) (s : IsSound p) (d o : ℕ) (u : IsUnlinked p q d o)
       ≡ sum_by (quota_at (pieces_state p)) (cond (d == i) (without o (list_of p.places.lists i)) (list_of p.places.lists i))
       = ap (sum_by (quota_at (pieces_state q))) (list_now i)
       ∙ sum_same_in (quota_at (pieces_state q)) (quota_at (pieces_state p)) (list_of q.places.lists i)
-          (λ x in'. quota_left p q s d o u x (u.tree.listed i x (links_of_list q.places.lists i x in')))
+      (λ x in'. quota_left p q s d o u x (u.tree.listed i x (links_of_list q.places.lists i x in')))
       ∙ ap (sum_by (quota_at (pieces_state p))) (list_cut i h) in
       let was : sum_by (quota_at (pieces_state p)) (list_at (pieces_state p) i)
       ≡ sum_by (quota_at (pieces_state p)) (list_of p.places.lists i)
@@ -127,13 +126,13 @@ module _ (p q : Pieces) (s : IsSound p) (d o : ℕ) (u : IsUnlinked p q d o)
           let row : lookup (is_at (nat_cmp i)) (rows_of q.places.lists q.places.slots)
           ≡ Some (row_place q.places.lists q.places.slots at.1.place)
           = subst (λ (k : ℕ). lookup (is_at (nat_cmp k)) (rows_of q.places.lists q.places.slots)
-              ≡ Some (row_place q.places.lists q.places.slots at.1.place)) at.1.id_is
-              (row_at q.places.lists q.places.slots at.1.place u.tree.beside u.tree.rises at.1.within) in
+          ≡ Some (row_place q.places.lists q.places.slots at.1.place)) at.1.id_is
+          (row_at q.places.lists q.places.slots at.1.place u.tree.beside u.tree.rises at.1.within) in
           let here : use_in q.holdings.records.items (lookup (is_at (nat_cmp i)) (rows_of q.places.lists q.places.slots))
           ≡ body_use (with_use (u.uses (slot_of p q s d o u i)) (record_in p.holdings.records.items (slot_of p q s d o u i))).body
           = ap (use_in q.holdings.records.items) row
           ∙ ap (λ (x : ℕ). body_use (record_in q.holdings.records.items x).body)
-              (at.1.slot_is ∙ sym (slot_is p q s d o u i at.0 (u.kept i at.0 at.1)))
+          (at.1.slot_is ∙ sym (slot_is p q s d o u i at.0 (u.kept i at.0 at.1)))
           ∙ ap (λ (r : Record). body_use r.body) (u.records (slot_of p q s d o u i)) in
           let a = charged i there in
           let b = use_left i there in

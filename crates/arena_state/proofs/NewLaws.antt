@@ -1,5 +1,5 @@
 -- A new object of a fresh record: what is made of it, and what stays true.
-use Rattle.std.proofs.Common.{◌≡◌, ℕ, true, ◌+◌, ◌<◌, List, [], Option, refl, sym, ◌∙◌, ap, arith}
+use Rattle.std.proofs.Common.{◌≡◌, ℕ, true, ◌+◌, List, [], Option, refl, sym, ◌∙◌, ap, arith}
 use Rattle.label_intern.specs.declared.held.Held.{Held}
 use Rattle.label_intern.specs.Held.{label_of}
 use Rattle.label_intern.specs.Owners.{one_at, Takes}

@@ -1,5 +1,5 @@
 -- A record that names other labels, which were stored before the old ones were let go.
-use Rattle.std.proofs.Common.{◌≡◌, ◌≢◌, ℕ, ◌+◌, ◌<◌, Bool, true, false, cond, not, ◌&&◌, ◌==◌, List, [], length, get_or, set, Option, Some, None, refl, sym, ◌∙◌, ap, subst, arith, sum_by, inl, inr, length-set}
+use Rattle.std.proofs.Common.{◌≡◌, ◌≢◌, ℕ, ◌+◌, ◌<◌, true, false, not, ◌==◌, List, [], length, get_or, set, Option, Some, None, refl, sym, ◌∙◌, ap, subst, arith, sum_by, inl, inr, length-set}
 use Rattle.std.specs.Ordering.{nat_cmp}
 use Rattle.std.specs.Map.{lookup}
 use Rattle.std.specs.BTreeMap.{is_at}
@@ -9,7 +9,7 @@ use Rattle.std.proofs.lemmas.List.{get_or-set_same, get_or-set_other}
 use Rattle.base.specs.Live.{has}
 use Rattle.base.specs.declared.kinds.Kind.TheVariants as kinds
 use Rattle.object_arena.specs.Objects.{Apart}
-use Rattle.containers.specs.Tree.{ids_in, without, HasSlot}
+use Rattle.containers.specs.Tree.{without, HasSlot}
 use Rattle.containers.proofs.Distinct.{distinct_from, sum_without_one, has_without}
 use Rattle.containers.proofs.Views.{has_at}
 use Rattle.label_intern.specs.declared.held.Held.{Held}
@@ -74,7 +74,7 @@ module _ (p : Pieces) (s : IsSound p) (id slot : ℕ) (h : HasSlot p.places id s
   pub owned_now : (i : ℕ) → owners_in (held_at ls i) ≡ claims_in new_items p.places.slots i
   owned_now i =
       let one = sum_changed (λ k. claims i (record_in p.holdings.records.items k)) (λ k. claims i (record_in new_items k)) p.places.slots h.place slot
-          s.tree.apart place_in h.slot_is (λ x off. ap (claims i) (there x off)) in
+      s.tree.apart place_in h.slot_is (λ x off. ap (claims i) (there x off)) in
       let now : claims i (record_in new_items slot) ≡ claims i r = ap (claims i) here in
       omega (arith, lets.owners i, takes.owners i, s.owned i, one, now, balance i)
 
@@ -116,10 +116,10 @@ module _ (p : Pieces) (s : IsSound p) (id slot : ℕ) (h : HasSlot p.places id s
   put_state : pieces_state (with_both p slot r ls) ≡ put (pieces_state p) id (assembled ls r list)
   put_state =
       let changed_one = all_but_one (object_in p.holdings) (object_in (with_both p slot r ls).holdings)
-          p.places.lists p.places.slots h.place (assembled ls r list)
-          s.tree.beside s.tree.rises h.within
-          (ap (λ (x : ℕ). assembled ls (record_in new_items x) list) h.slot_is ∙ ap (λ (x : Record). assembled ls x list) here)
-          (λ j in_j off. other_object j (omega (arith, in_j, s.tree.beside)) off (row_place p.places.lists p.places.slots j).list) in
+      p.places.lists p.places.slots h.place (assembled ls r list)
+      s.tree.beside s.tree.rises h.within
+      (ap (λ (x : ℕ). assembled ls (record_in new_items x) list) h.slot_is ∙ ap (λ (x : Record). assembled ls x list) here)
+      (λ j in_j off. other_object j (omega (arith, in_j, s.tree.beside)) off (row_place p.places.lists p.places.slots j).list) in
       (λ i. record (pieces_state p) { objects = changed_one i })
       ∙ ap (λ (k : ℕ). put (pieces_state p) k (assembled ls r list)) h.id_is
 

@@ -1,6 +1,5 @@
 -- What of a record its kept use and its place in the pool of labels leave as it is.
-use Rattle.std.proofs.Common.{◌≡◌, ◌≢◌, ◌⊎◌, ℕ, zero, suc, ◌+◌, ◌-◌, ◌*◌, ◌/◌, ◌<◌, ◌≤◌, Bool, true, false, cond, not, ◌||◌, ◌&&◌, ◌==◌, nat_lt, nat_le, List, [], ◌∷◌, ◌++◌, length, get_or, set, replicate, Option, Some, None, IfSome, IsSome, is_some, refl, sym, ◌∙◌, ap, subst, arith, sum_by, inl, inr, length-set, length-append}
-use Rattle.std.specs.List.{filter}
+use Rattle.std.proofs.Common.{◌≡◌, ℕ, ◌+◌, ◌*◌, ◌/◌, ◌<◌, Bool, true, false, cond, ◌||◌, ◌==◌, List, [], ◌∷◌, ◌++◌, length, replicate, Option, refl, sym, ◌∙◌, ap, arith, sum_by}
 use Rattle.std.proofs.lemmas.Bool.{both_ways, eq-eqb}
 use Rattle.std.proofs.lemmas.List.{length-replicate}
 use Rattle.std.proofs.lemmas.List.Sums.{sum_by-cons}
@@ -12,7 +11,6 @@ use Rattle.label_intern.specs.Held.{label_of}
 use Rattle.label_intern.specs.Owners.{one_at}
 use Rattle.kernel_rules.specs.State.{is_kind, listed, own_cost}
 use Rattle.kernel_rules.specs.Changes.{delisting, listing}
-use Rattle.kernel_rules.specs.declared.objects.Body as body
 use Rattle.kernel_rules.specs.declared.objects.Body.TheVariants as is
 use Rattle.arena_state.specs.declared.records.Record.{Record}
 use Rattle.arena_state.specs.declared.records.Kept as kept

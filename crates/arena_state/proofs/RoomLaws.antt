@@ -1,27 +1,23 @@
 -- No pool runs out: admission by quota suffices.
-use Rattle.std.proofs.Common.{◌≡◌, ◌≢◌, ℕ, zero, suc, ◌+◌, ◌*◌, ◌<◌, ◌≤◌, Bool, true, false, cond, ◌==◌, List, [], ◌∷◌, ◌++◌, length, get_or, Option, Some, None, refl, sym, ◌∙◌, ap, subst, arith, sum_by, inl, inr, length-append}
-use Rattle.std.specs.Prelude.{map, All}
+use Rattle.std.proofs.Common.{◌≡◌, ℕ, ◌+◌, ◌*◌, ◌≤◌, Bool, true, cond, [], ◌∷◌, length, get_or, Some, refl, sym, ◌∙◌, ap, arith, sum_by, inl, inr, length-append}
 use Rattle.std.specs.Ordering.{nat_cmp}
 use Rattle.std.specs.Map.{set_value}
 use Rattle.std.specs.BTreeMap.{is_at}
-use Rattle.std.proofs.lemmas.Bool.{cases_Bool, both_ways, eqb-true, eq-eqb}
+use Rattle.std.proofs.lemmas.Bool.{cases_Bool}
 use Rattle.std.proofs.lemmas.List.{length-map}
-use Rattle.std.proofs.lemmas.List.Sums.{sum_by-cons}
 use Rattle.std.proofs.lemmas.Map.{length-set_value}
-use Rattle.base.specs.Live.{has}
 use Rattle.containers.specs.Tree.{ids_in, link_count}
 use Rattle.containers.proofs.Views.{at_has}
-use Rattle.label_intern.specs.declared.held.Held.{Held}
-use Rattle.label_intern.specs.Held.{held_at, owners_in, owned}
+use Rattle.label_intern.specs.Held.{owned}
 use Rattle.label_lattice.specs.Label.{LabelValue}
-use Rattle.kernel_rules.specs.State.{State, object_at, of_object, quota_at, lists_of}
-use Rattle.kernel_rules.specs.Changes.{listing, made, fresh_object}
+use Rattle.kernel_rules.specs.State.{object_at, of_object, lists_of}
+use Rattle.kernel_rules.specs.Changes.{listing, fresh_object}
 use Rattle.kernel_rules.specs.Fitting.{IsFitting}
 use Rattle.kernel_rules.specs.WellFormed.{is_stored, is_well_formed}
 use Rattle.kernel_rules.specs.declared.objects.Object.{Object}
 use Rattle.kernel_rules.specs.declared.objects.Body.{Body}
-use Rattle.kernel_rules.proofs.GrownLaws.{Making, making_from, made_is, grown, grown_other, recorded_old}
-use Rattle.kernel_rules.proofs.ListingLaws.{IsContainerAt, container_at}
+use Rattle.kernel_rules.proofs.GrownLaws.{making_from, made_is, grown, grown_other, recorded_old}
+use Rattle.kernel_rules.proofs.ListingLaws.{container_at}
 use Rattle.kernel_rules.proofs.MadeLaws.{made_well_formed}
 use Rattle.kernel_rules.proofs.RecordLaws.{same_id}
 use Rattle.kernel_rules.proofs.WellFormedLaws.{soundness_of}
@@ -33,7 +29,7 @@ use Rattle.arena_state.specs.declared.records.Record.{Record}
 use Rattle.arena_state.specs.declared.records.Kept as kept
 use Rattle.arena_state.specs.declared.records.Kept.TheVariants as keeps
 use Rattle.arena_state.specs.declared.pieces.Pieces.{Pieces}
-use Rattle.arena_state.specs.Rows.{Row, rows_of}
+use Rattle.arena_state.specs.Rows.{rows_of}
 use Rattle.arena_state.specs.Assembled.{pieces_state, record_in, claims, body_claims}
 use Rattle.arena_state.specs.Sound.{IsSound}
 use Rattle.arena_state.proofs.RowLaws.{rows_length}
@@ -49,8 +45,12 @@ three n r =
     of_body (keeps.Segment pages) = omega (arith, sum_none (λ (i : ℕ). 0) (from 0 n) (λ i. refl))
     of_body keeps.AddressSpace = omega (arith, sum_none (λ (i : ℕ). 0) (from 0 n) (λ i. refl))
     of_body (keeps.Thread t) =
-        omega (arith, sum_plus (λ i. one_at i t.clearance.0) (λ i. one_at i t.verify.0) (from 0 n),
-        one_index t.clearance.0 0 n, one_index t.verify.0 0 n)
+        omega (
+          arith,
+          sum_plus (λ i. one_at i t.clearance.0) (λ i. one_at i t.verify.0) (from 0 n),
+          one_index t.clearance.0 0 n,
+          one_index t.verify.0 0 n,
+        )
     of_body (keeps.Gate g) = omega (arith, one_index g.clearance.0 0 n)
     of_body keeps.Device = omega (arith, sum_none (λ (i : ℕ). 0) (from 0 n) (λ i. refl))
 
@@ -70,7 +70,7 @@ root_at : (p : Pieces) (s : IsSound p) → IsRootAt p
 root_at p s =
     let at = at_has (ids_in p.places.lists) 1 s.rooted in
     let found = object_here p s 1 (get_or p.places.slots at.0 0)
-        (record { place = at.0; within = at.1; id_is = at.2; slot_is = refl }) in
+    (record { place = at.0; within = at.1; id_is = at.2; slot_is = refl }) in
     record {
       root = _;
       found = found;
@@ -103,7 +103,7 @@ slots_fit p s d q b l fits stored =
     ≡ cond (is_at (nat_cmp 1) d) (Some (listing state.next_id at.object)) (object_at state 1)
     = grown_other state d at.object x m 1 (recorded_old state 1 r.root m.given r.found) in
     let formed = ap is_well_formed (sym (made_is state d at.object x m))
-        ∙ made_well_formed state d l q b fits stored s.formed in
+    ∙ made_well_formed state d l q b fits stored s.formed in
     let size : length (grown state d at.object x).objects ≡ length state.objects + 1
     = length-append (set_value (is_at (nat_cmp d)) state.objects (listing state.next_id at.object)) ((state.next_id, x) ∷ [])
     ∙ ap (λ (n : ℕ). n + 1) (length-set_value (is_at (nat_cmp d)) state.objects (listing state.next_id at.object)) in
@@ -114,11 +114,11 @@ slots_fit p s d q b l fits stored =
           let one : Some at.object ≡ Some r.root = sym m.found ∙ ap (object_at state) (sym same) ∙ r.found in
           let quota : at.object.quota ≡ r.root.quota = ap (of_object 0 (λ y. y.quota)) one in
           let bound = root_bounds (grown state d at.object x) (listing state.next_id at.object) formed
-              (then ∙ ap (λ (v : Bool). cond v (Some (listing state.next_id at.object)) (object_at state 1)) is) in
+          (then ∙ ap (λ (v : Bool). cond v (Some (listing state.next_id at.object)) (object_at state 1)) is) in
           omega (arith, bound.0, size, long, quota, r.quota)
       | inr off ↦
           let bound = root_bounds (grown state d at.object x) r.root formed
-              (then ∙ ap (λ (v : Bool). cond v (Some (listing state.next_id at.object)) (object_at state 1)) off ∙ r.found) in
+          (then ∙ ap (λ (v : Bool). cond v (Some (listing state.next_id at.object)) (object_at state 1)) off ∙ r.found) in
           omega (arith, bound.0, size, long, r.quota)
     ]
 

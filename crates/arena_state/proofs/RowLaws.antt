@@ -1,5 +1,5 @@
 -- Rows of a directory, looked up and changed.
-use Rattle.std.proofs.Common.{◌≡◌, ◌≢◌, ◌⊎◌, ℕ, zero, suc, ◌+◌, ◌-◌, ◌*◌, ◌<◌, ◌≤◌, Bool, true, false, cond, not, ◌||◌, ◌&&◌, ◌==◌, nat_lt, nat_le, List, [], ◌∷◌, ◌++◌, length, get_or, set, replicate, Option, Some, None, IfSome, IsSome, is_some, refl, sym, ◌∙◌, ap, subst, arith, sum_by, inl, inr, length-set, length-append}
+use Rattle.std.proofs.Common.{◌≡◌, ◌≢◌, ℕ, zero, suc, ◌<◌, Bool, false, cond, ◌==◌, List, [], ◌∷◌, ◌++◌, length, get_or, Some, None, refl, sym, ◌∙◌, ap, subst, arith, inl, inr}
 use Rattle.std.specs.Prelude.{map}
 use Rattle.std.specs.Ordering.{nat_cmp}
 use Rattle.std.specs.Map.{lookup, set_value}
@@ -8,7 +8,7 @@ use Rattle.std.proofs.lemmas.Bool.{cases_Bool, both_ways, eqb-true, eq-eqb}
 use Rattle.std.proofs.lemmas.Option.{none-some}
 use Rattle.base.specs.Live.{has}
 use Rattle.object_arena.specs.Objects.{Rises}
-use Rattle.containers.specs.Tree.{ids_in, list_of}
+use Rattle.containers.specs.Tree.{ids_in}
 use Rattle.containers.proofs.Lists.{no_room, apart_test, or_no_left, or_no_right, rises_tail, rises_first}
 use Rattle.kernel_rules.proofs.LookupLaws.{at_self}
 use Rattle.kernel_rules.proofs.RecordLaws.{same_id}
@@ -62,7 +62,6 @@ abbrev pub seen : {X : Type 0} → (Row → X) → List (ℕ × Row) → List (�
 seen f rows = map (λ e. (e.0, f e.1)) rows
 
 module _ {X : Type 0} (g h : Row → X) where
-
   -- rows that are seen the same everywhere
   pub all_same : (lists : List (ℕ × List ℕ)) (slots : List ℕ)
       → ((k : ℕ) → k < length (ids_in lists) → k < length slots → h (row_place lists slots k) ≡ g (row_place lists slots k))

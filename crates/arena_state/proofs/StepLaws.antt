@@ -1,24 +1,18 @@
 -- The steps by which an entry is taken out.
-use Rattle.std.proofs.Common.{◌≡◌, ◌≢◌, ℕ, zero, suc, ◌+◌, ◌-◌, ◌<◌, ◌≤◌, Bool, true, false, cond, not, ◌&&◌, ◌||◌, ◌==◌, List, [], ◌∷◌, length, get_or, set, Option, Some, None, refl, sym, ◌∙◌, ap, subst, arith, inl, inr, length-set}
+use Rattle.std.proofs.Common.{◌≡◌, ℕ, ◌+◌, ◌-◌, ◌<◌, ◌≤◌, Bool, true, false, cond, ◌==◌, List, [], length, get_or, set, Option, Some, None, refl, sym, ◌∙◌, ap, subst, arith, inl, inr, length-set}
 use Rattle.std.specs.Prelude.{vec_len}
-use Rattle.std.specs.List.{Contains}
-use Rattle.std.specs.Ordering.{nat_cmp}
-use Rattle.std.specs.Map.{lookup}
-use Rattle.std.specs.BTreeMap.{is_at}
-use Rattle.std.specs.Vec.{with_item}
 use Rattle.std.proofs.lemmas.Bool.{cases_Bool, cases_eq, both_ways, eqb-true, eq-eqb}
-use Rattle.std.proofs.lemmas.List.{get_or-set_same, get_or-set_other, get_or_read, get_or_default}
+use Rattle.std.proofs.lemmas.List.{get_or-set_same, get_or-set_other, get_or_read}
 use Rattle.std.proofs.lemmas.Option.{none-some}
-use Rattle.base.specs.Live.{has, links, is_live}
+use Rattle.base.specs.Live.{has, links}
 use Rattle.base.specs.declared.kinds.Kind.TheVariants as kinds
 use Rattle.containers.specs.declared.visitor.Place.{Place}
-use Rattle.containers.specs.Tree.{Tree, ids_in, list_of, cut_lists, HasSlot, live_part as live_lists}
+use Rattle.containers.specs.Tree.{ids_in, list_of, cut_lists, HasSlot, live_part as live_lists}
 use Rattle.containers.specs.Visits.{IsHanded, IsTold, IsLost}
 use Rattle.containers.specs.WellFormed.{IsWellFormed}
 use Rattle.containers.proofs.Lists.{links_of_list, links_has, list_of_links}
-use Rattle.containers.proofs.Views.{has_at, at_has}
-use Rattle.label_intern.specs.declared.held.Held.{Held}
-use Rattle.kernel_rules.specs.State.{State, object_at, of_object, use_of, quota_at, list_at, is_kind_at, is_kind, listed}
+use Rattle.containers.proofs.Views.{at_has}
+use Rattle.kernel_rules.specs.State.{object_at, of_object, use_of, quota_at, list_at, is_kind, listed}
 use Rattle.kernel_rules.specs.Changes.{changed, delisting}
 use Rattle.kernel_rules.specs.Step.{restricted}
 use Rattle.kernel_rules.specs.declared.objects.Object.{Object}
@@ -27,11 +21,8 @@ use Rattle.kernel_rules.specs.declared.objects.Body.TheVariants as is
 use Rattle.kernel_rules.proofs.MoveLaws.{quota_listed}
 use Rattle.arena_state.specs.declared.holdings.Holdings.{Holdings}
 use Rattle.arena_state.specs.declared.records.Record.{Record}
-use Rattle.arena_state.specs.declared.records.Kept as kept
-use Rattle.arena_state.specs.declared.records.Kept.TheVariants as keeps
 use Rattle.arena_state.specs.declared.pieces.Pieces.{Pieces}
-use Rattle.arena_state.specs.Rows.{Row, rows_of}
-use Rattle.arena_state.specs.Assembled.{pieces_state, assembled, body_of, record_in, blank, use_in, body_use, reuse, with_use}
+use Rattle.arena_state.specs.Assembled.{pieces_state, assembled, record_in, blank, use_in, body_use, with_use}
 use Rattle.arena_state.specs.Deaths.{after_deaths}
 use Rattle.arena_state.specs.Sound.{IsSound}
 use Rattle.arena_state.proofs.SoundLaws.{row_found, object_here, slot_within, apart_at}
@@ -75,7 +66,7 @@ module _ (p : Pieces) (s : IsSound p) (d o : ℕ) (listed_now : has (list_at (pi
       let there = s.tree.listed d o is_linked in
       let at = at_has (ids_in p.places.lists) o there in
       let found = object_here p s o (get_or p.places.slots at.0 0)
-          (record { place = at.0; within = at.1; id_is = at.2; slot_is = refl }) in
+      (record { place = at.0; within = at.1; id_is = at.2; slot_is = refl }) in
       none-some _ (sym none ∙ found)
 
   module _ (dslot oslot : ℕ) (at_d : HasSlot p.places d dslot) (at_o : HasSlot p.places o oslot)

@@ -1,47 +1,38 @@
 -- What is left of sound pieces once an entry is taken out.
-use Rattle.std.proofs.Common.{◌≡◌, ◌≢◌, ℕ, zero, suc, ◌+◌, ◌-◌, ◌<◌, Bool, true, false, cond, not, ◌&&◌, ◌||◌, ◌==◌, List, [], ◌∷◌, length, get_or, set, Option, Some, None, refl, sym, ◌∙◌, ap, subst, arith, sum_by, inl, inr, length-set}
-use Rattle.std.specs.Prelude.{map}
+use Rattle.std.proofs.Common.{◌≡◌, ℕ, ◌<◌, Bool, true, false, cond, ◌==◌, List, [], ◌∷◌, length, get_or, Option, Some, None, refl, sym, ◌∙◌, ap, subst, arith, sum_by}
 use Rattle.std.specs.List.{filter, Contains}
 use Rattle.std.specs.Option.{option_map}
 use Rattle.std.specs.Ordering.{nat_cmp}
 use Rattle.std.specs.Map.{lookup, set_value}
 use Rattle.std.specs.BTreeMap.{is_at}
-use Rattle.std.proofs.lemmas.Bool.{cases_Bool, cases_eq, both_ways, eqb-true, eq-eqb, and_parts, and_from}
-use Rattle.std.proofs.lemmas.List.{get_or-set_same, get_or-set_other}
-use Rattle.std.proofs.lemmas.List.Sums.{sum_by-cons}
+use Rattle.std.proofs.lemmas.Bool.{and_parts}
 use Rattle.std.proofs.lemmas.Map.Made.{lookup-map_values}
-use Rattle.base.specs.Live.{has, links, is_live}
-use Rattle.base.specs.declared.kinds.Kind.TheVariants as kinds
-use Rattle.base.proofs.LiveLaw.{live_from_path}
+use Rattle.base.specs.Live.{has, is_live}
 use Rattle.containers.specs.declared.visitor.Place.{Place}
 use Rattle.containers.specs.Tree.{Tree, ids_in, list_of, cut_lists, without, HasSlot, live_part as live_lists}
 use Rattle.containers.specs.Visits.{IsLost}
 use Rattle.containers.specs.WellFormed.{IsWellFormed}
-use Rattle.containers.proofs.Unrefs.{cut_links}
-use Rattle.containers.proofs.Views.{has_at, at_has}
+use Rattle.containers.proofs.Views.{at_has}
 use Rattle.label_intern.specs.declared.held.Held.{Held}
 use Rattle.label_intern.specs.Held.{held_at, owners_in, label_of}
-use Rattle.kernel_rules.specs.State.{State, object_at, of_object, use_of, quota_at, is_kind_at, is_kind, lists_of, own_cost, listed, live_part}
+use Rattle.kernel_rules.specs.State.{object_at, of_object, quota_at, lists_of, listed, live_part}
 use Rattle.kernel_rules.specs.Changes.{put, changed, delisting}
 use Rattle.kernel_rules.specs.Step.{restricted}
-use Rattle.kernel_rules.specs.WellFormed.{is_well_formed, is_distinct}
 use Rattle.kernel_rules.specs.declared.objects.Object.{Object}
-use Rattle.kernel_rules.proofs.UnrefLaws.{unref_well_formed}
 use Rattle.kernel_laws.proofs.Sums.{sum_same}
 use Rattle.arena_state.specs.declared.records.Record.{Record}
-use Rattle.arena_state.specs.declared.records.Kept as kept
 use Rattle.arena_state.specs.declared.pieces.Pieces.{Pieces}
 use Rattle.arena_state.specs.Rows.{Row, rows_of}
-use Rattle.arena_state.specs.Assembled.{pieces_state, object_in, objects_in, record_in, assembled, body_of, blank, claims, claims_in, use_in, body_use, with_use}
+use Rattle.arena_state.specs.Assembled.{pieces_state, object_in, objects_in, record_in, assembled, claims, claims_in, with_use}
 use Rattle.arena_state.specs.Deaths.{after_deaths}
 use Rattle.arena_state.specs.Sound.{IsSound}
-use Rattle.arena_state.proofs.RowLaws.{row_place, row_at, row_none, at_is, seen}
+use Rattle.arena_state.proofs.RowLaws.{row_place, row_none}
 use Rattle.arena_state.proofs.LabelLaws.{at_most_sum}
 use Rattle.arena_state.proofs.SoundLaws.{row_found, object_row, object_here, slot_within}
 use Rattle.containers.proofs.Lists.{has_filter, ids_filter, ids_cut, list_at_place}
 use Rattle.label_intern.specs.Owners.{Lets}
 use Rattle.arena_state.proofs.DeathLaws.{deaths_let}
-use Rattle.arena_state.proofs.ListLaws.{by_id, rows_by_id, sum_places, by_id_filter, cut_is_set}
+use Rattle.arena_state.proofs.ListLaws.{by_id, rows_by_id, by_id_filter, cut_is_set}
 use Rattle.arena_state.proofs.RecordLaws.{use_unseen, use_claims, delisted, listed_too, assembled_same}
 
 -- q is p once container d doesn't list o any more, and what isn't live is gone

@@ -1,8 +1,8 @@
 -- What containers list and which ids are live, as the state has it.
-use Rattle.std.proofs.Common.{◌≡◌, ◌<◌, ◌≤◌, ℕ, zero, suc, true, false, List, [], ◌∷◌, length, get_or, Option, Some, None, refl, sym, ◌∙◌, ap, arith, inl, inr}
+use Rattle.std.proofs.Common.{◌≡◌, ◌<◌, ◌≤◌, ℕ, List, [], ◌∷◌, length, get_or, Some, None, refl, sym, ◌∙◌, ap, inl, inr}
 use Rattle.std.specs.Prelude.{slice_get}
 use Rattle.std.proofs.lemmas.Bool.{cases_Bool, both_ways}
-use Rattle.std.proofs.lemmas.Option.{slice_get-get_or}
+use Rattle.std.proofs.lemmas.Option.{slice_get-get_or, slice_get_past}
 use Rattle.base.specs.Live.{has, links}
 use Rattle.containers.specs.Tree.{ids_in, list_of}
 use Rattle.containers.proofs.Lists.{links_of_list, list_of_links}
@@ -17,12 +17,6 @@ use Rattle.arena_state.proofs.LeftLaws.{list_of_objects}
 ids_listed : (es : List (ℕ × Object)) → ids_in (lists_of es) ≡ ids_of es
 ids_listed [] = refl
 ids_listed (e ∷ es) = ap (λ (t : List ℕ). e.0 ∷ t) (ids_listed es)
-
--- nothing stands past the end of a list
-pub get_past : (xs : List ℕ) (i : ℕ) → length xs ≤ i → slice_get xs i ≡ None
-get_past [] i past = refl
-get_past (x ∷ xs) zero past = absurd (omega arith)
-get_past (x ∷ xs) (suc i) past = get_past xs i (omega arith)
 
 module _ (p : Pieces) (s : IsSound p) where
   pub listed_is : (i : ℕ) → list_at (pieces_state p) i ≡ list_of p.places.lists i
@@ -45,4 +39,4 @@ module _ (p : Pieces) (s : IsSound p) where
   id_at k lt = ap (λ (xs : List ℕ). slice_get xs k) ids_are ∙ slice_get-get_or (ids_in p.places.lists) k 0 lt
 
   pub id_past : (k : ℕ) → length (ids_in p.places.lists) ≤ k → slice_get (ids_of (pieces_state p).objects) k ≡ None
-  id_past k past = ap (λ (xs : List ℕ). slice_get xs k) ids_are ∙ get_past (ids_in p.places.lists) k past
+  id_past k past = ap (λ (xs : List ℕ). slice_get xs k) ids_are ∙ slice_get_past (ids_in p.places.lists) k past

@@ -1,5 +1,5 @@
 -- What pieces are once a new record has a slot, an id and a first link.
-use Rattle.std.specs.Prelude.{◌≡◌, ℕ, ◌+◌, ◌<◌, List, [], ◌∷◌, ◌++◌, Option, None, length, slice_set}
+use Rattle.std.specs.Prelude.{◌≡◌, ℕ, ◌+◌, ◌<◌, List, [], ◌∷◌, ◌++◌, None, length, slice_set}
 use Rattle.containers.specs.Tree.{add_lists, record_at}
 use Rattle.containers.specs.WellFormed.{IsWellFormed}
 use Rattle.arena_state.specs.declared.records.Record.{Record}

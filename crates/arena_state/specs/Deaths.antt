@@ -1,5 +1,5 @@
 -- What the labels are once owners let them go.
-use Rattle.std.specs.Prelude.{ℕ, List, [], ◌∷◌, Option, Some, None, slice_get}
+use Rattle.std.specs.Prelude.{List, [], ◌∷◌, Option, Some, None, slice_get}
 use Rattle.containers.specs.declared.visitor.Place.{Place}
 use Rattle.label_intern.specs.declared.held.Held.{Held}
 use Rattle.label_intern.specs.Owners.{release_at}

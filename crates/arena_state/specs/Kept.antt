@@ -1,5 +1,5 @@
 -- The labels that are stored, by index, and how they compare.
-use Rattle.std.specs.Prelude.{ℕ, Option, Some, None, option_map}
+use Rattle.std.specs.Prelude.{ℕ, Option, option_map}
 use Rattle.std.specs.Option.{option_and_then}
 use Rattle.label_lattice.specs.Bits.{bits_of}
 use Rattle.label_lattice.specs.Label.{LabelValue}

@@ -9,8 +9,8 @@ ghost use Rattle.arena_state.specs.States.{state_of};
 
 use crate::placing::place;
 use crate::records::{Kept, KeptGate, fresh_record, kept_thread};
-use crate::uniform::uniform;
 use crate::states::ArenaState;
+use crate::uniform::uniform;
 use base::{Level, Meter, ObjectId};
 use kernel_rules::Gate;
 use label_lattice::Label;

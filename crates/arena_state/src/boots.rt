@@ -71,7 +71,11 @@ impl ArenaState {
         let pool = limits.pages as usize;
         let mut labels = Labels::boot(alloc, 3 * pool + 3)?;
         let first = first_labels(&mut labels, limits.device, meter);
-        let root = fresh_record(first.root, limits.pages, Kept::Container(TypeSet::none(), 4));
+        let root = fresh_record(
+            first.root,
+            limits.pages,
+            Kept::Container(TypeSet::none(), 4),
+        );
         let kept = kept_thread(first.clearance, first.verify, 0);
         let boot_thread = fresh_record(first.thread, 1, Kept::Thread(kept));
         let boot_device = fresh_record(first.device, 2, Kept::Device);

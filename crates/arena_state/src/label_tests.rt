@@ -21,13 +21,13 @@ impl ArenaState {
         requires other { IsSome (held_at self.now.pieces.holdings.labels other.0) }
         ensures below { (bit_and result 1 == 1)
             ≡ below (label_of self.now.pieces.holdings.labels one.0)
-                (label_of self.now.pieces.holdings.labels other.0) }
+            (label_of self.now.pieces.holdings.labels other.0) }
         ensures visible { (bit_and result 2 == 2)
             ≡ visible (label_of self.now.pieces.holdings.labels one.0)
-                (label_of self.now.pieces.holdings.labels other.0) }
+            (label_of self.now.pieces.holdings.labels other.0) }
         ensures shown { (bit_and result 4 == 4)
             ≡ shown (label_of self.now.pieces.holdings.labels one.0)
-                (label_of self.now.pieces.holdings.labels other.0) }
+            (label_of self.now.pieces.holdings.labels other.0) }
     {
         self.pieces.holdings.labels.order(one, other).0
     }
@@ -135,12 +135,7 @@ impl ArenaState {
     }
 
     /// Whether an id is that of a live container that the thread observes.
-    pub fn is_accessible(
-        &self,
-        thread: ObjectId,
-        container: ObjectId,
-        meter: &mut Meter,
-    ) -> bool
+    pub fn is_accessible(&self, thread: ObjectId, container: ObjectId, meter: &mut Meter) -> bool
         ensures value { result ≡ is_accessible (state_of self.now) thread container }
         ensures scans { meter.new.scans ≡ meter.old.scans }
     {

@@ -32,10 +32,7 @@ impl ArenaState {
                         meter,
                     );
                     let _count = self.pieces.places.len();
-                    discharge(
-                        &mut self.pieces.holdings.records[container.0],
-                        pages,
-                    );
+                    discharge(&mut self.pieces.holdings.records[container.0], pages);
                 }
                 None => unreachable!(),
             },

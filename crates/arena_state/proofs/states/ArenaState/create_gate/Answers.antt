@@ -1,7 +1,7 @@
-use Rattle.std.proofs.Common.{◌+◌, ◌≤◌, refl, ap, arith}
+use Rattle.std.proofs.Common.{refl, ap, arith}
 use Rattle.kernel_rules.proofs.StoredLaws.{stored_test}
 use Rattle.kernel_rules.specs.declared.objects.Body.TheVariants as is
-use Rattle.label_intern.proofs.OwnersLemmas.{takes_as, takes_then}
+use Rattle.label_intern.proofs.OwnersLemmas.{takes_then}
 use Rattle.arena_state.specs.declared.records.Record.{Record}
 use Rattle.arena_state.specs.declared.records.Kept.TheVariants as keeps
 use Rattle.arena_state.proofs.CreateLaws.{labels_fit, slot_room, link_room, below_next, enough}
@@ -10,13 +10,21 @@ use Rattle.arena_state.proofs.states.ArenaState.create_gate.Goals as goal
 
 pub intern-label-requires : goal.intern-label-requires
 intern-label-requires c =
-    omega (arith, labels_fit c.args.self.now.pieces c.args.self.now.sound c.args.container c.args.quota c.args.label.now (is.Gate c.args.gate.now)
-    c.requires.fitting (stored_test c.args.label.now c.requires.label))
+    omega (
+      arith,
+      labels_fit c.args.self.now.pieces c.args.self.now.sound c.args.container c.args.quota c.args.label.now (is.Gate c.args.gate.now)
+          c.requires.fitting (stored_test c.args.label.now c.requires.label),
+    )
 
 pub intern-clearance-requires : goal.intern-clearance-requires
 intern-clearance-requires c =
-    omega (arith, c.intern-label.ensures.owners, c.intern-label.ensures.takes.pool, labels_fit c.args.self.now.pieces c.args.self.now.sound c.args.container c.args.quota c.args.label.now (is.Gate c.args.gate.now)
-    c.requires.fitting (stored_test c.args.label.now c.requires.label))
+    omega (
+      arith,
+      c.intern-label.ensures.owners,
+      c.intern-label.ensures.takes.pool,
+      labels_fit c.args.self.now.pieces c.args.self.now.sound c.args.container c.args.quota c.args.label.now (is.Gate c.args.gate.now)
+          c.requires.fitting (stored_test c.args.label.now c.requires.label),
+    )
 
 pub place-requires-clause-rises : goal.place-requires-clause-rises
 place-requires-clause-rises c =
@@ -35,9 +43,12 @@ place-requires-clause-room c =
 
 pub place-requires-clause-quota : goal.place-requires-clause-quota
 place-requires-clause-quota c =
-    omega (arith, ap (λ (r : Record). r.quota) c.fresh_record-given.ensures,
-    enough c.args.self.now.pieces c.args.self.now.sound c.args.container c.args.quota c.args.label.now (is.Gate c.args.gate.now)
-    c.requires.fitting (stored_test c.args.label.now c.requires.label) c.in-Some.parent.0 c.in-Some.ensures.found.has)
+    omega (
+      arith,
+      ap (λ (r : Record). r.quota) c.fresh_record-given.ensures,
+      enough c.args.self.now.pieces c.args.self.now.sound c.args.container c.args.quota c.args.label.now (is.Gate c.args.gate.now)
+          c.requires.fitting (stored_test c.args.label.now c.requires.label) c.in-Some.parent.0 c.in-Some.ensures.found.has,
+    )
 
 pub invariant_of-self : goal.invariant_of-self
 invariant_of-self c = record {

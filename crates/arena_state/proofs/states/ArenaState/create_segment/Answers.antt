@@ -1,4 +1,4 @@
-use Rattle.std.proofs.Common.{◌+◌, ◌≤◌, refl, ap, arith, ◌*◌, replicate}
+use Rattle.std.proofs.Common.{refl, ap, arith, ◌*◌, replicate}
 use Rattle.arena_state.proofs.RecordLaws.{segment_cost}
 use Rattle.kernel_rules.proofs.StoredLaws.{stored_test}
 use Rattle.kernel_rules.specs.declared.objects.Body.TheVariants as is
@@ -11,8 +11,11 @@ use Rattle.arena_state.proofs.states.ArenaState.create_segment.Goals as goal
 
 pub intern-label-requires : goal.intern-label-requires
 intern-label-requires c =
-    omega (arith, labels_fit c.args.self.now.pieces c.args.self.now.sound c.args.container c.args.quota c.args.label.now (is.Segment (replicate (256 * c.args.pages) 0))
-    c.requires.fitting (stored_test c.args.label.now c.requires.label))
+    omega (
+      arith,
+      labels_fit c.args.self.now.pieces c.args.self.now.sound c.args.container c.args.quota c.args.label.now (is.Segment (replicate (256 * c.args.pages) 0))
+          c.requires.fitting (stored_test c.args.label.now c.requires.label),
+    )
 
 pub place-requires-clause-rises : goal.place-requires-clause-rises
 place-requires-clause-rises c =
@@ -31,9 +34,12 @@ place-requires-clause-room c =
 
 pub place-requires-clause-quota : goal.place-requires-clause-quota
 place-requires-clause-quota c =
-    omega (arith, ap (λ (r : Record). r.quota) c.fresh_record-given.ensures,
-    enough c.args.self.now.pieces c.args.self.now.sound c.args.container c.args.quota c.args.label.now (is.Segment (replicate (256 * c.args.pages) 0))
-    c.requires.fitting (stored_test c.args.label.now c.requires.label) c.in-Some.parent.0 c.in-Some.ensures.found.has)
+    omega (
+      arith,
+      ap (λ (r : Record). r.quota) c.fresh_record-given.ensures,
+      enough c.args.self.now.pieces c.args.self.now.sound c.args.container c.args.quota c.args.label.now (is.Segment (replicate (256 * c.args.pages) 0))
+          c.requires.fitting (stored_test c.args.label.now c.requires.label) c.in-Some.parent.0 c.in-Some.ensures.found.has,
+    )
 
 pub invariant_of-self : goal.invariant_of-self
 invariant_of-self c = record {

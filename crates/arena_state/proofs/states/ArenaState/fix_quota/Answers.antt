@@ -10,7 +10,7 @@ fixing q = record q { fixed = true }
 pub invariant_of-self : goal.invariant_of-self
 invariant_of-self c = record {
   sound = edited_sound c.args.self.now.pieces c.args.self.now.sound c.args.id c.in-Some.slot.0 c.in-Some.ensures.found.has
-    (fixing) (made_fixed) (λ r l. refl) (fixed_keeps) (λ i r. refl) (λ r. refl) c.index_mut.result.now c.index_mut.ensures.value;
+      (fixing) (made_fixed) (λ r l. refl) (fixed_keeps) (λ i r. refl) (λ r. refl) c.index_mut.result.now c.index_mut.ensures.value;
 }
 
 pub returns-in-Some-clause-state : goal.returns-in-Some-clause-state

@@ -1,4 +1,4 @@
-use Rattle.std.proofs.Common.{◌≡◌, ◌<◌, ◌≤◌, ℕ, Option, Some, sym, ap, ◌∙◌, arith}
+use Rattle.std.proofs.Common.{ℕ, Option, Some, sym, ap, ◌∙◌, arith}
 use Rattle.arena_state.proofs.ViewLaws.{id_at, id_past}
 use Rattle.arena_state.proofs.states.ArenaState.kept_live.Goals as goal
 

@@ -1,4 +1,4 @@
-use Rattle.std.proofs.Common.{◌≡◌, ◌==◌, ℕ, ap, ◌∙◌}
+use Rattle.std.proofs.Common.{◌==◌, ℕ, ap, ◌∙◌}
 use Rattle.std.specs.Int.RustNames.{bit_and}
 use Rattle.arena_state.proofs.LabelLaws.{order_read, below_bit, visible_bit, shown_bit}
 use Rattle.arena_state.proofs.states.ArenaState.order.Goals as goal

@@ -1,4 +1,4 @@
-use Rattle.std.proofs.Common.{◌≡◌, ℕ, ◌∙◌, ap, arith}
+use Rattle.std.proofs.Common.{ap, arith}
 use Rattle.arena_state.specs.declared.records.Record.{Record}
 use Rattle.arena_state.proofs.EditLaws.{read_is}
 use Rattle.arena_state.proofs.RoomLaws.{labels_free}

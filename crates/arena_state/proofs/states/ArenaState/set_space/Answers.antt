@@ -11,7 +11,7 @@ pub invariant_of-self : goal.invariant_of-self
 invariant_of-self c = record {
   sound = subst (λ (r : Record). IsSound (with_record c.args.self.now.pieces c.in-Some.slot.0 r)) (sym c.respace.ensures)
       (edited_sound c.args.self.now.pieces c.args.self.now.sound c.args.thread c.in-Some.slot.0 c.in-Some.ensures.found.has
-    (with_space c.args.space) (spaced c.args.space) (spaced_shape c.args.space c.args.self.now.pieces.holdings.labels) (spaced_keeps c.args.space) (spaced_claims c.args.space) (spaced_use c.args.space) c.index_mut.result.now c.index_mut.ensures.value);
+      (with_space c.args.space) (spaced c.args.space) (spaced_shape c.args.space c.args.self.now.pieces.holdings.labels) (spaced_keeps c.args.space) (spaced_claims c.args.space) (spaced_use c.args.space) c.index_mut.result.now c.index_mut.ensures.value);
 }
 
 pub returns-in-Some-clause-state : goal.returns-in-Some-clause-state
