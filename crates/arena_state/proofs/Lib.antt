@@ -16,3 +16,4 @@ pub mod RebindLaws
 pub mod BindLaws
 pub mod BootLaws
 pub mod ViewLaws
+pub mod ClearLaws

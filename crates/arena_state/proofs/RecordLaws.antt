@@ -125,7 +125,7 @@ further m n h = omega arith
 alone : (j : ℕ) → 0 < one_at j j
 alone j = let one = mine j 0 in omega arith
 
-last : (j n : ℕ) → 0 < n + one_at j j
+pub last : (j n : ℕ) → 0 < n + one_at j j
 last j n = let one = mine j 0 in omega arith
 
 -- a body is the same in pools that agree on what it names

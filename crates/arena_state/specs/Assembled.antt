@@ -159,3 +159,16 @@ fresh_thread clearance verify entry_point = record {
   entry_point = entry_point;
   closure = 0;
 }
+
+-- a body of another clearance, by its index, where it is a thread's
+abbrev pub recleared : ℕ → kept.Kept → kept.Kept
+recleared n (keeps.Container avoid used) = keeps.Container avoid used
+recleared n (keeps.Segment pages) = keeps.Segment pages
+recleared n keeps.AddressSpace = keeps.AddressSpace
+recleared n (keeps.Thread t) = keeps.Thread (record t { clearance = record { 0 = n } })
+recleared n (keeps.Gate g) = keeps.Gate g
+recleared n keeps.Device = keeps.Device
+
+-- a record of another clearance, where it is a thread's
+abbrev pub with_clearance : ℕ → Record → Record
+with_clearance n r = record r { body = recleared n r.body }

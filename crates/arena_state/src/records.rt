@@ -1,6 +1,7 @@
 //! What a slot keeps of its object.
 ghost use Rattle.std.specs.Prelude.{◌≡◌, ◌+◌, ◌-◌, ◌≤◌};
 ghost use Rattle.arena_state.specs.Assembled.{body_use, fresh_record, fresh_thread, with_space, with_use};
+ghost use Rattle.arena_state.specs.Assembled.{with_clearance};
 
 use base::{Data, ObjectId, TypeSet};
 use kernel_rules::Entry;
@@ -125,5 +126,14 @@ pub fn respace(given: &mut Record, space: Entry)
 {
     if let Kept::Thread(thread) = &mut given.body {
         thread.space = space;
+    }
+}
+
+/// A thread has another clearance, by its index. No other record changes.
+pub fn reclear(given: &mut Record, clearance: LabelIx)
+    ensures { given.new ≡ with_clearance clearance.0 given.old }
+{
+    if let Kept::Thread(thread) = &mut given.body {
+        thread.clearance = clearance;
     }
 }
