@@ -110,18 +110,18 @@ module _ (p : Pieces) (s : IsSound p) (id slot : ℕ) (h : HasSlot p.places id s
       let verify : label_of ls t.verify.0 ≡ label_of p.holdings.labels t.verify.0 =
       kept_label t.verify.0 (omega (arith, named t.verify.0, verified)) (omega (arith, names t.verify.0, last t.verify.0 (one_at t.verify.0 new))) in
       let clearance : label_of ls new ≡ l = lets.labels new
-          (owned_here p s id slot h (with_clearance new was) mid ls (λ i. one_at i new) (λ i. one_at i t.clearance.0) takes lets balance new
-          (omega (arith, names new, mine new (one_at new t.verify.0)))) ∙ given in
+      (owned_here p s id slot h (with_clearance new was) mid ls (λ i. one_at i new) (λ i. one_at i t.clearance.0) takes lets balance new
+      (omega (arith, names new, mine new (one_at new t.verify.0)))) ∙ given in
       let bodies : body_of ls (recleared new was.body) list ≡ rethread (λ u. record u { clearance = l }) (body_of p.holdings.labels was.body list)
       = ap (λ (b : kept.Kept). body_of ls (recleared new b) list) t_is
-          ∙ (λ i. is.Thread (record {
-            clearance = clearance i;
-            verify = verify i;
-            space = t.space;
-            entry_point = t.entry_point;
-            closure = t.closure;
-          }))
-          ∙ sym (ap (λ (b : kept.Kept). rethread (λ u. record u { clearance = l }) (body_of p.holdings.labels b list)) t_is) in
+      ∙ (λ i. is.Thread (record {
+        clearance = clearance i;
+        verify = verify i;
+        space = t.space;
+        entry_point = t.entry_point;
+        closure = t.closure;
+      }))
+      ∙ sym (ap (λ (b : kept.Kept). rethread (λ u. record u { clearance = l }) (body_of p.holdings.labels b list)) t_is) in
       (λ i. record (assembled p.holdings.labels was list) { label = own i; body = bodies i })
 
   used : body_use (with_clearance new was).body ≡ body_use was.body

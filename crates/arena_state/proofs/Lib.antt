@@ -17,3 +17,4 @@ pub mod BindLaws
 pub mod BootLaws
 pub mod ViewLaws
 pub mod ClearLaws
+pub mod EnterLaws

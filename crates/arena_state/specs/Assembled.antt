@@ -172,3 +172,7 @@ recleared n keeps.Device = keeps.Device
 -- a record of another clearance, where it is a thread's
 abbrev pub with_clearance : ℕ → Record → Record
 with_clearance n r = record r { body = recleared n r.body }
+
+-- a record of another label that is this thread's
+abbrev pub with_thread : ℕ → KeptThread → Record → Record
+with_thread label t r = record r { label = record { 0 = label }; body = keeps.Thread t }

@@ -11,6 +11,7 @@ mod bindings;
 mod boots;
 mod creations;
 mod edits;
+mod entries;
 mod holdings;
 mod kept;
 mod label_tests;

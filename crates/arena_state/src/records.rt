@@ -1,7 +1,7 @@
 //! What a slot keeps of its object.
 ghost use Rattle.std.specs.Prelude.{◌≡◌, ◌+◌, ◌-◌, ◌≤◌};
 ghost use Rattle.arena_state.specs.Assembled.{body_use, fresh_record, fresh_thread, with_space, with_use};
-ghost use Rattle.arena_state.specs.Assembled.{with_clearance};
+ghost use Rattle.arena_state.specs.Assembled.{with_clearance, with_thread};
 
 use base::{Data, ObjectId, TypeSet};
 use kernel_rules::Entry;
@@ -136,4 +136,12 @@ pub fn reclear(given: &mut Record, clearance: LabelIx)
     if let Kept::Thread(thread) = &mut given.body {
         thread.clearance = clearance;
     }
+}
+
+/// A record of another label that is this thread's, with the use and the flags that it had.
+pub fn rebind(given: &mut Record, label: LabelIx, thread: KeptThread)
+    ensures { given.new ≡ with_thread label.0 thread given.old }
+{
+    given.label = label;
+    given.body = Kept::Thread(thread);
 }

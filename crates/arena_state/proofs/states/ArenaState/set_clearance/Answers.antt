@@ -15,12 +15,12 @@ intern-new-requires c = omega (arith, labels_free c.args.self.now.pieces c.args.
 pub invariant_of-self : goal.invariant_of-self
 invariant_of-self c = record {
   sound = subst (λ (r : Record). IsSound (with_both c.args.self.now.pieces c.in-Some.slot.0 r c.let_go.new.self)) (sym c.reclear.ensures)
-    (cleared_sound c.args.self.now.pieces c.args.self.now.sound c.args.thread c.in-Some.slot.0 c.in-Some.ensures.found.has
-    c.intern-new.result.0 c.args.clearance.now c.requires c.intern-new.new.self c.let_go.new.self c.intern-new.ensures.takes
-    c.intern-new.ensures.given c.in-Thread.kept
-    (sym (ap (λ (r : Record). r.body) (read_is c.args.self.now.pieces c.args.self.now.sound c.args.thread c.in-Some.slot.0 c.in-Some.ensures.found.has c.index.result.now c.index.ensures)) ∙ c.in-Thread.is)
-    c.let_go.ensures.lets c.index_mut.result.now
-    (read_is c.args.self.now.pieces c.args.self.now.sound c.args.thread c.in-Some.slot.0 c.in-Some.ensures.found.has c.index_mut.result.now c.index_mut.ensures.value));
+      (cleared_sound c.args.self.now.pieces c.args.self.now.sound c.args.thread c.in-Some.slot.0 c.in-Some.ensures.found.has
+      c.intern-new.result.0 c.args.clearance.now c.requires c.intern-new.new.self c.let_go.new.self c.intern-new.ensures.takes
+      c.intern-new.ensures.given c.in-Thread.kept
+      (sym (ap (λ (r : Record). r.body) (read_is c.args.self.now.pieces c.args.self.now.sound c.args.thread c.in-Some.slot.0 c.in-Some.ensures.found.has c.index.result.now c.index.ensures)) ∙ c.in-Thread.is)
+      c.let_go.ensures.lets c.index_mut.result.now
+      (read_is c.args.self.now.pieces c.args.self.now.sound c.args.thread c.in-Some.slot.0 c.in-Some.ensures.found.has c.index_mut.result.now c.index_mut.ensures.value));
 }
 
 pub returns-in-Thread : goal.returns-in-Thread
