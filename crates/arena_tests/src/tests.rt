@@ -56,7 +56,9 @@ fn what_is_booted(rt: HostRuntime) -> Result<(), Fail> {
     let (root, boot, device) = (ObjectId::root(), ObjectId::new(2), ObjectId::new(3));
     let scans = m.scans();
     assert!(rt; state.is_there(device, m) && !state.is_there(ObjectId::new(4), m));
-    assert!(rt; state.is_kind(Kind::Thread, boot, m) && state.is_live_kind(Kind::Device, device, m));
+    assert!(rt;
+        state.is_kind(Kind::Thread, boot, m) && state.is_live_kind(Kind::Device, device, m)
+    );
     assert!(rt; state.label(root, m).is_some() && state.clearance(boot, m).is_some());
     assert!(rt; state.clearance(root, m).is_none());
     assert!(rt; state.observes(boot, root, m) && state.flows_to(boot, root, m));
@@ -70,7 +72,10 @@ fn what_is_booted(rt: HostRuntime) -> Result<(), Fail> {
     assert!(rt; state.is_over(root, 61, m) && !state.is_over(root, 60, m));
     assert!(rt; !state.avoids(Kind::Gate, root, m));
     assert!(rt; !state.is_fixed(root, m) && !state.is_immutable(root, m));
-    assert_eq!(rt; state.metadata(root, m).map(|data| data.as_slice().len()), Some(64));
+    assert_eq!(rt;
+        state.metadata(root, m).map(|data| data.as_slice().len()),
+        Some(64)
+    );
     assert_eq!(rt; state.kept_live(2, m), Some(device));
     assert_eq!(rt; state.kept_live(3, m), None);
     assert_eq!(rt; state.next_id().number(), 4);
