@@ -4,16 +4,16 @@ use base::{Category, Level, Meter, NoMemory, ObjectId, Refusal};
 use kernel_rules::{Entry, NewGate, NewThread, Reply};
 use label_lattice::{Label, RawLabel};
 use plain_state::PlainState;
-use thread_calls::{
-    Entering, cat_create, gate_create, gate_enter, obj_label, refused_cat_create, refused_gate_create,
-    refused_gate_enter, refused_obj_label, refused_self_get, refused_self_set_as,
-    refused_self_set_clearance, refused_self_set_label, refused_thread_create, self_get,
-    self_set_as, self_set_clearance, self_set_label, thread_create,
-};
 use std::test::Fail;
 use test_support::{
     LIMITS, boot_thread, everywhere, in_root, is_done, label_with, made, meter_again, no_entry,
     plain, refusal_in,
+};
+use thread_calls::{
+    Entering, cat_create, gate_create, gate_enter, obj_label, refused_cat_create,
+    refused_gate_create, refused_gate_enter, refused_obj_label, refused_self_get,
+    refused_self_set_as, refused_self_set_clearance, refused_self_set_label, refused_thread_create,
+    self_get, self_set_as, self_set_clearance, self_set_label, thread_create,
 };
 
 fn is_entered(reply: Reply, wanted: u64, handed: u64) -> bool {

@@ -18,3 +18,6 @@ pub mod Spares
 pub mod Asked
 pub mod WellFormeds
 pub mod Removals
+pub mod Distinct
+pub mod Losses
+pub mod Lists

@@ -1,5 +1,6 @@
 -- What a visitor is handed.
-use Rattle.std.specs.Prelude.{◌≡◌, ◌⊎◌, ℕ, true, List, [], ◌∷◌, map, slice_index, Contains}
+use Rattle.std.specs.Prelude.{◌≡◌, ◌⊎◌, ℕ, ◌+◌, true, not, ◌&&◌, List, [], ◌∷◌, map, slice_index}
+use Rattle.std.specs.Prelude.{sum_by, Contains}
 use Rattle.std.proofs.Common.{inl, inr}
 use Rattle.containers.specs.declared.visitor.Place.{Place}
 use Rattle.base.specs.Live.{has, links}
@@ -83,3 +84,11 @@ pub record IsHanded {T : Type 0} (old new : Tree T)
       → (has (ids_in new.lists) i ≡ true) ⊎ Contains (object_ids dead) i
   pub objects_once : IsOnce (object_ids dead)
   pub objects_slots : (p : Place) → Contains dead p → HasSlot old p.id p.slot.0
+
+-- who is dead was there and isn't; and by any weight of slots, those of the old tree weigh what
+-- those of the new one and of the dead weigh
+pub record IsLost {T : Type 0} (old new : Tree T) (dead : List Place) : Type 0 where
+  pub died : (i : ℕ) → has (object_ids dead) i
+      ≡ (has (ids_in old.lists) i && not (has (ids_in new.lists) i))
+  pub weighed : (f : ℕ → ℕ) → sum_by f old.slots
+      ≡ sum_by f new.slots + sum_by (λ p. f p.slot.0) dead

@@ -59,7 +59,7 @@ impl<T: Drop> Containers<T> {
     ghost use Rattle.containers.specs.Tree.{record_at, HasSlot, IsRoot};
     ghost use Rattle.containers.specs.Lends.{lends_record};
     ghost use Rattle.containers.specs.WellFormed.{IsWellFormed};
-    ghost use Rattle.containers.specs.Visits.{IsHanded, IsTold};
+    ghost use Rattle.containers.specs.Visits.{IsHanded, IsTold, IsLost};
 
     /// The root alone, under the id 1 and with this record, in a pool of so many slots and as many links. Only this takes
     /// memory; the error is want of it.
@@ -89,6 +89,14 @@ impl<T: Drop> Containers<T> {
         ensures well_formed { IsWellFormed self.now }
     {
         self.arena.len()
+    }
+
+    /// Ids rise, each has a slot of its own with a record, each that is listed is there, none lists the root, and none
+    /// lists an id twice. Nothing is done: a caller's proof has this from a call.
+    pub fn well_formed(&self)
+        ensures { IsWellFormed self.now }
+    {
+        let _count = self.len();
     }
 
     /// The id at a place among the live ids, from 0 to `len` - 1, in which ids rise. One probe.
@@ -269,7 +277,8 @@ impl<T: Drop> Containers<T> {
             → HasSlot self.old id slot × (record_at self.new slot ≡ record_at self.old slot) }
         ensures pool { length self.new.cells ≡ length self.old.cells }
         ensures handed { (went : _) × (dead : _) × IsHanded self.old self.new went dead
-            × IsTold V.link_gives V.object_gives visitor.old visitor.new went dead }
+            × IsTold V.link_gives V.object_gives visitor.old visitor.new went dead
+            × IsLost self.old self.new dead }
         ensures scans { meter.new.scans ≡ meter.old.scans }
     {
         match self.arena.find(container, meter) {

@@ -1,12 +1,22 @@
 -- What an index of a pool has: a label with its owners, or nothing.
-use Rattle.std.specs.Prelude.{◌≡◌, ◌≢◌, ℕ, ◌+◌, ◌-◌, ◌<◌, List, Option, Some, None, get_or}
+use Rattle.std.specs.Prelude.{◌≡◌, ◌≢◌, ℕ, ◌+◌, ◌-◌, ◌<◌, List, [], Option, Some, None, get_or}
 use Rattle.std.specs.Prelude.{is_some, count_by, sum_by, nat_lt, if◌then◌else◌}
+use Rattle.base.specs.declared.levels.Level.TheVariants.{L1}
 use Rattle.label_lattice.specs.Label.{LabelValue}
 use Rattle.label_intern.specs.declared.held.Held.{Held}
 
 -- what an index has, if it has a label
 abbrev pub held_at : List (Option Held) → ℕ → Option Held
 held_at slots i = get_or slots i None
+
+-- the label of a place, and some label where it has none
+abbrev pub label_in : Option Held → LabelValue
+label_in None = record { default_level = L1; exceptions = [] }
+label_in (Some h) = h.label
+
+-- the label of an index, and some label where it has none
+abbrev pub label_of : List (Option Held) → ℕ → LabelValue
+label_of slots i = label_in (held_at slots i)
 
 -- how many labels are stored
 abbrev pub stored : List (Option Held) → ℕ

@@ -1,7 +1,6 @@
 //! What walks the places of a pool, by index from 0.
-ghost use Rattle.std.specs.Prelude.{◌≡◌, ◌<◌, ◌+◌, ◌*◌, ◌^◌, None, IfSome, IfNone, length};
-ghost use Rattle.label_intern.specs.Held.{held_at, stored, fewer, raised, owners_in, HasLabel};
-ghost use Rattle.label_intern.specs.Held.{LacksLabel};
+ghost use Rattle.std.specs.Prelude.{◌≡◌, ◌<◌, ◌+◌, ◌*◌, ◌^◌, None, length};
+ghost use Rattle.label_intern.specs.Held.{held_at, stored, fewer, raised, owners_in};
 ghost use Rattle.label_intern.specs.Fill.{IsFilled};
 ghost use Rattle.base.specs.Counts.{ScansAtMost};
 
@@ -9,22 +8,6 @@ use crate::held::Held;
 use crate::table::Table;
 use base::Meter;
 use label_lattice::Label;
-
-/// The index of an equal label, none where there is none. At most one scan for each stored label.
-pub fn place_of(slots: &[Option<Held>], label: &Label, meter: &mut Meter) -> Option<usize>
-    ensures scans { ScansAtMost (stored slots.now) meter.old meter.new }
-    ensures found { IfSome result (λ i. HasLabel slots.now i label.now) }
-    ensures none { IfNone result (LacksLabel slots.now label.now) }
-{
-    for i in 0..slots.len() {
-        if let Some(held) = &slots[i] {
-            if held.label.same(label, meter) {
-                return Some(i);
-            }
-        }
-    }
-    None
-}
 
 /// A free index, where not all are taken.
 pub fn free_place(slots: &[Option<Held>]) -> usize

@@ -4,7 +4,8 @@ ghost use Rattle.std.specs.Prelude.{IfOk, IfSome, length, replicate, slice_set};
 
 use crate::held::Held;
 use crate::order::OrderBits;
-use crate::places::{fill, free_place, place_of, with_fewer, with_more};
+use crate::places::{fill, free_place, with_fewer, with_more};
+use crate::search::{put_at, seek, unlist};
 use crate::table::Table;
 use base::{Meter, NoMemory};
 use label_lattice::Label;
@@ -21,6 +22,8 @@ pub struct LabelIx(pub u16);
 pub struct Labels {
     slots: Vec<Option<Held>>,
     table: Table,
+    // The indexes that have a label, by rising labels.
+    listed: Vec<u16>,
 }
 
 impl Model for Labels {
@@ -29,16 +32,23 @@ impl Model for Labels {
 
     ghost Value = { List (Option Held) };
 
+    ghost use Rattle.std.specs.Prelude.{◌≤◌, length, vec_capacity};
     ghost use Rattle.label_intern.specs.Kept.{IsKept};
+    ghost use Rattle.label_intern.specs.Listed.{IsListed};
 
     ghost view = { λ l. l.slots.items };
 
-    ghost invariant = { λ l. IsKept l.slots.items l.table };
+    ghost invariant = { λ l. IsKept l.slots.items l.table
+        × IsListed l.slots.items l.listed.items
+        × (length l.slots.items ≤ vec_capacity l.listed) };
 }
 
 impl Labels {
     ghost use Rattle.label_lattice.specs.Bits.{bits_of};
     ghost use Rattle.label_intern.specs.Held.{held_at, stored, owned, fewer, raised, IsInterned};
+    ghost use Rattle.label_intern.specs.Held.{label_of};
+    ghost use Rattle.label_intern.specs.Halves.{ScansByHalves};
+    ghost use Rattle.label_intern.specs.Owners.{one_at, Takes, Lets, release_at};
     ghost use Rattle.base.specs.Counts.{ScansAtMost};
 
     /// A pool of so many indexes, with no label. Only this takes memory; the error is want of it.
@@ -48,7 +58,19 @@ impl Labels {
     {
         let slots = vec![in alloc; None; pool]?;
         let table = Table::new(alloc, pool)?;
-        Ok(Labels { slots, table })
+        let listed = Vec::with_capacity(alloc, pool)?;
+        Ok(Labels {
+            slots,
+            table,
+            listed,
+        })
+    }
+
+    /// Each stored label has an owner, and one index alone. Nothing is done: a caller's proof has this from a call.
+    pub fn well_formed(&self)
+        ensures { IsInterned self.now }
+    {
+        let _slots = &self.slots;
     }
 
     /// How many labels are stored.
@@ -89,7 +111,8 @@ impl Labels {
     }
 
     /// The index of a label, which has one owner more: the index of the equal label where one is stored, a free one
-    /// where none is. All other indexes stay. At most three scans, and seven for each label that was stored.
+    /// where none is. All other indexes stay. At most three scans, and seven for each label that was stored; a label that
+    /// was stored itself is found by halves.
     pub fn intern(&mut self, label: &Label, meter: &mut Meter) -> LabelIx
         requires { owned self.old < length self.old }
         ensures within { result.0 < length self.old }
@@ -97,15 +120,20 @@ impl Labels {
         ensures after { self.new
             ≡ slice_set self.old result.0 (raised (held_at self.old result.0) label.now) }
         ensures owners { owned self.new ≡ owned self.old + 1 }
+        ensures takes { Takes self.old self.new (λ i. one_at i result.0) }
+        ensures given { label_of self.new result.0 ≡ label.now }
         ensures growth { stored self.new ≤ stored self.old + 1 }
         ensures interned { IsInterned self.new }
         ensures scans { ScansAtMost (7 * stored self.old + 3) meter.old meter.new }
+        ensures known { IfSome (held_at self.old result.0)
+            (λ _. ScansByHalves (2 * stored self.old + 1) meter.old meter.new) }
     {
-        let at = match place_of(&self.slots, label, meter) {
-            Some(at) => at,
-            None => {
+        let at = match seek(&self.slots, &self.listed, label, meter) {
+            Ok(at) => at,
+            Err(place) => {
                 let at = free_place(&self.slots);
                 fill(&mut self.table, &self.slots, at, label, meter);
+                put_at(&mut self.listed, place, at as u16);
                 at
             }
         };
@@ -119,10 +147,22 @@ impl Labels {
         requires { IsSome (held_at self.old at.0) }
         ensures after { self.new ≡ slice_set self.old at.0 (fewer (held_at self.old at.0)) }
         ensures owners { owned self.old ≡ owned self.new + 1 }
+        ensures lets { Lets self.old self.new (λ i. one_at i at.0) }
         ensures growth { stored self.new ≤ stored self.old }
         ensures interned { IsInterned self.new }
     {
-        let at = usize::from(at.0);
-        self.slots[at] = with_fewer(self.slots[at]);
+        let slot = usize::from(at.0);
+        let left = with_fewer(self.slots[slot]);
+        unlist(&self.slots, &mut self.listed, at.0, &left);
+        self.slots[slot] = left;
+    }
+    /// Takes an owner from the label of an index, where it has one. All other indexes stay.
+    pub fn let_go(&mut self, at: LabelIx)
+        ensures after { self.new ≡ release_at self.old at.0 }
+        ensures lets { Lets self.old self.new (λ i. one_at i at.0) }
+    {
+        if self.holds(at) {
+            self.release(at);
+        }
     }
 }

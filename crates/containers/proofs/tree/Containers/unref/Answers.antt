@@ -1,14 +1,17 @@
-use Rattle.std.proofs.Common.{rules, ◌≡◌, ℕ, ◌<◌, List, ◌∷◌, length, get_or, true, sym, ap, ◌∙◌, subst, arith}
+use Rattle.std.proofs.Common.{rules, ◌≡◌, ℕ, ◌<◌, List, ◌∷◌, Option, length, get_or, true, sym, ap, ◌∙◌, subst, arith}
 use Rattle.base.specs.Live.{links}
 use Rattle.containers.specs.Tree.{Tree, HasSlot, record_at, cut_lists, live_part}
 use Rattle.containers.specs.View.{lists_of}
 use Rattle.containers.specs.Sweep.{IsTree}
-use Rattle.containers.specs.Visits.{IsTold, named, named_one, object_ids, IsHanded}
+use Rattle.containers.specs.Visits.{IsTold, named, named_one, object_ids, IsHanded, IsLost}
 use Rattle.containers.specs.Directory.{IsDirectory}
 use Rattle.containers.specs.Cells.{IsRecorded}
-use Rattle.object_arena.specs.Objects.{IsWithoutAll, object_at}
+use Rattle.object_arena.specs.Objects.{IsWithoutAll, Rises, object_at}
+use Rattle.entry_lists.specs.Lists.{Lists}
 use Rattle.containers.proofs.Removals.{directory_left, object_left}
 use Rattle.containers.proofs.Lives.{lists_live}
+use Rattle.containers.proofs.Losses.{IsShown, lost}
+use Rattle.containers.proofs.Views.{ids_are}
 use Rattle.containers.proofs.Unrefs.{handed, slot_kept, kept_then, container_there, object_there, d_named, o_named, slots_listed, tree_slots}
 use Rattle.containers.proofs.tree.Containers.unref.Given as given
 use Rattle.containers.proofs.tree.Containers.unref.Goals as goal
@@ -53,6 +56,16 @@ ready g c =
       o_is = o_named a.size a.root a.rings a.names.items a.arena.ids a.arena.slots k c.args.container c.args.object linked p.0 q.0 c.in-Some.d.0 c.in-Some-find.o.0 p.1.within q.1.within p.1.id_is q.1.id_is p.1.slot_is q.1.slot_is;
     }
 
+-- a directory is shown with a slot for each rising id
+shown : (g : given.Over) (r : List Lists) (names ids slots : List ℕ) (cells : List (Option g.row.T.Denot)) → length ids ≡ length slots → Rises ids
+    → IsShown {T = g.row.T.Denot} (record { lists = lists_of r names ids slots; slots = slots; cells = cells })
+shown g r names ids slots cells beside rises =
+    let same = ids_are r names ids slots beside in
+    record {
+      beside = ap (λ (xs : List ℕ). length xs) same ∙ beside;
+      rises = subst (λ (xs : List ℕ). Rises xs) (sym same) rises;
+    }
+
 pub invariant_of-self : goal.invariant_of-self
 invariant_of-self g c =
     let a = c.self.inside in
@@ -88,11 +101,19 @@ returns-clause-handed g c =
     let cut = c.cut_link.ensures.cut in
     let e = c.deref.ensures.value in
     let told = handed a.size a.root a.rings c.cut_link.new.rings c.in-Some.d.0 c.in-Some-find.o.0 cut.0 cut.1 cut.2 a.names.items a.arena.ids a.arena.slots c.remove_all.new.self.ids c.remove_all.new.self.slots c.self.invariant.0 r.dir a.arena.cells c.remove_all.new.self.cells in
-    let after : Tree g.row.T.Denot = record { lists = lists_of c.cut_link.new.rings a.names.items c.remove_all.new.self.ids c.remove_all.new.self.slots; slots = c.remove_all.new.self.slots; cells = c.remove_all.new.self.cells } in (
-      named a.names.items ((c.in-Some.d.0, c.in-Some-find.o.0) ∷ cut.0),
-      named_one a.names.items cut.1,
-      subst (λ (t : Tree g.row.T.Denot). IsHanded t after (named a.names.items ((c.in-Some.d.0, c.in-Some-find.o.0) ∷ cut.0)) (named_one a.names.items cut.1)) c.self.view_is told,
+    let before : Tree g.row.T.Denot = record { lists = lists_of a.rings a.names.items a.arena.ids a.arena.slots; slots = a.arena.slots; cells = a.arena.cells } in
+    let after : Tree g.row.T.Denot = record { lists = lists_of c.cut_link.new.rings a.names.items c.remove_all.new.self.ids c.remove_all.new.self.slots; slots = c.remove_all.new.self.slots; cells = c.remove_all.new.self.cells } in
+    let went = named a.names.items ((c.in-Some.d.0, c.in-Some-find.o.0) ∷ cut.0) in
+    let dead = named_one a.names.items cut.1 in
+    let gone = lost before after went dead told
+    (shown g a.rings a.names.items a.arena.ids a.arena.slots a.arena.cells c.self.invariant.0.directory.beside c.self.invariant.0.directory.rises)
+    (shown g c.cut_link.new.rings a.names.items c.remove_all.new.self.ids c.remove_all.new.self.slots c.remove_all.new.self.cells r.dir.beside r.dir.rises)
+    (λ id slot h. (slot_kept a.size a.root a.rings c.cut_link.new.rings c.in-Some.d.0 c.in-Some-find.o.0 cut.0 cut.1 cut.2 a.names.items a.arena.ids a.arena.slots c.remove_all.new.self.ids c.remove_all.new.self.slots c.self.invariant.0 r.dir a.arena.cells c.remove_all.new.self.cells id slot h).1) in (
+      went,
+      dead,
+      subst (λ (t : Tree g.row.T.Denot). IsHanded t after went dead) c.self.view_is told,
       subst (λ (xs : List ℕ). IsTold g.V.Visitor.link_gives g.V.Visitor.object_gives c.args.visitor.now c.cut_link.new.visitor (named xs ((c.in-Some.d.0, c.in-Some-find.o.0) ∷ cut.0)) (named_one xs cut.1)) e cut.3,
+      subst (λ (t : Tree g.row.T.Denot). IsLost t after dead) c.self.view_is gone,
     )
 
 pub unreachable-requires : goal.unreachable-requires

@@ -1,12 +1,19 @@
+use Rattle.std.proofs.Common.{arith, length-set}
 use Rattle.label_intern.proofs.HeldLemmas.{after_fewer, some_within}
+use Rattle.label_intern.proofs.OwnersLemmas.{owned_fewer}
 use Rattle.label_intern.proofs.pool.Labels.release.Goals as goal
 
 pub invariant_of-self : goal.invariant_of-self
 invariant_of-self c =
-    let at_in = some_within c.self.inside.slots.items _ c.from-at.result _ c.self.view_is c.from-at.ensures c.requires in
-    after_fewer _ _ _ _ _ at_in c.index.ensures c.with_fewer.ensures c.self.invariant
+    let at_in = some_within c.self.inside.slots.items _ c.from-slot.result _ c.self.view_is c.from-slot.ensures c.requires in (
+      after_fewer _ _ _ _ _ at_in c.index.ensures c.with_fewer-left.ensures c.self.invariant.0,
+      rw c.from-slot.ensures (rw c.deref.ensures.value at c.unlist.ensures.listed),
+      omega (arith, length-set c.self.inside.slots.items c.from-slot.result c.with_fewer-left.result, c.unlist.ensures.capacity, c.self.invariant.2),
+    )
 
 pub returns-clause-interned : goal.returns-clause-interned
-returns-clause-interned c =
-    let kept = invariant_of-self c in
-    kept.interned
+returns-clause-interned c = (invariant_of-self c).0.interned
+
+pub returns-clause-owners : goal.returns-clause-owners
+returns-clause-owners c =
+    owned_fewer _ _ _ _ _ _ c.self.view_is c.from-slot.ensures c.requires c.index.ensures c.with_fewer-left.ensures c.self.invariant.0.interned

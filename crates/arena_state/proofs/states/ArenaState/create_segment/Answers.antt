@@ -1,0 +1,59 @@
+use Rattle.std.proofs.Common.{refl, ap, arith, ◌*◌, replicate}
+use Rattle.arena_state.proofs.RecordLaws.{segment_cost}
+use Rattle.kernel_rules.proofs.StoredLaws.{stored_test}
+use Rattle.kernel_rules.specs.declared.objects.Body.TheVariants as is
+use Rattle.label_intern.proofs.OwnersLemmas.{takes_as}
+use Rattle.arena_state.specs.declared.records.Record.{Record}
+use Rattle.arena_state.specs.declared.records.Kept.TheVariants as keeps
+use Rattle.arena_state.proofs.CreateLaws.{labels_fit, slot_room, link_room, below_next, enough}
+use Rattle.arena_state.proofs.NewLaws.{new_sound, new_state}
+use Rattle.arena_state.proofs.states.ArenaState.create_segment.Goals as goal
+
+pub intern-label-requires : goal.intern-label-requires
+intern-label-requires c =
+    omega (
+      arith,
+      labels_fit c.args.self.now.pieces c.args.self.now.sound c.args.container c.args.quota c.args.label.now (is.Segment (replicate (256 * c.args.pages) 0))
+          c.requires.fitting (stored_test c.args.label.now c.requires.label),
+    )
+
+pub place-requires-clause-rises : goal.place-requires-clause-rises
+place-requires-clause-rises c =
+    below_next c.args.self.now.pieces c.args.self.now.sound c.args.container c.args.quota c.args.label.now (is.Segment (replicate (256 * c.args.pages) 0))
+    c.requires.fitting (stored_test c.args.label.now c.requires.label)
+
+pub place-requires-clause-slots : goal.place-requires-clause-slots
+place-requires-clause-slots c =
+    slot_room c.args.self.now.pieces c.args.self.now.sound c.args.container c.args.quota c.args.label.now (is.Segment (replicate (256 * c.args.pages) 0))
+    c.requires.fitting (stored_test c.args.label.now c.requires.label)
+
+pub place-requires-clause-room : goal.place-requires-clause-room
+place-requires-clause-room c =
+    link_room c.args.self.now.pieces c.args.self.now.sound c.args.container c.args.quota c.args.label.now (is.Segment (replicate (256 * c.args.pages) 0))
+    c.requires.fitting (stored_test c.args.label.now c.requires.label)
+
+pub place-requires-clause-quota : goal.place-requires-clause-quota
+place-requires-clause-quota c =
+    omega (
+      arith,
+      ap (λ (r : Record). r.quota) c.fresh_record-given.ensures,
+      enough c.args.self.now.pieces c.args.self.now.sound c.args.container c.args.quota c.args.label.now (is.Segment (replicate (256 * c.args.pages) 0))
+          c.requires.fitting (stored_test c.args.label.now c.requires.label) c.in-Some.parent.0 c.in-Some.ensures.found.has,
+    )
+
+pub invariant_of-self : goal.invariant_of-self
+invariant_of-self c = record {
+  sound = new_sound c.args.self.now.pieces c.args.self.now.sound c.args.container c.args.quota c.args.label.now (is.Segment (replicate (256 * c.args.pages) 0))
+      c.requires.fitting (stored_test c.args.label.now c.requires.label)
+      c.in-Some.parent.0 c.in-Some.ensures.found.has c.intern-label.new.self c.intern-label.result.0 (keeps.Segment c.args.pages)
+      c.fresh_record-given.result c.fresh_record-given.ensures c.place.new.pieces c.place.ensures.placed
+      (takes_as _ _ _ _ (λ i. omega arith) c.intern-label.ensures.takes) (c.intern-label.ensures.given) (refl) (segment_cost c.args.pages);
+}
+
+pub returns-clause-state : goal.returns-clause-state
+returns-clause-state c =
+    new_state c.args.self.now.pieces c.args.self.now.sound c.args.container c.args.quota c.args.label.now (is.Segment (replicate (256 * c.args.pages) 0))
+    c.requires.fitting (stored_test c.args.label.now c.requires.label)
+    c.in-Some.parent.0 c.in-Some.ensures.found.has c.intern-label.new.self c.intern-label.result.0 (keeps.Segment c.args.pages)
+    c.fresh_record-given.result c.fresh_record-given.ensures c.place.new.pieces c.place.ensures.placed
+    (takes_as _ _ _ _ (λ i. omega arith) c.intern-label.ensures.takes) (c.intern-label.ensures.given) (refl) (segment_cost c.args.pages)

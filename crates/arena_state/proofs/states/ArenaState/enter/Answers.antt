@@ -1,0 +1,68 @@
+use Rattle.std.proofs.Common.{◌≡◌, ℕ, ◌+◌, sym, ◌∙◌, ap, subst, arith}
+use Rattle.label_intern.specs.Owners.{one_at}
+use Rattle.label_intern.proofs.OwnersLemmas.{takes_as, takes_then, lets_as, lets_then}
+use Rattle.kernel_rules.specs.Changes.{changed, entered}
+use Rattle.arena_state.specs.declared.records.Record.{Record}
+use Rattle.arena_state.specs.Assembled.{pieces_state}
+use Rattle.arena_state.specs.Sound.{IsSound}
+use Rattle.arena_state.proofs.EditLaws.{read_is}
+use Rattle.arena_state.proofs.NewLaws.{still}
+use Rattle.arena_state.proofs.RoomLaws.{labels_free}
+use Rattle.arena_state.proofs.RebindLaws.{with_both}
+use Rattle.arena_state.proofs.EnterLaws.{entered_sound, entered_state, entered_other}
+use Rattle.arena_state.proofs.states.ArenaState.enter.Goals as goal
+
+pub intern-own-requires : goal.intern-own-requires
+intern-own-requires c = omega (arith, labels_free c.args.self.now.pieces c.args.self.now.sound)
+
+pub intern-high-requires : goal.intern-high-requires
+intern-high-requires c =
+    omega (arith, labels_free c.args.self.now.pieces c.args.self.now.sound, c.intern-own.ensures.owners, c.intern-own.ensures.takes.pool)
+
+pub intern-shown-requires : goal.intern-shown-requires
+intern-shown-requires c =
+    omega (
+      arith,
+      labels_free c.args.self.now.pieces c.args.self.now.sound,
+      c.intern-own.ensures.owners,
+      c.intern-own.ensures.takes.pool,
+      c.intern-high.ensures.owners,
+      c.intern-high.ensures.takes.pool,
+    )
+
+pub invariant_of-self : goal.invariant_of-self
+invariant_of-self c = record {
+  sound = subst (λ (r : Record). IsSound (with_both c.args.self.now.pieces c.in-Some.slot.0 r c.let_go-in-Thread-2.new.self)) (sym c.rebind.ensures)
+      (entered_sound c.args.self.now.pieces c.args.self.now.sound c.args.thread c.in-Some.slot.0 c.in-Some.ensures.found.has
+      c.intern-own.result.0 c.intern-high.result.0 c.intern-shown.result.0 c.args.label.now c.args.clearance.now c.args.verify.now c.args.gate.now
+      c.requires.label c.requires.clearance c.requires.verify c.intern-shown.new.self c.let_go-in-Thread-2.new.self
+      (takes_as _ _ _ _ (λ i. omega arith) (takes_then _ _ _ _ _ c.intern-own.ensures.takes (takes_then _ _ _ _ _ c.intern-high.ensures.takes c.intern-shown.ensures.takes)))
+      (still _ _ _ _ _ _ c.intern-own.ensures.takes c.intern-own.ensures.given (takes_then _ _ _ _ _ c.intern-high.ensures.takes c.intern-shown.ensures.takes))
+      (still _ _ _ _ _ _ c.intern-high.ensures.takes c.intern-high.ensures.given c.intern-shown.ensures.takes) c.intern-shown.ensures.given
+      c.in-Thread.old (sym (ap (λ (r : Record). r.body) (read_is c.args.self.now.pieces c.args.self.now.sound c.args.thread c.in-Some.slot.0 c.in-Some.ensures.found.has c.index-in-Some.result.now c.index-in-Some.ensures)) ∙ c.in-Thread.is)
+      (lets_as _ _ _ _ (λ i. ap (λ (r : Record). one_at i r.label.0 + (one_at i c.in-Thread.old.clearance.0 + one_at i c.in-Thread.old.verify.0)) (read_is c.args.self.now.pieces c.args.self.now.sound c.args.thread c.in-Some.slot.0 c.in-Some.ensures.found.has c.index.result.now c.index.ensures))
+      (lets_then _ _ _ _ _ c.let_go.ensures.lets (lets_then _ _ _ _ _ c.let_go-in-Thread.ensures.lets c.let_go-in-Thread-2.ensures.lets)))
+      c.index_mut.result.now (read_is c.args.self.now.pieces c.args.self.now.sound c.args.thread c.in-Some.slot.0 c.in-Some.ensures.found.has c.index_mut.result.now c.index_mut.ensures.value));
+}
+
+pub returns-in-Thread : goal.returns-in-Thread
+returns-in-Thread c =
+    subst (λ (r : Record). pieces_state (with_both c.args.self.now.pieces c.in-Some.slot.0 r c.let_go-in-Thread-2.new.self)
+    ≡ changed (pieces_state c.args.self.now.pieces) c.args.thread (entered c.args.label.now c.args.clearance.now c.args.verify.now c.args.gate.now)) (sym c.rebind.ensures)
+    (entered_state c.args.self.now.pieces c.args.self.now.sound c.args.thread c.in-Some.slot.0 c.in-Some.ensures.found.has
+    c.intern-own.result.0 c.intern-high.result.0 c.intern-shown.result.0 c.args.label.now c.args.clearance.now c.args.verify.now c.args.gate.now
+    c.requires.label c.requires.clearance c.requires.verify c.intern-shown.new.self c.let_go-in-Thread-2.new.self
+    (takes_as _ _ _ _ (λ i. omega arith) (takes_then _ _ _ _ _ c.intern-own.ensures.takes (takes_then _ _ _ _ _ c.intern-high.ensures.takes c.intern-shown.ensures.takes)))
+    (still _ _ _ _ _ _ c.intern-own.ensures.takes c.intern-own.ensures.given (takes_then _ _ _ _ _ c.intern-high.ensures.takes c.intern-shown.ensures.takes))
+    (still _ _ _ _ _ _ c.intern-high.ensures.takes c.intern-high.ensures.given c.intern-shown.ensures.takes) c.intern-shown.ensures.given
+    c.in-Thread.old (sym (ap (λ (r : Record). r.body) (read_is c.args.self.now.pieces c.args.self.now.sound c.args.thread c.in-Some.slot.0 c.in-Some.ensures.found.has c.index-in-Some.result.now c.index-in-Some.ensures)) ∙ c.in-Thread.is)
+    (lets_as _ _ _ _ (λ i. ap (λ (r : Record). one_at i r.label.0 + (one_at i c.in-Thread.old.clearance.0 + one_at i c.in-Thread.old.verify.0)) (read_is c.args.self.now.pieces c.args.self.now.sound c.args.thread c.in-Some.slot.0 c.in-Some.ensures.found.has c.index.result.now c.index.ensures))
+    (lets_then _ _ _ _ _ c.let_go.ensures.lets (lets_then _ _ _ _ _ c.let_go-in-Thread.ensures.lets c.let_go-in-Thread-2.ensures.lets)))
+    c.index_mut.result.now (read_is c.args.self.now.pieces c.args.self.now.sound c.args.thread c.in-Some.slot.0 c.in-Some.ensures.found.has c.index_mut.result.now c.index_mut.ensures.value))
+
+pub returns-in_default : goal.returns-in_default
+returns-in_default c =
+    c.set_label.ensures
+    ∙ entered_other c.args.self.now.pieces c.args.self.now.sound c.args.thread c.in-Some.slot.0 c.in-Some.ensures.found.has
+    c.args.label.now c.args.clearance.now c.args.verify.now c.args.gate.now
+    (λ t e. c.in_default.not-Thread t (ap (λ (r : Record). r.body) (read_is c.args.self.now.pieces c.args.self.now.sound c.args.thread c.in-Some.slot.0 c.in-Some.ensures.found.has c.index-in-Some.result.now c.index-in-Some.ensures) ∙ e))

@@ -1,0 +1,82 @@
+//! New threads and gates, which store labels beside their own.
+ghost use Rattle.std.specs.Prelude.{◌≡◌};
+ghost use Rattle.label_lattice.specs.Label.{IsStored};
+ghost use Rattle.kernel_rules.specs.Changes.{made, fresh_object};
+ghost use Rattle.kernel_rules.specs.Fitting.{IsFitting};
+ghost use Rattle.kernel_rules.specs.Step.{new_thread};
+ghost use Rattle.kernel_rules.specs.declared.objects.Body.TheVariants as is;
+ghost use Rattle.arena_state.specs.States.{state_of};
+
+use crate::placing::place;
+use crate::records::{Kept, KeptGate, fresh_record, kept_thread};
+use crate::states::ArenaState;
+use crate::uniform::uniform;
+use base::{Level, Meter, ObjectId};
+use kernel_rules::Gate;
+use label_lattice::Label;
+
+impl ArenaState {
+    /// A new thread of a label and a clearance, without an address space, gets the next id, as a container does. It
+    /// takes no memory: there are three indexes of labels for each object.
+    pub fn create_thread(
+        &mut self,
+        container: ObjectId,
+        label: &Label,
+        quota: u32,
+        clearance: &Label,
+        entry_point: u64,
+        meter: &mut Meter,
+    ) -> ObjectId
+        requires fitting { IsFitting (state_of self.old) container quota
+            (new_thread clearance.now entry_point) }
+        requires label { IsStored label.now }
+        ensures id { result ≡ (state_of self.old).next_id }
+        ensures state { state_of self.new ≡ made (state_of self.old) container
+            (fresh_object label.now quota (new_thread clearance.now entry_point)) }
+    {
+        match self.slot(container, meter) {
+            Some(parent) => {
+                let top = uniform(Level::L3, meter);
+                let label = self.pieces.holdings.labels.intern(label, meter);
+                let clearance = self.pieces.holdings.labels.intern(clearance, meter);
+                let verify = self.pieces.holdings.labels.intern(&top, meter);
+                let thread = kept_thread(clearance, verify, entry_point);
+                let given = fresh_record(label, quota, Kept::Thread(thread));
+                place(&mut self.pieces, container, parent, given, meter)
+            }
+            None => unreachable!(),
+        }
+    }
+
+    /// A new gate of a label that hands this on gets the next id, as a container does.
+    pub fn create_gate(
+        &mut self,
+        container: ObjectId,
+        label: &Label,
+        quota: u32,
+        gate: &Gate,
+        meter: &mut Meter,
+    ) -> ObjectId
+        requires fitting { IsFitting (state_of self.old) container quota (is.Gate gate.now) }
+        requires label { IsStored label.now }
+        ensures id { result ≡ (state_of self.old).next_id }
+        ensures state { state_of self.new ≡ made (state_of self.old) container
+            (fresh_object label.now quota (is.Gate gate.now)) }
+    {
+        match self.slot(container, meter) {
+            Some(parent) => {
+                let label = self.pieces.holdings.labels.intern(label, meter);
+                let clearance = self.pieces.holdings.labels.intern(&gate.clearance, meter);
+                let kept = KeptGate {
+                    clearance,
+                    space: gate.space,
+                    entry_point: gate.entry_point,
+                    closure: gate.closure,
+                };
+                let given = fresh_record(label, quota, Kept::Gate(kept));
+                place(&mut self.pieces, container, parent, given, meter)
+            }
+            None => unreachable!(),
+        }
+    }
+}

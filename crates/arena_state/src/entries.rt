@@ -1,0 +1,58 @@
+//! A thread that enters a gate: its new labels are stored first, and the old ones let go then.
+ghost use Rattle.std.specs.Prelude.{◌≡◌};
+ghost use Rattle.label_lattice.specs.Label.{IsStored};
+ghost use Rattle.kernel_rules.specs.Changes.{changed, entered};
+ghost use Rattle.arena_state.specs.States.{state_of};
+
+use crate::records::{Kept, KeptThread, rebind};
+use crate::states::ArenaState;
+use base::{Meter, ObjectId};
+use kernel_rules::Gate;
+use label_lattice::Label;
+
+impl ArenaState {
+    /// A thread gets these labels, and what a gate hands on; any other object gets the label alone. It takes no memory:
+    /// three indexes of labels are free for those that one call stores.
+    pub fn enter(
+        &mut self,
+        thread: ObjectId,
+        label: &Label,
+        clearance: &Label,
+        verify: &Label,
+        gate: &Gate,
+        meter: &mut Meter,
+    )
+        requires label { IsStored label.now }
+        requires clearance { IsStored clearance.now }
+        requires verify { IsStored verify.now }
+        ensures { state_of self.new ≡ changed (state_of self.old) thread
+            (entered label.now clearance.now verify.now gate.now) }
+    {
+        match self.slot(thread, meter) {
+            Some(slot) => {
+                let named = self.pieces.holdings.records[slot.0].label;
+                let body = self.pieces.holdings.records[slot.0].body;
+                match body {
+                    Kept::Thread(old) => {
+                        let own = self.pieces.holdings.labels.intern(label, meter);
+                        let high = self.pieces.holdings.labels.intern(clearance, meter);
+                        let shown = self.pieces.holdings.labels.intern(verify, meter);
+                        let new = KeptThread {
+                            clearance: high,
+                            verify: shown,
+                            space: gate.space,
+                            entry_point: gate.entry_point,
+                            closure: gate.closure,
+                        };
+                        rebind(&mut self.pieces.holdings.records[slot.0], own, new);
+                        self.pieces.holdings.labels.let_go(named);
+                        self.pieces.holdings.labels.let_go(old.clearance);
+                        self.pieces.holdings.labels.let_go(old.verify);
+                    }
+                    _ => self.set_label(thread, label, meter),
+                }
+            }
+            None => {}
+        }
+    }
+}

@@ -1,0 +1,145 @@
+//! Tests of the labels of stored objects, by the order bits that are kept. No label is scanned.
+ghost use Rattle.std.specs.Prelude.{◌≡◌, ◌==◌, ◌<◌, IsSome, IfSome, option_copied, true};
+ghost use Rattle.std.specs.Int.RustNames.{bit_and};
+ghost use Rattle.base.specs.declared.kinds.Kind.TheVariants as kinds;
+ghost use Rattle.threads_gates.specs.LabelRules.{both, below, visible, shown};
+ghost use Rattle.label_intern.specs.Held.{held_at, label_of};
+ghost use Rattle.kernel_rules.specs.State.{label_at, clearance_at, observes, flows_to};
+ghost use Rattle.kernel_rules.specs.State.{is_live_kind, is_accessible};
+ghost use Rattle.arena_state.specs.States.{state_of};
+
+use crate::records::Kept;
+use crate::states::ArenaState;
+use base::{Kind, Meter, ObjectId};
+use label_intern::LabelIx;
+use label_lattice::Label;
+
+impl ArenaState {
+    // How the label of one index compares with that of another, both having one.
+    fn order(&self, one: LabelIx, other: LabelIx) -> u8
+        requires one { IsSome (held_at self.now.pieces.holdings.labels one.0) }
+        requires other { IsSome (held_at self.now.pieces.holdings.labels other.0) }
+        ensures below { (bit_and result 1 == 1)
+            ≡ below (label_of self.now.pieces.holdings.labels one.0)
+            (label_of self.now.pieces.holdings.labels other.0) }
+        ensures visible { (bit_and result 2 == 2)
+            ≡ visible (label_of self.now.pieces.holdings.labels one.0)
+            (label_of self.now.pieces.holdings.labels other.0) }
+        ensures shown { (bit_and result 4 == 4)
+            ≡ shown (label_of self.now.pieces.holdings.labels one.0)
+            (label_of self.now.pieces.holdings.labels other.0) }
+    {
+        self.pieces.holdings.labels.order(one, other).0
+    }
+
+    // The label of an index that has one.
+    pub(crate) fn label_at(&self, index: LabelIx) -> &Label
+        requires { IsSome (held_at self.now.pieces.holdings.labels index.0) }
+        ensures { result.now ≡ label_of self.now.pieces.holdings.labels index.0 }
+    {
+        self.pieces.holdings.labels.get(index)
+    }
+
+    /// The label of an object, where it is recorded.
+    pub fn label(&self, id: ObjectId, meter: &mut Meter) -> Option<&Label>
+        ensures value { option_copied result ≡ label_at (state_of self.now) id }
+        ensures scans { meter.new.scans ≡ meter.old.scans }
+    {
+        match self.row(id, meter) {
+            Some(row) => Some(self.label_at(row.label)),
+            None => None,
+        }
+    }
+
+    /// The clearance of a thread, and `None` for any other object.
+    pub fn clearance(&self, thread: ObjectId, meter: &mut Meter) -> Option<&Label>
+        ensures value { option_copied result ≡ clearance_at (state_of self.now) thread }
+        ensures scans { meter.new.scans ≡ meter.old.scans }
+    {
+        match self.row(thread, meter) {
+            Some(row) => match &row.body {
+                Kept::Thread(kept) => Some(self.label_at(kept.clearance)),
+                _ => None,
+            },
+            None => None,
+        }
+    }
+
+    /// Whether a thread observes an object.
+    pub fn observes(&self, thread: ObjectId, id: ObjectId, meter: &mut Meter) -> bool
+        ensures value { result ≡ observes (state_of self.now) thread id }
+        ensures scans { meter.new.scans ≡ meter.old.scans }
+    {
+        match self.row(thread, meter) {
+            Some(own) => match self.row(id, meter) {
+                Some(other) => self.order(other.label, own.label) & 2 == 2,
+                None => false,
+            },
+            None => false,
+        }
+    }
+
+    /// Whether a thread's label is at most an object's.
+    pub fn flows_to(&self, thread: ObjectId, id: ObjectId, meter: &mut Meter) -> bool
+        ensures value { result ≡ flows_to (state_of self.now) thread id }
+        ensures scans { meter.new.scans ≡ meter.old.scans }
+    {
+        match self.row(thread, meter) {
+            Some(own) => match self.row(id, meter) {
+                Some(other) => self.order(own.label, other.label) & 1 == 1,
+                None => false,
+            },
+            None => false,
+        }
+    }
+
+    /// Whether an object's label is at most a thread's clearance.
+    pub fn is_cleared(&self, thread: ObjectId, id: ObjectId, meter: &mut Meter) -> bool
+        ensures value { result
+            ≡ both below (label_at (state_of self.now) id) (clearance_at (state_of self.now) thread) }
+        ensures scans { meter.new.scans ≡ meter.old.scans }
+    {
+        match self.row(id, meter) {
+            Some(other) => match self.row(thread, meter) {
+                Some(own) => match &own.body {
+                    Kept::Thread(kept) => self.order(other.label, kept.clearance) & 1 == 1,
+                    _ => false,
+                },
+                None => false,
+            },
+            None => false,
+        }
+    }
+
+    /// Whether an object's label with star raised is at most a thread's with star raised.
+    pub fn is_shown(&self, thread: ObjectId, id: ObjectId, meter: &mut Meter) -> bool
+        ensures value { result
+            ≡ both shown (label_at (state_of self.now) id) (label_at (state_of self.now) thread) }
+        ensures scans { meter.new.scans ≡ meter.old.scans }
+    {
+        match self.row(thread, meter) {
+            Some(own) => match self.row(id, meter) {
+                Some(other) => self.order(other.label, own.label) & 4 == 4,
+                None => false,
+            },
+            None => false,
+        }
+    }
+
+    /// Whether an id is that of a live object of this kind: each that is recorded is live.
+    pub fn is_live_kind(&self, kind: Kind, id: ObjectId, meter: &mut Meter) -> bool
+        ensures value { result ≡ is_live_kind (state_of self.now) kind id }
+        ensures scans { meter.new.scans ≡ meter.old.scans }
+    {
+        self.is_kind(kind, id, meter)
+    }
+
+    /// Whether an id is that of a live container that the thread observes.
+    pub fn is_accessible(&self, thread: ObjectId, container: ObjectId, meter: &mut Meter) -> bool
+        ensures value { result ≡ is_accessible (state_of self.now) thread container }
+        ensures scans { meter.new.scans ≡ meter.old.scans }
+    {
+        self.is_live_kind(Kind::Container, container, meter)
+            && self.observes(thread, container, meter)
+    }
+}

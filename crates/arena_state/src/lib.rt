@@ -1,0 +1,31 @@
+//! The state of the arena kernel: objects in slots, interned labels, kept uses.
+//!
+//! A contract sees it as a state of the rules, which is well formed. Each change gives the state that the rules name:
+//! no slot, link or label index ever lacks, since each object was admitted by its quota. Only the boot takes memory.
+//! Labels of stored objects are compared by bits that are kept, without a scan. Which calls are refused, and what a
+//! segment's bytes, an address space's slots and a device's packets become, is left to the crates above.
+#![tactic(auto)]
+
+mod bearers;
+mod bindings;
+mod boots;
+mod creations;
+mod edits;
+mod entries;
+mod holdings;
+mod kept;
+mod label_tests;
+mod lists;
+mod pieces;
+mod placing;
+mod reads;
+mod records;
+mod states;
+mod uniform;
+mod unlinks;
+mod uses;
+
+pub use holdings::Holdings;
+pub use pieces::Pieces;
+pub use records::{Kept, KeptGate, KeptThread, Record};
+pub use states::ArenaState;

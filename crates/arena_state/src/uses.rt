@@ -1,0 +1,40 @@
+//! What is kept of uses.
+ghost use Rattle.std.specs.Prelude.{◌≡◌, None, IfSome, IfNone, ◌≤◌, ◌<◌, ◌+◌, ◌^◌};
+ghost use Rattle.kernel_rules.specs.State.{object_at, use_of};
+ghost use Rattle.arena_state.specs.Assembled.{body_use};
+ghost use Rattle.arena_state.specs.States.{state_of};
+
+use crate::records::Kept;
+use crate::states::ArenaState;
+use base::{Meter, ObjectId};
+
+// What is kept of the use of a body. A segment has at most 16 pages.
+fn pages_of(body: &Kept, most: u32) -> u32
+    requires { body_use body.now ≤ most }
+    ensures { result ≡ body_use body.now }
+{
+    let _most = most;
+    match body {
+        Kept::Container(_, used) => *used,
+        Kept::Segment(pages) => 1 + *pages,
+        Kept::AddressSpace | Kept::Thread(_) | Kept::Gate(_) => 1,
+        Kept::Device => 2,
+    }
+}
+
+impl ArenaState {
+    /// What a live object uses, in pages of 256 bytes, as it is kept; none for any other id. No label is scanned.
+    pub fn kept_use(&self, id: ObjectId, meter: &mut Meter) -> Option<u32>
+        ensures some { IfSome result (λ pages. pages ≡ use_of (state_of self.now) id) }
+        ensures none { IfNone result (object_at (state_of self.now) id ≡ None) }
+        ensures scans { meter.new.scans ≡ meter.old.scans }
+    {
+        match self.slot(id, meter) {
+            Some(slot) => {
+                let most = self.pieces.holdings.records[slot.0].quota;
+                Some(pages_of(&self.pieces.holdings.records[slot.0].body, most))
+            }
+            None => None,
+        }
+    }
+}
