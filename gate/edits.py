@@ -23,6 +23,7 @@ HEAD = re.compile(r"^([ \t]*)(?:pub(?:\([^)]*\))?\s+)?(?:const\s+|unsafe\s+)*fn\
 OPEN = r": it is not proved that |: error"
 GONE = r"has no field|is not in scope|has no `|was not admitted"
 NAME_GONE = "only because a proof file names what the edit took away"
+NO_CONTRACT = "NOT REFUSED by a contract: a proof names what the edit takes away"
 
 
 def toolchain():
@@ -166,7 +167,7 @@ class Trial:
         well, text = self.rt.must_fail(self.crate, edit.file, FLAGS, kept)
         if kept and (not well or NAME_GONE in text):
             well, text = self.rt.must_fail(self.crate, edit.file, FLAGS)
-        return well and NAME_GONE not in text, text.partition(": ")[2]
+        return (False, NO_CONTRACT) if NAME_GONE in text else (well, text.partition(": ")[2])
 
     def over_kept(self, kept):
         """Each edit's verdict, all over one another's work."""

@@ -3,7 +3,7 @@ use Rattle.std.proofs.Common.{◌≡◌, ℕ, suc, ◌+◌, ◌<◌, List, [], �
 use Rattle.std.specs.Prelude.{slice_get}
 use Rattle.std.proofs.lemmas.List.Sums.{sum_by-cons}
 use Rattle.std.proofs.lemmas.Option.{slice_get-get_or}
-use Rattle.containers.specs.declared.visitor.Place.{Place}
+use Rattle.containers.specs.declared.visitor.Located.{Located}
 use Rattle.containers.specs.Visits.{Event, Follows, objects_in}
 use Rattle.label_intern.specs.declared.held.Held.{Held}
 use Rattle.label_intern.specs.Owners.{one_at, Lets, release_at}
@@ -32,8 +32,8 @@ released_lets ls r =
     (release_lets ls r.label.0) (body_lets (release_at ls r.label.0) r.body)
 
 -- what the dead owned goes
-pub deaths_let : (records : List Record) (dead : List Place) (ls : List (Option Held))
-    → ((k : ℕ) (x : Place) → k < length dead → get_or dead k x ≡ x → x.slot.0 < length records)
+pub deaths_let : (records : List Record) (dead : List Located) (ls : List (Option Held))
+    → ((k : ℕ) (x : Located) → k < length dead → get_or dead k x ≡ x → x.slot.0 < length records)
     → Lets ls (after_deaths records dead ls) (λ i. sum_by (λ x. claims i (record_in records x.slot.0)) dead)
 deaths_let records [] ls within = lets_none ls
 deaths_let records (x ∷ xs) ls within =
@@ -45,17 +45,17 @@ deaths_let records (x ∷ xs) ls within =
     lets_as ls (after_deaths records (x ∷ xs) ls)
     (λ i. claims i (record_in records x.slot.0) + sum_by (λ y. claims i (record_in records y.slot.0)) xs)
     (λ i. sum_by (λ y. claims i (record_in records y.slot.0)) (x ∷ xs))
-    (λ i. sym (sum_by-cons (λ (y : Place). claims i (record_in records y.slot.0)) x xs))
+    (λ i. sym (sum_by-cons (λ (y : Located). claims i (record_in records y.slot.0)) x xs))
     (lets_then ls (forgotten ls (slice_get records x.slot.0)) (after_deaths records (x ∷ xs) ls)
     (λ i. claims i (record_in records x.slot.0)) (λ i. sum_by (λ y. claims i (record_in records y.slot.0)) xs)
     first (deaths_let records xs (forgotten ls (slice_get records x.slot.0))
     (λ k y lt is. within (suc k) y (omega arith) is)))
 
 -- what holdings are once they were handed what went
-abbrev pub Linked : Holdings → Place → Place → Holdings → Type 0
+abbrev pub Linked : Holdings → Located → Located → Holdings → Type 0
 Linked v c o w = w ≡ v
 
-abbrev pub Died : Holdings → Place → Holdings → Type 0
+abbrev pub Died : Holdings → Located → Holdings → Type 0
 Died v o w = w ≡ record v { labels = forgotten v.labels (slice_get v.records.items o.slot.0) }
 
 pub told : (v : Holdings) (es : List Event) (w : Holdings) → Follows Linked Died v es w

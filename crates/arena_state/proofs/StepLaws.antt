@@ -6,7 +6,7 @@ use Rattle.std.proofs.lemmas.List.{get_or-set_same, get_or-set_other, get_or_rea
 use Rattle.std.proofs.lemmas.Option.{none-some}
 use Rattle.base.specs.Live.{has, links}
 use Rattle.base.specs.declared.kinds.Kind.TheVariants as kinds
-use Rattle.containers.specs.declared.visitor.Place.{Place}
+use Rattle.containers.specs.declared.visitor.Located.{Located}
 use Rattle.containers.specs.Tree.{ids_in, list_of, cut_lists, HasSlot, live_part as live_lists}
 use Rattle.containers.specs.Visits.{IsHanded, IsTold, IsLost}
 use Rattle.containers.specs.WellFormed.{IsWellFormed}
@@ -70,11 +70,11 @@ module _ (p : Pieces) (s : IsSound p) (d o : ℕ) (listed_now : has (list_at (pi
       none-some _ (sym none ∙ found)
 
   module _ (dslot oslot : ℕ) (at_d : HasSlot p.places d dslot) (at_o : HasSlot p.places o oslot)
-      (w : Holdings) (went : List (Place × Place)) (dead : List Place)
+      (w : Holdings) (went : List (Located × Located)) (dead : List Located)
       (tells : IsTold Linked Died p.holdings w went dead) where
     pub held_is : w ≡ record p.holdings { labels = after_deaths p.holdings.records.items dead p.holdings.labels }
     held_is = told p.holdings tells.events w tells.follows
-        ∙ ap (λ (ps : List Place). record p.holdings { labels = after_deaths p.holdings.records.items ps p.holdings.labels })
+        ∙ ap (λ (ps : List Located). record p.holdings { labels = after_deaths p.holdings.records.items ps p.holdings.labels })
         tells.objects_are
 
     pub container_within : dslot < vec_len w.records

@@ -8,7 +8,7 @@ use Rattle.std.specs.BTreeMap.{is_at}
 use Rattle.std.proofs.lemmas.Bool.{and_parts}
 use Rattle.std.proofs.lemmas.Map.Made.{lookup-map_values}
 use Rattle.base.specs.Live.{has, is_live}
-use Rattle.containers.specs.declared.visitor.Place.{Place}
+use Rattle.containers.specs.declared.visitor.Located.{Located}
 use Rattle.containers.specs.Tree.{Tree, ids_in, list_of, cut_lists, without, HasSlot, live_part as live_lists}
 use Rattle.containers.specs.Visits.{IsLost}
 use Rattle.containers.specs.WellFormed.{IsWellFormed}
@@ -45,8 +45,8 @@ pub record IsUnlinked (p q : Pieces) (d o : ℕ) : Type 0 where
   pub kept : (id slot : ℕ) → HasSlot q.places id slot → HasSlot p.places id slot
   pub cells : length q.places.cells ≡ length p.places.cells
   pub tree : IsWellFormed q.places
-  pub dead : List Place
-  pub slots : (x : Place) → Contains dead x → HasSlot p.places x.id x.slot.0
+  pub dead : List Located
+  pub slots : (x : Located) → Contains dead x → HasSlot p.places x.id x.slot.0
   pub lost : IsLost p.places q.places dead
   pub labels : q.holdings.labels ≡ after_deaths p.holdings.records.items dead p.holdings.labels
   pub uses : ℕ → ℕ
@@ -120,13 +120,13 @@ module _ (p q : Pieces) (s : IsSound p) (d o : ℕ) (u : IsUnlinked p q d o) whe
       (row_place p.places.lists p.places.slots k).list)
       (sym (slot_is (get_or (ids_in p.places.lists) k 0) (get_or p.places.slots k 0) (slot_at p.places k lt))))
 
-  dead_within : (k : ℕ) (x : Place) → k < length u.dead → get_or u.dead k x ≡ x → x.slot.0 < length p.holdings.records.items
+  dead_within : (k : ℕ) (x : Located) → k < length u.dead → get_or u.dead k x ≡ x → x.slot.0 < length p.holdings.records.items
   dead_within k x lt is = slot_within p s x.id x.slot.0 (u.slots x (k, lt, is))
 
   pub lets : Lets p.holdings.labels q.holdings.labels
-      (λ i. sum_by (λ (x : Place). claims i (record_in p.holdings.records.items x.slot.0)) u.dead)
+      (λ i. sum_by (λ (x : Located). claims i (record_in p.holdings.records.items x.slot.0)) u.dead)
   lets = subst (λ (l : List (Option Held)). Lets p.holdings.labels l
-      (λ i. sum_by (λ (x : Place). claims i (record_in p.holdings.records.items x.slot.0)) u.dead)) (sym u.labels)
+      (λ i. sum_by (λ (x : Located). claims i (record_in p.holdings.records.items x.slot.0)) u.dead)) (sym u.labels)
       (deaths_let p.holdings.records.items u.dead p.holdings.labels dead_within)
 
   claims_left : (i : ℕ) → claims_in q.holdings.records.items q.places.slots i

@@ -1,6 +1,6 @@
 -- What the labels are once owners let them go.
 use Rattle.std.specs.Prelude.{List, [], ◌∷◌, Option, Some, None, slice_get}
-use Rattle.containers.specs.declared.visitor.Place.{Place}
+use Rattle.containers.specs.declared.visitor.Located.{Located}
 use Rattle.label_intern.specs.declared.held.Held.{Held}
 use Rattle.label_intern.specs.Owners.{release_at}
 use Rattle.arena_state.specs.declared.records.Record.{Record}
@@ -27,7 +27,7 @@ forgotten labels None = labels
 forgotten labels (Some r) = released labels r
 
 -- the labels once all these died
-abbrev pub after_deaths : List Record → List Place → List (Option Held) → List (Option Held)
+abbrev pub after_deaths : List Record → List Located → List (Option Held) → List (Option Held)
 after_deaths records [] labels = labels
 after_deaths records (p ∷ ps) labels =
     after_deaths records ps (forgotten labels (slice_get records p.slot.0))

@@ -3,7 +3,7 @@ ghost use Rattle.std.specs.Prelude.{◌≡◌, slice_get};
 ghost use Rattle.arena_state.specs.Deaths.{released, forgotten};
 
 use crate::records::{Kept, Record};
-use containers::{Place, Visitor};
+use containers::{Located, Visitor};
 use label_intern::Labels;
 
 /// What is kept beside the tree of entries: for each slot a record, and the stored labels.
@@ -34,9 +34,9 @@ impl Visitor for Holdings {
     ghost object_gives = { λ v o w.
         w ≡ record v { labels = forgotten v.labels (slice_get v.records.items o.slot.0) } };
 
-    fn link(&mut self, _container: Place, _object: Place) {}
+    fn link(&mut self, _container: Located, _object: Located) {}
 
-    fn object(&mut self, object: Place) {
+    fn object(&mut self, object: Located) {
         match self.records.get(object.slot.0) {
             Some(record) => forget(&mut self.labels, record),
             None => {}

@@ -2,7 +2,7 @@
 ghost use Rattle.std.specs.Prelude.{◌≡◌, ◌==◌, ◌<◌, IsSome, IfSome, option_copied, true};
 ghost use Rattle.std.specs.Int.RustNames.{bit_and};
 ghost use Rattle.base.specs.declared.kinds.Kind.TheVariants as kinds;
-ghost use Rattle.threads_gates.specs.LabelRules.{both, below, visible, shown};
+ghost use Rattle.label_rules.specs.LabelRules.{both, below, visible, shown};
 ghost use Rattle.label_intern.specs.Held.{held_at, label_of};
 ghost use Rattle.kernel_rules.specs.State.{label_at, clearance_at, observes, flows_to};
 ghost use Rattle.kernel_rules.specs.State.{is_live_kind, is_accessible};

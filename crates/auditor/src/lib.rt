@@ -9,5 +9,5 @@ mod replays;
 mod verdicts;
 
 pub use audits::{audit, clean_is_legal, one_verdict};
-pub use program::{Ended, NAME, audit_on};
+pub use program::{AuditEnd, NAME, audit_on};
 pub use verdicts::Verdict;

@@ -1,7 +1,7 @@
 //! The program, over a reader and two writers.
 use crate::audits::audit;
 use crate::verdicts::Verdict;
-use program_ends::{Fault, bytes_of};
+use program_io::{Fault, bytes_of};
 use std::alloc::Global;
 use std::io::{Read, Write};
 
@@ -10,7 +10,7 @@ pub const NAME: &str = "histar-audit";
 
 /// How an audit ended.
 #[derive(Clone, Copy, PartialEq, Eq, Debug)]
-pub struct Ended {
+pub struct AuditEnd {
     /// 0 where the dump is clean, 1 where a line of it is not true, 2 where it is unreadable, 3 where it can't be read or
     /// the answer can't be written, 4 where there was no memory. (A fault of usage is 2 too; of that the words tell.)
     pub status: u8,
@@ -46,10 +46,10 @@ pub fn audit_on<I: Read, O: Write, E: Write>(
     dump: &mut I,
     out: &mut O,
     err: &mut E,
-) -> Ended {
+) -> AuditEnd {
     match run(alloc, dump, out) {
-        Ok(status) => Ended { status },
-        Err(fault) => Ended {
+        Ok(status) => AuditEnd { status },
+        Err(fault) => AuditEnd {
             status: fault.tell(NAME, err),
         },
     }

@@ -3,7 +3,7 @@
 use crate::clock::{MOST, nanos_since, print_ratio};
 use anyhow::Result;
 use base::ObjectId;
-use containers::{Place, Visitor};
+use containers::{Located, Visitor};
 use containers_twin::{Guarded, Hierarchy};
 use std::alloc::Global;
 use std::collections::BTreeMap;
@@ -22,11 +22,11 @@ impl Visitor for Count {
 
     ghost object_gives = { λ _ _ _. Unit {0} };
 
-    fn link(&mut self, _container: Place, _object: Place) {
+    fn link(&mut self, _container: Located, _object: Located) {
         self.links = self.links.wrapping_add(1);
     }
 
-    fn object(&mut self, _object: Place) {
+    fn object(&mut self, _object: Located) {
         self.objects = self.objects.wrapping_add(1);
     }
 }

@@ -9,8 +9,8 @@ use Rattle.text_words.proofs.LackLemmas.{lacks-append, name_lacks}
 use Rattle.text_words.proofs.LabelLemmas.{before_last}
 use Rattle.text_words.proofs.OneLemmas.{first_part}
 use Rattle.text_words.proofs.Outside.{name_outside, space_outside, end_outside}
-use Rattle.text_rows.specs.Row.{Spoken, row_text}
-use Rattle.text_rows.proofs.RowLemmas.{row_is_one, row_lacks_end}
+use Rattle.spoken_calls.specs.Row.{Spoken, row_text}
+use Rattle.spoken_calls.proofs.RowLemmas.{row_is_one, row_lacks_end}
 use Rattle.call_text.proofs.PartLemmas.{not_in}
 use Rattle.call_text.proofs.TextLemmas.{IsGrammar}
 use Rattle.call_text.specs.declared.lines.Written.{Written}

@@ -1,8 +1,8 @@
 -- The spelling of a script's line.
 use Rattle.std.specs.Prelude.{◌≡◌, ◌≤◌, ℕ, List, ◌++◌, length, codes, Some, None, true}
 use Rattle.text_words.specs.Name.{IsName, name_text}
-use Rattle.text_rows.specs.Verb.{makes}
-use Rattle.text_rows.specs.Row.{Spoken, IsRow, row_text}
+use Rattle.spoken_calls.specs.Verb.{makes}
+use Rattle.spoken_calls.specs.Row.{Spoken, IsRow, row_text}
 use Rattle.call_text.specs.declared.lines.Written.{Written}
 use Rattle.call_text.specs.declared.lines.Written.TheVariants.{Break, Said}
 

@@ -9,7 +9,7 @@ mod reads;
 use crate::known_names::Known;
 use crate::places::make_entry;
 use kernel_rules::{Call, Query};
-use text_rows::{Arg, Verb};
+use spoken_calls::{Arg, Verb};
 
 /// What a call asks of a machine.
 #[derive(Clone, Copy)]

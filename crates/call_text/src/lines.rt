@@ -1,13 +1,13 @@
 //! A line of a script.
 ghost use Rattle.std.specs.Prelude.{◌≡◌, ◌++◌, ◌∷◌, [], ℕ, List, IfOk, IfSome, IfNone};
 ghost use Rattle.text_words.specs.Reading.{Reads};
-ghost use Rattle.text_rows.specs.Verb.{makes};
+ghost use Rattle.spoken_calls.specs.Verb.{makes};
 ghost use Rattle.call_text.specs.Line.{said_text, IsSaid, bound_text, IsBound, written_text};
 ghost use Rattle.call_text.specs.Line.{FitsWritten};
 
 use crate::parting::parted;
+use spoken_calls::{Row, read_row};
 use std::alloc::{AllocError, Global};
-use text_rows::{Row, read_row};
 use text_words::{Name, is_same, read_name};
 
 /// The most bytes that stand before a line's end.

@@ -1,8 +1,8 @@
 //! A script as a value.
 ghost use Rattle.std.specs.Prelude.{◌≡◌};
 
+use spoken_calls::Row;
 use std::marker::Model;
-use text_rows::Row;
 use text_words::Name;
 
 /// A worker's call.

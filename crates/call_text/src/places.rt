@@ -9,7 +9,7 @@ use base::{Category, Data, Level, ObjectId, Rights, TypeSet};
 use bitflags::Flags;
 use kernel_rules::{Entry, Mapping};
 use label_lattice::{Pair, Pairs, RawLabel};
-use text_rows::Arg;
+use spoken_calls::Arg;
 use text_words::{Reference, SpokenLabel};
 
 /// The object's id, 0 for a category.

@@ -5,7 +5,7 @@ ghost use Rattle.call_text.specs.Resolve.{unbound_in, first_unbound, resolved};
 
 use crate::asking::{Asked, make_asked};
 use crate::known_names::{Known, Value};
-use text_rows::{Arg, Row};
+use spoken_calls::{Arg, Row};
 use text_words::{Name, Reference, SpokenPair};
 
 /// The name, where it is not known as an object's.

@@ -8,8 +8,8 @@ ghost use Rattle.call_text.specs.Script.{said_of, script_text};
 
 use crate::phases::{Line, Phase, Script};
 use base::NoMemory;
+use spoken_calls::put_row;
 use std::alloc::{AllocError, Global};
-use text_rows::put_row;
 use text_words::put_name;
 
 /// Adds the line and its end.

@@ -2,7 +2,7 @@
 ghost use Rattle.std.specs.Prelude.{◌≡◌, ℕ, [], ◌∷◌, IfOk, length};
 
 use base::{Meter, NoMemory, ObjectId};
-use containers::{Containers, Place, Visitor};
+use containers::{Containers, Located, Visitor};
 use std::alloc::Global;
 use std::test::Fail;
 use test_support::meter_again;
@@ -30,11 +30,11 @@ impl Visitor for Seen {
 
     ghost object_gives = { λ v o w. (v.links ≡ w.links) };
 
-    fn link(&mut self, _container: Place, _object: Place) {
+    fn link(&mut self, _container: Located, _object: Located) {
         self.links = self.links.saturating_add(1);
     }
 
-    fn object(&mut self, object: Place) {
+    fn object(&mut self, object: Located) {
         if self.len < 8 {
             self.objects[self.len] = object.id.number();
             self.len += 1;

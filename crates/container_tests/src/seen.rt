@@ -1,5 +1,5 @@
 //! What a visitor was handed.
-use containers::{Place, Visitor};
+use containers::{Located, Visitor};
 use std::process::Abort;
 
 /// As many objects, and as many links.
@@ -50,14 +50,14 @@ impl Visitor for Seen {
 
     ghost object_gives = { λ _ _ _. Unit {0} };
 
-    fn link(&mut self, container: Place, object: Place) {
+    fn link(&mut self, container: Located, object: Located) {
         if self.link_count < POOL {
             self.links[self.link_count] = (container.id.number(), object.id.number());
         }
         self.link_count = self.link_count.saturating_add(1);
     }
 
-    fn object(&mut self, object: Place) {
+    fn object(&mut self, object: Located) {
         if self.object_count < POOL {
             self.objects[self.object_count] = (object.id.number(), object.slot.0);
         }

@@ -5,7 +5,7 @@ use Rattle.std.proofs.lemmas.List.{append-nil, map-append}
 use Rattle.entry_lists.specs.Lists.{Lists, cells_at, StandsAt}
 use Rattle.containers.specs.Cells.{Stands}
 use Rattle.containers.specs.Visits.{Event, Step, Follows, IsTold, links_in, objects_in, place_of, named, named_one, object_ids}
-use Rattle.containers.specs.declared.visitor.Place.{Place}
+use Rattle.containers.specs.declared.visitor.Located.{Located}
 use Rattle.base.specs.Counts.{Counts, probed}
 
 -- a read is no scan
@@ -34,15 +34,15 @@ none_stands r family head e c s = none_of (cells_at r family head) e s.place s.s
 
 links_push : (es : List Event) (e : Event) → links_in (es ++ e ∷ []) ≡ links_in es ++ links_in (e ∷ [])
 links_push [] e = refl
-links_push (inl p ∷ es) e = ap (λ (xs : List (Place × Place)). p ∷ xs) (links_push es e)
+links_push (inl p ∷ es) e = ap (λ (xs : List (Located × Located)). p ∷ xs) (links_push es e)
 links_push (inr p ∷ es) e = links_push es e
 
 objects_push : (es : List Event) (e : Event) → objects_in (es ++ e ∷ []) ≡ objects_in es ++ objects_in (e ∷ [])
 objects_push [] e = refl
 objects_push (inl p ∷ es) e = objects_push es e
-objects_push (inr p ∷ es) e = ap (λ (xs : List Place). p ∷ xs) (objects_push es e)
+objects_push (inr p ∷ es) e = ap (λ (xs : List Located). p ∷ xs) (objects_push es e)
 
-module _ {V : Type 0} (link : V → Place → Place → V → Type 0) (object : V → Place → V → Type 0) where
+module _ {V : Type 0} (link : V → Located → Located → V → Type 0) (object : V → Located → V → Type 0) where
   follows_push : (v : V) (es : List Event) (w : V) (e : Event) (u : V) → Follows link object v es w → Step link object w e u → Follows link object v (es ++ e ∷ []) u
   follows_push v [] w e u f s = (u, subst (λ (x : V). Step link object x e u) (sym f) s, refl)
   follows_push v (d ∷ es) w e u f s = (f.0, f.1, follows_push f.0 es w e u f.2 s)
@@ -51,41 +51,41 @@ module _ {V : Type 0} (link : V → Place → Place → V → Type 0) (object : 
   told_none v = record { events = []; links_are = refl; objects_are = refl; follows = refl }
 
   module _ (names : List ℕ) (links : List (ℕ × ℕ)) (objects : List ℕ) (v w u : V) where
-    pub told_link : (d o : ℕ) (p q : Place) → p ≡ place_of names d → q ≡ place_of names o → IsTold link object v w (named names links) (named_one names objects) → link w p q u → IsTold link object v u (named names (links ++ (d, o) ∷ [])) (named_one names objects)
+    pub told_link : (d o : ℕ) (p q : Located) → p ≡ place_of names d → q ≡ place_of names o → IsTold link object v w (named names links) (named_one names objects) → link w p q u → IsTold link object v u (named names (links ++ (d, o) ∷ [])) (named_one names objects)
     told_link d o p q pe qe told step =
         let e : Event = inl (p, q) in
         record {
           events = told.events ++ inl (p, q) ∷ [];
           links_are =
-              links_push told.events (inl (p, q)) ∙ ap (λ (xs : List (Place × Place)). xs ++ (p, q) ∷ []) told.links_are
-              ∙ ap₂ (λ (a b : Place). named names links ++ (a, b) ∷ []) pe qe
-              ∙ sym (map-append (λ (x : ℕ × ℕ). let y : Place × Place = (place_of names x.0, place_of names x.1) in y) links ((d, o) ∷ []));
+              links_push told.events (inl (p, q)) ∙ ap (λ (xs : List (Located × Located)). xs ++ (p, q) ∷ []) told.links_are
+              ∙ ap₂ (λ (a b : Located). named names links ++ (a, b) ∷ []) pe qe
+              ∙ sym (map-append (λ (x : ℕ × ℕ). let y : Located × Located = (place_of names x.0, place_of names x.1) in y) links ((d, o) ∷ []));
           objects_are = objects_push told.events (inl (p, q)) ∙ append-nil (objects_in told.events) ∙ told.objects_are;
           follows = follows_push v told.events w (inl (p, q)) u told.follows step;
         }
 
-    pub told_object : (o : ℕ) (p : Place) → p ≡ place_of names o → IsTold link object v w (named names links) (named_one names objects) → object w p u → IsTold link object v u (named names links) (named_one names (objects ++ o ∷ []))
+    pub told_object : (o : ℕ) (p : Located) → p ≡ place_of names o → IsTold link object v w (named names links) (named_one names objects) → object w p u → IsTold link object v u (named names links) (named_one names (objects ++ o ∷ []))
     told_object o p pe told step = record {
       events = told.events ++ inr p ∷ [];
       links_are = links_push told.events (inr p) ∙ append-nil (links_in told.events) ∙ told.links_are;
       objects_are =
-          objects_push told.events (inr p) ∙ ap (λ (xs : List Place). xs ++ p ∷ []) told.objects_are
-          ∙ ap (λ (a : Place). named_one names objects ++ a ∷ []) pe
+          objects_push told.events (inr p) ∙ ap (λ (xs : List Located). xs ++ p ∷ []) told.objects_are
+          ∙ ap (λ (a : Located). named_one names objects ++ a ∷ []) pe
           ∙ sym (map-append (λ (i : ℕ). place_of names i) objects (o ∷ []));
       follows = follows_push v told.events w (inr p) u told.follows step;
     }
 
     -- one link, and then others
-    pub told_first : (d o : ℕ) (p q : Place) → p ≡ place_of names d → q ≡ place_of names o → link v p q w → IsTold link object w u (named names links) (named_one names objects) → IsTold link object v u (named names ((d, o) ∷ links)) (named_one names objects)
+    pub told_first : (d o : ℕ) (p q : Located) → p ≡ place_of names d → q ≡ place_of names o → link v p q w → IsTold link object w u (named names links) (named_one names objects) → IsTold link object v u (named names ((d, o) ∷ links)) (named_one names objects)
     told_first d o p q pe qe step told = record {
       events = inl (p, q) ∷ told.events;
-      links_are = ap (λ (xs : List (Place × Place)). (p, q) ∷ xs) told.links_are ∙ ap₂ (λ (a b : Place). (a, b) ∷ named names links) pe qe;
+      links_are = ap (λ (xs : List (Located × Located)). (p, q) ∷ xs) told.links_are ∙ ap₂ (λ (a b : Located). (a, b) ∷ named names links) pe qe;
       objects_are = told.objects_are;
       follows = (w, step, told.follows);
     }
 
 -- one id more
-pub ids_push : (names objects : List ℕ) (o : ℕ) (p : Place) (dead dead' : List ℕ) → p ≡ place_of names o → dead ≡ object_ids (named_one names objects) → dead' ≡ dead ++ p.id ∷ [] → dead' ≡ object_ids (named_one names (objects ++ o ∷ []))
+pub ids_push : (names objects : List ℕ) (o : ℕ) (p : Located) (dead dead' : List ℕ) → p ≡ place_of names o → dead ≡ object_ids (named_one names objects) → dead' ≡ dead ++ p.id ∷ [] → dead' ≡ object_ids (named_one names (objects ++ o ∷ []))
 ids_push names objects o p dead dead' e was is =
-    is ∙ ap (λ (xs : List ℕ). xs ++ p.id ∷ []) was ∙ ap (λ (q : Place). object_ids (named_one names objects) ++ q.id ∷ []) e
-    ∙ sym (ap object_ids (map-append (λ (x : ℕ). place_of names x) objects (o ∷ [])) ∙ map-append (λ (q : Place). q.id) (named_one names objects) (place_of names o ∷ []))
+    is ∙ ap (λ (xs : List ℕ). xs ++ p.id ∷ []) was ∙ ap (λ (q : Located). object_ids (named_one names objects) ++ q.id ∷ []) e
+    ∙ sym (ap object_ids (map-append (λ (x : ℕ). place_of names x) objects (o ∷ [])) ∙ map-append (λ (q : Located). q.id) (named_one names objects) (place_of names o ∷ []))

@@ -6,7 +6,7 @@ use Rattle.std.proofs.lemmas.List.{get_or_default}
 use Rattle.std.proofs.lemmas.List.Sums.{sum_by-cons, sum_by-append}
 use Rattle.object_arena.specs.Objects.{Rises}
 use Rattle.base.specs.Live.{has}
-use Rattle.containers.specs.declared.visitor.Place.{Place}
+use Rattle.containers.specs.declared.visitor.Located.{Located}
 use Rattle.containers.specs.Tree.{Tree, ids_in, HasSlot}
 use Rattle.containers.specs.Visits.{object_ids, IsHanded, IsLost}
 use Rattle.containers.proofs.Distinct.{Distinct, distinct_from, distinct_append, has_append, same_sum}
@@ -59,12 +59,12 @@ pub record IsShown {T : Type 0} (t : Tree T) : Type 0 where
   pub beside : length (ids_in t.lists) ≡ length t.slots
   pub rises : Rises (ids_in t.lists)
 
-module _ {T : Type 0} (old new : Tree T) (went : List (Place × Place)) (dead : List Place) (handed : IsHanded old new went dead) where
+module _ {T : Type 0} (old new : Tree T) (went : List (Located × Located)) (dead : List Located) (handed : IsHanded old new went dead) where
   dead_was : (i : ℕ) → has (object_ids dead) i ≡ true → (has (ids_in old.lists) i ≡ true) × (has (ids_in new.lists) i ≡ false)
   dead_was i is =
       let at = at_has (object_ids dead) i is in
       let c : Contains (object_ids dead) i = (at.0, at.1, get_or_default (object_ids dead) at.0 i 0 at.1 ∙ at.2) in
-      let x = map_contains (λ (y : Place). y.id) dead i c in (
+      let x = map_contains (λ (y : Located). y.id) dead i c in (
         ap (has (ids_in old.lists)) (sym x.2) ∙ handed.objects_was x.0 x.1,
         elim (cases_Bool (has (ids_in new.lists) i)) [
           | inl on ↦ absurd (handed.objects_gone x.0 x.1 (ap (has (ids_in new.lists)) x.2 ∙ on))
@@ -124,18 +124,18 @@ module _ {T : Type 0} (old new : Tree T) (went : List (Place × Place)) (dead : 
           | inr never ↦ never
         ])
 
-    dead_sum : (f : ℕ → ℕ) (ps : List Place) → ((x : Place) → Contains ps x → HasSlot old x.id x.slot.0)
-        → sum_by (λ (x : Place). f x.slot.0) ps ≡ sum_by (λ i. f (slot i)) (object_ids ps)
+    dead_sum : (f : ℕ → ℕ) (ps : List Located) → ((x : Located) → Contains ps x → HasSlot old x.id x.slot.0)
+        → sum_by (λ (x : Located). f x.slot.0) ps ≡ sum_by (λ i. f (slot i)) (object_ids ps)
     dead_sum f [] slots = refl
     dead_sum f (x ∷ xs) slots =
-        let a = sum_by-cons (λ (y : Place). f y.slot.0) x xs in
+        let a = sum_by-cons (λ (y : Located). f y.slot.0) x xs in
         let b = sum_by-cons (λ (i : ℕ). f (slot i)) x.id (object_ids xs) in
         let first : f x.slot.0 ≡ f (slot x.id) = ap f (sym (slot_is x.id x.slot.0 (slots x (0, omega arith, refl)))) in
         let rest = dead_sum f xs (λ y c. slots y (suc c.0, omega (arith, c.1), c.2)) in
         omega (arith, a, b, first, rest)
 
     -- what all slots weigh, those that are left and those of the dead weigh
-    pub weighed : (f : ℕ → ℕ) → sum_by f old.slots ≡ sum_by f new.slots + sum_by (λ (x : Place). f x.slot.0) dead
+    pub weighed : (f : ℕ → ℕ) → sum_by f old.slots ≡ sum_by f new.slots + sum_by (λ (x : Located). f x.slot.0) dead
     weighed f =
         let a = sum_beside (λ i. f (slot i)) f (ids_in old.lists) old.slots was.beside
         (λ k lt. ap f (slot_at (ids_in old.lists) old.slots k was.beside was.rises lt)) in

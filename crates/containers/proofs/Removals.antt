@@ -7,7 +7,7 @@ use Rattle.containers.specs.Cells.{IsRecorded}
 use Rattle.containers.specs.Sweep.{IsCut}
 use Rattle.containers.specs.Directory.{IsDirectory}
 use Rattle.containers.specs.Visits.{place_of, named_one, object_ids}
-use Rattle.containers.specs.declared.visitor.Place.{Place}
+use Rattle.containers.specs.declared.visitor.Located.{Located}
 use Rattle.containers.proofs.Directories.{one_place}
 use Rattle.containers.proofs.Unrefs.{contains_map, map_contains}
 
@@ -35,14 +35,14 @@ module _ {T : Type 0} (size root : ℕ) (old new : List Lists) (container object
       sym p.entry.slot_is ∙ ap (λ (i : ℕ). get_or a.slots i 0) same ∙ q.entry.slot_is
 
   is_dead : (o : ℕ) → Contains objects o → Contains dead (get_or names o 0)
-  is_dead o c = subst (λ (xs : List ℕ). Contains xs (get_or names o 0)) (sym are) (contains_map (λ (p : Place). p.id) (named_one names objects) (place_of names o) (contains_map (λ (x : ℕ). place_of names x) objects o c))
+  is_dead o c = subst (λ (xs : List ℕ). Contains xs (get_or names o 0)) (sym are) (contains_map (λ (p : Located). p.id) (named_one names objects) (place_of names o) (contains_map (λ (x : ℕ). place_of names x) objects o c))
 
   -- what is dead is the name of a slot that went
   dead_slot : (i : ℕ) → Contains dead i → (o : ℕ) × Contains objects o × (get_or names o 0 ≡ i)
   dead_slot i c =
-      let p = map_contains (λ (q : Place). q.id) (named_one names objects) i (subst (λ (xs : List ℕ). Contains xs i) are c) in
+      let p = map_contains (λ (q : Located). q.id) (named_one names objects) i (subst (λ (xs : List ℕ). Contains xs i) are c) in
       let o = map_contains (λ (x : ℕ). place_of names x) objects p.0 p.1 in
-      (o.0, o.1, ap (λ (q : Place). q.id) o.2 ∙ p.2)
+      (o.0, o.1, ap (λ (q : Located). q.id) o.2 ∙ p.2)
 
   -- a slot that is recorded then has no dead name
   not_dead : (o : ℕ) → IsRecorded size root new o → Contains dead (get_or names o 0) → ⊥

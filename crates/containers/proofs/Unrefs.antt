@@ -9,7 +9,7 @@ use Rattle.entry_lists.specs.Lists.{Lists}
 use Rattle.base.specs.Live.{has, links, IsLive}
 use Rattle.containers.specs.Tree.{Tree, HasSlot, without, cut_lists, ids_in}
 use Rattle.containers.specs.View.{lists_of, IsKept}
-use Rattle.containers.specs.declared.visitor.Place.{Place}
+use Rattle.containers.specs.declared.visitor.Located.{Located}
 use Rattle.containers.specs.Cells.{Stands, IsSound, IsRecorded, IsLink, Lists'}
 use Rattle.containers.specs.Sweep.{IsCut, IsTree, IsOnce}
 use Rattle.containers.specs.Directory.{IsDirectory}
@@ -319,23 +319,23 @@ module _ (size root : ℕ) (old new : List Lists) (d o : ℕ) (went : List (ℕ 
     pub handed : IsHanded was now (named names ((d, o) ∷ went)) (named_one names dead)
     handed =
         let ws : List (ℕ × ℕ) = (d, o) ∷ went in
-        let f : ℕ × ℕ → Place × Place = λ p. (place_of names p.0, place_of names p.1) in
-        let f' : Place × Place → ℕ × ℕ = λ p. (p.0.id, p.1.id) in
-        let g : ℕ → Place = λ i. place_of names i in
-        let g' : Place → ℕ = λ p. p.id in
+        let f : ℕ × ℕ → Located × Located = λ p. (place_of names p.0, place_of names p.1) in
+        let f' : Located × Located → ℕ × ℕ = λ p. (p.0.id, p.1.id) in
+        let g : ℕ → Located = λ i. place_of names i in
+        let g' : Located → ℕ = λ p. p.id in
         let one = slot_one size root old names ids slots kept.sound kept.directory in
         record {
           links_was = λ a b c.
               let m = map_contains f ((d, o) ∷ went) (a, b) c in
               let l = links_listed size root old names ids slots kept.sound kept.directory m.0.0 m.0.1 (all_was m.0.0 m.0.1 m.1) in
-              subst (λ (p : Place × Place). links (lists_of old names ids slots) p.0.id p.1.id ≡ true) m.2 l;
+              subst (λ (p : Located × Located). links (lists_of old names ids slots) p.0.id p.1.id ≡ true) m.2 l;
           links_gone = λ a b c h.
               let m = map_contains f ((d, o) ∷ went) (a, b) c in
               let n = listed_links size root new names ids' slots' cut.swept.sweeping.sound dir' a.id b.id h in
               let before = in_old m.0.0 m.0.1 (all_was m.0.0 m.0.1 m.1) in
               let after = in_old n.d n.o (cut.without n.d n.o (new_was n.d n.o n.listed)) in
-              let x : n.d ≡ m.0.0 = one n.d m.0.0 after.0 before.0 (n.d_is ∙ sym (ap (λ (p : Place × Place). p.0.id) m.2)) in
-              let y : n.o ≡ m.0.1 = one n.o m.0.1 after.1 before.1 (n.o_is ∙ sym (ap (λ (p : Place × Place). p.1.id) m.2)) in
+              let x : n.d ≡ m.0.0 = one n.d m.0.0 after.0 before.0 (n.d_is ∙ sym (ap (λ (p : Located × Located). p.0.id) m.2)) in
+              let y : n.o ≡ m.0.1 = one n.o m.0.1 after.1 before.1 (n.o_is ∙ sym (ap (λ (p : Located × Located). p.1.id) m.2)) in
               all_gone m.0.0 m.0.1 m.1 (subst (λ (i : ℕ). Lists' size new i m.0.1) x (subst (λ (i : ℕ). Lists' size new n.d i) y n.listed));
           links_all = λ a b h.
               let n = listed_links size root old names ids slots kept.sound kept.directory a b h in
@@ -354,14 +354,14 @@ module _ (size root : ℕ) (old new : List Lists) (d o : ℕ) (went : List (ℕ 
           links_slots = λ a b c.
               let m = map_contains f ((d, o) ∷ went) (a, b) c in
               let r = in_old m.0.0 m.0.1 (all_was m.0.0 m.0.1 m.1) in
-              subst (λ (p : Place × Place). HasSlot was p.0.id p.0.slot.0 × HasSlot was p.1.id p.1.slot.0) m.2 (had_slot m.0.0 r.0, had_slot m.0.1 r.1);
+              subst (λ (p : Located × Located). HasSlot was p.0.id p.0.slot.0 × HasSlot was p.1.id p.1.slot.0) m.2 (had_slot m.0.0 r.0, had_slot m.0.1 r.1);
           objects_was = λ i c.
               let m = map_contains g dead i c in
-              subst (λ (x : Place). has (ids_in (lists_of old names ids slots)) x.id ≡ true) m.2 (has_id old ids slots kept.directory m.0 (cut.recorded_before m.0 (cut.swept.sweeping.objects_was m.0 m.1)));
+              subst (λ (x : Located). has (ids_in (lists_of old names ids slots)) x.id ≡ true) m.2 (has_id old ids slots kept.directory m.0 (cut.recorded_before m.0 (cut.swept.sweeping.objects_was m.0 m.1)));
           objects_gone = λ i c h.
               let m = map_contains g dead i c in
               let s = slot_new i.id h in
-              let same : s.0 ≡ m.0 = one s.0 m.0 (before_new s.0 s.1) (cut.recorded_before m.0 (cut.swept.sweeping.objects_was m.0 m.1)) (s.2 ∙ sym (ap (λ (p : Place). p.id) m.2)) in
+              let same : s.0 ≡ m.0 = one s.0 m.0 (before_new s.0 s.1) (cut.recorded_before m.0 (cut.swept.sweeping.objects_was m.0 m.1)) (s.2 ∙ sym (ap (λ (p : Located). p.id) m.2)) in
               cut.swept.sweeping.objects_gone m.0 m.1 (subst (λ (x : ℕ). IsRecorded size root new x) same s.1);
           objects_all = λ i h.
               let s = slot_of i h in
@@ -374,7 +374,7 @@ module _ (size root : ℕ) (old new : List Lists) (d o : ℕ) (went : List (ℕ 
               cut.swept.sweeping.objects_once);
           objects_slots = λ i c.
               let m = map_contains g dead i c in
-              subst (λ (x : Place). HasSlot was x.id x.slot.0) m.2 (had_slot m.0 (cut.recorded_before m.0 (cut.swept.sweeping.objects_was m.0 m.1)));
+              subst (λ (x : Located). HasSlot was x.id x.slot.0) m.2 (had_slot m.0 (cut.recorded_before m.0 (cut.swept.sweeping.objects_was m.0 m.1)));
         }
 
     -- what is left has the slot that it had

@@ -8,7 +8,7 @@ ghost use Rattle.containers.specs.Sweep.{IsSweeping, IsSwept, IsTree, IsSimple, 
 ghost use Rattle.containers.specs.View.{spare_below};
 ghost use Rattle.containers.specs.Visits.{IsTold, place_of, named, named_one, object_ids};
 
-use crate::visitor::{Place, Visitor};
+use crate::visitor::{Located, Visitor};
 use base::{Meter, NoMemory, ObjectId, Slot};
 use entry_lists::Rings;
 use std::alloc::Global;
@@ -68,11 +68,11 @@ fn drop_link(rings: &mut Rings<2>, size: usize, object: usize, cell: usize, mete
 }
 
 // The place of a slot under its name.
-fn place(names: &[u64], slot: usize) -> Place
+fn place(names: &[u64], slot: usize) -> Located
     requires { slot < length names.now }
     ensures { result ≡ place_of names.now slot }
 {
-    Place {
+    Located {
         id: ObjectId::new(names[slot]),
         slot: Slot(slot),
     }

@@ -13,4 +13,4 @@ mod visitor;
 mod windows;
 
 pub use tree::Containers;
-pub use visitor::{Place, Visitor};
+pub use visitor::{Located, Visitor};

@@ -1,11 +1,11 @@
 //! Who is told of what goes.
-ghost use Rattle.containers.specs.declared.visitor.Place.{Place};
+ghost use Rattle.containers.specs.declared.visitor.Located.{Located};
 
 use base::{ObjectId, Slot};
 
 /// Where an object lies: its id and its slot.
 #[derive(Clone, Copy, PartialEq, Eq, Debug)]
-pub struct Place {
+pub struct Located {
     /// The object's id.
     pub id: ObjectId,
     /// Where its record lies, from 0 and below the number of objects that there is room for.
@@ -15,15 +15,15 @@ pub struct Place {
 /// Is handed each link and each object that goes. What it makes of them is its own to say: `link_gives` and
 /// `object_gives` relate the visitor before a call, what it is handed, and the visitor after.
 pub trait Visitor {
-    ghost link_gives: { Self → Place → Place → Self → Type 0 };
+    ghost link_gives: { Self → Located → Located → Self → Type 0 };
 
-    ghost object_gives: { Self → Place → Self → Type 0 };
+    ghost object_gives: { Self → Located → Self → Type 0 };
 
     /// A link went: this container listed this object.
-    fn link(&mut self, container: Place, object: Place)
+    fn link(&mut self, container: Located, object: Located)
         ensures { link_gives self.old container object self.new };
 
     /// An object went, and listed nothing any more.
-    fn object(&mut self, object: Place)
+    fn object(&mut self, object: Located)
         ensures { object_gives self.old object self.new };
 }

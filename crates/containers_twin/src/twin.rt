@@ -2,7 +2,7 @@
 
 use crate::hierarchy::{Hierarchy, is_container};
 use base::{NoMemory, ObjectId, Slot};
-use containers::{Place, Visitor};
+use containers::{Located, Visitor};
 use std::alloc::Global;
 use std::mem;
 
@@ -24,8 +24,8 @@ pub struct Twin {
 }
 
 // What a visitor is handed of an id.
-fn place(id: ObjectId) -> Place {
-    Place { id, slot: Slot(0) }
+fn place(id: ObjectId) -> Located {
+    Located { id, slot: Slot(0) }
 }
 
 // The root, and what these ids list.

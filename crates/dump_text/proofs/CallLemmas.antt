@@ -10,16 +10,16 @@ use Rattle.text_words.specs.Label.{LabelValue}
 use Rattle.text_words.specs.declared.references.Reference.{Reference}
 use Rattle.text_words.specs.declared.references.Reference.TheVariants as references
 use Rattle.text_words.specs.declared.spoken_labels.SpokenPair.{SpokenPair}
-use Rattle.text_rows.specs.declared.verbs.Verb.{Verb}
-use Rattle.text_rows.specs.declared.verbs.Verb.TheVariants as verbs
-use Rattle.text_rows.specs.declared.args.Kind.{Kind}
-use Rattle.text_rows.specs.declared.args.Kind.TheVariants as kinds
-use Rattle.text_rows.specs.declared.args.Arg.{Arg}
-use Rattle.text_rows.specs.declared.args.Arg.TheVariants as args
-use Rattle.text_rows.specs.Arg.{kind_of}
-use Rattle.text_rows.specs.Verb.{kinds_of}
-use Rattle.text_rows.specs.Row.{AreArgs, Spoken, IsRow, row_text}
-use Rattle.text_rows.proofs.RowLemmas.{row_is_one}
+use Rattle.spoken_calls.specs.declared.verbs.Verb.{Verb}
+use Rattle.spoken_calls.specs.declared.verbs.Verb.TheVariants as verbs
+use Rattle.spoken_calls.specs.declared.args.ArgKind.{ArgKind}
+use Rattle.spoken_calls.specs.declared.args.ArgKind.TheVariants as kinds
+use Rattle.spoken_calls.specs.declared.args.Arg.{Arg}
+use Rattle.spoken_calls.specs.declared.args.Arg.TheVariants as args
+use Rattle.spoken_calls.specs.Arg.{kind_of}
+use Rattle.spoken_calls.specs.Verb.{kinds_of}
+use Rattle.spoken_calls.specs.Row.{AreArgs, Spoken, IsRow, row_text}
+use Rattle.spoken_calls.proofs.RowLemmas.{row_is_one}
 use Rattle.call_text.specs.declared.asking.Asked.{Asked}
 use Rattle.call_text.specs.declared.asking.Asked.TheVariants.{Write, Read}
 use Rattle.call_text.specs.Place.{pair_of, raw_of, category_of, object_in, label_in, number_in, wide_in, signed_in, data_in, types_in, rights_in, object_at, label_at, number_at, wide_at, signed_at, data_at, types_at, rights_at}
@@ -56,7 +56,7 @@ label_spoken : (l : LabelValue) → unbound_pair l.pairs [] ≡ None → spoken_
 label_spoken l e = let ps = pairs_spoken l.pairs e in (λ i. record { pairs = ps i; default = l.default })
 
 -- the argument of a kind at a place, where no name is known
-from_kind : Kind → ℕ → List Arg → Arg
+from_kind : ArgKind → ℕ → List Arg → Arg
 from_kind kinds.Object i xs = args.Object (references.Number (object_at i xs []))
 from_kind kinds.Number i xs = args.Number (number_at i xs)
 from_kind kinds.Wide i xs = args.Wide (wide_at i xs)
@@ -79,7 +79,7 @@ arg_again (args.Types t) i xs at none = ap (λ (o : Option Arg). args.Types (typ
 arg_again (args.Rights r) i xs at none = ap (λ (o : Option Arg). args.Rights (rights_in o)) at
 
 -- the arguments of these kinds, from a place on
-rebuilt : List Kind → ℕ → List Arg → List Arg
+rebuilt : List ArgKind → ℕ → List Arg → List Arg
 rebuilt [] i xs = []
 rebuilt (k ∷ ks) i xs = from_kind k i xs ∷ rebuilt ks (i + 1) xs
 
@@ -91,7 +91,7 @@ both_none : (a b : Option (List ℕ)) → or_else a b ≡ None → (a ≡ None) 
 both_none None b e = (refl, e)
 both_none (Some x) b e = cc
 
-rebuilt_from : (ks : List Kind) (before xs : List Arg) (i : ℕ) → i ≡ length before → AreArgs ks xs → first_unbound xs [] ≡ None → rebuilt ks i (before ++ xs) ≡ xs
+rebuilt_from : (ks : List ArgKind) (before xs : List Arg) (i : ℕ) → i ≡ length before → AreArgs ks xs → first_unbound xs [] ≡ None → rebuilt ks i (before ++ xs) ≡ xs
 unfolding rebuilt
 rebuilt_from [] before [] i at are none = refl
 rebuilt_from [] before (x ∷ xs) i at are none = absurd are
@@ -99,7 +99,7 @@ rebuilt_from (k ∷ ks) before [] i at are none = absurd are
 rebuilt_from (k ∷ ks) before (x ∷ xs) i at are none =
     let n = both_none (unbound_in x []) (first_unbound xs []) none in
     let here : slice_get (before ++ x ∷ xs) i ≡ Some x = ap (λ (j : ℕ). slice_get (before ++ x ∷ xs) j) at ∙ slice_get_after before x xs in
-    let first : from_kind k i (before ++ x ∷ xs) ≡ x = ap (λ (j : Kind). from_kind j i (before ++ x ∷ xs)) (sym are.0.kind_is) ∙ arg_again x i (before ++ x ∷ xs) here n.0 in
+    let first : from_kind k i (before ++ x ∷ xs) ≡ x = ap (λ (j : ArgKind). from_kind j i (before ++ x ∷ xs)) (sym are.0.kind_is) ∙ arg_again x i (before ++ x ∷ xs) here n.0 in
     let whole : before ++ x ∷ xs ≡ (before ++ x ∷ []) ++ xs = sym (append_assoc before (x ∷ []) xs) in
     let rest : rebuilt ks (i + 1) (before ++ x ∷ xs) ≡ xs = ap (λ (ys : List Arg). rebuilt ks (i + 1) ys) whole ∙ rebuilt_from ks (before ++ x ∷ []) xs (i + 1) (omega (arith, at, length-append before (x ∷ []))) are.1 n.1 in
     ap₂ (λ (y : Arg) (ys : List Arg). y ∷ ys) first rest

@@ -24,15 +24,15 @@ use Rattle.text_words.proofs.Split.{cond_false}
 use Rattle.text_words.proofs.OneLemmas.{below, below_at, first_part}
 use Rattle.text_words.proofs.LabelLemmas.{before_last}
 use Rattle.text_words.proofs.LackLemmas.{lacks-append, decimal_lacks, decimal_lacks_byte, data_lacks, join_lacks, reference_lacks}
-use Rattle.text_rows.specs.declared.verbs.Verb.{Verb}
-use Rattle.text_rows.specs.declared.verbs.Verb.TheVariants as verbs
-use Rattle.text_rows.specs.declared.args.Kind.{Kind}
-use Rattle.text_rows.specs.declared.args.Arg.{Arg}
-use Rattle.text_rows.specs.declared.args.Arg.TheVariants as args
-use Rattle.text_rows.specs.Verb.{name_of, kinds_of}
-use Rattle.text_rows.specs.Arg.{arg_text, IsArg}
-use Rattle.text_rows.specs.Row.{AreArgs, Spoken, IsRow, row_text}
-use Rattle.text_rows.proofs.RowLemmas.{row_lacks_end}
+use Rattle.spoken_calls.specs.declared.verbs.Verb.{Verb}
+use Rattle.spoken_calls.specs.declared.verbs.Verb.TheVariants as verbs
+use Rattle.spoken_calls.specs.declared.args.ArgKind.{ArgKind}
+use Rattle.spoken_calls.specs.declared.args.Arg.{Arg}
+use Rattle.spoken_calls.specs.declared.args.Arg.TheVariants as args
+use Rattle.spoken_calls.specs.Verb.{name_of, kinds_of}
+use Rattle.spoken_calls.specs.Arg.{arg_text, IsArg}
+use Rattle.spoken_calls.specs.Row.{AreArgs, Spoken, IsRow, row_text}
+use Rattle.spoken_calls.proofs.RowLemmas.{row_lacks_end}
 use Rattle.call_text.proofs.PartLemmas.{not_in}
 use Rattle.kernel_rules.specs.declared.events.Event.{Event}
 use Rattle.dump_text.specs.Call.{call_text, IsCall, spoken_of}
@@ -78,7 +78,7 @@ label_lacks_it : (c : ℕ) → IsApart c → (l : LabelValue) → IsLabel l → 
 label_lacks_it c apart l is =
     rw (ne_eqb 123 c apart.opening) (lacks-append c (join_with_byte 44 (map pair_text l.pairs ++ level_text l.default ∷ [])) (125 ∷ []) (joined_lacks_it c apart l.pairs l.default is.pairs) (rw (ne_eqb 125 c apart.closing) refl))
 
-arg_lacks_it : (c : ℕ) → IsApart c → (k : Kind) (a : Arg) → IsArg k a → lacks c (arg_text a) ≡ true
+arg_lacks_it : (c : ℕ) → IsApart c → (k : ArgKind) (a : Arg) → IsArg k a → lacks c (arg_text a) ≡ true
 arg_lacks_it c apart k (args.Object r) is = reference_lacks_it c apart r is.fits
 arg_lacks_it c apart k (args.Number n) is = let small : n < 2 ^ 32 = is.fits in decimal_lacks_byte c n apart.away (omega arith)
 arg_lacks_it c apart k (args.Wide n) is = decimal_lacks_byte c n apart.away is.fits
@@ -88,7 +88,7 @@ arg_lacks_it c apart k (args.Data d) is = apart.bytes d is.fits
 arg_lacks_it c apart k (args.Types s) is = apart.types s is.fits
 arg_lacks_it c apart k (args.Rights r) is = apart.rights r is.fits
 
-args_lack_it : (c : ℕ) → IsApart c → (ks : List Kind) (xs : List Arg) → AreArgs ks xs → AllLack c (map arg_text xs)
+args_lack_it : (c : ℕ) → IsApart c → (ks : List ArgKind) (xs : List Arg) → AreArgs ks xs → AllLack c (map arg_text xs)
 args_lack_it c apart [] [] h = tt
 args_lack_it c apart [] (a ∷ xs) h = absurd h
 args_lack_it c apart (k ∷ ks) [] h = absurd h

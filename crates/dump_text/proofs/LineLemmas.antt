@@ -7,9 +7,9 @@ use Rattle.base.specs.declared.ranges.Limits.{Limits}
 use Rattle.text_words.specs.Lacks.{lacks}
 use Rattle.text_words.specs.Label.{LabelValue}
 use Rattle.text_words.proofs.LackLemmas.{lacks-append}
-use Rattle.text_rows.specs.declared.args.Kind.{Kind}
-use Rattle.text_rows.specs.Row.{AreArgs}
-use Rattle.text_rows.proofs.RowLemmas.{arguments_are_one, arguments_lack_end}
+use Rattle.spoken_calls.specs.declared.args.ArgKind.{ArgKind}
+use Rattle.spoken_calls.specs.Row.{AreArgs}
+use Rattle.spoken_calls.proofs.RowLemmas.{arguments_are_one, arguments_lack_end}
 use Rattle.call_text.specs.Place.{raw_of}
 use Rattle.call_text.proofs.TextLemmas.{IsGrammar}
 use Rattle.kernel_rules.specs.declared.tables.Used.{Used}
@@ -26,7 +26,7 @@ use Rattle.dump_text.proofs.Readings.{cancel}
 use Rattle.dump_text.proofs.CallLemmas.{label_again}
 use Rattle.dump_text.proofs.EventLemmas.{event_is_one, event_lacks_end}
 
-words_lack_end : (ks : List Kind) (b : List ℕ) (ws : List Word) → 0 < length ks → lacks 10 b ≡ true → AreArgs ks (args_of ws) → lacks 10 (b ++ words_text ws) ≡ true
+words_lack_end : (ks : List ArgKind) (b : List ℕ) (ws : List Word) → 0 < length ks → lacks 10 b ≡ true → AreArgs ks (args_of ws) → lacks 10 (b ++ words_text ws) ≡ true
 words_lack_end ks b ws some l is = lacks-append 10 b (words_text ws) l (arguments_lack_end ks (args_of ws) some is)
 
 line_lacks_end : (l : Line) → IsLine l → lacks 10 (line_text l) ≡ true
@@ -40,7 +40,7 @@ line_lacks_end (lines.Label s) is = words_lack_end label_kinds (codes "label ") 
 line_lacks_end (lines.Order o) is = words_lack_end order_kinds (codes "order ") (order_words o) (lit< tt) refl is.0
 line_lacks_end lines.End is = refl
 
-words_same : (ks : List Kind) (b : List ℕ) (xs ys : List Word) → 0 < length ks → AreArgs ks (args_of xs) → AreArgs ks (args_of ys) → b ++ words_text xs ≡ b ++ words_text ys → args_of xs ≡ args_of ys
+words_same : (ks : List ArgKind) (b : List ℕ) (xs ys : List Word) → 0 < length ks → AreArgs ks (args_of xs) → AreArgs ks (args_of ys) → b ++ words_text xs ≡ b ++ words_text ys → args_of xs ≡ args_of ys
 words_same ks b xs ys some ix iy e = arguments_are_one ks (args_of xs) (args_of ys) some ix iy (cancel b (words_text xs) (words_text ys) e)
 
 level_back : ℕ → Level

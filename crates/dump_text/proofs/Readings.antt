@@ -2,10 +2,10 @@
 use Rattle.std.proofs.Common.{◌≡◌, ℕ, ◌<◌, List, [], ◌∷◌, ◌++◌, length, Option, Some, None, ap, ◌∙◌, sym, subst}
 use Rattle.std.specs.Global.{Vec}
 use Rattle.text_words.specs.Reading.{Reads}
-use Rattle.text_rows.specs.declared.args.Kind.{Kind}
-use Rattle.text_rows.specs.declared.args.Arg.{Arg}
-use Rattle.text_rows.specs.Row.{AreArgs, ReadsArguments, arguments_text}
-use Rattle.text_rows.proofs.RowLemmas.{arguments_are_one}
+use Rattle.spoken_calls.specs.declared.args.ArgKind.{ArgKind}
+use Rattle.spoken_calls.specs.declared.args.Arg.{Arg}
+use Rattle.spoken_calls.specs.Row.{AreArgs, ReadsArguments, arguments_text}
+use Rattle.spoken_calls.proofs.RowLemmas.{arguments_are_one}
 use Rattle.dump_text.specs.declared.words.Word.{Word}
 use Rattle.dump_text.specs.Word.{args_of, words_text}
 use Rattle.dump_text.specs.Making.{Makes}
@@ -17,16 +17,16 @@ cancel [] x y e = e
 cancel (c ∷ b) x y e = cancel b x y cc
 
 -- no arguments of the kinds
-pub no_args : {V : Type 0} (words : V → List Word) (Allows : V → Type 0) (ks : List Kind) (b text rest : List ℕ) (r : Option (Vec Arg)) → r ≡ None → ReadsArguments ks rest r → text ≡ b ++ rest → (v : V) → AreAllowed ks words Allows v → text ≡ b ++ words_text (words v) → ⊥
+pub no_args : {V : Type 0} (words : V → List Word) (Allows : V → Type 0) (ks : List ArgKind) (b text rest : List ℕ) (r : Option (Vec Arg)) → r ≡ None → ReadsArguments ks rest r → text ≡ b ++ rest → (v : V) → AreAllowed ks words Allows v → text ≡ b ++ words_text (words v) → ⊥
 no_args words Allows ks b text rest r none read is v allowed e =
     let h = subst (λ (x : Option (Vec Arg)). ReadsArguments ks rest x) none read in
     h (args_of (words v)) allowed.0 (cancel b rest (words_text (words v)) (sym is ∙ e))
 
-some_args : (ks : List Kind) (rest : List ℕ) (r : Option (Vec Arg)) (v : Vec Arg) → r ≡ Some v → ReadsArguments ks rest r → AreArgs ks v.items × (rest ≡ arguments_text v.items)
+some_args : (ks : List ArgKind) (rest : List ℕ) (r : Option (Vec Arg)) (v : Vec Arg) → r ≡ Some v → ReadsArguments ks rest r → AreArgs ks v.items × (rest ≡ arguments_text v.items)
 some_args ks rest r v some read = subst (λ (x : Option (Vec Arg)). ReadsArguments ks rest x) some read
 
 -- what is made of the arguments is what the text spells
-pub made : {V : Type 0} (words : V → List Word) (Allows : V → Type 0) (ks : List Kind) (b text rest : List ℕ) (r : Option (Vec Arg)) (args : Vec Arg) (found : List Arg) (o : Option V) → 0 < length ks → r ≡ Some args → ReadsArguments ks rest r → text ≡ b ++ rest → found ≡ args.items → Makes words Allows found o → Reads (λ v. b ++ words_text (words v)) (AreAllowed ks words Allows) text o
+pub made : {V : Type 0} (words : V → List Word) (Allows : V → Type 0) (ks : List ArgKind) (b text rest : List ℕ) (r : Option (Vec Arg)) (args : Vec Arg) (found : List Arg) (o : Option V) → 0 < length ks → r ≡ Some args → ReadsArguments ks rest r → text ≡ b ++ rest → found ≡ args.items → Makes words Allows found o → Reads (λ v. b ++ words_text (words v)) (AreAllowed ks words Allows) text o
 made words Allows ks b text rest r args found (Some v) positive some read is same m =
     let p = some_args ks rest r args some read in
     let args_are : args.items ≡ args_of (words v) = sym same ∙ m.0 in

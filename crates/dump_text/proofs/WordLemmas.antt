@@ -5,10 +5,10 @@ use Rattle.std.proofs.lemmas.List.{append-nil}
 use Rattle.label_lattice.specs.declared.pairings.Pair.{Pair}
 use Rattle.text_words.specs.declared.references.Reference.TheVariants as references
 use Rattle.text_words.specs.declared.spoken_labels.SpokenPair.{SpokenPair}
-use Rattle.text_rows.specs.Arg.{arg_text}
-use Rattle.text_rows.specs.declared.verbs.Verb.{Verb}
-use Rattle.text_rows.specs.Row.{row_text}
-use Rattle.text_rows.specs.Verb.{name_of}
+use Rattle.spoken_calls.specs.Arg.{arg_text}
+use Rattle.spoken_calls.specs.declared.verbs.Verb.{Verb}
+use Rattle.spoken_calls.specs.Row.{row_text}
+use Rattle.spoken_calls.specs.Verb.{name_of}
 use Rattle.dump_text.specs.declared.words.Word.{Word}
 use Rattle.dump_text.specs.Word.{spoken_pair, arg_of, args_of}
 use Rattle.dump_text.specs.Call.{row_of}

@@ -4,9 +4,9 @@ use Rattle.base.specs.declared.levels.Level.{Level}
 use Rattle.base.specs.declared.levels.Level.TheVariants.{Star, L0, L1, L2, L3}
 use Rattle.base.specs.declared.ranges.Limits.{Limits}
 use Rattle.base.specs.Limits.{in_range}
-use Rattle.text_rows.specs.declared.args.Kind.{Kind}
-use Rattle.text_rows.specs.declared.args.Kind.TheVariants as kinds
-use Rattle.text_rows.specs.Row.{AreArgs}
+use Rattle.spoken_calls.specs.declared.args.ArgKind.{ArgKind}
+use Rattle.spoken_calls.specs.declared.args.ArgKind.TheVariants as kinds
+use Rattle.spoken_calls.specs.Row.{AreArgs}
 use Rattle.dump_text.specs.declared.words.Word.{Word}
 use Rattle.dump_text.specs.declared.words.Word.TheVariants as words
 use Rattle.kernel_rules.specs.declared.tables.Used.{Used}
@@ -53,26 +53,26 @@ label_words s = words.Number s.index ∷ words.Label s.label ∷ []
 abbrev pub order_words : Compared → List Word
 order_words o = words.Number o.first ∷ words.Number o.second ∷ words.Number o.bits ∷ []
 
-abbrev pub limits_kinds : List Kind
+abbrev pub limits_kinds : List ArgKind
 limits_kinds = kinds.Number ∷ kinds.Number ∷ kinds.Wide ∷ kinds.Wide ∷ []
 
-abbrev pub live_kinds : List Kind
+abbrev pub live_kinds : List ArgKind
 live_kinds = kinds.Wide ∷ []
 
-abbrev pub use_kinds : List Kind
+abbrev pub use_kinds : List ArgKind
 use_kinds = kinds.Wide ∷ kinds.Number ∷ []
 
-abbrev pub map_kinds : List Kind
+abbrev pub map_kinds : List ArgKind
 map_kinds = kinds.Wide ∷ kinds.Number ∷ kinds.Wide ∷ kinds.Rights ∷ []
 
-abbrev pub label_kinds : List Kind
+abbrev pub label_kinds : List ArgKind
 label_kinds = kinds.Number ∷ kinds.Label ∷ []
 
-abbrev pub order_kinds : List Kind
+abbrev pub order_kinds : List ArgKind
 order_kinds = kinds.Number ∷ kinds.Number ∷ kinds.Number ∷ []
 
 -- words of these kinds, each in its range
-abbrev pub AreWords : List Kind → List Word → Type 0
+abbrev pub AreWords : List ArgKind → List Word → Type 0
 AreWords ks ws = AreArgs ks (args_of ws)
 
 -- limits that a machine boots with
@@ -88,7 +88,7 @@ abbrev pub Anything : {V : Type 0} → V → Type 0
 Anything v = Unit {0}
 
 -- a value whose words are of these kinds, each in its range, and that is allowed
-abbrev pub AreAllowed : {V : Type 0} → List Kind → (V → List Word) → (V → Type 0) → V → Type 0
+abbrev pub AreAllowed : {V : Type 0} → List ArgKind → (V → List Word) → (V → Type 0) → V → Type 0
 AreAllowed ks words Allows v = AreWords ks (words v) × Allows v
 
 -- a line's one spelling

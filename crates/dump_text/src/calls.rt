@@ -1,7 +1,7 @@
 //! Write calls, each object and category by its number.
 ghost use Rattle.std.specs.Prelude.{◌≡◌, ◌++◌, [], IfOk, OnOk};
 ghost use Rattle.text_words.specs.Reading.{Reads};
-ghost use Rattle.text_rows.specs.Row.{row_text};
+ghost use Rattle.spoken_calls.specs.Row.{row_text};
 ghost use Rattle.call_text.specs.Resolve.{resolved};
 ghost use Rattle.dump_text.specs.Call.{call_text, IsCall, write_of, row_of, creation_words};
 ghost use Rattle.dump_text.specs.Call.{entry_words, mapping_words};
@@ -13,8 +13,8 @@ use base::ObjectId;
 use call_text::{Asked, NameList, resolve};
 use kernel_rules::{Call, Entry, Mapping};
 use label_lattice::RawLabel;
+use spoken_calls::{Row, Verb, read_row};
 use std::alloc::{AllocError, Global};
-use text_rows::{Row, Verb, read_row};
 
 /// The write call that the row asks where no name is known.
 fn write_call(row: &Row) -> Option<Call>

@@ -6,7 +6,7 @@ ghost use Rattle.dump_text.specs.Reading.{ReadsDump, Takes, added, nothing};
 
 use crate::errors::DumpError;
 use crate::lines::{Line, read_line};
-use crate::tables::{Dump, Tables};
+use crate::tables::{Dump, DumpTables};
 use base::{Level, Limits};
 use call_text::parted;
 use std::alloc::{AllocError, Global};
@@ -23,7 +23,7 @@ fn nothing(alloc: Global) -> Dump
             next_category: 1,
         },
         events: Vec::new(alloc),
-        tables: Tables {
+        tables: DumpTables {
             live: Vec::new(alloc),
             uses: Vec::new(alloc),
             maps: Vec::new(alloc),

@@ -23,6 +23,6 @@ mod writing;
 pub use dumps::{one_reading, read_dump};
 pub use errors::DumpError;
 pub use laws::legal_is_dump;
-pub use tables::{Dump, Stored, Tables};
+pub use tables::{Dump, DumpTables, Stored};
 pub use whole::dump_with;
 pub use writing::write_dump;

@@ -11,7 +11,7 @@ use crate::labels::numbered;
 use crate::tables::Stored;
 use base::{Level, Limits, ObjectId};
 use kernel_rules::{Compared, Shown, Used};
-use text_rows::Arg;
+use spoken_calls::Arg;
 
 /// The level with the digit. No digit is that of a star.
 fn level_of(digit: u32) -> Option<Level>

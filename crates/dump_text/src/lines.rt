@@ -17,8 +17,8 @@ use crate::stripping::after;
 use crate::tables::Stored;
 use base::{Limits, ObjectId};
 use kernel_rules::{Call, Compared, Event, Reply, Shown, Used};
+use spoken_calls::{ArgKind, read_arguments};
 use std::alloc::{AllocError, Global};
-use text_rows::{Kind, read_arguments};
 use text_words::is_same;
 
 /// A line of a dump.
@@ -48,7 +48,12 @@ fn read_limits(alloc: Global, text: &[u8]) -> Result<Option<Limits>, AllocError>
     let Some(rest) = after(text, b"limits ") else {
         return Ok(None);
     };
-    let kinds = [Kind::Number, Kind::Number, Kind::Wide, Kind::Wide];
+    let kinds = [
+        ArgKind::Number,
+        ArgKind::Number,
+        ArgKind::Wide,
+        ArgKind::Wide,
+    ];
     let Some(args) = read_arguments(alloc, &kinds, rest)? else {
         return Ok(None);
     };
@@ -63,7 +68,7 @@ fn read_live(alloc: Global, text: &[u8]) -> Result<Option<ObjectId>, AllocError>
     let Some(rest) = after(text, b"live ") else {
         return Ok(None);
     };
-    let kinds = [Kind::Wide];
+    let kinds = [ArgKind::Wide];
     let Some(args) = read_arguments(alloc, &kinds, rest)? else {
         return Ok(None);
     };
@@ -78,7 +83,7 @@ fn read_use(alloc: Global, text: &[u8]) -> Result<Option<Used>, AllocError>
     let Some(rest) = after(text, b"use ") else {
         return Ok(None);
     };
-    let kinds = [Kind::Wide, Kind::Number];
+    let kinds = [ArgKind::Wide, ArgKind::Number];
     let Some(args) = read_arguments(alloc, &kinds, rest)? else {
         return Ok(None);
     };
@@ -93,7 +98,12 @@ fn read_map(alloc: Global, text: &[u8]) -> Result<Option<Shown>, AllocError>
     let Some(rest) = after(text, b"map ") else {
         return Ok(None);
     };
-    let kinds = [Kind::Wide, Kind::Number, Kind::Wide, Kind::Rights];
+    let kinds = [
+        ArgKind::Wide,
+        ArgKind::Number,
+        ArgKind::Wide,
+        ArgKind::Rights,
+    ];
     let Some(args) = read_arguments(alloc, &kinds, rest)? else {
         return Ok(None);
     };
@@ -108,7 +118,7 @@ fn read_label(alloc: Global, text: &[u8]) -> Result<Option<Stored>, AllocError>
     let Some(rest) = after(text, b"label ") else {
         return Ok(None);
     };
-    let kinds = [Kind::Number, Kind::Label];
+    let kinds = [ArgKind::Number, ArgKind::Label];
     let Some(args) = read_arguments(alloc, &kinds, rest)? else {
         return Ok(None);
     };
@@ -123,7 +133,7 @@ fn read_order(alloc: Global, text: &[u8]) -> Result<Option<Compared>, AllocError
     let Some(rest) = after(text, b"order ") else {
         return Ok(None);
     };
-    let kinds = [Kind::Number, Kind::Number, Kind::Number];
+    let kinds = [ArgKind::Number, ArgKind::Number, ArgKind::Number];
     let Some(args) = read_arguments(alloc, &kinds, rest)? else {
         return Ok(None);
     };

@@ -17,7 +17,7 @@ pub struct Stored {
 
 /// The tables at the end of a run. A contract sees the five lists.
 #[derive(Drop)]
-pub struct Tables {
+pub struct DumpTables {
     /// The live ids.
     pub live: Vec<ObjectId>,
     /// What objects use.
@@ -30,7 +30,7 @@ pub struct Tables {
     pub orders: Vec<Compared>,
 }
 
-impl Model for Tables {
+impl Model for DumpTables {
     ghost use Rattle.dump_text.specs.Lists.{TableLists};
 
     ghost Value = { TableLists };
@@ -52,7 +52,7 @@ pub struct Dump {
     /// The journal, the oldest event first.
     pub events: Vec<Event>,
     /// The tables at the end.
-    pub tables: Tables,
+    pub tables: DumpTables,
 }
 
 impl Model for Dump {

@@ -2,7 +2,7 @@
 ghost use Rattle.std.specs.Prelude.{◌≡◌, ◌≤◌, ◌<◌, ◌+◌, ◌^◌, ◌++◌, IfOk, OnOk, length};
 ghost use Rattle.dump_text.specs.Whole.{placed_from, placed};
 
-use crate::tables::{Dump, Stored, Tables};
+use crate::tables::{Dump, DumpTables, Stored};
 use base::{Limits, NoMemory};
 use kernel_rules::{Event, Tables as Kept};
 use label_lattice::RawLabel;
@@ -41,7 +41,7 @@ pub fn dump_with(
     Ok(Dump {
         limits: *limits,
         events,
-        tables: Tables {
+        tables: DumpTables {
             live: tables.live,
             uses: tables.uses,
             maps: tables.shown,

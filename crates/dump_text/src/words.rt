@@ -2,15 +2,15 @@
 ghost use Rattle.std.specs.Prelude.{◌≡◌, ◌++◌, ◌∷◌, [], codes, OnOk};
 ghost use Rattle.std.specs.List.{flat_map};
 ghost use Rattle.text_words.specs.Label.{pair_text, label_text};
-ghost use Rattle.text_rows.specs.Arg.{arg_text};
-ghost use Rattle.text_rows.specs.Row.{row_text};
+ghost use Rattle.spoken_calls.specs.Arg.{arg_text};
+ghost use Rattle.spoken_calls.specs.Row.{row_text};
 ghost use Rattle.dump_text.specs.Call.{row_of};
 ghost use Rattle.dump_text.specs.Word.{arg_of, spoken_pair, spoken_label};
 
 use base::{Data, ObjectId, Rights, TypeSet};
 use label_lattice::{Pair, RawLabel};
+use spoken_calls::Verb;
 use std::alloc::AllocError;
-use text_rows::Verb;
 use text_words::{put_data, put_level, put_number, put_rights, put_signed, put_types};
 
 /// A word of a dump.

@@ -8,7 +8,7 @@ ghost use Rattle.dump_text.specs.Dump.{table_lines, dump_text};
 
 use crate::events::put_event;
 use crate::lines::Line;
-use crate::tables::{Dump, Stored, Tables};
+use crate::tables::{Dump, DumpTables, Stored};
 use crate::words::{Word, put_further, put_word};
 use base::{Level, NoMemory, ObjectId};
 use kernel_rules::{Compared, Event, Shown, Used};
@@ -160,7 +160,7 @@ fn put_orders(out: &mut Vec<u8>, orders: &[Compared]) -> Result<(), NoMemory>
 }
 
 /// Adds the lines of the tables.
-fn put_tables(out: &mut Vec<u8>, tables: &Tables) -> Result<(), NoMemory>
+fn put_tables(out: &mut Vec<u8>, tables: &DumpTables) -> Result<(), NoMemory>
     ensures { OnOk result (out.new.items
         ≡ out.old.items ++ lines_text line_text (table_lines tables.now)) }
 {

@@ -2,9 +2,9 @@
 //! default options.
 #![tactic(auto)]
 
-use program_ends::{Fault, tell_answer, words_of};
+use histar_args::{DEFAULTS, Told, read_words};
+use program_io::{Fault, tell_answer, words_of};
 use script_runner::{Ended, NAME, histar_on};
-use script_words::{DEFAULTS, Told, read_words};
 use std::fs::{File, OpenFile};
 use std::io::Write;
 use std::process::ExitCode;

@@ -1,9 +1,9 @@
 //! `histar-audit FILE`. Without words it audits its standard input.
 #![tactic(auto)]
 
-use audit_words::read_words;
+use audit_args::read_words;
 use auditor::{NAME, audit_on};
-use program_ends::{Fault, tell_answer, words_of};
+use program_io::{Fault, tell_answer, words_of};
 use std::fs::File;
 use std::io;
 use std::process::ExitCode;

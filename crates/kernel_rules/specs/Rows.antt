@@ -19,7 +19,7 @@ use Rattle.base.specs.declared.sets.Rights.{Rights}
 use Rattle.label_lattice.specs.Label.{LabelValue}
 use Rattle.label_lattice.specs.declared.raw_labels.RawLabel.{RawLabel}
 use Rattle.label_lattice.specs.Raw.{is_bad_below, raw_has_star}
-use Rattle.threads_gates.specs.LabelRules.{both, below, between, stored, with_category}
+use Rattle.label_rules.specs.LabelRules.{both, below, between, stored, with_category}
 use Rattle.kernel_rules.specs.State.{State, is_live_kind, is_accessible, holds, is_kind_at}
 use Rattle.kernel_rules.specs.State.{observes}
 use Rattle.kernel_rules.specs.State.{flows_to, is_immutable, quota_at, use_of, avoids_at, label_at}

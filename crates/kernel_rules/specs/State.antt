@@ -12,7 +12,7 @@ use Rattle.base.specs.declared.ranges.Limits.{Limits}
 use Rattle.base.specs.declared.kinds.Kind as kind
 use Rattle.base.specs.declared.kinds.Kind.TheVariants as kinds
 use Rattle.label_lattice.specs.Label.{LabelValue}
-use Rattle.threads_gates.specs.LabelRules.{both, below, visible}
+use Rattle.label_rules.specs.LabelRules.{both, below, visible}
 use Rattle.kernel_rules.specs.declared.calls.Entry.{Entry}
 use Rattle.kernel_rules.specs.declared.objects.Gate.{Gate}
 use Rattle.kernel_rules.specs.declared.objects.Mapping.{Mapping}

@@ -14,8 +14,8 @@ use Rattle.base.specs.declared.refusals.Refusal.TheVariants.{NoQuota, FixedQuota
 use Rattle.base.specs.declared.refusals.Refusal.TheVariants.{AlreadyLinked, RootKept, NotMapped}
 use Rattle.base.specs.declared.refusals.Refusal.TheVariants.{Overlap, GateDenied, DeviceFull}
 use Rattle.base.specs.declared.refusals.Refusal.TheVariants.{DeviceEmpty, Spent}
-use Rattle.threads_gates.specs.LabelRules.{both, below, shown, may_clear, may_enter, stored}
-use Rattle.threads_gates.specs.declared.gates.Bearer.{Bearer}
+use Rattle.label_rules.specs.LabelRules.{both, below, shown, may_clear, may_enter, stored}
+use Rattle.label_rules.specs.declared.gates.Bearer.{Bearer}
 use Rattle.kernel_rules.specs.State.{State, object_at, of_object, kind_of, is_kind_at, observes}
 use Rattle.kernel_rules.specs.State.{label_at, clearance_at, quota_at, use_of, list_at, avoids_at}
 use Rattle.kernel_rules.specs.State.{is_fixed, gate_at, slots_at, packets_at, page_count}

@@ -2,7 +2,7 @@
 ghost use Rattle.std.specs.Prelude.{◌≡◌, ◌∷◌, [], ◌||◌, not, is_none, option_copied};
 ghost use Rattle.base.specs.declared.refusals.Refusal.TheVariants as refusal;
 ghost use Rattle.label_lattice.specs.Raw.{all_made, is_bad_below, raw_has_star};
-ghost use Rattle.threads_gates.specs.LabelRules.{both, below, between, stored};
+ghost use Rattle.label_rules.specs.LabelRules.{both, below, between, stored};
 ghost use Rattle.kernel_rules.specs.Rows.{fitting, new_object, new_bearer, in_range_of};
 ghost use Rattle.kernel_rules.specs.State.{label_at, clearance_at};
 
@@ -11,7 +11,7 @@ use crate::sights::itself;
 use crate::stores::Store;
 use base::{Kind, Meter, ObjectId, Refusal};
 use label_lattice::{Label, RawLabel};
-use threads_gates::{is_below, is_between, stored_of};
+use label_rules::{is_below, is_between, stored_of};
 
 /// A new object, as what refuses one looks at it.
 #[derive(Clone, Copy)]

@@ -8,7 +8,7 @@ ghost use Rattle.kernel_rules.specs.declared.calls.Query.TheVariants as query;
 use base::{Kind, Meter, ObjectId, Refusal};
 use kernel_rules::{NewContainer, Reply};
 use kernel_store::{NewObject, Store, at_container, halted, itself, new_object, refusal_of};
-use threads_gates::stored_of;
+use label_rules::stored_of;
 
 /// What refuses to make a container.
 pub fn refused_container_create<S: Store>(

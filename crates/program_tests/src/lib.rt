@@ -7,8 +7,8 @@
 pub fn programs_are_tested() {}
 
 #[cfg(test)]
-mod audit_words_tests;
+mod audit_args_tests;
 #[cfg(test)]
-mod program_ends_tests;
+mod histar_args_tests;
 #[cfg(test)]
-mod script_words_tests;
+mod program_io_tests;

@@ -10,20 +10,20 @@ use Rattle.kernel_rules.specs.declared.calls.Call.{Call}
 use Rattle.kernel_rules.specs.declared.calls.Query.{Query}
 use Rattle.kernel_rules.specs.declared.replies.Reply.{Reply}
 use Rattle.kernel_rules.specs.declared.events.Event.{Event}
-use Rattle.published_copy.specs.declared.passes.Turn.{Turn}
+use Rattle.published_copy.specs.declared.passes.Standing.{Standing}
 use Rattle.published_copy.specs.declared.receipts.Receipt.{Receipt}
 
 -- the turn of a thread, with the number of its next event and how many events it has seen
-abbrev pub turn : ℕ → ℕ → ℕ → Turn
+abbrev pub turn : ℕ → ℕ → ℕ → Standing
 turn thread number length = record { thread = thread; number = number; length = length }
 
 -- the number is the thread's next in the journal, and the journal has all that was seen
-abbrev pub is_turn : List Event → Turn → Bool
+abbrev pub is_turn : List Event → Standing → Bool
 is_turn journal pass =
     (pass.number == count pass.thread journal + 1) && nat_le pass.length (length journal)
 
 -- the event that a call makes: its reply is the answer in the journal's state
-abbrev pub event_of : Limits → List Event → Turn → Call → Event
+abbrev pub event_of : Limits → List Event → Standing → Call → Event
 event_of limits journal pass call = record {
   thread = pass.thread;
   number = pass.number;
@@ -32,11 +32,11 @@ event_of limits journal pass call = record {
 }
 
 -- the journal with that event at its end
-abbrev pub with_event : Limits → List Event → Turn → Call → List Event
+abbrev pub with_event : Limits → List Event → Standing → Call → List Event
 with_event limits journal pass call = journal ++ event_of limits journal pass call ∷ []
 
 -- the receipt of that event
-abbrev pub receipt_of : Limits → List Event → Turn → Call → Receipt
+abbrev pub receipt_of : Limits → List Event → Standing → Call → Receipt
 receipt_of limits journal pass call = record {
   reply = answer (state_of limits journal) pass.thread call;
   number = pass.number;
@@ -44,26 +44,26 @@ receipt_of limits journal pass call = record {
 }
 
 -- the pass then: its number is the next one, and it has seen the journal with that event
-abbrev pub passed_on : List Event → Turn → Turn
+abbrev pub passed_on : List Event → Standing → Standing
 passed_on journal pass = turn pass.thread (pass.number + 1) (length journal + 1)
 
 -- at some legal journal it was the pass's turn, with the call's event the journal is legal, and the
 -- receipt is that event's: what a caller knows who did not hold the lock
-abbrev pub IsSubmitted : Limits → Turn → Call → Receipt → Turn → Type 0
+abbrev pub IsSubmitted : Limits → Standing → Call → Receipt → Standing → Type 0
 IsSubmitted limits pass call receipt after =
     (journal : List Event) × IsLegal limits (with_event limits journal pass call)
     × (is_turn journal pass ≡ true) × (receipt ≡ receipt_of limits journal pass call)
     × (after ≡ passed_on journal pass)
 
 -- at some legal journal, which is what the pass has seen then, the reply is the answer of its state
-abbrev pub IsRead : Limits → Turn → Query → Reply → Turn → Type 0
+abbrev pub IsRead : Limits → Standing → Query → Reply → Standing → Type 0
 IsRead limits pass query reply after =
     (journal : List Event) × IsLegal limits journal
     × (reply ≡ query_answer (state_of limits journal) pass.thread query)
     × (after ≡ turn pass.thread pass.number (length journal))
 
 -- at some legal journal, which is what the pass has seen, the thread is live and has no event
-abbrev pub IsOpened : Limits → ℕ → Turn → Type 0
+abbrev pub IsOpened : Limits → ℕ → Standing → Type 0
 IsOpened limits thread pass =
     (journal : List Event) × IsLegal limits journal
     × (is_live_kind (state_of limits journal) kinds.Thread thread ≡ true)

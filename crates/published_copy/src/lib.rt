@@ -18,7 +18,7 @@ pub use books::Book;
 pub use boots::{Blank, Shared};
 pub use kernel_rules::Event;
 pub use naming::Naming;
-pub use passes::{Pass, Turn};
+pub use passes::{Pass, Standing};
 pub use plain_core::BootRefusal;
 pub use receipts::Receipt;
 pub use refusals::{SeatRefusal, SubmitRefusal};

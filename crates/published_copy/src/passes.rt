@@ -10,24 +10,24 @@ use std::marker::{Model, PhantomData};
 
 /// A thread, the number of its next event, and how many events it has seen.
 #[derive(Clone, Copy)]
-pub struct Turn {
+pub struct Standing {
     thread: ObjectId,
     number: u64,
     length: usize,
 }
 
 /// What a thread carries from call to call. It can't be copied, so a thread has one. A contract sees it
-/// as its `Turn`.
+/// as its `Standing`.
 #[derive(Drop)]
 pub struct Pass<B: Naming> {
-    turn: Turn,
+    turn: Standing,
     of: PhantomData<B>,
 }
 
 impl<B: Naming> Model for Pass<B> {
-    ghost use Rattle.published_copy.specs.declared.passes.Turn.{Turn};
+    ghost use Rattle.published_copy.specs.declared.passes.Standing.{Standing};
 
-    ghost Value = { Turn };
+    ghost Value = { Standing };
 
     ghost view = { λ p. p.turn };
 }
@@ -38,7 +38,7 @@ impl<B: Naming> Pass<B> {
         ensures { result ≡ turn thread number length }
     {
         Pass {
-            turn: Turn {
+            turn: Standing {
                 thread,
                 number,
                 length,
@@ -72,7 +72,7 @@ impl<B: Naming> Pass<B> {
     pub(crate) fn see(&mut self, length: usize)
         ensures { self.new ≡ turn self.old.thread self.old.number length }
     {
-        self.turn = Turn {
+        self.turn = Standing {
             length,
             ..self.turn
         };
@@ -102,7 +102,7 @@ impl<B: Naming> Pass<B> {
         ensures pass { self.new ≡ turn self.old.thread (self.old.number + 1) length }
     {
         let number = self.number();
-        self.turn = Turn {
+        self.turn = Standing {
             number: number + 1,
             length,
             ..self.turn

@@ -22,9 +22,9 @@ pub struct Seat<'a, B: Naming> {
 }
 
 impl<'a, B: Naming> Model for Seat<'a, B> {
-    ghost use Rattle.published_copy.specs.declared.passes.Turn.{Turn};
+    ghost use Rattle.published_copy.specs.declared.passes.Standing.{Standing};
 
-    ghost Value = { Turn };
+    ghost Value = { Standing };
 
     ghost view = { λ s. s.pass };
 }

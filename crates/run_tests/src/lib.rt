@@ -16,4 +16,6 @@ mod script_runner_plays;
 #[cfg(test)]
 mod script_runner_program;
 #[cfg(test)]
-mod worked_rows;
+mod worked_script_tests;
+#[cfg(test)]
+mod worked_scripts;

@@ -1,6 +1,6 @@
 //! What goes to the dump's file.
+use histar_args::{DEFAULTS, Options};
 use script_runner::histar_on;
-use script_words::{DEFAULTS, Options};
 use std::io::ErrorKind;
 use std::process::Abort;
 use std::sync::Wait;

@@ -1,9 +1,9 @@
 //! Plays scripts under gates that pace their workers, and where memory is refused.
 use base::Category;
 use call_text::{Named, Script, ScriptError, Value, read_script, write_reply};
+use histar_args::DEFAULTS;
 use kernel_rules::Reply;
 use script_runner::{Always, Gate, PlayFault, Played, Turn, play_all};
-use script_words::DEFAULTS;
 use std::alloc::Global;
 use std::sync::Wait;
 use std::sync::atomic::{AtomicU64, Ordering};

@@ -1,6 +1,6 @@
 //! What the program prints, and how it ends.
+use histar_args::DEFAULTS;
 use script_runner::histar_on;
-use script_words::DEFAULTS;
 use std::io::ErrorKind;
 use std::process::Abort;
 use std::sync::Wait;

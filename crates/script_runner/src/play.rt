@@ -8,7 +8,7 @@ use crate::gates::Gate;
 use crate::names::BoundNames;
 use crate::parts::{Parts, parts_of, workers_of};
 use crate::printing::output_of;
-use crate::workers::{Ended, Worker};
+use crate::workers::{LinesEnd, Worker};
 use base::{Limits, ObjectId};
 use call_text::{Known, Phase, Script, Value};
 use indexmap::IndexSet;
@@ -147,9 +147,9 @@ fn settle<B: Naming, R: Wait>(
         if let Some(worker) = played.get(*index) {
             let mut worker = worker.lock(rt);
             match worker.ended {
-                Ended::Played => {}
-                Ended::Stopped => return Err(PlayFault::Stopped),
-                Ended::Memory => return Err(PlayFault::Memory),
+                LinesEnd::Played => {}
+                LinesEnd::Stopped => return Err(PlayFault::Stopped),
+                LinesEnd::Memory => return Err(PlayFault::Memory),
             }
             names.bind_all(&worker.own)?;
             worker.own = BoundNames::none(alloc);

@@ -20,7 +20,7 @@ pub enum Answer {
 
 /// How a worker's lines ended.
 #[derive(Clone, Copy, PartialEq, Eq)]
-pub enum Ended {
+pub enum LinesEnd {
     /// All were played.
     Played,
     /// The gate stopped them.
@@ -41,7 +41,7 @@ pub struct Worker<'s, B: Naming> {
     /// What each of its lines answered, with the line's number.
     pub answers: Vec<(u32, Answer)>,
     /// How its lines ended.
-    pub ended: Ended,
+    pub ended: LinesEnd,
 }
 
 fn submitted<B: Naming, R: Wait>(
@@ -84,7 +84,7 @@ impl<'s, B: Naming> Worker<'s, B> {
             refusal: None,
             own: BoundNames::none(alloc),
             answers: Vec::new(alloc),
-            ended: Ended::Played,
+            ended: LinesEnd::Played,
         }
     }
 
@@ -160,11 +160,11 @@ impl<'s, B: Naming> Worker<'s, B> {
             match self.play_line(rt, gate, index, line, earlier) {
                 Ok(Turn::Go) => {}
                 Ok(Turn::Stop) => {
-                    self.ended = Ended::Stopped;
+                    self.ended = LinesEnd::Stopped;
                     return;
                 }
                 Err(NoMemory) => {
-                    self.ended = Ended::Memory;
+                    self.ended = LinesEnd::Memory;
                     return;
                 }
             }

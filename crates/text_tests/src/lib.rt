@@ -14,6 +14,6 @@ mod call_text_tests;
 #[cfg(test)]
 mod names;
 #[cfg(test)]
-mod text_rows_tests;
+mod spoken_calls_tests;
 #[cfg(test)]
 mod text_words_tests;

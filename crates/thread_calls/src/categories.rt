@@ -10,7 +10,7 @@ use base::{Category, Level, Meter, ObjectId, Refusal};
 use kernel_rules::Reply;
 use kernel_store::{Store, halted, refusal_of};
 use label_lattice::Label;
-use threads_gates::with_category;
+use label_rules::with_category;
 
 /// The thread's label with the next category as its own, where it has room for it.
 fn own_label<S: Store>(state: &S, thread: ObjectId, meter: &mut Meter) -> Option<Label>

@@ -2,9 +2,9 @@
 ghost use Rattle.std.specs.Prelude.{◌≡◌, ◌∷◌, [], None, IfOk, OnOk, OnErr, IfSome};
 ghost use Rattle.base.specs.declared.refusals.Refusal.TheVariants as refusal;
 ghost use Rattle.label_lattice.specs.Label.{IsStored};
-ghost use Rattle.threads_gates.specs.LabelRules.{may_enter, stored};
-ghost use Rattle.threads_gates.specs.declared.gates.Asked.{Asked};
-ghost use Rattle.threads_gates.specs.declared.gates.Bearer.{Bearer};
+ghost use Rattle.label_rules.specs.LabelRules.{may_enter, stored};
+ghost use Rattle.label_rules.specs.declared.gates.Asked.{Asked};
+ghost use Rattle.label_rules.specs.declared.gates.Bearer.{Bearer};
 ghost use Rattle.kernel_rules.specs.State.{gate_at};
 ghost use Rattle.label_lattice.specs.Raw.{is_bad_below};
 ghost use Rattle.kernel_rules.specs.Step.{accepted, edit, through_gate, told_by};
@@ -18,7 +18,7 @@ use kernel_store::{
     space_entry,
 };
 use label_lattice::RawLabel;
-use threads_gates::{Asked, Bearer, may_enter, stored_of};
+use label_rules::{Asked, Bearer, may_enter, stored_of};
 
 /// What refuses to make a gate.
 pub fn refused_gate_create<S: Store>(

@@ -1,6 +1,6 @@
 //! The calls by which a thread changes its label and its clearance.
 ghost use Rattle.std.specs.Prelude.{◌≡◌, None, option_copied};
-ghost use Rattle.threads_gates.specs.LabelRules.{may_clear};
+ghost use Rattle.label_rules.specs.LabelRules.{may_clear};
 ghost use Rattle.kernel_rules.specs.State.{label_at, clearance_at};
 ghost use Rattle.kernel_rules.specs.Step.{accepted, edit};
 ghost use Rattle.kernel_rules.specs.Table.{refused};
@@ -10,7 +10,7 @@ use base::{Meter, ObjectId, Refusal};
 use kernel_rules::Reply;
 use kernel_store::{Store, good_label, halted, is_in_range, refusal_of};
 use label_lattice::{Label, RawLabel};
-use threads_gates::{may_clear, stored_of};
+use label_rules::{may_clear, stored_of};
 
 /// What refuses a new own label.
 pub fn refused_self_set_label<S: Store>(

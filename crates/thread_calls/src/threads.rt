@@ -8,7 +8,7 @@ ghost use Rattle.kernel_rules.specs.declared.calls.Query.TheVariants as query;
 use base::{Kind, Meter, ObjectId, Refusal};
 use kernel_rules::{Entry, NewThread, Reply};
 use kernel_store::{NewObject, Store, halted, in_container, new_bearer, refusal_of, space_entry};
-use threads_gates::stored_of;
+use label_rules::stored_of;
 
 /// What refuses another address space.
 pub fn refused_self_set_as<S: Store>(

@@ -13,4 +13,4 @@ mod kernel_rules_tests;
 #[cfg(test)]
 mod label_lattice_tests;
 #[cfg(test)]
-mod threads_gates_tests;
+mod label_rules_tests;

@@ -8,7 +8,7 @@ use crate::places::{
     data_at, label_at, make_entry, make_mapping, number_at, object_at, signed_at, wide_at,
 };
 use kernel_rules::Call;
-use text_rows::{Arg, Verb};
+use spoken_calls::{Arg, Verb};
 
 pub(super) fn self_set_label<K: Known>(args: &[Arg], names: &K) -> Call
     ensures { Asked.Write result ≡ asked_of Verb.SelfSetLabel args.now (K.names names.now) }

@@ -6,7 +6,7 @@ use super::Asked;
 use crate::known_names::Known;
 use crate::places::{label_at, make_entry, number_at, object_at, types_at, wide_at};
 use kernel_rules::{Call, NewAddressSpace, NewContainer, NewCopy, NewGate, NewSegment, NewThread};
-use text_rows::{Arg, Verb};
+use spoken_calls::{Arg, Verb};
 
 pub(super) fn container_create<K: Known>(args: &[Arg], names: &K) -> Call
     ensures { Asked.Write result ≡ asked_of Verb.ContainerCreate args.now (K.names names.now) }

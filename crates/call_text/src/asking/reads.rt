@@ -6,7 +6,7 @@ use super::Asked;
 use crate::known_names::Known;
 use crate::places::{make_entry, number_at, object_at, wide_at};
 use kernel_rules::Query;
-use text_rows::{Arg, Verb};
+use spoken_calls::{Arg, Verb};
 
 pub(super) fn container_list<K: Known>(args: &[Arg], names: &K) -> Query
     ensures { Asked.Read result ≡ asked_of Verb.ContainerList args.now (K.names names.now) }

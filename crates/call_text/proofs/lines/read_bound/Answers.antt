@@ -1,8 +1,8 @@
 use Rattle.std.proofs.Common.{◌≡◌, true, ◌∷◌, List, ℕ, subst, ◌∙◌, sym, ap}
 use Rattle.text_words.specs.Lacks.{lacks}
 use Rattle.text_words.proofs.ReadLemmas.{read_not, read_is}
-use Rattle.text_rows.specs.Row.{Spoken}
-use Rattle.text_rows.specs.Verb.{makes}
+use Rattle.spoken_calls.specs.Row.{Spoken}
+use Rattle.spoken_calls.specs.Verb.{makes}
 use Rattle.call_text.specs.Line.{said_text, IsSaid}
 use Rattle.call_text.proofs.PartLemmas.{not_in}
 use Rattle.call_text.proofs.LineLemmas.{bound_first, bound_parts, said_is_one}

@@ -2,7 +2,7 @@ use Rattle.std.proofs.Common.{◌≡◌, true, ◌++◌, ◌∷◌, [], List, �
 use Rattle.text_words.specs.Lacks.{lacks}
 use Rattle.text_words.proofs.LabelLemmas.{before_last}
 use Rattle.text_words.proofs.ReadLemmas.{read_not}
-use Rattle.text_rows.specs.Row.{row_text, IsRow}
+use Rattle.spoken_calls.specs.Row.{row_text, IsRow}
 use Rattle.call_text.proofs.PartLemmas.{not_in}
 use Rattle.call_text.proofs.LineLemmas.{said_first, said_parts}
 use Rattle.call_text.proofs.lines.read_said.Goals as goal

@@ -1,7 +1,7 @@
 use Rattle.std.proofs.Common.{subst, sym}
 use Rattle.text_words.specs.Reading.{Reads}
 use Rattle.text_words.proofs.ReadLemmas.{read_is}
-use Rattle.text_rows.specs.Row.{row_text, IsRow}
+use Rattle.spoken_calls.specs.Row.{row_text, IsRow}
 use Rattle.dump_text.specs.Call.{call_text, IsCall}
 use Rattle.dump_text.proofs.CallLemmas.{call_reads}
 use Rattle.dump_text.proofs.calls.read_call.Goals as goal

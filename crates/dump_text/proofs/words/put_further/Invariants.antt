@@ -1,6 +1,6 @@
 use Rattle.std.proofs.Common.{◌≡◌, ◌++◌, ◌∷◌, take}
 use Rattle.std.specs.List.{flat_map}
-use Rattle.text_rows.specs.Arg.{arg_text}
+use Rattle.spoken_calls.specs.Arg.{arg_text}
 use Rattle.dump_text.specs.Word.{arg_of}
 use Rattle.dump_text.proofs.words.put_further.Given as goal
 

@@ -7,11 +7,11 @@ use Rattle.kernel_rules.specs.declared.calls.Query.{Query}
 use Rattle.kernel_rules.specs.declared.events.Event.{Event}
 use Rattle.kernel_rules.specs.declared.replies.Reply.{Reply}
 use Rattle.published_copy.specs.Turns.{turn, IsRead}
-use Rattle.published_copy.specs.declared.passes.Turn.{Turn}
+use Rattle.published_copy.specs.declared.passes.Standing.{Standing}
 use Rattle.published_copy.proofs.seats.Seat.read.Goals as goal
 
 -- what was asked at a legal journal was read
-read-at : (limits : Limits) (journal : List Event) (pass after : Turn) (query : Query)
+read-at : (limits : Limits) (journal : List Event) (pass after : Standing) (query : Query)
     (result : Result Reply NoMemory)
     → IfOk result (λ reply. reply ≡ query_answer (state_of limits journal) pass.thread query)
     → OnOk result (after ≡ turn pass.thread pass.number (length journal)) → IsLegal limits journal

@@ -1,0 +1,9 @@
+//! How many looks each call takes, by a store that counts them: at a caller, an object, an entry or an address.
+#![tactic(auto)]
+
+mod counting;
+
+pub use counting::Counting;
+
+#[cfg(test)]
+mod look_tests;

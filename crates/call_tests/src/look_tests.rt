@@ -1,0 +1,159 @@
+//! How many looks each call takes: one at the caller, and one at each entry or container that its row
+//! names. What is asked for is answered as by the plain state itself.
+use crate::Counting;
+use base::{Data, Meter, NoMemory, ObjectId, Refusal, Rights, TypeSet};
+use kernel_calls::{ask, step};
+use kernel_rules::{Call, Entry, Mapping, NewAddressSpace, NewContainer, NewSegment, Query, Reply};
+use plain_state::PlainState;
+use std::test::Fail;
+use test_support::{LIMITS, boot_thread, in_root, plain, refusal_in};
+
+/// What refuses a call, and how many looks it took. The plain state refuses it by the same.
+fn looks_of(
+    store: &mut Counting,
+    twin: &mut PlainState,
+    call: &Call,
+    meter: &mut Meter,
+) -> Result<(Option<Refusal>, u64), NoMemory> {
+    let before = meter.probes();
+    let refused = refusal_in(step(store, boot_thread(), call, meter)?);
+    let looks = meter.probes().saturating_sub(before);
+    if refused == refusal_in(step(twin, boot_thread(), call, meter)?) {
+        Ok((refused, looks))
+    } else {
+        Ok((refused, 0))
+    }
+}
+
+fn looks_at(store: &Counting, query: &Query, meter: &mut Meter) -> (Option<Refusal>, u64) {
+    let before = meter.probes();
+    let refused = refusal_in(ask(store, boot_thread(), query, meter));
+    (refused, meter.probes().saturating_sub(before))
+}
+
+/// A container 4, a segment 5 and an address space 6 in the root.
+fn makings() -> [Call; 3] {
+    let root = ObjectId::root();
+    let container = NewContainer {
+        container: root,
+        label: plain(),
+        quota: 8,
+        avoid: TypeSet::none(),
+    };
+    let segment = NewSegment {
+        container: root,
+        label: plain(),
+        quota: 2,
+        pages: 1,
+    };
+    let space = NewAddressSpace {
+        container: root,
+        label: plain(),
+        quota: 1,
+    };
+    [
+        Call::ContainerCreate(container),
+        Call::SegmentCreate(segment),
+        Call::AsCreate(space),
+    ]
+}
+
+#[test]
+fn each_entry_is_looked_at_once(rt: HostRuntime) -> Result<(), Fail> {
+    let mut meter = Meter::new(rt.alloc())?;
+    let mut store = Counting::new(PlainState::boot(rt.alloc(), &LIMITS)?);
+    let mut twin = PlainState::boot(rt.alloc(), &LIMITS)?;
+    for call in makings() {
+        assert_eq!(rt;
+            looks_of(&mut store, &mut twin, &call, &mut meter)?,
+            (None, 2)
+        );
+    }
+    let target = ObjectId::new(4);
+    let (segment, space) = (in_root(5), in_root(6));
+    let mapping = Mapping {
+        page: 3,
+        entry: segment,
+        first: 0,
+        count: 1,
+        rights: Rights::READ | Rights::WRITE,
+    };
+    let data = Data::from_slice(&[7]);
+    let calls = [
+        (Call::SetFixed { entry: segment }, 2),
+        (
+            Call::Link {
+                target,
+                entry: segment,
+            },
+            4,
+        ),
+        (
+            Call::SegmentWrite {
+                entry: segment,
+                offset: 0,
+                data,
+            },
+            2,
+        ),
+        (
+            Call::AsMap {
+                space,
+                slot: 0,
+                mapping,
+            },
+            3,
+        ),
+        (Call::SelfSetAs { space }, 2),
+        (Call::Store { address: 768, data }, 3),
+        (
+            Call::QuotaMove {
+                entry: in_root(4),
+                change: 1,
+            },
+            3,
+        ),
+        (Call::Unref { entry: segment }, 3),
+    ];
+    for (call, looks) in calls {
+        assert_eq!(rt;
+            looks_of(&mut store, &mut twin, &call, &mut meter)?,
+            (None, looks)
+        );
+    }
+    Ok(())
+}
+
+#[test]
+fn a_refused_call_takes_as_many(rt: HostRuntime) -> Result<(), Fail> {
+    let mut meter = Meter::new(rt.alloc())?;
+    let mut store = Counting::new(PlainState::boot(rt.alloc(), &LIMITS)?);
+    let mut twin = PlainState::boot(rt.alloc(), &LIMITS)?;
+    let root = Entry {
+        container: ObjectId::root(),
+        object: ObjectId::root(),
+    };
+    let kept = looks_of(
+        &mut store,
+        &mut twin,
+        &Call::Unref { entry: root },
+        &mut meter,
+    )?;
+    assert_eq!(rt; kept, (Some(Refusal::RootKept), 3));
+    let read = Query::SegmentRead {
+        entry: in_root(3),
+        offset: 0,
+        count: 1,
+    };
+    let device = looks_at(&store, &read, &mut meter);
+    assert_eq!(rt; device, (Some(Refusal::WrongType), 2));
+    let load = Query::Load {
+        address: 768,
+        count: 1,
+    };
+    assert_eq!(rt;
+        looks_at(&store, &load, &mut meter),
+        (Some(Refusal::NotMapped), 2)
+    );
+    Ok(())
+}

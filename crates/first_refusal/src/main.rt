@@ -1,0 +1,111 @@
+//! One thread keeps a secret from another: a category, a segment that it guards, a thread that owns nothing, and what
+//! that thread's read answers.
+#![tactic(auto)]
+
+use base::{Category, Level, Limits, Meter, ObjectId, Refusal};
+use label_lattice::{Pair, RawLabel};
+use plain_core::{Call, Entry, Machine, NewSegment, NewThread, PlainKernel, Query, Reply};
+use std::io;
+
+/// A new category, which the thread owns.
+fn new_category(kernel: &mut PlainKernel, thread: ObjectId, meter: &mut Meter) -> Option<Category> {
+    match kernel.step(thread, &Call::CatCreate, meter) {
+        Ok(Reply::Category(category)) => Some(category),
+        _ => None,
+    }
+}
+
+/// The id of the object that a reply tells.
+fn object_in(reply: &Reply) -> Option<ObjectId> {
+    match reply {
+        Reply::Object(id) => Some(*id),
+        _ => None,
+    }
+}
+
+/// The object that a call of the thread makes.
+fn make(
+    kernel: &mut PlainKernel,
+    thread: ObjectId,
+    call: &Call,
+    meter: &mut Meter,
+) -> Option<ObjectId> {
+    match kernel.step(thread, call, meter) {
+        Ok(reply) => object_in(&reply),
+        Err(_) => None,
+    }
+}
+
+/// What the thread is refused, where it reads the first bytes of a segment in the root.
+fn refusal_of_read(
+    kernel: &PlainKernel,
+    thread: ObjectId,
+    object: ObjectId,
+    meter: &mut Meter,
+) -> Option<Refusal> {
+    let read = Query::SegmentRead {
+        entry: Entry {
+            container: ObjectId::root(),
+            object,
+        },
+        offset: 0,
+        count: 4,
+    };
+    match kernel.ask(thread, &read, meter) {
+        Ok(Reply::Refused(refusal)) => Some(refusal),
+        _ => None,
+    }
+}
+
+/// A segment of one page, which only who owns the category observes.
+fn segment_guarded_by(category: Category) -> Call {
+    let guard = Pair {
+        category,
+        level: Level::L3,
+    };
+    Call::SegmentCreate(NewSegment {
+        container: ObjectId::root(),
+        label: RawLabel::new(Level::L1, &[guard]),
+        quota: 2,
+        pages: 1,
+    })
+}
+
+/// A thread that owns no category.
+fn stranger() -> Call {
+    Call::ThreadCreate(NewThread {
+        container: ObjectId::root(),
+        label: RawLabel::new(Level::L1, &[]),
+        quota: 1,
+        clearance: RawLabel::new(Level::L2, &[]),
+        entry_point: 0,
+    })
+}
+
+/// What a stranger is refused, where it reads a segment that a category guards.
+fn read_a_secret(kernel: &mut PlainKernel, meter: &mut Meter) -> Option<Refusal> {
+    let boot = ObjectId::new(2);
+    let category = new_category(kernel, boot, meter)?;
+    let secret = make(kernel, boot, &segment_guarded_by(category), meter)?;
+    let stranger = make(kernel, boot, &stranger(), meter)?;
+    refusal_of_read(kernel, stranger, secret, meter)
+}
+
+fn main(rt: HostRuntime) -> io::Result<()> {
+    let limits = Limits {
+        pages: 64,
+        device: Level::L1,
+        next_id: 4,
+        next_category: 1,
+    };
+    let (Ok(mut kernel), Ok(mut meter)) = (
+        PlainKernel::boot(rt.alloc(), &limits),
+        Meter::new(rt.alloc()),
+    ) else {
+        return println!(rt; "no boot");
+    };
+    match read_a_secret(&mut kernel, &mut meter) {
+        Some(refusal) => println!(rt; "refused {} {}", refusal.number(), refusal.name()),
+        None => println!(rt; "not refused"),
+    }
+}

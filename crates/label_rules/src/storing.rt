@@ -1,0 +1,33 @@
+//! Labels as they are stored.
+ghost use Rattle.std.specs.Prelude.{◌≡◌, IfSome};
+ghost use Rattle.label_lattice.specs.Label.{IsStored};
+ghost use Rattle.label_rules.specs.LabelRules.{stored, with_category};
+
+use base::{Category, Level, Meter};
+use label_lattice::{Label, RawLabel};
+
+/// The stored label of a raw label, where it has one.
+#[tactic(auto, unfolding(crate::specs::LabelRules::stored))]
+pub fn stored_of(raw: &RawLabel, meter: &mut Meter) -> Option<Label>
+    ensures stored { result ≡ stored raw.now }
+    ensures fit { IfSome result IsStored }
+{
+    match Label::from_raw(raw, meter) {
+        Ok(label) => Some(label),
+        Err(_) => None,
+    }
+}
+
+/// The label with a category at a level, where it has room for it.
+#[tactic(auto, unfolding(crate::specs::LabelRules::with_category))]
+pub fn with_category(
+    label: &Label,
+    category: Category,
+    level: Level,
+    meter: &mut Meter,
+) -> Option<Label>
+    ensures value { result ≡ with_category label.now category level }
+    ensures fit { IfSome result IsStored }
+{
+    label.with(category, level, meter)
+}

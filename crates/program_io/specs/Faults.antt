@@ -1,0 +1,20 @@
+-- The status and the words of each fault, and the fault of an error met in reading.
+use Rattle.std.specs.Prelude.{ℕ, List, codes}
+use Rattle.std.specs.declared.io.ErrorKind.{ErrorKind}
+use Rattle.std.specs.declared.io.ErrorKind.TheVariants as kind
+use Rattle.program_io.specs.declared.faults.Fault.{Fault}
+use Rattle.program_io.specs.declared.faults.Fault.TheVariants.{Input, Output, Memory}
+
+abbrev pub status_of : Fault → ℕ
+status_of Input = 3
+status_of Output = 3
+status_of Memory = 4
+
+abbrev pub text_of : Fault → List ℕ
+text_of Input = codes "input fault"
+text_of Output = codes "output fault"
+text_of Memory = codes "out of memory"
+
+abbrev pub input_fault_of : ErrorKind → Fault
+input_fault_of kind.OutOfMemory = Memory
+input_fault_of _ = Input

@@ -1,0 +1,119 @@
+//! What the command line of the auditor takes and refuses.
+use audit_args::read_words;
+use clap::error::ErrorKind;
+use std::alloc::Global;
+use std::test::Fail;
+
+/// What `clap` answers to words that it doesn't take.
+fn text_of(alloc: Global, words: &[&str]) -> Result<String, Fail> {
+    match read_words(alloc, words) {
+        Ok(told) => Ok(format!(in alloc; "{}", told.dump)?),
+        Err(error) => Ok(format!(in alloc; "{error}")?),
+    }
+}
+
+#[test]
+fn reads_the_path(rt: HostRuntime) -> Result<(), Fail> {
+    let alloc = rt.alloc();
+    let cases = [
+        (["histar-audit", "a.dump"], "a.dump"),
+        (["histar-audit", "-"], "-"),
+        (["histar-audit", ""], ""),
+        (["", "a dump"], "a dump"),
+    ];
+    for (words, dump) in cases {
+        let told = read_words(alloc, words.as_slice())?;
+        assert!(rt; told.dump == dump, "{dump}");
+    }
+    let words = ["histar-audit", "--", "--help"];
+    let told = read_words(alloc, words.as_slice())?;
+    assert!(rt; told.dump == "--help");
+    let owned = vec![in alloc;
+        "histar-audit".to_string(alloc)?,
+        "a.dump".to_string(alloc)?,
+    ]?;
+    let told = read_words(alloc, owned.as_slice())?;
+    assert!(rt; told.dump == "a.dump");
+    Ok(())
+}
+
+#[test]
+fn refuses_other_words(rt: HostRuntime) -> Result<(), Fail> {
+    let cases = [
+        ["histar-audit", "a.dump", "b.dump"],
+        ["histar-audit", "a.dump", "--dump"],
+        ["histar-audit", "--dump", "a.dump"],
+        ["histar-audit", "a.dump", "-x"],
+        ["histar-audit", "a.dump", "--version"],
+        ["histar-audit", "a.dump", "--help=1"],
+    ];
+    for words in cases {
+        match read_words(rt.alloc(), words.as_slice()) {
+            Ok(_) => assert!(rt; false, "{words:?}"),
+            Err(error) => assert!(rt; error.exit_code() == 2 && error.use_stderr(), "{words:?}"),
+        }
+    }
+    Ok(())
+}
+
+#[test]
+fn tells_what_is_wrong(rt: HostRuntime) -> Result<(), Fail> {
+    let alloc = rt.alloc();
+    let words = ["out/histar_audit"];
+    let text = text_of(alloc, words.as_slice())?;
+    assert_eq!(rt;
+        text.as_str(),
+        "error: the following required arguments were not provided:\n  <FILE>\n\nUsage: histar-audit <FILE>\n\nFor more information, try '--help'.\n"
+    );
+    let words = ["histar-audit", "a.dump", "b.dump"];
+    let text = text_of(alloc, words.as_slice())?;
+    assert_eq!(rt;
+        text.as_str(),
+        "error: unexpected argument 'b.dump' found\n\nUsage: histar-audit <FILE>\n\nFor more information, try '--help'.\n"
+    );
+    let words = ["histar-audit", "--pages", "a.dump"];
+    let text = text_of(alloc, words.as_slice())?;
+    assert_eq!(rt;
+        text.as_str(),
+        "error: unexpected argument '--pages' found\n\n  tip: to pass '--pages' as a value, use '-- --pages'\n\nUsage: histar-audit <FILE>\n\nFor more information, try '--help'.\n"
+    );
+    Ok(())
+}
+
+#[test]
+fn tells_help(rt: HostRuntime) -> Result<(), Fail> {
+    for word in ["--help", "-h"] {
+        let words = ["histar-audit", word];
+        match read_words(rt.alloc(), words.as_slice()) {
+            Ok(_) => assert!(rt; false, "{word}"),
+            Err(error) => {
+                assert!(rt; error.exit_code() == 0 && !error.use_stderr(), "{word}");
+                let text = format!(in rt.alloc(); "{error}")?;
+                assert_eq!(rt;
+                    text.as_str(),
+                    "Says whether a dump is that of a run by the rules\n\nUsage: histar-audit <FILE>\n\nArguments:\n  <FILE>  The dump to audit\n\nOptions:\n  -h, --help  Print help\n"
+                );
+            }
+        }
+    }
+    Ok(())
+}
+
+/// The path that is read, or nothing for want of memory.
+fn path_of<'a>(alloc: Global, words: &'a [&'a str]) -> Result<Option<&'a str>, Fail> {
+    match read_words(alloc, words) {
+        Ok(told) => Ok(Some(told.dump)),
+        Err(error) if error.kind() == ErrorKind::OutOfMemory => Ok(None),
+        Err(_) => Err(Fail::from("a fault of usage")),
+    }
+}
+
+#[test]
+fn want_of_memory_changes_nothing(rt: HostRuntime) -> Result<(), Fail> {
+    let words = ["histar-audit", "a.dump"];
+    let first = path_of(rt.alloc(), words.as_slice())?;
+    let second = path_of(rt.alloc(), words.as_slice())?;
+    assert!(rt; first == None || first == Some("a.dump"));
+    assert!(rt; second == Some("a.dump") || (second == None && first == Some("a.dump")));
+    Ok(())
+}

@@ -1,0 +1,101 @@
+//! Scripts of many calls, with what their lines answer: played as the program does, their dumps
+//! audited, and their write calls made by `run` on a plain kernel.
+use crate::worked_scripts::{WORKED_SCRIPTS, WorkedScript};
+use auditor::{Verdict, audit};
+use base::{NoMemory, ObjectId};
+use call_text::{NameList, put_reply, read_script};
+use histar_args::{DEFAULTS, Options};
+use kernel_rules::{Call, Event, Reply};
+use plain_core::{PlainKernel, run};
+use script_runner::{Always, histar_on, play_all};
+use std::alloc::Global;
+use std::process::Abort;
+use std::sync::Wait;
+use std::test::Fail;
+use std::thread::Threads;
+
+// A script's output is this, and its dump is clean.
+fn check_played<R: Abort + AllocGlobal + Threads + Wait + Sync>(
+    rt: &R,
+    worked: &WorkedScript,
+) -> Result<(), Fail> {
+    let alloc = rt.alloc();
+    let options = Options {
+        limits: worked.limits,
+        dump: true,
+    };
+    let mut out = Vec::new(alloc);
+    let mut err = Vec::new(alloc);
+    let mut input = worked.text;
+    let ended = histar_on(rt, alloc, &mut input, &options, &mut out, &mut err);
+    assert_eq!(rt; ended.status, 0);
+    assert_eq!(rt; out.as_slice(), worked.output);
+    assert!(rt; err.is_empty());
+    assert_eq!(rt; audit(alloc, ended.file.as_slice())?, Verdict::Clean);
+    Ok(())
+}
+
+#[test]
+fn scripts_are_played_and_audited(rt: HostRuntime) -> Result<(), Fail> {
+    for worked in &WORKED_SCRIPTS {
+        check_played(&rt, worked)?;
+    }
+    Ok(())
+}
+
+#[test]
+fn a_run_of_no_call_is_audited(rt: HostRuntime) -> Result<(), Fail> {
+    let worked = WorkedScript {
+        limits: DEFAULTS.limits,
+        text: b"",
+        output: b"",
+    };
+    check_played(&rt, &worked)
+}
+
+/// A reply as text, without names.
+fn text_of(alloc: Global, reply: &Reply) -> Result<Vec<u8>, NoMemory> {
+    let mut text = Vec::new(alloc);
+    put_reply(&mut text, reply, &NameList { named: &[] })?;
+    Ok(text)
+}
+
+fn calls_of(alloc: Global, events: &[Event]) -> Result<Vec<(ObjectId, Call)>, NoMemory> {
+    let mut calls = Vec::new(alloc);
+    for event in events {
+        calls.push((event.thread, event.call))?;
+    }
+    Ok(calls)
+}
+
+// The write calls of a script, in the order of the journal, answer the same by `run` on a new plain
+// kernel: how many they are.
+fn check_run<R: Abort + AllocGlobal + Threads + Wait + Sync>(
+    rt: &R,
+    worked: &WorkedScript,
+) -> Result<usize, Fail> {
+    let alloc = rt.alloc();
+    let script = read_script(alloc, worked.text)?;
+    let played = play_all(rt, alloc, &script, &worked.limits, &Always)?;
+    let calls = calls_of(alloc, played.events.as_slice())?;
+    let mut kernel = PlainKernel::boot(alloc, &worked.limits)?;
+    let replies = run(alloc, &mut kernel, calls.as_slice())?;
+    assert_eq!(rt; replies.len(), played.events.len());
+    for (event, reply) in played.events.iter().zip(&replies) {
+        assert_eq!(rt;
+            text_of(alloc, reply)?.as_slice(),
+            text_of(alloc, &event.reply)?.as_slice()
+        );
+    }
+    Ok(replies.len())
+}
+
+#[test]
+fn scripts_are_run(rt: HostRuntime) -> Result<(), Fail> {
+    let mut made = 0;
+    for worked in &WORKED_SCRIPTS {
+        made += check_run(&rt, worked)?;
+    }
+    assert!(rt; made > WORKED_SCRIPTS.len());
+    Ok(())
+}

@@ -1,0 +1,39 @@
+//! Writing rows.
+ghost use Rattle.std.specs.Prelude.{◌≡◌, ◌++◌, OnOk};
+ghost use Rattle.spoken_calls.specs.Arg.{arg_text};
+ghost use Rattle.spoken_calls.specs.Row.{row_text};
+
+use crate::args::Arg;
+use crate::rows::Row;
+use std::alloc::AllocError;
+use text_words::{
+    put_data, put_label, put_number, put_reference, put_rights, put_signed, put_types,
+};
+
+/// Adds the word of the argument.
+fn put_arg(out: &mut Vec<u8>, arg: &Arg) -> Result<(), AllocError>
+    ensures { OnOk result (out.new.items ≡ out.old.items ++ arg_text arg.now) }
+{
+    match arg {
+        Arg::Object(reference) => put_reference(out, reference),
+        Arg::Number(number) => put_number(out, u64::from(*number)),
+        Arg::Wide(number) => put_number(out, *number),
+        Arg::Signed(number) => put_signed(out, *number),
+        Arg::Label(label) => put_label(out, label),
+        Arg::Data(bytes) => put_data(out, bytes),
+        Arg::Types(set) => put_types(out, *set),
+        Arg::Rights(rights) => put_rights(out, *rights),
+    }
+}
+
+/// Adds the spelling of the row.
+pub fn put_row(out: &mut Vec<u8>, row: &Row) -> Result<(), AllocError>
+    ensures { OnOk result (out.new.items ≡ out.old.items ++ row_text row.now) }
+{
+    out.extend_from_slice(row.verb().name().as_bytes())?;
+    for arg in row.args() {
+        out.push(b' ')?;
+        put_arg(out, arg)?;
+    }
+    Ok(())
+}
