@@ -6,7 +6,7 @@ use kernel_calls::{ask, step};
 use kernel_rules::{Call, Entry, Mapping, NewAddressSpace, NewContainer, NewSegment, Query, Reply};
 use plain_state::PlainState;
 use std::test::Fail;
-use test_support::{LIMITS, boot_thread, in_root, plain, refusal_in};
+use test_support::{LIMITS, answered, boot_thread, in_root, plain, refusal_in};
 
 /// What refuses a call, and how many looks it took. The plain state refuses it by the same.
 fn looks_of(
@@ -16,9 +16,9 @@ fn looks_of(
     meter: &mut Meter,
 ) -> Result<(Option<Refusal>, u64), NoMemory> {
     let before = meter.probes();
-    let refused = refusal_in(step(store, boot_thread(), call, meter)?);
+    let refused = answered(step(store, boot_thread(), call, meter))?;
     let looks = meter.probes().saturating_sub(before);
-    if refused == refusal_in(step(twin, boot_thread(), call, meter)?) {
+    if refused == answered(step(twin, boot_thread(), call, meter))? {
         Ok((refused, looks))
     } else {
         Ok((refused, 0))

@@ -14,10 +14,12 @@ use text_words::Name;
 /// How often a worker looks for another's line.
 const TURNS: u64 = 100_000_000;
 
-/// Two workers, each of which waits for the other's line, from a line of the script on.
+/// Two workers, the first of which is told, each of which waits for the other's line, from a line of
+/// the script on.
 #[derive(Drop)]
 struct Pace {
     answered: [AtomicU64; 2],
+    first: usize,
     from: usize,
 }
 
@@ -30,7 +32,7 @@ impl Gate for Pace {
         if line < self.from {
             return Turn::Go;
         }
-        let (own, other) = if worker == 0 {
+        let (own, other) = if worker == self.first {
             (&self.answered[0], &self.answered[1])
         } else {
             (&self.answered[1], &self.answered[0])
@@ -45,10 +47,11 @@ impl Gate for Pace {
     }
 }
 
-fn paced_from(line: usize) -> Pace {
+fn paced(first: usize, from: usize) -> Pace {
     Pace {
         answered: [AtomicU64::new(0), AtomicU64::new(0)],
-        from: line,
+        first,
+        from,
     }
 }
 
@@ -59,17 +62,20 @@ fn two_workers_run_at_once(rt: HostRuntime) -> Result<(), Fail> {
     let text =
         b"t = boot: thread_create root {1} 1 {2} 0\n--\nboot: cat_create\nboot: self_get\nboot: cat_create\nboot: self_get\nt: cat_create\nt: self_get\nt: cat_create\nt: self_get\n";
     let script = read_script(alloc, text)?;
-    let played = play_all(&rt, alloc, &script, &DEFAULTS.limits, &paced_from(3));
+    let played = play_all(&rt, alloc, &script, &DEFAULTS.limits, &paced(0, 3));
     assert!(rt; played.is_ok());
     Ok(())
 }
 
-// Those without a seat have no thread of their own, so that none goes on before another one.
+// Those whose names are bound to segments have no seat, and so no thread of their own: none goes on
+// before another one.
 #[test]
 fn workers_of_one_thread_are_stopped(rt: HostRuntime) -> Result<(), Fail> {
     let alloc = rt.alloc();
-    let script = read_script(alloc, b"t: self_get\nu: self_get\n")?;
-    let played = play_all(&rt, alloc, &script, &DEFAULTS.limits, &paced_from(1));
+    let text =
+        b"s = boot: segment_create root {1} 1 0\nu = boot: segment_create root {1} 1 0\n--\ns: cat_create\ns: self_get\ns: cat_create\ns: self_get\nu: cat_create\nu: self_get\nu: cat_create\nu: self_get\n";
+    let script = read_script(alloc, text)?;
+    let played = play_all(&rt, alloc, &script, &DEFAULTS.limits, &paced(1, 4));
     assert!(rt; matches!(played, Err(PlayFault::Stopped)));
     Ok(())
 }

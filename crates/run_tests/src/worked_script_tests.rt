@@ -1,6 +1,6 @@
 //! Scripts of many calls, with what their lines answer: played as the program does, their dumps
 //! audited, and their write calls made by `run` on a plain kernel.
-use crate::worked_scripts::{WORKED_SCRIPTS, WorkedScript};
+use crate::worked_scripts::{WorkedScript, worked_scripts};
 use auditor::{Verdict, audit};
 use base::{NoMemory, ObjectId};
 use call_text::{NameList, put_reply, read_script};
@@ -37,7 +37,8 @@ fn check_played<R: Abort + AllocGlobal + Threads + Wait + Sync>(
 
 #[test]
 fn scripts_are_played_and_audited(rt: HostRuntime) -> Result<(), Fail> {
-    for worked in &WORKED_SCRIPTS {
+    let scripts = worked_scripts();
+    for worked in &scripts {
         check_played(&rt, worked)?;
     }
     Ok(())
@@ -49,6 +50,17 @@ fn a_run_of_no_call_is_audited(rt: HostRuntime) -> Result<(), Fail> {
         limits: DEFAULTS.limits,
         text: b"",
         output: b"",
+    };
+    check_played(&rt, &worked)
+}
+
+// A name that nothing is bound to makes no call, and its line is told.
+#[test]
+fn an_unbound_name_is_told_and_audited(rt: HostRuntime) -> Result<(), Fail> {
+    let worked = WorkedScript {
+        limits: DEFAULTS.limits,
+        text: b"boot: unref root x\n",
+        output: b"boot 1: unbound x\n",
     };
     check_played(&rt, &worked)
 }
@@ -92,10 +104,11 @@ fn check_run<R: Abort + AllocGlobal + Threads + Wait + Sync>(
 
 #[test]
 fn scripts_are_run(rt: HostRuntime) -> Result<(), Fail> {
+    let scripts = worked_scripts();
     let mut made = 0;
-    for worked in &WORKED_SCRIPTS {
+    for worked in &scripts {
         made += check_run(&rt, worked)?;
     }
-    assert!(rt; made > WORKED_SCRIPTS.len());
+    assert!(rt; made > scripts.len());
     Ok(())
 }
