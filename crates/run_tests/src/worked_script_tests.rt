@@ -105,9 +105,10 @@ fn check_run<R: Abort + AllocGlobal + Threads + Wait + Sync>(
 #[test]
 fn scripts_are_run(rt: HostRuntime) -> Result<(), Fail> {
     let scripts = worked_scripts();
-    let mut made = 0;
+    let mut made = 0usize;
     for worked in &scripts {
-        made += check_run(&rt, worked)?;
+        let calls = check_run(&rt, worked)?;
+        made = made.saturating_add(calls);
     }
     assert!(rt; made > scripts.len());
     Ok(())
