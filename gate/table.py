@@ -50,9 +50,10 @@ class Crate:
         with open(f"crates/{self.name}/src/{'main' if os.path.exists(f'crates/{self.name}/src/main.rt') else 'lib'}.rt", encoding="utf-8") as it:
             return os.path.basename(file)[: -len(".rt")] in re.findall(r"#\[cfg\(test\)\]\nmod (\w+);", it.read())
 
-    def row(self):
+    def row(self, kinds):
         cells = [f"`{self.name}`", self.code, self.tests, self.definitions, self.proofs, self.edits]
-        shown = [str(it) if it else "" for it in cells] + ["" if it is None else str(it) for it in self.seconds.values()]
+        seconds = [self.seconds[it] for it in kinds]
+        shown = [str(it) if it else "" for it in cells] + ["" if it is None else str(it) for it in seconds]
         return f"| {' | '.join(shown)} |"
 
 
@@ -80,19 +81,19 @@ def longest_chain(found):
 
 def table():
     found = crates()
-    yield "| Crate | Code | Tests | Definitions | Proofs | Edits | Check, s | Tests, s | Edits, s |\n|---|---|---|---|---|---|---|---|---|"
+    kinds = [kind for kind in times.KINDS if any(it.seconds[kind] is not None for it in found)]
+    heads = ["Crate", "Code", "Tests", "Definitions", "Proofs", "Edits", *(f"{it.capitalize()}, s" for it in kinds)]
+    yield f"| {' | '.join(heads)} |\n|{'---|' * len(heads)}"
     for crate in found:
-        yield crate.row()
+        yield crate.row(kinds)
     sums = [sum(getattr(it, part) for it in found) for part in ("code", "tests", "definitions", "proofs", "edits")]
-    seconds = [sum(it.seconds[kind] or 0 for it in found) for kind in times.KINDS]
+    seconds = [sum(it.seconds[kind] or 0 for it in found) for kind in kinds]
     yield f"| all | {' | '.join(map(str, sums + seconds))} |\n"
     taken, names = longest_chain(found)
     yield f"The longest chain of crates takes {taken} s of processor: {', '.join(f'`{it}`' for it in names)}.\n"
     thousands = sum(sums[:4]) / 1000
-    yield (
-        f"For each thousand lines of code, tests, definitions and proofs: {seconds[0] / 60 / thousands:.1f} minutes of processor "
-        f"for checks, {seconds[1] / 60 / thousands:.1f} for tests, {seconds[2] / 60 / thousands:.1f} for edits."
-    )
+    shares = [f"{it / 60 / thousands:.1f} for {kind}" for it, kind in zip(seconds, kinds)]
+    yield f"Minutes of processor for each thousand lines of code, tests, definitions and proofs: {', '.join(shares)}."
 
 
 def main():
