@@ -59,7 +59,7 @@ def audit(report, auditor, file, wanted, name):
 
 def compare(report):
     """Compares what is made of the scripts of the rules with what stands."""
-    status, said = ran("crates/rule_scripts/rows/make.py", "--check")
+    status, said = ran("crates/rule_scripts/scripts/make.py", "--check")
     if said:
         report.say(said.rstrip())
     report.counts(status == 0, "the scripts of the rules: what is made of them stands")

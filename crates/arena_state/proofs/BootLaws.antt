@@ -9,6 +9,7 @@ use Rattle.std.proofs.lemmas.List.Sums.{sum_by-cons}
 use Rattle.base.specs.Limits.{in_range}
 use Rattle.base.specs.declared.ranges.Limits.{Limits}
 use Rattle.base.specs.Live.{has, links}
+use Rattle.base.specs.Sets.{no_kind}
 use Rattle.containers.specs.Tree.{ids_in}
 use Rattle.containers.specs.WellFormed.{IsWellFormed}
 use Rattle.label_intern.specs.declared.held.Held.{Held}
@@ -72,7 +73,7 @@ module _ (p : Pieces) (root thread clearance verify device s1 s2 s3 : ℕ) (ok :
     (next_id : p.next_id ≡ p.limits.next_id) (next_category : p.next_category ≡ p.limits.next_category)
     (lists : p.places.lists ≡ (1, 2 ∷ 3 ∷ []) ∷ (2, []) ∷ (3, []) ∷ []) (slots : p.places.slots ≡ s1 ∷ s2 ∷ s3 ∷ [])
     (tree : IsWellFormed p.places) (cells : length p.places.cells ≡ p.limits.pages)
-    (x1 x2 x3 : Record) (x1_is : x1 ≡ fresh_record root p.limits.pages (keeps.Container (record { 0 = 0 }) 4))
+    (x1 x2 x3 : Record) (x1_is : x1 ≡ fresh_record root p.limits.pages (keeps.Container no_kind 4))
     (x2_is : x2 ≡ fresh_record thread 1 (keeps.Thread (fresh_thread clearance verify 0)))
     (x3_is : x3 ≡ fresh_record device 2 keeps.Device)
     (records : p.holdings.records.items ≡ set (set (replicate p.limits.pages x1) s2 x2) s3 x3)
@@ -97,7 +98,7 @@ module _ (p : Pieces) (root thread clearance verify device s1 s2 s3 : ℕ) (ok :
   at : (k : ℕ) → record_in p.holdings.records.items k ≡ record_in (set (set (replicate p.limits.pages x1) s2 x2) s3 x3) k
   at k = ap (λ (rs : List Record). record_in rs k) records
 
-  first : record_in p.holdings.records.items s1 ≡ fresh_record root p.limits.pages (keeps.Container (record { 0 = 0 }) 4)
+  first : record_in p.holdings.records.items s1 ≡ fresh_record root p.limits.pages (keeps.Container no_kind 4)
   first = at s1 ∙ get_or-set_other (set (replicate p.limits.pages x1) s2 x2) s3 s1 x3 blank (apart 0 2 (omega arith) (omega arith))
       ∙ get_or-set_other (replicate p.limits.pages x1) s2 s1 x2 blank (apart 0 1 (omega arith) (omega arith))
       ∙ get_or-replicate p.limits.pages s1 x1 blank (within 0 (omega arith)) ∙ x1_is
@@ -120,7 +121,7 @@ module _ (p : Pieces) (root thread clearance verify device s1 s2 s3 : ℕ) (ok :
       })
       ∙ (λ i. record {
         limits = p.limits;
-        objects = (1, fresh_object (l1 i) p.limits.pages (is.Container (record { 0 = 0 }) (2 ∷ 3 ∷ [])))
+        objects = (1, fresh_object (l1 i) p.limits.pages (is.Container no_kind (2 ∷ 3 ∷ [])))
             ∷ (
               2,
               fresh_object (l2 i) 1 (is.Thread (record {

@@ -1,9 +1,8 @@
 -- A thread of another clearance.
-use Rattle.std.proofs.Common.{◌≡◌, ◌<◌, ◌+◌, ◌&&◌, ◌==◌, ℕ, Bool, true, false, List, [], Option, Some, length, refl, sym, ◌∙◌, ap, subst, arith}
+use Rattle.std.proofs.Common.{◌≡◌, ◌<◌, ◌+◌, ℕ, List, Option, Some, refl, sym, ◌∙◌, ap, subst, arith}
 use Rattle.std.specs.Ordering.{nat_cmp}
 use Rattle.std.specs.BTreeMap.{is_at}
 use Rattle.std.specs.Map.{set_value}
-use Rattle.std.proofs.lemmas.Bool.{both_ways}
 use Rattle.std.proofs.lemmas.Map.Steps.{set_value_same}
 use Rattle.label_lattice.specs.Label.{LabelValue, IsStored}
 use Rattle.containers.specs.Tree.{HasSlot}
@@ -12,13 +11,10 @@ use Rattle.label_intern.specs.Held.{label_of}
 use Rattle.label_intern.specs.Owners.{one_at, Takes, Lets}
 use Rattle.kernel_rules.specs.Changes.{changed, cleared, put, rethread}
 use Rattle.kernel_rules.specs.State.{State, object_at, of_object}
-use Rattle.kernel_rules.specs.WellFormed.{is_stored}
 use Rattle.kernel_rules.specs.declared.objects.Object.{Object}
-use Rattle.kernel_rules.specs.declared.objects.Body as body
 use Rattle.kernel_rules.specs.declared.objects.Body.TheVariants as is
-use Rattle.kernel_rules.proofs.KeptLaws.{KeepsPlace}
 use Rattle.kernel_rules.proofs.StoredLaws.{stored_test}
-use Rattle.kernel_rules.proofs.ThreadLaws.{cleared_well_formed}
+use Rattle.kernel_rules.proofs.ThreadLaws.{cleared_keeps, cleared_well_formed}
 use Rattle.arena_state.specs.declared.records.Record.{Record}
 use Rattle.arena_state.specs.declared.records.KeptThread.{KeptThread}
 use Rattle.arena_state.specs.declared.records.Kept as kept
@@ -26,7 +22,7 @@ use Rattle.arena_state.specs.declared.records.Kept.TheVariants as keeps
 use Rattle.arena_state.specs.declared.pieces.Pieces.{Pieces}
 use Rattle.arena_state.specs.Assembled.{pieces_state, record_in, assembled, body_of, claims, body_claims, body_use, recleared, with_clearance}
 use Rattle.arena_state.specs.Sound.{IsSound}
-use Rattle.arena_state.proofs.RecordLaws.{mine, further, last}
+use Rattle.arena_state.proofs.RecordLaws.{mine, last}
 use Rattle.arena_state.proofs.RowLaws.{row_place}
 use Rattle.arena_state.proofs.SoundLaws.{object_here}
 use Rattle.arena_state.proofs.RebindLaws.{with_both, label_kept, owned_here, owned_before, rebound_sound, rebound_state}
@@ -52,30 +48,6 @@ uncleared labels r l c none = (λ i. record (assembled labels r l) { body = of_b
     of_body (keeps.Gate g) none = refl
     of_body keeps.Device none = refl
     of_body (keeps.Thread t) none = absurd (none t refl)
-
-cleared_keeps : (c : LabelValue) → is_stored c ≡ true → (x : Object) → KeepsPlace x (cleared c x)
-cleared_keeps c stored x = of_body x.body
-  where
-    part : (a b v n : Bool) → n ≡ true → (a && (b && v)) ≡ true → (a && (n && v)) ≡ true
-    part true true v true e w = w
-    part true false v true e w = absurd (both_ways false refl w)
-    part false b v true e w = w
-    part a b v false e w = absurd (both_ways false refl e)
-
-    of_body : (b : body.Body) → KeepsPlace (record x { body = b }) (cleared c (record x { body = b }))
-    of_body (is.Thread t) = record {
-      list = refl;
-      kind = refl;
-      quota = refl;
-      cost = refl;
-      fixed = λ e. e;
-      whole = λ w. part (is_stored x.label && length x.metadata == 64) (is_stored t.clearance) (is_stored t.verify) (is_stored c) stored w;
-    }
-    of_body (is.Container avoid list) = record { list = refl; kind = refl; quota = refl; cost = refl; fixed = λ e. e; whole = λ w. w }
-    of_body (is.Segment bytes) = record { list = refl; kind = refl; quota = refl; cost = refl; fixed = λ e. e; whole = λ w. w }
-    of_body (is.AddressSpace slots) = record { list = refl; kind = refl; quota = refl; cost = refl; fixed = λ e. e; whole = λ w. w }
-    of_body (is.Gate g) = record { list = refl; kind = refl; quota = refl; cost = refl; fixed = λ e. e; whole = λ w. w }
-    of_body (is.Device packets) = record { list = refl; kind = refl; quota = refl; cost = refl; fixed = λ e. e; whole = λ w. w }
 
 module _ (p : Pieces) (s : IsSound p) (id slot : ℕ) (h : HasSlot p.places id slot) (new : ℕ) (l : LabelValue) (stored : IsStored l)
     (mid ls : List (Option Held)) (takes : Takes p.holdings.labels mid (λ i. one_at i new)) (given : label_of mid new ≡ l)

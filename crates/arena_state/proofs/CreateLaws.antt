@@ -1,11 +1,11 @@
 -- A new object among sound pieces: its state.
-use Rattle.std.proofs.Common.{◌≡◌, ◌≢◌, ℕ, zero, suc, ◌+◌, ◌<◌, ◌≤◌, Bool, true, false, cond, ◌==◌, nat_lt, List, [], ◌∷◌, ◌++◌, length, get_or, set, Option, Some, IsSome, is_some, refl, sym, ◌∙◌, ap, subst, arith, inl, inr, length-set}
+use Rattle.std.proofs.Common.{◌≡◌, ◌≢◌, ℕ, zero, suc, ◌+◌, ◌<◌, ◌≤◌, true, false, nat_lt, List, [], ◌∷◌, ◌++◌, length, get_or, set, Option, Some, IsSome, is_some, refl, sym, ◌∙◌, ap, subst, arith, inl, inr, length-set}
 use Rattle.std.specs.Prelude.{All}
 use Rattle.std.specs.List.{list_all}
 use Rattle.std.specs.Ordering.{nat_cmp}
 use Rattle.std.specs.Map.{lookup, set_value}
 use Rattle.std.specs.BTreeMap.{is_at}
-use Rattle.std.proofs.lemmas.Bool.{cases_Bool, cases_eq, both_ways, eqb-true, and_parts, ltb-true}
+use Rattle.std.proofs.lemmas.Bool.{cases_eq, both_ways, and_parts, ltb-true}
 use Rattle.std.proofs.lemmas.List.{get_or-set_same, get_or-set_other}
 use Rattle.std.proofs.lemmas.Option.{same_Some}
 use Rattle.base.specs.Live.{has}
@@ -35,7 +35,7 @@ use Rattle.arena_state.specs.Sound.{IsSound}
 use Rattle.arena_state.proofs.RowLaws.{row_place, seen, rows_last, seen_last}
 use Rattle.arena_state.proofs.LabelLaws.{at_most_sum}
 use Rattle.arena_state.proofs.SoundLaws.{row_found, object_here, slot_within}
-use Rattle.arena_state.proofs.ListLaws.{by_id, rows_by_id, add_is_set}
+use Rattle.arena_state.proofs.ListLaws.{by_id, rows_by_id, add_is_set, lists_grow}
 use Rattle.arena_state.proofs.RecordLaws.{use_unseen, assembled_same, relisted, listed_container, same_use}
 use Rattle.arena_state.proofs.UnlinkLaws.{row_slot, slot_at}
 use Rattle.arena_state.proofs.RoomLaws.{labels_owned, links_fit, slots_fit}
@@ -96,14 +96,6 @@ module _ (p : Pieces) (s : IsSound p) (d quota : ℕ) (l : LabelValue) (b : Body
         let q : (record_in p.holdings.records.items pslot).quota ≡ quota_at (pieces_state p) d
         = sym (ap (of_object 0 (λ y. y.quota)) (object_here p s d pslot at_d)) in
         omega (arith, q, use_is, fits.room)
-
-abbrev head_list : List (ℕ × List ℕ) → List ℕ
-head_list [] = []
-head_list (x ∷ xs) = x.1
-
-abbrev tail : List (ℕ × List ℕ) → List (ℕ × List ℕ)
-tail [] = []
-tail (x ∷ xs) = xs
 
 module _ (p : Pieces) (s : IsSound p) (d quota : ℕ) (l : LabelValue) (b : Body) (fits : IsFitting (pieces_state p) d quota b)
     (stored : is_stored l ≡ true) (pslot : ℕ) (at_d : HasSlot p.places d pslot) (ls : List (Option Held)) (x : Record) (q : Pieces)
@@ -257,26 +249,6 @@ module _ (p : Pieces) (s : IsSound p) (d quota : ℕ) (l : LabelValue) (b : Body
       })
       ∙ sym (made_is state d at.object (fresh_object l quota b) making)
 
-  lists_grow : (es : List (ℕ × List ℕ)) → ((m : List ℕ) → listed (shape d m).body ≡ m)
-      → lists_of (by_id shape es) ≡ es → lists_of (by_id shape (add_lists es d p.next_id)) ≡ add_lists es d p.next_id
-  lists_grow [] at same = refl
-  lists_grow (e ∷ es) at same =
-      let first : listed (shape e.0 e.1).body ≡ e.1 = ap (λ (t : List (ℕ × List ℕ)). head_list t) same in
-      let rest : lists_of (by_id shape es) ≡ es = ap tail same in
-      let here : listed (shape e.0 (cond (d == e.0) (e.1 ++ p.next_id ∷ []) e.1)).body
-      ≡ cond (d == e.0) (e.1 ++ p.next_id ∷ []) e.1
-      = elim (cases_Bool (d == e.0)) [
-        | inl is ↦
-            ap (λ (v : Bool). listed (shape e.0 (cond v (e.1 ++ p.next_id ∷ []) e.1)).body) is
-            ∙ ap (λ (k : ℕ). listed (shape k (e.1 ++ p.next_id ∷ [])).body) (sym (eqb-true d e.0 is))
-            ∙ at (e.1 ++ p.next_id ∷ [])
-            ∙ sym (ap (λ (v : Bool). cond v (e.1 ++ p.next_id ∷ []) e.1) is)
-        | inr off ↦
-            ap (λ (v : Bool). listed (shape e.0 (cond v (e.1 ++ p.next_id ∷ []) e.1)).body) off
-            ∙ first ∙ sym (ap (λ (v : Bool). cond v (e.1 ++ p.next_id ∷ []) e.1) off)
-      ] in
-      (λ i. (e.0, here i) ∷ lists_grow es at rest i)
-
   lists_last : (es : List (ℕ × Object)) (k : ℕ) (y : Object)
       → lists_of (es ++ (k, y) ∷ []) ≡ lists_of es ++ (k, listed y.body) ∷ []
   lists_last [] k y = refl
@@ -292,7 +264,7 @@ module _ (p : Pieces) (s : IsSound p) (d quota : ℕ) (l : LabelValue) (b : Body
       ∙ lists_last (by_id shape grown_lists) p.next_id (fresh_object l quota b)
       ∙ (λ i. lists_of (by_id shape grown_lists) ++ (p.next_id, fits.empty i) ∷ [])
       ∙ ap (λ (t : List (ℕ × List ℕ)). t ++ (p.next_id, []) ∷ [])
-      (lists_grow p.places.lists
+      (lists_grow shape d p.next_id p.places.lists
       (λ m. ap (λ (j : ℕ). listed (assembled p.holdings.labels (record_in p.holdings.records.items j) m).body)
       (slot_is d pslot at_d)
       ∙ listed_container p.holdings.labels (record_in p.holdings.records.items pslot)

@@ -26,7 +26,7 @@ use Rattle.kernel_rules.specs.declared.objects.Object.{Object}
 use Rattle.kernel_rules.specs.declared.objects.Body.{Body}
 use Rattle.kernel_rules.proofs.GrownLaws.{Making, making_from, made_is, grown, grown_other, use_other, use_here, use_new}
 use Rattle.kernel_rules.proofs.ListerLaws.{kept_parts}
-use Rattle.kernel_rules.proofs.LookupLaws.{all_at}
+use Rattle.kernel_rules.proofs.LookupLaws.{all_at, at_is}
 use Rattle.kernel_rules.proofs.MadeLaws.{made_well_formed}
 use Rattle.kernel_rules.proofs.ListingLaws.{container_at}
 use Rattle.kernel_rules.proofs.WellFormedLaws.{soundness_of}
@@ -36,7 +36,7 @@ use Rattle.arena_state.specs.Rows.{rows_of}
 use Rattle.arena_state.specs.Assembled.{pieces_state, record_in, assembled, blank, claims, claims_in, body_use, use_in}
 use Rattle.arena_state.specs.Creations.{IsPlaced}
 use Rattle.arena_state.specs.Sound.{IsSound}
-use Rattle.arena_state.proofs.RowLaws.{row_place, row_at, row_none, at_is, rows_last, found_last, other_last}
+use Rattle.arena_state.proofs.RowLaws.{row_place, row_at, row_none, rows_last, found_last, other_last}
 use Rattle.arena_state.proofs.SoundLaws.{row_found, object_here, object_none, apart_at}
 use Rattle.arena_state.proofs.ListLaws.{sum_places}
 use Rattle.arena_state.proofs.RecordLaws.{use_claims, set_use}

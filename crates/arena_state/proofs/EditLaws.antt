@@ -5,11 +5,9 @@ use Rattle.std.proofs.lemmas.List.{get_or_read}
 use Rattle.containers.specs.Tree.{HasSlot}
 use Rattle.label_intern.specs.Held.{held_at}
 use Rattle.kernel_rules.specs.State.{State, use_of}
-use Rattle.kernel_rules.specs.Changes.{changed, made_immutable, made_fixed, spaced}
+use Rattle.kernel_rules.specs.Changes.{changed, spaced}
 use Rattle.kernel_rules.specs.declared.calls.Entry.{Entry}
 use Rattle.kernel_rules.specs.declared.objects.Object.{Object}
-use Rattle.kernel_rules.specs.declared.objects.Body as body
-use Rattle.kernel_rules.specs.declared.objects.Body.TheVariants as is
 use Rattle.kernel_rules.specs.WellFormed.{is_well_formed, is_kept}
 use Rattle.kernel_rules.proofs.KeptLaws.{KeepsPlace}
 use Rattle.kernel_rules.proofs.ListerLaws.{kept_parts}
@@ -80,24 +78,6 @@ module _ (p : Pieces) (s : IsSound p) (id slot : ℕ) (h : HasSlot p.places id s
 
     pub edited_sound : (q : Record) → q ≡ get_or p.holdings.records.items slot q → IsSound (with_record p slot (g q))
     edited_sound q is = subst (λ (x : Record). IsSound (with_record p slot (g x))) (sym (read_is q is)) sound_there
-
--- changes that keep an object's place
-pub immutable_keeps : (x : Object) → KeepsPlace x (made_immutable x)
-immutable_keeps x = record { list = refl; kind = refl; quota = refl; cost = refl; fixed = λ e. e; whole = λ w. w }
-
-pub fixed_keeps : (x : Object) → KeepsPlace x (made_fixed x)
-fixed_keeps x = record { list = refl; kind = refl; quota = refl; cost = refl; fixed = λ e. refl; whole = λ w. w }
-
-pub spaced_keeps : (e : Entry) (x : Object) → KeepsPlace x (spaced e x)
-spaced_keeps e x = of_body x.body
-  where
-    of_body : (b : body.Body) → KeepsPlace (record x { body = b }) (spaced e (record x { body = b }))
-    of_body (is.Container avoid list) = record { list = refl; kind = refl; quota = refl; cost = refl; fixed = λ e. e; whole = λ w. w }
-    of_body (is.Segment bytes) = record { list = refl; kind = refl; quota = refl; cost = refl; fixed = λ e. e; whole = λ w. w }
-    of_body (is.AddressSpace slots) = record { list = refl; kind = refl; quota = refl; cost = refl; fixed = λ e. e; whole = λ w. w }
-    of_body (is.Thread t) = record { list = refl; kind = refl; quota = refl; cost = refl; fixed = λ e. e; whole = λ w. w }
-    of_body (is.Gate g) = record { list = refl; kind = refl; quota = refl; cost = refl; fixed = λ e. e; whole = λ w. w }
-    of_body (is.Device packets) = record { list = refl; kind = refl; quota = refl; cost = refl; fixed = λ e. e; whole = λ w. w }
 
 -- a thread's record with another address space is its thread with it
 pub spaced_shape : (e : Entry) (labels : List (Option Held)) (r : Record) (l : List ℕ)

@@ -1,20 +1,18 @@
 -- A thread that entered a gate.
-use Rattle.std.proofs.Common.{◌≡◌, ◌<◌, ◌+◌, ◌&&◌, ◌==◌, ℕ, Bool, true, false, List, [], Option, Some, length, refl, sym, ◌∙◌, ap, subst, arith}
-use Rattle.std.proofs.lemmas.Bool.{both_ways}
+use Rattle.std.proofs.Common.{◌≡◌, ◌<◌, ◌+◌, ℕ, List, Option, refl, sym, ◌∙◌, ap, subst, arith}
 use Rattle.label_lattice.specs.Label.{LabelValue, IsStored}
 use Rattle.containers.specs.Tree.{HasSlot}
 use Rattle.label_intern.specs.declared.held.Held.{Held}
 use Rattle.label_intern.specs.Held.{label_of}
 use Rattle.label_intern.specs.Owners.{one_at, Takes, Lets}
 use Rattle.kernel_rules.specs.Changes.{changed, entered, labelled, put, rethread}
-use Rattle.kernel_rules.specs.State.{State, object_at, of_object}
-use Rattle.kernel_rules.specs.WellFormed.{is_stored, is_whole_body}
+use Rattle.kernel_rules.specs.State.{of_object}
 use Rattle.kernel_rules.specs.declared.objects.Object.{Object}
 use Rattle.kernel_rules.specs.declared.objects.Body as body
 use Rattle.kernel_rules.specs.declared.objects.Body.TheVariants as is
 use Rattle.kernel_rules.proofs.KeptLaws.{KeepsPlace}
 use Rattle.kernel_rules.proofs.StoredLaws.{stored_test}
-use Rattle.kernel_rules.proofs.ThreadLaws.{entered_well_formed}
+use Rattle.kernel_rules.proofs.ThreadLaws.{entered_keeps, entered_well_formed}
 use Rattle.arena_state.specs.declared.records.Record.{Record}
 use Rattle.arena_state.specs.declared.records.KeptThread.{KeptThread}
 use Rattle.arena_state.specs.declared.records.Kept as kept
@@ -25,7 +23,7 @@ use Rattle.arena_state.specs.Sound.{IsSound}
 use Rattle.arena_state.proofs.RecordLaws.{mine, further, last}
 use Rattle.arena_state.proofs.RowLaws.{row_place}
 use Rattle.arena_state.proofs.SoundLaws.{object_here}
-use Rattle.arena_state.proofs.RebindLaws.{with_both, label_kept, owned_here, owned_before, rebound_sound, rebound_state}
+use Rattle.arena_state.proofs.RebindLaws.{with_both, owned_here, rebound_sound, rebound_state}
 use Rattle.kernel_rules.specs.declared.objects.Gate.{Gate}
 use Rattle.arena_state.proofs.ClearLaws.{NoThread}
 
@@ -60,76 +58,6 @@ entered_other p s id slot h l c v g none =
     ap (of_object (pieces_state p) (λ x. put (pieces_state p) id (labelled l x))) found
     ∙ ap (put (pieces_state p) id) same
     ∙ sym (ap (of_object (pieces_state p) (λ x. put (pieces_state p) id (entered l c v g x))) found)
-
-entered_keeps : (l c v : LabelValue) (g : Gate) → is_stored l ≡ true → is_stored c ≡ true → is_stored v ≡ true
-    → (x : Object) → KeepsPlace x (entered l c v g x)
-entered_keeps l c v g label clearance verify x = of_body x.body
-  where
-    own : (a m b n : Bool) → n ≡ true → (a && m && b) ≡ true → (n && m && b) ≡ true
-    own true true true true e w = refl
-    own true true false true e w = w
-    own true false b true e w = absurd (both_ways false refl w)
-    own false m b true e w = absurd (both_ways false refl w)
-    own a m b false e w = absurd (both_ways false refl e)
-
-    three : (a m b n y z : Bool) → n ≡ true → y ≡ true → z ≡ true → (a && m && b) ≡ true → (n && m && (y && z)) ≡ true
-    three true true b true true true e f g w = refl
-    three true false b n y z e f g w = absurd (both_ways false refl w)
-    three false m b n y z e f g w = absurd (both_ways false refl w)
-    three true true b false y z e f g w = absurd (both_ways false refl e)
-    three true true b true false z e f g w = absurd (both_ways false refl f)
-    three true true b true true false e f g w = absurd (both_ways false refl g)
-
-    of_body : (b : body.Body) → KeepsPlace (record x { body = b }) (entered l c v g (record x { body = b }))
-    of_body (is.Thread t) = record {
-      list = refl;
-      kind = refl;
-      quota = refl;
-      cost = refl;
-      fixed = λ e. e;
-      whole = λ w. three (is_stored x.label) (length x.metadata == 64) (is_stored t.clearance && is_stored t.verify)
-          (is_stored l) (is_stored c) (is_stored v) label clearance verify w;
-    }
-    of_body (is.Container avoid list) = record {
-      list = refl;
-      kind = refl;
-      quota = refl;
-      cost = refl;
-      fixed = λ e. e;
-      whole = λ w. own (is_stored x.label) (length x.metadata == 64) (is_whole_body (is.Container avoid list)) (is_stored l) label w;
-    }
-    of_body (is.Segment bytes) = record {
-      list = refl;
-      kind = refl;
-      quota = refl;
-      cost = refl;
-      fixed = λ e. e;
-      whole = λ w. own (is_stored x.label) (length x.metadata == 64) (is_whole_body (is.Segment bytes)) (is_stored l) label w;
-    }
-    of_body (is.AddressSpace slots) = record {
-      list = refl;
-      kind = refl;
-      quota = refl;
-      cost = refl;
-      fixed = λ e. e;
-      whole = λ w. own (is_stored x.label) (length x.metadata == 64) (is_whole_body (is.AddressSpace slots)) (is_stored l) label w;
-    }
-    of_body (is.Gate h) = record {
-      list = refl;
-      kind = refl;
-      quota = refl;
-      cost = refl;
-      fixed = λ e. e;
-      whole = λ w. own (is_stored x.label) (length x.metadata == 64) (is_whole_body (is.Gate h)) (is_stored l) label w;
-    }
-    of_body (is.Device packets) = record {
-      list = refl;
-      kind = refl;
-      quota = refl;
-      cost = refl;
-      fixed = λ e. e;
-      whole = λ w. own (is_stored x.label) (length x.metadata == 64) (is_whole_body (is.Device packets)) (is_stored l) label w;
-    }
 
 module _ (p : Pieces) (s : IsSound p) (id slot : ℕ) (h : HasSlot p.places id slot) (a b d : ℕ) (l c v : LabelValue) (g : Gate)
     (l_stored : IsStored l) (c_stored : IsStored c) (v_stored : IsStored v) (mid ls : List (Option Held))

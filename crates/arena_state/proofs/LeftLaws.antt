@@ -19,7 +19,8 @@ use Rattle.arena_state.specs.declared.pieces.Pieces.{Pieces}
 use Rattle.arena_state.specs.Rows.{rows_of}
 use Rattle.arena_state.specs.Assembled.{pieces_state, record_in, use_in, body_use, with_use}
 use Rattle.arena_state.specs.Sound.{IsSound}
-use Rattle.arena_state.proofs.RowLaws.{row_none, row_at, row_place, at_is}
+use Rattle.kernel_rules.proofs.LookupLaws.{at_is}
+use Rattle.arena_state.proofs.RowLaws.{row_none, row_at, row_place}
 use Rattle.containers.proofs.Distinct.{distinct_from, sum_without_one}
 use Rattle.containers.proofs.Lists.{has_filter, links_of_list, links_filter, list_of_filter, list_of_cut}
 use Rattle.arena_state.proofs.RecordLaws.{kind_same, cost_same, sum_same_in}

@@ -18,3 +18,12 @@ pub mod BootLaws
 pub mod ViewLaws
 pub mod ClearLaws
 pub mod EnterLaws
+pub mod SightLaws
+pub mod ParentLaws
+pub mod ShapeLaws
+pub mod StayLaws
+pub mod LinkedLaws
+pub mod MovedLaws
+pub mod UnlistedLaws
+pub mod WindowLaws
+pub mod OwningLaws

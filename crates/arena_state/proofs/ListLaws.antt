@@ -8,11 +8,14 @@ use Rattle.std.specs.BTreeMap.{is_at}
 use Rattle.std.proofs.lemmas.Bool.{cases_Bool, both_ways, eqb-true}
 use Rattle.std.proofs.lemmas.List.Sums.{sum_by-cons}
 use Rattle.base.specs.Live.{has}
+use Rattle.kernel_rules.specs.State.{lists_of, listed}
+use Rattle.kernel_rules.specs.declared.objects.Object.{Object}
 use Rattle.object_arena.specs.Objects.{Rises}
 use Rattle.containers.specs.Tree.{ids_in, list_of, cut_lists, add_lists, without}
 use Rattle.containers.proofs.Lists.{no_room, or_no_left, rises_tail, above_absent}
 use Rattle.arena_state.specs.Rows.{Row, rows_of}
-use Rattle.arena_state.proofs.RowLaws.{at_is, row_place, seen}
+use Rattle.kernel_rules.proofs.LookupLaws.{at_is}
+use Rattle.arena_state.proofs.RowLaws.{row_place, seen}
 
 -- what is seen of each id and its list
 abbrev pub by_id : {X : Type 0} → (ℕ → List ℕ → X) → List (ℕ × List ℕ) → List (ℕ × X)
@@ -119,3 +122,47 @@ add_is_set {X} f (e ∷ es) d o rise h = elim (cases_Bool (d == e.0)) [
       ((e.0, f e.0 e.1) ∷ set_value (is_at (nat_cmp d)) (by_id f es) (f d (list_of (e ∷ es) d ++ o ∷ []))))
       (sym (at_is d e.0 ∙ off))
 ]
+
+abbrev head_list : List (ℕ × List ℕ) → List ℕ
+head_list [] = []
+head_list (x ∷ xs) = x.1
+
+abbrev tail : List (ℕ × List ℕ) → List (ℕ × List ℕ)
+tail [] = []
+tail (x ∷ xs) = xs
+
+-- what is listed once d's list is cut
+pub lists_of_by_id : (f : ℕ → List ℕ → Object) (lists : List (ℕ × List ℕ)) (d o : ℕ)
+    → ((i : ℕ) (l m : List ℕ) → listed (f i l).body ≡ l → (l ≡ [] → m ≡ []) → listed (f i m).body ≡ m)
+    → lists_of (by_id f lists) ≡ lists → lists_of (by_id f (cut_lists lists d o)) ≡ cut_lists lists d o
+lists_of_by_id f [] d o too same = refl
+lists_of_by_id f (e ∷ es) d o too same =
+    let first : listed (f e.0 e.1).body ≡ e.1 = ap (λ (t : List (ℕ × List ℕ)). head_list t) same in
+    let rest : lists_of (by_id f es) ≡ es = ap tail same in
+    (λ i. (e.0, too e.0 e.1 (cond (d == e.0) (without o e.1) e.1) first (emptied (d == e.0) e.1) i)
+    ∷ lists_of_by_id f es d o too rest i)
+  where
+    emptied : (b : Bool) (l : List ℕ) → l ≡ [] → cond b (without o l) l ≡ []
+    emptied true l h = ap (without o) h
+    emptied false l h = h
+
+-- and once it is added to
+pub lists_grow : (shape : ℕ → List ℕ → Object) (d o : ℕ) (es : List (ℕ × List ℕ)) → ((m : List ℕ) → listed (shape d m).body ≡ m)
+    → lists_of (by_id shape es) ≡ es → lists_of (by_id shape (add_lists es d o)) ≡ add_lists es d o
+lists_grow shape d o [] at same = refl
+lists_grow shape d o (e ∷ es) at same =
+    let first : listed (shape e.0 e.1).body ≡ e.1 = ap (λ (t : List (ℕ × List ℕ)). head_list t) same in
+    let rest : lists_of (by_id shape es) ≡ es = ap tail same in
+    let here : listed (shape e.0 (cond (d == e.0) (e.1 ++ o ∷ []) e.1)).body
+    ≡ cond (d == e.0) (e.1 ++ o ∷ []) e.1
+    = elim (cases_Bool (d == e.0)) [
+      | inl is ↦
+          ap (λ (v : Bool). listed (shape e.0 (cond v (e.1 ++ o ∷ []) e.1)).body) is
+          ∙ ap (λ (k : ℕ). listed (shape k (e.1 ++ o ∷ [])).body) (sym (eqb-true d e.0 is))
+          ∙ at (e.1 ++ o ∷ [])
+          ∙ sym (ap (λ (v : Bool). cond v (e.1 ++ o ∷ []) e.1) is)
+      | inr off ↦
+          ap (λ (v : Bool). listed (shape e.0 (cond v (e.1 ++ o ∷ []) e.1)).body) off
+          ∙ first ∙ sym (ap (λ (v : Bool). cond v (e.1 ++ o ∷ []) e.1) off)
+    ] in
+    (λ i. (e.0, here i) ∷ lists_grow shape d o es at rest i)

@@ -1,29 +1,17 @@
 -- Rows of a directory, looked up and changed.
-use Rattle.std.proofs.Common.{◌≡◌, ◌≢◌, ℕ, zero, suc, ◌<◌, Bool, false, cond, ◌==◌, List, [], ◌∷◌, ◌++◌, length, get_or, Some, None, refl, sym, ◌∙◌, ap, subst, arith, inl, inr}
+use Rattle.std.proofs.Common.{◌≡◌, ◌≢◌, ℕ, zero, suc, ◌<◌, Bool, false, cond, ◌==◌, List, [], ◌∷◌, ◌++◌, length, get_or, Some, None, refl, sym, ◌∙◌, ap, arith, inl, inr}
 use Rattle.std.specs.Prelude.{map}
 use Rattle.std.specs.Ordering.{nat_cmp}
 use Rattle.std.specs.Map.{lookup, set_value}
 use Rattle.std.specs.BTreeMap.{is_at}
-use Rattle.std.proofs.lemmas.Bool.{cases_Bool, both_ways, eqb-true, eq-eqb}
+use Rattle.std.proofs.lemmas.Bool.{cases_Bool, eq-eqb}
 use Rattle.std.proofs.lemmas.Option.{none-some}
 use Rattle.base.specs.Live.{has}
 use Rattle.object_arena.specs.Objects.{Rises}
 use Rattle.containers.specs.Tree.{ids_in}
 use Rattle.containers.proofs.Lists.{no_room, apart_test, or_no_left, or_no_right, rises_tail, rises_first}
-use Rattle.kernel_rules.proofs.LookupLaws.{at_self}
-use Rattle.kernel_rules.proofs.RecordLaws.{same_id}
+use Rattle.kernel_rules.proofs.LookupLaws.{at_self, at_is}
 use Rattle.arena_state.specs.Rows.{Row, rows_of}
-
-pub at_is : (o k : ℕ) → is_at (nat_cmp o) k ≡ (o == k)
-at_is o k = elim (cases_Bool (o == k)) [
-  | inl is ↦
-      let same : o ≡ k = eqb-true o k is in
-      subst (λ (j : ℕ). is_at (nat_cmp o) j ≡ (o == j)) same (at_self o ∙ sym (eq-eqb o o refl))
-  | inr off ↦ elim (cases_Bool (is_at (nat_cmp o) k)) [
-    | inl at ↦ absurd (both_ways (o == k) off (eq-eqb o k (same_id o k at)))
-    | inr never ↦ never ∙ sym off
-  ]
-]
 
 -- the row at a place
 abbrev pub row_place : List (ℕ × List ℕ) → List ℕ → ℕ → Row

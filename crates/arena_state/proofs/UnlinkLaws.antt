@@ -1,5 +1,5 @@
 -- What is left of sound pieces once an entry is taken out.
-use Rattle.std.proofs.Common.{◌≡◌, ℕ, ◌<◌, Bool, true, false, cond, ◌==◌, List, [], ◌∷◌, length, get_or, Option, Some, None, refl, sym, ◌∙◌, ap, subst, arith, sum_by}
+use Rattle.std.proofs.Common.{◌≡◌, ℕ, ◌<◌, Bool, true, false, cond, List, [], ◌∷◌, length, get_or, Option, Some, None, refl, sym, ◌∙◌, ap, subst, arith, sum_by}
 use Rattle.std.specs.List.{filter, Contains}
 use Rattle.std.specs.Option.{option_map}
 use Rattle.std.specs.Ordering.{nat_cmp}
@@ -9,7 +9,7 @@ use Rattle.std.proofs.lemmas.Bool.{and_parts}
 use Rattle.std.proofs.lemmas.Map.Made.{lookup-map_values}
 use Rattle.base.specs.Live.{has, is_live}
 use Rattle.containers.specs.declared.visitor.Located.{Located}
-use Rattle.containers.specs.Tree.{Tree, ids_in, list_of, cut_lists, without, HasSlot, live_part as live_lists}
+use Rattle.containers.specs.Tree.{Tree, ids_in, list_of, cut_lists, HasSlot, live_part as live_lists}
 use Rattle.containers.specs.Visits.{IsLost}
 use Rattle.containers.specs.WellFormed.{IsWellFormed}
 use Rattle.containers.proofs.Views.{at_has}
@@ -32,7 +32,7 @@ use Rattle.arena_state.proofs.SoundLaws.{row_found, object_row, object_here, slo
 use Rattle.containers.proofs.Lists.{has_filter, ids_filter, ids_cut, list_at_place}
 use Rattle.label_intern.specs.Owners.{Lets}
 use Rattle.arena_state.proofs.DeathLaws.{deaths_let}
-use Rattle.arena_state.proofs.ListLaws.{by_id, rows_by_id, by_id_filter, cut_is_set}
+use Rattle.arena_state.proofs.ListLaws.{by_id, rows_by_id, by_id_filter, cut_is_set, lists_of_by_id}
 use Rattle.arena_state.proofs.RecordLaws.{use_unseen, use_claims, delisted, listed_too, assembled_same}
 
 -- q is p once container d doesn't list o any more, and what isn't live is gone
@@ -53,28 +53,6 @@ pub record IsUnlinked (p q : Pieces) (d o : ℕ) : Type 0 where
   pub records : (x : ℕ) → record_in q.holdings.records.items x
       ≡ with_use (uses x) (record_in p.holdings.records.items x)
   pub room : length q.holdings.records.items ≡ length p.holdings.records.items
-
-abbrev head_list : List (ℕ × List ℕ) → List ℕ
-head_list [] = []
-head_list (x ∷ xs) = x.1
-
-abbrev tail : List (ℕ × List ℕ) → List (ℕ × List ℕ)
-tail [] = []
-tail (x ∷ xs) = xs
-
-lists_of_by_id : (f : ℕ → List ℕ → Object) (lists : List (ℕ × List ℕ)) (d o : ℕ)
-    → ((i : ℕ) (l m : List ℕ) → listed (f i l).body ≡ l → (l ≡ [] → m ≡ []) → listed (f i m).body ≡ m)
-    → lists_of (by_id f lists) ≡ lists → lists_of (by_id f (cut_lists lists d o)) ≡ cut_lists lists d o
-lists_of_by_id f [] d o too same = refl
-lists_of_by_id f (e ∷ es) d o too same =
-    let first : listed (f e.0 e.1).body ≡ e.1 = ap (λ (t : List (ℕ × List ℕ)). head_list t) same in
-    let rest : lists_of (by_id f es) ≡ es = ap tail same in
-    (λ i. (e.0, too e.0 e.1 (cond (d == e.0) (without o e.1) e.1) first (emptied (d == e.0) e.1) i)
-    ∷ lists_of_by_id f es d o too rest i)
-  where
-    emptied : (b : Bool) (l : List ℕ) → l ≡ [] → cond b (without o l) l ≡ []
-    emptied true l h = ap (without o) h
-    emptied false l h = h
 
 abbrev pub row_slot : Option Row → ℕ
 row_slot None = 0

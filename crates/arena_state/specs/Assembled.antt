@@ -126,6 +126,10 @@ reuse n keeps.Device = keeps.Device
 abbrev pub with_use : ℕ → Record → Record
 with_use n r = record r { body = reuse n r.body }
 
+-- a record with another quota
+abbrev pub with_quota : ℕ → Record → Record
+with_quota n r = record r { quota = n }
+
 -- a new record: nothing fixed, not immutable, its metadata 64 bytes of 0
 abbrev pub fresh_record : ℕ → ℕ → kept.Kept → Record
 fresh_record label quota body = record {

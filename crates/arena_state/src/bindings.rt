@@ -1,7 +1,8 @@
 //! Other labels of a thread: the new ones are stored first, and the old ones let go then.
-ghost use Rattle.std.specs.Prelude.{◌≡◌};
+ghost use Rattle.std.specs.Prelude.{◌≡◌, ◌<◌, ◌^◌, IfSome};
 ghost use Rattle.label_lattice.specs.Label.{IsStored};
-ghost use Rattle.kernel_rules.specs.Changes.{changed, cleared, labelled};
+ghost use Rattle.kernel_rules.specs.Changes.{changed, cleared, labelled, owning};
+ghost use Rattle.kernel_rules.specs.Step.{owned};
 ghost use Rattle.arena_state.specs.States.{state_of};
 
 use crate::records::{Kept, reclear};
@@ -45,6 +46,37 @@ impl ArenaState {
                 }
             }
             None => {}
+        }
+    }
+    // A thread gets this label and this clearance; any other object gets the label alone.
+    fn own(&mut self, thread: ObjectId, label: &Label, clearance: &Label, meter: &mut Meter)
+        requires label { IsStored label.now }
+        requires clearance { IsStored clearance.now }
+        ensures { state_of self.new
+            ≡ changed (state_of self.old) thread (owning label.now clearance.now) }
+    {
+        self.set_label(thread, label, meter);
+        self.set_clearance(thread, clearance, meter);
+    }
+
+    /// A thread gets this label and clearance, where both are there, and the next category is given away.
+    pub fn own_category(
+        &mut self,
+        thread: ObjectId,
+        label: Option<Label>,
+        clearance: Option<Label>,
+        meter: &mut Meter,
+    )
+        requires left { (state_of self.old).next_category < 2 ^ 61 }
+        requires label { IfSome label IsStored }
+        requires clearance { IfSome clearance IsStored }
+        ensures { state_of self.new ≡ owned (state_of self.old) thread label clearance }
+    {
+        if let Some(label) = label {
+            if let Some(clearance) = clearance {
+                self.own(thread, &label, &clearance, meter);
+                self.pieces.next_category += 1;
+            }
         }
     }
 }

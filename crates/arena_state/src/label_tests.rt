@@ -6,9 +6,9 @@ ghost use Rattle.label_rules.specs.LabelRules.{both, below, visible, shown};
 ghost use Rattle.label_intern.specs.Held.{held_at, label_of};
 ghost use Rattle.kernel_rules.specs.State.{label_at, clearance_at, observes, flows_to};
 ghost use Rattle.kernel_rules.specs.State.{is_live_kind, is_accessible};
-ghost use Rattle.arena_state.specs.States.{state_of};
+ghost use Rattle.arena_state.specs.States.{state_of, label_found, IsLabelled};
 
-use crate::records::Kept;
+use crate::records::{Kept, Record};
 use crate::states::ArenaState;
 use base::{Kind, Meter, ObjectId};
 use label_intern::LabelIx;
@@ -65,13 +65,15 @@ impl ArenaState {
         }
     }
 
-    /// Whether a thread observes an object.
-    pub fn observes(&self, thread: ObjectId, id: ObjectId, meter: &mut Meter) -> bool
-        ensures value { result ≡ observes (state_of self.now) thread id }
-        ensures scans { meter.new.scans ≡ meter.old.scans }
+    // Whether who has the one record observes what has the other, where both are there.
+    pub(crate) fn observed(&self, own: Option<&Record>, other: Option<&Record>) -> bool
+        requires own { IsLabelled self.now (option_copied own) }
+        requires other { IsLabelled self.now (option_copied other) }
+        ensures { result ≡ both visible (label_found self.now (option_copied other.entry))
+            (label_found self.now (option_copied own.entry)) }
     {
-        match self.row(thread, meter) {
-            Some(own) => match self.row(id, meter) {
+        match own {
+            Some(own) => match other {
                 Some(other) => self.order(other.label, own.label) & 2 == 2,
                 None => false,
             },
@@ -79,18 +81,40 @@ impl ArenaState {
         }
     }
 
-    /// Whether a thread's label is at most an object's.
-    pub fn flows_to(&self, thread: ObjectId, id: ObjectId, meter: &mut Meter) -> bool
-        ensures value { result ≡ flows_to (state_of self.now) thread id }
-        ensures scans { meter.new.scans ≡ meter.old.scans }
+    // Whether the label of the one record is at most that of the other, where both are there.
+    pub(crate) fn flowing(&self, own: Option<&Record>, other: Option<&Record>) -> bool
+        requires own { IsLabelled self.now (option_copied own) }
+        requires other { IsLabelled self.now (option_copied other) }
+        ensures { result ≡ both below (label_found self.now (option_copied own.entry))
+            (label_found self.now (option_copied other.entry)) }
     {
-        match self.row(thread, meter) {
-            Some(own) => match self.row(id, meter) {
+        match own {
+            Some(own) => match other {
                 Some(other) => self.order(own.label, other.label) & 1 == 1,
                 None => false,
             },
             None => false,
         }
+    }
+
+    /// Whether a thread observes an object.
+    pub fn observes(&self, thread: ObjectId, id: ObjectId, meter: &mut Meter) -> bool
+        ensures value { result ≡ observes (state_of self.now) thread id }
+        ensures scans { meter.new.scans ≡ meter.old.scans }
+    {
+        let own = self.row(thread, meter);
+        let other = self.row(id, meter);
+        self.observed(own, other)
+    }
+
+    /// Whether a thread's label is at most an object's.
+    pub fn flows_to(&self, thread: ObjectId, id: ObjectId, meter: &mut Meter) -> bool
+        ensures value { result ≡ flows_to (state_of self.now) thread id }
+        ensures scans { meter.new.scans ≡ meter.old.scans }
+    {
+        let own = self.row(thread, meter);
+        let other = self.row(id, meter);
+        self.flowing(own, other)
     }
 
     /// Whether an object's label is at most a thread's clearance.

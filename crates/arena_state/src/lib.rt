@@ -7,8 +7,10 @@
 #![tactic(auto)]
 
 mod bearers;
+mod bearing_reads;
 mod bindings;
 mod boots;
+mod charges;
 mod creations;
 mod edits;
 mod entries;
@@ -20,6 +22,7 @@ mod pieces;
 mod placing;
 mod reads;
 mod records;
+mod sights;
 mod states;
 mod uniform;
 mod unlinks;

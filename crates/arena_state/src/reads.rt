@@ -1,18 +1,18 @@
 //! What is read of one object. No label is scanned.
-ghost use Rattle.std.specs.Prelude.{◌≡◌, ◌≤◌, ◌+◌, IfSome, IfNone, None, is_some, nat_lt, length};
-ghost use Rattle.std.specs.Prelude.{option_map, true};
+ghost use Rattle.std.specs.Prelude.{◌≡◌, ◌+◌, IfSome, IfNone, None, is_some, nat_lt};
+ghost use Rattle.std.specs.Prelude.{option_copied, option_map, true};
 ghost use Rattle.kernel_rules.specs.State.{object_at, of_object, is_fixed, is_immutable, quota_at};
-ghost use Rattle.kernel_rules.specs.State.{use_of, is_kind_at, avoids_at, page_count};
+ghost use Rattle.kernel_rules.specs.State.{use_of, is_kind_at, avoids_at, kind_of};
+ghost use Rattle.kernel_rules.specs.Changes.{joined_at};
 ghost use Rattle.arena_state.specs.Assembled.{body_use};
-ghost use Rattle.arena_state.specs.States.{state_of, Shows};
+ghost use Rattle.arena_state.specs.States.{state_of, HasRow, Shows, Finds};
 
 use crate::records::{Kept, Record};
 use crate::states::ArenaState;
-use base::{Data, Kind, Meter, ObjectId};
+use base::{Data, Kind, Meter, ObjectId, Slot, TypeSet};
 
 impl Kept {
     ghost use Rattle.std.specs.Prelude.{[]};
-    ghost use Rattle.kernel_rules.specs.State.{kind_of};
     ghost use Rattle.arena_state.specs.Assembled.{body_of};
 
     /// The kind of the object.
@@ -31,16 +31,27 @@ impl Kept {
 }
 
 impl ArenaState {
+    // The record of an object by the slot that was found, none where none was.
+    pub(crate) fn record(&self, id: ObjectId, slot: Option<Slot>) -> Option<&Record>
+        requires found { IfSome slot (λ slot. HasRow self.now id slot.0) }
+        requires none { IfNone slot (object_at (state_of self.now) id ≡ None) }
+        ensures { Finds self.now id (option_copied result) }
+    {
+        let _id = id;
+        match slot {
+            Some(slot) => Some(&self.pieces.holdings.records[slot.0]),
+            None => None,
+        }
+    }
+
     /// The record of an object, none where there is no such object.
     pub(crate) fn row(&self, id: ObjectId, meter: &mut Meter) -> Option<&Record>
         ensures found { IfSome result (λ r. Shows self.now id r.now) }
         ensures none { IfNone result (object_at (state_of self.now) id ≡ None) }
         ensures scans { meter.new.scans ≡ meter.old.scans }
     {
-        match self.slot(id, meter) {
-            Some(slot) => Some(&self.pieces.holdings.records[slot.0]),
-            None => None,
-        }
+        let slot = self.slot(id, meter);
+        self.record(id, slot)
     }
 
     /// Whether an object is recorded.
@@ -138,6 +149,32 @@ impl ArenaState {
                 _ => false,
             },
             None => false,
+        }
+    }
+
+    /// Whether a container won't hold an object, which it won't where the object is not recorded.
+    pub fn avoids_kind_of(&self, container: ObjectId, id: ObjectId, meter: &mut Meter) -> bool
+        ensures value { result ≡ of_object true (λ x. avoids_at (state_of self.now)
+            (kind_of x.body) container) (object_at (state_of self.now) id) }
+        ensures scans { meter.new.scans ≡ meter.old.scans }
+    {
+        match self.row(id, meter) {
+            Some(row) => self.avoids(row.body.kind(), container, meter),
+            None => true,
+        }
+    }
+
+    /// What a new container in this one avoids, which is asked to avoid these kinds.
+    pub fn joined(&self, container: ObjectId, kinds: TypeSet, meter: &mut Meter) -> TypeSet
+        ensures value { result ≡ joined_at (state_of self.now) kinds container }
+        ensures scans { meter.new.scans ≡ meter.old.scans }
+    {
+        match self.row(container, meter) {
+            Some(row) => match &row.body {
+                Kept::Container(avoid, _) => kinds.with(*avoid),
+                _ => kinds,
+            },
+            None => kinds,
         }
     }
 

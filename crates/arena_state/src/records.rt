@@ -1,7 +1,7 @@
 //! What a slot keeps of its object.
 ghost use Rattle.std.specs.Prelude.{◌≡◌, ◌+◌, ◌-◌, ◌≤◌};
 ghost use Rattle.arena_state.specs.Assembled.{body_use, fresh_record, fresh_thread, with_space, with_use};
-ghost use Rattle.arena_state.specs.Assembled.{with_clearance, with_thread};
+ghost use Rattle.arena_state.specs.Assembled.{with_clearance, with_quota, with_thread};
 
 use base::{Data, ObjectId, TypeSet};
 use kernel_rules::Entry;
@@ -118,6 +118,16 @@ pub fn discharge(given: &mut Record, pages: u32)
     if let Kept::Container(_, used) = &mut given.body {
         *used -= pages;
     }
+}
+
+/// The quota is so many pages more, and so many less, at first at most so many.
+pub fn requote(given: &mut Record, up: u32, down: u32, most: u32)
+    requires fits { given.old.quota + up ≤ most }
+    requires enough { down ≤ given.old.quota + up }
+    ensures { given.new ≡ with_quota ((given.old.quota + up) - down) given.old }
+{
+    let _most = most;
+    given.quota = given.quota + up - down;
 }
 
 /// A thread has another address space. No other record changes.

@@ -13,8 +13,19 @@ use kernel_rules::Entry;
 
 impl ArenaState {
     /// An object is taken out of a container's list, and what no path from the root leads to is gone. It takes no
-    /// memory and scans no label.
-    pub fn unlink(&mut self, entry: &Entry, meter: &mut Meter)
+    /// memory and scans no label. What no list has is left.
+    pub fn unref(&mut self, entry: &Entry, meter: &mut Meter)
+        ensures state { state_of self.new ≡ restricted
+            (changed (state_of self.old) entry.now.container (delisting entry.now.object)) }
+        ensures scans { meter.new.scans ≡ meter.old.scans }
+    {
+        if self.lists(entry.container, entry.object, meter) {
+            self.unlink(entry, meter);
+        }
+    }
+
+    // An object is taken out of the list of a container that lists it.
+    fn unlink(&mut self, entry: &Entry, meter: &mut Meter)
         requires listed { has (list_at (state_of self.old) entry.now.container) entry.now.object
             ≡ true }
         ensures state { state_of self.new ≡ restricted

@@ -66,6 +66,7 @@ fn what_is_booted(rt: HostRuntime) -> Result<(), Fail> {
     assert!(rt; state.is_accessible(boot, root, m) && !state.is_accessible(boot, device, m));
     assert!(rt; state.lists(root, boot, m) && state.holds(&entry(1, 3), m));
     assert_eq!(rt; state.list_len(root, m), 2);
+    assert_eq!(rt; state.ids_from(root, 1, m).as_slice().len(), 1);
     assert_eq!(rt; state.quota(root, m), 64);
     assert_eq!(rt; state.used_pages(root, m), 4);
     assert_eq!(rt; state.kept_use(device, m), Some(2));
@@ -107,6 +108,12 @@ fn labels_are_kept(rt: HostRuntime) -> Result<(), Fail> {
     });
     let high = Label::from_raw(&raw, m)?;
     let boot = ObjectId::new(2);
+    let own = plain(m)?;
+    let most = plain(m)?;
+    if state.next_category() < 2305843009213693952 {
+        state.own_category(boot, Some(own), Some(most), m);
+    }
+    assert_eq!(rt; state.next_category(), 2);
     state.set_label(boot, &high, m);
     assert!(rt; !state.flows_to(boot, ObjectId::root(), m));
     assert!(rt; state.observes(boot, ObjectId::root(), m));
@@ -126,17 +133,17 @@ fn objects_come_and_go(rt: HostRuntime) -> Result<(), Fail> {
         assert_eq!(rt; id.number(), 4);
     }
     let box_id = ObjectId::new(4);
-    state.make_immutable(box_id, m);
+    state.set_immutable(box_id, m);
     assert!(rt; state.is_immutable(box_id, m));
     assert_eq!(rt; state.used_pages(box_id, m), 1);
     assert_eq!(rt; state.used_pages(root, m), 24);
-    state.fix_quota(box_id, m);
+    state.set_fixed(box_id, m);
     assert!(rt; state.is_fixed(box_id, m));
     state.set_space(ObjectId::new(2), entry(4, 5), m);
     let scans = m.scans();
     let gone = entry(1, 4);
     if state.lists(gone.container, gone.object, m) {
-        state.unlink(&gone, m);
+        state.unref(&gone, m);
     }
     assert!(rt; !state.is_there(box_id, m));
     assert_eq!(rt; state.used_pages(root, m), 4);

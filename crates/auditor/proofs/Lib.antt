@@ -2,3 +2,4 @@ pub mod CountLaws
 pub mod ReplayLaws
 pub mod DifferenceLaws
 pub mod VerdictLaws
+pub mod LineLaws

@@ -1,10 +1,12 @@
 -- What an audit finds.
-use Rattle.std.specs.Prelude.{◌≡◌, ℕ, ◌+◌, ◌==◌, if◌then◌else◌, List, [], ◌∷◌, Option, Some, None}
+use Rattle.std.specs.Prelude.{◌≡◌, ℕ, ◌+◌, ◌==◌, if◌then◌else◌, List, [], ◌∷◌, take, slice_get}
+use Rattle.std.specs.Prelude.{Option, Some, None}
 use Rattle.base.specs.declared.ranges.Limits.{Limits}
 use Rattle.kernel_rules.specs.History.{IsLegal}
 use Rattle.kernel_rules.specs.declared.events.Event.{Event}
-use Rattle.dump_text.specs.Dump.{dump_text, IsDump, DumpFaultsAt}
+use Rattle.dump_text.specs.Dump.{lines_of, dump_text, IsDump, DumpFaultsAt}
 use Rattle.dump_text.specs.Lists.{DumpLists}
+use Rattle.dump_text.specs.declared.lines.Line.{Line}
 use Rattle.dump_text.specs.Whole.{whole_dump}
 use Rattle.auditor.specs.Replay.{replayed}
 use Rattle.auditor.specs.declared.verdicts.Verdict.{Verdict}
@@ -35,6 +37,18 @@ abbrev pub IsVerdict : List ℕ → Verdict → Type 0
 IsVerdict bytes is.Clean = (d : DumpLists) × IsDump bytes d × (false_line bytes d ≡ None)
 IsVerdict bytes (is.False n) = (d : DumpLists) × IsDump bytes d × (false_line bytes d ≡ Some n)
 IsVerdict bytes (is.Unreadable n) = DumpFaultsAt bytes n
+
+-- two lists of lines differ in the line after the first i, and in none before
+abbrev pub DifferAt : ℕ → List Line → List Line → Type 0
+DifferAt i xs ys = (take i xs ≡ take i ys) × (slice_get xs i ≡ slice_get ys i → ⊥)
+
+-- What false at line n means: it is the first line that isn't the true dump's. Where it is an
+-- event's, its number or its reply is not the rules', and else the tables' lines are others.
+abbrev pub TellsFalse : List ℕ → Verdict → Type 0
+TellsFalse bytes (is.False n) =
+    (d : DumpLists) × IsDump bytes d
+    × ((i : ℕ) × (n ≡ i + 1) × DifferAt i (lines_of d) (lines_of (true_dump d)))
+TellsFalse bytes v = Unit {0}
 
 -- the bytes are the text of the dump of a legal list of events
 abbrev pub IsLegalText : List ℕ → Type 0

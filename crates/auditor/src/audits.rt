@@ -1,15 +1,12 @@
 //! Auditing dumps.
-ghost use Rattle.std.specs.Prelude.{◌≡◌, ℕ, List, IfOk};
+ghost use Rattle.std.specs.Prelude.{◌≡◌, ℕ, List, IfOk, OnOk};
 ghost use Rattle.base.specs.declared.ranges.Limits.{Limits as Booted};
-ghost use Rattle.kernel_rules.specs.History.{IsLegal};
-ghost use Rattle.kernel_rules.specs.declared.events.Event.{Event as Done};
-ghost use Rattle.dump_text.specs.Dump.{dump_text, IsDump};
+ghost use Rattle.dump_text.specs.Dump.{dump_text};
 ghost use Rattle.dump_text.specs.Fits.{FitsWords};
-ghost use Rattle.dump_text.specs.Line.{IsBootable};
-ghost use Rattle.dump_text.specs.Whole.{whole_dump};
+ghost use Rattle.dump_text.specs.Whole.{IsLegalDump};
 ghost use Rattle.auditor.specs.declared.verdicts.Verdict.{Verdict as Found};
 ghost use Rattle.auditor.specs.declared.verdicts.Verdict.TheVariants.{Clean as Legal};
-ghost use Rattle.auditor.specs.Verdict.{true_dump, IsVerdict, IsLegalText};
+ghost use Rattle.auditor.specs.Verdict.{true_dump, IsVerdict, IsLegalText, TellsFalse};
 
 use crate::differences::first_difference;
 use crate::replays::take_all;
@@ -21,7 +18,8 @@ use std::alloc::Global;
 /// The text of the true dump: that of the dump's own limits and calls, with the numbers, the replies and the tables of
 /// the rules.
 fn true_text(alloc: Global, dump: &Dump) -> Result<Vec<u8>, NoMemory>
-    ensures { IfOk result (λ text. text.items ≡ dump_text (true_dump dump.now)) }
+    ensures text { IfOk result (λ text. text.items ≡ dump_text (true_dump dump.now)) }
+    ensures fits { OnOk result (FitsWords (true_dump dump.now)) }
 {
     let mut replay = take_all(alloc, &dump.limits, dump.events.as_slice())?;
     let tables = replay.kernel.tables(&mut replay.meter)?;
@@ -32,8 +30,10 @@ fn true_text(alloc: Global, dump: &Dump) -> Result<Vec<u8>, NoMemory>
 /// What the bytes are: the dump of a legal list of events; a dump with a first line that is not true; or no dump from some
 /// line on. Want of memory is the only error.
 pub fn audit(alloc: Global, bytes: &[u8]) -> Result<Verdict, NoMemory>
-    ensures { IfOk result (λ verdict. IsVerdict bytes.now verdict) }
+    ensures verdict { IfOk result (λ verdict. IsVerdict bytes.now verdict) }
+    ensures line { IfOk result (λ verdict. TellsFalse bytes.now verdict) }
 {
+    legal_is_dump();
     let dump = match read_dump(alloc, bytes) {
         Ok(dump) => dump,
         Err(DumpError::Line(line)) => return Ok(Verdict::Unreadable(line)),
@@ -54,15 +54,9 @@ pub fn one_verdict()
 }
 
 /// A law, which does nothing when it is called: what is clean is the dump of a legal list of events, and each dump of one
-/// is clean. The text of such a list, after a boot with limits in range, is a dump, and so clean, where each value in it
-/// fits its word.
+/// is clean, as a run of `histar` writes it.
 pub fn clean_is_legal()
     ensures legal { (bytes : List ℕ) → IsVerdict bytes Legal → IsLegalText bytes }
-    ensures clean { (bytes : List ℕ) (limits : Booted) (events : List Done) → IsLegal limits events
-        → IsDump bytes (whole_dump limits events) → IsVerdict bytes Legal }
-    ensures fits { (limits : Booted) (events : List Done) → IsBootable limits
-        → IsLegal limits events → FitsWords (whole_dump limits events)
-        → IsVerdict (dump_text (whole_dump limits events)) Legal }
-{
-    legal_is_dump();
-}
+    ensures clean { (bytes : List ℕ) (limits : Booted) → IsLegalDump limits bytes
+        → IsVerdict bytes Legal }
+{}

@@ -1,6 +1,6 @@
 //! Why a call was refused.
 ghost use Rattle.std.specs.Prelude.{◌≡◌};
-ghost use Rattle.base.specs.Refusal.{row_of, lesser};
+ghost use Rattle.base.specs.Refusal.{told_as, lesser};
 
 /// Why a call was refused. Those from 1 to 25 are a kernel's, the others of the layers above it. Of the conditions that
 /// hold for a call, the one with the least number gives the refusal.
@@ -89,7 +89,7 @@ pub enum Refusal {
 impl Refusal {
     /// The refusal's number, from 1 to 62.
     pub fn number(self) -> u8
-        ensures { result ≡ (row_of self).number }
+        ensures { result ≡ (told_as self).number }
     {
         match self {
             Refusal::Halted => 1,
@@ -136,7 +136,7 @@ impl Refusal {
 
     /// The refusal's name, as texts print it.
     pub fn name(self) -> &'static str
-        ensures { result.now ≡ (row_of self).name }
+        ensures { result.now ≡ (told_as self).name }
     {
         match self {
             Refusal::Halted => "Halted",

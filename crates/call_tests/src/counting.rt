@@ -7,8 +7,8 @@ use kernel_store::{Seen, Sight, Store};
 use label_lattice::Label;
 use plain_state::PlainState;
 
-/// A plain state, of which the meter counts each look: at a caller, an object, an entry or an
-/// address.
+/// A plain state, of which the meter counts each look: at a caller, an object, an entry, an address
+/// or bytes.
 #[derive(Drop)]
 pub struct Counting {
     state: PlainState,
@@ -51,72 +51,73 @@ impl Store for Counting {
         Store::sight(&self.state, thread, entry, meter)
     }
 
-    fn is_there(&self, id: ObjectId) -> bool {
-        Store::is_there(&self.state, id)
+    fn is_there(&self, id: ObjectId, meter: &mut Meter) -> bool {
+        Store::is_there(&self.state, id, meter)
     }
 
     fn is_cleared(&self, thread: ObjectId, id: ObjectId, meter: &mut Meter) -> bool {
         Store::is_cleared(&self.state, thread, id, meter)
     }
 
-    fn label(&self, id: ObjectId) -> Option<&Label> {
-        Store::label(&self.state, id)
+    fn label(&self, id: ObjectId, meter: &mut Meter) -> Option<&Label> {
+        Store::label(&self.state, id, meter)
     }
 
-    fn clearance(&self, thread: ObjectId) -> Option<&Label> {
-        Store::clearance(&self.state, thread)
+    fn clearance(&self, thread: ObjectId, meter: &mut Meter) -> Option<&Label> {
+        Store::clearance(&self.state, thread, meter)
     }
 
-    fn is_fixed(&self, id: ObjectId) -> bool {
-        Store::is_fixed(&self.state, id)
+    fn is_fixed(&self, id: ObjectId, meter: &mut Meter) -> bool {
+        Store::is_fixed(&self.state, id, meter)
     }
 
-    fn is_immutable(&self, id: ObjectId) -> bool {
-        Store::is_immutable(&self.state, id)
+    fn is_immutable(&self, id: ObjectId, meter: &mut Meter) -> bool {
+        Store::is_immutable(&self.state, id, meter)
     }
 
-    fn quota(&self, id: ObjectId) -> u32 {
-        Store::quota(&self.state, id)
+    fn quota(&self, id: ObjectId, meter: &mut Meter) -> u32 {
+        Store::quota(&self.state, id, meter)
     }
 
-    fn used_pages(&self, id: ObjectId) -> u32 {
-        Store::used_pages(&self.state, id)
+    fn used_pages(&self, id: ObjectId, meter: &mut Meter) -> u32 {
+        Store::used_pages(&self.state, id, meter)
     }
 
-    fn is_over(&self, container: ObjectId, pages: u32) -> bool {
-        Store::is_over(&self.state, container, pages)
+    fn is_over(&self, container: ObjectId, pages: u32, meter: &mut Meter) -> bool {
+        Store::is_over(&self.state, container, pages, meter)
     }
 
-    fn avoids(&self, kind: Kind, id: ObjectId) -> bool {
-        Store::avoids(&self.state, kind, id)
+    fn avoids(&self, kind: Kind, id: ObjectId, meter: &mut Meter) -> bool {
+        Store::avoids(&self.state, kind, id, meter)
     }
 
-    fn avoids_kind_of(&self, container: ObjectId, id: ObjectId) -> bool {
-        Store::avoids_kind_of(&self.state, container, id)
+    fn avoids_kind_of(&self, container: ObjectId, id: ObjectId, meter: &mut Meter) -> bool {
+        Store::avoids_kind_of(&self.state, container, id, meter)
     }
 
-    fn joined(&self, container: ObjectId, kinds: TypeSet) -> TypeSet {
-        Store::joined(&self.state, container, kinds)
+    fn joined(&self, container: ObjectId, kinds: TypeSet, meter: &mut Meter) -> TypeSet {
+        Store::joined(&self.state, container, kinds, meter)
     }
 
-    fn list_len(&self, container: ObjectId) -> usize {
-        Store::list_len(&self.state, container)
+    fn list_len(&self, container: ObjectId, meter: &mut Meter) -> usize {
+        Store::list_len(&self.state, container, meter)
     }
 
-    fn ids_from(&self, container: ObjectId, from: u32) -> Ids {
-        Store::ids_from(&self.state, container, from)
+    fn ids_from(&self, container: ObjectId, from: u32, meter: &mut Meter) -> Ids {
+        Store::ids_from(&self.state, container, from, meter)
     }
 
-    fn parent(&self, container: ObjectId) -> ObjectId {
-        Store::parent(&self.state, container)
+    fn parent(&self, container: ObjectId, meter: &mut Meter) -> ObjectId {
+        Store::parent(&self.state, container, meter)
     }
 
-    fn is_past(&self, id: ObjectId, offset: u32, count: u32) -> bool {
-        Store::is_past(&self.state, id, offset, count)
+    fn is_past(&self, id: ObjectId, offset: u32, count: u32, meter: &mut Meter) -> bool {
+        Store::is_past(&self.state, id, offset, count, meter)
     }
 
-    fn bytes_from(&self, id: ObjectId, from: usize, count: u32) -> Data {
-        Store::bytes_from(&self.state, id, from, count)
+    fn bytes_from(&self, id: ObjectId, from: usize, count: u32, meter: &mut Meter) -> Data {
+        meter.probe();
+        Store::bytes_from(&self.state, id, from, count, meter)
     }
 
     fn place(&self, thread: ObjectId, address: u64, meter: &mut Meter) -> Option<Place> {
@@ -128,32 +129,32 @@ impl Store for Counting {
         Store::is_shown(&self.state, thread, id, meter)
     }
 
-    fn page_count(&self, id: ObjectId) -> u32 {
-        Store::page_count(&self.state, id)
+    fn page_count(&self, id: ObjectId, meter: &mut Meter) -> u32 {
+        Store::page_count(&self.state, id, meter)
     }
 
-    fn slots(&self, id: ObjectId) -> &[Option<Mapping>] {
-        Store::slots(&self.state, id)
+    fn slots(&self, id: ObjectId, meter: &mut Meter) -> &[Option<Mapping>] {
+        Store::slots(&self.state, id, meter)
     }
 
-    fn slot(&self, id: ObjectId, slot: usize) -> Option<Mapping> {
-        Store::slot(&self.state, id, slot)
+    fn slot(&self, id: ObjectId, slot: usize, meter: &mut Meter) -> Option<Mapping> {
+        Store::slot(&self.state, id, slot, meter)
     }
 
-    fn packets(&self, id: ObjectId) -> &[Data] {
-        Store::packets(&self.state, id)
+    fn packets(&self, id: ObjectId, meter: &mut Meter) -> &[Data] {
+        Store::packets(&self.state, id, meter)
     }
 
-    fn metadata(&self, id: ObjectId) -> Option<Data> {
-        Store::metadata(&self.state, id)
+    fn metadata(&self, id: ObjectId, meter: &mut Meter) -> Option<Data> {
+        Store::metadata(&self.state, id, meter)
     }
 
-    fn gate(&self, id: ObjectId) -> Option<Gate> {
-        Store::gate(&self.state, id)
+    fn gate(&self, id: ObjectId, meter: &mut Meter) -> Option<Gate> {
+        Store::gate(&self.state, id, meter)
     }
 
-    fn thread(&self, id: ObjectId) -> Option<Thread> {
-        Store::thread(&self.state, id)
+    fn thread(&self, id: ObjectId, meter: &mut Meter) -> Option<Thread> {
+        Store::thread(&self.state, id, meter)
     }
 
     fn next_id(&self) -> ObjectId {
@@ -164,24 +165,29 @@ impl Store for Counting {
         Store::next_category(&self.state)
     }
 
-    fn link(&mut self, container: ObjectId, entry: &Entry) -> Result<(), NoMemory> {
-        Store::link(&mut self.state, container, entry)
+    fn link(
+        &mut self,
+        container: ObjectId,
+        entry: &Entry,
+        meter: &mut Meter,
+    ) -> Result<(), NoMemory> {
+        Store::link(&mut self.state, container, entry, meter)
     }
 
-    fn unref(&mut self, entry: &Entry) -> Result<(), NoMemory> {
-        Store::unref(&mut self.state, entry)
+    fn unref(&mut self, entry: &Entry, meter: &mut Meter) -> Result<(), NoMemory> {
+        Store::unref(&mut self.state, entry, meter)
     }
 
-    fn set_fixed(&mut self, id: ObjectId) {
-        Store::set_fixed(&mut self.state, id);
+    fn set_fixed(&mut self, id: ObjectId, meter: &mut Meter) {
+        Store::set_fixed(&mut self.state, id, meter);
     }
 
-    fn quota_move(&mut self, entry: &Entry, up: u32, down: u32) {
-        Store::quota_move(&mut self.state, entry, up, down);
+    fn quota_move(&mut self, entry: &Entry, up: u32, down: u32, meter: &mut Meter) {
+        Store::quota_move(&mut self.state, entry, up, down, meter);
     }
 
-    fn write_bytes(&mut self, id: ObjectId, at: usize, given: &[u8]) {
-        Store::write_bytes(&mut self.state, id, at, given);
+    fn write_bytes(&mut self, id: ObjectId, at: usize, given: &[u8], meter: &mut Meter) {
+        Store::write_bytes(&mut self.state, id, at, given, meter);
     }
 
     fn create_container(
@@ -190,8 +196,9 @@ impl Store for Counting {
         label: Option<Label>,
         quota: u32,
         kinds: TypeSet,
+        meter: &mut Meter,
     ) -> Result<ObjectId, NoMemory> {
-        Store::create_container(&mut self.state, container, label, quota, kinds)
+        Store::create_container(&mut self.state, container, label, quota, kinds, meter)
     }
 
     fn create_segment(
@@ -200,44 +207,45 @@ impl Store for Counting {
         label: Option<Label>,
         quota: u32,
         pages: u32,
+        meter: &mut Meter,
     ) -> Result<ObjectId, NoMemory> {
-        Store::create_segment(&mut self.state, container, label, quota, pages)
+        Store::create_segment(&mut self.state, container, label, quota, pages, meter)
     }
 
-    fn resize(&mut self, id: ObjectId, pages: u32) -> Result<(), NoMemory> {
-        Store::resize(&mut self.state, id, pages)
+    fn resize(&mut self, id: ObjectId, pages: u32, meter: &mut Meter) -> Result<(), NoMemory> {
+        Store::resize(&mut self.state, id, pages, meter)
     }
 
-    fn set_slot(&mut self, id: ObjectId, slot: usize, mapping: Option<Mapping>) {
-        Store::set_slot(&mut self.state, id, slot, mapping);
+    fn set_slot(&mut self, id: ObjectId, slot: usize, mapping: Option<Mapping>, meter: &mut Meter) {
+        Store::set_slot(&mut self.state, id, slot, mapping, meter);
     }
 
-    fn dev_send(&mut self, id: ObjectId, packet: Data) -> Result<(), NoMemory> {
-        Store::dev_send(&mut self.state, id, packet)
+    fn dev_send(&mut self, id: ObjectId, packet: Data, meter: &mut Meter) -> Result<(), NoMemory> {
+        Store::dev_send(&mut self.state, id, packet, meter)
     }
 
-    fn dev_recv(&mut self, id: ObjectId) {
-        Store::dev_recv(&mut self.state, id);
+    fn dev_recv(&mut self, id: ObjectId, meter: &mut Meter) {
+        Store::dev_recv(&mut self.state, id, meter);
     }
 
-    fn set_immutable(&mut self, id: ObjectId) {
-        Store::set_immutable(&mut self.state, id);
+    fn set_immutable(&mut self, id: ObjectId, meter: &mut Meter) {
+        Store::set_immutable(&mut self.state, id, meter);
     }
 
-    fn meta_set(&mut self, id: ObjectId, given: &Data) {
-        Store::meta_set(&mut self.state, id, given);
+    fn meta_set(&mut self, id: ObjectId, given: &Data, meter: &mut Meter) {
+        Store::meta_set(&mut self.state, id, given, meter);
     }
 
-    fn set_label(&mut self, thread: ObjectId, label: Option<Label>) {
-        Store::set_label(&mut self.state, thread, label);
+    fn set_label(&mut self, thread: ObjectId, label: Option<Label>, meter: &mut Meter) {
+        Store::set_label(&mut self.state, thread, label, meter);
     }
 
-    fn set_clearance(&mut self, thread: ObjectId, clearance: Option<Label>) {
-        Store::set_clearance(&mut self.state, thread, clearance);
+    fn set_clearance(&mut self, thread: ObjectId, clearance: Option<Label>, meter: &mut Meter) {
+        Store::set_clearance(&mut self.state, thread, clearance, meter);
     }
 
-    fn set_space(&mut self, thread: ObjectId, space: Entry) {
-        Store::set_space(&mut self.state, thread, space);
+    fn set_space(&mut self, thread: ObjectId, space: Entry, meter: &mut Meter) {
+        Store::set_space(&mut self.state, thread, space, meter);
     }
 
     fn enter(
@@ -247,12 +255,27 @@ impl Store for Counting {
         clearance: Label,
         verify: Label,
         gate: &Gate,
+        meter: &mut Meter,
     ) {
-        Store::enter(&mut self.state, thread, label, clearance, verify, gate);
+        Store::enter(
+            &mut self.state,
+            thread,
+            label,
+            clearance,
+            verify,
+            gate,
+            meter,
+        );
     }
 
-    fn own_category(&mut self, thread: ObjectId, label: Option<Label>, clearance: Option<Label>) {
-        Store::own_category(&mut self.state, thread, label, clearance);
+    fn own_category(
+        &mut self,
+        thread: ObjectId,
+        label: Option<Label>,
+        clearance: Option<Label>,
+        meter: &mut Meter,
+    ) {
+        Store::own_category(&mut self.state, thread, label, clearance, meter);
     }
 
     fn create_copy(
@@ -261,8 +284,9 @@ impl Store for Counting {
         label: Option<Label>,
         quota: u32,
         source: ObjectId,
+        meter: &mut Meter,
     ) -> Result<ObjectId, NoMemory> {
-        Store::create_copy(&mut self.state, container, label, quota, source)
+        Store::create_copy(&mut self.state, container, label, quota, source, meter)
     }
 
     fn create_space(
@@ -270,8 +294,9 @@ impl Store for Counting {
         container: ObjectId,
         label: Option<Label>,
         quota: u32,
+        meter: &mut Meter,
     ) -> Result<ObjectId, NoMemory> {
-        Store::create_space(&mut self.state, container, label, quota)
+        Store::create_space(&mut self.state, container, label, quota, meter)
     }
 
     fn create_thread(
@@ -300,8 +325,9 @@ impl Store for Counting {
         label: Option<Label>,
         quota: u32,
         gate: Gate,
+        meter: &mut Meter,
     ) -> Result<ObjectId, NoMemory> {
-        Store::create_gate(&mut self.state, container, label, quota, gate)
+        Store::create_gate(&mut self.state, container, label, quota, gate, meter)
     }
 
     ghost sound = { λ s. s.state.well_formed };

@@ -1,4 +1,4 @@
-//! How many looks each call takes, by a store that counts them: at a caller, an object, an entry or an address.
+//! How many looks each call takes, by a store that counts them: at a caller, an object, an entry, an address or bytes.
 #![tactic(auto)]
 
 mod counting;

@@ -1,5 +1,5 @@
-//! How many looks each call takes: one at the caller, and one at each entry or container that its row
-//! names. What is asked for is answered as by the plain state itself.
+//! How many looks each call takes: one at the caller, one at each entry or container that its row
+//! names, and one at bytes that are read. What is asked for is answered as by the plain state itself.
 use crate::Counting;
 use base::{Data, Meter, NoMemory, ObjectId, Refusal, Rights, TypeSet};
 use kernel_calls::{ask, step};
@@ -58,6 +58,13 @@ fn makings() -> [Call; 3] {
     ]
 }
 
+fn load_of_a_byte() -> Query {
+    Query::Load {
+        address: 768,
+        count: 1,
+    }
+}
+
 #[test]
 fn each_entry_is_looked_at_once(rt: HostRuntime) -> Result<(), Fail> {
     let mut meter = Meter::new(rt.alloc())?;
@@ -76,7 +83,10 @@ fn each_entry_is_looked_at_once(rt: HostRuntime) -> Result<(), Fail> {
         entry: segment,
         first: 0,
         count: 1,
-        rights: Rights::READ | Rights::WRITE,
+        rights: Rights {
+            read: true,
+            write: true,
+        },
     };
     let data = Data::from_slice(&[7]);
     let calls = [
@@ -113,7 +123,6 @@ fn each_entry_is_looked_at_once(rt: HostRuntime) -> Result<(), Fail> {
             },
             3,
         ),
-        (Call::Unref { entry: segment }, 3),
     ];
     for (call, looks) in calls {
         assert_eq!(rt;
@@ -121,6 +130,12 @@ fn each_entry_is_looked_at_once(rt: HostRuntime) -> Result<(), Fail> {
             (None, looks)
         );
     }
+    assert_eq!(rt; looks_at(&store, &load_of_a_byte(), &mut meter), (None, 4));
+    let unref = Call::Unref { entry: segment };
+    assert_eq!(rt;
+        looks_of(&mut store, &mut twin, &unref, &mut meter)?,
+        (None, 3)
+    );
     Ok(())
 }
 
@@ -147,12 +162,8 @@ fn a_refused_call_takes_as_many(rt: HostRuntime) -> Result<(), Fail> {
     };
     let device = looks_at(&store, &read, &mut meter);
     assert_eq!(rt; device, (Some(Refusal::WrongType), 2));
-    let load = Query::Load {
-        address: 768,
-        count: 1,
-    };
     assert_eq!(rt;
-        looks_at(&store, &load, &mut meter),
+        looks_at(&store, &load_of_a_byte(), &mut meter),
         (Some(Refusal::NotMapped), 2)
     );
     Ok(())

@@ -9,34 +9,34 @@ use Rattle.text_words.proofs.LackLemmas.{lacks-append, name_lacks}
 use Rattle.text_words.proofs.LabelLemmas.{before_last}
 use Rattle.text_words.proofs.OneLemmas.{first_part}
 use Rattle.text_words.proofs.Outside.{name_outside, space_outside, end_outside}
-use Rattle.spoken_calls.specs.Row.{Spoken, row_text}
-use Rattle.spoken_calls.proofs.RowLemmas.{row_is_one, row_lacks_end}
+use Rattle.spoken_calls.specs.Spoken.{Spoken, spoken_text}
+use Rattle.spoken_calls.proofs.SpokenLemmas.{spoken_is_one, spoken_lacks_end}
 use Rattle.call_text.proofs.PartLemmas.{not_in}
 use Rattle.call_text.proofs.TextLemmas.{IsGrammar}
 use Rattle.call_text.specs.declared.lines.Written.{Written}
 use Rattle.call_text.specs.declared.lines.Written.TheVariants.{Break, Said}
 use Rattle.call_text.specs.Line.{said_text, IsSaid, bound_text, IsBound, written_text, IsWritten, FitsWritten}
 
-said_is : (w row : List ℕ) → (w ++ 58 ∷ 32 ∷ []) ++ row ≡ (w ++ 58 ∷ []) ++ 32 ∷ row
-said_is w row = append_assoc w (58 ∷ 32 ∷ []) row ∙ sym (append_assoc w (58 ∷ []) (32 ∷ row))
+said_is : (w words : List ℕ) → (w ++ 58 ∷ 32 ∷ []) ++ words ≡ (w ++ 58 ∷ []) ++ 32 ∷ words
+said_is w words = append_assoc w (58 ∷ 32 ∷ []) words ∙ sym (append_assoc w (58 ∷ []) (32 ∷ words))
 
-pub said_first : (text : List ℕ) (v : List ℕ × Spoken) → text ≡ said_text v → text ≡ (v.0 ++ 58 ∷ []) ++ 32 ∷ row_text v.1
-said_first text v e = e ∙ said_is v.0 (row_text v.1)
+pub said_first : (text : List ℕ) (v : List ℕ × Spoken) → text ≡ said_text v → text ≡ (v.0 ++ 58 ∷ []) ++ 32 ∷ spoken_text v.1
+said_first text v e = e ∙ said_is v.0 (spoken_text v.1)
 
 worker_lacks : (w : List ℕ) → IsName w → lacks 32 (w ++ 58 ∷ []) ≡ true
 worker_lacks w is = lacks-append 32 w (58 ∷ []) (name_outside 32 w space_outside is) refl
 
 -- the first word of a worker's call, and its other words
-pub said_parts : (text first words : List ℕ) (v : List ℕ × Spoken) → text ≡ first ++ 32 ∷ words → lacks 32 first ≡ true → IsSaid v → text ≡ said_text v → (first ≡ v.0 ++ 58 ∷ []) × (words ≡ row_text v.1)
-said_parts text first words v h lack is e = first_part 32 first (v.0 ++ 58 ∷ []) words (row_text v.1) lack (worker_lacks v.0 is.0) (sym h ∙ said_first text v e)
+pub said_parts : (text first words : List ℕ) (v : List ℕ × Spoken) → text ≡ first ++ 32 ∷ words → lacks 32 first ≡ true → IsSaid v → text ≡ said_text v → (first ≡ v.0 ++ 58 ∷ []) × (words ≡ spoken_text v.1)
+said_parts text first words v h lack is e = first_part 32 first (v.0 ++ 58 ∷ []) words (spoken_text v.1) lack (worker_lacks v.0 is.0) (sym h ∙ said_first text v e)
 
 -- a worker's call has one spelling
 pub said_is_one : (v w : List ℕ × Spoken) → IsSaid v → IsSaid w → said_text v ≡ said_text w → v ≡ w
 said_is_one v w iv iw e =
-    let p = said_parts (said_text w) (v.0 ++ 58 ∷ []) (row_text v.1) w (sym e ∙ said_first (said_text v) v refl) (worker_lacks v.0 iv.0) iw refl in
+    let p = said_parts (said_text w) (v.0 ++ 58 ∷ []) (spoken_text v.1) w (sym e ∙ said_first (said_text v) v refl) (worker_lacks v.0 iv.0) iw refl in
     let name : v.0 ≡ w.0 = before_last v.0 w.0 58 p.0 in
-    let row : v.1 ≡ w.1 = row_is_one v.1 w.1 iv.1 iw.1 p.1 in
-    (λ i. (name i, row i))
+    let call : v.1 ≡ w.1 = spoken_is_one v.1 w.1 iv.1 iw.1 p.1 in
+    (λ i. (name i, call i))
 
 bound_is : (name said : List ℕ) → (name ++ 32 ∷ 61 ∷ 32 ∷ []) ++ said ≡ name ++ 32 ∷ 61 ∷ 32 ∷ said
 bound_is name said = append_assoc name (32 ∷ 61 ∷ 32 ∷ []) said
@@ -67,7 +67,7 @@ name_begins (x ∷ name) rest tail b is e =
 
 said_begins : (v : List ℕ × Spoken) (tail : List ℕ) → IsSaid v → said_text v ≡ 45 ∷ tail → ⊥
 said_begins v tail is e =
-    let k = name_begins v.0 (58 ∷ 32 ∷ row_text v.1) tail 45 is.0 (sym (append_assoc v.0 (58 ∷ 32 ∷ []) (row_text v.1)) ∙ e) in omega arith
+    let k = name_begins v.0 (58 ∷ 32 ∷ spoken_text v.1) tail 45 is.0 (sym (append_assoc v.0 (58 ∷ 32 ∷ []) (spoken_text v.1)) ∙ e) in omega arith
 
 bound_no_dash : (v : List ℕ × List ℕ × Spoken) (tail : List ℕ) → IsBound v → bound_text v ≡ 45 ∷ tail → ⊥
 bound_no_dash v tail is e =
@@ -76,7 +76,7 @@ bound_no_dash v tail is e =
 -- a worker's call is no line that binds a name
 said_no_bound : (v : List ℕ × Spoken) (w : List ℕ × List ℕ × Spoken) → IsSaid v → IsBound w → said_text v ≡ bound_text w → ⊥
 said_no_bound v w iv iw e =
-    let p = bound_parts (said_text v) (v.0 ++ 58 ∷ []) (row_text v.1) w (said_first (said_text v) v refl) (worker_lacks v.0 iv.0) iw e in
+    let p = bound_parts (said_text v) (v.0 ++ 58 ∷ []) (spoken_text v.1) w (said_first (said_text v) v refl) (worker_lacks v.0 iv.0) iw e in
     not_in 58 v.0 [] (subst (λ (x : List ℕ). lacks 58 x ≡ true) (sym p.0) (name_lacks 58 w.0 refl iw.0))
 
 bound_is_one : (v w : List ℕ × List ℕ × Spoken) → IsBound v → IsBound w → bound_text v ≡ bound_text w → v ≡ w
@@ -99,7 +99,7 @@ written_is_one (Said (Some m) w c) (Said None x d) ia ib e = absurd (said_no_bou
 written_is_one (Said (Some m) w c) (Said (Some n) x d) ia ib e = let s = bound_is_one (m, w, c) (n, x, d) ia ib e in (λ i. Said (Some (s i).0) (s i).1 (s i).2)
 
 said_lacks_end : (v : List ℕ × Spoken) → IsSaid v → lacks 10 (said_text v) ≡ true
-said_lacks_end v is = lacks-append 10 (v.0 ++ 58 ∷ 32 ∷ []) (row_text v.1) (lacks-append 10 v.0 (58 ∷ 32 ∷ []) (name_outside 10 v.0 end_outside is.0) refl) (row_lacks_end v.1 is.1)
+said_lacks_end v is = lacks-append 10 (v.0 ++ 58 ∷ 32 ∷ []) (spoken_text v.1) (lacks-append 10 v.0 (58 ∷ 32 ∷ []) (name_outside 10 v.0 end_outside is.0) refl) (spoken_lacks_end v.1 is.1)
 
 written_lacks_end : (a : Written) → IsWritten a → lacks 10 (written_text a) ≡ true
 written_lacks_end Break is = refl

@@ -2,17 +2,17 @@
 use Rattle.std.specs.Prelude.{◌≡◌, ◌≤◌, ℕ, List, ◌++◌, length, codes, Some, None, true}
 use Rattle.text_words.specs.Name.{IsName, name_text}
 use Rattle.spoken_calls.specs.Verb.{makes}
-use Rattle.spoken_calls.specs.Row.{Spoken, IsRow, row_text}
+use Rattle.spoken_calls.specs.Spoken.{Spoken, IsSpoken, spoken_text}
 use Rattle.call_text.specs.declared.lines.Written.{Written}
 use Rattle.call_text.specs.declared.lines.Written.TheVariants.{Break, Said}
 
 -- WORKER: CALL
 abbrev pub said_text : List ℕ × Spoken → List ℕ
-said_text said = name_text said.0 ++ codes ": " ++ row_text said.1
+said_text said = name_text said.0 ++ codes ": " ++ spoken_text said.1
 
 -- a name, and a call in its ranges
 abbrev pub IsSaid : List ℕ × Spoken → Type 0
-IsSaid said = IsName said.0 × IsRow said.1
+IsSaid said = IsName said.0 × IsSpoken said.1
 
 -- NAME = WORKER: CALL
 abbrev pub bound_text : List ℕ × List ℕ × Spoken → List ℕ

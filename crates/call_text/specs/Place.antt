@@ -5,6 +5,7 @@ use Rattle.base.specs.declared.ids.Category.{Category as Cat}
 use Rattle.base.specs.declared.levels.Level.TheVariants.{Star}
 use Rattle.base.specs.declared.sets.Rights.{Rights}
 use Rattle.base.specs.declared.sets.TypeSet.{TypeSet}
+use Rattle.base.specs.Sets.{no_kind, no_right}
 use Rattle.label_lattice.specs.declared.pairings.Pair.{Pair}
 use Rattle.label_lattice.specs.declared.raw_labels.RawLabel.{RawLabel}
 use Rattle.kernel_rules.specs.declared.calls.Entry.{Entry}
@@ -83,13 +84,13 @@ data_in None = []
 
 abbrev pub types_in : Option Arg → TypeSet
 types_in (Some (args.Types s)) = s
-types_in (Some _) = record { 0 = 0 }
-types_in None = record { 0 = 0 }
+types_in (Some _) = no_kind
+types_in None = no_kind
 
 abbrev pub rights_in : Option Arg → Rights
 rights_in (Some (args.Rights r)) = r
-rights_in (Some _) = record { 0 = 0 }
-rights_in None = record { 0 = 0 }
+rights_in (Some _) = no_right
+rights_in None = no_right
 
 -- the object at a place, and so for each kind
 abbrev pub object_at : ℕ → List Arg → List Named → ℕ

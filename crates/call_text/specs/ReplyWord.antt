@@ -3,7 +3,7 @@ use Rattle.std.specs.Prelude.{ℕ, Bool, true, false, List, [], ◌∷◌, ◌++
 use Rattle.std.specs.Prelude.{decimal}
 use Rattle.std.specs.List.{flat_map}
 use Rattle.base.specs.declared.refusals.Refusal.{Refusal as Refusals}
-use Rattle.base.specs.Refusal.{row_of}
+use Rattle.base.specs.Refusal.{told_as}
 use Rattle.label_lattice.specs.declared.pairings.Pair.{Pair}
 use Rattle.label_lattice.specs.declared.raw_labels.RawLabel.{RawLabel}
 use Rattle.label_lattice.specs.Raw.{raw_of as raw_form}
@@ -65,7 +65,7 @@ flag_text false = codes "0"
 
 -- a refusal's number and name
 abbrev pub refusal_text : Refusals → List ℕ
-refusal_text r = decimal (row_of r).number ++ 32 ∷ (row_of r).name
+refusal_text r = decimal (told_as r).number ++ 32 ∷ (told_as r).name
 
 -- a further word
 abbrev pub word_text : List Named → Word → List ℕ

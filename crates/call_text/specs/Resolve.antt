@@ -5,7 +5,7 @@ use Rattle.text_words.specs.declared.references.Reference.TheVariants.{Number, N
 use Rattle.text_words.specs.declared.spoken_labels.SpokenPair.{SpokenPair}
 use Rattle.spoken_calls.specs.declared.args.Arg.{Arg}
 use Rattle.spoken_calls.specs.declared.args.Arg.TheVariants as args
-use Rattle.spoken_calls.specs.Row.{Spoken}
+use Rattle.spoken_calls.specs.Spoken.{Spoken}
 use Rattle.call_text.specs.declared.known_names.Named.{Named}
 use Rattle.call_text.specs.declared.known_names.Value.{Value}
 use Rattle.call_text.specs.declared.known_names.Value.TheVariants.{Object, Category}
@@ -68,4 +68,4 @@ or_unbound None asked = Ok asked
 
 -- what the call asks, or the first name that is not known, or known as the other kind
 abbrev pub resolved : Spoken → List Named → Result Asked (List ℕ)
-resolved row names = or_unbound (first_unbound row.args names) (asked_of row.verb row.args names)
+resolved call names = or_unbound (first_unbound call.args names) (asked_of call.verb call.args names)

@@ -6,7 +6,7 @@ ghost use Rattle.call_text.specs.Line.{said_text, IsSaid, bound_text, IsBound, w
 ghost use Rattle.call_text.specs.Line.{FitsWritten};
 
 use crate::parting::parted;
-use spoken_calls::{Row, read_row};
+use spoken_calls::{SpokenCall, read_spoken};
 use std::alloc::{AllocError, Global};
 use text_words::{Name, is_same, read_name};
 
@@ -22,7 +22,7 @@ pub enum Written {
     Said {
         binds: Option<Name>,
         worker: Name,
-        call: Row,
+        call: SpokenCall,
     },
 }
 
@@ -49,7 +49,7 @@ fn after_equals(text: &[u8]) -> Option<&[u8]>
 }
 
 /// A worker and its call, as `WORKER: CALL`.
-fn read_said(alloc: Global, text: &[u8]) -> Result<Option<(Name, Row)>, AllocError>
+fn read_said(alloc: Global, text: &[u8]) -> Result<Option<(Name, SpokenCall)>, AllocError>
     ensures { IfOk result (λ found. Reads said_text IsSaid text.now found) }
 {
     let Some((first, words)) = parted(text, b' ') else {
@@ -61,21 +61,21 @@ fn read_said(alloc: Global, text: &[u8]) -> Result<Option<(Name, Row)>, AllocErr
     let Some(worker) = read_name(worker) else {
         return Ok(None);
     };
-    let Some(call) = read_row(alloc, words)? else {
+    let Some(call) = read_spoken(alloc, words)? else {
         return Ok(None);
     };
     Ok(Some((worker, call)))
 }
 
 /// Whether the call makes something that a name can be bound to.
-fn makes(call: &Row) -> bool
+fn makes(call: &SpokenCall) -> bool
     ensures { result ≡ makes call.now.verb }
 {
     call.verb().makes()
 }
 
 /// A name, a worker and its call, as `NAME = WORKER: CALL`.
-fn read_bound(alloc: Global, text: &[u8]) -> Result<Option<(Name, Name, Row)>, AllocError>
+fn read_bound(alloc: Global, text: &[u8]) -> Result<Option<(Name, Name, SpokenCall)>, AllocError>
     ensures { IfOk result (λ found. Reads bound_text IsBound text.now found) }
 {
     let Some((name, after)) = parted(text, b' ') else {

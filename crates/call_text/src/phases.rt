@@ -1,7 +1,7 @@
 //! A script as a value.
 ghost use Rattle.std.specs.Prelude.{◌≡◌};
 
-use spoken_calls::Row;
+use spoken_calls::SpokenCall;
 use std::marker::Model;
 use text_words::Name;
 
@@ -15,7 +15,7 @@ pub struct Line {
     /// The name of the worker that makes the call.
     pub worker: Name,
     /// The call, as its words say it.
-    pub call: Row,
+    pub call: SpokenCall,
 }
 
 /// Lines that are played at once. A contract sees the list of the lines.

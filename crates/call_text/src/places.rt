@@ -6,7 +6,6 @@ ghost use Rattle.call_text.specs.Place.{rights_at, entry_at, mapping_at};
 
 use crate::known_names::{Known, Value};
 use base::{Category, Data, Level, ObjectId, Rights, TypeSet};
-use bitflags::Flags;
 use kernel_rules::{Entry, Mapping};
 use label_lattice::{Pair, Pairs, RawLabel};
 use spoken_calls::Arg;
@@ -144,7 +143,7 @@ fn rights_at(args: &[Arg], place: usize) -> Rights
 {
     match args.get(place) {
         Some(Arg::Rights(rights)) => *rights,
-        _ => Rights::from_bits_retain(0),
+        _ => Rights::none(),
     }
 }
 

@@ -5,7 +5,7 @@ ghost use Rattle.call_text.specs.Resolve.{unbound_in, first_unbound, resolved};
 
 use crate::asking::{Asked, make_asked};
 use crate::known_names::{Known, Value};
-use spoken_calls::{Arg, Row};
+use spoken_calls::{Arg, SpokenCall};
 use text_words::{Name, Reference, SpokenPair};
 
 /// The name, where it is not known as an object's.
@@ -76,11 +76,11 @@ fn first_unbound<K: Known>(args: &[Arg], names: &K) -> Option<Name>
 
 /// What the call asks, where each of its names is known as what stands there, or the first name, in the order of the
 /// words, that is not known or known as the other kind. A number stands for itself.
-pub fn resolve<K: Known>(row: &Row, names: &K) -> Result<Asked, Name>
-    ensures { result ≡ resolved row.now (K.names names.now) }
+pub fn resolve<K: Known>(call: &SpokenCall, names: &K) -> Result<Asked, Name>
+    ensures { result ≡ resolved call.now (K.names names.now) }
 {
-    if let Some(name) = first_unbound(row.args(), names) {
+    if let Some(name) = first_unbound(call.args(), names) {
         return Err(name);
     }
-    Ok(make_asked(row.verb(), row.args(), names))
+    Ok(make_asked(call.verb(), call.args(), names))
 }

@@ -8,7 +8,7 @@ ghost use Rattle.call_text.specs.Script.{said_of, script_text};
 
 use crate::phases::{Line, Phase, Script};
 use base::NoMemory;
-use spoken_calls::put_row;
+use spoken_calls::put_spoken;
 use std::alloc::{AllocError, Global};
 use text_words::put_name;
 
@@ -23,7 +23,7 @@ fn put_line(out: &mut Vec<u8>, line: &Line) -> Result<(), AllocError>
     }
     put_name(out, &line.worker)?;
     out.extend_from_slice(b": ")?;
-    put_row(out, &line.call)?;
+    put_spoken(out, &line.call)?;
     out.push(b'\n')?;
     Ok(())
 }

@@ -38,6 +38,12 @@ module _ {T : Type 0} (size root : ℕ) (r : List Lists) (names : List ℕ) (a :
       let same = ids_are r names a.ids a.slots kept.directory.beside in
       record { place = place; within = omega (arith, e.within, ap length same); id_is = ap (λ (xs : List ℕ). get_or xs place 0) same ∙ e.id_is; slot_is = e.slot_is }
 
+  -- and back
+  pub slot_entry : (id slot : ℕ) (h : HasSlot view id slot) → IsEntry a h.place id slot
+  slot_entry id slot h =
+      let same = ids_are r names a.ids a.slots kept.directory.beside in
+      record { within = omega (arith, h.within, ap length same); id_is = ap (λ (xs : List ℕ). get_or xs h.place 0) (sym same) ∙ h.id_is; slot_is = h.slot_is }
+
   -- and none
   pub absent_id : (id : ℕ) → IsAbsent a id → has (ids_in (lists_of r names a.ids a.slots)) id ≡ false
   absent_id id none = never (has (ids_in (lists_of r names a.ids a.slots)) id) (λ h.

@@ -9,7 +9,7 @@ ghost use Rattle.object_arena.specs.Objects.{binary_digits};
 ghost use Rattle.base.specs.Live.{has, links};
 
 use crate::cells::{add_link, cut_link, find_link, spare_rings};
-use crate::visitor::Visitor;
+use crate::visitor::{Located, Visitor};
 use crate::windows::fill_window;
 use base::{Meter, NoMemory, ObjectId, Slot};
 use entry_lists::Rings;
@@ -210,6 +210,17 @@ impl<T: Drop> Containers<T> {
             },
             None => false,
         }
+    }
+
+    /// Whether a container lists an object, where both were found: no id is looked up.
+    pub fn is_linked(&self, container: Located, object: Located, meter: &mut Meter) -> bool
+        requires container { HasSlot self.now container.id container.slot.0 }
+        requires object { HasSlot self.now object.id object.slot.0 }
+        ensures value { result ≡ links self.now.lists container.id object.id }
+        ensures scans { meter.new.scans ≡ meter.old.scans }
+    {
+        let (d, o) = (container.slot.0, object.slot.0);
+        find_link(&self.rings, self.size, d, o, meter).is_some()
     }
 
     /// Adds an object with its first link, which stands at the end of a container's list, under an id above all others,

@@ -1,4 +1,4 @@
--- Calls whose rows name nothing are read as they were written.
+-- Calls that name nothing are read as they were written.
 use Rattle.std.proofs.Common.{◌≡◌, ℕ, ◌+◌, List, [], ◌∷◌, ◌++◌, length, map, Option, Some, None, Result, Ok, Err, refl, ap, ap₂, ◌∙◌, sym, subst, arith, append_assoc, length-append}
 use Rattle.std.specs.Prelude.{slice_get}
 use Rattle.label_lattice.specs.declared.pairings.Pair.{Pair}
@@ -18,8 +18,8 @@ use Rattle.spoken_calls.specs.declared.args.Arg.{Arg}
 use Rattle.spoken_calls.specs.declared.args.Arg.TheVariants as args
 use Rattle.spoken_calls.specs.Arg.{kind_of}
 use Rattle.spoken_calls.specs.Verb.{kinds_of}
-use Rattle.spoken_calls.specs.Row.{AreArgs, Spoken, IsRow, row_text}
-use Rattle.spoken_calls.proofs.RowLemmas.{row_is_one}
+use Rattle.spoken_calls.specs.Spoken.{AreArgs, Spoken, IsSpoken, spoken_text}
+use Rattle.spoken_calls.proofs.SpokenLemmas.{spoken_is_one}
 use Rattle.call_text.specs.declared.asking.Asked.{Asked}
 use Rattle.call_text.specs.declared.asking.Asked.TheVariants.{Write, Read}
 use Rattle.call_text.specs.Place.{pair_of, raw_of, category_of, object_in, label_in, number_in, wide_in, signed_in, data_in, types_in, rights_in, object_at, label_at, number_at, wide_at, signed_at, data_at, types_at, rights_at}
@@ -104,7 +104,7 @@ rebuilt_from (k ∷ ks) before (x ∷ xs) i at are none =
     let rest : rebuilt ks (i + 1) (before ++ x ∷ xs) ≡ xs = ap (λ (ys : List Arg). rebuilt ks (i + 1) ys) whole ∙ rebuilt_from ks (before ++ x ∷ []) xs (i + 1) (omega (arith, at, length-append before (x ∷ []))) are.1 n.1 in
     ap₂ (λ (y : Arg) (ys : List Arg). y ∷ ys) first rest
 
--- what is asked is spoken as the row of these arguments
+-- what is asked is spoken with these arguments
 Sound : Verb → List Arg → Asked → Type 0
 Sound v xs (Write c) = let r : Spoken = record { verb = v; args = rebuilt (kinds_of v) 0 xs } in spoken_of c ≡ r
 Sound v xs (Read q) = Unit {0}
@@ -154,14 +154,14 @@ answered : (o : Option (List ℕ)) (a : Asked) (c : Call) → or_unbound o a ≡
 answered None a c e = (refl, cc)
 answered (Some n) a c e = cc
 
--- a row that asks a write call is its row
-row_again : (row : Spoken) (c : Call) → IsRow row → resolved row [] ≡ Ok (Write c) → spoken_of c ≡ row
-row_again row c is e =
-    let h = answered (first_unbound row.args []) (asked_of row.verb row.args []) c e in
-    let built = rebuilt_from (kinds_of row.verb) [] row.args 0 refl is h.0 in
-    sound_write row.verb row.args _ c h.1 (sound row.verb row.args) ∙ ap (λ (xs : List Arg). let r : Spoken = record { verb = row.verb; args = xs } in r) built
+-- what asks a write call spells it
+spoken_again : (said : Spoken) (c : Call) → IsSpoken said → resolved said [] ≡ Ok (Write c) → spoken_of c ≡ said
+spoken_again said c is e =
+    let h = answered (first_unbound said.args []) (asked_of said.verb said.args []) c e in
+    let built = rebuilt_from (kinds_of said.verb) [] said.args 0 refl is h.0 in
+    sound_write said.verb said.args _ c h.1 (sound said.verb said.args) ∙ ap (λ (xs : List Arg). let r : Spoken = record { verb = said.verb; args = xs } in r) built
 
--- the row of a write call asks it
+-- what spells a write call asks it
 resolves : (c : Call) → resolved (spoken_of c) [] ≡ Ok (Write c)
 resolves calls.CatCreate = refl
 resolves (calls.SelfSetLabel l) = rw (no_pair l.pairs, label_again l) refl
@@ -188,24 +188,24 @@ resolves (calls.GateEnter e l c v) = rw (no_pair l.pairs, no_pair c.pairs, no_pa
 resolves (calls.DevSend e b) = refl
 resolves (calls.DevRecv e) = refl
 
--- what is read of a row that the text spells
-pub call_reads : (text : List ℕ) (row : Spoken) → IsRow row → text ≡ row_text row → Reads call_text IsCall text (write_of (resolved row []))
-call_reads text row is e = go (resolved row []) refl
+-- what is read of a spoken call that the text spells
+pub call_reads : (text : List ℕ) (said : Spoken) → IsSpoken said → text ≡ spoken_text said → Reads call_text IsCall text (write_of (resolved said []))
+call_reads text said is e = go (resolved said []) refl
   where
-    not_this : (v : Call) → IsCall v → text ≡ call_text v → resolved row [] ≡ Ok (Write v)
+    not_this : (v : Call) → IsCall v → text ≡ call_text v → resolved said [] ≡ Ok (Write v)
     not_this v iv t =
-        let same : row ≡ spoken_of v = row_is_one row (spoken_of v) is iv (sym e ∙ t) in
+        let same : said ≡ spoken_of v = spoken_is_one said (spoken_of v) is iv (sym e ∙ t) in
         ap (λ (r : Spoken). resolved r []) same ∙ resolves v
 
-    go : (r : Result Asked (List ℕ)) → resolved row [] ≡ r → Reads call_text IsCall text (write_of r)
+    go : (r : Result Asked (List ℕ)) → resolved said [] ≡ r → Reads call_text IsCall text (write_of r)
     go (Ok (Write c)) h =
-        let same = row_again row c is h in
-        (subst IsRow (sym same) is, e ∙ ap row_text (sym same))
+        let same = spoken_again said c is h in
+        (subst IsSpoken (sym same) is, e ∙ ap spoken_text (sym same))
     go (Ok (Read q)) h = λ v iv t. let k = not_this v iv t in absurd cc
     go (Err n) h = λ v iv t. let k = not_this v iv t in absurd cc
 
 -- no two calls have one spelling
 pub call_is_one : (a b : Call) → IsCall a → IsCall b → call_text a ≡ call_text b → a ≡ b
 call_is_one a b ia ib e =
-    let same : spoken_of a ≡ spoken_of b = row_is_one (spoken_of a) (spoken_of b) ia ib e in
+    let same : spoken_of a ≡ spoken_of b = spoken_is_one (spoken_of a) (spoken_of b) ia ib e in
     let k : Ok (Write a) ≡ Ok (Write b) = sym (resolves a) ∙ ap (λ (r : Spoken). resolved r []) same ∙ resolves b in cc

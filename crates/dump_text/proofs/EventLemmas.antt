@@ -12,16 +12,17 @@ use Rattle.kernel_rules.specs.declared.calls.Call.{Call}
 use Rattle.text_words.specs.Lacks.{lacks, AllLack}
 use Rattle.text_words.specs.Label.{LabelValue, label_text, IsLabel, pair_text, IsPair}
 use Rattle.text_words.specs.LevelWord.{level_text}
-use Rattle.text_words.specs.RightsWord.{rights_text, AreRights}
+use Rattle.text_words.specs.RightsWord.{rights_text}
 use Rattle.text_words.specs.SignedWord.{signed_text, IsSigned}
 use Rattle.text_words.specs.Name.{is_name_byte}
 use Rattle.text_words.specs.DataWord.{data_text, IsData}
-use Rattle.text_words.specs.TypeWord.{types_text, AreKinds}
+use Rattle.text_words.specs.TypeWord.{types_text}
 use Rattle.text_words.specs.declared.references.Reference.{Reference}
 use Rattle.text_words.specs.declared.spoken_labels.SpokenPair.{SpokenPair}
 use Rattle.text_words.specs.Reference.{reference_text, IsReference}
 use Rattle.text_words.proofs.Split.{cond_false}
-use Rattle.text_words.proofs.OneLemmas.{below, below_at, first_part}
+use Rattle.text_words.proofs.SignedLemmas.{rights_lack}
+use Rattle.text_words.proofs.OneLemmas.{of_each_set, at_set, first_part}
 use Rattle.text_words.proofs.LabelLemmas.{before_last}
 use Rattle.text_words.proofs.LackLemmas.{lacks-append, decimal_lacks, decimal_lacks_byte, data_lacks, join_lacks, reference_lacks}
 use Rattle.spoken_calls.specs.declared.verbs.Verb.{Verb}
@@ -31,8 +32,8 @@ use Rattle.spoken_calls.specs.declared.args.Arg.{Arg}
 use Rattle.spoken_calls.specs.declared.args.Arg.TheVariants as args
 use Rattle.spoken_calls.specs.Verb.{name_of, kinds_of}
 use Rattle.spoken_calls.specs.Arg.{arg_text, IsArg}
-use Rattle.spoken_calls.specs.Row.{AreArgs, Spoken, IsRow, row_text}
-use Rattle.spoken_calls.proofs.RowLemmas.{row_lacks_end}
+use Rattle.spoken_calls.specs.Spoken.{AreArgs, Spoken, IsSpoken, spoken_text}
+use Rattle.spoken_calls.proofs.SpokenLemmas.{spoken_lacks_end}
 use Rattle.call_text.proofs.PartLemmas.{not_in}
 use Rattle.kernel_rules.specs.declared.events.Event.{Event}
 use Rattle.dump_text.specs.Call.{call_text, IsCall, spoken_of}
@@ -53,8 +54,8 @@ record IsApart (c : ℕ) : Type 0 where
   names : is_name_byte c ≡ false
   bytes : (d : List ℕ) → IsData d → lacks c (data_text d) ≡ true
   levels : (l : Level) → lacks c (level_text l) ≡ true
-  types : (s : TypeSet) → AreKinds s → lacks c (types_text s) ≡ true
-  rights : (r : Rights) → AreRights r → lacks c (rights_text r) ≡ true
+  types : (s : TypeSet) → lacks c (types_text s) ≡ true
+  rights : (r : Rights) → lacks c (rights_text r) ≡ true
 
 reference_lacks_it : (c : ℕ) → IsApart c → (r : Reference) → IsReference r → lacks c (reference_text r) ≡ true
 reference_lacks_it c apart r is = reference_lacks c r apart.away apart.hash apart.names is
@@ -85,8 +86,8 @@ arg_lacks_it c apart k (args.Wide n) is = decimal_lacks_byte c n apart.away is.f
 arg_lacks_it c apart k (args.Signed z) is = signed_lacks_it c apart z is.fits
 arg_lacks_it c apart k (args.Label l) is = label_lacks_it c apart l is.fits
 arg_lacks_it c apart k (args.Data d) is = apart.bytes d is.fits
-arg_lacks_it c apart k (args.Types s) is = apart.types s is.fits
-arg_lacks_it c apart k (args.Rights r) is = apart.rights r is.fits
+arg_lacks_it c apart k (args.Types s) is = apart.types s
+arg_lacks_it c apart k (args.Rights r) is = apart.rights r
 
 args_lack_it : (c : ℕ) → IsApart c → (ks : List ArgKind) (xs : List Arg) → AreArgs ks xs → AllLack c (map arg_text xs)
 args_lack_it c apart [] [] h = tt
@@ -94,8 +95,8 @@ args_lack_it c apart [] (a ∷ xs) h = absurd h
 args_lack_it c apart (k ∷ ks) [] h = absurd h
 args_lack_it c apart (k ∷ ks) (a ∷ xs) h = (arg_lacks_it c apart k a h.0, args_lack_it c apart ks xs h.1)
 
-row_lacks_it : (c : ℕ) → IsApart c → (32 ≡ c → ⊥) → (r : Spoken) → IsRow r → lacks c (name_of r.verb) ≡ true → lacks c (row_text r) ≡ true
-row_lacks_it c apart space r is name = join_lacks c 32 (name_of r.verb) (map arg_text r.args) space (name, args_lack_it c apart (kinds_of r.verb) r.args is)
+spoken_lacks_it : (c : ℕ) → IsApart c → (32 ≡ c → ⊥) → (r : Spoken) → IsSpoken r → lacks c (name_of r.verb) ≡ true → lacks c (spoken_text r) ≡ true
+spoken_lacks_it c apart space r is name = join_lacks c 32 (name_of r.verb) (map arg_text r.args) space (name, args_lack_it c apart (kinds_of r.verb) r.args is)
 
 -- an equals sign
 levels_lack_sign : (l : Level) → lacks 61 (level_text l) ≡ true
@@ -105,13 +106,9 @@ levels_lack_sign L1 = refl
 levels_lack_sign L2 = refl
 levels_lack_sign L3 = refl
 
-types_lack_sign : (s : TypeSet) → AreKinds s → lacks 61 (types_text s) ≡ true
-unfolding below
-types_lack_sign s is = below_at 64 (λ k. lacks 61 (types_text (record { 0 = k }))) s.0 refl is
-
-rights_lack_sign : (r : Rights) → AreRights r → lacks 61 (rights_text r) ≡ true
-unfolding below
-rights_lack_sign r is = below_at 4 (λ k. lacks 61 (rights_text (record { 0 = k }))) r.0 refl is
+types_lack_sign : (s : TypeSet) → lacks 61 (types_text s) ≡ true
+unfolding of_each_set
+types_lack_sign s = at_set (λ x. lacks 61 (types_text x)) s refl
 
 sign_apart : IsApart 61
 sign_apart = record {
@@ -126,7 +123,7 @@ sign_apart = record {
   bytes = λ d is. data_lacks 61 d refl is;
   levels = levels_lack_sign;
   types = types_lack_sign;
-  rights = rights_lack_sign;
+  rights = rights_lack 61 refl;
 }
 
 name_lacks_sign : (v : Verb) → lacks 61 (name_of v) ≡ true
@@ -166,7 +163,7 @@ name_lacks_sign verbs.AsGet = refl
 name_lacks_sign verbs.Load = refl
 
 call_lacks_sign : (c : Call) → IsCall c → lacks 61 (call_text c) ≡ true
-call_lacks_sign c is = row_lacks_it 61 sign_apart (λ e. omega arith) (spoken_of c) is (name_lacks_sign (spoken_of c).verb)
+call_lacks_sign c is = spoken_lacks_it 61 sign_apart (λ e. omega arith) (spoken_of c) is (name_lacks_sign (spoken_of c).verb)
 
 -- where the sign stands
 answer_shape : (call reply : List ℕ) → call ++ codes " => " ++ reply ≡ (call ++ 32 ∷ []) ++ 61 ∷ 62 ∷ 32 ∷ reply
@@ -220,7 +217,7 @@ pub event_lacks_end : (e : Event) → IsEvent e → lacks 10 (event_text e) ≡ 
 event_lacks_end e is =
     lacks-append 10 (decimal e.thread) (32 ∷ (decimal e.number ++ 32 ∷ (call_text e.call ++ codes " => " ++ report_text e.reply))) (number_lacks_end e.thread is.thread)
     (lacks-append 10 (decimal e.number) (32 ∷ (call_text e.call ++ codes " => " ++ report_text e.reply)) (number_lacks_end e.number is.number)
-    (lacks-append 10 (call_text e.call ++ codes " => ") (report_text e.reply) (lacks-append 10 (call_text e.call) (codes " => ") (row_lacks_end (spoken_of e.call) is.call) refl) (report_lacks_end e.reply is.reply)))
+    (lacks-append 10 (call_text e.call ++ codes " => ") (report_text e.reply) (lacks-append 10 (call_text e.call) (codes " => ") (spoken_lacks_end (spoken_of e.call) is.call) refl) (report_lacks_end e.reply is.reply)))
   where
     number_lacks_end : (n : ℕ) → n < 2 ^ 64 → lacks 10 (decimal n) ≡ true
     number_lacks_end n lt = decimal_lacks 10 n (lit< tt) lt

@@ -92,11 +92,11 @@ live_fits id lt = ((record { kind_is = refl; fits = lt }, tt), tt)
 tables_fit : (limits : Limits) (events : List Event) → FitsWords (whole_dump limits events) → AllByRecursion IsLine (table_lines (placed (scratch (state_of limits events))))
 tables_fit limits events fits =
     let t = placed (scratch (state_of limits events)) in
-    all_append IsLine (map lines.Live t.live) _ (all_map lines.Live _ live_fits t.live fits.live)
-    (all_append IsLine (map lines.Use t.uses) _ (all_map lines.Use _ (λ u fits. (fits, tt)) t.uses fits.uses)
-    (all_append IsLine (map lines.Map t.maps) _ (all_map lines.Map _ (λ x fits. (fits, tt)) t.maps fits.maps)
-    (all_append IsLine (map lines.Label t.labels) (map lines.Order t.orders) (labels_of_state (state_of limits events) fits.labels fits.few)
-    (orders_of_state (state_of limits events) fits.few))))
+    all_append IsLine (map lines.Live t.live) _ (all_map lines.Live _ live_fits t.live fits.tables.live)
+    (all_append IsLine (map lines.Use t.uses) _ (all_map lines.Use _ (λ u fits. (fits, tt)) t.uses fits.tables.uses)
+    (all_append IsLine (map lines.Map t.maps) _ (all_map lines.Map _ (λ x fits. (fits, tt)) t.maps fits.tables.maps)
+    (all_append IsLine (map lines.Label t.labels) (map lines.Order t.orders) (labels_of_state (state_of limits events) fits.tables.labels fits.tables.few)
+    (orders_of_state (state_of limits events) fits.tables.few))))
 
 -- all lines
 lines_fit : (limits : Limits) (events : List Event) → IsBootable limits → IsLegal limits events → FitsWords (whole_dump limits events) → AllByRecursion IsLine (lines_of (whole_dump limits events))

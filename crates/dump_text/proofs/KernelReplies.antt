@@ -3,7 +3,7 @@ use Rattle.std.proofs.Common.{◌≡◌, ℕ, Bool, cond, true, false, nat_le, L
 use Rattle.std.specs.List.{list_all}
 use Rattle.std.proofs.lemmas.Bool.{and_parts, leb-true}
 use Rattle.base.specs.declared.refusals.Refusal.{Refusal}
-use Rattle.base.specs.Refusal.{row_of}
+use Rattle.base.specs.Refusal.{told_as}
 use Rattle.kernel_rules.specs.State.{State, gate_at, packets_at}
 use Rattle.kernel_rules.specs.Rows.{Row, lesser_of, refusal_of, halted}
 use Rattle.kernel_rules.specs.Table.{row, refused}
@@ -18,7 +18,7 @@ use Rattle.dump_text.specs.Fits.{FitsReply}
 
 -- each condition's refusal is a kernel's
 abbrev are_kernels : Row → Bool
-are_kernels cs = list_all (λ c. nat_le (row_of c.0).number 25) cs
+are_kernels cs = list_all (λ c. nat_le (told_as c.0).number 25) cs
 
 row_kernels : (s : State) (t : ℕ) (c : Call) → are_kernels (halted s t ++ row s t c) ≡ true
 row_kernels s t calls.CatCreate = refl
@@ -57,7 +57,7 @@ pick_kernels false r q ir iq = iq
 
 lesser_kernels : (r : Refusal) (o : Option Refusal) → IsKernels r → IsKernelsOrNone o → IsKernels (lesser_of r o)
 lesser_kernels r None ir io = ir
-lesser_kernels r (Some q) ir io = pick_kernels (nat_le (row_of r).number (row_of q).number) r q ir io
+lesser_kernels r (Some q) ir io = pick_kernels (nat_le (told_as r).number (told_as q).number) r q ir io
 
 held_kernels : (b : Bool) (r : Refusal) (o : Option Refusal) → IsKernels r → IsKernelsOrNone o → IsKernelsOrNone (cond b (Some (lesser_of r o)) o)
 held_kernels true r o ir io = lesser_kernels r o ir io
@@ -66,8 +66,8 @@ held_kernels false r o ir io = io
 refusal_kernels : (cs : Row) → are_kernels cs ≡ true → IsKernelsOrNone (refusal_of cs)
 refusal_kernels [] all = tt
 refusal_kernels (c ∷ cs) all =
-    let p = and_parts (nat_le (row_of c.0).number 25) (are_kernels cs) all in
-    held_kernels c.1 c.0 (refusal_of cs) (leb-true (row_of c.0).number 25 p.0) (refusal_kernels cs p.1)
+    let p = and_parts (nat_le (told_as c.0).number 25) (are_kernels cs) all in
+    held_kernels c.1 c.0 (refusal_of cs) (leb-true (told_as c.0).number 25 p.0) (refusal_kernels cs p.1)
 
 refused_kernels : (s : State) (t : ℕ) (c : Call) → IsKernelsOrNone (refused s t c)
 unfolding refused

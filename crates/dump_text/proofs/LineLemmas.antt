@@ -8,8 +8,8 @@ use Rattle.text_words.specs.Lacks.{lacks}
 use Rattle.text_words.specs.Label.{LabelValue}
 use Rattle.text_words.proofs.LackLemmas.{lacks-append}
 use Rattle.spoken_calls.specs.declared.args.ArgKind.{ArgKind}
-use Rattle.spoken_calls.specs.Row.{AreArgs}
-use Rattle.spoken_calls.proofs.RowLemmas.{arguments_are_one, arguments_lack_end}
+use Rattle.spoken_calls.specs.Spoken.{AreArgs}
+use Rattle.spoken_calls.proofs.SpokenLemmas.{arguments_are_one, arguments_lack_end}
 use Rattle.call_text.specs.Place.{raw_of}
 use Rattle.call_text.proofs.TextLemmas.{IsGrammar}
 use Rattle.kernel_rules.specs.declared.tables.Used.{Used}

@@ -4,8 +4,8 @@ use Rattle.std.specs.Global.{Vec}
 use Rattle.text_words.specs.Reading.{Reads}
 use Rattle.spoken_calls.specs.declared.args.ArgKind.{ArgKind}
 use Rattle.spoken_calls.specs.declared.args.Arg.{Arg}
-use Rattle.spoken_calls.specs.Row.{AreArgs, ReadsArguments, arguments_text}
-use Rattle.spoken_calls.proofs.RowLemmas.{arguments_are_one}
+use Rattle.spoken_calls.specs.Spoken.{AreArgs, ReadsArguments, arguments_text}
+use Rattle.spoken_calls.proofs.SpokenLemmas.{arguments_are_one}
 use Rattle.dump_text.specs.declared.words.Word.{Word}
 use Rattle.dump_text.specs.Word.{args_of, words_text}
 use Rattle.dump_text.specs.Making.{Makes}

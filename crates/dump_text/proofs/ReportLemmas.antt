@@ -4,7 +4,7 @@ use Rattle.std.specs.Prelude.{codes}
 use Rattle.std.proofs.lemmas.List.{append-nil}
 use Rattle.base.specs.declared.refusals.Refusal.{Refusal}
 use Rattle.base.specs.declared.refusals.Refusal.TheVariants as refusals
-use Rattle.base.specs.Refusal.{row_of}
+use Rattle.base.specs.Refusal.{told_as}
 use Rattle.kernel_rules.specs.declared.replies.Reply.{Reply}
 use Rattle.kernel_rules.specs.declared.replies.Reply.TheVariants as replies
 use Rattle.text_words.specs.Lacks.{lacks}
@@ -28,7 +28,7 @@ number_reads b text digits None is h = λ n lt e. h n (omega arith) (cancel b di
 pub number_lacks : (n : ℕ) → n < 2 ^ 64 → lacks 32 (decimal n) ≡ true
 number_lacks n lt = decimal_lacks 32 n (lit< tt) lt
 
-small_refusal : (r : Refusal) → (row_of r).number < 2 ^ 64
+small_refusal : (r : Refusal) → (told_as r).number < 2 ^ 64
 small_refusal refusals.Halted = lit< tt
 small_refusal refusals.NoAccess = lit< tt
 small_refusal refusals.NoEntry = lit< tt
@@ -70,11 +70,11 @@ small_refusal refusals.NotFormat1 = lit< tt
 small_refusal refusals.NotClean = lit< tt
 
 -- a refusal's number ends before the space
-pub refusal_first : (text number name : List ℕ) (r : Refusal) → text ≡ number ++ 32 ∷ name → lacks 32 number ≡ true → text ≡ refusal_text r → (number ≡ decimal (row_of r).number) × (name ≡ (row_of r).name)
-refusal_first text number name r is lack e = first_part 32 number (decimal (row_of r).number) name (row_of r).name lack (number_lacks (row_of r).number (small_refusal r)) (sym is ∙ e)
+pub refusal_first : (text number name : List ℕ) (r : Refusal) → text ≡ number ++ 32 ∷ name → lacks 32 number ≡ true → text ≡ refusal_text r → (number ≡ decimal (told_as r).number) × (name ≡ (told_as r).name)
+refusal_first text number name r is lack e = first_part 32 number (decimal (told_as r).number) name (told_as r).name lack (number_lacks (told_as r).number (small_refusal r)) (sym is ∙ e)
 
 pub refusal_none : (text : List ℕ) (r : Refusal) → lacks 32 text ≡ true → text ≡ refusal_text r → ⊥
-refusal_none text r lack e = not_in 32 (decimal (row_of r).number) (row_of r).name (subst (λ (x : List ℕ). lacks 32 x ≡ true) e lack)
+refusal_none text r lack e = not_in 32 (decimal (told_as r).number) (told_as r).name (subst (λ (x : List ℕ). lacks 32 x ≡ true) e lack)
 
 abbrev pub kernels : List Refusal
 kernels = refusals.Halted ∷ refusals.NoAccess ∷ refusals.NoEntry ∷ refusals.WrongType ∷ refusals.CannotObserve ∷ refusals.CannotModify ∷ refusals.BadLabel ∷ refusals.LabelRange ∷ refusals.ClearanceRange ∷ refusals.LabelFull ∷ refusals.AvoidType ∷ refusals.NoQuota ∷ refusals.FixedQuota ∷ refusals.NotFixed ∷ refusals.AlreadyLinked ∷ refusals.RootKept ∷ refusals.Immutable ∷ refusals.Bounds ∷ refusals.NotMapped ∷ refusals.RightsDenied ∷ refusals.Overlap ∷ refusals.GateDenied ∷ refusals.DeviceFull ∷ refusals.DeviceEmpty ∷ refusals.Spent ∷ []
@@ -151,7 +151,7 @@ report_none text ok cat id entered data' refused (replies.Mapping m) is e = absu
 report_none text ok cat id entered data' refused (replies.Refused r) is e = refused r is (e ∙ ap (λ (x : List ℕ). codes "refused " ++ x) (append-nil (refusal_text r)))
 
 -- a refusal by its number
-refusal_again : (r : Refusal) → IsKernels r → get_or kernels ((row_of r).number - 1) refusals.Halted ≡ r
+refusal_again : (r : Refusal) → IsKernels r → get_or kernels ((told_as r).number - 1) refusals.Halted ≡ r
 refusal_again refusals.Halted is = refl
 refusal_again refusals.NoAccess is = refl
 refusal_again refusals.NoEntry is = refl
@@ -194,11 +194,11 @@ refusal_again refusals.NotClean is = absurd (omega (arith, is))
 
 refusal_is_one : (a b : Refusal) → IsKernels a → IsKernels b → refusal_text a ≡ refusal_text b → a ≡ b
 refusal_is_one a b ia ib e =
-    let p = refusal_first (refusal_text a) (decimal (row_of a).number) (row_of a).name b refl (number_lacks (row_of a).number (small_refusal a)) e in
-    let n : (row_of a).number ≡ (row_of b).number = decimal_injective (row_of a).number (row_of b).number (small_refusal a) (small_refusal b) p.0 in
+    let p = refusal_first (refusal_text a) (decimal (told_as a).number) (told_as a).name b refl (number_lacks (told_as a).number (small_refusal a)) e in
+    let n : (told_as a).number ≡ (told_as b).number = decimal_injective (told_as a).number (told_as b).number (small_refusal a) (small_refusal b) p.0 in
     sym (refusal_again a ia) ∙ ap (λ (k : ℕ). get_or kernels (k - 1) refusals.Halted) n ∙ refusal_again b ib
 
-name_lacks_end : (r : Refusal) → lacks 10 (row_of r).name ≡ true
+name_lacks_end : (r : Refusal) → lacks 10 (told_as r).name ≡ true
 name_lacks_end refusals.Halted = refl
 name_lacks_end refusals.NoAccess = refl
 name_lacks_end refusals.NoEntry = refl
@@ -249,7 +249,7 @@ report_lacks_end (replies.Category c) is = lacks-append 10 (decimal c.0) [] (dec
 report_lacks_end (replies.Object o) is = lacks-append 10 (decimal o) [] (decimal_lacks 10 o (lit< tt) is) refl
 report_lacks_end (replies.Entered p q) is = lacks-append 10 (decimal p) (32 ∷ (decimal q ++ [])) (decimal_lacks 10 p (lit< tt) is.0) (lacks-append 10 (decimal q) [] (decimal_lacks 10 q (lit< tt) is.1) refl)
 report_lacks_end (replies.Bytes d) is = lacks-append 10 (data_text d) [] (data_lacks 10 d refl is) refl
-report_lacks_end (replies.Refused r) is = lacks-append 10 (refusal_text r) [] (lacks-append 10 (decimal (row_of r).number) (32 ∷ (row_of r).name) (decimal_lacks 10 (row_of r).number (lit< tt) (small_refusal r)) (name_lacks_end r)) refl
+report_lacks_end (replies.Refused r) is = lacks-append 10 (refusal_text r) [] (lacks-append 10 (decimal (told_as r).number) (32 ∷ (told_as r).name) (decimal_lacks 10 (told_as r).number (lit< tt) (small_refusal r)) (name_lacks_end r)) refl
 report_lacks_end (replies.Own l c v s p q) is = absurd is
 report_lacks_end (replies.Label l) is = absurd is
 report_lacks_end (replies.Quota a b c d) is = absurd is

@@ -1,17 +1,20 @@
 -- Labels whose categories are numbers.
-use Rattle.std.proofs.Common.{◌≡◌, ℕ, zero, suc, ◌<◌, List, [], ◌∷◌, ◌++◌, length, get_or, map, refl, ap, ◌∙◌, sym, arith, append_assoc}
-use Rattle.std.specs.List.{flat_map, join_with_byte}
-use Rattle.std.proofs.lemmas.List.{append-nil}
+use Rattle.std.proofs.Common.{◌≡◌, ℕ, zero, suc, ◌+◌, ◌<◌, List, [], ◌∷◌, ◌++◌, length, get_or, take, map, refl, ap, ◌∙◌, sym, arith, append_assoc, subst}
+use Rattle.std.specs.List.{flat_map, join_with_byte, AllByRecursion}
+use Rattle.std.proofs.lemmas.List.{append-nil, take_more}
 use Rattle.label_lattice.specs.declared.pairings.Pair.{Pair}
 use Rattle.text_words.specs.declared.references.Reference.TheVariants as references
 use Rattle.text_words.specs.declared.spoken_labels.SpokenPair.{SpokenPair}
-use Rattle.spoken_calls.specs.Arg.{arg_text}
+use Rattle.spoken_calls.specs.Arg.{arg_text, kind_of, FitsArg}
+use Rattle.spoken_calls.specs.declared.args.ArgKind.{ArgKind}
 use Rattle.spoken_calls.specs.declared.verbs.Verb.{Verb}
-use Rattle.spoken_calls.specs.Row.{row_text}
-use Rattle.spoken_calls.specs.Verb.{name_of}
+use Rattle.spoken_calls.specs.Spoken.{AreArgs, IsSpoken, spoken_text}
+use Rattle.spoken_calls.specs.Verb.{name_of, kinds_of}
 use Rattle.dump_text.specs.declared.words.Word.{Word}
 use Rattle.dump_text.specs.Word.{spoken_pair, arg_of, args_of}
-use Rattle.dump_text.specs.Call.{row_of}
+use Rattle.text_words.specs.Label.{IsPair}
+use Rattle.dump_text.specs.Call.{spoken_as}
+use Rattle.dump_text.proofs.Places.{all_append}
 
 -- no category among them is a name
 pub no_name : (ps : List SpokenPair) (i : ℕ) (p : SpokenPair) (name : List ℕ) (qs : List Pair) → i < length ps → p ≡ get_or ps i p → p.category ≡ references.Name name → ps ≡ map spoken_pair qs → ⊥
@@ -40,13 +43,36 @@ further-append (w ∷ ws) vs =
     append_assoc (32 ∷ arg_text (arg_of w)) (flat_map (λ w. 32 ∷ arg_text (arg_of w)) ws) (flat_map (λ w. 32 ∷ arg_text (arg_of w)) vs)
     ∙ ap (λ (rest : List ℕ). (32 ∷ arg_text (arg_of w)) ++ rest) (further-append ws vs)
 
-row_further : (verb : Verb) (ws vs : List Word) → row_text (row_of verb ws) ++ flat_map (λ w. 32 ∷ arg_text (arg_of w)) vs ≡ row_text (row_of verb (ws ++ vs))
-row_further verb ws vs =
+spoken_further : (verb : Verb) (ws vs : List Word) → spoken_text (spoken_as verb ws) ++ flat_map (λ w. 32 ∷ arg_text (arg_of w)) vs ≡ spoken_text (spoken_as verb (ws ++ vs))
+spoken_further verb ws vs =
     ap (λ (xs : List ℕ). xs ++ flat_map (λ w. 32 ∷ arg_text (arg_of w)) vs) (sym (words_after (name_of verb) ws))
     ∙ append_assoc (name_of verb) (flat_map (λ w. 32 ∷ arg_text (arg_of w)) ws) (flat_map (λ w. 32 ∷ arg_text (arg_of w)) vs)
     ∙ ap (λ (xs : List ℕ). name_of verb ++ xs) (further-append ws vs)
     ∙ words_after (name_of verb) (ws ++ vs)
 
--- a row, and then further words
-pub put_more : (verb : Verb) (ws vs : List Word) (out one two : List ℕ) → one ≡ out ++ row_text (row_of verb ws) → two ≡ one ++ flat_map (λ w. 32 ∷ arg_text (arg_of w)) vs → two ≡ out ++ row_text (row_of verb (ws ++ vs))
-put_more verb ws vs out one two p q = put_two out one two (row_text (row_of verb ws)) (flat_map (λ w. 32 ∷ arg_text (arg_of w)) vs) p q ∙ ap (λ (xs : List ℕ). out ++ xs) (row_further verb ws vs)
+-- a spoken call, and then further words
+pub put_more : (verb : Verb) (ws vs : List Word) (out one two : List ℕ) → one ≡ out ++ spoken_text (spoken_as verb ws) → two ≡ one ++ flat_map (λ w. 32 ∷ arg_text (arg_of w)) vs → two ≡ out ++ spoken_text (spoken_as verb (ws ++ vs))
+put_more verb ws vs out one two p q = put_two out one two (spoken_text (spoken_as verb ws)) (flat_map (λ w. 32 ∷ arg_text (arg_of w)) vs) p q ∙ ap (λ (xs : List ℕ). out ++ xs) (spoken_further verb ws vs)
+
+-- words of these kinds, each in its range, are arguments of these kinds
+words_fit : (ks : List ArgKind) (ws : List Word) → map (λ w. kind_of (arg_of w)) ws ≡ ks → AllByRecursion (λ w. FitsArg (arg_of w)) ws → AreArgs ks (args_of ws)
+words_fit [] [] e all = tt
+words_fit [] (w ∷ ws) e all = absurd cc
+words_fit (k ∷ ks) [] e all = absurd cc
+words_fit (k ∷ ks) (w ∷ ws) e all =
+    let first : kind_of (arg_of w) ≡ k = cc in
+    let more : map (λ x. kind_of (arg_of x)) ws ≡ ks = cc in
+    (record { kind_is = first; fits = all.0 }, words_fit ks ws more all.1)
+
+-- a verb with words of its kinds, each in its range
+pub spoken_fits : (verb : Verb) (ws : List Word) → map (λ w. kind_of (arg_of w)) ws ≡ kinds_of verb → AllByRecursion (λ w. FitsArg (arg_of w)) ws → IsSpoken (spoken_as verb ws)
+spoken_fits verb ws e all = words_fit (kinds_of verb) ws e all
+
+-- each up to one more
+pub all_more : {V : Type 0} (P : V → Type 0) (xs : List V) (i : ℕ) (d : V) → i < length xs → AllByRecursion P (take i xs) → P (get_or xs i d) → AllByRecursion P (take (i + 1) xs)
+all_more {V} P xs i d lt all one = subst (λ (ys : List V). AllByRecursion P ys) (sym (take_more xs i d lt)) (all_append P (take i xs) (get_or xs i d ∷ []) all (one, tt))
+
+-- pairs whose categories are numbers have a spelling
+pub pairs_fit : (ps : List Pair) → AllByRecursion (λ p. IsPair (spoken_pair p)) ps → AllByRecursion IsPair (map spoken_pair ps)
+pairs_fit [] all = tt
+pairs_fit (p ∷ ps) all = (all.0, pairs_fit ps all.1)

@@ -9,7 +9,9 @@ use Rattle.text_words.specs.Label.{IsLabel}
 use Rattle.dump_text.specs.Word.{spoken_label}
 use Rattle.dump_text.specs.Call.{IsCall}
 use Rattle.dump_text.specs.Line.{AreWords, use_kinds, use_words, map_kinds, map_words}
-use Rattle.dump_text.specs.Lists.{DumpLists}
+use Rattle.dump_text.specs.Lists.{TableLists, DumpLists}
+use Rattle.dump_text.specs.declared.lines.Line.{Line}
+use Rattle.dump_text.specs.declared.lines.Line.TheVariants as lines
 
 -- the numbers of a reply are of 64 bits, and its bytes are data
 abbrev pub FitsReply : Reply → Type 0
@@ -26,13 +28,25 @@ pub record FitsEvent (e : Event) : Type 0 where
   pub call : IsCall e.call
   pub reply : FitsReply e.reply
 
--- Numbers are of 32 or 64 bits, data has at most 64 bytes and a label at most 24 pairs, a set has
--- no bit but those with letters, and a list has fewer than 2^64 orders. Nothing is asked of the
--- limits, of the places of labels, or of what an order says.
+-- the values of a line of events or tables fit their words. Nothing is asked of the limits, of the
+-- places of labels, or of what an order says
+abbrev pub FitsLine : Line → Type 0
+FitsLine (lines.Event e) = FitsEvent e
+FitsLine (lines.Live id) = id < 2 ^ 64
+FitsLine (lines.Use u) = AreWords use_kinds (use_words u)
+FitsLine (lines.Map s) = AreWords map_kinds (map_words s)
+FitsLine (lines.Label s) = IsLabel (spoken_label s.label)
+FitsLine _ = Unit {0}
+
+-- numbers are of 32 or 64 bits, a label has at most 24 pairs, and there are fewer than 2^64 orders
+pub record FitTables (t : TableLists) : Type 0 where
+  pub live : AllByRecursion (λ id. FitsLine (lines.Live id)) t.live
+  pub uses : AllByRecursion (λ u. FitsLine (lines.Use u)) t.uses
+  pub maps : AllByRecursion (λ s. FitsLine (lines.Map s)) t.maps
+  pub labels : AllByRecursion (λ s. FitsLine (lines.Label s)) t.labels
+  pub few : length t.orders < 2 ^ 64
+
+-- the events and the tables fit their words
 pub record FitsWords (d : DumpLists) : Type 0 where
-  pub events : AllByRecursion FitsEvent d.events
-  pub live : AllByRecursion (λ id. id < 2 ^ 64) d.tables.live
-  pub uses : AllByRecursion (λ u. AreWords use_kinds (use_words u)) d.tables.uses
-  pub maps : AllByRecursion (λ s. AreWords map_kinds (map_words s)) d.tables.maps
-  pub labels : AllByRecursion (λ s. IsLabel (spoken_label s.label)) d.tables.labels
-  pub few : length d.tables.orders < 2 ^ 64
+  pub events : AllByRecursion (λ e. FitsLine (lines.Event e)) d.events
+  pub tables : FitTables d.tables

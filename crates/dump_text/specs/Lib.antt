@@ -1,7 +1,6 @@
 pub mod Word
 pub mod Making
 pub mod Call
-pub mod Group
 pub mod Report
 pub mod Event
 pub mod Lists

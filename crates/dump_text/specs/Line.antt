@@ -6,7 +6,7 @@ use Rattle.base.specs.declared.ranges.Limits.{Limits}
 use Rattle.base.specs.Limits.{in_range}
 use Rattle.spoken_calls.specs.declared.args.ArgKind.{ArgKind}
 use Rattle.spoken_calls.specs.declared.args.ArgKind.TheVariants as kinds
-use Rattle.spoken_calls.specs.Row.{AreArgs}
+use Rattle.spoken_calls.specs.Spoken.{AreArgs}
 use Rattle.dump_text.specs.declared.words.Word.{Word}
 use Rattle.dump_text.specs.declared.words.Word.TheVariants as words
 use Rattle.kernel_rules.specs.declared.tables.Used.{Used}

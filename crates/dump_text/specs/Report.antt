@@ -1,7 +1,7 @@
 -- The replies of events: those of write calls.
 use Rattle.std.specs.Prelude.{ℕ, ◌<◌, ◌≤◌, ◌^◌, List, [], ◌∷◌, ◌++◌, codes, decimal}
 use Rattle.base.specs.declared.refusals.Refusal.{Refusal}
-use Rattle.base.specs.Refusal.{row_of}
+use Rattle.base.specs.Refusal.{told_as}
 use Rattle.kernel_rules.specs.declared.replies.Reply.{Reply}
 use Rattle.kernel_rules.specs.declared.replies.Reply.TheVariants as replies
 use Rattle.text_words.specs.DataWord.{IsData}
@@ -13,7 +13,7 @@ report_text r = reply_text [] r
 
 -- the kernel refused
 abbrev pub IsKernels : Refusal → Type 0
-IsKernels r = (row_of r).number ≤ 25
+IsKernels r = (told_as r).number ≤ 25
 
 -- a write call may answer this
 abbrev pub IsReport : Reply → Type 0

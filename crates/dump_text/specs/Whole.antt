@@ -2,10 +2,12 @@
 use Rattle.std.specs.Prelude.{ℕ, ◌+◌, List, [], ◌∷◌}
 use Rattle.base.specs.declared.ranges.Limits.{Limits}
 use Rattle.label_lattice.specs.declared.raw_labels.RawLabel.{RawLabel}
-use Rattle.kernel_rules.specs.History.{state_of}
+use Rattle.kernel_rules.specs.History.{IsLegal, state_of}
 use Rattle.kernel_rules.specs.Scratch.{scratch}
 use Rattle.kernel_rules.specs.Tables.{TableLists as Kept}
 use Rattle.kernel_rules.specs.declared.events.Event.{Event}
+use Rattle.dump_text.specs.Dump.{IsDump}
+use Rattle.dump_text.specs.Line.{IsBootable}
 use Rattle.dump_text.specs.Lists.{TableLists, DumpLists}
 use Rattle.dump_text.specs.declared.tables.Stored.{Stored}
 
@@ -32,3 +34,10 @@ whole_dump limits events = record {
   events = events;
   tables = placed (scratch (state_of limits events));
 }
+
+-- the limits are in range, and the bytes are the dump of a legal list of events after a boot with
+-- them
+abbrev pub IsLegalDump : Limits → List ℕ → Type 0
+IsLegalDump limits bytes =
+    IsBootable limits
+    × ((events : List Event) × IsLegal limits events × IsDump bytes (whole_dump limits events))

@@ -7,7 +7,7 @@ use Rattle.text_words.specs.declared.spoken_labels.SpokenPair.{SpokenPair}
 use Rattle.text_words.specs.Label.{LabelValue}
 use Rattle.spoken_calls.specs.declared.args.Arg.{Arg}
 use Rattle.spoken_calls.specs.declared.args.Arg.TheVariants as args
-use Rattle.spoken_calls.specs.Row.{arguments_text}
+use Rattle.spoken_calls.specs.Spoken.{arguments_text}
 use Rattle.dump_text.specs.declared.words.Word.{Word}
 use Rattle.dump_text.specs.declared.words.Word.TheVariants as words
 

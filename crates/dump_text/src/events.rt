@@ -4,6 +4,7 @@ ghost use Rattle.std.specs.Prelude.{codes};
 ghost use Rattle.text_words.specs.Lacks.{lacks};
 ghost use Rattle.dump_text.specs.Making.{Fills};
 ghost use Rattle.dump_text.specs.Event.{event_text, IsEvent};
+ghost use Rattle.dump_text.specs.Fits.{FitsEvent};
 
 use crate::calls::{put_call, read_call};
 use crate::reports::{put_report, read_report};
@@ -78,9 +79,10 @@ pub fn read_event(alloc: Global, text: &[u8], event: &mut Event) -> Result<bool,
     Ok(true)
 }
 
-/// Adds the spelling of the event.
+/// Adds the spelling of the event, whose parts are in their ranges by their types.
 pub fn put_event(out: &mut Vec<u8>, event: &Event) -> Result<(), NoMemory>
-    ensures { OnOk result (out.new.items ≡ out.old.items ++ event_text event.now) }
+    ensures text { OnOk result (out.new.items ≡ out.old.items ++ event_text event.now) }
+    ensures fits { OnOk result (FitsEvent event.now) }
 {
     put_number(out, event.thread.number())?;
     out.push(b' ')?;

@@ -27,105 +27,145 @@ fn level_of(digit: u32) -> Option<Level>
     }
 }
 
+/// What a line of the tables tells by its words, after the first.
+pub trait Worded: Sized {
+    ghost use Rattle.std.specs.Prelude.{List};
+    ghost use Rattle.dump_text.specs.declared.words.Word.{Word};
+
+    /// The words.
+    ghost words: { Self → List Word };
+
+    /// Which values a line tells.
+    ghost Allows: { Self → Type 0 };
+
+    /// The value that has these words.
+    fn of_args(args: &[Arg]) -> Option<Self>
+        ensures { Makes words Allows args.now result };
+}
+
 /// Limits that a machine boots with.
-pub fn limits_of(args: &[Arg]) -> Option<Limits>
-    ensures { Makes limits_words IsBootable args.now result }
-{
-    let [
-        Arg::Number(pages),
-        Arg::Number(digit),
-        Arg::Wide(next_id),
-        Arg::Wide(next_category),
-    ] = args
-    else {
-        return None;
-    };
-    let Some(device) = level_of(*digit) else {
-        return None;
-    };
-    let limits = Limits {
-        pages: *pages,
-        device,
-        next_id: *next_id,
-        next_category: *next_category,
-    };
-    if !limits.is_in_range() {
-        return None;
+impl Worded for Limits {
+    ghost words = { limits_words };
+
+    ghost Allows = { IsBootable };
+
+    fn of_args(args: &[Arg]) -> Option<Limits> {
+        let [
+            Arg::Number(pages),
+            Arg::Number(digit),
+            Arg::Wide(next_id),
+            Arg::Wide(next_category),
+        ] = args
+        else {
+            return None;
+        };
+        let Some(device) = level_of(*digit) else {
+            return None;
+        };
+        let limits = Limits {
+            pages: *pages,
+            device,
+            next_id: *next_id,
+            next_category: *next_category,
+        };
+        if !limits.is_in_range() {
+            return None;
+        }
+        Some(limits)
     }
-    Some(limits)
 }
 
 /// A live id.
-pub fn live_of(args: &[Arg]) -> Option<ObjectId>
-    ensures { Makes live_words Anything args.now result }
-{
-    match args {
-        [Arg::Wide(id)] => Some(ObjectId::new(*id)),
-        _ => None,
+impl Worded for ObjectId {
+    ghost words = { live_words };
+
+    ghost Allows = { Anything };
+
+    fn of_args(args: &[Arg]) -> Option<ObjectId> {
+        match args {
+            [Arg::Wide(id)] => Some(ObjectId::new(*id)),
+            _ => None,
+        }
     }
 }
 
 /// What an object uses.
-pub fn use_of(args: &[Arg]) -> Option<Used>
-    ensures { Makes use_words Anything args.now result }
-{
-    match args {
-        [Arg::Wide(id), Arg::Number(pages)] => Some(Used {
-            id: ObjectId::new(*id),
-            pages: *pages,
-        }),
-        _ => None,
+impl Worded for Used {
+    ghost words = { use_words };
+
+    ghost Allows = { Anything };
+
+    fn of_args(args: &[Arg]) -> Option<Used> {
+        match args {
+            [Arg::Wide(id), Arg::Number(pages)] => Some(Used {
+                id: ObjectId::new(*id),
+                pages: *pages,
+            }),
+            _ => None,
+        }
     }
 }
 
 /// What a slot shows.
-pub fn shown_of(args: &[Arg]) -> Option<Shown>
-    ensures { Makes map_words Anything args.now result }
-{
-    match args {
-        [
-            Arg::Wide(thread),
-            Arg::Number(slot),
-            Arg::Wide(segment),
-            Arg::Rights(rights),
-        ] => Some(Shown {
-            thread: ObjectId::new(*thread),
-            slot: *slot,
-            segment: ObjectId::new(*segment),
-            rights: *rights,
-        }),
-        _ => None,
+impl Worded for Shown {
+    ghost words = { map_words };
+
+    ghost Allows = { Anything };
+
+    fn of_args(args: &[Arg]) -> Option<Shown> {
+        match args {
+            [
+                Arg::Wide(thread),
+                Arg::Number(slot),
+                Arg::Wide(segment),
+                Arg::Rights(rights),
+            ] => Some(Shown {
+                thread: ObjectId::new(*thread),
+                slot: *slot,
+                segment: ObjectId::new(*segment),
+                rights: *rights,
+            }),
+            _ => None,
+        }
     }
 }
 
 /// A label with its place.
-pub fn stored_of(args: &[Arg]) -> Option<Stored>
-    ensures { Makes label_words Anything args.now result }
-{
-    let [Arg::Number(index), Arg::Label(label)] = args else {
-        return None;
-    };
-    let Some(label) = numbered(label) else {
-        return None;
-    };
-    Some(Stored {
-        index: *index as usize,
-        label,
-    })
+impl Worded for Stored {
+    ghost words = { label_words };
+
+    ghost Allows = { Anything };
+
+    fn of_args(args: &[Arg]) -> Option<Stored> {
+        let [Arg::Number(index), Arg::Label(label)] = args else {
+            return None;
+        };
+        let Some(label) = numbered(label) else {
+            return None;
+        };
+        Some(Stored {
+            index: *index as usize,
+            label,
+        })
+    }
 }
 
 /// How two labels compare, by three bits.
-pub fn order_of(args: &[Arg]) -> Option<Compared>
-    ensures { Makes order_words HasThreeBits args.now result }
-{
-    match args {
-        [Arg::Number(first), Arg::Number(second), Arg::Number(bits)] if *bits <= 7 => Some(
-            Compared {
-                first: *first as usize,
-                second: *second as usize,
-                bits: *bits as u8,
-            },
-        ),
-        _ => None,
+impl Worded for Compared {
+    ghost words = { order_words };
+
+    ghost Allows = { HasThreeBits };
+
+    fn of_args(args: &[Arg]) -> Option<Compared> {
+        match args {
+            [Arg::Number(first), Arg::Number(second), Arg::Number(bits)] if *bits <= 7 => Some(
+                Compared {
+                    first: *first as usize,
+                    second: *second as usize,
+                    bits: *bits as u8,
+                },
+            ),
+            _ => None,
+        }
     }
 }

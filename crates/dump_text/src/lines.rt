@@ -1,18 +1,15 @@
 //! The lines of dumps.
-ghost use Rattle.std.specs.Prelude.{◌++◌, codes, IfOk};
+ghost use Rattle.std.specs.Prelude.{◌≡◌, ◌<◌, ◌++◌, codes, length, IfOk};
 ghost use Rattle.text_words.specs.Reading.{Reads};
 ghost use Rattle.dump_text.specs.Making.{Fills};
 ghost use Rattle.dump_text.specs.Event.{event_text, IsEvent};
 ghost use Rattle.dump_text.specs.Word.{words_text};
 ghost use Rattle.dump_text.specs.Line.{line_text, IsLine};
-ghost use Rattle.dump_text.specs.Line.{limits_words, live_words, use_words, map_words, label_words};
-ghost use Rattle.dump_text.specs.Line.{order_words};
-ghost use Rattle.dump_text.specs.Line.{limits_kinds, live_kinds, use_kinds, map_kinds, label_kinds};
-ghost use Rattle.dump_text.specs.Line.{order_kinds};
-ghost use Rattle.dump_text.specs.Line.{AreAllowed, IsBootable, HasThreeBits, Anything};
+ghost use Rattle.dump_text.specs.Line.{AreAllowed};
+ghost use Rattle.dump_text.specs.declared.lines.Line.TheVariants as told;
 
 use crate::events::read_event;
-use crate::line_words::{limits_of, live_of, order_of, shown_of, stored_of, use_of};
+use crate::line_words::Worded;
 use crate::stripping::after;
 use crate::tables::Stored;
 use base::{Limits, ObjectId};
@@ -40,104 +37,84 @@ pub enum Line {
     End,
 }
 
-/// What a machine is booted with, as `limits` and its words.
-fn read_limits(alloc: Global, text: &[u8]) -> Result<Option<Limits>, AllocError>
-    ensures { IfOk result (λ found. Reads (λ v. codes "limits " ++ words_text (limits_words v))
-        (AreAllowed limits_kinds limits_words IsBootable) text.now found) }
+/// The value that the text spells by a beginning and words of these kinds after it.
+fn read_worded<V: Worded>(
+    alloc: Global,
+    text: &[u8],
+    beginning: &[u8],
+    kinds: &[ArgKind],
+) -> Result<Option<V>, AllocError>
+    requires { 0 < length kinds.now }
+    ensures { IfOk result (λ found. Reads (λ v. beginning.now ++ words_text (V.words v))
+        (AreAllowed kinds.now V.words V.Allows) text.now found) }
 {
-    let Some(rest) = after(text, b"limits ") else {
+    let Some(rest) = after(text, beginning) else {
         return Ok(None);
     };
-    let kinds = [
-        ArgKind::Number,
-        ArgKind::Number,
-        ArgKind::Wide,
-        ArgKind::Wide,
-    ];
-    let Some(args) = read_arguments(alloc, &kinds, rest)? else {
+    let Some(args) = read_arguments(alloc, kinds, rest)? else {
         return Ok(None);
     };
-    Ok(limits_of(args.as_slice()))
+    Ok(V::of_args(args.as_slice()))
 }
 
-/// A live id, as `live` and its words.
-fn read_live(alloc: Global, text: &[u8]) -> Result<Option<ObjectId>, AllocError>
-    ensures { IfOk result (λ found. Reads (λ v. codes "live " ++ words_text (live_words v))
-        (AreAllowed live_kinds live_words Anything) text.now found) }
-{
-    let Some(rest) = after(text, b"live ") else {
-        return Ok(None);
-    };
-    let kinds = [ArgKind::Wide];
-    let Some(args) = read_arguments(alloc, &kinds, rest)? else {
-        return Ok(None);
-    };
-    Ok(live_of(args.as_slice()))
+/// What fills a line.
+pub trait AsLine {
+    ghost use Rattle.dump_text.specs.declared.lines.Line.{Line};
+
+    /// Its line.
+    ghost line: { Self → Line };
+
+    /// Its line.
+    fn as_line(&self) -> Line
+        ensures { result ≡ line self.now };
 }
 
-/// What an object uses, as `use` and its words.
-fn read_use(alloc: Global, text: &[u8]) -> Result<Option<Used>, AllocError>
-    ensures { IfOk result (λ found. Reads (λ v. codes "use " ++ words_text (use_words v))
-        (AreAllowed use_kinds use_words Anything) text.now found) }
-{
-    let Some(rest) = after(text, b"use ") else {
-        return Ok(None);
-    };
-    let kinds = [ArgKind::Wide, ArgKind::Number];
-    let Some(args) = read_arguments(alloc, &kinds, rest)? else {
-        return Ok(None);
-    };
-    Ok(use_of(args.as_slice()))
+impl AsLine for Event {
+    ghost line = { told.Event };
+
+    fn as_line(&self) -> Line {
+        Line::Event(*self)
+    }
 }
 
-/// What a slot shows, as `map` and its words.
-fn read_map(alloc: Global, text: &[u8]) -> Result<Option<Shown>, AllocError>
-    ensures { IfOk result (λ found. Reads (λ v. codes "map " ++ words_text (map_words v))
-        (AreAllowed map_kinds map_words Anything) text.now found) }
-{
-    let Some(rest) = after(text, b"map ") else {
-        return Ok(None);
-    };
-    let kinds = [
-        ArgKind::Wide,
-        ArgKind::Number,
-        ArgKind::Wide,
-        ArgKind::Rights,
-    ];
-    let Some(args) = read_arguments(alloc, &kinds, rest)? else {
-        return Ok(None);
-    };
-    Ok(shown_of(args.as_slice()))
+impl AsLine for ObjectId {
+    ghost line = { told.Live };
+
+    fn as_line(&self) -> Line {
+        Line::Live(*self)
+    }
 }
 
-/// A label with its place, as `label` and its words.
-fn read_label(alloc: Global, text: &[u8]) -> Result<Option<Stored>, AllocError>
-    ensures { IfOk result (λ found. Reads (λ v. codes "label " ++ words_text (label_words v))
-        (AreAllowed label_kinds label_words Anything) text.now found) }
-{
-    let Some(rest) = after(text, b"label ") else {
-        return Ok(None);
-    };
-    let kinds = [ArgKind::Number, ArgKind::Label];
-    let Some(args) = read_arguments(alloc, &kinds, rest)? else {
-        return Ok(None);
-    };
-    Ok(stored_of(args.as_slice()))
+impl AsLine for Used {
+    ghost line = { told.Use };
+
+    fn as_line(&self) -> Line {
+        Line::Use(*self)
+    }
 }
 
-/// How two labels compare, as `order` and its words.
-fn read_order(alloc: Global, text: &[u8]) -> Result<Option<Compared>, AllocError>
-    ensures { IfOk result (λ found. Reads (λ v. codes "order " ++ words_text (order_words v))
-        (AreAllowed order_kinds order_words HasThreeBits) text.now found) }
-{
-    let Some(rest) = after(text, b"order ") else {
-        return Ok(None);
-    };
-    let kinds = [ArgKind::Number, ArgKind::Number, ArgKind::Number];
-    let Some(args) = read_arguments(alloc, &kinds, rest)? else {
-        return Ok(None);
-    };
-    Ok(order_of(args.as_slice()))
+impl AsLine for Shown {
+    ghost line = { told.Map };
+
+    fn as_line(&self) -> Line {
+        Line::Map(*self)
+    }
+}
+
+impl AsLine for Stored {
+    ghost line = { told.Label };
+
+    fn as_line(&self) -> Line {
+        Line::Label(*self)
+    }
+}
+
+impl AsLine for Compared {
+    ghost line = { told.Order };
+
+    fn as_line(&self) -> Line {
+        Line::Order(*self)
+    }
 }
 
 /// An event that nothing told yet.
@@ -173,27 +150,62 @@ pub fn read_line(alloc: Global, text: &[u8], line: &mut Line) -> Result<bool, Al
         *line = Line::End;
         return Ok(true);
     }
-    if let Some(order) = read_order(alloc, text)? {
+    if let Some(order) = read_worded::<Compared>(
+        alloc,
+        text,
+        b"order ",
+        &[ArgKind::Number, ArgKind::Number, ArgKind::Number],
+    )? {
         *line = Line::Order(order);
         return Ok(true);
     }
-    if let Some(id) = read_live(alloc, text)? {
+    if let Some(id) = read_worded::<ObjectId>(alloc, text, b"live ", &[ArgKind::Wide])? {
         *line = Line::Live(id);
         return Ok(true);
     }
-    if let Some(used) = read_use(alloc, text)? {
+    if let Some(used) = read_worded::<Used>(
+        alloc,
+        text,
+        b"use ",
+        &[ArgKind::Wide, ArgKind::Number],
+    )? {
         *line = Line::Use(used);
         return Ok(true);
     }
-    if let Some(shown) = read_map(alloc, text)? {
+    if let Some(shown) = read_worded::<Shown>(
+        alloc,
+        text,
+        b"map ",
+        &[
+            ArgKind::Wide,
+            ArgKind::Number,
+            ArgKind::Wide,
+            ArgKind::Rights,
+        ],
+    )? {
         *line = Line::Map(shown);
         return Ok(true);
     }
-    if let Some(stored) = read_label(alloc, text)? {
+    if let Some(stored) = read_worded::<Stored>(
+        alloc,
+        text,
+        b"label ",
+        &[ArgKind::Number, ArgKind::Label],
+    )? {
         *line = Line::Label(stored);
         return Ok(true);
     }
-    if let Some(limits) = read_limits(alloc, text)? {
+    if let Some(limits) = read_worded::<Limits>(
+        alloc,
+        text,
+        b"limits ",
+        &[
+            ArgKind::Number,
+            ArgKind::Number,
+            ArgKind::Wide,
+            ArgKind::Wide,
+        ],
+    )? {
         *line = Line::Limits(limits);
         return Ok(true);
     }

@@ -5,8 +5,10 @@ ghost use Rattle.text_words.specs.DataWord.{data_text, IsData};
 ghost use Rattle.call_text.specs.ReplyWord.{refusal_text};
 ghost use Rattle.dump_text.specs.Report.{report_text, IsReport, IsKernels, entered_text};
 ghost use Rattle.dump_text.specs.Report.{AreEntered};
+ghost use Rattle.dump_text.specs.Fits.{FitsReply};
 
 use crate::stripping::after;
+use crate::words::are_bytes;
 use base::{Category, Data, NoMemory, ObjectId, Refusal};
 use call_text::{NameList, parted, put_reply};
 use itoa::Buffer;
@@ -152,9 +154,37 @@ pub fn read_report(text: &[u8]) -> Option<Reply>
     None
 }
 
-/// Adds the spelling of the reply.
-pub fn put_report(out: &mut Vec<u8>, reply: &Reply) -> Result<(), NoMemory>
-    ensures { OnOk result (out.new.items ≡ out.old.items ++ report_text reply.now) }
+/// Tells of a number what its type tells.
+fn is_wide(number: u64)
+    ensures { number < 2 ^ 64 }
 {
+    let _ = number;
+}
+
+/// Tells of a reply what the types of its parts tell.
+fn fits(reply: &Reply)
+    ensures { FitsReply reply.now }
+{
+    match reply {
+        Reply::Category(category) => is_wide(category.0),
+        Reply::Object(id) => is_wide(id.number()),
+        Reply::Entered {
+            entry_point,
+            closure,
+        } => {
+            is_wide(*entry_point);
+            is_wide(*closure);
+        }
+        Reply::Bytes(bytes) => are_bytes(bytes.as_slice()),
+        _ => (),
+    }
+}
+
+/// Adds the spelling of the reply, whose parts are in their ranges by their types.
+pub fn put_report(out: &mut Vec<u8>, reply: &Reply) -> Result<(), NoMemory>
+    ensures text { OnOk result (out.new.items ≡ out.old.items ++ report_text reply.now) }
+    ensures fits { OnOk result (FitsReply reply.now) }
+{
+    fits(reply);
     put_reply(out, reply, &NameList { named: &[] })
 }

@@ -1,10 +1,11 @@
 //! Words that name no object or category but by its number, and their spelling.
-ghost use Rattle.std.specs.Prelude.{◌≡◌, ◌++◌, ◌∷◌, [], codes, OnOk};
-ghost use Rattle.std.specs.List.{flat_map};
-ghost use Rattle.text_words.specs.Label.{pair_text, label_text};
-ghost use Rattle.spoken_calls.specs.Arg.{arg_text};
-ghost use Rattle.spoken_calls.specs.Row.{row_text};
-ghost use Rattle.dump_text.specs.Call.{row_of};
+ghost use Rattle.std.specs.Prelude.{◌≡◌, ◌≤◌, ◌++◌, ◌∷◌, [], codes, length, OnOk};
+ghost use Rattle.std.specs.List.{flat_map, AllByRecursion};
+ghost use Rattle.text_words.specs.DataWord.{IsData};
+ghost use Rattle.text_words.specs.Label.{pair_text, label_text, IsPair, IsLabel};
+ghost use Rattle.spoken_calls.specs.Arg.{arg_text, FitsArg};
+ghost use Rattle.spoken_calls.specs.Spoken.{spoken_text};
+ghost use Rattle.dump_text.specs.Call.{spoken_as};
 ghost use Rattle.dump_text.specs.Word.{arg_of, spoken_pair, spoken_label};
 
 use base::{Data, ObjectId, Rights, TypeSet};
@@ -32,8 +33,9 @@ pub enum Word {
 
 /// Adds a category with its level, and a comma.
 fn put_pair(out: &mut Vec<u8>, pair: &Pair) -> Result<(), AllocError>
-    ensures { OnOk result (out.new.items
+    ensures text { OnOk result (out.new.items
         ≡ out.old.items ++ (pair_text (spoken_pair pair.now) ++ 44 ∷ [])) }
+    ensures fits { OnOk result (IsPair (spoken_pair pair.now)) }
 {
     out.push(b'#')?;
     put_number(out, pair.category.0)?;
@@ -45,9 +47,11 @@ fn put_pair(out: &mut Vec<u8>, pair: &Pair) -> Result<(), AllocError>
 
 /// Adds the spelling of the label.
 fn put_label(out: &mut Vec<u8>, label: &RawLabel) -> Result<(), AllocError>
-    ensures { OnOk result (out.new.items
+    ensures text { OnOk result (out.new.items
         ≡ out.old.items ++ label_text (spoken_label label.now)) }
+    ensures fits { OnOk result (IsLabel (spoken_label label.now)) }
 {
+    let _few = label.pairs.len();
     out.push(b'{')?;
     for pair in label.pairs.as_slice() {
         put_pair(out, pair)?;
@@ -59,15 +63,24 @@ fn put_label(out: &mut Vec<u8>, label: &RawLabel) -> Result<(), AllocError>
 
 /// Adds the spelling of the object.
 fn put_object(out: &mut Vec<u8>, id: ObjectId) -> Result<(), AllocError>
-    ensures { OnOk result (out.new.items ≡ out.old.items ++ arg_text (arg_of (Word.Object id))) }
+    ensures text { OnOk result (out.new.items
+        ≡ out.old.items ++ arg_text (arg_of (Word.Object id))) }
+    ensures fits { OnOk result (FitsArg (arg_of (Word.Object id))) }
 {
     out.push(b'#')?;
     put_number(out, id.number())
 }
 
-/// Adds the spelling of the word.
+/// Tells of bytes what their type tells: each is below 256.
+pub fn are_bytes(bytes: &[u8])
+    requires { length bytes.now ≤ 64 }
+    ensures { IsData bytes.now }
+{}
+
+/// Adds the spelling of the word, which is in its range by its type.
 pub fn put_word(out: &mut Vec<u8>, word: &Word) -> Result<(), AllocError>
-    ensures { OnOk result (out.new.items ≡ out.old.items ++ arg_text (arg_of word.now)) }
+    ensures text { OnOk result (out.new.items ≡ out.old.items ++ arg_text (arg_of word.now)) }
+    ensures fits { OnOk result (FitsArg (arg_of word.now)) }
 {
     match word {
         Word::Object(id) => put_object(out, *id),
@@ -75,7 +88,10 @@ pub fn put_word(out: &mut Vec<u8>, word: &Word) -> Result<(), AllocError>
         Word::Wide(number) => put_number(out, *number),
         Word::Signed(number) => put_signed(out, *number),
         Word::Label(label) => put_label(out, label),
-        Word::Data(bytes) => put_data(out, bytes),
+        Word::Data(bytes) => {
+            are_bytes(bytes.as_slice());
+            put_data(out, bytes)
+        }
         Word::Types(set) => put_types(out, *set),
         Word::Rights(rights) => put_rights(out, *rights),
     }
@@ -83,8 +99,9 @@ pub fn put_word(out: &mut Vec<u8>, word: &Word) -> Result<(), AllocError>
 
 /// Adds the words, each after a space.
 pub fn put_further(out: &mut Vec<u8>, words: &[Word]) -> Result<(), AllocError>
-    ensures { OnOk result (out.new.items
+    ensures text { OnOk result (out.new.items
         ≡ out.old.items ++ flat_map (λ w. 32 ∷ arg_text (arg_of w)) words.now) }
+    ensures fits { OnOk result (AllByRecursion (λ w. FitsArg (arg_of w)) words.now) }
 {
     for word in words {
         out.push(b' ')?;
@@ -94,8 +111,10 @@ pub fn put_further(out: &mut Vec<u8>, words: &[Word]) -> Result<(), AllocError>
 }
 
 /// Adds a call with its words, parted by single spaces.
-pub fn put_row(out: &mut Vec<u8>, verb: Verb, words: &[Word]) -> Result<(), AllocError>
-    ensures { OnOk result (out.new.items ≡ out.old.items ++ row_text (row_of verb words.now)) }
+pub fn put_spoken(out: &mut Vec<u8>, verb: Verb, words: &[Word]) -> Result<(), AllocError>
+    ensures text { OnOk result (out.new.items
+        ≡ out.old.items ++ spoken_text (spoken_as verb words.now)) }
+    ensures fits { OnOk result (AllByRecursion (λ w. FitsArg (arg_of w)) words.now) }
 {
     out.extend_from_slice(verb.name().as_bytes())?;
     put_further(out, words)?;

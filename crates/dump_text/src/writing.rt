@@ -1,17 +1,19 @@
 //! Writing dumps.
 ghost use Rattle.std.specs.Prelude.{◌≡◌, ◌++◌, ◌∷◌, [], map, IfOk, OnOk};
+ghost use Rattle.std.specs.List.{AllByRecursion};
+ghost use Rattle.spoken_calls.specs.Arg.{FitsArg};
 ghost use Rattle.call_text.specs.Text.{lines_text};
 ghost use Rattle.dump_text.specs.Event.{event_text};
-ghost use Rattle.dump_text.specs.Word.{words_text};
+ghost use Rattle.dump_text.specs.Word.{arg_of, words_text};
 ghost use Rattle.dump_text.specs.Line.{digit_of, line_text};
 ghost use Rattle.dump_text.specs.Dump.{table_lines, dump_text};
+ghost use Rattle.dump_text.specs.Fits.{FitsLine, FitTables, FitsWords};
 
 use crate::events::put_event;
-use crate::lines::Line;
-use crate::tables::{Dump, DumpTables, Stored};
+use crate::lines::{AsLine, Line};
+use crate::tables::{Dump, DumpTables};
 use crate::words::{Word, put_further, put_word};
-use base::{Level, NoMemory, ObjectId};
-use kernel_rules::{Compared, Event, Shown, Used};
+use base::{Level, NoMemory};
 use std::alloc::{AllocError, Global};
 
 /// The digit of a level.
@@ -34,8 +36,10 @@ fn put_words(
     first: &Word,
     more: &[Word],
 ) -> Result<(), AllocError>
-    ensures { OnOk result (out.new.items
+    ensures text { OnOk result (out.new.items
         ≡ out.old.items ++ (beginning.now ++ words_text (first.now ∷ more.now))) }
+    ensures fits { OnOk result
+        (AllByRecursion (λ w. FitsArg (arg_of w)) (first.now ∷ more.now)) }
 {
     out.extend_from_slice(beginning)?;
     put_word(out, first)?;
@@ -45,7 +49,8 @@ fn put_words(
 
 /// Adds the words of the line.
 fn put_line_words(out: &mut Vec<u8>, line: &Line) -> Result<(), NoMemory>
-    ensures { OnOk result (out.new.items ≡ out.old.items ++ line_text line.now) }
+    ensures text { OnOk result (out.new.items ≡ out.old.items ++ line_text line.now) }
+    ensures fits { OnOk result (FitsLine line.now) }
 {
     match *line {
         Line::Version => out.extend_from_slice(b"histar-dump 1")?,
@@ -92,94 +97,49 @@ fn put_line_words(out: &mut Vec<u8>, line: &Line) -> Result<(), NoMemory>
 
 /// Adds the line and its end.
 fn put_line(out: &mut Vec<u8>, line: &Line) -> Result<(), NoMemory>
-    ensures { OnOk result (out.new.items ≡ out.old.items ++ (line_text line.now ++ 10 ∷ [])) }
+    ensures text { OnOk result (out.new.items ≡ out.old.items ++ (line_text line.now ++ 10 ∷ [])) }
+    ensures fits { OnOk result (FitsLine line.now) }
 {
     put_line_words(out, line)?;
     out.push(b'\n')?;
     Ok(())
 }
 
-fn put_events(out: &mut Vec<u8>, events: &[Event]) -> Result<(), NoMemory>
-    ensures { OnOk result (out.new.items
-        ≡ out.old.items ++ lines_text line_text (map Line.Event events.now)) }
+/// Adds the line of each of them.
+fn put_each<T: AsLine>(out: &mut Vec<u8>, items: &[T]) -> Result<(), NoMemory>
+    ensures text { OnOk result (out.new.items
+        ≡ out.old.items ++ lines_text line_text (map T.line items.now)) }
+    ensures fits { OnOk result (AllByRecursion (λ x. FitsLine (T.line x)) items.now) }
 {
-    for event in events {
-        put_line(out, &Line::Event(*event))?;
-    }
-    Ok(())
-}
-
-fn put_live(out: &mut Vec<u8>, live: &[ObjectId]) -> Result<(), NoMemory>
-    ensures { OnOk result (out.new.items
-        ≡ out.old.items ++ lines_text line_text (map Line.Live live.now)) }
-{
-    for id in live {
-        put_line(out, &Line::Live(*id))?;
-    }
-    Ok(())
-}
-
-fn put_uses(out: &mut Vec<u8>, uses: &[Used]) -> Result<(), NoMemory>
-    ensures { OnOk result (out.new.items
-        ≡ out.old.items ++ lines_text line_text (map Line.Use uses.now)) }
-{
-    for used in uses {
-        put_line(out, &Line::Use(*used))?;
-    }
-    Ok(())
-}
-
-fn put_maps(out: &mut Vec<u8>, maps: &[Shown]) -> Result<(), NoMemory>
-    ensures { OnOk result (out.new.items
-        ≡ out.old.items ++ lines_text line_text (map Line.Map maps.now)) }
-{
-    for shown in maps {
-        put_line(out, &Line::Map(*shown))?;
-    }
-    Ok(())
-}
-
-fn put_labels(out: &mut Vec<u8>, labels: &[Stored]) -> Result<(), NoMemory>
-    ensures { OnOk result (out.new.items
-        ≡ out.old.items ++ lines_text line_text (map Line.Label labels.now)) }
-{
-    for stored in labels {
-        put_line(out, &Line::Label(*stored))?;
-    }
-    Ok(())
-}
-
-fn put_orders(out: &mut Vec<u8>, orders: &[Compared]) -> Result<(), NoMemory>
-    ensures { OnOk result (out.new.items
-        ≡ out.old.items ++ lines_text line_text (map Line.Order orders.now)) }
-{
-    for order in orders {
-        put_line(out, &Line::Order(*order))?;
+    for item in items {
+        put_line(out, &item.as_line())?;
     }
     Ok(())
 }
 
 /// Adds the lines of the tables.
 fn put_tables(out: &mut Vec<u8>, tables: &DumpTables) -> Result<(), NoMemory>
-    ensures { OnOk result (out.new.items
+    ensures text { OnOk result (out.new.items
         ≡ out.old.items ++ lines_text line_text (table_lines tables.now)) }
+    ensures fits { OnOk result (FitTables tables.now) }
 {
-    put_live(out, tables.live.as_slice())?;
-    put_uses(out, tables.uses.as_slice())?;
-    put_maps(out, tables.maps.as_slice())?;
-    put_labels(out, tables.labels.as_slice())?;
-    put_orders(out, tables.orders.as_slice())?;
+    put_each(out, tables.live.as_slice())?;
+    put_each(out, tables.uses.as_slice())?;
+    put_each(out, tables.maps.as_slice())?;
+    put_each(out, tables.labels.as_slice())?;
+    put_each(out, tables.orders.as_slice())?;
     Ok(())
 }
 
-/// The bytes of the dump: its one spelling, where its numbers are in the ranges of the lines.
+/// The bytes of the dump. Each value in it fits its word, by its type.
 pub fn write_dump(alloc: Global, dump: &Dump) -> Result<Vec<u8>, NoMemory>
-    ensures { IfOk result (λ out. out.items ≡ dump_text dump.now) }
+    ensures text { IfOk result (λ out. out.items ≡ dump_text dump.now) }
+    ensures fits { OnOk result (FitsWords dump.now) }
 {
     let mut out = Vec::new(alloc);
     put_line(&mut out, &Line::Version)?;
     put_line(&mut out, &Line::Limits(dump.limits))?;
-    put_events(&mut out, dump.events.as_slice())?;
+    put_each(&mut out, dump.events.as_slice())?;
     put_tables(&mut out, &dump.tables)?;
     put_line(&mut out, &Line::End)?;
     Ok(out)

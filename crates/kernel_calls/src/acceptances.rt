@@ -39,31 +39,31 @@ fn accept<S: Store>(
         Call::SelfSetClearance { clearance } => Ok(self_set_clearance(
             state, thread, clearance, meter,
         )),
-        Call::SelfSetAs { space } => Ok(self_set_as(state, thread, space)),
+        Call::SelfSetAs { space } => Ok(self_set_as(state, thread, space, meter)),
         Call::ContainerCreate(made) => container_create(state, thread, made, meter),
         Call::SegmentCreate(made) => segment_create(state, thread, made, meter),
         Call::SegmentCopy(made) => segment_copy(state, thread, made, meter),
         Call::AsCreate(made) => as_create(state, thread, made, meter),
         Call::ThreadCreate(made) => thread_create(state, thread, made, meter),
         Call::GateCreate(made) => gate_create(state, thread, made, meter),
-        Call::Link { target, entry } => link(state, thread, *target, entry),
-        Call::Unref { entry } => unref(state, thread, entry),
-        Call::QuotaMove { entry, change } => Ok(quota_move(state, thread, entry, *change)),
-        Call::SetFixed { entry } => Ok(set_fixed(state, thread, entry)),
-        Call::SetImmutable { entry } => Ok(set_immutable(state, thread, entry)),
-        Call::MetaSet { entry, data } => Ok(meta_set(state, thread, entry, data)),
-        Call::SegmentResize { entry, pages } => segment_resize(state, thread, entry, *pages),
+        Call::Link { target, entry } => link(state, thread, *target, entry, meter),
+        Call::Unref { entry } => unref(state, thread, entry, meter),
+        Call::QuotaMove { entry, change } => Ok(quota_move(state, thread, entry, *change, meter)),
+        Call::SetFixed { entry } => Ok(set_fixed(state, thread, entry, meter)),
+        Call::SetImmutable { entry } => Ok(set_immutable(state, thread, entry, meter)),
+        Call::MetaSet { entry, data } => Ok(meta_set(state, thread, entry, data, meter)),
+        Call::SegmentResize { entry, pages } => segment_resize(state, thread, entry, *pages, meter),
         Call::SegmentWrite {
             entry,
             offset,
             data,
-        } => Ok(segment_write(state, thread, entry, *offset, data)),
+        } => Ok(segment_write(state, thread, entry, *offset, data, meter)),
         Call::AsMap {
             space,
             slot,
             mapping,
-        } => Ok(as_map(state, thread, space, *slot, mapping)),
-        Call::AsUnmap { space, slot } => Ok(as_unmap(state, thread, space, *slot)),
+        } => Ok(as_map(state, thread, space, *slot, mapping, meter)),
+        Call::AsUnmap { space, slot } => Ok(as_unmap(state, thread, space, *slot, meter)),
         Call::Store { address, data } => Ok(store(state, thread, *address, data, meter)),
         Call::GateEnter {
             gate,
@@ -78,8 +78,8 @@ fn accept<S: Store>(
             };
             Ok(gate_enter(state, thread, gate, &entering, meter))
         }
-        Call::DevSend { entry, data } => dev_send(state, thread, entry, data),
-        Call::DevRecv { entry } => Ok(dev_recv(state, thread, entry)),
+        Call::DevSend { entry, data } => dev_send(state, thread, entry, data, meter),
+        Call::DevRecv { entry } => Ok(dev_recv(state, thread, entry, meter)),
     }
 }
 

@@ -53,34 +53,34 @@ fn found<S: Store>(state: &S, thread: ObjectId, query: &Query, meter: &mut Meter
     requires { query_refused (S.state state.now) thread query.now ≡ None }
     ensures value { result ≡ found (S.state state.now) thread query.now }
     ensures meter { S.kept meter.new ≡ S.kept meter.old }
-    ensures looks { is_load query.now ≡ true → S.spends 8 meter.old meter.new }
+    ensures looks { is_load query.now ≡ true → S.spends 9 meter.old meter.new }
 {
     match query {
-        Query::SelfGet => self_get(state, thread),
-        Query::ObjLabel { entry } => obj_label(state, thread, entry),
-        Query::ObjQuota { entry } => obj_quota(state, thread, entry),
+        Query::SelfGet => self_get(state, thread, meter),
+        Query::ObjLabel { entry } => obj_label(state, thread, entry, meter),
+        Query::ObjQuota { entry } => obj_quota(state, thread, entry, meter),
         Query::ContainerList { container, from } => {
-            container_list(state, thread, *container, *from)
+            container_list(state, thread, *container, *from, meter)
         }
-        Query::ContainerParent { container } => container_parent(state, thread, *container),
-        Query::SegmentLen { entry } => segment_len(state, thread, entry),
+        Query::ContainerParent { container } => container_parent(state, thread, *container, meter),
+        Query::SegmentLen { entry } => segment_len(state, thread, entry, meter),
         Query::SegmentRead {
             entry,
             offset,
             count,
-        } => segment_read(state, thread, entry, *offset, *count),
-        Query::MetaGet { entry } => meta_get(state, thread, entry),
-        Query::AsGet { space, slot } => as_get(state, thread, space, *slot),
+        } => segment_read(state, thread, entry, *offset, *count, meter),
+        Query::MetaGet { entry } => meta_get(state, thread, entry, meter),
+        Query::AsGet { space, slot } => as_get(state, thread, space, *slot, meter),
         Query::Load { address, count } => load(state, thread, *address, *count, meter),
     }
 }
 
 /// One query: its refusal, or what it finds where nothing refuses it. It compares no label anew, and
-/// reading through the address space takes at most 17 looks.
+/// reading through the address space takes at most 18 looks, the look at the bytes among them.
 pub fn ask<S: Store>(state: &S, thread: ObjectId, query: &Query, meter: &mut Meter) -> Reply
     ensures value { result ≡ query_answer (S.state state.now) thread query.now }
     ensures meter { S.kept meter.new ≡ S.kept meter.old }
-    ensures looks { is_load query.now ≡ true → S.spends 17 meter.old meter.new }
+    ensures looks { is_load query.now ≡ true → S.spends 18 meter.old meter.new }
 {
     match refused(state, thread, query, meter) {
         Some(refusal) => Reply::Refused(refusal),

@@ -1,9 +1,7 @@
 -- Where writing is allowed, the segment is not immutable.
 use Rattle.std.proofs.Common.{◌≡◌, ℕ, ◌+◌, ◌*◌, ◌%◌, ◌/◌, Bool, true, false, cond, not, ◌&&◌, ◌==◌, nat_lt}
-use Rattle.std.proofs.Common.{List, [], ◌∷◌, Option, Some, None, refl, ◌∙◌, ap, subst}
+use Rattle.std.proofs.Common.{List, [], ◌∷◌, Option, Some, None, refl, ◌∙◌, subst}
 use Rattle.std.proofs.lemmas.Bool.{and_parts, both_ways}
-use Rattle.std.proofs.lemmas.Nat.{and_assoc}
-use Rattle.std.specs.Int.Bits.{and_zero_r}
 use Rattle.base.specs.Sets.{may_write, reading}
 use Rattle.base.specs.declared.sets.Rights.{Rights}
 use Rattle.kernel_rules.specs.State.{State, is_immutable, flows_to, page_count}
@@ -17,7 +15,7 @@ use Rattle.kernel_rules.specs.declared.places.Place.{Place}
 
 -- rights without writing do not allow it
 reading_only : (r : Rights) → may_write (reading r) ≡ false
-reading_only r = ap (λ n. n == 2) (and_assoc 2 r.0 1 ∙ and_zero_r r.0)
+reading_only r = refl
 
 usable_open : (s : State) (t o : ℕ) (r : Rights) → may_write (usable s t o r) ≡ true
     → is_immutable s o ≡ false

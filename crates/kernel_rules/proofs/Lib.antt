@@ -24,4 +24,5 @@ pub mod StepLaws
 pub mod StoredLaws
 pub mod ThreadLaws
 pub mod UnrefLaws
+pub mod UseLaws
 pub mod WellFormedLaws

@@ -1,30 +1,30 @@
 -- A second link to an object whose quota is fixed.
 use Rattle.std.proofs.Common.{◌≡◌, ◌≢◌, ℕ, ◌+◌, ◌≤◌, Bool, true, false, cond, ◌&&◌, ◌||◌, ◌==◌}
-use Rattle.std.proofs.Common.{nat_lt, nat_le, List, [], ◌∷◌, ◌++◌, Some, None, is_some, sum_by, refl}
-use Rattle.std.proofs.Common.{sym, ◌∙◌, ap, subst, arith, zero-add, inl, inr}
+use Rattle.std.proofs.Common.{nat_lt, nat_le, List, [], ◌∷◌, ◌++◌, Some, None, is_some, refl}
+use Rattle.std.proofs.Common.{sym, ◌∙◌, ap, subst, arith, inl, inr}
 use Rattle.std.specs.List.{list_all}
 use Rattle.std.specs.Ordering.{nat_cmp}
 use Rattle.std.specs.BTreeMap.{is_at}
 use Rattle.std.proofs.lemmas.Bool.{and_parts, and_from, or_cases, both_ways, eqb-true}
 use Rattle.std.proofs.lemmas.List.Folds.{list_all-append}
-use Rattle.std.proofs.lemmas.List.Sums.{sum_by-append}
 use Rattle.base.specs.Live.{has, is_live}
 use Rattle.base.specs.declared.kinds.Kind.TheVariants as kinds
 use Rattle.kernel_rules.specs.Changes.{put, changed, listing}
 use Rattle.kernel_rules.specs.State.{State, object_at, of_object, is_kind, is_kind_at, listed, lists_of}
-use Rattle.kernel_rules.specs.State.{list_at, own_cost, use_of, quota_at, holds, is_fixed}
+use Rattle.kernel_rules.specs.State.{list_at, use_of, quota_at, holds, is_fixed}
 use Rattle.kernel_rules.specs.WellFormed.{is_well_formed, is_kept, is_distinct, is_listed_rightly}
 use Rattle.kernel_rules.specs.WellFormed.{listers, ids_rise}
 use Rattle.kernel_rules.specs.declared.calls.Entry.{Entry}
 use Rattle.kernel_rules.specs.declared.objects.Object.{Object}
 use Rattle.kernel_rules.proofs.CountLaws.{counted_one, count_linked, not_root}
 use Rattle.kernel_rules.proofs.GrowLaws.{Grows, grows-set_value, live_grow, all-set_value, all_weaker}
-use Rattle.kernel_rules.proofs.KeptLaws.{at_put, some_put, rise-put}
+use Rattle.kernel_rules.proofs.KeptLaws.{some_put, rise-put}
 use Rattle.kernel_rules.proofs.ListerLaws.{IsKept, kept_parts, kept_from, count_put}
-use Rattle.kernel_rules.proofs.ListingLaws.{IsContainerAt, container_at, listed-listing, cost-listing}
+use Rattle.kernel_rules.proofs.ListingLaws.{IsContainerAt, container_at, listed-listing}
 use Rattle.kernel_rules.proofs.ListingLaws.{whole-listing, kind-listing, has_wider, distinct-append}
-use Rattle.kernel_rules.proofs.LookupLaws.{all_at, all_from, at_self, lookup_put}
+use Rattle.kernel_rules.proofs.LookupLaws.{all_at, all_from, lookup_put}
 use Rattle.kernel_rules.proofs.RecordLaws.{same_id}
+use Rattle.kernel_rules.proofs.UseLaws.{listing_use_here, listing_use_other}
 use Rattle.kernel_rules.proofs.WellFormedLaws.{Soundness, soundness_of, well_formed_from}
 
 le_test : (a b : ℕ) → a ≤ b → nat_le a b ≡ true
@@ -46,37 +46,6 @@ pub record Linking (s : State) (d o : ℕ) (y z : Object) : Type 0 where
 abbrev pub linked : State → ℕ → ℕ → Object → State
 linked s d o y = put s d (listing o y)
 
--- what d uses is the object's quota more, and what others use is the same
-use_here : (s : State) (d o : ℕ) (y z : Object) → Linking s d o y z
-    → use_of (linked s d o y) d ≡ use_of s d + z.quota
-use_here s d o y z m =
-    let at : object_at (linked s d o y) d ≡ Some (listing o y) =
-    lookup_put d d s.objects y (listing o y) m.found
-    ∙ ap (λ b. cond b (Some (listing o y)) (object_at s d)) (at_self d) in
-    let before : use_of s d ≡ own_cost y.body + sum_by (quota_at s) (listed y.body)
-    = (λ i. of_object 0 (λ w. own_cost w.body) (m.found i)
-    + sum_by (quota_at s) (of_object [] (λ w. listed w.body) (m.found i))) in
-    let after : use_of (linked s d o y) d ≡ own_cost y.body + (sum_by (quota_at s) (listed y.body) + z.quota)
-    = (λ i. of_object 0 (λ w. own_cost w.body) (at i)
-    + sum_by (quota_at (linked s d o y)) (of_object [] (λ w. listed w.body) (at i)))
-    ∙ (λ i. cost-listing y o i
-    + sum_by (λ k. at_put 0 (λ w. w.quota) s d k y (listing o y) m.found refl i) (listed-listing y o m.kind i))
-    ∙ ap (λ n. own_cost y.body + n)
-    (sum_by-append (quota_at s) (listed y.body) (o ∷ [])
-    ∙ (λ i. sum_by (quota_at s) (listed y.body)
-    + (zero-add (quota_at s o) ∙ ap (of_object 0 (λ w. w.quota)) m.there) i)) in
-    omega arith
-
-use_other : (s : State) (d o : ℕ) (y z : Object) → Linking s d o y z → (q : ℕ) → is_at (nat_cmp q) d ≡ false
-    → use_of (linked s d o y) q ≡ use_of s q
-use_other s d o y z m q far =
-    let at : object_at (linked s d o y) q ≡ object_at s q =
-    lookup_put d q s.objects y (listing o y) m.found
-    ∙ ap (λ b. cond b (Some (listing o y)) (object_at s q)) far in
-    (λ i. of_object 0 (λ w. own_cost w.body) (at i)
-    + sum_by (λ k. at_put 0 (λ w. w.quota) s d k y (listing o y) m.found refl i)
-    (of_object [] (λ w. listed w.body) (at i)))
-
 recorded : (s : State) (d o : ℕ) (y z : Object) → Linking s d o y z → (ids : List ℕ)
     → list_all (λ i. is_some (object_at (linked s d o y) i)) ids ≡ list_all (λ i. is_some (object_at s i)) ids
 recorded s d o y z m ids = λ j. list_all (λ i. some_put s d i y (listing o y) m.found j) ids
@@ -95,7 +64,9 @@ kept_here s d o y z m h =
           ∙ and_from (list_all (λ i. is_some (object_at s i)) (listed y.body))
           (is_some (object_at s o) && true) k.recorded
           (and_from (is_some (object_at s o)) true (ap is_some m.there) refl);
-      within = ap (λ n. nat_le n y.quota) (use_here s d o y z m)
+      within = ap (λ n. nat_le n y.quota)
+          (listing_use_here s d o y m.found m.kind
+          ∙ ap (λ v. use_of s d + of_object 0 (λ w. w.quota) v) m.there)
           ∙ le_test (use_of s d + z.quota) y.quota m.room;
       rightly = (λ i. cond (d == 1) (lists i == 0)
           (cond (kind-listing y o i) (lists i == 1)
@@ -113,7 +84,7 @@ kept_linked s d o y z m h far =
     kept_from (linked s d o y) o z (record {
       distinct = k.distinct;
       recorded = recorded s d o y z m (listed z.body) ∙ k.recorded;
-      within = ap (λ n. nat_le n z.quota) (use_other s d o y z m o far) ∙ k.within;
+      within = ap (λ n. nat_le n z.quota) (listing_use_other s d o y m.found o far) ∙ k.within;
       rightly = (λ i. cond (no_root i) (lists i == 0)
           (cond (m.plain i) (lists i == 1) (nat_le 1 (lists i) && (nat_le (lists i) 1 || m.fixed i))))
           ∙ and_from (nat_le 1 (1 + listers s o)) (nat_le (1 + listers s o) 1 || true)
@@ -133,7 +104,7 @@ kept_other s d o y z m h q w found far other =
     kept_from (linked s d o y) q w (record {
       distinct = k.distinct;
       recorded = recorded s d o y z m (listed w.body) ∙ k.recorded;
-      within = ap (λ n. nat_le n w.quota) (use_other s d o y z m q far) ∙ k.within;
+      within = ap (λ n. nat_le n w.quota) (listing_use_other s d o y m.found q far) ∙ k.within;
       rightly = ap (λ n. is_listed_rightly n q w) lists ∙ k.rightly;
       whole = k.whole;
     })

@@ -1,12 +1,12 @@
 -- Looking up ids among records that rise.
 use Rattle.std.proofs.Common.{◌≡◌, ◌≢◌, ℕ, ◌<◌, Bool, true, false, cond, ◌==◌, nat_lt}
 use Rattle.std.proofs.Common.{List, [], ◌∷◌, ◌++◌, Some, None, refl, sym, ◌∙◌, ap, subst}
-use Rattle.std.proofs.Common.{arith, Less, Equal, Greater}
+use Rattle.std.proofs.Common.{arith, Less, Equal, Greater, inl, inr}
 use Rattle.std.specs.List.{list_all}
 use Rattle.std.specs.Ordering.{nat_cmp, is_eq, match_ordering}
 use Rattle.std.specs.Map.{lookup, set_value}
 use Rattle.std.specs.BTreeMap.{is_at, insert_entry}
-use Rattle.std.proofs.lemmas.Bool.{and_parts, and_from, both_ways, eq-eqb, ltb-true}
+use Rattle.std.proofs.lemmas.Bool.{and_parts, and_from, both_ways, cases_Bool, eq-eqb, eqb-true, ltb-true}
 use Rattle.kernel_rules.specs.declared.objects.Object.{Object}
 use Rattle.kernel_rules.specs.WellFormed.{ids_rise}
 use Rattle.kernel_rules.proofs.RecordLaws.{same_id}
@@ -18,6 +18,18 @@ at_self o =
       | true ↦ λ is. let less : o < o = ltb-true o o is in absurd (omega arith)
       | false ↦ λ is. subst (λ v. is_eq (cond v Equal Greater) ≡ true) (sym (eq-eqb o o refl)) refl
     ] refl
+
+-- and at no other
+pub at_is : (o k : ℕ) → is_at (nat_cmp o) k ≡ (o == k)
+at_is o k = elim (cases_Bool (o == k)) [
+  | inl is ↦
+      let same : o ≡ k = eqb-true o k is in
+      subst (λ (j : ℕ). is_at (nat_cmp o) j ≡ (o == j)) same (at_self o ∙ sym (eq-eqb o o refl))
+  | inr off ↦ elim (cases_Bool (is_at (nat_cmp o) k)) [
+    | inl at ↦ absurd (both_ways (o == k) off (eq-eqb o k (same_id o k at)))
+    | inr never ↦ never ∙ sym off
+  ]
+]
 
 -- what holds of each record holds of the one that is looked up
 pub all_at : (P : ℕ → Object → Bool) (es : List (ℕ × Object)) (o : ℕ) (x : Object)

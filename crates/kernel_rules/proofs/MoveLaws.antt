@@ -1,11 +1,11 @@
 -- A change of the quota of an object that one list has.
 use Rattle.std.proofs.Common.{◌≡◌, ◌≢◌, ℕ, ◌+◌, ◌-◌, ◌≤◌, Bool, true, false, cond, not, ◌||◌}
 use Rattle.std.proofs.Common.{◌==◌, nat_lt, nat_le, List, [], ◌∷◌, Option, Some, None, is_some, sum_by, refl}
-use Rattle.std.proofs.Common.{sym, ◌∙◌, ap, subst, arith}
+use Rattle.std.proofs.Common.{sym, ◌∙◌, ap, subst, arith, inl, inr}
 use Rattle.std.specs.List.{list_all}
 use Rattle.std.specs.Ordering.{nat_cmp}
 use Rattle.std.specs.BTreeMap.{is_at}
-use Rattle.std.proofs.lemmas.Bool.{and_parts, both_ways, eqb-true}
+use Rattle.std.proofs.lemmas.Bool.{and_parts, both_ways, cases_Bool, eq-eqb, eqb-true}
 use Rattle.std.proofs.lemmas.List.Sums.{sum_by-cons}
 use Rattle.base.specs.Live.{has, are_live}
 use Rattle.kernel_rules.specs.Changes.{put, changed, requoted}
@@ -18,6 +18,7 @@ use Rattle.kernel_rules.specs.declared.objects.Object.{Object}
 use Rattle.kernel_rules.proofs.CountLaws.{counts, counted_two, one_list}
 use Rattle.kernel_rules.proofs.KeptLaws.{at_put, some_put, rise-put}
 use Rattle.kernel_rules.proofs.ListerLaws.{IsKept, kept_parts, kept_from}
+use Rattle.kernel_rules.proofs.ListingLaws.{not_listed}
 use Rattle.kernel_rules.proofs.LookupLaws.{all_at, all_from, at_self, lookup_put}
 use Rattle.kernel_rules.proofs.QuotaLaws.{use_within}
 use Rattle.kernel_rules.proofs.RecordLaws.{same_id, lists_of-set_value}
@@ -118,7 +119,7 @@ module _ (s : State) (d o up down : ℕ) (x : Object) (m : Moving s d o up down 
       apart a b p q e f g j h k l n = omega arith
 
   -- what each object uses
-  uses : (q : ℕ) → is_distinct (list_at s q) ≡ true
+  pub uses : (q : ℕ) → is_distinct (list_at s q) ≡ true
       → use_of (moved s o up down x) q + where_true (has (list_at s q) o) down
       ≡ use_of s q + where_true (has (list_at s q) o) up
   uses q distinct =
@@ -138,7 +139,7 @@ module _ (s : State) (d o up down : ℕ) (x : Object) (m : Moving s d o up down 
       joined a c e f g j h n = omega arith
 
   -- of what lists o there is d alone
-  lister : (q : ℕ) (w : Object) → object_at s q ≡ Some w → has (list_at s q) o ≡ true → Soundness s → q ≡ d
+  pub lister : (q : ℕ) (w : Object) → object_at s q ≡ Some w → has (list_at s q) o ≡ true → Soundness s → q ≡ d
   lister q w found has_it h =
       let k : IsKept s o x = kept_parts s o x (all_at (λ q z. is_kept s q z) s.objects o x h.kept m.found) in
       let few : listers s o ≤ 1 = one_list (listers s o) o x k.rightly m.loose in
@@ -259,6 +260,19 @@ module _ (s : State) (d o up down : ℕ) (x : Object) (m : Moving s d o up down 
             ] refl there);
       }
 
+-- what a call requires says where it is changed
+pub moving_at : (s : State) (e : Entry) (up down : ℕ) (x : Object) → object_at s e.object ≡ Some x
+    → has (list_at s e.container) e.object ≡ true → is_fixed s e.object ≡ false
+    → use_of s e.container + up ≤ quota_at s e.container → use_of s e.object + down ≤ quota_at s e.object
+    → Moving s e.container e.object up down x
+moving_at s e up down x is held loose room free = record {
+  found = is;
+  loose = subst (λ v. of_object false (λ z. z.fixed) v ≡ false) is loose;
+  held = held;
+  room = room;
+  free = subst (λ v. use_of s e.object + down ≤ of_object 0 (λ z. z.quota) v) is free;
+}
+
 -- another quota of an object that is not fixed, with room for it in the container that lists it
 pub moved_well_formed : (s : State) (e : Entry) (up down : ℕ) → has (list_at s e.container) e.object ≡ true
     → is_fixed s e.object ≡ false → use_of s e.container + up ≤ quota_at s e.container
@@ -271,15 +285,7 @@ moved_well_formed s e up down held loose room free h = at_object (object_at s e.
     at_object None is = h
     at_object (Some x) is =
         well_formed_from (moved s e.object up down x)
-        (moved_sound s e.container e.object up down x
-        (record {
-          found = is;
-          loose = subst (λ v. of_object false (λ z. z.fixed) v ≡ false) is loose;
-          held = held;
-          room = room;
-          free = subst (λ v. use_of s e.object + down ≤ of_object 0 (λ z. z.quota) v) is free;
-        })
-        (soundness_of s h))
+        (moved_sound s e.container e.object up down x (moving_at s e up down x is held loose room free) (soundness_of s h))
 
 -- what a list has takes its quota from the container's
 pub quota_listed : (s : State) (d o : ℕ) → has (list_at s d) o ≡ true → quota_at s o ≤ use_of s d
@@ -299,3 +305,57 @@ quota_listed s d o h =
               let rest = among f ids l in
               omega arith
         ] refl h
+
+-- what stands in a list is recorded
+listed_recorded : (s : State) (d o : ℕ) → Soundness s → has (list_at s d) o ≡ true → object_at s o ≡ None → ⊥
+listed_recorded s d o h held none =
+    elim (object_at s d) as (λ v. object_at s d ≡ v → has (of_object [] (λ z. listed z.body) v) o ≡ true → ⊥) [
+      | None ↦ λ is l. both_ways false refl l
+      | Some y ↦ λ is l.
+          let k : IsKept s d y = kept_parts s d y (all_at (λ q z. is_kept s q z) s.objects d y h.kept is) in
+          both_ways (has (listed y.body) o) (not_listed s o (listed y.body) none k.recorded) l
+    ] refl held
+
+distinct_at : (s : State) (q : ℕ) → Soundness s → is_distinct (list_at s q) ≡ true
+distinct_at s q h =
+    elim (object_at s q) as (λ v. object_at s q ≡ v → is_distinct (of_object [] (λ z. listed z.body) v) ≡ true) [
+      | None ↦ λ is. refl
+      | Some y ↦ λ is. (kept_parts s q y (all_at (λ i z. is_kept s i z) s.objects q y h.kept is)).distinct
+    ] refl
+
+-- once a quota moved, the one container that lists the object uses as much more and less, and others what they used
+pub requoted_use : (s : State) (e : Entry) (up down : ℕ) → has (list_at s e.container) e.object ≡ true
+    → is_fixed s e.object ≡ false → use_of s e.container + up ≤ quota_at s e.container
+    → use_of s e.object + down ≤ quota_at s e.object → is_well_formed s ≡ true → (q : ℕ)
+    → use_of (changed s e.object (requoted up down)) q + cond (q == e.container) down 0
+    ≡ use_of s q + cond (q == e.container) up 0
+requoted_use s e up down held loose room free h q = at_object (object_at s e.object) refl
+  where
+    at_object : (v : Option Object) → object_at s e.object ≡ v
+        → use_of (of_object s (λ x. put s e.object (requoted up down x)) v) q + cond (q == e.container) down 0
+        ≡ use_of s q + cond (q == e.container) up 0
+    at_object None is = absurd (listed_recorded s e.container e.object (soundness_of s h) held is)
+    at_object (Some x) is =
+        let m = moving_at s e up down x is held loose room free in
+        subst (λ (b : Bool). use_of (moved s e.object up down x) q + cond b down 0 ≡ use_of s q + cond b up 0)
+        (test x m)
+        (uses s e.container e.object up down x m q (distinct_at s q (soundness_of s h)))
+      where
+        holder : (x : Object) → Moving s e.container e.object up down x → has (list_at s q) e.object ≡ true → q ≡ e.container
+        holder x m l =
+            elim (object_at s q)
+            as (λ v. object_at s q ≡ v → has (of_object [] (λ z. listed z.body) v) e.object ≡ true → q ≡ e.container) [
+              | None ↦ λ none has_it. absurd (both_ways false refl has_it)
+              | Some w ↦ λ found has_it.
+                  lister s e.container e.object up down x m q w found l (soundness_of s h)
+            ] refl l
+
+        test : (x : Object) → Moving s e.container e.object up down x
+            → has (list_at s q) e.object ≡ (q == e.container)
+        test x m = elim (cases_Bool (q == e.container)) [
+          | inl is ↦ subst (λ k. has (list_at s k) e.object ≡ true) (sym (eqb-true q e.container is)) held ∙ sym is
+          | inr off ↦ elim (cases_Bool (has (list_at s q) e.object)) [
+            | inl l ↦ absurd (both_ways (q == e.container) off (eq-eqb q e.container (holder x m l)))
+            | inr none ↦ none ∙ sym off
+          ]
+        ]

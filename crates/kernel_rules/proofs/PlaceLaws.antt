@@ -161,7 +161,7 @@ pub received_well_formed : (s : State) (o : ℕ) → is_well_formed s ≡ true
     → is_well_formed (changed s o (with_body (requeue (drop 1)))) ≡ true
 received_well_formed s o h = kept_well_formed s o (with_body (requeue (drop 1))) received_keeps h
 
-immutable_keeps : (x : Object) → KeepsPlace x (made_immutable x)
+pub immutable_keeps : (x : Object) → KeepsPlace x (made_immutable x)
 immutable_keeps x =
     record { list = refl; kind = refl; quota = refl; cost = refl; fixed = λ f. f; whole = λ w. w }
 
@@ -170,7 +170,7 @@ pub immutable_well_formed : (s : State) (o : ℕ) → is_well_formed s ≡ true
 immutable_well_formed s o h = kept_well_formed s o made_immutable immutable_keeps h
 
 -- an object with other metadata of 64 bytes
-noted_keeps : (bytes : List ℕ) → length (padded 64 0 bytes) ≡ 64 → (x : Object) → KeepsPlace x (noted bytes x)
+pub noted_keeps : (bytes : List ℕ) → length (padded 64 0 bytes) ≡ 64 → (x : Object) → KeepsPlace x (noted bytes x)
 noted_keeps bytes full x = record {
   list = refl;
   kind = refl;
@@ -186,7 +186,7 @@ noted_keeps bytes full x = record {
         let parts : ((a && b) ≡ true) × (d ≡ true) = and_parts (a && b) d w in
         and_from (a && c) d (and_from a c (and_parts a b parts.0).0 there) parts.1
 
-padded_full : (bytes : List ℕ) → length bytes ≤ 64 → length (padded 64 0 bytes) ≡ 64
+pub padded_full : (bytes : List ℕ) → length bytes ≤ 64 → length (padded 64 0 bytes) ≡ 64
 padded_full bytes few =
     length-append bytes (replicate (64 - length bytes) 0)
     ∙ ap (λ n. length bytes + n) (length-replicate (64 - length bytes) 0) ∙ filled (length bytes) few

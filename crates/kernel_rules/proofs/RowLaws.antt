@@ -3,7 +3,7 @@ use Rattle.std.proofs.Common.{◌≡◌, ◌≤◌, ◌<◌, ℕ, Bool, true, fa
 use Rattle.std.proofs.Common.{◌++◌, Option, Some, None, refl, sym, ◌∙◌, ap, subst, arith}
 use Rattle.std.proofs.lemmas.Bool.{leb-true, leb-false}
 use Rattle.base.specs.declared.refusals.Refusal.{Refusal}
-use Rattle.base.specs.Refusal.{row_of, lesser}
+use Rattle.base.specs.Refusal.{told_as, lesser}
 use Rattle.kernel_rules.specs.Rows.{Row, lesser_of, least_of, refusal_of}
 
 -- the choice between three numbers does not hang on where it begins
@@ -37,7 +37,7 @@ choice n a b c = elim (nat_le (n a) (n b)) as (λ v. nat_le (n a) (n b) ≡ v �
     gt_test x y h = grind arith
 
 lesser-lesser : (a b c : Refusal) → lesser (lesser a b) c ≡ lesser a (lesser b c)
-lesser-lesser a b c = choice (λ r. (row_of r).number) a b c
+lesser-lesser a b c = choice (λ r. (told_as r).number) a b c
 
 least_of-least_of : (a b c : Option Refusal) → least_of (least_of a b) c ≡ least_of a (least_of b c)
 least_of-least_of None b c = refl

@@ -82,16 +82,16 @@ thread_keeps f whole x = at_body x.body
     at_body (is.Device packets) =
         record { list = refl; kind = refl; quota = refl; cost = refl; fixed = λ f. f; whole = λ w. w }
 
-cleared_keeps : (c : LabelValue) → is_stored c ≡ true → (x : Object) → KeepsPlace x (cleared c x)
+pub cleared_keeps : (c : LabelValue) → is_stored c ≡ true → (x : Object) → KeepsPlace x (cleared c x)
 cleared_keeps c clearance x =
     thread_keeps (λ t. record t { clearance = c })
     (λ t w. and_from (is_stored c) (is_stored t.verify) clearance
     (and_parts (is_stored t.clearance) (is_stored t.verify) w).1) x
 
-spaced_keeps : (e : Entry) (x : Object) → KeepsPlace x (spaced e x)
+pub spaced_keeps : (e : Entry) (x : Object) → KeepsPlace x (spaced e x)
 spaced_keeps e x = thread_keeps (λ t. record t { space = e }) (λ t w. w) x
 
-entered_keeps : (l c v : LabelValue) (g : Gate) → is_stored l ≡ true → is_stored c ≡ true
+pub entered_keeps : (l c v : LabelValue) (g : Gate) → is_stored l ≡ true → is_stored c ≡ true
     → is_stored v ≡ true → (x : Object) → KeepsPlace x (entered l c v g x)
 entered_keeps l c v g label clearance verify x =
     let f : thread.Thread → thread.Thread =

@@ -5,10 +5,11 @@ use Rattle.std.specs.List.{filter}
 use Rattle.std.specs.Ordering.{nat_cmp}
 use Rattle.std.specs.Map.{set_value}
 use Rattle.std.specs.BTreeMap.{insert_entry, is_at}
-use Rattle.std.specs.Int.RustNames.{bit_or}
+use Rattle.base.specs.Sets.{union}
 use Rattle.base.specs.Padded.{padded}
 use Rattle.base.specs.declared.sets.TypeSet.{TypeSet}
 use Rattle.label_lattice.specs.Label.{LabelValue}
+use Rattle.kernel_rules.specs.Sizes.{most_bytes}
 use Rattle.kernel_rules.specs.State.{State, object_at, of_object}
 use Rattle.kernel_rules.specs.declared.calls.Entry.{Entry}
 use Rattle.kernel_rules.specs.declared.objects.Gate.{Gate}
@@ -79,9 +80,9 @@ requeue f (is.Gate g) = is.Gate g
 abbrev pub without : ℕ → List ℕ → List ℕ
 without o ids = filter (λ i. not (o == i)) ids
 
--- 64 bytes, of which these are the first and the others 0
+-- as many bytes as metadata has, of which these are the first and the others 0
 abbrev pub padded_data : List ℕ → List ℕ
-padded_data bytes = padded 64 0 bytes
+padded_data bytes = padded most_bytes 0 bytes
 
 -- the thread with this label
 abbrev pub labelled : LabelValue → Object → Object
@@ -128,14 +129,14 @@ made_immutable x = record x { immutable = true }
 abbrev pub noted : List ℕ → Object → Object
 noted bytes x = record x { metadata = padded_data bytes }
 
--- a new object: nothing fixed, not immutable, its metadata 64 bytes of 0
+-- a new object: nothing fixed, not immutable, its metadata zeros
 abbrev pub fresh_object : LabelValue → ℕ → body.Body → Object
 fresh_object l q b = record {
   label = l;
   quota = q;
   fixed = false;
   immutable = false;
-  metadata = replicate 64 0;
+  metadata = replicate most_bytes 0;
   body = b;
 }
 
@@ -160,7 +161,7 @@ made s d x = with_new (changed s d (listing s.next_id)) x
 
 -- what a new container in one of this body avoids: the kinds given, and those that this one avoids
 abbrev pub joined : TypeSet → body.Body → TypeSet
-joined kinds (is.Container avoid list) = record { 0 = bit_or kinds.0 avoid.0 }
+joined kinds (is.Container avoid list) = union kinds avoid
 joined kinds (is.Segment bytes) = kinds
 joined kinds (is.AddressSpace slots) = kinds
 joined kinds (is.Thread t) = kinds

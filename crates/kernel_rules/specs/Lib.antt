@@ -1,3 +1,4 @@
+pub mod Sizes
 pub mod Written
 pub mod State
 pub mod Translate

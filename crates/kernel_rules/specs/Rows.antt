@@ -1,4 +1,9 @@
 -- The words of the table of calls: conditions that refuse a call, each with its refusal.
+--
+-- A row is a list of pairs of a refusal and a condition. A condition that is true refuses; of the
+-- refusals of all that are true the one with the least number is given, so the order of a row says
+-- nothing. In what follows s is the state, t the calling thread, d a container, o an object, e an
+-- entry (an object in a container) and x a label as the caller hands it in.
 use Rattle.std.specs.Prelude.{ℕ, ◌+◌, ◌*◌, ◌%◌, Bool, false, not, ◌&&◌, ◌||◌, nat_le}
 use Rattle.std.specs.Prelude.{nat_lt, List, [], ◌∷◌, ◌++◌, Option, Some, None, is_none}
 use Rattle.std.specs.Prelude.{if◌then◌else◌, ℤ, pos, negsuc}
@@ -20,6 +25,7 @@ use Rattle.label_lattice.specs.Label.{LabelValue}
 use Rattle.label_lattice.specs.declared.raw_labels.RawLabel.{RawLabel}
 use Rattle.label_lattice.specs.Raw.{is_bad_below, raw_has_star}
 use Rattle.label_rules.specs.LabelRules.{both, below, between, stored, with_category}
+use Rattle.kernel_rules.specs.Sizes.{page_bytes, most_bytes}
 use Rattle.kernel_rules.specs.State.{State, is_live_kind, is_accessible, holds, is_kind_at}
 use Rattle.kernel_rules.specs.State.{observes}
 use Rattle.kernel_rules.specs.State.{flows_to, is_immutable, quota_at, use_of, avoids_at, label_at}
@@ -48,9 +54,10 @@ abbrev pub least_of : Option Refusal → Option Refusal → Option Refusal
 least_of None q = q
 least_of (Some r) q = Some (lesser_of r q)
 
--- 1 to 64 bytes from a on, which lie in one page of 256
+-- 1 to 64 bytes from a on, which lie in one page
 abbrev pub is_shape : ℕ → ℕ → Bool
-is_shape a n = nat_le 1 n && nat_le n 64 && nat_le (a % 256 + n) 256
+is_shape a n =
+    nat_le 1 n && nat_le n most_bytes && nat_le (a % page_bytes + n) page_bytes
 
 -- by how many pages a change of quota goes up
 abbrev pub pages_up : ℤ → ℕ
@@ -157,7 +164,7 @@ module _ (s : State) (t : ℕ) where
 
   -- n bytes from a on lie in segment o
   abbrev pub within : ℕ → ℕ → ℕ → Row
-  within o a n = (Bounds, nat_lt (256 * page_count s o) (a + n)) ∷ []
+  within o a n = (Bounds, nat_lt (page_bytes * page_count s o) (a + n)) ∷ []
 
   -- the entry names an address space, or none
   abbrev pub space_entry : Entry → Row

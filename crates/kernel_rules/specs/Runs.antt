@@ -2,6 +2,7 @@
 use Rattle.std.specs.Prelude.{ℕ, List, [], ◌∷◌}
 use Rattle.base.specs.declared.levels.Level.TheVariants.{L1, L2}
 use Rattle.base.specs.declared.ranges.Limits.{Limits}
+use Rattle.base.specs.Sets.{no_kind}
 use Rattle.kernel_rules.specs.State.{State}
 use Rattle.kernel_rules.specs.Changes.{fresh_object}
 use Rattle.kernel_rules.specs.Step.{answer, next, uniform, new_thread}
@@ -12,7 +13,7 @@ use Rattle.kernel_rules.specs.declared.objects.Body.TheVariants as is
 
 -- the root container, which holds the boot thread and the device, in this order
 abbrev pub root_object : Limits → Object
-root_object l = fresh_object (uniform L1) l.pages (is.Container (record { 0 = 0 }) (2 ∷ 3 ∷ []))
+root_object l = fresh_object (uniform L1) l.pages (is.Container no_kind (2 ∷ 3 ∷ []))
 
 -- the boot thread, whose address space is none
 abbrev pub boot_thread : Object

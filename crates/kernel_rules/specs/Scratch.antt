@@ -10,6 +10,7 @@ use Rattle.label_lattice.specs.Bits.{bits_of}
 use Rattle.label_lattice.specs.Label.{LabelValue}
 use Rattle.label_lattice.specs.Listing.{label_cmp}
 use Rattle.label_lattice.specs.Raw.{raw_of}
+use Rattle.kernel_rules.specs.Sizes.{slot_count}
 use Rattle.kernel_rules.specs.State.{State, live_part, use_of, is_kind}
 use Rattle.kernel_rules.specs.Tables.{TableLists}
 use Rattle.kernel_rules.specs.Translate.{translate}
@@ -40,7 +41,7 @@ shown_from s t i (suc n) = shown_as t i (translate s t i) ++ shown_from s t (i +
 
 -- what the sixteen slots of a record show, where it is a thread's
 abbrev pub shown_by : State → ℕ × Object → List Shown
-shown_by s e = if is_kind kinds.Thread e.1 then shown_from s e.0 0 16 else []
+shown_by s e = if is_kind kinds.Thread e.1 then shown_from s e.0 0 slot_count else []
 
 -- the labels that a body stores: the clearance and the verify label of a thread, the clearance of
 -- a gate

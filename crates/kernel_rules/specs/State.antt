@@ -13,6 +13,7 @@ use Rattle.base.specs.declared.kinds.Kind as kind
 use Rattle.base.specs.declared.kinds.Kind.TheVariants as kinds
 use Rattle.label_lattice.specs.Label.{LabelValue}
 use Rattle.label_rules.specs.LabelRules.{both, below, visible}
+use Rattle.kernel_rules.specs.Sizes.{page_bytes}
 use Rattle.kernel_rules.specs.declared.calls.Entry.{Entry}
 use Rattle.kernel_rules.specs.declared.objects.Gate.{Gate}
 use Rattle.kernel_rules.specs.declared.objects.Mapping.{Mapping}
@@ -88,7 +89,7 @@ bytes_of (is.Device packets) = []
 
 -- own cost in pages of 256 bytes: one, and for a segment one for each page, for a device one more
 abbrev pub own_cost : body.Body → ℕ
-own_cost (is.Segment bytes) = 1 + length bytes / 256
+own_cost (is.Segment bytes) = 1 + length bytes / page_bytes
 own_cost (is.Device packets) = 2
 own_cost (is.Container avoid list) = 1
 own_cost (is.AddressSpace slots) = 1
@@ -198,7 +199,7 @@ is_fixed s o = of_object false (λ x. x.fixed) (object_at s o)
 
 -- the whole pages of segment o
 abbrev pub page_count : State → ℕ → ℕ
-page_count s o = length (bytes_at s o) / 256
+page_count s o = length (bytes_at s o) / page_bytes
 
 -- own cost, and the declared quotas of what the entries name
 abbrev pub use_of : State → ℕ → ℕ

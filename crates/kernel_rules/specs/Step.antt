@@ -8,6 +8,7 @@ use Rattle.base.specs.declared.levels.Level.TheVariants.{L3}
 use Rattle.base.specs.declared.refusals.Refusal.{Refusal}
 use Rattle.label_lattice.specs.Label.{LabelValue}
 use Rattle.label_rules.specs.LabelRules.{stored}
+use Rattle.kernel_rules.specs.Sizes.{page_bytes, slot_count, most_told}
 use Rattle.kernel_rules.specs.State.{State, object_at, of_object, live_part, bytes_at, listed}
 use Rattle.kernel_rules.specs.State.{list_at, packets_at, gate_at, use_of, page_count}
 use Rattle.kernel_rules.specs.Translate.{slot_at, place_of}
@@ -97,12 +98,12 @@ edit s t (call.ContainerCreate n) =
     made_of s n.container (stored n.label) n.quota
     (is.Container (joined_at s n.avoid n.container) [])
 edit s t (call.SegmentCreate n) =
-    made_of s n.container (stored n.label) n.quota (is.Segment (replicate (256 * n.pages) 0))
+    made_of s n.container (stored n.label) n.quota (is.Segment (replicate (page_bytes * n.pages) 0))
 edit s t (call.SegmentCopy n) =
     made_of s n.container (stored n.label) n.quota (is.Segment (bytes_at s n.source.object))
 edit s t (call.AsCreate n) =
     made_of s n.container (stored n.label) n.quota
-    (is.AddressSpace (record { slots = replicate 16 None }))
+    (is.AddressSpace (record { slots = replicate slot_count None }))
 edit s t (call.ThreadCreate n) =
     made_bearer s n.container (stored n.label) n.quota (stored n.clearance)
     (λ c. new_thread c n.entry_point)
@@ -116,7 +117,7 @@ edit s t (call.SetFixed e) = changed s e.object made_fixed
 edit s t (call.SetImmutable e) = changed s e.object made_immutable
 edit s t (call.MetaSet e bytes) = changed s e.object (noted bytes)
 edit s t (call.SegmentResize e pages) =
-    changed s e.object (with_body (rebyte (resized (256 * pages))))
+    changed s e.object (with_body (rebyte (resized (page_bytes * pages))))
 edit s t (call.SegmentWrite e a bytes) =
     changed s e.object (with_body (rebyte (written a bytes)))
 edit s t (call.AsMap e slot m) =
@@ -218,7 +219,7 @@ found s t (query.ObjQuota e) =
     of_object reply.Done (λ x. reply.Quota x.quota (use_of s e.object) x.fixed x.immutable)
     (object_at s e.object)
 found s t (query.ContainerList d from) =
-    reply.Listed (length (list_at s d)) (take 16 (drop from (list_at s d)))
+    reply.Listed (length (list_at s d)) (take most_told (drop from (list_at s d)))
 found s t (query.ContainerParent d) = reply.Parent (lister_of d s.objects)
 found s t (query.SegmentLen e) = reply.Pages (page_count s e.object)
 found s t (query.SegmentRead e a n) =

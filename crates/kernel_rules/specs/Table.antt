@@ -1,4 +1,8 @@
 -- The table of calls: for each call its row of conditions, and what refuses it.
+--
+-- A row is put together from the words of Rows: a condition that is true refuses, and of those that
+-- are true the one with the least number tells why. A call that no condition refuses changes the
+-- state and answers as Step says. The names of the words are those of the code (kernel_store).
 use Rattle.std.specs.Prelude.{ℕ, ◌+◌, Bool, true, not, ◌&&◌, ◌||◌, ◌==◌, nat_le, nat_lt, []}
 use Rattle.std.specs.Prelude.{◌∷◌, ◌++◌, length, Option, is_none, is_some, ℤ}
 use Rattle.std.specs.List.{list_any}
@@ -16,6 +20,7 @@ use Rattle.base.specs.declared.refusals.Refusal.TheVariants.{Overlap, GateDenied
 use Rattle.base.specs.declared.refusals.Refusal.TheVariants.{DeviceEmpty, Spent}
 use Rattle.label_rules.specs.LabelRules.{both, below, shown, may_clear, may_enter, stored}
 use Rattle.label_rules.specs.declared.gates.Bearer.{Bearer}
+use Rattle.kernel_rules.specs.Sizes.{page_limit, most_pages, last_slot, most_packets}
 use Rattle.kernel_rules.specs.State.{State, object_at, of_object, kind_of, is_kind_at, observes}
 use Rattle.kernel_rules.specs.State.{label_at, clearance_at, quota_at, use_of, list_at, avoids_at}
 use Rattle.kernel_rules.specs.State.{is_fixed, gate_at, slots_at, packets_at, page_count}
@@ -36,8 +41,8 @@ use Rattle.kernel_rules.specs.declared.objects.Mapping.{Mapping}
 -- from 0 to 15, and gives some right
 abbrev pub is_mapping : ℕ → Mapping → Bool
 is_mapping slot m =
-    nat_le slot 15 && nat_le 1 m.count && nat_le (m.page + m.count) 65536
-    && nat_le (m.first + m.count) 16 && (may_read m.rights || may_write m.rights)
+    nat_le slot last_slot && nat_le 1 m.count && nat_le (m.page + m.count) page_limit
+    && nat_le (m.first + m.count) most_pages && (may_read m.rights || may_write m.rights)
 
 -- the entry (1, 1), of the root in itself
 abbrev pub names_root : Entry → Bool
@@ -82,7 +87,7 @@ module _ (s : State) (t : ℕ) where
   row (call.ContainerCreate n) = new_object s t kinds.Container n.container n.label n.quota 1
   row (call.SegmentCreate n) =
       new_object s t kinds.Segment n.container n.label n.quota (1 + n.pages)
-      ++ (Bounds, nat_lt 16 n.pages) ∷ []
+      ++ (Bounds, nat_lt most_pages n.pages) ∷ []
   row (call.SegmentCopy n) =
       in_container s t n.source ++ of_kind s t kinds.Segment n.source.object
       ++ observed s t n.source.object
@@ -123,7 +128,7 @@ module _ (s : State) (t : ℕ) where
   row (call.SegmentResize e pages) =
       in_container s t e ++ of_kind s t kinds.Segment e.object ++ modified s t e.object
       ++ (NoQuota, nat_lt (quota_at s e.object) (1 + pages)) ∷ not_immutable s t e.object
-      ++ (Bounds, nat_lt 16 pages) ∷ []
+      ++ (Bounds, nat_lt most_pages pages) ∷ []
   row (call.SegmentWrite e a bytes) =
       in_container s t e ++ of_kind s t kinds.Segment e.object ++ modified s t e.object
       ++ not_immutable s t e.object ++ shaped s t a (length bytes)
@@ -136,7 +141,7 @@ module _ (s : State) (t : ℕ) where
       ∷ []
   row (call.AsUnmap e slot) =
       in_container s t e ++ of_kind s t kinds.AddressSpace e.object ++ modified s t e.object
-      ++ not_immutable s t e.object ++ (Bounds, nat_lt 15 slot)
+      ++ not_immutable s t e.object ++ (Bounds, nat_lt last_slot slot)
       ∷ (NotMapped, is_none (slot_at s e.object slot)) ∷ []
   row (call.Store address bytes) =
       shaped s t address (length bytes) ++ mapped s t address may_write
@@ -153,7 +158,7 @@ module _ (s : State) (t : ℕ) where
       ) ∷ []
   row (call.DevSend e bytes) =
       in_container s t e ++ of_kind s t kinds.Device e.object ++ modified s t e.object
-      ++ (Bounds, length bytes == 0) ∷ (DeviceFull, nat_le 4 (length (packets_at s e.object))) ∷ []
+      ++ (Bounds, length bytes == 0) ∷ (DeviceFull, nat_le most_packets (length (packets_at s e.object))) ∷ []
   row (call.DevRecv e) =
       in_container s t e ++ of_kind s t kinds.Device e.object ++ modified s t e.object
       ++ (DeviceEmpty, length (packets_at s e.object) == 0) ∷ []
@@ -181,7 +186,7 @@ module _ (s : State) (t : ℕ) where
       in_container s t e ++ not_of_kind s t kinds.Thread e.object ++ observed s t e.object
   query_row (query.AsGet e slot) =
       in_container s t e ++ of_kind s t kinds.AddressSpace e.object ++ observed s t e.object
-      ++ (Bounds, nat_lt 15 slot) ∷ []
+      ++ (Bounds, nat_lt last_slot slot) ∷ []
   query_row (query.Load address n) = shaped s t address n ++ mapped s t address may_read
 
   -- what refuses the call: the least number that holds among all conditions of its row

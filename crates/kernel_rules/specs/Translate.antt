@@ -6,6 +6,7 @@ use Rattle.std.specs.Option.{option_map}
 use Rattle.base.specs.Live.{has}
 use Rattle.base.specs.Sets.{reading}
 use Rattle.base.specs.declared.sets.Rights.{Rights}
+use Rattle.kernel_rules.specs.Sizes.{page_bytes}
 use Rattle.kernel_rules.specs.State.{State, is_accessible, list_at, observes, flows_to}
 use Rattle.kernel_rules.specs.State.{is_immutable, slots_at, thread_at, page_count}
 use Rattle.kernel_rules.specs.declared.calls.Entry.{Entry}
@@ -36,7 +37,7 @@ place_at s address n shown =
     if nat_lt n (page_count s shown.0)
     then Some (record {
       segment = shown.0;
-      offset = 256 * n + address % 256;
+      offset = page_bytes * n + address % page_bytes;
       rights = shown.1;
     })
     else None
@@ -44,7 +45,7 @@ place_at s address n shown =
 -- where an address lies by this mapping, which covers it, and its translation
 abbrev pub place_by : State → ℕ → Option Mapping → Option (ℕ × Rights) → Option Place
 place_by s address (Some m) (Some shown) =
-    place_at s address (m.first + (address / 256 - m.page)) shown
+    place_at s address (m.first + (address / page_bytes - m.page)) shown
 place_by s address (Some m) None = None
 place_by s address None shown = None
 
@@ -91,7 +92,7 @@ module _ (s : State) (t : ℕ) where
   abbrev pub place_among : ℕ → ℕ → List (Option Mapping) → Option Place
   place_among address i [] = None
   place_among address i (m ∷ ms) =
-      if covers (address / 256) m then place_by s address m (translate i)
+      if covers (address / page_bytes) m then place_by s address m (translate i)
       else place_among address (i + 1) ms
 
   -- where an address of the thread lies

@@ -7,6 +7,7 @@ use Rattle.base.specs.Live.{has, are_live}
 use Rattle.base.specs.declared.kinds.Kind.TheVariants as kinds
 use Rattle.label_lattice.specs.Label.{LabelValue}
 use Rattle.label_lattice.specs.declared.pairings.Pair.{Pair}
+use Rattle.kernel_rules.specs.Sizes.{page_bytes, most_pages, slot_count, most_bytes, most_packets, most_exceptions}
 use Rattle.kernel_rules.specs.State.{State, lists_of, object_at, listed, use_of, is_kind}
 use Rattle.kernel_rules.specs.declared.objects.Object.{Object}
 use Rattle.kernel_rules.specs.declared.objects.Body as body
@@ -21,7 +22,7 @@ categories_rise (p ∷ ps) = list_all (λ q. nat_lt p.category.0 q.category.0) p
 -- category, have other levels than that
 abbrev pub is_stored : LabelValue → Bool
 is_stored l =
-    not (rank_of l.default_level == 0) && nat_le (length l.exceptions) 16
+    not (rank_of l.default_level == 0) && nat_le (length l.exceptions) most_exceptions
     && categories_rise l.exceptions
     && list_all (λ p. not (rank_of p.level == rank_of l.default_level)) l.exceptions
 
@@ -30,17 +31,18 @@ is_stored l =
 abbrev pub is_whole_body : body.Body → Bool
 is_whole_body (is.Container avoid list) = true
 is_whole_body (is.Segment bytes) =
-    length bytes == 256 * (length bytes / 256) && nat_le (length bytes) 4096
-is_whole_body (is.AddressSpace slots) = length slots.slots == 16
+    length bytes == page_bytes * (length bytes / page_bytes)
+    && nat_le (length bytes) (page_bytes * most_pages)
+is_whole_body (is.AddressSpace slots) = length slots.slots == slot_count
 is_whole_body (is.Thread t) = is_stored t.clearance && is_stored t.verify
 is_whole_body (is.Gate g) = is_stored g.clearance
 is_whole_body (is.Device packets) =
-    nat_le (length packets) 4
-    && list_all (λ p. nat_le 1 (length p) && nat_le (length p) 64) packets
+    nat_le (length packets) most_packets
+    && list_all (λ p. nat_le 1 (length p) && nat_le (length p) most_bytes) packets
 
 -- what holds of an object apart from all others
 abbrev pub is_whole : Object → Bool
-is_whole x = is_stored x.label && length x.metadata == 64 && is_whole_body x.body
+is_whole x = is_stored x.label && length x.metadata == most_bytes && is_whole_body x.body
 
 -- no id stands twice
 abbrev pub is_distinct : List ℕ → Bool

@@ -114,14 +114,20 @@ pub fn not_immutable(seen: &Seen) -> [Condition; 1]
 }
 
 /// So many pages more are within the container's quota.
-pub fn with_room<S: Store>(state: &S, container: ObjectId, pages: u32) -> [Condition; 1]
-    ensures { result ≡ (
+pub fn with_room<S: Store>(
+    state: &S,
+    container: ObjectId,
+    pages: u32,
+    meter: &mut Meter,
+) -> [Condition; 1]
+    ensures value { result ≡ (
       refusal.NoQuota,
       nat_lt (quota_at (S.state state.now) container)
           (use_of (S.state state.now) container + pages),
     ) ∷ [] }
+    ensures meter { S.kept meter.new ≡ S.kept meter.old }
 {
-    [(Refusal::NoQuota, state.is_over(container, pages))]
+    [(Refusal::NoQuota, state.is_over(container, pages, meter))]
 }
 
 /// From `at` on, `count` is 1 to 64 bytes of one page.
@@ -133,13 +139,20 @@ pub fn shaped(at: u64, count: u64) -> [Condition; 1]
 }
 
 /// So many bytes from `offset` on lie in the segment.
-pub fn within<S: Store>(state: &S, id: ObjectId, offset: u32, count: u32) -> [Condition; 1]
-    ensures { result ≡ (
+pub fn within<S: Store>(
+    state: &S,
+    id: ObjectId,
+    offset: u32,
+    count: u32,
+    meter: &mut Meter,
+) -> [Condition; 1]
+    ensures value { result ≡ (
       refusal.Bounds,
       nat_lt (256 * page_count (S.state state.now) id) (offset + count),
     ) ∷ [] }
+    ensures meter { S.kept meter.new ≡ S.kept meter.old }
 {
-    [(Refusal::Bounds, state.is_past(id, offset, count))]
+    [(Refusal::Bounds, state.is_past(id, offset, count, meter))]
 }
 
 /// The entry names an address space, or none.
@@ -170,7 +183,7 @@ pub fn mapped_to_read(place: &Option<Place>) -> [Condition; 2]
 {
     let allowed = match place {
         None => false,
-        Some(place) => place.rights.may_read(),
+        Some(place) => place.rights.read,
     };
     [
         (Refusal::NotMapped, place.is_none()),
@@ -185,7 +198,7 @@ pub fn mapped_to_write(place: &Option<Place>) -> [Condition; 2]
 {
     let allowed = match place {
         None => false,
-        Some(place) => place.rights.may_write(),
+        Some(place) => place.rights.write,
     };
     [
         (Refusal::NotMapped, place.is_none()),

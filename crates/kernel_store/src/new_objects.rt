@@ -40,9 +40,9 @@ fn fitting<S: Store>(
     let seen = state.sight(thread, &itself(made.container), meter);
     let [access] = at_container(&seen);
     let [observed, flowing] = modified(&seen.object);
-    let avoided = state.avoids(made.kind, made.container);
+    let avoided = state.avoids(made.kind, made.container, meter);
     let small = u64::from(made.quota) < pages;
-    let [room] = with_room(state, made.container, made.quota);
+    let [room] = with_room(state, made.container, made.quota, meter);
     let [immutable] = not_immutable(&seen.object);
     let spent = 1 << 61 <= state.next_id().number();
     [
@@ -106,7 +106,9 @@ pub fn is_in_range<S: Store>(
     ensures { result
         ≡ in_range_of (S.state state.now) thread (option_copied label.entry) }
 {
-    is_between(state.label(thread), label, state.clearance(thread), meter)
+    let own = state.label(thread, meter);
+    let clearance = state.clearance(thread, meter);
+    is_between(own, label, clearance, meter)
 }
 
 /// What refuses a new container, segment or address space, which uses so many pages itself.
@@ -152,7 +154,8 @@ fn is_above<S: Store>(state: &S, thread: ObjectId, label: Option<&Label>, meter:
     ensures { result ≡ both below (label_at (S.state state.now) thread)
         (option_copied label.entry) }
 {
-    is_below(state.label(thread), label, meter)
+    let own = state.label(thread, meter);
+    is_below(own, label, meter)
 }
 
 fn is_bounded<S: Store>(
@@ -165,7 +168,8 @@ fn is_bounded<S: Store>(
     ensures { result ≡ between (option_copied label.entry) (option_copied clearance.entry)
         (clearance_at (S.state state.now) thread) }
 {
-    is_between(label, clearance, state.clearance(thread), meter)
+    let own = state.clearance(thread, meter);
+    is_between(label, clearance, own, meter)
 }
 
 /// What refuses a new thread or gate of a raw clearance.

@@ -61,6 +61,15 @@ impl<const N: usize> Pairs<N> {
         &self.cells[..self.len]
     }
 
+    /// How many stand in it: 0 to N.
+    pub fn len(&self) -> usize
+        ensures value { result ≡ length self.now }
+        ensures few { result ≤ N }
+    {
+        // (of the slice, which is no longer than the cells)
+        self.cells[..self.len].len()
+    }
+
     /// Puts a pair at the end, where fewer than N stand. Whether there is room is told by the
     /// length of the slice.
     pub fn push(&mut self, pair: Pair)

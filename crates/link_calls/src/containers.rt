@@ -45,9 +45,9 @@ pub fn container_create<S: Store>(
         (call.ContainerCreate made.now)) }
     ensures err { OnErr result (S.state state.new ≡ S.state state.old) }
 {
-    let kinds = state.joined(made.container, made.avoid);
+    let kinds = state.joined(made.container, made.avoid, meter);
     let label = stored_of(&made.label, meter);
-    let id = state.create_container(made.container, label, made.quota, kinds)?;
+    let id = state.create_container(made.container, label, made.quota, kinds, meter)?;
     Ok(Reply::Object(id))
 }
 
@@ -65,7 +65,7 @@ pub fn refused_container_list<S: Store>(
 {
     let halted = halted(state, thread, meter);
     let seen = state.sight(thread, &itself(container), meter);
-    let past = state.list_len(container) < from as usize;
+    let past = state.list_len(container, meter) < from as usize;
     refusal_of(&[&halted, &at_container(&seen), &[(Refusal::Bounds, past)]])
 }
 
@@ -76,15 +76,17 @@ pub fn container_list<S: Store>(
     thread: ObjectId,
     container: ObjectId,
     from: u32,
+    meter: &mut Meter,
 ) -> Reply
     requires { query_refused (S.state state.now) thread
         (query.ContainerList container from) ≡ None }
-    ensures { result ≡ found (S.state state.now) thread
+    ensures value { result ≡ found (S.state state.now) thread
         (query.ContainerList container from) }
+    ensures meter { S.kept meter.new ≡ S.kept meter.old }
 {
     Reply::Listed {
-        count: state.list_len(container) as u64,
-        ids: state.ids_from(container, from),
+        count: state.list_len(container, meter) as u64,
+        ids: state.ids_from(container, from, meter),
     }
 }
 
@@ -105,10 +107,17 @@ pub fn refused_container_parent<S: Store>(
 }
 
 /// The container that lists a container; the root's is the root.
-pub fn container_parent<S: Store>(state: &S, thread: ObjectId, container: ObjectId) -> Reply
+#[tactic(auto, using(crate::proofs::ContainerLaws::parent_asked))]
+pub fn container_parent<S: Store>(
+    state: &S,
+    thread: ObjectId,
+    container: ObjectId,
+    meter: &mut Meter,
+) -> Reply
     requires { query_refused (S.state state.now) thread
         (query.ContainerParent container) ≡ None }
-    ensures { result ≡ found (S.state state.now) thread (query.ContainerParent container) }
+    ensures value { result ≡ found (S.state state.now) thread (query.ContainerParent container) }
+    ensures meter { S.kept meter.new ≡ S.kept meter.old }
 {
-    Reply::Parent(state.parent(container))
+    Reply::Parent(state.parent(container, meter))
 }

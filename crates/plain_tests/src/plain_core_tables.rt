@@ -1,7 +1,6 @@
 //! The tables of the plain machine's states.
 use crate::samples::{make, new_space};
 use base::{Level, Meter, NoMemory, ObjectId, Rights};
-use bitflags::Flags;
 use plain_core::{Call, Mapping, PlainKernel};
 use std::test::Fail;
 use test_support::{LIMITS, in_root, new_segment, plain};
@@ -58,7 +57,10 @@ fn mapped(kernel: &mut PlainKernel, meter: &mut Meter) -> Result<(), NoMemory> {
             entry: in_root(4),
             first: 0,
             count: 1,
-            rights: Rights::all(),
+            rights: Rights {
+                read: true,
+                write: true,
+            },
         },
     };
     make(kernel, &map, meter)?;

@@ -1,11 +1,9 @@
 -- Finding a thread among the tallies, and giving it another count.
-use Rattle.std.proofs.Common.{◌≡◌, ℕ, suc, ◌+◌, ◌<◌, ◌≤◌, Bool, true, false, ◌==◌, if◌then◌else◌}
+use Rattle.std.proofs.Common.{◌≡◌, ℕ, suc, ◌+◌, ◌<◌, ◌≤◌, true, false, ◌==◌, if◌then◌else◌}
 use Rattle.std.proofs.Common.{List, [], ◌∷◌, ◌++◌, length, drop, get_or, set, Some, None}
-use Rattle.std.proofs.Common.{refl, sym, ap, ◌∙◌, subst, arith, slice_get}
+use Rattle.std.proofs.Common.{refl, sym, ap, ◌∙◌, arith, slice_get}
 use Rattle.std.proofs.lemmas.List.{at_drop_more, at_drop_all}
 use Rattle.std.proofs.Common.{add-zero}
-use Rattle.std.proofs.lemmas.Option.{slice_get_past}
-use Rattle.std.proofs.lemmas.Bool.{eq-eqb}
 use Rattle.std.proofs.lemmas.Bool.Decides.{nat_tests}
 use Rattle.published_copy.specs.declared.tallies.Tally.{Tally}
 use Rattle.kernel_rules.specs.History.{count}
@@ -56,42 +54,28 @@ tallied-missing thread (x ∷ xs) none =
       | false ↦ λ f. tallied-missing thread xs f
     ] none
 
--- a thread without events
-abbrev pub idle : ℕ → Tally
-idle thread = record { thread = thread; events = 0 }
-
--- either way the same
-either-same : (b : Bool) (n : ℕ) → (if b then n else n) ≡ n
-either-same true n = refl
-either-same false n = refl
-
--- a thread without events comes last, and no one's events are others
-pub tallied-admitted : (thread other : ℕ) (ts : List Tally) → place_of thread ts ≡ length ts
-    → tallied other (ts ++ idle thread ∷ []) ≡ tallied other ts
-tallied-admitted thread other [] none = either-same (thread == other) 0
-tallied-admitted thread other (x ∷ xs) none =
+-- a thread that has no place is given a tally, and other threads keep theirs
+pub tallied-new : (thread other n : ℕ) (ts : List Tally) → place_of thread ts ≡ length ts
+    → tallied other (ts ++ record { thread = thread; events = n } ∷ [])
+    ≡ (if thread == other then n else tallied other ts)
+tallied-new thread other n [] none = refl
+tallied-new thread other n (x ∷ xs) none =
     elim (x.thread == thread)
-    as (λ v. (if v then 0 else suc (place_of thread xs)) ≡ suc (length xs)
-    → tallied other (x ∷ xs ++ idle thread ∷ []) ≡ tallied other (x ∷ xs)) [
-      | true ↦ λ p. absurd (omega (arith, p))
-      | false ↦ λ p.
-          ap (λ n. if x.thread == other then x.events else n)
-          (tallied-admitted thread other xs (omega (arith, p)))
-    ] none
-
--- and then it has a place
-pub place-admitted : (thread : ℕ) (ts : List Tally)
-    → place_of thread (ts ++ idle thread ∷ []) < suc (length ts)
-place-admitted thread [] =
-    let P : Bool → Type 0 = λ v. (if v then 0 else 1) < 1 in
-    subst P (sym (eq-eqb thread thread refl)) (omega arith)
-place-admitted thread (x ∷ xs) =
-    let P : Bool → Type 0 =
-    λ v. (if v then 0 else suc (place_of thread (xs ++ idle thread ∷ []))) < suc (suc (length xs)) in
-    elim (x.thread == thread) as P [
-      | true ↦ omega arith
-      | false ↦ omega (arith, place-admitted thread xs)
-    ]
+    as (λ v. (x.thread == thread) ≡ v → (if v then 0 else suc (place_of thread xs)) ≡ suc (length xs)
+    → tallied other (x ∷ xs ++ record { thread = thread; events = n } ∷ [])
+    ≡ (if thread == other then n else tallied other (x ∷ xs))) [
+      | true ↦ λ is p. absurd (omega (arith, p))
+      | false ↦ λ is p.
+          elim (x.thread == other)
+          as (λ w. (x.thread == other) ≡ w
+          → (if w then x.events else tallied other (xs ++ record { thread = thread; events = n } ∷ []))
+          ≡ (if thread == other then n else (if w then x.events else tallied other xs))) [
+            | true ↦ λ at.
+                let apart : (thread == other) ≡ false = grind (arith, nat_tests) in
+                sym (ap (λ b. if b then n else x.events) apart)
+            | false ↦ λ at. tallied-new thread other n xs (omega (arith, p))
+          ] refl
+    ] refl none
 
 -- the tally of a thread hides a later one of the same thread
 set-first : (thread mine other n events rest : ℕ) → mine ≡ thread
@@ -134,24 +118,17 @@ tallied-set thread other n (x ∷ xs) less =
     ] refl less
 
 -- the thread of one event more is given that event's number, and the tallies are right again
-pub tallied-more : (old room new : List Tally) (events : List Event) (e : Event) → IsTallied old events
-    → ((other : ℕ) → tallied other room ≡ tallied other old)
-    → ((other : ℕ) → tallied other new ≡ (if e.thread == other then e.number else tallied other room))
+pub tallied-more : (old new : List Tally) (events : List Event) (e : Event) → IsTallied old events
+    → ((other : ℕ) → tallied other new ≡ (if e.thread == other then e.number else tallied other old))
     → e.number ≡ count e.thread events + 1 → IsTallied new (events ++ e ∷ [])
-tallied-more old room new events e right same given number other =
+tallied-more old new events e right given number other =
     given other
     ∙ (elim (e.thread == other)
     as (λ v. (e.thread == other) ≡ v
-    → (if v then e.number else tallied other room) ≡ count other events + (if v then 1 else 0)) [
+    → (if v then e.number else tallied other old) ≡ count other events + (if v then 1 else 0)) [
       | true ↦ λ is.
           let at : e.thread ≡ other = grind (arith, nat_tests) in
           number ∙ ap (λ t. count t events + 1) at
-      | false ↦ λ is. same other ∙ right other ∙ sym (add-zero (count other events))
+      | false ↦ λ is. right other ∙ sym (add-zero (count other events))
     ] refl
     ∙ sym (count-snoc other events e))
-
--- a thread without a place has no event
-pub no-event : (thread : ℕ) (ts : List Tally) (events : List Event) → IsTallied ts events
-    → length ts ≤ place_of thread ts → count thread events ≡ 0
-no-event thread ts events right past =
-    sym (right thread) ∙ tallied-missing thread ts (slice_get_past ts (place_of thread ts) past)

@@ -1,4 +1,5 @@
 pub mod Refusals
+pub mod Books
 pub mod Turns
 pub mod Tallies
 pub mod Seats

@@ -1,16 +1,37 @@
--- Why a thread is given no seat.
-use Rattle.std.specs.Prelude.{ℕ, ◌==◌, nat_lt, not, if◌then◌else◌, List, length, Option, Some, None}
+-- Why a thread is given no seat, and what a caller of an open kernel knows of the answer.
+use Rattle.std.specs.Prelude.{◌≡◌, ◌≤◌, ℕ, ◌==◌, ◌||◌, true, nat_lt, not, if◌then◌else◌, length, Option}
+use Rattle.std.specs.Prelude.{Some, None}
+use Rattle.base.specs.Live.{has}
 use Rattle.base.specs.declared.kinds.Kind.TheVariants as kinds
-use Rattle.kernel_rules.specs.State.{State, is_live_kind}
-use Rattle.published_copy.specs.Tallies.{place_of}
+use Rattle.base.specs.declared.ranges.Limits.{Limits}
+use Rattle.kernel_rules.specs.History.{state_of, count, IsLegal}
+use Rattle.kernel_rules.specs.State.{is_live_kind}
+use Rattle.published_copy.specs.Books.{BookView}
+use Rattle.published_copy.specs.Turns.{turn}
+use Rattle.published_copy.specs.declared.passes.Standing.{Standing}
 use Rattle.published_copy.specs.declared.refusals.SeatRefusal as seat
 use Rattle.published_copy.specs.declared.refusals.SeatRefusal.TheVariants as is
-use Rattle.published_copy.specs.declared.tallies.Tally.{Tally}
 
--- it has had a seat, and stands among the tallies; it is not a live thread; or no seat is left
-abbrev pub seat_refused : List Tally → State → ℕ → ℕ → Option seat.SeatRefusal
-seat_refused tallies s seats thread =
-    if nat_lt (place_of thread tallies) (length tallies) then Some is.SeatTaken
-    else if not (is_live_kind s kinds.Thread thread) then Some is.NoThread
-    else if seats == 0 then Some is.SeatsSpent
+-- it was given a seat, or has an event, which a pass of another boot made; it is not a live thread; or
+-- 64 seats were given
+abbrev pub seat_refused : Limits → BookView → ℕ → Option seat.SeatRefusal
+seat_refused limits book thread =
+    if has book.seated thread || nat_lt 0 (count thread book.journal) then Some is.SeatTaken
+    else if not (is_live_kind (state_of limits book.journal) kinds.Thread thread) then Some is.NoThread
+    else if length book.seated == 64 then Some is.SeatsSpent
     else None
+
+-- at some legal journal, which is what the pass has seen, with at most 64 threads that were given
+-- seats, nothing refuses the thread a seat: it is live, was given none and has no event
+abbrev pub IsOpened : Limits → ℕ → Standing → Type 0
+IsOpened limits thread pass =
+    (book : BookView) × IsLegal limits book.journal × (length book.seated ≤ 64)
+    × (seat_refused limits book thread ≡ None)
+    × (is_live_kind (state_of limits book.journal) kinds.Thread thread ≡ true)
+    × (count thread book.journal ≡ 0) × (pass ≡ turn thread 1 (length book.journal))
+
+-- at some legal journal, with at most 64 threads that were given seats, this refuses the thread a seat
+abbrev pub IsNotOpened : Limits → ℕ → seat.SeatRefusal → Type 0
+IsNotOpened limits thread refusal =
+    (book : BookView) × IsLegal limits book.journal × (length book.seated ≤ 64)
+    × (seat_refused limits book thread ≡ Some refusal)

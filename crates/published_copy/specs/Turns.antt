@@ -1,10 +1,8 @@
 -- What a pass knows, and what a committed call makes of it and of the journal.
-use Rattle.std.specs.Prelude.{◌≡◌, ℕ, ◌+◌, Bool, true, ◌&&◌, ◌==◌, nat_le, List, [], ◌∷◌, ◌++◌}
+use Rattle.std.specs.Prelude.{◌≡◌, ℕ, ◌+◌, Bool, true, false, ◌&&◌, ◌==◌, nat_le, List, [], ◌∷◌, ◌++◌}
 use Rattle.std.specs.Prelude.{length}
-use Rattle.base.specs.declared.kinds.Kind.TheVariants as kinds
 use Rattle.base.specs.declared.ranges.Limits.{Limits}
 use Rattle.kernel_rules.specs.History.{state_of, count, IsLegal}
-use Rattle.kernel_rules.specs.State.{is_live_kind}
 use Rattle.kernel_rules.specs.Step.{answer, query_answer}
 use Rattle.kernel_rules.specs.declared.calls.Call.{Call}
 use Rattle.kernel_rules.specs.declared.calls.Query.{Query}
@@ -12,6 +10,8 @@ use Rattle.kernel_rules.specs.declared.replies.Reply.{Reply}
 use Rattle.kernel_rules.specs.declared.events.Event.{Event}
 use Rattle.published_copy.specs.declared.passes.Standing.{Standing}
 use Rattle.published_copy.specs.declared.receipts.Receipt.{Receipt}
+use Rattle.published_copy.specs.declared.refusals.SubmitRefusal as submit
+use Rattle.published_copy.specs.declared.refusals.SubmitRefusal.TheVariants as no_submit
 
 -- the turn of a thread, with the number of its next event and how many events it has seen
 abbrev pub turn : ℕ → ℕ → ℕ → Standing
@@ -55,16 +55,20 @@ IsSubmitted limits pass call receipt after =
     × (is_turn journal pass ≡ true) × (receipt ≡ receipt_of limits journal pass call)
     × (after ≡ passed_on journal pass)
 
+-- whether it was the pass's turn, where a call of it is refused so
+abbrev pub was_turn : submit.SubmitRefusal → Bool
+was_turn no_submit.Memory = true
+was_turn no_submit.OutOfTurn = false
+
+-- at some legal journal it was the pass's turn where memory was wanted, and was not where the call came
+-- out of turn
+abbrev pub IsNotSubmitted : Limits → Standing → submit.SubmitRefusal → Type 0
+IsNotSubmitted limits pass refusal =
+    (journal : List Event) × IsLegal limits journal × (is_turn journal pass ≡ was_turn refusal)
+
 -- at some legal journal, which is what the pass has seen then, the reply is the answer of its state
 abbrev pub IsRead : Limits → Standing → Query → Reply → Standing → Type 0
 IsRead limits pass query reply after =
     (journal : List Event) × IsLegal limits journal
     × (reply ≡ query_answer (state_of limits journal) pass.thread query)
     × (after ≡ turn pass.thread pass.number (length journal))
-
--- at some legal journal, which is what the pass has seen, the thread is live and has no event
-abbrev pub IsOpened : Limits → ℕ → Standing → Type 0
-IsOpened limits thread pass =
-    (journal : List Event) × IsLegal limits journal
-    × (is_live_kind (state_of limits journal) kinds.Thread thread ≡ true)
-    × (count thread journal ≡ 0) × (pass ≡ turn thread 1 (length journal))

@@ -1,28 +1,30 @@
 //! What lies under the lock.
-ghost use Rattle.std.specs.Prelude.{◌≡◌, ◌≤◌, ◌<◌, ◌+◌, ◌↔◌, ℕ, true, false, [], length, IfOk};
-ghost use Rattle.std.specs.Prelude.{OnOk, OnErr};
-ghost use Rattle.std.specs.Prelude.{◌^◌, IsTrue, IfNone, IsErrOf, vec_len, vec_capacity};
+ghost use Rattle.std.specs.Prelude.{◌≡◌, ◌≤◌, ◌<◌, ◌+◌, ◌↔◌, ◌++◌, ◌∷◌, true, false, [], length};
+ghost use Rattle.std.specs.Prelude.{IfOk, IfErr, OnOk, OnErr, IsErrOf, Some, None};
+ghost use Rattle.std.specs.Prelude.{◌^◌, IsTrue, IfNone, vec_len, vec_capacity};
 ghost use Rattle.base.specs.declared.kinds.Kind.TheVariants as kinds;
 ghost use Rattle.kernel_rules.specs.History.{IsLegal, state_of, count};
 ghost use Rattle.kernel_rules.specs.State.{is_live_kind};
 ghost use Rattle.kernel_rules.specs.Step.{query_answer};
 ghost use Rattle.plain_core.specs.Kernel.{kernel_state};
 ghost use Rattle.published_copy.specs.Seats.{seat_refused};
-ghost use Rattle.published_copy.specs.Tallies.{place_of, tallied, IsTallied};
+ghost use Rattle.published_copy.specs.Tallies.{IsTallied};
 ghost use Rattle.published_copy.specs.Turns.{turn, is_turn, with_event, receipt_of, passed_on};
 
 use crate::naming::Naming;
 use crate::passes::Pass;
+use crate::places::Places;
 use crate::receipts::Receipt;
 use crate::refusals::{SeatRefusal, SubmitRefusal};
-use crate::tallies::{Tally, admit, events_of, place_of, set_events};
+use crate::tallies::{Tally, count_events, events_of};
 use base::{Limits, Meter, NoMemory, ObjectId};
 use kernel_rules::{Call, Event, Query, Reply};
 use plain_core::{Machine, PlainKernel};
 use std::marker::{Model, PhantomData};
 
-/// A kernel and the journal of all calls that were made to it. A contract sees it as the journal,
-/// which is legal, and in whose state the kernel is, at all times.
+/// A kernel, the journal of all calls that were made to it, and the threads that were given seats. A
+/// contract sees it as the journal, which is legal, and in whose state the kernel is, at all times, and
+/// those threads.
 #[derive(Drop)]
 pub struct Book<B: Naming> {
     limits: Limits,
@@ -30,25 +32,24 @@ pub struct Book<B: Naming> {
     meter: Meter,
     journal: Vec<Event>,
     tallies: Vec<Tally>,
-    meters: Vec<Meter>,
+    places: Places,
     of: PhantomData<B>,
 }
 
 impl<B: Naming> Model for Book<B> {
-    ghost use Rattle.std.specs.Prelude.{◌≡◌, ◌+◌, ◌≤◌, List, vec_len, vec_capacity};
+    ghost use Rattle.std.specs.Prelude.{◌≡◌};
     ghost use Rattle.kernel_rules.specs.History.{IsLegal, state_of};
-    ghost use Rattle.kernel_rules.specs.declared.events.Event.{Event};
     ghost use Rattle.plain_core.specs.Kernel.{kernel_state};
+    ghost use Rattle.published_copy.specs.Books.{BookView};
     ghost use Rattle.published_copy.specs.Tallies.{IsTallied};
 
-    ghost Value = { List Event };
+    ghost Value = { BookView };
 
-    ghost view = { λ b. b.journal.items };
+    ghost view = { λ b. record { journal = b.journal.items; seated = b.places } };
 
     ghost invariant = { λ b. (b.limits ≡ B.limits) × IsLegal B.limits b.journal.items
         × (kernel_state b.kernel ≡ state_of B.limits b.journal.items)
-        × IsTallied b.tallies.items b.journal.items
-        × (vec_len b.tallies + vec_len b.meters ≤ vec_capacity b.tallies) };
+        × IsTallied b.tallies.items b.journal.items };
 }
 
 /// Whether a pass's number is its thread's next, and the journal has all that the pass has seen.
@@ -61,64 +62,34 @@ fn is_turn<B: Naming>(journal: &[Event], tallies: &[Tally], pass: &Pass<B>) -> b
     pass.number() == events_of(tallies, pass.thread()) + 1 && pass.length() <= journal.len()
 }
 
-/// Why a thread is given no seat, if anything, where so many seats are left: the least that holds.
-fn seat_refused(
-    tallies: &[Tally],
-    kernel: &PlainKernel,
-    seats: usize,
-    thread: ObjectId,
-) -> Option<SeatRefusal>
-    ensures row { result ≡ seat_refused tallies.now (kernel_state kernel.now) seats thread }
-    ensures new { IfNone result (place_of thread tallies.now ≡ length tallies.now) }
-{
-    if place_of(tallies, thread) < tallies.len() {
-        return Some(SeatRefusal::SeatTaken);
-    }
-    if !kernel.is_thread(thread) {
-        return Some(SeatRefusal::NoThread);
-    }
-    if seats == 0 {
-        return Some(SeatRefusal::SeatsSpent);
-    }
-    None
-}
-
-/// There is room for one event more, and the thread stands among the tallies, which keep room for so
-/// many more after it. Without memory nothing changes, and no thread's events do in either case.
-fn make_room(
-    journal: &mut Vec<Event>,
-    tallies: &mut Vec<Tally>,
-    thread: ObjectId,
-    seats: usize,
-) -> Result<(), NoMemory>
-    requires { vec_len tallies.old + seats ≤ vec_capacity tallies.old }
-    ensures room { OnOk result (vec_len journal.new < vec_capacity journal.new) }
-    ensures placed { OnOk result (place_of thread tallies.new.items < vec_len tallies.new) }
+/// There is room for one event and one tally more. Nothing else changes, also without memory.
+fn make_room(journal: &mut Vec<Event>, tallies: &mut Vec<Tally>) -> Result<(), NoMemory>
+    ensures journal_room { OnOk result (vec_len journal.new < vec_capacity journal.new) }
+    ensures tallies_room { OnOk result (vec_len tallies.new < vec_capacity tallies.new) }
     ensures journal { journal.new.items ≡ journal.old.items }
-    ensures tallies { (other : ℕ)
-        → tallied other tallies.new.items ≡ tallied other tallies.old.items }
-    ensures seats { vec_len tallies.new + seats ≤ vec_capacity tallies.new }
+    ensures tallies { tallies.new.items ≡ tallies.old.items }
 {
     journal.reserve(1)?;
-    admit(tallies, thread, seats)?;
+    tallies.reserve(1)?;
     Ok(())
 }
 
 impl<B: Naming> Book<B> {
-    /// The book of a boot, with no event.
+    /// The book of a boot, with no event and no seat given.
     pub(crate) fn new(
         limits: Limits,
         kernel: PlainKernel,
         meter: Meter,
         journal: Vec<Event>,
         tallies: Vec<Tally>,
-        meters: Vec<Meter>,
+        places: Places,
     ) -> Book<B>
         requires limits { limits ≡ B.limits }
         requires booted { kernel_state kernel ≡ state_of B.limits [] }
         requires empty { (journal.items ≡ []) × (tallies.items ≡ []) }
-        requires room { vec_len tallies + vec_len meters ≤ vec_capacity tallies }
-        ensures { result ≡ [] }
+        requires free { places ≡ [] }
+        ensures journal { result.journal ≡ [] }
+        ensures seated { result.seated ≡ [] }
     {
         Book {
             limits,
@@ -126,7 +97,7 @@ impl<B: Naming> Book<B> {
             meter,
             journal,
             tallies,
-            meters,
+            places,
             of: PhantomData,
         }
     }
@@ -141,62 +112,106 @@ impl<B: Naming> Book<B> {
     /// The journal: every event since the boot, the oldest first. Each event's reply is the answer of
     /// the rules in the state of the events before it, and each thread's events are numbered from 1.
     pub fn events(&self) -> &[Event]
-        ensures journal { result.now ≡ self.now }
-        ensures legal { IsLegal B.limits self.now }
+        ensures journal { result.now ≡ self.now.journal }
+        ensures legal { IsLegal B.limits self.now.journal }
     {
         self.journal.as_slice()
     }
 
     /// The kernel, in the state that the journal leads to.
     pub fn kernel(&self) -> &PlainKernel
-        ensures { kernel_state result.now ≡ state_of B.limits self.now }
+        ensures { kernel_state result.now ≡ state_of B.limits self.now.journal }
     {
         &self.kernel
     }
 
-    /// Makes a call as the pass's thread, which is one event more at the journal's end. The error is
-    /// `OutOfTurn` exactly where the pass's number is not its thread's next in the journal, or the pass
-    /// has seen more events than the journal has, and else, for want of memory, `Memory`. An error
-    /// changes nothing.
-    pub fn commit(&mut self, pass: &mut Pass<B>, call: &Call) -> Result<Receipt, SubmitRefusal>
+    /// The journal, of a book that is used no more.
+    pub fn into_events(self) -> Vec<Event>
+        ensures journal { result.items ≡ self.journal }
+        ensures legal { IsLegal B.limits self.journal }
+    {
+        let Book {
+            limits: _,
+            kernel: _,
+            meter: _,
+            journal,
+            tallies: _,
+            places: _,
+            of: _,
+        } = self;
+        journal
+    }
+
+    /// Makes a call as the pass's thread, as `Lent::commit` says. Which threads were given seats stays
+    /// as it is.
+    pub(crate) fn commit(
+        &mut self,
+        pass: &mut Pass<B>,
+        call: &Call,
+    ) -> Result<Receipt, SubmitRefusal>
         ensures receipt { IfOk result
-            (λ receipt. receipt ≡ receipt_of B.limits self.old pass.old call.now) }
-        ensures journal { OnOk result (self.new ≡ with_event B.limits self.old pass.old call.now) }
-        ensures pass { OnOk result (pass.new ≡ passed_on self.old pass.old) }
+            (λ receipt. receipt ≡ receipt_of B.limits self.old.journal pass.old call.now) }
+        ensures journal { OnOk result
+            (self.new.journal ≡ with_event B.limits self.old.journal pass.old call.now) }
+        ensures seated { self.new.seated ≡ self.old.seated }
+        ensures pass { OnOk result (pass.new ≡ passed_on self.old.journal pass.old) }
 
         ensures turn { IsErrOf result SubmitRefusal.OutOfTurn
-            ↔ (is_turn self.old pass.old ≡ false) }
+            ↔ (is_turn self.old.journal pass.old ≡ false) }
         ensures kept { OnErr result ((self.new ≡ self.old) × (pass.new ≡ pass.old)) }
-        ensures legal { IsLegal B.limits self.new }
+        ensures legal { IsLegal B.limits self.new.journal }
     {
         if !is_turn(&self.journal, &self.tallies, pass) {
             return Err(SubmitRefusal::OutOfTurn);
         }
-        let seats = self.meters.len();
-        make_room(&mut self.journal, &mut self.tallies, pass.thread(), seats)?;
+        make_room(&mut self.journal, &mut self.tallies)?;
         let reply = self.kernel.step(pass.thread(), call, &mut self.meter)?;
         self.journal.push_reserved(pass.event(call, &reply));
-        set_events(self.tallies.as_mut_slice(), pass.thread(), pass.number());
+        count_events(&mut self.tallies, pass.thread(), pass.number());
         Ok(pass.pass_on(&reply, self.journal.len()))
     }
 
-    /// A pass and a meter for a live thread that has had no seat. The journal stays as it is.
-    pub(crate) fn seat(&mut self, thread: ObjectId) -> Result<(Pass<B>, Meter), SeatRefusal>
-        ensures pass { IfOk result (λ seat. seat.0 ≡ turn thread 1 (length self.old)) }
-        ensures live { OnOk result
-            (is_live_kind (state_of B.limits self.old) kinds.Thread thread ≡ true) }
-        ensures first { OnOk result (count thread self.old ≡ 0) }
-        ensures no_thread { IsErrOf result SeatRefusal.NoThread
-            → is_live_kind (state_of B.limits self.old) kinds.Thread thread ≡ false }
-        ensures same { self.new ≡ self.old }
-        ensures legal { IsLegal B.limits self.old }
+    /// Why a thread is given no seat, if anything: the least that holds.
+    fn seat_refused(&self, thread: ObjectId) -> Option<SeatRefusal>
+        ensures row { result ≡ seat_refused B.limits self.now thread }
+        ensures live { IfNone result
+            (is_live_kind (state_of B.limits self.now.journal) kinds.Thread thread ≡ true) }
+        ensures first { IfNone result (count thread self.now.journal ≡ 0) }
+        ensures room { IfNone result (length self.now.seated < 64) }
+        ensures within { length self.now.seated ≤ 64 }
     {
-        let seats = self.meters.len();
-        if let Some(refusal) = seat_refused(&self.tallies, &self.kernel, seats, thread) {
+        if self.places.has(thread) || events_of(&self.tallies, thread) > 0 {
+            return Some(SeatRefusal::SeatTaken);
+        }
+        if !self.kernel.is_thread(thread) {
+            return Some(SeatRefusal::NoThread);
+        }
+        if self.places.are_spent() {
+            return Some(SeatRefusal::SeatsSpent);
+        }
+        None
+    }
+
+    /// A pass and a meter for a live thread that was given no seat and has no event: it is given one of
+    /// the 64 seats. The journal stays as it is, and an error changes nothing.
+    pub(crate) fn seat(&mut self, thread: ObjectId) -> Result<(Pass<B>, Meter), SeatRefusal>
+        ensures pass { IfOk result (λ seat. seat.0 ≡ turn thread 1 (length self.old.journal)) }
+        ensures free { OnOk result (seat_refused B.limits self.old thread ≡ None) }
+        ensures row { IfErr result
+            (λ refusal. seat_refused B.limits self.old thread ≡ Some refusal) }
+        ensures live { OnOk result
+            (is_live_kind (state_of B.limits self.old.journal) kinds.Thread thread ≡ true) }
+        ensures first { OnOk result (count thread self.old.journal ≡ 0) }
+        ensures given { OnOk result (self.new.seated ≡ self.old.seated ++ thread ∷ []) }
+        ensures journal { self.new.journal ≡ self.old.journal }
+        ensures kept { OnErr result (self.new ≡ self.old) }
+        ensures within { length self.old.seated ≤ 64 }
+        ensures legal { IsLegal B.limits self.old.journal }
+    {
+        if let Some(refusal) = self.seat_refused(thread) {
             return Err(refusal);
         }
-        let meter = self.meters.pop().unwrap();
-        self.tallies.push_reserved(Tally { thread, events: 0 });
+        let meter = self.places.give(thread);
         Ok((Pass::new(thread, 1, self.journal.len()), meter))
     }
 
@@ -208,12 +223,12 @@ impl<B: Naming> Book<B> {
         query: &Query,
         meter: &mut Meter,
     ) -> Result<Reply, NoMemory>
-        ensures reply { IfOk result
-            (λ reply. reply ≡ query_answer (state_of B.limits self.now) pass.old.thread query.now) }
+        ensures reply { IfOk result (λ reply. reply
+            ≡ query_answer (state_of B.limits self.now.journal) pass.old.thread query.now) }
         ensures pass { OnOk result
-            (pass.new ≡ turn pass.old.thread pass.old.number (length self.now)) }
+            (pass.new ≡ turn pass.old.thread pass.old.number (length self.now.journal)) }
         ensures kept { OnErr result (pass.new ≡ pass.old) }
-        ensures legal { IsLegal B.limits self.now }
+        ensures legal { IsLegal B.limits self.now.journal }
     {
         let reply = self.kernel.ask(pass.thread(), query, meter)?;
         pass.see(self.journal.len());

@@ -1,13 +1,14 @@
 //! A boot, and what threads share of it.
-ghost use Rattle.std.specs.Prelude.{◌≡◌, ◌+◌, ◌≤◌, ◌↔◌, false, [], IfOk, IsErrOf, vec_len};
-ghost use Rattle.std.specs.Prelude.{vec_capacity};
+ghost use Rattle.std.specs.Prelude.{◌≡◌, ◌↔◌, false, IfOk, IfErr, IsErrOf};
 ghost use Rattle.base.specs.Limits.{in_range};
 ghost use Rattle.kernel_rules.specs.Runs.{booted};
 ghost use Rattle.plain_core.specs.Kernel.{kernel_state};
-ghost use Rattle.published_copy.specs.Turns.{turn, IsOpened};
+ghost use Rattle.published_copy.specs.Seats.{IsOpened, IsNotOpened};
 
 use crate::books::Book;
+use crate::lending::Lent;
 use crate::naming::Naming;
+use crate::places::Places;
 use crate::refusals::SeatRefusal;
 use crate::seats::Seat;
 use crate::tallies::Tally;
@@ -16,10 +17,7 @@ use kernel_rules::Event;
 use plain_core::{BootRefusal, PlainKernel};
 use std::alloc::Global;
 use std::marker::Model;
-use std::sync::{Mutex, MutexGuard, Wait};
-
-/// How many seats a boot has.
-const SEATS: usize = 64;
+use std::sync::{Mutex, Wait};
 
 /// A boot that has no name yet. A contract sees it as its limits.
 #[derive(Drop)]
@@ -29,11 +27,11 @@ pub struct Blank {
     meter: Meter,
     journal: Vec<Event>,
     tallies: Vec<Tally>,
-    meters: Vec<Meter>,
+    places: Places,
 }
 
 impl Model for Blank {
-    ghost use Rattle.std.specs.Prelude.{◌≡◌, ◌+◌, ◌≤◌, [], vec_len, vec_capacity};
+    ghost use Rattle.std.specs.Prelude.{◌≡◌, []};
     ghost use Rattle.base.specs.declared.ranges.Limits.{Limits};
     ghost use Rattle.kernel_rules.specs.Runs.{booted};
     ghost use Rattle.plain_core.specs.Kernel.{kernel_state};
@@ -43,19 +41,7 @@ impl Model for Blank {
     ghost view = { λ b. b.limits };
 
     ghost invariant = { λ b. (kernel_state b.kernel ≡ booted b.limits)
-        × (b.journal.items ≡ []) × (b.tallies.items ≡ [])
-        × (vec_len b.tallies + vec_len b.meters ≤ vec_capacity b.tallies) };
-}
-
-/// A meter for each seat.
-fn seat_meters(alloc: Global) -> Result<Vec<Meter>, NoMemory>
-    ensures { IfOk result (λ meters. vec_len meters ≡ SEATS) }
-{
-    let mut meters = Vec::with_capacity(alloc, SEATS)?;
-    for _ in 0..SEATS {
-        meters.push_reserved(Meter::new(alloc)?);
-    }
-    Ok(meters)
+        × (b.journal.items ≡ []) × (b.tallies.items ≡ []) × (b.places ≡ []) };
 }
 
 /// A boot over a newly booted kernel, with all that seats need.
@@ -64,15 +50,14 @@ fn blank_over(alloc: Global, limits: &Limits, kernel: PlainKernel) -> Result<Bla
     ensures { IfOk result (λ blank. blank ≡ limits.now) }
 {
     let meter = Meter::new(alloc)?;
-    let meters = seat_meters(alloc)?;
-    let tallies = Vec::with_capacity(alloc, SEATS)?;
+    let places = Places::new(alloc)?;
     Ok(Blank {
         limits: *limits,
         kernel,
         meter,
         journal: Vec::new(alloc),
-        tallies,
-        meters,
+        tallies: Vec::new(alloc),
+        places,
     })
 }
 
@@ -100,10 +85,10 @@ impl Blank {
             meter,
             journal,
             tallies,
-            meters,
+            places,
         } = self;
         Shared {
-            book: Mutex::new(Book::new(limits, kernel, meter, journal, tallies, meters)),
+            book: Mutex::new(Book::new(limits, kernel, meter, journal, tallies, places)),
         }
     }
 }
@@ -115,19 +100,27 @@ pub struct Shared<B: Naming> {
 }
 
 impl<B: Naming> Shared<B> {
-    /// The book, for as long as the guard is kept. It waits for the lock.
-    pub fn book<R: Wait>(&self, rt: &R) -> MutexGuard<'_, Book<B>> {
-        self.book.lock(rt)
+    /// The book, for as long as it is kept. It waits for the lock.
+    pub fn book<R: Wait>(&self, rt: &R) -> Lent<'_, B> {
+        Lent::new(self.book.lock(rt))
     }
 
     /// A seat for a live thread that has had none: its first event will be number 1. It waits for the
-    /// lock, and takes no memory. The error is `SeatTaken` where the thread has had a seat, else
-    /// `NoThread` where the id is not that of a live thread, and else `SeatsSpent` where 64 seats were
-    /// opened.
+    /// lock, and takes no memory. The error is `SeatTaken` where the thread was given a seat, or has an
+    /// event by a pass of another boot, else `NoThread` where the id is not that of a live thread, and
+    /// else `SeatsSpent` where 64 seats were given.
     pub fn open_seat<R: Wait>(&self, rt: &R, thread: ObjectId) -> Result<Seat<'_, B>, SeatRefusal>
-        ensures { IfOk result (λ seat. IsOpened B.limits thread seat) }
+        ensures done { IfOk result (λ seat. IsOpened B.limits thread seat) }
+        ensures refused { IfErr result (λ refusal. IsNotOpened B.limits thread refusal) }
     {
         let (pass, meter) = self.book.lock(rt).seat(thread)?;
         Ok(Seat::new(&self.book, pass, meter))
+    }
+
+    /// The book at the end: no seat is left then and it is not lent, so nothing more comes to its journal.
+    /// It takes no lock and no memory.
+    pub fn close(self) -> Book<B> {
+        let Shared { book } = self;
+        book.into_inner()
     }
 }

@@ -1,6 +1,6 @@
 //! A thread's place at a kernel that it shares.
-ghost use Rattle.std.specs.Prelude.{◌≡◌, ◌+◌, IfOk, OnOk, OnErr};
-ghost use Rattle.published_copy.specs.Turns.{turn, IsSubmitted, IsRead};
+ghost use Rattle.std.specs.Prelude.{◌≡◌, ◌+◌, IfOk, IfErr, OnOk, OnErr};
+ghost use Rattle.published_copy.specs.Turns.{turn, IsSubmitted, IsNotSubmitted, IsRead};
 
 use crate::books::Book;
 use crate::naming::Naming;
@@ -41,10 +41,12 @@ impl<'a, B: Naming> Seat<'a, B> {
 impl<B: Naming> Seat<'_, B> {
     /// Makes a call, which waits for the lock and is then one event of the journal: the seat's next
     /// number's. An error changes nothing; `Memory` is want of memory, and `OutOfTurn` comes where
-    /// `Book::commit` says.
+    /// `Lent::commit` says: another pass of the thread, one of another boot, made its next event.
     pub fn submit<R: Wait>(&mut self, rt: &R, call: &Call) -> Result<Receipt, SubmitRefusal>
         ensures done { IfOk result
             (λ receipt. IsSubmitted B.limits self.old call.now receipt self.new) }
+        ensures refused { IfErr result
+            (λ refusal. IsNotSubmitted B.limits self.old refusal) }
         ensures kept { OnErr result (self.new ≡ self.old) }
     {
         self.lock.lock(rt).commit(&mut self.pass, call)

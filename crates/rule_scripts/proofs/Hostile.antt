@@ -1,4 +1,4 @@
--- The scripts by computation. Made by rows/make.py from rows/hostile.txt.
+-- The scripts by computation. Made by scripts/make.py from scripts/hostile.txt.
 use Rattle.std.specs.Prelude.{refl}
 use Rattle.base.specs.Live.{is_live}
 use Rattle.label_rules.specs.LabelRules.{stored, with_category, below, visible, shown, below_join}

@@ -1,5 +1,5 @@
--- Scripts, and what each line answers. Made by rows/make.py from rows/corners.txt.
-use Rattle.std.specs.Prelude.{◌≡◌, List, [], ◌∷◌, replicate, false, pos, negsuc, Some}
+-- Scripts, and what each line answers. Made by scripts/make.py from scripts/corners.txt.
+use Rattle.std.specs.Prelude.{◌≡◌, List, [], ◌∷◌, replicate, true, false, pos, negsuc, Some}
 use Rattle.base.specs.declared.levels.Level.TheVariants.{Star, L0, L1, L2, L3}
 use Rattle.base.specs.declared.refusals.Refusal.TheVariants.{Halted, NoAccess, NoEntry, WrongType}
 use Rattle.base.specs.declared.refusals.Refusal.TheVariants.{CannotObserve, CannotModify, BadLabel}
@@ -20,8 +20,8 @@ abbrev pub link_above_own_label_lines : List Line
 link_above_own_label_lines =
     W 2 (thread_create 1 (raw L2 ([])) 1 (raw L2 ([])) 0)
     ∷ W 2 (segment_create 1 (raw L2 ([])) 1 0)
-    ∷ W 2 (container_create 1 (raw L1 ([])) 5 (kinds 0))
-    ∷ W 2 (container_create 1 (raw L2 ([])) 5 (kinds 0))
+    ∷ W 2 (container_create 1 (raw L1 ([])) 5 (kinds ([])))
+    ∷ W 2 (container_create 1 (raw L2 ([])) 5 (kinds ([])))
     ∷ W 2 (call.SetFixed (entry 1 5))
     ∷ W 4 (call.SetFixed (entry 1 5))
     ∷ W 4 (call.Link 7 (entry 1 5))
@@ -79,10 +79,10 @@ HugeNumbers =
 
 abbrev pub space_entry_revives_lines : List Line
 space_entry_revives_lines =
-    W 2 (container_create 1 (raw L1 ([])) 4 (kinds 0))
+    W 2 (container_create 1 (raw L1 ([])) 4 (kinds ([])))
     ∷ W 2 (as_create 4 (raw L1 ([])) 1)
     ∷ W 2 (segment_create 1 (raw L1 ([])) 2 1)
-    ∷ W 2 (call.AsMap (entry 4 5) 0 (mapping 0 (entry 1 6) 0 1 3))
+    ∷ W 2 (call.AsMap (entry 4 5) 0 (mapping 0 (entry 1 6) 0 1 true true))
     ∷ W 2 (call.SelfSetAs (entry 4 5))
     ∷ W 2 (call.SetFixed (entry 4 5))
     ∷ W 2 (call.Link 1 (entry 4 5))
@@ -99,7 +99,7 @@ space_entry_revives_lines =
     ∷ W 2 (call.Unref (entry 1 6))
     ∷ R 2 (query.Load 0 1)
     ∷ R 2 (query.AsGet (entry 1 5) 0)
-    ∷ W 2 (call.AsMap (entry 1 5) 1 (mapping 0 (entry 1 5) 0 1 3)) ∷ []
+    ∷ W 2 (call.AsMap (entry 1 5) 1 (mapping 0 (entry 1 5) 0 1 true true)) ∷ []
 
 abbrev pub SpaceEntryRevives : Type 0
 SpaceEntryRevives =
@@ -118,19 +118,19 @@ SpaceEntryRevives =
     ∷ reply.Done
     ∷ reply.Refused NotMapped
     ∷ reply.Own (label L1 ([])) (label L2 ([])) (label L3 ([])) (entry 4 5) 0 0
-    ∷ reply.Mapping (Some (mapping 0 (entry 1 6) 0 1 3))
+    ∷ reply.Mapping (Some (mapping 0 (entry 1 6) 0 1 true true))
     ∷ reply.Done
     ∷ reply.Done
     ∷ reply.Done
     ∷ reply.Refused NotMapped
-    ∷ reply.Mapping (Some (mapping 0 (entry 1 6) 0 1 3))
+    ∷ reply.Mapping (Some (mapping 0 (entry 1 6) 0 1 true true))
     ∷ reply.Refused WrongType ∷ []
 
 abbrev pub exact_quota_lines : List Line
 exact_quota_lines =
-    W 2 (container_create 1 (raw L1 ([])) 12 (kinds 0))
+    W 2 (container_create 1 (raw L1 ([])) 12 (kinds ([])))
     ∷ R 2 (query.ObjQuota (entry 1 1))
-    ∷ W 2 (container_create 1 (raw L1 ([])) 1 (kinds 0))
+    ∷ W 2 (container_create 1 (raw L1 ([])) 1 (kinds ([])))
     ∷ W 2 (segment_create 4 (raw L1 ([])) 11 0)
     ∷ R 2 (query.ObjQuota (entry 1 4))
     ∷ W 2 (call.SegmentResize (entry 4 5) 10)
@@ -168,10 +168,10 @@ ExactQuota =
 abbrev pub observed_mapping_container_lines : List Line
 observed_mapping_container_lines =
     W 2 (call.CatCreate)
-    ∷ W 2 (container_create 1 (raw L1 (at 1 L3 ∷ [])) 8 (kinds 0))
+    ∷ W 2 (container_create 1 (raw L1 (at 1 L3 ∷ [])) 8 (kinds ([])))
     ∷ W 2 (segment_create 4 (raw L1 ([])) 2 1)
     ∷ W 2 (as_create 1 (raw L1 ([])) 1)
-    ∷ W 2 (call.AsMap (entry 1 6) 0 (mapping 0 (entry 4 5) 0 1 3))
+    ∷ W 2 (call.AsMap (entry 1 6) 0 (mapping 0 (entry 4 5) 0 1 true true))
     ∷ W 2 (thread_create 1 (raw L1 ([])) 1 (raw L2 ([])) 0)
     ∷ W 7 (call.SelfSetAs (entry 1 6))
     ∷ R 7 (query.Load 0 1)
@@ -340,7 +340,7 @@ FullAt16ThenDrop =
 
 abbrev pub quota_move_open_container_lines : List Line
 quota_move_open_container_lines =
-    W 2 (container_create 1 (raw L1 ([])) 10 (kinds 0))
+    W 2 (container_create 1 (raw L1 ([])) 10 (kinds ([])))
     ∷ W 2 (segment_create 4 (raw L1 ([])) 2 1)
     ∷ W 2 (call.SetImmutable (entry 1 4))
     ∷ W 2 (call.QuotaMove (entry 4 5) (pos 0))
@@ -383,7 +383,7 @@ SpaceByGateAndVerifyUnchanged =
 abbrev pub link_to_unobserved_source_lines : List Line
 link_to_unobserved_source_lines =
     W 2 (call.CatCreate)
-    ∷ W 2 (container_create 1 (raw L1 (at 1 L3 ∷ [])) 9 (kinds 0))
+    ∷ W 2 (container_create 1 (raw L1 (at 1 L3 ∷ [])) 9 (kinds ([])))
     ∷ W 2 (segment_create 4 (raw L1 ([])) 1 0)
     ∷ W 2 (call.SetFixed (entry 4 5))
     ∷ W 2 (thread_create 1 (raw L1 ([])) 1 (raw L2 ([])) 0)
@@ -448,7 +448,7 @@ StarDeviceBoots =
 
 abbrev pub dead_are_gone_lines : List Line
 dead_are_gone_lines =
-    W 2 (container_create 1 (raw L1 ([])) 10 (kinds 0))
+    W 2 (container_create 1 (raw L1 ([])) 10 (kinds ([])))
     ∷ W 2 (thread_create 4 (raw L1 ([])) 1 (raw L2 ([])) 0)
     ∷ W 2 (segment_create 4 (raw L1 ([])) 2 1)
     ∷ W 2 (call.SetFixed (entry 4 6))

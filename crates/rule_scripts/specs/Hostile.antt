@@ -1,5 +1,7 @@
--- Scripts, and what each line answers. Made by rows/make.py from rows/hostile.txt.
+-- Scripts, and what each line answers. Made by scripts/make.py from scripts/hostile.txt.
 use Rattle.std.specs.Prelude.{◌≡◌, List, [], ◌∷◌, replicate, true, false, pos, negsuc, Some, None}
+use Rattle.base.specs.declared.kinds.Kind.TheVariants.{Container, Segment, AddressSpace, Thread}
+use Rattle.base.specs.declared.kinds.Kind.TheVariants.{Gate, Device}
 use Rattle.base.specs.declared.levels.Level.TheVariants.{Star, L0, L1, L2, L3}
 use Rattle.base.specs.declared.refusals.Refusal.TheVariants.{Halted, NoAccess, NoEntry, WrongType}
 use Rattle.base.specs.declared.refusals.Refusal.TheVariants.{CannotObserve, CannotModify, BadLabel}
@@ -24,8 +26,8 @@ numbers_in_order_lines =
     ∷ R 2 (query.SegmentRead (entry 1 9) 0 0)
     ∷ R 2 (query.SegmentRead (entry 1 1) 0 0)
     ∷ R 2 (query.SegmentRead (entry 2 2) 0 1)
-    ∷ W 2 (call.AsMap (entry 1 1) 16 (mapping 0 (entry 1 9) 0 0 0))
-    ∷ W 2 (call.AsMap (entry 1 1) 16 (mapping 0 (entry 9 9) 0 0 0))
+    ∷ W 2 (call.AsMap (entry 1 1) 16 (mapping 0 (entry 1 9) 0 0 false false))
+    ∷ W 2 (call.AsMap (entry 1 1) 16 (mapping 0 (entry 9 9) 0 0 false false))
     ∷ W 2 (gate_create 9 (raw Star ([])) 0 (raw Star ([])) (entry 0 0) 0 0)
     ∷ W 2 (gate_create 1 (raw Star ([])) 0 (raw Star ([])) (entry 1 2) 0 0)
     ∷ W 2 (gate_create 1 (raw Star ([])) 0 (raw Star ([])) (entry 0 0) 0 0)
@@ -60,7 +62,7 @@ NumbersInOrder =
 abbrev pub observe_not_modify_lines : List Line
 observe_not_modify_lines =
     W 2 (call.CatCreate)
-    ∷ W 2 (container_create 1 (raw L1 (at 1 L0 ∷ [])) 6 (kinds 0))
+    ∷ W 2 (container_create 1 (raw L1 (at 1 L0 ∷ [])) 6 (kinds ([])))
     ∷ W 2 (segment_create 4 (raw L1 ([])) 1 0)
     ∷ W 2 (thread_create 1 (raw L1 ([])) 1 (raw L2 ([])) 0)
     ∷ R 6 (query.ObjQuota (entry 4 5))
@@ -99,7 +101,7 @@ ObserveNotModify =
 abbrev pub modify_not_observe_lines : List Line
 modify_not_observe_lines =
     W 2 (call.CatCreate)
-    ∷ W 2 (container_create 1 (raw L1 (at 1 L3 ∷ [])) 6 (kinds 0))
+    ∷ W 2 (container_create 1 (raw L1 (at 1 L3 ∷ [])) 6 (kinds ([])))
     ∷ W 2 (segment_create 1 (raw L1 (at 1 L3 ∷ [])) 2 1)
     ∷ W 2 (thread_create 1 (raw L1 ([])) 1 (raw L2 ([])) 0)
     ∷ W 6 (call.SegmentWrite (entry 1 5) 0 (0 ∷ []))
@@ -151,24 +153,24 @@ abbrev pub as_map_edges_lines : List Line
 as_map_edges_lines =
     W 2 (segment_create 1 (raw L1 ([])) 5 4)
     ∷ W 2 (as_create 1 (raw L1 ([])) 1)
-    ∷ W 2 (call.AsMap (entry 1 5) 0 (mapping 10 (entry 1 4) 0 4 3))
-    ∷ W 2 (call.AsMap (entry 1 5) 1 (mapping 14 (entry 1 4) 0 1 1))
-    ∷ W 2 (call.AsMap (entry 1 5) 2 (mapping 9 (entry 1 4) 0 1 1))
-    ∷ W 2 (call.AsMap (entry 1 5) 3 (mapping 8 (entry 1 4) 0 2 1))
-    ∷ W 2 (call.AsMap (entry 1 5) 3 (mapping 13 (entry 1 4) 0 1 1))
-    ∷ W 2 (call.AsMap (entry 1 5) 3 (mapping 12 (entry 1 4) 0 1 1))
-    ∷ W 2 (call.AsMap (entry 1 5) 3 (mapping 0 (entry 1 4) 0 16 1))
-    ∷ W 2 (call.AsMap (entry 1 5) 3 (mapping 65535 (entry 1 4) 0 1 1))
-    ∷ W 2 (call.AsMap (entry 1 5) 4 (mapping 65535 (entry 1 4) 0 2 1))
-    ∷ W 2 (call.AsMap (entry 1 5) 4 (mapping 65536 (entry 1 4) 0 0 1))
-    ∷ W 2 (call.AsMap (entry 1 5) 4 (mapping 12 (entry 1 4) 0 0 1))
-    ∷ W 2 (call.AsMap (entry 1 5) 4 (mapping 65536 (entry 1 4) 0 1 1))
-    ∷ W 2 (call.AsMap (entry 1 5) 4 (mapping 100 (entry 1 4) 15 1 1))
-    ∷ W 2 (call.AsMap (entry 1 5) 5 (mapping 200 (entry 1 4) 15 2 1))
-    ∷ W 2 (call.AsMap (entry 1 5) 5 (mapping 200 (entry 1 4) 0 1 0))
-    ∷ W 2 (call.AsMap (entry 1 5) 0 (mapping 300 (entry 1 4) 0 1 1))
-    ∷ W 2 (call.AsMap (entry 1 5) 16 (mapping 300 (entry 1 4) 0 1 1))
-    ∷ W 2 (call.AsMap (entry 1 5) 15 (mapping 4294967295 (entry 1 4) 4294967295 1 1))
+    ∷ W 2 (call.AsMap (entry 1 5) 0 (mapping 10 (entry 1 4) 0 4 true true))
+    ∷ W 2 (call.AsMap (entry 1 5) 1 (mapping 14 (entry 1 4) 0 1 true false))
+    ∷ W 2 (call.AsMap (entry 1 5) 2 (mapping 9 (entry 1 4) 0 1 true false))
+    ∷ W 2 (call.AsMap (entry 1 5) 3 (mapping 8 (entry 1 4) 0 2 true false))
+    ∷ W 2 (call.AsMap (entry 1 5) 3 (mapping 13 (entry 1 4) 0 1 true false))
+    ∷ W 2 (call.AsMap (entry 1 5) 3 (mapping 12 (entry 1 4) 0 1 true false))
+    ∷ W 2 (call.AsMap (entry 1 5) 3 (mapping 0 (entry 1 4) 0 16 true false))
+    ∷ W 2 (call.AsMap (entry 1 5) 3 (mapping 65535 (entry 1 4) 0 1 true false))
+    ∷ W 2 (call.AsMap (entry 1 5) 4 (mapping 65535 (entry 1 4) 0 2 true false))
+    ∷ W 2 (call.AsMap (entry 1 5) 4 (mapping 65536 (entry 1 4) 0 0 true false))
+    ∷ W 2 (call.AsMap (entry 1 5) 4 (mapping 12 (entry 1 4) 0 0 true false))
+    ∷ W 2 (call.AsMap (entry 1 5) 4 (mapping 65536 (entry 1 4) 0 1 true false))
+    ∷ W 2 (call.AsMap (entry 1 5) 4 (mapping 100 (entry 1 4) 15 1 true false))
+    ∷ W 2 (call.AsMap (entry 1 5) 5 (mapping 200 (entry 1 4) 15 2 true false))
+    ∷ W 2 (call.AsMap (entry 1 5) 5 (mapping 200 (entry 1 4) 0 1 false false))
+    ∷ W 2 (call.AsMap (entry 1 5) 0 (mapping 300 (entry 1 4) 0 1 true false))
+    ∷ W 2 (call.AsMap (entry 1 5) 16 (mapping 300 (entry 1 4) 0 1 true false))
+    ∷ W 2 (call.AsMap (entry 1 5) 15 (mapping 4294967295 (entry 1 4) 4294967295 1 true false))
     ∷ R 2 (query.Load 3328 1)
     ∷ W 2 (call.SelfSetAs (entry 1 5))
     ∷ R 2 (query.Load 25600 1)
@@ -189,7 +191,7 @@ as_map_edges_lines =
     ∷ R 2 (query.AsGet (entry 1 5) 4)
     ∷ R 2 (query.AsGet (entry 1 5) 16)
     ∷ R 2 (query.Load 3328 1)
-    ∷ W 2 (call.AsMap (entry 1 5) 0 (mapping 12 (entry 1 4) 0 1 2))
+    ∷ W 2 (call.AsMap (entry 1 5) 0 (mapping 12 (entry 1 4) 0 1 false true))
     ∷ R 2 (query.Load 3072 1)
     ∷ W 2 (call.Store 3072 (170 ∷ 187 ∷ []))
     ∷ R 2 (query.SegmentRead (entry 1 4) 0 3) ∷ []
@@ -236,7 +238,7 @@ AsMapEdges =
     ∷ reply.Done
     ∷ reply.Refused NotMapped
     ∷ reply.Mapping None
-    ∷ reply.Mapping (Some (mapping 100 (entry 1 4) 15 1 1))
+    ∷ reply.Mapping (Some (mapping 100 (entry 1 4) 15 1 true false))
     ∷ reply.Refused Bounds
     ∷ reply.Refused NotMapped
     ∷ reply.Done
@@ -295,7 +297,7 @@ QuotaMove =
 
 abbrev pub quota_of_container_lines : List Line
 quota_of_container_lines =
-    W 2 (container_create 1 (raw L1 ([])) 8 (kinds 0))
+    W 2 (container_create 1 (raw L1 ([])) 8 (kinds ([])))
     ∷ W 2 (segment_create 4 (raw L1 ([])) 4 1)
     ∷ W 2 (call.QuotaMove (entry 1 4) (negsuc 3))
     ∷ W 2 (call.QuotaMove (entry 1 4) (negsuc 2))
@@ -305,9 +307,9 @@ quota_of_container_lines =
     ∷ W 2 (call.QuotaMove (entry 4 5) (negsuc 0))
     ∷ W 2 (call.QuotaMove (entry 4 5) (pos 1))
     ∷ W 2 (segment_create 4 (raw L1 ([])) 1 0)
-    ∷ W 2 (container_create 1 (raw L1 ([])) 0 (kinds 0))
-    ∷ W 2 (container_create 1 (raw L1 ([])) 56 (kinds 0))
-    ∷ W 2 (container_create 1 (raw L1 ([])) 55 (kinds 0)) ∷ []
+    ∷ W 2 (container_create 1 (raw L1 ([])) 0 (kinds ([])))
+    ∷ W 2 (container_create 1 (raw L1 ([])) 56 (kinds ([])))
+    ∷ W 2 (container_create 1 (raw L1 ([])) 55 (kinds ([]))) ∷ []
 
 abbrev pub QuotaOfContainer : Type 0
 QuotaOfContainer =
@@ -328,7 +330,7 @@ QuotaOfContainer =
 
 abbrev pub link_avoid_lines : List Line
 link_avoid_lines =
-    W 2 (container_create 1 (raw L1 ([])) 3 (kinds 2))
+    W 2 (container_create 1 (raw L1 ([])) 3 (kinds (Segment ∷ [])))
     ∷ W 2 (segment_create 1 (raw L1 ([])) 20 1)
     ∷ W 2 (call.Link 4 (entry 1 5))
     ∷ W 2 (call.Link 4 (entry 1 4))
@@ -379,8 +381,9 @@ LinkAvoid =
 
 abbrev pub avoid_kinds_lines : List Line
 avoid_kinds_lines =
-    W 2 (container_create 1 (raw L1 ([])) 30 (kinds 63))
-    ∷ W 2 (container_create 4 (raw L1 ([])) 1 (kinds 0))
+    W 2 (container_create 1 (raw L1 ([])) 30 (kinds (Container ∷ Segment ∷ AddressSpace ∷ Thread ∷
+    Gate ∷ Device ∷ [])))
+    ∷ W 2 (container_create 4 (raw L1 ([])) 1 (kinds ([])))
     ∷ W 2 (segment_create 4 (raw L1 ([])) 1 0)
     ∷ W 2 (as_create 4 (raw L1 ([])) 1)
     ∷ W 2 (thread_create 4 (raw L1 ([])) 1 (raw L2 ([])) 0)
@@ -388,15 +391,15 @@ avoid_kinds_lines =
     ∷ W 2 (segment_copy 4 (raw L1 ([])) 1 (entry 1 2))
     ∷ W 2 (call.Link 4 (entry 1 3))
     ∷ W 2 (call.Link 4 (entry 1 2))
-    ∷ W 2 (container_create 1 (raw L1 ([])) 30 (kinds 8))
-    ∷ W 2 (container_create 5 (raw L1 ([])) 20 (kinds 16))
-    ∷ W 2 (container_create 6 (raw L1 ([])) 10 (kinds 4))
+    ∷ W 2 (container_create 1 (raw L1 ([])) 30 (kinds (Thread ∷ [])))
+    ∷ W 2 (container_create 5 (raw L1 ([])) 20 (kinds (Gate ∷ [])))
+    ∷ W 2 (container_create 6 (raw L1 ([])) 10 (kinds (AddressSpace ∷ [])))
     ∷ W 2 (thread_create 7 (raw L1 ([])) 1 (raw L2 ([])) 0)
     ∷ W 2 (gate_create 7 (raw L1 ([])) 1 (raw L2 ([])) (entry 0 0) 0 0)
     ∷ W 2 (as_create 7 (raw L1 ([])) 1)
     ∷ W 2 (as_create 6 (raw L1 ([])) 1)
     ∷ W 2 (segment_create 7 (raw L1 ([])) 1 0)
-    ∷ W 2 (container_create 7 (raw L1 ([])) 1 (kinds 0))
+    ∷ W 2 (container_create 7 (raw L1 ([])) 1 (kinds ([])))
     ∷ R 2 (query.ContainerParent 7)
     ∷ R 2 (query.ContainerParent 1)
     ∷ R 2 (query.ContainerParent 5)
@@ -430,8 +433,8 @@ AvoidKinds =
 
 abbrev pub thread_in_dead_container_lines : List Line
 thread_in_dead_container_lines =
-    W 2 (container_create 1 (raw L1 ([])) 10 (kinds 0))
-    ∷ W 2 (container_create 4 (raw L1 ([])) 5 (kinds 0))
+    W 2 (container_create 1 (raw L1 ([])) 10 (kinds ([])))
+    ∷ W 2 (container_create 4 (raw L1 ([])) 5 (kinds ([])))
     ∷ W 2 (thread_create 5 (raw L1 ([])) 1 (raw L2 ([])) 0)
     ∷ W 2 (thread_create 5 (raw L1 ([])) 1 (raw L2 ([])) 0)
     ∷ W 2 (call.SetFixed (entry 5 7))
@@ -537,7 +540,7 @@ ThreadCreateLabels =
 
 abbrev pub immutable_container_lines : List Line
 immutable_container_lines =
-    W 2 (container_create 1 (raw L1 ([])) 20 (kinds 0))
+    W 2 (container_create 1 (raw L1 ([])) 20 (kinds ([])))
     ∷ W 2 (segment_create 4 (raw L1 ([])) 4 1)
     ∷ W 2 (segment_create 1 (raw L1 ([])) 1 0)
     ∷ W 2 (call.SetFixed (entry 1 6))
@@ -639,9 +642,9 @@ abbrev pub immutable_space_lines : List Line
 immutable_space_lines =
     W 2 (segment_create 1 (raw L1 ([])) 2 1)
     ∷ W 2 (as_create 1 (raw L1 ([])) 1)
-    ∷ W 2 (call.AsMap (entry 1 5) 0 (mapping 0 (entry 1 4) 0 1 3))
+    ∷ W 2 (call.AsMap (entry 1 5) 0 (mapping 0 (entry 1 4) 0 1 true true))
     ∷ W 2 (call.SetImmutable (entry 1 5))
-    ∷ W 2 (call.AsMap (entry 1 5) 16 (mapping 0 (entry 1 4) 0 0 0))
+    ∷ W 2 (call.AsMap (entry 1 5) 16 (mapping 0 (entry 1 4) 0 0 false false))
     ∷ W 2 (call.AsUnmap (entry 1 5) 16)
     ∷ W 2 (call.SelfSetAs (entry 1 5))
     ∷ W 2 (call.Store 0 (9 ∷ []))
@@ -666,7 +669,7 @@ ImmutableSpace =
     ∷ reply.Done
     ∷ reply.Done
     ∷ reply.Bytes (9 ∷ [])
-    ∷ reply.Mapping (Some (mapping 0 (entry 1 4) 0 1 3))
+    ∷ reply.Mapping (Some (mapping 0 (entry 1 4) 0 1 true true))
     ∷ reply.Done
     ∷ reply.Refused NotMapped
     ∷ reply.Refused NoAccess
@@ -915,7 +918,7 @@ CategoriesSpent =
 abbrev pub spent_at_boot_lines : List Line
 spent_at_boot_lines =
     W 2 (call.CatCreate)
-    ∷ W 2 (container_create 1 (raw L1 ([])) 1 (kinds 0))
+    ∷ W 2 (container_create 1 (raw L1 ([])) 1 (kinds ([])))
     ∷ W 2 (segment_create 1 (raw L1 ([])) 18 17)
     ∷ W 2 (thread_create 1 (raw L1 ([])) 1 (raw L2 ([])) 0)
     ∷ W 2 (segment_create 1 (raw L2 ([])) 1 0) ∷ []
@@ -986,7 +989,7 @@ ListWindow =
 
 abbrev pub link_order_lines : List Line
 link_order_lines =
-    W 2 (container_create 1 (raw L1 ([])) 20 (kinds 0))
+    W 2 (container_create 1 (raw L1 ([])) 20 (kinds ([])))
     ∷ W 2 (segment_create 1 (raw L1 ([])) 1 0)
     ∷ W 2 (call.SetFixed (entry 1 5))
     ∷ W 2 (call.Link 4 (entry 1 5))
@@ -1074,7 +1077,7 @@ stored_form_lines =
     ∷ W 2 (segment_create 1 (raw L2 (at 2 L3 ∷ at 1 L0 ∷ [])) 1 0)
     ∷ R 2 (query.ObjLabel (entry 1 5))
     ∷ W 2 (segment_create 1 (raw L1 (at 2 Star ∷ [])) 1 0)
-    ∷ W 2 (container_create 1 (raw L1 (at 2 Star ∷ [])) 1 (kinds 0))
+    ∷ W 2 (container_create 1 (raw L1 (at 2 Star ∷ [])) 1 (kinds ([])))
     ∷ W 2 (as_create 1 (raw L1 (at 2 Star ∷ [])) 1)
     ∷ W 2 (segment_copy 1 (raw L1 (at 2 Star ∷ [])) 1 (entry 1 4))
     ∷ R 2 (query.ObjLabel (entry 1 3)) ∷ []
@@ -1238,7 +1241,7 @@ translate_labels_lines =
     ∷ W 2 (segment_create 1 (raw L1 (at 1 L3 ∷ [])) 2 1)
     ∷ W 2 (as_create 1 (raw L1 ([])) 1)
     ∷ W 2 (thread_create 1 (raw L1 ([])) 1 (raw L2 ([])) 0)
-    ∷ W 6 (call.AsMap (entry 1 5) 0 (mapping 0 (entry 1 4) 0 1 3))
+    ∷ W 6 (call.AsMap (entry 1 5) 0 (mapping 0 (entry 1 4) 0 1 true true))
     ∷ W 6 (call.SelfSetAs (entry 1 5))
     ∷ R 6 (query.Load 0 1)
     ∷ W 6 (call.Store 0 (1 ∷ []))
@@ -1249,12 +1252,12 @@ translate_labels_lines =
     ∷ W 6 (call.SelfSetAs (entry 1 7))
     ∷ R 6 (query.Load 0 1)
     ∷ R 6 (query.SelfGet)
-    ∷ W 2 (container_create 1 (raw L1 (at 1 L2 ∷ [])) 5 (kinds 0))
+    ∷ W 2 (container_create 1 (raw L1 (at 1 L2 ∷ [])) 5 (kinds ([])))
     ∷ W 2 (as_create 8 (raw L1 ([])) 1)
     ∷ W 6 (call.SelfSetAs (entry 8 9))
-    ∷ W 2 (call.AsMap (entry 1 5) 1 (mapping 1 (entry 8 8) 0 1 1))
+    ∷ W 2 (call.AsMap (entry 1 5) 1 (mapping 1 (entry 8 8) 0 1 true false))
     ∷ W 2 (segment_create 8 (raw L1 ([])) 2 1)
-    ∷ W 2 (call.AsMap (entry 1 5) 1 (mapping 1 (entry 8 10) 0 1 3))
+    ∷ W 2 (call.AsMap (entry 1 5) 1 (mapping 1 (entry 8 10) 0 1 true true))
     ∷ W 2 (call.Store 256 (1 ∷ []))
     ∷ W 2 (call.SelfSetLabel (raw L1 (at 1 L1 ∷ [])))
     ∷ R 2 (query.Load 256 1)
@@ -1287,13 +1290,13 @@ TranslateLabels =
     ∷ reply.Done
     ∷ reply.Done
     ∷ reply.Refused NotMapped
-    ∷ reply.Mapping (Some (mapping 1 (entry 8 10) 0 1 3)) ∷ []
+    ∷ reply.Mapping (Some (mapping 1 (entry 8 10) 0 1 true true)) ∷ []
 
 abbrev pub past_end_lines : List Line
 past_end_lines =
     W 2 (segment_create 1 (raw L1 ([])) 4 3)
     ∷ W 2 (as_create 1 (raw L1 ([])) 1)
-    ∷ W 2 (call.AsMap (entry 1 5) 0 (mapping 7 (entry 1 4) 1 3 3))
+    ∷ W 2 (call.AsMap (entry 1 5) 0 (mapping 7 (entry 1 4) 1 3 true true))
     ∷ W 2 (call.SelfSetAs (entry 1 5))
     ∷ W 2 (call.SegmentWrite (entry 1 4) 256 (17 ∷ []))
     ∷ W 2 (call.SegmentWrite (entry 1 4) 512 (34 ∷ []))
@@ -1334,7 +1337,7 @@ unref_order_lines =
     ∷ W 4 (call.Unref (entry 1 50))
     ∷ W 4 (call.Unref (entry 1 3))
     ∷ W 4 (call.Unref (entry 50 1))
-    ∷ W 2 (container_create 1 (raw L1 (at 1 L3 ∷ [])) 5 (kinds 0))
+    ∷ W 2 (container_create 1 (raw L1 (at 1 L3 ∷ [])) 5 (kinds ([])))
     ∷ W 4 (call.Unref (entry 5 5))
     ∷ W 2 (call.Unref (entry 5 5))
     ∷ W 2 (call.Unref (entry 5 1)) ∷ []

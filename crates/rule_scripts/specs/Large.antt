@@ -1,4 +1,4 @@
--- Scripts, and what each line answers. Made by rows/make.py from rows/large.txt.
+-- Scripts, and what each line answers. Made by scripts/make.py from scripts/large.txt.
 use Rattle.std.specs.Prelude.{◌≡◌, List, [], ◌∷◌, false}
 use Rattle.base.specs.declared.levels.Level.TheVariants.{L1}
 use Rattle.base.specs.declared.refusals.Refusal.TheVariants.{NoQuota}

@@ -1,9 +1,11 @@
 -- Scripts of write and read calls, played one line after another, and words to write them by.
-use Rattle.std.specs.Prelude.{ℕ, List, [], ◌∷◌, map}
+use Rattle.std.specs.Prelude.{ℕ, Bool, List, [], ◌∷◌, map, fold}
 use Rattle.base.specs.declared.ids.Category.{Category}
+use Rattle.base.specs.declared.kinds.Kind.{Kind}
 use Rattle.base.specs.declared.levels.Level.{Level}
 use Rattle.base.specs.declared.ranges.Limits.{Limits}
 use Rattle.base.specs.declared.sets.TypeSet.{TypeSet}
+use Rattle.base.specs.Sets.{no_kind, only, union}
 use Rattle.label_lattice.specs.Label.{LabelValue}
 use Rattle.label_lattice.specs.declared.pairings.Pair.{Pair}
 use Rattle.label_lattice.specs.declared.raw_labels.RawLabel.{RawLabel}
@@ -55,16 +57,17 @@ label d ps = record { default_level = d; exceptions = ps }
 abbrev pub entry : ℕ → ℕ → Entry
 entry d o = record { container = d; object = o }
 
-abbrev pub kinds : ℕ → TypeSet
-kinds bits = record { 0 = bits }
+-- the set of these kinds
+abbrev pub kinds : List Kind → TypeSet
+kinds ks = fold (λ set k. union set (only k)) no_kind ks
 
-abbrev pub mapping : ℕ → Entry → ℕ → ℕ → ℕ → Mapping
-mapping page e first count bits = record {
+abbrev pub mapping : ℕ → Entry → ℕ → ℕ → Bool → Bool → Mapping
+mapping page e first count reads writes = record {
   page = page;
   entry = e;
   first = first;
   count = count;
-  rights = record { 0 = bits };
+  rights = record { read = reads; write = writes };
 }
 
 abbrev pub container_create : ℕ → RawLabel → ℕ → TypeSet → Call

@@ -1,5 +1,6 @@
--- Scripts, and what each line answers. Made by rows/make.py from rows/worked.txt.
-use Rattle.std.specs.Prelude.{◌≡◌, List, [], ◌∷◌, false, pos, negsuc, Some}
+-- Scripts, and what each line answers. Made by scripts/make.py from scripts/worked.txt.
+use Rattle.std.specs.Prelude.{◌≡◌, List, [], ◌∷◌, true, false, pos, negsuc, Some}
+use Rattle.base.specs.declared.kinds.Kind.TheVariants.{Segment}
 use Rattle.base.specs.declared.levels.Level.TheVariants.{Star, L0, L1, L2, L3}
 use Rattle.base.specs.declared.refusals.Refusal.TheVariants.{Halted, WrongType, CannotObserve}
 use Rattle.base.specs.declared.refusals.Refusal.TheVariants.{CannotModify, BadLabel, LabelRange}
@@ -117,9 +118,9 @@ Gates =
 
 abbrev pub quotas_and_links_lines : List Line
 quotas_and_links_lines =
-    W 2 (container_create 1 (raw L1 ([])) 10 (kinds 0))
-    ∷ W 2 (container_create 4 (raw L1 ([])) 8 (kinds 0))
-    ∷ W 2 (container_create 5 (raw L1 ([])) 6 (kinds 0))
+    W 2 (container_create 1 (raw L1 ([])) 10 (kinds ([])))
+    ∷ W 2 (container_create 4 (raw L1 ([])) 8 (kinds ([])))
+    ∷ W 2 (container_create 5 (raw L1 ([])) 6 (kinds ([])))
     ∷ W 2 (segment_create 6 (raw L1 ([])) 2 1)
     ∷ W 2 (call.SegmentWrite (entry 6 7) 0 (97 ∷ 98 ∷ []))
     ∷ W 2 (call.SetFixed (entry 6 7))
@@ -148,16 +149,16 @@ QuotasAndLinks =
 
 abbrev pub mappings_by_entry_lines : List Line
 mappings_by_entry_lines =
-    W 2 (container_create 1 (raw L1 ([])) 10 (kinds 0))
-    ∷ W 2 (container_create 4 (raw L1 ([])) 8 (kinds 0))
-    ∷ W 2 (container_create 5 (raw L1 ([])) 6 (kinds 0))
+    W 2 (container_create 1 (raw L1 ([])) 10 (kinds ([])))
+    ∷ W 2 (container_create 4 (raw L1 ([])) 8 (kinds ([])))
+    ∷ W 2 (container_create 5 (raw L1 ([])) 6 (kinds ([])))
     ∷ W 2 (segment_create 6 (raw L1 ([])) 2 1)
     ∷ W 2 (call.SegmentWrite (entry 6 7) 0 (97 ∷ 98 ∷ []))
     ∷ W 2 (call.SetFixed (entry 6 7))
     ∷ W 2 (call.Link 1 (entry 6 7))
     ∷ W 2 (as_create 1 (raw L1 ([])) 1)
-    ∷ W 2 (call.AsMap (entry 1 8) 0 (mapping 0 (entry 6 7) 0 1 3))
-    ∷ W 2 (call.AsMap (entry 1 8) 1 (mapping 4 (entry 1 7) 0 1 3))
+    ∷ W 2 (call.AsMap (entry 1 8) 0 (mapping 0 (entry 6 7) 0 1 true true))
+    ∷ W 2 (call.AsMap (entry 1 8) 1 (mapping 4 (entry 1 7) 0 1 true true))
     ∷ W 2 (call.SelfSetAs (entry 1 8))
     ∷ R 2 (query.Load 0 2)
     ∷ W 2 (call.Unref (entry 1 4))
@@ -183,11 +184,11 @@ MappingsByEntry =
     ∷ reply.Done
     ∷ reply.Refused NotMapped
     ∷ reply.Bytes (97 ∷ 98 ∷ [])
-    ∷ reply.Mapping (Some (mapping 0 (entry 6 7) 0 1 3)) ∷ []
+    ∷ reply.Mapping (Some (mapping 0 (entry 6 7) 0 1 true true)) ∷ []
 
 abbrev pub second_links_lines : List Line
 second_links_lines =
-    W 2 (container_create 1 (raw L1 ([])) 10 (kinds 0))
+    W 2 (container_create 1 (raw L1 ([])) 10 (kinds ([])))
     ∷ W 2 (segment_create 1 (raw L1 ([])) 2 1)
     ∷ W 2 (call.Link 4 (entry 1 5))
     ∷ W 2 (call.SetFixed (entry 1 5))
@@ -230,7 +231,7 @@ QuotasMoved =
 abbrev pub a_thread_that_dies_lines : List Line
 a_thread_that_dies_lines =
     W 2 (call.Unref (entry 1 1))
-    ∷ W 2 (container_create 1 (raw L1 ([])) 4 (kinds 0))
+    ∷ W 2 (container_create 1 (raw L1 ([])) 4 (kinds ([])))
     ∷ W 2 (thread_create 4 (raw L1 ([])) 1 (raw L2 ([])) 0)
     ∷ W 5 (call.Unref (entry 1 4))
     ∷ R 5 (query.SelfGet) ∷ []
@@ -248,13 +249,13 @@ abbrev pub read_only_for_good_lines : List Line
 read_only_for_good_lines =
     W 2 (segment_create 1 (raw L1 ([])) 2 1)
     ∷ W 2 (as_create 1 (raw L1 ([])) 1)
-    ∷ W 2 (call.AsMap (entry 1 5) 0 (mapping 0 (entry 1 4) 0 1 3))
+    ∷ W 2 (call.AsMap (entry 1 5) 0 (mapping 0 (entry 1 4) 0 1 true true))
     ∷ W 2 (call.SelfSetAs (entry 1 5))
     ∷ W 2 (call.Store 0 (190 ∷ 239 ∷ []))
     ∷ W 2 (call.SetImmutable (entry 1 4))
     ∷ W 2 (call.Store 0 (0 ∷ 0 ∷ []))
     ∷ R 2 (query.Load 0 2)
-    ∷ W 2 (call.AsMap (entry 1 5) 1 (mapping 0 (entry 1 4) 0 1 1))
+    ∷ W 2 (call.AsMap (entry 1 5) 1 (mapping 0 (entry 1 4) 0 1 true false))
     ∷ W 2 (call.SegmentWrite (entry 1 4) 0 (0 ∷ [])) ∷ []
 
 abbrev pub ReadOnlyForGood : Type 0
@@ -273,12 +274,12 @@ ReadOnlyForGood =
 
 abbrev pub a_mapping_that_returns_lines : List Line
 a_mapping_that_returns_lines =
-    W 2 (container_create 1 (raw L1 ([])) 4 (kinds 0))
+    W 2 (container_create 1 (raw L1 ([])) 4 (kinds ([])))
     ∷ W 2 (segment_create 1 (raw L1 ([])) 2 1)
     ∷ W 2 (call.SetFixed (entry 1 5))
     ∷ W 2 (call.Link 4 (entry 1 5))
     ∷ W 2 (as_create 1 (raw L1 ([])) 1)
-    ∷ W 2 (call.AsMap (entry 1 6) 15 (mapping 65535 (entry 1 5) 0 1 1))
+    ∷ W 2 (call.AsMap (entry 1 6) 15 (mapping 65535 (entry 1 5) 0 1 true false))
     ∷ W 2 (call.SelfSetAs (entry 1 6))
     ∷ W 2 (call.Unref (entry 1 5))
     ∷ R 2 (query.Load 16776960 1)
@@ -304,8 +305,8 @@ AMappingThatReturns =
 
 abbrev pub avoided_kinds_lines : List Line
 avoided_kinds_lines =
-    W 2 (container_create 1 (raw L1 ([])) 9 (kinds 2))
-    ∷ W 2 (container_create 4 (raw L1 ([])) 4 (kinds 0))
+    W 2 (container_create 1 (raw L1 ([])) 9 (kinds (Segment ∷ [])))
+    ∷ W 2 (container_create 4 (raw L1 ([])) 4 (kinds ([])))
     ∷ W 2 (segment_create 5 (raw L1 ([])) 1 0)
     ∷ W 2 (as_create 5 (raw L1 ([])) 1) ∷ []
 
@@ -439,7 +440,7 @@ FourPackets =
 abbrev pub first_path_lines : List Line
 first_path_lines =
     W 2 (call.CatCreate)
-    ∷ W 2 (container_create 1 (raw L1 ([])) 8 (kinds 0))
+    ∷ W 2 (container_create 1 (raw L1 ([])) 8 (kinds ([])))
     ∷ W 2 (segment_create 4 (raw L1 (at 1 L3 ∷ [])) 2 1)
     ∷ W 2 (call.SegmentWrite (entry 4 5) 62 (104 ∷ 105 ∷ []))
     ∷ R 2 (query.SegmentRead (entry 4 5) 62 2)
@@ -499,10 +500,10 @@ Metadata =
 
 abbrev pub a_space_that_dies_lines : List Line
 a_space_that_dies_lines =
-    W 2 (container_create 1 (raw L1 ([])) 4 (kinds 0))
+    W 2 (container_create 1 (raw L1 ([])) 4 (kinds ([])))
     ∷ W 2 (as_create 4 (raw L1 ([])) 1)
     ∷ W 2 (segment_create 1 (raw L1 ([])) 2 1)
-    ∷ W 2 (call.AsMap (entry 4 5) 0 (mapping 0 (entry 1 6) 0 1 3))
+    ∷ W 2 (call.AsMap (entry 4 5) 0 (mapping 0 (entry 1 6) 0 1 true true))
     ∷ W 2 (call.SelfSetAs (entry 4 5))
     ∷ W 2 (call.Store 0 (7 ∷ []))
     ∷ W 2 (call.Unref (entry 4 5))
@@ -527,7 +528,7 @@ a_raised_label_lines =
     W 2 (call.CatCreate)
     ∷ W 2 (segment_create 1 (raw L1 ([])) 2 1)
     ∷ W 2 (as_create 1 (raw L1 ([])) 1)
-    ∷ W 2 (call.AsMap (entry 1 5) 0 (mapping 0 (entry 1 4) 0 1 3))
+    ∷ W 2 (call.AsMap (entry 1 5) 0 (mapping 0 (entry 1 4) 0 1 true true))
     ∷ W 2 (thread_create 1 (raw L1 ([])) 1 (raw L2 (at 1 L3 ∷ [])) 0)
     ∷ W 6 (call.SelfSetAs (entry 1 5))
     ∷ W 6 (call.Store 0 (1 ∷ []))

@@ -1,5 +1,5 @@
 //! Scripts of the kernel's rules, each with what every line answers, as theorems by computation: the definitions of
-//! `kernel_rules` give these answers and end states. The scripts stand in `rows/`, from which `rows/make.py` makes the
+//! `kernel_rules` give these answers and end states. The scripts stand in `scripts/`, from which `scripts/make.py` makes the
 //! statements and their proofs, and each file of scripts is the contract of a function with an empty body. They promise
 //! nothing of a machine, which is proved to follow the same definitions.
 #![tactic(auto)]

@@ -1,5 +1,5 @@
 //! Plays scripts under gates that pace their workers, and where memory is refused.
-use base::Category;
+use base::{Category, ObjectId};
 use call_text::{Named, Script, ScriptError, Value, read_script, write_reply};
 use histar_args::DEFAULTS;
 use kernel_rules::Reply;
@@ -124,6 +124,59 @@ fn a_thread_is_halted_within_a_phase(rt: HostRuntime) -> Result<(), Fail> {
         played.output.as_slice(),
         b"boot 1: id a\nboot 2: id t\nboot 5: ok\nt 4: ok\nt 6: refused 1 Halted\nt 7: refused 1 Halted\n".as_slice()
     );
+    Ok(())
+}
+
+/// Stops before a line of the script, and counts the lines that have their answers.
+#[derive(Drop)]
+struct StopBefore {
+    line: usize,
+    answered: AtomicU64,
+}
+
+impl Gate for StopBefore {
+    fn before(&self, _worker: usize, line: usize) -> Turn {
+        if line == self.line {
+            Turn::Stop
+        } else {
+            Turn::Go
+        }
+    }
+
+    fn after(&self, _worker: usize, _line: usize) -> Turn {
+        let _ = self.answered.fetch_add(1, Ordering::SeqCst);
+        Turn::Go
+    }
+}
+
+// A gate that stops a worker before a line ends the run: that line is not played, nor one after it.
+#[test]
+fn a_line_that_is_stopped_is_not_played(rt: HostRuntime) -> Result<(), Fail> {
+    let alloc = rt.alloc();
+    let text = b"boot: cat_create\nboot: cat_create\nboot: cat_create\n";
+    let script = read_script(alloc, text)?;
+    let gate = StopBefore {
+        line: 2,
+        answered: AtomicU64::new(0),
+    };
+    let played = play_all(&rt, alloc, &script, &DEFAULTS.limits, &gate);
+    assert!(rt; matches!(played, Err(PlayFault::Stopped)));
+    assert_eq!(rt; gate.answered.load(Ordering::SeqCst), 1);
+    Ok(())
+}
+
+// The journal that a run leaves has every call of every worker, and no read.
+#[test]
+fn the_journal_is_that_of_the_end(rt: HostRuntime) -> Result<(), Fail> {
+    let alloc = rt.alloc();
+    let text =
+        b"t = boot: thread_create root {1} 1 {2} 0\n--\nboot: cat_create\nt: cat_create\nt: self_get\n--\nt: cat_create\n";
+    let script = read_script(alloc, text)?;
+    let played = play_all(&rt, alloc, &script, &DEFAULTS.limits, &Always)?;
+    let events = played.events.as_slice();
+    assert_eq!(rt; events.len(), 4);
+    assert!(rt; events[0].number == 1 && events[3].number == 2);
+    assert!(rt; events[3].thread == ObjectId::new(4));
     Ok(())
 }
 

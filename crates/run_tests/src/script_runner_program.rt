@@ -1,7 +1,8 @@
 //! What the program prints, and how it ends.
 use histar_args::DEFAULTS;
 use script_runner::histar_on;
-use std::io::ErrorKind;
+use std::io;
+use std::io::{ErrorKind, Write};
 use std::process::Abort;
 use std::sync::Wait;
 use std::test::Fail;
@@ -196,4 +197,29 @@ fn faults_of_streams(rt: HostRuntime) -> Result<(), Fail> {
     assert_eq!(rt; err.as_slice(), b"histar: output fault\n".as_slice());
     assert_eq!(rt; out.len(), 0);
     Ok(())
+}
+
+/// A writer that takes all bytes, and fails to hand them on.
+#[derive(Drop)]
+struct Holding;
+
+impl Write for Holding {
+    fn write(&mut self, bytes: &[u8]) -> io::Result<usize> {
+        Ok(bytes.len())
+    }
+
+    fn flush(&mut self) -> io::Result<()> {
+        Err(io::Error::from(ErrorKind::BrokenPipe))
+    }
+}
+
+// Output that was written and doesn't go out is a fault.
+#[test]
+fn output_is_handed_on(rt: HostRuntime) {
+    let alloc = rt.alloc();
+    let mut err = Vec::new(alloc);
+    let mut script: &[u8] = b"boot: cat_create\n";
+    let ended = histar_on(&rt, alloc, &mut script, &DEFAULTS, &mut Holding, &mut err);
+    assert_eq!(rt; ended.status, 3);
+    assert_eq!(rt; err.as_slice(), b"histar: output fault\n".as_slice());
 }

@@ -1,4 +1,4 @@
-//! The scripts of the rules, with what the program prints of them. Made by crates/rule_scripts/rows/make.py.
+//! The scripts of the rules, with what the program prints of them. Made by crates/rule_scripts/scripts/make.py.
 use base::{Level, Limits};
 use test_support::{EIGHT_PAGES, LIMITS, MOST_PAGES};
 

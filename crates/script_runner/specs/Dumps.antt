@@ -5,9 +5,8 @@ use Rattle.kernel_rules.specs.History.{IsLegal, state_of}
 use Rattle.kernel_rules.specs.Scratch.{scratch}
 use Rattle.kernel_rules.specs.Tables.{TableLists}
 use Rattle.kernel_rules.specs.declared.events.Event.{Event}
-use Rattle.dump_text.specs.Dump.{dump_text}
 use Rattle.dump_text.specs.Line.{IsBootable}
-use Rattle.dump_text.specs.Whole.{whole_dump}
+use Rattle.dump_text.specs.Whole.{IsLegalDump}
 
 -- a legal journal after a boot with these limits, and the tables of the state that it leads to
 abbrev pub IsClosing : Limits → List Event → TableLists → Type 0
@@ -18,14 +17,7 @@ IsClosing limits events tables =
 abbrev pub IsPlayed : Limits → List Event → TableLists → Type 0
 IsPlayed limits events tables = IsBootable limits × IsClosing limits events tables
 
--- the limits are in range, and the bytes are the dump of a legal journal after a boot with them
-abbrev pub IsDumpOf : Limits → List ℕ → Type 0
-IsDumpOf limits bytes =
-    IsBootable limits
-    × ((events : List Event) × IsLegal limits events
-    × (bytes ≡ dump_text (whole_dump limits events)))
-
--- the bytes of a run's file: such a dump where one is asked for, and else none
+-- the bytes of a run's file: the dump of a legal journal where one is asked for, and else none
 abbrev pub IsFile : Bool → Limits → List ℕ → Type 0
-IsFile true limits bytes = IsDumpOf limits bytes
+IsFile true limits bytes = IsLegalDump limits bytes
 IsFile false limits bytes = bytes ≡ []

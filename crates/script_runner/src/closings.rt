@@ -4,9 +4,8 @@ ghost use Rattle.script_runner.specs.Dumps.{IsClosing};
 
 use base::{Meter, NoMemory};
 use kernel_rules::{Event, Tables};
-use published_copy::{Book, Naming, Shared};
+use published_copy::{Book, Naming};
 use std::alloc::Global;
-use std::sync::Wait;
 
 /// A journal, with the tables of the state that it leads to.
 #[derive(Drop)]
@@ -17,27 +16,14 @@ pub struct Closing {
     pub tables: Tables,
 }
 
-/// What stands in a book.
-fn closing_in<B: Naming>(alloc: Global, book: &Book<B>) -> Result<Closing, NoMemory>
-    ensures journal { IfOk result (λ closing. closing.events.items ≡ book.now) }
+/// What stands in a book that was closed: its whole journal.
+pub fn closing_of<B: Naming>(alloc: Global, book: Book<B>) -> Result<Closing, NoMemory>
+    ensures journal { IfOk result (λ closing. closing.events.items ≡ book.journal) }
     ensures closing { IfOk result
         (λ closing. IsClosing B.limits closing.events.items closing.tables) }
 {
     let mut meter = Meter::new(alloc)?;
-    let mut events = Vec::new(alloc);
-    events.extend_from_slice(book.events())?;
     let tables = book.kernel().tables(&mut meter)?;
+    let events = book.into_events();
     Ok(Closing { events, tables })
-}
-
-/// What stands in a shared book at one time. It waits for the lock.
-pub fn closing_of<B: Naming, R: Wait>(
-    rt: &R,
-    alloc: Global,
-    shared: &Shared<B>,
-) -> Result<Closing, NoMemory>
-    ensures { IfOk result (λ closing. IsClosing B.limits closing.events.items closing.tables) }
-{
-    let book = shared.book(rt);
-    closing_in(alloc, &book)
 }

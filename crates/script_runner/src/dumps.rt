@@ -1,6 +1,7 @@
 //! The dump of a run.
-ghost use Rattle.std.specs.Prelude.{◌≡◌, IfOk};
+ghost use Rattle.std.specs.Prelude.{◌≡◌, IfOk, OnOk};
 ghost use Rattle.dump_text.specs.Dump.{dump_text};
+ghost use Rattle.dump_text.specs.Fits.{FitsWords};
 ghost use Rattle.dump_text.specs.Whole.{whole_dump};
 ghost use Rattle.kernel_rules.specs.History.{state_of};
 ghost use Rattle.kernel_rules.specs.Scratch.{scratch};
@@ -19,8 +20,9 @@ pub fn dump_of(
     tables: Tables,
 ) -> Result<Vec<u8>, NoMemory>
     requires { tables ≡ scratch (state_of limits.now events.items) }
-    ensures { IfOk result
+    ensures text { IfOk result
         (λ bytes. bytes.items ≡ dump_text (whole_dump limits.now events.items)) }
+    ensures fits { OnOk result (FitsWords (whole_dump limits.now events.items)) }
 {
     let dump = dump_with(alloc, limits, events, tables)?;
     write_dump(alloc, &dump)

@@ -215,24 +215,7 @@ fn play_phases<'s, B: Naming + Send, R: Threads + Wait + Sync, G: Gate>(
     Ok(output_of(rt, alloc, &workers, played.as_slice(), &names)?)
 }
 
-fn play_shared<'s, B: Naming + Send, R: Threads + Wait + Sync, G: Gate>(
-    rt: &R,
-    alloc: Global,
-    shared: &'s Shared<B>,
-    script: &Script,
-    gate: &G,
-) -> Result<Played, PlayFault>
-    ensures { IfOk result (λ played. IsClosing B.limits played.events.items played.tables) }
-{
-    let output = play_phases(rt, alloc, shared, script, gate)?;
-    let Closing { events, tables } = closing_of(rt, alloc, shared)?;
-    Ok(Played {
-        output,
-        events,
-        tables,
-    })
-}
-
+/// Plays a script on a boot, and closes it: what is told of the book is what stands in it once every seat is gone.
 fn play_booted<B: Naming + Send, R: Threads + Wait + Sync, G: Gate>(
     rt: &R,
     alloc: Global,
@@ -244,7 +227,13 @@ fn play_booted<B: Naming + Send, R: Threads + Wait + Sync, G: Gate>(
     ensures { IfOk result (λ played. IsClosing B.limits played.events.items played.tables) }
 {
     let shared = blank.open::<B>();
-    play_shared(rt, alloc, &shared, script, gate)
+    let output = play_phases(rt, alloc, &shared, script, gate)?;
+    let Closing { events, tables } = closing_of(alloc, shared.close())?;
+    Ok(Played {
+        output,
+        events,
+        tables,
+    })
 }
 
 /// Plays a script on a newly booted kernel: its phases one after another, in each the workers at once, each one with a

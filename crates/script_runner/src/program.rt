@@ -7,6 +7,7 @@ use crate::gates::Always;
 use crate::play::{Played, play_all};
 use base::NoMemory;
 use call_text::{Script, ScriptError, read_script};
+use dump_text::legal_is_dump;
 use histar_args::Options;
 use kernel_rules::{Event, Tables};
 use program_io::{Fault, bytes_of};
@@ -78,6 +79,7 @@ fn file_of(
     if !options.dump {
         return Ok(Vec::new(alloc));
     }
+    legal_is_dump();
     dump_of(alloc, &options.limits, events, tables)
 }
 

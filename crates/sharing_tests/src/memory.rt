@@ -1,10 +1,13 @@
 //! Each call without memory.
-ghost use Rattle.std.specs.Prelude.{◌≡◌};
+ghost use Rattle.std.specs.Prelude.{◌≡◌, IfOk};
 
-use crate::samples::open_segment;
+use crate::samples::{is_refusal, open_segment};
 use base::ObjectId;
 use kernel_rules::{Call, Query, Reply};
-use published_copy::{Blank, Book, Naming, Pass, Receipt, Seat, Shared, SubmitRefusal};
+use published_copy::{
+    Blank, BootRefusal, Lent, Naming, Pass, Receipt, Seat, Shared, SubmitRefusal,
+};
+use std::alloc::Global;
 use std::marker::Brand;
 use std::process::Abort;
 use std::sync::Wait;
@@ -30,7 +33,11 @@ fn submit_again<B: Naming, R: Wait>(
 }
 
 /// The same under a lent book.
-fn commit_again<B: Naming>(book: &mut Book<B>, pass: &mut Pass<B>, call: &Call) -> Option<Receipt> {
+fn commit_again<B: Naming>(
+    book: &mut Lent<'_, B>,
+    pass: &mut Pass<B>,
+    call: &Call,
+) -> Option<Receipt> {
     let events = book.events().len();
     match book.commit(pass, call) {
         Ok(receipt) => Some(receipt),
@@ -84,16 +91,66 @@ fn want_memory<B: Naming, R: Wait + Abort>(rt: &R, blank: Blank) -> Result<(), F
     want_memory_at(rt, &shared)
 }
 
+/// A boot, made once more where there was no memory for it.
+fn boot_again(alloc: Global) -> Result<Blank, BootRefusal>
+    ensures { IfOk result (λ blank. blank ≡ MOST_PAGES) }
+{
+    match Blank::boot(alloc, &MOST_PAGES) {
+        Err(BootRefusal::Unavailable) => Blank::boot(alloc, &MOST_PAGES),
+        booted => booted,
+    }
+}
+
 // Where an allocation is refused, nothing has changed: what is made again answers as if nothing had
 // been.
 #[test]
 fn want_of_memory_changes_nothing(rt: HostRuntime) -> Result<(), Fail> {
-    let blank = match Blank::boot(rt.alloc(), &MOST_PAGES) {
-        Ok(blank) => blank,
-        Err(refusal) => {
-            assert_eq!(rt; refusal.refusal().number(), 30);
-            Blank::boot(rt.alloc(), &MOST_PAGES)?
-        }
-    };
+    let blank = boot_again(rt.alloc())?;
     want_memory::<Brand, HostRuntime>(&rt, blank)
+}
+
+/// A pass of one boot commits at the other, and where there is no memory for it, its thread may still be
+/// given a seat there.
+fn commit_there<B: Naming, R: Wait + Abort>(
+    rt: &R,
+    one: &Shared<B>,
+    other: &Shared<B>,
+) -> Result<(), Fail> {
+    let mut boot = one.open_seat(rt, boot_thread())?;
+    let made = submit_again(rt, one, &mut boot, &new_thread());
+    assert!(rt; is_made(&made, 4, 1, 1));
+    let mut here = other.open_seat(rt, boot_thread())?;
+    let made = submit_again(rt, other, &mut here, &new_thread());
+    assert!(rt; is_made(&made, 4, 1, 1));
+    let mut pass = one.open_seat(rt, ObjectId::new(4))?.into_pass();
+    let made = other.book(rt).commit(&mut pass, &open_segment());
+    match made {
+        Ok(_) => assert!(rt; is_refusal(&other.open_seat(rt, ObjectId::new(4)), 41)),
+        Err(refusal) => {
+            assert!(rt; refusal == SubmitRefusal::Memory);
+            assert!(rt; other.open_seat(rt, ObjectId::new(4)).is_ok());
+        }
+    }
+    Ok(())
+}
+
+fn commit_at_another<B: Naming, R: Wait + Abort>(
+    rt: &R,
+    one: Blank,
+    other: Blank,
+) -> Result<(), Fail>
+    requires one { one ≡ B.limits }
+    requires other { other ≡ B.limits }
+{
+    let one = one.open::<B>();
+    let other = other.open::<B>();
+    commit_there(rt, &one, &other)
+}
+
+// A commit that finds no memory gives no thread a place.
+#[test]
+fn want_of_memory_seats_no_one(rt: HostRuntime) -> Result<(), Fail> {
+    let one = boot_again(rt.alloc())?;
+    let other = boot_again(rt.alloc())?;
+    commit_at_another::<Brand, HostRuntime>(&rt, one, other)
 }

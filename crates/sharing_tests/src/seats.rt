@@ -44,6 +44,34 @@ fn use_boot<B: Naming, R: Wait + Abort>(rt: &R, blank: Blank) -> Result<(), Fail
     use_one_boot(rt, &shared)
 }
 
+// What is closed is the book at the end, with the calls of seats and of lent books.
+fn close_at<B: Naming, R: Wait + Abort>(rt: &R, shared: Shared<B>) -> Result<(), Fail> {
+    let mut pass = shared.open_seat(rt, boot_thread())?.into_pass();
+    shared.book(rt).commit(&mut pass, &open_segment())?;
+    shared.book(rt).commit(&mut pass, &new_thread())?;
+    shared
+        .open_seat(rt, ObjectId::new(5))?
+        .submit(rt, &Call::CatCreate)?;
+    let book = shared.close();
+    assert!(rt; book.limits() == &MOST_PAGES && book.kernel().is_thread(ObjectId::new(5)));
+    let events = book.into_events();
+    assert!(rt; events.len() == 3 && events[0].number == 1 && events[1].number == 2);
+    assert!(rt; events[2].thread == ObjectId::new(5) && events[2].number == 1);
+    Ok(())
+}
+
+fn close_boot<B: Naming, R: Wait + Abort>(rt: &R, blank: Blank) -> Result<(), Fail>
+    requires { blank ≡ B.limits }
+{
+    close_at(rt, blank.open::<B>())
+}
+
+#[test]
+fn what_is_closed_has_every_call(rt: HostRuntime) -> Result<(), Fail> {
+    let blank = Blank::boot(rt.alloc(), &MOST_PAGES)?;
+    close_boot::<Brand, HostRuntime>(&rt, blank)
+}
+
 #[test]
 fn a_call_is_an_event(rt: HostRuntime) -> Result<(), Fail> {
     let blank = Blank::boot(rt.alloc(), &MOST_PAGES)?;

@@ -1,16 +1,17 @@
 //! Passes that are used where it is not their turn.
 ghost use Rattle.std.specs.Prelude.{◌≡◌};
 
+use crate::samples::is_refusal;
 use base::{ObjectId, Refusal};
 use kernel_rules::{Call, Reply};
-use published_copy::{Blank, Book, Naming, Pass, Shared, SubmitRefusal};
+use published_copy::{Blank, Lent, Naming, Pass, Seat, Shared, SubmitRefusal};
 use std::marker::Brand;
 use std::process::Abort;
 use std::sync::Wait;
 use std::test::Fail;
 use test_support::{MOST_PAGES, boot_thread, new_thread};
 
-fn is_out_of_turn<B: Naming>(book: &mut Book<B>, pass: &mut Pass<B>) -> bool {
+fn is_out_of_turn<B: Naming>(book: &mut Lent<'_, B>, pass: &mut Pass<B>) -> bool {
     let (events, number) = (book.events().len(), pass.number());
     matches!(
         book.commit(pass, &Call::CatCreate),
@@ -54,6 +55,38 @@ fn length_at<B: Naming, R: Wait + Abort>(
     here.submit(rt, &Call::CatCreate)?;
     let receipt = other.book(rt).commit(&mut pass, &Call::CatCreate)?;
     assert!(rt; matches!(receipt.reply, Reply::Refused(Refusal::Halted)) && receipt.length == 2);
+    assert!(rt; is_refusal(&other.open_seat(rt, ObjectId::new(4)), 41));
+    Ok(())
+}
+
+/// Whether a seat's call is out of turn, and no event.
+fn is_seat_out_of_turn<B: Naming, R: Wait>(
+    rt: &R,
+    shared: &Shared<B>,
+    seat: &mut Seat<'_, B>,
+) -> bool {
+    let events = shared.book(rt).events().len();
+    matches!(
+        seat.submit(rt, &Call::CatCreate),
+        Err(SubmitRefusal::OutOfTurn)
+    ) && shared.book(rt).events().len() == events
+}
+
+// A seat's thread makes its first event by a pass of another boot, so the seat is out of turn from then
+// on.
+fn overtake_at<B: Naming, R: Wait + Abort>(
+    rt: &R,
+    one: &Shared<B>,
+    other: &Shared<B>,
+) -> Result<(), Fail> {
+    let mut pass = one.open_seat(rt, boot_thread())?.into_pass();
+    let mut here = other.open_seat(rt, boot_thread())?;
+    let receipt = other.book(rt).commit(&mut pass, &Call::CatCreate)?;
+    assert!(rt; receipt.number == 1 && receipt.length == 1);
+    assert!(rt; is_seat_out_of_turn(rt, other, &mut here));
+    assert!(rt; is_seat_out_of_turn(rt, other, &mut here));
+    let receipt = other.book(rt).commit(&mut pass, &Call::CatCreate)?;
+    assert!(rt; receipt.number == 2 && receipt.length == 2);
     Ok(())
 }
 
@@ -73,6 +106,22 @@ fn take_lengths<B: Naming, R: Wait + Abort>(rt: &R, one: Blank, other: Blank) ->
     let one = one.open::<B>();
     let other = other.open::<B>();
     length_at(rt, &one, &other)
+}
+
+fn overtake<B: Naming, R: Wait + Abort>(rt: &R, one: Blank, other: Blank) -> Result<(), Fail>
+    requires one { one ≡ B.limits }
+    requires other { other ≡ B.limits }
+{
+    let one = one.open::<B>();
+    let other = other.open::<B>();
+    overtake_at(rt, &one, &other)
+}
+
+#[test]
+fn a_seat_that_was_overtaken_is_out_of_turn(rt: HostRuntime) -> Result<(), Fail> {
+    let one = Blank::boot(rt.alloc(), &MOST_PAGES)?;
+    let other = Blank::boot(rt.alloc(), &MOST_PAGES)?;
+    overtake::<Brand, HostRuntime>(&rt, one, other)
 }
 
 #[test]

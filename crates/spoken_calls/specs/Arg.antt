@@ -3,9 +3,9 @@ use Rattle.std.specs.Prelude.{◌≡◌, ℕ, ◌<◌, ◌^◌, List, decimal}
 use Rattle.text_words.specs.DataWord.{data_text, IsData}
 use Rattle.text_words.specs.Label.{label_text, IsLabel}
 use Rattle.text_words.specs.Reference.{reference_text, IsReference}
-use Rattle.text_words.specs.RightsWord.{rights_text, AreRights}
+use Rattle.text_words.specs.RightsWord.{rights_text}
 use Rattle.text_words.specs.SignedWord.{signed_text, IsSigned}
-use Rattle.text_words.specs.TypeWord.{types_text, AreKinds}
+use Rattle.text_words.specs.TypeWord.{types_text}
 use Rattle.spoken_calls.specs.declared.args.ArgKind.{ArgKind}
 use Rattle.spoken_calls.specs.declared.args.ArgKind.TheVariants as kinds
 use Rattle.spoken_calls.specs.declared.args.Arg.{Arg}
@@ -41,8 +41,8 @@ FitsArg (args.Wide n) = n < 2 ^ 64
 FitsArg (args.Signed z) = IsSigned z
 FitsArg (args.Label l) = IsLabel l
 FitsArg (args.Data d) = IsData d
-FitsArg (args.Types s) = AreKinds s
-FitsArg (args.Rights r) = AreRights r
+FitsArg (args.Types s) = Unit {0}
+FitsArg (args.Rights r) = Unit {0}
 
 -- an argument of the kind, in its range
 pub record IsArg (kind : ArgKind) (arg : Arg) : Type 0 where

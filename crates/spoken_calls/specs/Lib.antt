@@ -1,3 +1,3 @@
 pub mod Verb
 pub mod Arg
-pub mod Row
+pub mod Spoken

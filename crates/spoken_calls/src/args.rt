@@ -115,7 +115,7 @@ fn read_allowed(word: &[u8]) -> Option<Arg>
     Some(Arg::Rights(rights))
 }
 
-fn read_spoken(alloc: Global, word: &[u8]) -> Result<Option<Arg>, AllocError>
+fn read_spoken_label(alloc: Global, word: &[u8]) -> Result<Option<Arg>, AllocError>
     ensures { IfOk result (λ found. Reads arg_text (IsArg ArgKind.Label) word.now found) }
 {
     let Some(label) = read_label(alloc, word)? else {
@@ -133,7 +133,7 @@ pub fn read_arg(alloc: Global, kind: ArgKind, word: &[u8]) -> Result<Option<Arg>
         ArgKind::Number => Ok(read_short(word)),
         ArgKind::Wide => Ok(read_wide(word)),
         ArgKind::Signed => Ok(read_change(word)),
-        ArgKind::Label => read_spoken(alloc, word),
+        ArgKind::Label => read_spoken_label(alloc, word),
         ArgKind::Data => Ok(read_bytes(word)),
         ArgKind::Types => Ok(read_kinds(word)),
         ArgKind::Rights => Ok(read_allowed(word)),

@@ -1,10 +1,10 @@
-//! Writing rows.
+//! Writing calls.
 ghost use Rattle.std.specs.Prelude.{◌≡◌, ◌++◌, OnOk};
 ghost use Rattle.spoken_calls.specs.Arg.{arg_text};
-ghost use Rattle.spoken_calls.specs.Row.{row_text};
+ghost use Rattle.spoken_calls.specs.Spoken.{spoken_text};
 
 use crate::args::Arg;
-use crate::rows::Row;
+use crate::spoken::SpokenCall;
 use std::alloc::AllocError;
 use text_words::{
     put_data, put_label, put_number, put_reference, put_rights, put_signed, put_types,
@@ -26,12 +26,12 @@ fn put_arg(out: &mut Vec<u8>, arg: &Arg) -> Result<(), AllocError>
     }
 }
 
-/// Adds the spelling of the row.
-pub fn put_row(out: &mut Vec<u8>, row: &Row) -> Result<(), AllocError>
-    ensures { OnOk result (out.new.items ≡ out.old.items ++ row_text row.now) }
+/// Adds the spelling of the call.
+pub fn put_spoken(out: &mut Vec<u8>, call: &SpokenCall) -> Result<(), AllocError>
+    ensures { OnOk result (out.new.items ≡ out.old.items ++ spoken_text call.now) }
 {
-    out.extend_from_slice(row.verb().name().as_bytes())?;
-    for arg in row.args() {
+    out.extend_from_slice(call.verb().name().as_bytes())?;
+    for arg in call.args() {
         out.push(b' ')?;
         put_arg(out, arg)?;
     }

@@ -139,7 +139,7 @@ fn a_mapping_is_asked_for(rt: HostRuntime) -> Result<(), Fail> {
             assert_eq!(rt; mapping.entry.object.number(), 5);
             assert_eq!(rt; mapping.first, 1);
             assert_eq!(rt; mapping.count, 2);
-            assert!(rt; mapping.rights.may_read() && !mapping.rights.may_write());
+            assert!(rt; mapping.rights.read && !mapping.rights.write);
         }
         _ => assert!(rt; false),
     }

@@ -1,4 +1,4 @@
-//! Tests of words, rows, scripts and replies as text: vectors from outside, what is no spelling,
+//! Tests of words, calls, scripts and replies as text: vectors from outside, what is no spelling,
 //! and each reader and writer called again where there was no memory.
 #![tactic(auto)]
 

@@ -1,9 +1,9 @@
-//! A row of each call, read and written, what is none, and without memory.
-use spoken_calls::{ArgKind, put_row, read_arguments, read_row};
+//! Each call, read and written, what is none, and without memory.
+use spoken_calls::{ArgKind, put_spoken, read_arguments, read_spoken};
 use std::alloc::{AllocError, Global};
 use std::test::Fail;
 
-/// A row of each call.
+/// A line of each call.
 const ROWS: [&str; 34] = [
     "cat_create",
     "self_set_label {c:3,#7:*,1}",
@@ -45,12 +45,12 @@ const ROWS: [&str; 34] = [
 fn each_call_is_read_and_written(rt: HostRuntime) -> Result<(), Fail> {
     let mut making = 0u32;
     for line in ROWS {
-        let row = read_row(rt.alloc(), line.as_bytes())?.expect(&rt, "a call");
+        let call = read_spoken(rt.alloc(), line.as_bytes())?.expect(&rt, "a call");
         let mut out = Vec::new(rt.alloc());
-        put_row(&mut out, &row)?;
+        put_spoken(&mut out, &call)?;
         assert!(rt; out.as_slice() == line.as_bytes(), "{line}");
-        assert_eq!(rt; row.args().len(), row.verb().kinds().len());
-        if row.verb().makes() {
+        assert_eq!(rt; call.args().len(), call.verb().kinds().len());
+        if call.verb().makes() {
             making = making.saturating_add(1);
         }
     }
@@ -90,7 +90,10 @@ fn other_lines_are_none(rt: HostRuntime) -> Result<(), Fail> {
         "self_get -",
         "Load 0 1",
     ] {
-        assert!(rt; read_row(rt.alloc(), line.as_bytes())?.is_none(), "{line}");
+        assert!(rt;
+            read_spoken(rt.alloc(), line.as_bytes())?.is_none(),
+            "{line}"
+        );
     }
     Ok(())
 }
@@ -107,17 +110,17 @@ fn arguments_are_read_alone(rt: HostRuntime) -> Result<(), Fail> {
     Ok(())
 }
 
-/// Whether a row is read and written as it stands.
+/// Whether a call is read and written as it stands.
 fn is_kept(alloc: Global, line: &[u8]) -> Result<bool, AllocError> {
-    let Some(row) = read_row(alloc, line)? else {
+    let Some(call) = read_spoken(alloc, line)? else {
         return Ok(false);
     };
     let mut out = Vec::new(alloc);
-    put_row(&mut out, &row)?;
+    put_spoken(&mut out, &call)?;
     Ok(out.as_slice() == line)
 }
 
-// Where an allocation is refused, the row that is read again is the same.
+// Where an allocation is refused, the call that is read again is the same.
 #[test]
 fn want_of_memory_reads_no_other_rows(rt: HostRuntime) -> Result<(), Fail> {
     for line in ROWS {

@@ -118,8 +118,8 @@ fn rights_are_letters(rt: HostRuntime) -> Result<(), Fail> {
         ("rw", true, true),
     ] {
         let rights = read_rights(word.as_bytes()).expect(&rt, "rights");
-        assert_eq!(rt; rights.may_read(), reads, "{word}");
-        assert_eq!(rt; rights.may_write(), writes, "{word}");
+        assert_eq!(rt; rights.read, reads, "{word}");
+        assert_eq!(rt; rights.write, writes, "{word}");
         let mut out = Vec::new(rt.alloc());
         put_rights(&mut out, rights)?;
         assert!(rt; is_same(out.as_slice(), word.as_bytes()), "{word}");

@@ -1,7 +1,7 @@
 -- No two values have one spelling.
-use Rattle.std.proofs.Common.{◌≡◌, ℕ, zero, suc, ◌<◌, Bool, true, false, eqb, leb, ◌&&◌, List, [], ◌∷◌, ◌++◌, length, map, refl, ap, ◌∙◌, sym, arith, length-append, decimal, ◌⊎◌, inl, inr}
+use Rattle.std.proofs.Common.{◌≡◌, ℕ, zero, suc, Bool, true, false, cond, not, eqb, leb, ◌&&◌, List, [], ◌∷◌, ◌++◌, length, map, refl, ap, ◌∙◌, sym, arith, length-append, decimal}
 use Rattle.std.specs.List.{list_all, slice_split, join_with_byte, AllByRecursion}
-use Rattle.std.proofs.lemmas.Bool.{leb-true, eqb-false, eqb-true}
+use Rattle.std.proofs.lemmas.Bool.{leb-true, eqb-false}
 use Rattle.std.proofs.lemmas.Fmt.{decimal_injective}
 use Rattle.base.specs.declared.levels.Level.{Level}
 use Rattle.base.specs.declared.sets.TypeSet.{TypeSet}
@@ -13,7 +13,7 @@ use Rattle.text_words.specs.Lacks.{lacks}
 use Rattle.text_words.specs.Name.{IsName, is_letter, is_name_byte}
 use Rattle.text_words.specs.Reference.{reference_text, IsReference}
 use Rattle.text_words.specs.Label.{pair_text, IsPair, label_text, IsLabel, LabelValue}
-use Rattle.text_words.specs.TypeWord.{letters, letters_of, types_text, or_dash, bits_of, AreKinds}
+use Rattle.text_words.specs.TypeWord.{letters, letters_of, types_text, or_dash, gathered}
 use Rattle.text_words.proofs.Split.{cond_false, both_true}
 use Rattle.text_words.proofs.LackLemmas.{reference_lacks}
 use Rattle.text_words.proofs.WordLemmas.{level_is_one}
@@ -71,25 +71,78 @@ label_is_one a b ia ib e =
     let p = pairs_are_one a.pairs b.pairs a.default b.default ia.pairs ib.pairs parts in
     (λ i. record { pairs = p.0 i; default = p.1 i })
 
-two_ways : (b : Bool) → (b ≡ true) ⊎ (b ≡ false)
-two_ways true = inl refl
-two_ways false = inr refl
+-- the test holds both ways
+abbrev pub each_way : (Bool → Bool) → Bool
+each_way p = p true && p false
 
--- the test holds of each number below n
-unfoldable pub below : ℕ → (ℕ → Bool) → Bool
-below zero p = true
-below (suc n) p = p n && below n p
+at_way : (p : Bool → Bool) (b : Bool) → each_way p ≡ true → p b ≡ true
+at_way p true all = (both_true (p true) (p false) all).0
+at_way p false all = (both_true (p true) (p false) all).1
 
-pub below_at : (n : ℕ) (p : ℕ → Bool) (k : ℕ) → below n p ≡ true → k < n → p k ≡ true
-unfolding below
-below_at zero p k all lt = absurd (omega arith)
-below_at (suc n) p k all lt =
-    let both = both_true (p n) (below n p) all in
-    elim (two_ways (eqb k n)) [ inl e ↦ ap p (eqb-true k n e) ∙ both.0 | inr e ↦ below_at n p k both.1 (let other = eqb-false k n e in omega (arith, other)) ]
+-- the test holds of every set with these kinds, or without them
+abbrev pub set_with : Bool → Bool → Bool → Bool → Bool → Bool → TypeSet
+set_with c s a t g d = record { container = c; segment = s; address_space = a; thread = t; gate = g; device = d }
 
-bits_again : (n : ℕ) → n < 64 → bits_of (letters_of (record { 0 = n }) letters) ≡ n
-unfolding below
-bits_again n lt = eqb-true _ n (below_at 64 (λ k. eqb (bits_of (letters_of (record { 0 = k }) letters)) k) n refl lt)
+abbrev pub on_device : (TypeSet → Bool) → Bool → Bool → Bool → Bool → Bool → Bool
+on_device p c s a t g = each_way (λ d. p (set_with c s a t g d))
+
+abbrev pub on_gate : (TypeSet → Bool) → Bool → Bool → Bool → Bool → Bool
+on_gate p c s a t = each_way (on_device p c s a t)
+
+abbrev pub on_thread : (TypeSet → Bool) → Bool → Bool → Bool → Bool
+on_thread p c s a = each_way (on_gate p c s a)
+
+abbrev pub on_space : (TypeSet → Bool) → Bool → Bool → Bool
+on_space p c s = each_way (on_thread p c s)
+
+abbrev pub on_segment : (TypeSet → Bool) → Bool → Bool
+on_segment p c = each_way (on_space p c)
+
+-- the test holds of every set of kinds
+unfoldable pub of_each_set : (TypeSet → Bool) → Bool
+of_each_set p = each_way (on_segment p)
+
+pub at_set : (p : TypeSet → Bool) (set : TypeSet) → of_each_set p ≡ true → p set ≡ true
+unfolding of_each_set
+at_set p set all =
+    let c = set.container in let s = set.segment in let a = set.address_space in let t = set.thread in
+    at_way (λ d. p (set_with c s a t set.gate d)) set.device
+    (at_way (on_device p c s a t) set.gate (at_way (on_gate p c s a) t (at_way (on_thread p c s) a
+    (at_way (on_space p c) s (at_way (on_segment p) c all)))))
+
+abbrev alike : Bool → Bool → Bool
+alike a b = cond a b (not b)
+
+alike_same : (a b : Bool) → alike a b ≡ true → a ≡ b
+alike_same true true e = refl
+alike_same true false e = cc
+alike_same false true e = cc
+alike_same false false e = refl
+
+abbrev same_sets : TypeSet → TypeSet → Bool
+same_sets a b =
+    alike a.container b.container && (alike a.segment b.segment && (alike a.address_space b.address_space
+    && (alike a.thread b.thread && (alike a.gate b.gate && alike a.device b.device))))
+
+same_set : (a b : TypeSet) → same_sets a b ≡ true → a ≡ b
+same_set a b e =
+    let p = both_true (alike a.container b.container) _ e in
+    let q = both_true (alike a.segment b.segment) _ p.1 in
+    let r = both_true (alike a.address_space b.address_space) _ q.1 in
+    let u = both_true (alike a.thread b.thread) _ r.1 in
+    let v = both_true (alike a.gate b.gate) (alike a.device b.device) u.1 in
+    let container = alike_same a.container b.container p.0 in
+    let segment = alike_same a.segment b.segment q.0 in
+    let space = alike_same a.address_space b.address_space r.0 in
+    let thread = alike_same a.thread b.thread u.0 in
+    let gate = alike_same a.gate b.gate v.0 in
+    let device = alike_same a.device b.device v.1 in
+    (λ i. record { container = container i; segment = segment i; address_space = space i; thread = thread i; gate = gate i; device = device i })
+
+-- the letters of a set stand for its kinds
+pub set_again : (s : TypeSet) → gathered (letters_of s letters) ≡ s
+unfolding of_each_set
+set_again s = same_set _ s (at_set (λ x. same_sets (gathered (letters_of x letters)) x) s refl)
 
 or_dash_is_one : (xs ys : List ℕ) → lacks 45 xs ≡ true → lacks 45 ys ≡ true → or_dash xs ≡ or_dash ys → xs ≡ ys
 or_dash_is_one [] [] hx hy e = refl
@@ -97,20 +150,19 @@ or_dash_is_one [] (y ∷ ys) hx hy e = absurd (let h : y ≡ 45 = cc in eqb-fals
 or_dash_is_one (x ∷ xs) [] hx hy e = absurd (let h : x ≡ 45 = cc in eqb-false x 45 (cond_false (eqb x 45) (lacks 45 xs) hx).0 h)
 or_dash_is_one (x ∷ xs) (y ∷ ys) hx hy e = e
 
-letters_lack_dash : (n : ℕ) → n < 64 → lacks 45 (letters_of (record { 0 = n }) letters) ≡ true
-unfolding below
-letters_lack_dash n lt = below_at 64 (λ k. lacks 45 (letters_of (record { 0 = k }) letters)) n refl lt
+letters_lack_dash : (s : TypeSet) → lacks 45 (letters_of s letters) ≡ true
+unfolding of_each_set
+letters_lack_dash s = at_set (λ x. lacks 45 (letters_of x letters)) s refl
 
-pub types_are_one : (a b : TypeSet) → AreKinds a → AreKinds b → types_text a ≡ types_text b → a ≡ b
-types_are_one a b ia ib e =
-    let k = or_dash_is_one (letters_of a letters) (letters_of b letters) (letters_lack_dash a.0 ia) (letters_lack_dash b.0 ib) e in
-    let n : a.0 ≡ b.0 = sym (bits_again a.0 ia) ∙ ap bits_of k ∙ bits_again b.0 ib in
-    (λ i. record { 0 = n i })
+pub types_are_one : (a b : TypeSet) → types_text a ≡ types_text b → a ≡ b
+types_are_one a b e =
+    let k = or_dash_is_one (letters_of a letters) (letters_of b letters) (letters_lack_dash a) (letters_lack_dash b) e in
+    sym (set_again a) ∙ ap gathered k ∙ set_again b
 
-pub types_lack_space : (s : TypeSet) → AreKinds s → lacks 32 (types_text s) ≡ true
-unfolding below
-types_lack_space s is = below_at 64 (λ k. lacks 32 (types_text (record { 0 = k }))) s.0 refl is
+pub types_lack_space : (s : TypeSet) → lacks 32 (types_text s) ≡ true
+unfolding of_each_set
+types_lack_space s = at_set (λ x. lacks 32 (types_text x)) s refl
 
-pub types_lack_end : (s : TypeSet) → AreKinds s → lacks 10 (types_text s) ≡ true
-unfolding below
-types_lack_end s is = below_at 64 (λ k. lacks 10 (types_text (record { 0 = k }))) s.0 refl is
+pub types_lack_end : (s : TypeSet) → lacks 10 (types_text s) ≡ true
+unfolding of_each_set
+types_lack_end s = at_set (λ x. lacks 10 (types_text x)) s refl

@@ -14,26 +14,26 @@ use Rattle.text_words.specs.DataWord.{data_text, IsData}
 use Rattle.text_words.specs.Name.{is_name_byte, IsName}
 use Rattle.text_words.specs.Reference.{reference_text, IsReference}
 use Rattle.text_words.specs.Label.{pair_text, IsPair, label_text, IsLabel, LabelValue}
-use Rattle.text_words.specs.TypeWord.{types_text, AreKinds}
+use Rattle.text_words.specs.TypeWord.{types_text}
 use Rattle.text_words.proofs.LackLemmas.{decimal_lacks, data_lacks, level_lacks, name_lacks, reference_lacks, lacks-append, join_lacks}
 use Rattle.text_words.specs.SignedWord.{signed_text, IsSigned}
-use Rattle.text_words.specs.RightsWord.{rights_text, AreRights}
+use Rattle.text_words.specs.RightsWord.{rights_text}
 use Rattle.text_words.proofs.OneLemmas.{types_lack_space, types_lack_end}
-use Rattle.text_words.proofs.SignedLemmas.{signed_lacks, rights_lack_space, rights_lack_end}
+use Rattle.text_words.proofs.SignedLemmas.{signed_lacks, rights_lack}
 
 -- a byte below those of all words
 pub record IsOutside (c : ℕ) : Type 0 where
   pub low : c < 35
   pub digits : lacks c (45 ∷ lower_digits) ≡ true
   pub names : is_name_byte c ≡ false
-  pub types : (s : TypeSet) → AreKinds s → lacks c (types_text s) ≡ true
-  pub rights : (r : Rights) → AreRights r → lacks c (rights_text r) ≡ true
+  pub types : (s : TypeSet) → lacks c (types_text s) ≡ true
+  pub rights : (r : Rights) → lacks c (rights_text r) ≡ true
 
 pub space_outside : IsOutside 32
-space_outside = record { low = omega arith; digits = refl; names = refl; types = types_lack_space; rights = rights_lack_space }
+space_outside = record { low = omega arith; digits = refl; names = refl; types = types_lack_space; rights = rights_lack 32 refl }
 
 pub end_outside : IsOutside 10
-end_outside = record { low = omega arith; digits = refl; names = refl; types = types_lack_end; rights = rights_lack_end }
+end_outside = record { low = omega arith; digits = refl; names = refl; types = types_lack_end; rights = rights_lack 10 refl }
 
 pub number_outside : (c n : ℕ) → IsOutside c → n < 2 ^ 64 → lacks c (decimal n) ≡ true
 number_outside c n out is = let low = out.low in decimal_lacks c n (omega arith) is

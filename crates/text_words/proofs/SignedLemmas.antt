@@ -1,13 +1,13 @@
 -- Numbers with a sign, and rights.
-use Rattle.std.proofs.Common.{◌≡◌, ℕ, ◌+◌, ◌^◌, ◌<◌, ◌≤◌, true, eqb, cond, List, [], ◌∷◌, refl, ap, ◌∙◌, sym, arith, decimal, ℤ, pos, negsuc}
-use Rattle.std.proofs.lemmas.Bool.{ne_eqb, eqb-true}
+use Rattle.std.proofs.Common.{◌≡◌, ℕ, ◌+◌, ◌^◌, ◌<◌, ◌≤◌, Bool, true, false, eqb, List, [], ◌∷◌, refl, ap, ◌∙◌, sym, arith, decimal, ℤ, pos, negsuc}
+use Rattle.std.proofs.lemmas.Bool.{ne_eqb}
 use Rattle.std.proofs.lemmas.Fmt.{decimal_injective}
 use Rattle.base.specs.declared.sets.Rights.{Rights}
 use Rattle.text_words.specs.Lacks.{lacks}
 use Rattle.text_words.specs.SignedWord.{signed_text, IsSigned}
-use Rattle.text_words.specs.RightsWord.{rights_text, AreRights}
+use Rattle.text_words.specs.RightsWord.{letters_of_rights, rights_text}
 use Rattle.text_words.proofs.LackLemmas.{decimal_lacks}
-use Rattle.text_words.proofs.OneLemmas.{below, below_at}
+use Rattle.text_words.proofs.Split.{cond_false}
 
 -- no number begins with a dash
 no_dash : (n : ℕ) (r : List ℕ) → n < 2 ^ 64 → decimal n ≡ 45 ∷ r → ⊥
@@ -35,25 +35,44 @@ pub signed_lacks : (c : ℕ) (z : ℤ) → c < 45 → IsSigned z → lacks c (si
 signed_lacks c (pos n) low is = let small : n < 2 ^ 31 = is.sfits in decimal_lacks c n (omega arith) (omega arith)
 signed_lacks c (negsuc n) low is = let small : n < 2 ^ 31 = is.sfits in rw (ne_eqb 45 c (λ e. omega arith)) (decimal_lacks c (n + 1) (omega arith) (omega arith))
 
--- the bits that a text of rights stands for
-bits_read : List ℕ → ℕ
-bits_read [] = 0
-bits_read (b ∷ []) = cond (eqb b 114) 1 (cond (eqb b 119) 2 0)
-bits_read (b ∷ more ∷ rest) = 3
+-- what a text of rights allows
+abbrev reads : List ℕ → Bool
+reads [] = false
+reads (b ∷ bytes) = eqb b 114
 
-rights_again : (n : ℕ) → n < 4 → eqb (bits_read (rights_text (record { 0 = n }))) n ≡ true
-unfolding bits_read below
-rights_again n lt = below_at 4 (λ k. eqb (bits_read (rights_text (record { 0 = k }))) k) n refl lt
+abbrev writes : List ℕ → Bool
+writes [] = false
+writes (b ∷ []) = eqb b 119
+writes (b ∷ more ∷ bytes) = true
 
-pub rights_are_one : (a b : Rights) → AreRights a → AreRights b → rights_text a ≡ rights_text b → a ≡ b
-rights_are_one a b ia ib e =
-    let n : a.0 ≡ b.0 = sym (eqb-true _ _ (rights_again a.0 ia)) ∙ ap bits_read e ∙ eqb-true _ _ (rights_again b.0 ib) in
-    (λ i. record { 0 = n i })
+reads_again : (r w : Bool) → reads (letters_of_rights r w) ≡ r
+reads_again true true = refl
+reads_again true false = refl
+reads_again false true = refl
+reads_again false false = refl
 
-pub rights_lack_space : (r : Rights) → AreRights r → lacks 32 (rights_text r) ≡ true
-unfolding below
-rights_lack_space r is = below_at 4 (λ k. lacks 32 (rights_text (record { 0 = k }))) r.0 refl is
+writes_again : (r w : Bool) → writes (letters_of_rights r w) ≡ w
+writes_again true true = refl
+writes_again true false = refl
+writes_again false true = refl
+writes_again false false = refl
 
-pub rights_lack_end : (r : Rights) → AreRights r → lacks 10 (rights_text r) ≡ true
-unfolding below
-rights_lack_end r is = below_at 4 (λ k. lacks 10 (rights_text (record { 0 = k }))) r.0 refl is
+pub rights_are_one : (a b : Rights) → rights_text a ≡ rights_text b → a ≡ b
+rights_are_one a b e =
+    let r : a.read ≡ b.read = sym (reads_again a.read a.write) ∙ ap reads e ∙ reads_again b.read b.write in
+    let w : a.write ≡ b.write = sym (writes_again a.read a.write) ∙ ap writes e ∙ writes_again b.read b.write in
+    (λ i. record { read = r i; write = w i })
+
+-- a byte that stands in none of their texts
+pub rights_lack : (c : ℕ) → lacks c (114 ∷ 119 ∷ 45 ∷ []) ≡ true → (r : Rights) → lacks c (rights_text r) ≡ true
+rights_lack c none r =
+    let p = cond_false (eqb 114 c) (lacks c (119 ∷ 45 ∷ [])) none in
+    let q = cond_false (eqb 119 c) (lacks c (45 ∷ [])) p.1 in
+    let d = cond_false (eqb 45 c) true q.1 in
+    go p.0 q.0 d.0 r.read r.write
+  where
+    go : eqb 114 c ≡ false → eqb 119 c ≡ false → eqb 45 c ≡ false → (a b : Bool) → lacks c (letters_of_rights a b) ≡ true
+    go p q d true true = rw (p, q) refl
+    go p q d true false = rw p refl
+    go p q d false true = rw q refl
+    go p q d false false = rw d refl

@@ -1,7 +1,6 @@
 -- The spelling of rights.
-use Rattle.std.specs.Prelude.{ℕ, ◌<◌, Bool, true, false, List, codes}
+use Rattle.std.specs.Prelude.{ℕ, Bool, true, false, List, codes}
 use Rattle.base.specs.declared.sets.Rights.{Rights}
-use Rattle.base.specs.Sets.{may_read, may_write}
 
 -- a letter for each of reading and writing that is allowed, or a dash
 abbrev pub letters_of_rights : Bool → Bool → List ℕ
@@ -11,8 +10,4 @@ letters_of_rights false true = codes "w"
 letters_of_rights false false = codes "-"
 
 abbrev pub rights_text : Rights → List ℕ
-rights_text rights = letters_of_rights (may_read rights) (may_write rights)
-
--- the set has no bit but those of reading and writing
-abbrev pub AreRights : Rights → Type 0
-AreRights rights = rights.0 < 4
+rights_text rights = letters_of_rights rights.read rights.write

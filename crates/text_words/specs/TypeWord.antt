@@ -1,11 +1,10 @@
 -- The spelling of sets of kinds.
-use Rattle.std.specs.Prelude.{ℕ, ◌<◌, ◌==◌, List, [], ◌∷◌, codes, if◌then◌else◌, fold}
-use Rattle.std.specs.Int.RustNames.{bit_or}
+use Rattle.std.specs.Prelude.{ℕ, ◌==◌, List, [], ◌∷◌, codes, if◌then◌else◌, fold}
 use Rattle.base.specs.declared.kinds.Kind.{Kind}
 use Rattle.base.specs.declared.kinds.Kind.TheVariants.{Container, Segment, AddressSpace, Thread}
 use Rattle.base.specs.declared.kinds.Kind.TheVariants.{Gate, Device}
 use Rattle.base.specs.declared.sets.TypeSet.{TypeSet}
-use Rattle.base.specs.Sets.{has_kind, bit_of_kind}
+use Rattle.base.specs.Sets.{no_kind, only, has_kind, union}
 
 -- the letters csatgd, in the order in which they are written, each with its kind
 abbrev pub letters : List (ℕ × Kind)
@@ -28,21 +27,17 @@ or_dash (b ∷ bytes) = b ∷ bytes
 abbrev pub types_text : TypeSet → List ℕ
 types_text set = or_dash (letters_of set letters)
 
--- the set has no bit but those of the six kinds
-abbrev pub AreKinds : TypeSet → Type 0
-AreKinds set = set.0 < 64
+-- the kind that a letter stands for, and none for other bytes
+abbrev pub set_of : ℕ → TypeSet
+set_of b =
+    if b == 99 then only Container
+    else if b == 115 then only Segment
+    else if b == 97 then only AddressSpace
+    else if b == 116 then only Thread
+    else if b == 103 then only Gate
+    else if b == 100 then only Device
+    else no_kind
 
--- the bit of the kind that a letter stands for, 0 for other bytes
-abbrev pub bit_of : ℕ → ℕ
-bit_of b =
-    if b == 99 then bit_of_kind Container
-    else if b == 115 then bit_of_kind Segment
-    else if b == 97 then bit_of_kind AddressSpace
-    else if b == 116 then bit_of_kind Thread
-    else if b == 103 then bit_of_kind Gate
-    else if b == 100 then bit_of_kind Device
-    else 0
-
--- the bits of the kinds whose letters stand in the text, in any order
-abbrev pub bits_of : List ℕ → ℕ
-bits_of text = fold (λ bits b. bit_or bits (bit_of b)) 0 text
+-- the kinds whose letters stand in the text, in any order
+abbrev pub gathered : List ℕ → TypeSet
+gathered text = fold (λ set b. union set (set_of b)) no_kind text

@@ -1,8 +1,7 @@
 //! Sets of kinds: `-`, or the letters of `csatgd` for the kinds in the set, in this order.
 ghost use Rattle.std.specs.Prelude.{◌≡◌, ◌++◌, IsTrue, ◌↔◌, OnOk};
 ghost use Rattle.text_words.specs.Reading.{Reads};
-ghost use Rattle.text_words.specs.TypeWord.{letters, letters_of, types_text, AreKinds, bit_of};
-ghost use Rattle.text_words.specs.TypeWord.{bits_of};
+ghost use Rattle.text_words.specs.TypeWord.{letters, letters_of, types_text, set_of, gathered};
 
 use crate::compared::is_same;
 use base::{Kind, TypeSet};
@@ -18,9 +17,9 @@ const LETTERS: [(u8, Kind); 6] = [
     (b'd', Kind::Device),
 ];
 
-/// The set that one letter stands for.
+/// The kind that a letter stands for, and none for other bytes.
 fn set_of(letter: u8) -> TypeSet
-    ensures { result ≡ record { 0 = bit_of letter } }
+    ensures { result ≡ set_of letter }
 {
     match letter {
         b'c' => TypeSet::of(Kind::Container),
@@ -35,7 +34,7 @@ fn set_of(letter: u8) -> TypeSet
 
 /// The set of the kinds whose letters stand in the word, in any order.
 fn gathered(word: &[u8]) -> TypeSet
-    ensures { result ≡ record { 0 = bits_of word.now } }
+    ensures { result ≡ gathered word.now }
 {
     let mut set = TypeSet::none();
     for letter in word {
@@ -65,7 +64,7 @@ fn spells(word: &[u8], set: TypeSet) -> bool
 
 /// The set of kinds that the word spells.
 pub fn read_types(word: &[u8]) -> Option<TypeSet>
-    ensures { Reads types_text AreKinds word.now result }
+    ensures { Reads types_text (λ _. Unit) word.now result }
 {
     if is_same(word, b"-") {
         return Some(TypeSet::none());

@@ -18,7 +18,7 @@ fn own_label<S: Store>(state: &S, thread: ObjectId, meter: &mut Meter) -> Option
     ensures fit { IfSome result IsStored }
 {
     let category = Category(state.next_category());
-    match state.label(thread) {
+    match state.label(thread, meter) {
         None => None,
         Some(label) => with_category(label, category, Level::Star, meter),
     }
@@ -30,7 +30,7 @@ fn own_clearance<S: Store>(state: &S, thread: ObjectId, meter: &mut Meter) -> Op
     ensures fit { IfSome result IsStored }
 {
     let category = Category(state.next_category());
-    match state.clearance(thread) {
+    match state.clearance(thread, meter) {
         None => None,
         Some(clearance) => with_category(clearance, category, Level::L3, meter),
     }
@@ -68,6 +68,6 @@ pub fn cat_create<S: Store>(state: &mut S, thread: ObjectId, meter: &mut Meter) 
     let category = Category(state.next_category());
     let label = own_label(state, thread, meter);
     let clearance = own_clearance(state, thread, meter);
-    state.own_category(thread, label, clearance);
+    state.own_category(thread, label, clearance, meter);
     Reply::Category(category)
 }

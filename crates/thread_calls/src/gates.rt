@@ -68,28 +68,28 @@ pub fn gate_create<S: Store>(
         entry_point: made.entry_point,
         closure: made.closure,
     };
-    let id = state.create_gate(made.container, label, made.quota, gate)?;
+    let id = state.create_gate(made.container, label, made.quota, gate, meter)?;
     Ok(Reply::Object(id))
 }
 
-fn own_bearer<S: Store>(state: &S, thread: ObjectId) -> Bearer
+fn own_bearer<S: Store>(state: &S, thread: ObjectId, meter: &mut Meter) -> Bearer
     ensures { result ≡ own_bearer (S.state state.now) thread }
 {
     Bearer {
-        label: state.label(thread).copied(),
-        clearance: state.clearance(thread).copied(),
+        label: state.label(thread, meter).copied(),
+        clearance: state.clearance(thread, meter).copied(),
     }
 }
 
-fn gate_bearer<S: Store>(state: &S, gate: ObjectId) -> Bearer
+fn gate_bearer<S: Store>(state: &S, gate: ObjectId, meter: &mut Meter) -> Bearer
     ensures { result ≡ gate_bearer (S.state state.now) gate }
 {
-    let clearance = match state.gate(gate) {
+    let clearance = match state.gate(gate, meter) {
         None => None,
         Some(gate) => Some(gate.clearance),
     };
     Bearer {
-        label: state.label(gate).copied(),
+        label: state.label(gate, meter).copied(),
         clearance,
     }
 }
@@ -104,8 +104,8 @@ fn is_open<S: Store>(
     ensures { result ≡ may_enter (own_bearer (S.state state.now) thread)
         (gate_bearer (S.state state.now) gate) asked.now }
 {
-    let own = own_bearer(state, thread);
-    let gate = gate_bearer(state, gate);
+    let own = own_bearer(state, thread, meter);
+    let gate = gate_bearer(state, gate, meter);
     may_enter(&own, &gate, asked, meter)
 }
 
@@ -174,7 +174,13 @@ pub fn refused_gate_enter<S: Store>(
     ])
 }
 
-fn enter<S: Store>(state: &mut S, thread: ObjectId, asked: &Asked, gate: &Option<Gate>)
+fn enter<S: Store>(
+    state: &mut S,
+    thread: ObjectId,
+    asked: &Asked,
+    gate: &Option<Gate>,
+    meter: &mut Meter,
+)
     requires label { IfSome asked.now.label IsStored }
     requires clearance { IfSome asked.now.clearance IsStored }
     requires verify { IfSome asked.now.verify IsStored }
@@ -185,7 +191,7 @@ fn enter<S: Store>(state: &mut S, thread: ObjectId, asked: &Asked, gate: &Option
         if let Some(clearance) = asked.clearance {
             if let Some(verify) = asked.verify {
                 if let Some(gate) = gate {
-                    state.enter(thread, label, clearance, verify, gate);
+                    state.enter(thread, label, clearance, verify, gate, meter);
                 }
             }
         }
@@ -221,7 +227,7 @@ pub fn gate_enter<S: Store>(
         entering.now.clearance entering.now.verify) }
 {
     let asked = asked_of(entering, meter);
-    let entered = state.gate(gate.object);
-    enter(state, thread, &asked, &entered);
+    let entered = state.gate(gate.object, meter);
+    enter(state, thread, &asked, &entered, meter);
     told_by(&entered)
 }

@@ -43,7 +43,7 @@ pub fn self_set_label<S: Store>(
         ≡ edit (S.state state.old) thread (call.SelfSetLabel raw.now) }
 {
     let label = stored_of(raw, meter);
-    state.set_label(thread, label);
+    state.set_label(thread, label, meter);
     Reply::Done
 }
 
@@ -56,7 +56,9 @@ fn may_clear_to<S: Store>(
     ensures { result ≡ may_clear (label_at (S.state state.now) thread)
         (clearance_at (S.state state.now) thread) (option_copied asked.entry) }
 {
-    may_clear(state.label(thread), state.clearance(thread), asked, meter)
+    let label = state.label(thread, meter);
+    let clearance = state.clearance(thread, meter);
+    may_clear(label, clearance, asked, meter)
 }
 
 /// What refuses a new own clearance.
@@ -90,6 +92,6 @@ pub fn self_set_clearance<S: Store>(
         ≡ edit (S.state state.old) thread (call.SelfSetClearance raw.now) }
 {
     let clearance = stored_of(raw, meter);
-    state.set_clearance(thread, clearance);
+    state.set_clearance(thread, clearance, meter);
     Reply::Done
 }

@@ -26,12 +26,18 @@ pub fn refused_self_set_as<S: Store>(
 }
 
 /// The thread has another address space.
-pub fn self_set_as<S: Store>(state: &mut S, thread: ObjectId, space: &Entry) -> Reply
+pub fn self_set_as<S: Store>(
+    state: &mut S,
+    thread: ObjectId,
+    space: &Entry,
+    meter: &mut Meter,
+) -> Reply
     ensures reply { result ≡ accepted (S.state state.old) thread (call.SelfSetAs space.now) }
     ensures state { S.state state.new
         ≡ edit (S.state state.old) thread (call.SelfSetAs space.now) }
+    ensures meter { S.kept meter.new ≡ S.kept meter.old }
 {
-    state.set_space(thread, *space);
+    state.set_space(thread, *space, meter);
     Reply::Done
 }
 
@@ -94,10 +100,14 @@ pub fn refused_self_get<S: Store>(state: &S, thread: ObjectId, meter: &mut Meter
 }
 
 /// What the caller is.
-pub fn self_get<S: Store>(state: &S, thread: ObjectId) -> Reply
-    ensures { result ≡ found (S.state state.now) thread query.SelfGet }
+pub fn self_get<S: Store>(state: &S, thread: ObjectId, meter: &mut Meter) -> Reply
+    ensures value { result ≡ found (S.state state.now) thread query.SelfGet }
+    ensures meter { S.kept meter.new ≡ S.kept meter.old }
 {
-    match (state.thread(thread), state.label(thread).copied()) {
+    match (
+        state.thread(thread, meter),
+        state.label(thread, meter).copied(),
+    ) {
         (Some(own), Some(label)) => Reply::Own {
             label,
             clearance: own.clearance,
@@ -131,10 +141,11 @@ pub fn refused_obj_label<S: Store>(
 }
 
 /// The label of an object.
-pub fn obj_label<S: Store>(state: &S, thread: ObjectId, entry: &Entry) -> Reply
-    ensures { result ≡ found (S.state state.now) thread (query.ObjLabel entry.now) }
+pub fn obj_label<S: Store>(state: &S, thread: ObjectId, entry: &Entry, meter: &mut Meter) -> Reply
+    ensures value { result ≡ found (S.state state.now) thread (query.ObjLabel entry.now) }
+    ensures meter { S.kept meter.new ≡ S.kept meter.old }
 {
-    match state.label(entry.object).copied() {
+    match state.label(entry.object, meter).copied() {
         None => Reply::Done,
         Some(label) => Reply::Label(label),
     }

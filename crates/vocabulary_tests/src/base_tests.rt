@@ -1,6 +1,5 @@
 //! The words: each public call once, with values from the table.
 use base::{Data, Kind, Level, Limits, Meter, ObjectId, Refusal, Rights, TypeSet, live_by_path};
-use bitflags::Flags;
 use std::test::Fail;
 
 #[test]
@@ -32,9 +31,12 @@ fn sets_hold_what_was_put_in(rt: HostRuntime) {
     let both = TypeSet::of(Kind::Gate).with(TypeSet::of(Kind::Segment));
     assert!(rt; both.has(Kind::Gate) && both.has(Kind::Segment) && !both.has(Kind::Device));
     assert!(rt; !TypeSet::none().has(Kind::Container));
-    let rights = Rights::READ;
-    assert!(rt; rights.may_read() && !rights.may_write());
-    assert!(rt; Rights::WRITE.may_write() && Rights::READ.union(Rights::WRITE).may_read());
+    let rights = Rights {
+        read: true,
+        write: true,
+    };
+    assert!(rt; rights.reading().read && !rights.reading().write);
+    assert!(rt; !Rights::none().read && !Rights::none().write);
 }
 
 #[test]

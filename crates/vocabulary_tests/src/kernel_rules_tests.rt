@@ -50,7 +50,10 @@ fn a_new_object_and_its_slots(rt: HostRuntime) -> Result<(), Fail> {
         entry: in_root(4),
         first: 0,
         count: 1,
-        rights: Rights::READ,
+        rights: Rights {
+            read: true,
+            write: false,
+        },
     };
     let mut slots = Slots::empty();
     assert!(rt; slots.slots[15].is_none());

@@ -1,5 +1,3 @@
-use Rattle.dump_text.specs.Dump.{dump_text}
-use Rattle.dump_text.specs.Whole.{whole_dump}
 use Rattle.auditor.proofs.VerdictLaws.{clean_legal, legal_clean}
 use Rattle.auditor.proofs.audits.clean_is_legal.Goals as goal
 
@@ -7,7 +5,4 @@ pub returns-clause-legal : goal.returns-clause-legal
 returns-clause-legal c = clean_legal
 
 pub returns-clause-clean : goal.returns-clause-clean
-returns-clause-clean c = legal_clean
-
-pub returns-clause-fits : goal.returns-clause-fits
-returns-clause-fits c = λ limits events bootable legal fits. legal_clean (dump_text (whole_dump limits events)) limits events legal (c.legal_is_dump.ensures limits events bootable legal fits)
+returns-clause-clean c = λ bytes limits is. legal_clean bytes limits is.1.0 is.1.1 is.1.2

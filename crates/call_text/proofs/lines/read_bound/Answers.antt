@@ -1,7 +1,7 @@
 use Rattle.std.proofs.Common.{◌≡◌, true, ◌∷◌, List, ℕ, subst, ◌∙◌, sym, ap}
 use Rattle.text_words.specs.Lacks.{lacks}
 use Rattle.text_words.proofs.ReadLemmas.{read_not, read_is}
-use Rattle.spoken_calls.specs.Row.{Spoken}
+use Rattle.spoken_calls.specs.Spoken.{Spoken}
 use Rattle.spoken_calls.specs.Verb.{makes}
 use Rattle.call_text.specs.Line.{said_text, IsSaid}
 use Rattle.call_text.proofs.PartLemmas.{not_in}

@@ -10,8 +10,8 @@ returns-in-None-clause-value g c = c.found.ensures.value ∙ sym (ask_found _ _ 
 
 pub returns-in-Some-clause-looks : goal.returns-in-Some-clause-looks
 returns-in-Some-clause-looks g c load =
-    g.met.S.Store.more_spent 9 17 _ _ (omega arith) (c.refused.ensures.looks load)
+    g.met.S.Store.more_spent 9 18 _ _ (omega arith) (c.refused.ensures.looks load)
 
 pub returns-in-None-clause-looks : goal.returns-in-None-clause-looks
 returns-in-None-clause-looks g c load =
-    g.met.S.Store.both_spent 9 8 _ _ _ (c.refused.ensures.looks load) (c.found.ensures.looks load)
+    g.met.S.Store.both_spent 9 9 _ _ _ (c.refused.ensures.looks load) (c.found.ensures.looks load)

@@ -1,6 +1,5 @@
 use Rattle.std.proofs.Common.{◌<◌, ◌≤◌, refl, sym, ap, ◌∙◌, length, slice_get}
 use Rattle.std.proofs.lemmas.Option.{slice_get_read, slice_get_past}
-use Rattle.published_copy.specs.Tallies.{place_of, tallied}
 use Rattle.published_copy.proofs.TallyLaws.{tallied-found, tallied-missing}
 use Rattle.published_copy.proofs.tallies.events_of.Goals as goal
 

@@ -1,4 +1,3 @@
-use Rattle.published_copy.specs.Tallies.{tallied}
 use Rattle.published_copy.proofs.TallyLaws.{tallied-set}
 use Rattle.published_copy.proofs.tallies.set_events.Goals as goal
 

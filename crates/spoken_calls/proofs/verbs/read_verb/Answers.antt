@@ -1,6 +1,6 @@
 use Rattle.std.proofs.Common.{◌∙◌, sym, ap, arith}
 use Rattle.spoken_calls.specs.Verb.{name_of}
-use Rattle.spoken_calls.proofs.RowLemmas.{listed}
+use Rattle.spoken_calls.proofs.SpokenLemmas.{listed}
 use Rattle.spoken_calls.proofs.verbs.read_verb.Goals as goal
 
 pub returns : goal.returns

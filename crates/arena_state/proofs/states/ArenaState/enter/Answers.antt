@@ -1,4 +1,4 @@
-use Rattle.std.proofs.Common.{◌≡◌, ℕ, ◌+◌, sym, ◌∙◌, ap, subst, arith}
+use Rattle.std.proofs.Common.{◌≡◌, ◌+◌, sym, ◌∙◌, ap, subst, arith}
 use Rattle.label_intern.specs.Owners.{one_at}
 use Rattle.label_intern.proofs.OwnersLemmas.{takes_as, takes_then, lets_as, lets_then}
 use Rattle.kernel_rules.specs.Changes.{changed, entered}

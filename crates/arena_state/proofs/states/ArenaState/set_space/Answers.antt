@@ -4,7 +4,8 @@ use Rattle.arena_state.specs.Sound.{IsSound}
 use Rattle.arena_state.specs.Assembled.{with_space, pieces_state}
 use Rattle.arena_state.proofs.SoundLaws.{with_record}
 use Rattle.arena_state.specs.declared.records.Record.{Record}
-use Rattle.arena_state.proofs.EditLaws.{edited_sound, edited_state, spaced_keeps, spaced_shape, spaced_claims, spaced_use}
+use Rattle.kernel_rules.proofs.ThreadLaws.{spaced_keeps}
+use Rattle.arena_state.proofs.EditLaws.{edited_sound, edited_state, spaced_shape, spaced_claims, spaced_use}
 use Rattle.arena_state.proofs.states.ArenaState.set_space.Goals as goal
 
 pub invariant_of-self : goal.invariant_of-self

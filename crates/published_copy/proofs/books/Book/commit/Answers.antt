@@ -1,4 +1,4 @@
-use Rattle.std.proofs.Common.{◌≡◌, ◌∷◌, ◌++◌, [], ◌∙◌, sym, ap, subst, List, rules, length, ◌≤◌, ◌+◌, ℕ, ◌==◌, if◌then◌else◌, take_at}
+use Rattle.std.proofs.Common.{◌≡◌, ◌∷◌, ◌++◌, [], ◌∙◌, sym, ap, subst, List, rules, ◌+◌, ℕ, ◌==◌, if◌then◌else◌}
 use Rattle.kernel_rules.specs.Step.{next, answer}
 use Rattle.kernel_rules.specs.History.{IsLegal, Follows, state_of, count}
 use Rattle.kernel_rules.specs.declared.events.Event.{Event}
@@ -12,15 +12,13 @@ pub invariant_of-self-2 : goal.invariant_of-self-2
 invariant_of-self-2 g c =
     let limits = g.B.Naming.limits in
     let old = c.self.inside.journal.items in
+    let tallies = c.self.inside.tallies.items in
     let event : Event = c.event.result in
     let items : c.push_reserved.new.self.items ≡ old ++ event ∷ [] = search rules in
     let number : event.number ≡ count event.thread old + 1 = search rules in
     let reply : event.reply ≡ answer (kernel_state c.self.inside.kernel) event.thread event.call = search rules in
     let stepped : kernel_state c.step.new.self ≡ next (kernel_state c.self.inside.kernel) event.thread event.call = search rules in
-    let placed : (other : ℕ) → tallied other c.make_room.new.tallies.items ≡ tallied other c.self.inside.tallies.items = search rules in
-    let given : (other : ℕ) → tallied other c.set_events.new.tallies ≡ (if event.thread == other then event.number else tallied other c.make_room.new.tallies.items) = search rules in
-    let room : c.make_room.new.tallies.len + c.self.inside.meters.len ≤ c.make_room.new.tallies.cap = search rules in
-    let wrote : length c.set_events.new.tallies ≡ c.make_room.new.tallies.len = search rules in
+    let given : (other : ℕ) → tallied other c.count_events.new.tallies.items ≡ (if event.thread == other then event.number else tallied other tallies) = search rules in
     let follows : Follows limits old event = record {
       number = number;
       reply = reply ∙ ap (λ s. answer s event.thread event.call) c.self.invariant.2;
@@ -31,11 +29,8 @@ invariant_of-self-2 g c =
       stepped ∙ ap (λ s. next s event.thread event.call) c.self.invariant.2
           ∙ sym (state_of-snoc limits old event) ∙ ap (state_of limits) (sym items),
       (λ t.
-          ap (tallied t) (take_at c.set_events.new.tallies _ _ wrote)
-          ∙ tallied-more c.self.inside.tallies.items c.make_room.new.tallies.items c.set_events.new.tallies old
-          event c.self.invariant.3 placed given number t
+          tallied-more tallies c.count_events.new.tallies.items old event c.self.invariant.3 given number t
           ∙ ap (count t) (sym items)),
-      room,
     )
 
 pub returns-clause-legal : goal.returns-clause-legal

@@ -21,5 +21,5 @@ read-at limits journal pass after query (Err error) told seen legal = told
 
 pub returns-clause-done : goal.returns-clause-done
 returns-clause-done g c =
-    read-at g.B.Naming.limits c.deref.result.now c.args.self.now c.ask.new.pass c.args.query.now c.ask.result
+    read-at g.B.Naming.limits c.deref.result.now.journal c.args.self.now c.ask.new.pass c.args.query.now c.ask.result
     (rw (← c.self.view_is) c.ask.ensures.reply) (rw (← c.self.view_is) c.ask.ensures.pass) c.ask.ensures.legal

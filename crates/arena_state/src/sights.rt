@@ -1,0 +1,117 @@
+//! What a thread sees of an object and of an entry: each id that is named is looked up once.
+ghost use Rattle.std.specs.Prelude.{◌≡◌, None, IfSome, IfNone, option_copied};
+ghost use Rattle.base.specs.Live.{has};
+ghost use Rattle.kernel_rules.specs.State.{object_at, list_at};
+ghost use Rattle.kernel_store.specs.Sights.{seen_of, sight_of};
+ghost use Rattle.arena_state.specs.States.{state_of, HasRow, Finds};
+
+use crate::records::Record;
+use crate::states::ArenaState;
+use base::{Kind, Meter, ObjectId, Slot};
+use containers::Located;
+use kernel_rules::Entry;
+use kernel_store::{Seen, Sight};
+
+impl ArenaState {
+    // What who has the one record sees of what has the other.
+    fn seen(
+        &self,
+        thread: ObjectId,
+        own: Option<&Record>,
+        id: ObjectId,
+        other: Option<&Record>,
+    ) -> Seen
+        requires own { Finds self.now thread (option_copied own) }
+        requires other { Finds self.now id (option_copied other) }
+        ensures { result ≡ seen_of (state_of self.now) thread id }
+    {
+        let _ids = (thread, id);
+        let visible = self.observed(own, other);
+        let below = self.flowing(own, other);
+        match other {
+            Some(row) => Seen {
+                kind: Some(row.body.kind()),
+                observed: visible,
+                flowing: below,
+                immutable: row.immutable,
+                fixed: row.fixed,
+            },
+            None => Seen {
+                kind: None,
+                observed: visible,
+                flowing: below,
+                immutable: false,
+                fixed: false,
+            },
+        }
+    }
+
+    // Whether a container's list has an object, where both were looked up.
+    fn lists_found(
+        &self,
+        entry: &Entry,
+        container: Option<Slot>,
+        object: Option<Slot>,
+        meter: &mut Meter,
+    ) -> bool
+        requires container { IfSome container (λ slot. HasRow self.now entry.now.container slot.0) }
+        requires no_container { IfNone container
+            (object_at (state_of self.now) entry.now.container ≡ None) }
+        requires object { IfSome object (λ slot. HasRow self.now entry.now.object slot.0) }
+        requires no_object { IfNone object
+            (object_at (state_of self.now) entry.now.object ≡ None) }
+        ensures value { result
+            ≡ has (list_at (state_of self.now) entry.now.container) entry.now.object }
+        ensures scans { meter.new.scans ≡ meter.old.scans }
+    {
+        match container {
+            Some(d) => match object {
+                Some(o) => {
+                    let container = Located {
+                        id: entry.container,
+                        slot: d,
+                    };
+                    let object = Located {
+                        id: entry.object,
+                        slot: o,
+                    };
+                    self.pieces.places.is_linked(container, object, meter)
+                }
+                None => false,
+            },
+            None => false,
+        }
+    }
+
+    /// What a thread sees of an object.
+    pub fn look(&self, thread: ObjectId, id: ObjectId, meter: &mut Meter) -> Seen
+        ensures value { result ≡ seen_of (state_of self.now) thread id }
+        ensures scans { meter.new.scans ≡ meter.old.scans }
+    {
+        let own = self.slot(thread, meter);
+        let other = self.slot(id, meter);
+        self.seen(thread, self.record(thread, own), id, self.record(id, other))
+    }
+
+    /// What a thread sees of an entry, at three look-ups.
+    pub fn sight(&self, thread: ObjectId, entry: &Entry, meter: &mut Meter) -> Sight
+        ensures value { result ≡ sight_of (state_of self.now) thread entry.now }
+        ensures scans { meter.new.scans ≡ meter.old.scans }
+    {
+        let thread_slot = self.slot(thread, meter);
+        let container_slot = self.slot(entry.container, meter);
+        let object_slot = self.slot(entry.object, meter);
+        let own = self.record(thread, thread_slot);
+        let container = self.record(entry.container, container_slot);
+        let object = self.record(entry.object, object_slot);
+        let listed = self.lists_found(entry, container_slot, object_slot, meter);
+        let around = self.seen(thread, own, entry.container, container);
+        let holds = around.is(Kind::Container);
+        Sight {
+            accessible: holds && around.observed,
+            held: holds && (listed || entry.object == entry.container),
+            listed,
+            object: self.seen(thread, own, entry.object, object),
+        }
+    }
+}

@@ -1,0 +1,134 @@
+-- The first line in which two dumps differ.
+use Rattle.std.proofs.Common.{◌≡◌, ℕ, suc, ◌+◌, true, false, ◌==◌, List, [], ◌∷◌, ◌++◌}
+use Rattle.std.proofs.Common.{Some, refl, sym, ap, ◌∙◌, subst, arith, append_assoc, ◌⊎◌, inl, inr}
+use Rattle.std.specs.List.{AllByRecursion}
+use Rattle.std.proofs.lemmas.Bool.Decides.{eqb_tells}
+use Rattle.base.specs.declared.ranges.Limits.{Limits}
+use Rattle.kernel_rules.specs.History.{IsLegal}
+use Rattle.kernel_rules.specs.declared.events.Event.{Event}
+use Rattle.text_words.specs.Lacks.{lacks}
+use Rattle.text_words.proofs.Split.{cond_false}
+use Rattle.call_text.specs.Text.{lines_text}
+use Rattle.dump_text.specs.Dump.{lines_of, dump_text, IsDump}
+use Rattle.dump_text.specs.Fits.{FitsWords}
+use Rattle.dump_text.specs.Line.{line_text, IsLine, IsBootable}
+use Rattle.dump_text.specs.Lists.{DumpLists}
+use Rattle.dump_text.specs.Whole.{whole_dump}
+use Rattle.dump_text.specs.declared.lines.Line.{Line}
+use Rattle.dump_text.proofs.LineLemmas.{dump_grammar}
+use Rattle.auditor.specs.Replay.{replayed}
+use Rattle.auditor.specs.Verdict.{true_dump, first_difference, false_line, DifferAt, TellsFalse}
+use Rattle.auditor.specs.declared.verdicts.Verdict.TheVariants as is
+use Rattle.auditor.proofs.ReplayLaws.{replayed_legal}
+
+-- two texts that begin with these lines: the lines are the same and the rest is compared, or they are the difference
+abbrev Compared : ℕ → List ℕ → List ℕ → List ℕ → List ℕ → Type 0
+Compared m a b p q =
+    ((a ≡ b) × (first_difference m (a ++ 10 ∷ p) (b ++ 10 ∷ q) ≡ first_difference (m + 1) p q))
+    ⊎ ((a ≡ b → ⊥) × (first_difference m (a ++ 10 ∷ p) (b ++ 10 ∷ q) ≡ Some m))
+
+first_same : (m x : ℕ) (xs ys : List ℕ) → (x == 10) ≡ false
+    → first_difference m (x ∷ xs) (x ∷ ys) ≡ first_difference m xs ys
+first_same m x xs ys apart =
+    elim (eqb_tells x x) as (λ _. first_difference m (x ∷ xs) (x ∷ ys) ≡ first_difference m xs ys) [
+      | inl t ↦ rw (t.0, apart) refl
+      | inr t ↦ absurd (t.1 refl)
+    ]
+
+first_other : (m x y : ℕ) (xs ys : List ℕ) → (x == y) ≡ false
+    → first_difference m (x ∷ xs) (y ∷ ys) ≡ Some m
+first_other m x y xs ys apart = rw apart refl
+
+one_more : (m x : ℕ) (a b p q : List ℕ) → (x == 10) ≡ false → Compared m a b p q
+    → Compared m (x ∷ a) (x ∷ b) p q
+one_more m x a b p q apart (inl same) =
+    inl (ap (λ (l : List ℕ). x ∷ l) same.0, first_same m x (a ++ 10 ∷ p) (b ++ 10 ∷ q) apart ∙ same.1)
+one_more m x a b p q apart (inr other) =
+    inr ((λ e. other.0 cc), first_same m x (a ++ 10 ∷ p) (b ++ 10 ∷ q) apart ∙ other.1)
+
+flipped : (y : ℕ) → (y == 10) ≡ false → (10 == y) ≡ false
+flipped y apart =
+    elim (eqb_tells 10 y) as (λ _. (10 == y) ≡ false) [
+      | inl t ↦ absurd (let h : (10 == 10) ≡ false = subst (λ (z : ℕ). (z == 10) ≡ false) (sym t.1) apart in cc)
+      | inr t ↦ t.0
+    ]
+
+compared : (m : ℕ) (a b p q : List ℕ) → lacks 10 a ≡ true → lacks 10 b ≡ true → Compared m a b p q
+compared m [] [] p q la lb = inl (refl, refl)
+compared m [] (y ∷ b) p q la lb =
+    let apart = (cond_false (y == 10) (lacks 10 b) lb).0 in
+    let other : (10 == y) ≡ false = flipped y apart in
+    inr ((λ e. cc), first_other m 10 y p (b ++ 10 ∷ q) other)
+compared m (x ∷ a) [] p q la lb =
+    let apart = (cond_false (x == 10) (lacks 10 a) la).0 in
+    inr ((λ e. cc), first_other m x 10 (a ++ 10 ∷ p) q apart)
+compared m (x ∷ a) (y ∷ b) p q la lb =
+    let apart = cond_false (x == 10) (lacks 10 a) la in
+    elim (eqb_tells x y) as (λ _. Compared m (x ∷ a) (y ∷ b) p q) [
+      | inl t ↦
+          subst (λ (z : ℕ). Compared m (x ∷ a) (z ∷ b) p q) t.1
+          (one_more m x a b p q apart.0 (compared m a b p q apart.1 (cond_false (y == 10) (lacks 10 b) lb).1))
+      | inr t ↦ inr ((λ e. t.1 cc), first_other m x y (a ++ 10 ∷ p) (b ++ 10 ∷ q) t.0)
+    ]
+
+text_more : (x : Line) (xs : List Line)
+    → lines_text line_text (x ∷ xs) ≡ line_text x ++ 10 ∷ lines_text line_text xs
+text_more x xs = append_assoc (line_text x) (10 ∷ []) (lines_text line_text xs)
+
+none_left : (m n : ℕ) (a p : List ℕ) → first_difference m [] (a ++ 10 ∷ p) ≡ Some n → n ≡ m + 0
+none_left m n [] p h = let k : m ≡ n = cc in omega arith
+none_left m n (z ∷ a) p h = let k : m ≡ n = cc in omega arith
+
+none_right : (m n : ℕ) (a p : List ℕ) → first_difference m (a ++ 10 ∷ p) [] ≡ Some n → n ≡ m + 0
+none_right m n [] p h = let k : m ≡ n = cc in omega arith
+none_right m n (z ∷ a) p h = let k : m ≡ n = cc in omega arith
+
+-- after a line that both have
+after_line : (i : ℕ) (x y : Line) (xs ys : List Line) → x ≡ y → DifferAt i xs ys → DifferAt (suc i) (x ∷ xs) (y ∷ ys)
+after_line i x y xs ys line rest = ((λ j. line j ∷ rest.0 j), rest.1)
+
+-- the line in which the texts of two lists of lines differ first
+differ : (m n : ℕ) (xs ys : List Line) → AllByRecursion IsLine xs → AllByRecursion IsLine ys
+    → first_difference m (lines_text line_text xs) (lines_text line_text ys) ≡ Some n
+    → (i : ℕ) × (n ≡ m + i) × DifferAt i xs ys
+differ m n [] [] fx fy e = absurd cc
+differ m n [] (y ∷ ys) fx fy e =
+    let h : first_difference m [] (line_text y ++ 10 ∷ lines_text line_text ys) ≡ Some n =
+    subst (λ (t : List ℕ). first_difference m [] t ≡ Some n) (text_more y ys) e in
+    (0, none_left m n (line_text y) (lines_text line_text ys) h, (refl, (λ k. cc)))
+differ m n (x ∷ xs) [] fx fy e =
+    let h : first_difference m (line_text x ++ 10 ∷ lines_text line_text xs) [] ≡ Some n =
+    subst (λ (t : List ℕ). first_difference m t [] ≡ Some n) (text_more x xs) e in
+    (0, none_right m n (line_text x) (lines_text line_text xs) h, (refl, (λ k. cc)))
+differ m n (x ∷ xs) (y ∷ ys) fx fy e =
+    let h : first_difference m (line_text x ++ 10 ∷ lines_text line_text xs) (line_text y ++ 10 ∷ lines_text line_text ys) ≡ Some n =
+    subst (λ (t : List ℕ). first_difference m (line_text x ++ 10 ∷ lines_text line_text xs) t ≡ Some n) (text_more y ys)
+    (subst (λ (t : List ℕ). first_difference m t (lines_text line_text (y ∷ ys)) ≡ Some n) (text_more x xs) e) in
+    elim (compared m (line_text x) (line_text y) (lines_text line_text xs) (lines_text line_text ys) (dump_grammar.lacks_end x fx.0) (dump_grammar.lacks_end y fy.0))
+    as (λ _. (i : ℕ) × (n ≡ m + i) × DifferAt i (x ∷ xs) (y ∷ ys)) [
+      | inl same ↦
+          let rest = differ (m + 1) n xs ys fx.1 fy.1 (sym same.1 ∙ h) in
+          let line : x ≡ y = dump_grammar.one x y fx.0 fy.0 same.0 in
+          let place = rest.1 in
+          (suc rest.0, omega (arith, place), after_line rest.0 x y xs ys line rest.2)
+      | inr other ↦
+          let place : m ≡ n = cc (sym other.1 ∙ h) in
+          (0, omega (arith, place), (refl, (λ k. other.0 (let line : x ≡ y = cc in ap line_text line))))
+    ]
+
+-- that the dump of legal events is a dump, where its values fit their words
+abbrev pub LegalIsDump : Type 0
+LegalIsDump = (limits : Limits) (events : List Event) → IsBootable limits → IsLegal limits events
+    → FitsWords (whole_dump limits events)
+    → IsDump (dump_text (whole_dump limits events)) (whole_dump limits events)
+
+-- a false line is the first that isn't the true dump's
+pub false_told : (bytes : List ℕ) (d : DumpLists) (n : ℕ) → LegalIsDump → IsDump bytes d
+    → FitsWords (true_dump d) → false_line bytes d ≡ Some n → TellsFalse bytes (is.False n)
+false_told bytes d n law is_dump fits e =
+    let true_is = law d.limits (replayed d.limits d.events) (is_dump.fit.1.0.1) (replayed_legal d.limits d.events) fits in
+    let h : first_difference 1 (lines_text line_text (lines_of d)) (lines_text line_text (lines_of (true_dump d))) ≡ Some n =
+    subst (λ (t : List ℕ). first_difference 1 t (dump_text (true_dump d)) ≡ Some n) is_dump.bytes_are e in
+    let found = differ 1 n (lines_of d) (lines_of (true_dump d)) is_dump.fit true_is.fit h in
+    let place = found.1 in
+    (d, is_dump, (found.0, omega arith, found.2))

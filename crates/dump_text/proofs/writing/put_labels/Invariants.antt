@@ -1,8 +1,0 @@
-use Rattle.std.proofs.Common.{◌≡◌, ◌++◌, map, take}
-use Rattle.call_text.specs.Text.{lines_text}
-use Rattle.dump_text.specs.declared.lines.Line.TheVariants as lines
-use Rattle.dump_text.specs.Line.{line_text}
-use Rattle.dump_text.proofs.writing.put_labels.Given as goal
-
-abbrev pub invariant-loop-stored : goal.invariant-loop-stored
-invariant-loop-stored l = l.out.items ≡ l.fn.out.items ++ lines_text line_text (map lines.Label (take l.stored-index l.labels))

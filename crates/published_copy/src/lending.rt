@@ -1,0 +1,72 @@
+//! A book that is lent.
+ghost use Rattle.std.specs.Prelude.{◌≡◌, ◌↔◌, false, IfOk, OnOk, OnErr, IsErrOf};
+ghost use Rattle.std.specs.Sync.Mutex.{mutex_guard_value};
+ghost use Rattle.kernel_rules.specs.History.{IsLegal};
+ghost use Rattle.published_copy.specs.Turns.{is_turn, with_event, receipt_of, passed_on};
+
+use crate::books::Book;
+use crate::naming::Naming;
+use crate::passes::Pass;
+use crate::receipts::Receipt;
+use crate::refusals::SubmitRefusal;
+use kernel_rules::Call;
+use std::marker::Model;
+use std::ops::Deref;
+use std::sync::MutexGuard;
+
+/// The book of a shared kernel, which no one else has while this is kept. It is read as a `Book` is, and
+/// changes by `commit` alone: no one who has it has a `&mut Book`, so it stays the book of its kernel.
+#[derive(Drop)]
+pub struct Lent<'a, B: Naming> {
+    guard: MutexGuard<'a, Book<B>>,
+}
+
+impl<'a, B: Naming> Model for Lent<'a, B> {
+    ghost use Rattle.std.specs.Sync.Mutex.{mutex_guard_value};
+    ghost use Rattle.published_copy.specs.Books.{BookView};
+
+    ghost Value = { BookView };
+
+    ghost view = { λ l. mutex_guard_value l.guard };
+}
+
+impl<'a, B: Naming> Lent<'a, B> {
+    /// The book that a guard has.
+    pub(crate) fn new(guard: MutexGuard<'a, Book<B>>) -> Lent<'a, B>
+        ensures { result ≡ mutex_guard_value guard.entry }
+    {
+        Lent { guard }
+    }
+}
+
+impl<B: Naming> Lent<'_, B> {
+    /// Makes a call as the pass's thread, which is one event more at the journal's end. The error is
+    /// `OutOfTurn` exactly where the pass's number is not its thread's next in the journal, or the pass
+    /// has seen more events than the journal has, and else, for want of memory, `Memory`. An error
+    /// changes nothing.
+    pub fn commit(&mut self, pass: &mut Pass<B>, call: &Call) -> Result<Receipt, SubmitRefusal>
+        ensures receipt { IfOk result
+            (λ receipt. receipt ≡ receipt_of B.limits self.old.journal pass.old call.now) }
+        ensures journal { OnOk result
+            (self.new.journal ≡ with_event B.limits self.old.journal pass.old call.now) }
+        ensures seated { self.new.seated ≡ self.old.seated }
+        ensures pass { OnOk result (pass.new ≡ passed_on self.old.journal pass.old) }
+
+        ensures turn { IsErrOf result SubmitRefusal.OutOfTurn
+            ↔ (is_turn self.old.journal pass.old ≡ false) }
+        ensures kept { OnErr result ((self.new ≡ self.old) × (pass.new ≡ pass.old)) }
+        ensures legal { IsLegal B.limits self.new.journal }
+    {
+        self.guard.commit(pass, call)
+    }
+}
+
+impl<B: Naming> Deref for Lent<'_, B> {
+    type Target = Book<B>;
+
+    ghost deref_gives = { λ lent book. book ≡ lent };
+
+    fn deref(&self) -> &Book<B> {
+        &self.guard
+    }
+}

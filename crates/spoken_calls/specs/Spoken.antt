@@ -1,0 +1,48 @@
+-- A call as its words.
+use Rattle.std.specs.Prelude.{◌≡◌, ℕ, List, [], ◌∷◌, map, Option, Some, None}
+use Rattle.std.specs.List.{join_with_byte}
+use Rattle.std.specs.Global.{Vec}
+use Rattle.spoken_calls.specs.declared.verbs.Verb.{Verb}
+use Rattle.spoken_calls.specs.declared.args.ArgKind.{ArgKind}
+use Rattle.spoken_calls.specs.declared.args.Arg.{Arg}
+use Rattle.spoken_calls.specs.Verb.{name_of, kinds_of}
+use Rattle.spoken_calls.specs.Arg.{arg_text, IsArg}
+
+-- a call: its verb and its arguments
+pub record Spoken : Type 0 where
+  pub verb : Verb
+  pub args : List Arg
+
+-- arguments of these kinds, each in its range
+abbrev pub AreArgs : List ArgKind → List Arg → Type 0
+AreArgs [] [] = Unit {0}
+AreArgs [] (a ∷ more) = ⊥
+AreArgs (k ∷ ks) [] = ⊥
+AreArgs (k ∷ ks) (a ∷ more) = IsArg k a × AreArgs ks more
+
+-- the arguments are those that the verb takes
+abbrev pub IsSpoken : Spoken → Type 0
+IsSpoken r = AreArgs (kinds_of r.verb) r.args
+
+-- the words of a call
+abbrev pub words_of : Spoken → List (List ℕ)
+words_of r = name_of r.verb ∷ map arg_text r.args
+
+-- the words, parted by single spaces
+abbrev pub spoken_text : Spoken → List ℕ
+spoken_text r = join_with_byte 32 (words_of r)
+
+-- what is read of the words of the arguments
+abbrev pub ReadsArgs : List ArgKind → List (List ℕ) → Option (Vec Arg) → Type 0
+ReadsArgs ks words (Some v) = AreArgs ks v.items × (words ≡ map arg_text v.items)
+ReadsArgs ks words None = (found : List Arg) → AreArgs ks found → words ≡ map arg_text found → ⊥
+
+-- arguments, parted by single spaces
+abbrev pub arguments_text : List Arg → List ℕ
+arguments_text xs = join_with_byte 32 (map arg_text xs)
+
+-- what is read of a text of arguments
+abbrev pub ReadsArguments : List ArgKind → List ℕ → Option (Vec Arg) → Type 0
+ReadsArguments ks text (Some v) = AreArgs ks v.items × (text ≡ arguments_text v.items)
+ReadsArguments ks text None =
+    (found : List Arg) → AreArgs ks found → text ≡ arguments_text found → ⊥
