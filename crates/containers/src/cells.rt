@@ -115,6 +115,7 @@ fn sweep<V: Visitor>(
     ensures room { vec_capacity dead.new ≡ vec_capacity dead.old }
     ensures scans { meter.new.scans ≡ meter.old.scans }
 {
+    // For the proof alone: the loop's invariant names the root.
     let _root = root;
     while let Some(last) = rings.first(0, size + 1, meter) {
         let object = rings.head_of(1, last, meter);
@@ -152,6 +153,7 @@ pub fn find_link(
     let len = rings.len(0, container, meter);
     let mut next = rings.first(0, container, meter);
     for place in 0..len {
+        // For the proof alone: the invariant counts the places that were passed.
         let _place = place;
         match next {
             Some(cell) => {

@@ -96,6 +96,7 @@ impl<T: Drop> Containers<T> {
     pub fn well_formed(&self)
         ensures { IsWellFormed self.now }
     {
+        // For the proof alone: what the type says of the value is known once it is read.
         let _count = self.len();
     }
 

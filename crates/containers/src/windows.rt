@@ -19,6 +19,7 @@ fn cell_at(rings: &Rings<2>, slot: usize, from: usize, meter: &mut Meter) -> Opt
     }
     let mut next = rings.first(0, slot, meter);
     for place in 0..from {
+        // For the proof alone: the invariant counts the places that were passed.
         let _place = place;
         match next {
             Some(cell) => next = rings.next(0, cell, meter),
@@ -48,6 +49,7 @@ pub fn fill_window(
     ensures rest { (k : ℕ) → result ≤ k → slice_index window.new k ≡ slice_index window.old k }
     ensures scans { meter.new.scans ≡ meter.old.scans }
 {
+    // For the proof alone: the loop's invariant names the size.
     let _size = size;
     let mut next = cell_at(rings, slot, from, meter);
     let len = rings.len(0, slot, meter);

@@ -158,6 +158,7 @@ pub fn read_report(text: &[u8]) -> Option<Reply>
 fn is_wide(number: u64)
     ensures { number < 2 ^ 64 }
 {
+    // For the proof alone: a number that is read is in its type's range.
     let _ = number;
 }
 

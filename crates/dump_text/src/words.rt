@@ -51,6 +51,7 @@ fn put_label(out: &mut Vec<u8>, label: &RawLabel) -> Result<(), AllocError>
         ≡ out.old.items ++ label_text (spoken_label label.now)) }
     ensures fits { OnOk result (IsLabel (spoken_label label.now)) }
 {
+    // For the proof alone: a raw label has at most 24 pairs.
     let _few = label.pairs.len();
     out.push(b'{')?;
     for pair in label.pairs.as_slice() {

@@ -70,6 +70,7 @@ impl Labels {
     pub fn well_formed(&self)
         ensures { IsInterned self.now }
     {
+        // For the proof alone: what the type says of the value is known once it is read.
         let _slots = &self.slots;
     }
 

@@ -166,6 +166,7 @@ impl Label {
         ensures levels { IfSome result (λ l. (c : ℕ) →
             level_of l c ≡ (if c == category.0 then level else level_of self.now c)) }
     {
+        // For the proof alone: what the type says of the value is known once it is read.
         let _ = &self.default;
         meter.scan();
         self.placed(Pair { category, level })

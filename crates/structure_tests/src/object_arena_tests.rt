@@ -54,6 +54,8 @@ fn objects_go_together(rt: HostRuntime) -> Result<(), Fail> {
     arena.insert(ObjectId::new(10), 'c');
     // 7 is the id of none.
     arena.remove_all(&[10, 7, 4].map(ObjectId::new), &mut meter);
+    // By halves each id takes two probes; each slot that goes is read once, and so is each of the three places.
+    assert_eq!(rt; meter.probes(), 11);
     assert_eq!(rt; arena.len(), 1);
     assert_eq!(rt; arena.find(ObjectId::new(9), &mut meter), Some(second));
     assert_eq!(rt; arena.find(ObjectId::new(4), &mut meter), None);
