@@ -28,7 +28,7 @@ use Rattle.kernel_rules.proofs.ListingLaws.{container_at}
 use Rattle.kernel_rules.proofs.WellFormedLaws.{soundness_of}
 use Rattle.arena_state.specs.declared.records.Record.{Record}
 use Rattle.arena_state.specs.declared.pieces.Pieces.{Pieces}
-use Rattle.arena_state.specs.Rows.{Row, rows_of}
+use Rattle.arena_state.specs.Rows.{row_slot, Row, rows_of}
 use Rattle.arena_state.specs.Assembled.{pieces_state, object_in, record_in, assembled, blank, claims, body_use, use_in, with_use}
 use Rattle.arena_state.specs.Creations.{IsPlaced}
 use Rattle.arena_state.specs.Sound.{IsSound}
@@ -37,7 +37,7 @@ use Rattle.arena_state.proofs.LabelLaws.{at_most_sum}
 use Rattle.arena_state.proofs.SoundLaws.{row_found, object_here, slot_within}
 use Rattle.arena_state.proofs.ListLaws.{by_id, rows_by_id, add_is_set, lists_grow}
 use Rattle.arena_state.proofs.RecordLaws.{use_unseen, assembled_same, relisted, listed_container, same_use}
-use Rattle.arena_state.proofs.UnlinkLaws.{row_slot, slot_at}
+use Rattle.arena_state.proofs.UnlinkLaws.{slot_at}
 use Rattle.arena_state.proofs.RoomLaws.{labels_owned, links_fit, slots_fit}
 
 abbrev pub lookup_at : List (ℕ × List ℕ) → List ℕ → ℕ → Option Row

@@ -32,7 +32,7 @@ use Rattle.kernel_rules.proofs.ListingLaws.{container_at}
 use Rattle.kernel_rules.proofs.WellFormedLaws.{soundness_of}
 use Rattle.arena_state.specs.declared.records.Record.{Record}
 use Rattle.arena_state.specs.declared.pieces.Pieces.{Pieces}
-use Rattle.arena_state.specs.Rows.{rows_of}
+use Rattle.arena_state.specs.Rows.{row_slot, rows_of}
 use Rattle.arena_state.specs.Assembled.{pieces_state, record_in, assembled, blank, claims, claims_in, body_use, use_in}
 use Rattle.arena_state.specs.Creations.{IsPlaced}
 use Rattle.arena_state.specs.Sound.{IsSound}
@@ -40,7 +40,6 @@ use Rattle.arena_state.proofs.RowLaws.{row_place, row_at, row_none, rows_last, f
 use Rattle.arena_state.proofs.SoundLaws.{row_found, object_here, object_none, apart_at}
 use Rattle.arena_state.proofs.ListLaws.{sum_places}
 use Rattle.arena_state.proofs.RecordLaws.{use_claims, set_use}
-use Rattle.arena_state.proofs.UnlinkLaws.{row_slot}
 use Rattle.arena_state.proofs.CreateLaws.{lookup_at, with_labels, below_next, there, use_is, other, record_kept, record_new, record_parent, created_state, long, lists_now, slot_is, is_container}
 
 module _ (p : Pieces) (s : IsSound p) (d quota : ℕ) (l : LabelValue) (b : Body) (fits : IsFitting (pieces_state p) d quota b)
@@ -73,7 +72,7 @@ module _ (p : Pieces) (s : IsSound p) (d quota : ℕ) (l : LabelValue) (b : Body
   abbrev state : State
   state = pieces_state p
 
-  y : Object
+  pub y : Object
   y = (container_at (pieces_state p) d fits.container).object
 
   making : Making (pieces_state p) d y
@@ -100,7 +99,7 @@ module _ (p : Pieces) (s : IsSound p) (d quota : ℕ) (l : LabelValue) (b : Body
     | inr off ↦ off
   ]
 
-  row_now : lookup_at q.places.lists q.places.slots p.next_id
+  pub row_now : lookup_at q.places.lists q.places.slots p.next_id
       ≡ Some (record { slot = c.slot; list = [] })
   row_now =
       (λ i. lookup (is_at (nat_cmp p.next_id)) (rows_of (c.lists i) (c.slots i)))
@@ -109,7 +108,7 @@ module _ (p : Pieces) (s : IsSound p) (d quota : ℕ) (l : LabelValue) (b : Body
       (row_none (add_lists p.places.lists d p.next_id) p.places.slots p.next_id
       (ap (λ (xs : List ℕ). has xs p.next_id) (ids_added p.places.lists d p.next_id) ∙ next_new))
 
-  row_then : (i : ℕ) → (i == p.next_id) ≡ false
+  pub row_then : (i : ℕ) → (i == p.next_id) ≡ false
       → lookup_at q.places.lists q.places.slots i ≡ lookup_at (add_lists p.places.lists d p.next_id) p.places.slots i
   row_then i off =
       (λ j. lookup (is_at (nat_cmp i)) (rows_of (c.lists j) (c.slots j)))
@@ -178,14 +177,14 @@ module _ (p : Pieces) (s : IsSound p) (d quota : ℕ) (l : LabelValue) (b : Body
             (h.slot_is ∙ same ∙ sym at_d.slot_is))
       ]
 
-  not_d : (i : ℕ) → has (ids_in p.places.lists) i ≡ false → (i == d) ≡ false
+  pub not_d : (i : ℕ) → has (ids_in p.places.lists) i ≡ false → (i == d) ≡ false
   not_d i gone = elim (cases_Bool (i == d)) [
     | inl is ↦ absurd (both_ways (has (ids_in p.places.lists) i) gone
         (ap (has (ids_in p.places.lists)) (eqb-true i d is) ∙ there p s d quota l b fits stored pslot at_d))
     | inr off ↦ off
   ]
 
-  object_then : (i : ℕ) → (i == p.next_id) ≡ false
+  pub object_then : (i : ℕ) → (i == p.next_id) ≡ false
       → object_at (pieces_state q) i ≡ cond (i == d) (Some (listing p.next_id y)) (object_at (pieces_state p) i)
   object_then i off =
       ap (λ (z : State). object_at z i) grew

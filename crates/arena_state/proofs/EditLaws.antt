@@ -20,12 +20,10 @@ use Rattle.arena_state.specs.declared.records.Record.{Record}
 use Rattle.arena_state.specs.declared.records.Kept as kept
 use Rattle.arena_state.specs.declared.records.Kept.TheVariants as keeps
 use Rattle.arena_state.specs.declared.pieces.Pieces.{Pieces}
-use Rattle.arena_state.specs.declared.states.ArenaState.{ArenaState}
-use Rattle.arena_state.specs.States.{Shows}
 use Rattle.arena_state.specs.Assembled.{pieces_state, record_in, assembled, body_of, blank, claims, body_claims, body_use, use_in, with_space, respaced}
 use Rattle.arena_state.specs.Sound.{IsSound}
 use Rattle.arena_state.proofs.RowLaws.{row_place}
-use Rattle.arena_state.proofs.SoundLaws.{held_label_there, with_record, changed_state, record_sound, object_here, held_claim, row_found, slot_within}
+use Rattle.arena_state.proofs.SoundLaws.{held_label_there, with_record, changed_state, record_sound, object_here, row_found, slot_within}
 
 module _ (p : Pieces) (s : IsSound p) (id slot : ℕ) (h : HasSlot p.places id slot) where
   -- what was read in the slot
@@ -113,14 +111,3 @@ spaced_use e r = of_body r.body
     of_body (keeps.Thread t) = refl
     of_body (keeps.Gate g) = refl
     of_body keeps.Device = refl
-
--- what a slot's record shows
-pub shown : (a : ArenaState) (id slot : ℕ) → HasSlot a.pieces.places id slot → Shows a id (record_in a.pieces.holdings.records.items slot)
-shown a id slot h = record {
-  list = (row_place a.pieces.places.lists a.pieces.places.slots h.place).list;
-  is = object_here a.pieces a.sound id slot h;
-  stored = λ i some. held_claim a.pieces a.sound id slot i h some;
-  named = held_label_there a.pieces a.sound id slot h;
-  used = kept_use_is a.pieces a.sound id slot h;
-  within = use_within a.pieces a.sound id slot h;
-}

@@ -25,14 +25,14 @@ module _ (p : Pieces) (s : IsSound p) (d quota : ℕ) (l : LabelValue) (b : Body
     (x : Record) (x_is : x ≡ fresh_record index quota k) (q : Pieces) (c : IsPlaced (with_labels p ls) q d pslot x)
     (takes : Takes p.holdings.labels ls (λ i. one_at i index + body_claims i k)) (label : label_of ls index ≡ l)
     (body : body_of ls k [] ≡ b) (used : body_use k ≡ own_cost b) where
-  claims_are : Takes p.holdings.labels ls (λ i. claims i x)
+  pub claims_are : Takes p.holdings.labels ls (λ i. claims i x)
   claims_are = takes_as p.holdings.labels ls (λ i. one_at i index + body_claims i k) (λ i. claims i x)
       (λ i. ap (claims i) (sym x_is)) takes
 
-  object_is : assembled ls x [] ≡ fresh_object l quota b
+  pub object_is : assembled ls x [] ≡ fresh_object l quota b
   object_is = ap (λ (r : Record). assembled ls r []) x_is ∙ (λ i. fresh_object (label i) quota (body i))
 
-  used_is : body_use x.body ≡ own_cost b
+  pub used_is : body_use x.body ≡ own_cost b
   used_is = ap (λ (r : Record). body_use r.body) x_is ∙ used
 
   pub new_sound : IsSound q

@@ -32,7 +32,7 @@ use Rattle.arena_state.proofs.RecordLaws.{assembled_same, sum_same_in}
 use Rattle.arena_state.proofs.SoundLaws.{object_here, slot_within, apart_at}
 
 -- a sum of which one term changed
-sum_changed : (f g : ℕ → ℕ) (xs : List ℕ) (k o : ℕ) → Apart xs → k < length xs → get_or xs k 0 ≡ o → ((x : ℕ) → x ≢ o → g x ≡ f x)
+pub sum_changed : (f g : ℕ → ℕ) (xs : List ℕ) (k o : ℕ) → Apart xs → k < length xs → get_or xs k 0 ≡ o → ((x : ℕ) → x ≢ o → g x ≡ f x)
     → sum_by g xs + f o ≡ sum_by f xs + g o
 sum_changed f g xs k o apart k_in is same =
     let there = has_at xs k o k_in is in
@@ -48,7 +48,8 @@ sum_changed f g xs k o apart k_in is same =
 
 -- the pieces with a record in a slot, and other labels
 abbrev pub with_both : Pieces → ℕ → Record → List (Option Held) → Pieces
-with_both p slot r ls = record p { holdings = record { records = with_item p.holdings.records slot r; labels = ls } }
+with_both p slot r ls =
+    record p { holdings = record p.holdings { records = with_item p.holdings.records slot r; labels = ls } }
 
 module _ (p : Pieces) (s : IsSound p) (id slot : ℕ) (h : HasSlot p.places id slot) (r : Record) (mid ls : List (Option Held)) (n m : ℕ → ℕ)
     (takes : Takes p.holdings.labels mid n) (lets : Lets mid ls m)

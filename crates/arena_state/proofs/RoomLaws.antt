@@ -61,12 +61,12 @@ labels_owned p s =
     (λ n k. three n (record_in p.holdings.records.items k)) s.owned
 
 -- the root and its quota
-record IsRootAt (p : Pieces) : Type 0 where
-  root : Object
-  found : object_at (pieces_state p) 1 ≡ Some root
-  quota : root.quota ≡ p.limits.pages
+pub record IsRootAt (p : Pieces) : Type 0 where
+  pub root : Object
+  pub found : object_at (pieces_state p) 1 ≡ Some root
+  pub quota : root.quota ≡ p.limits.pages
 
-root_at : (p : Pieces) (s : IsSound p) → IsRootAt p
+pub root_at : (p : Pieces) (s : IsSound p) → IsRootAt p
 root_at p s =
     let at = at_has (ids_in p.places.lists) 1 s.rooted in
     let found = object_here p s 1 (get_or p.places.slots at.0 0)
@@ -84,7 +84,7 @@ links_fit p s =
     let b = root_bounds (pieces_state p) r.root s.formed r.found in
     let l : sum_by (λ e. length e.1) (lists_of (pieces_state p).objects) ≡ link_count p.places.lists
     = ap link_count s.lists in
-    omega (arith, b.1, r.quota, l)
+    omega (arith, b.2, r.quota, l)
 
 pub objects_length : (p : Pieces) (s : IsSound p) → length (pieces_state p).objects ≡ length (ids_in p.places.lists)
 objects_length p s =
@@ -115,11 +115,11 @@ slots_fit p s d q b l fits stored =
           let quota : at.object.quota ≡ r.root.quota = ap (of_object 0 (λ y. y.quota)) one in
           let bound = root_bounds (grown state d at.object x) (listing state.next_id at.object) formed
           (then ∙ ap (λ (v : Bool). cond v (Some (listing state.next_id at.object)) (object_at state 1)) is) in
-          omega (arith, bound.0, size, long, quota, r.quota)
+          omega (arith, bound.1, size, long, quota, r.quota)
       | inr off ↦
           let bound = root_bounds (grown state d at.object x) r.root formed
           (then ∙ ap (λ (v : Bool). cond v (Some (listing state.next_id at.object)) (object_at state 1)) off ∙ r.found) in
-          omega (arith, bound.0, size, long, r.quota)
+          omega (arith, bound.1, size, long, r.quota)
     ]
 
 -- so three indexes of labels are free for what one call stores
@@ -127,4 +127,4 @@ pub labels_free : (p : Pieces) (s : IsSound p) → owned p.holdings.labels + 3 �
 labels_free p s =
     let r = root_at p s in
     let b = root_bounds (pieces_state p) r.root s.formed r.found in
-    omega (arith, labels_owned p s, b.0, objects_length p s, r.quota, s.pool, s.tree.beside)
+    omega (arith, labels_owned p s, b.1, objects_length p s, r.quota, s.pool, s.tree.beside)

@@ -11,13 +11,13 @@ use Rattle.containers.proofs.Views.{at_has}
 use Rattle.kernel_rules.specs.State.{object_at}
 use Rattle.kernel_rules.specs.declared.objects.Object.{Object}
 use Rattle.arena_state.specs.declared.pieces.Pieces.{Pieces}
-use Rattle.arena_state.specs.Rows.{rows_of}
+use Rattle.arena_state.specs.Rows.{row_slot, rows_of}
 use Rattle.arena_state.specs.Assembled.{pieces_state, object_in, objects_in, record_in, assembled}
 use Rattle.arena_state.specs.Sound.{IsSound}
 use Rattle.arena_state.proofs.RowLaws.{row_place}
 use Rattle.arena_state.proofs.SoundLaws.{row_found, object_here, apart_at}
 use Rattle.arena_state.proofs.ListLaws.{by_id, rows_by_id}
-use Rattle.arena_state.proofs.UnlinkLaws.{row_slot, slot_at}
+use Rattle.arena_state.proofs.UnlinkLaws.{slot_at}
 
 module _ (p : Pieces) (s : IsSound p) where
   -- the slot of an id

@@ -9,6 +9,7 @@ use Rattle.kernel_store.specs.Sights.{kind_at}
 use Rattle.arena_state.specs.declared.records.Record.{Record}
 use Rattle.arena_state.specs.declared.states.ArenaState.{ArenaState}
 use Rattle.arena_state.specs.Assembled.{body_of}
+use Rattle.arena_state.specs.Filled.{Content, filled_body}
 use Rattle.arena_state.specs.States.{state_of, Shows, Finds, IsLabelled, label_found}
 
 module _ (a : ArenaState) (id : ℕ) where
@@ -37,11 +38,11 @@ module _ (a : ArenaState) (id : ℕ) where
 
   -- what is there has the kind and the flags of its record
   pub kind_some : (x : Record) → Shows a id x → (k : kind.Kind)
-      → ((labels : List (Option Held)) (list : List ℕ) → kind_of (body_of labels x.body list) ≡ k)
+      → ((content : Content) (labels : List (Option Held)) (list : List ℕ) → kind_of (filled_body content (body_of labels x.body list)) ≡ k)
       → Some k ≡ kind_at (state_of a) id
   unfolding kind_at
   kind_some x shows k is =
-      ap (λ (j : kind.Kind). let some : Option kind.Kind = Some j in some) (sym (is a.pieces.holdings.labels shows.list))
+      ap (λ (j : kind.Kind). let some : Option kind.Kind = Some j in some) (sym (is shows.content a.pieces.holdings.labels shows.list))
       ∙ sym (ap (option_map (λ y. kind_of y.body)) shows.is)
 
   pub immutable_some : (x : Record) → Shows a id x → x.immutable ≡ is_immutable (state_of a) id

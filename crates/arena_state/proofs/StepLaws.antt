@@ -1,6 +1,7 @@
 -- The steps by which an entry is taken out.
 use Rattle.std.proofs.Common.{◌≡◌, ℕ, ◌+◌, ◌-◌, ◌<◌, ◌≤◌, Bool, true, false, cond, ◌==◌, List, [], length, get_or, set, Option, Some, None, refl, sym, ◌∙◌, ap, subst, arith, inl, inr, length-set}
 use Rattle.std.specs.Prelude.{vec_len}
+use Rattle.std.specs.Global.{Vec}
 use Rattle.std.proofs.lemmas.Bool.{cases_Bool, cases_eq, both_ways, eqb-true, eq-eqb}
 use Rattle.std.proofs.lemmas.List.{get_or-set_same, get_or-set_other, get_or_read}
 use Rattle.std.proofs.lemmas.Option.{none-some}
@@ -23,10 +24,9 @@ use Rattle.arena_state.specs.declared.holdings.Holdings.{Holdings}
 use Rattle.arena_state.specs.declared.records.Record.{Record}
 use Rattle.arena_state.specs.declared.pieces.Pieces.{Pieces}
 use Rattle.arena_state.specs.Assembled.{pieces_state, assembled, record_in, blank, use_in, body_use, with_use}
-use Rattle.arena_state.specs.Deaths.{after_deaths}
 use Rattle.arena_state.specs.Sound.{IsSound}
 use Rattle.arena_state.proofs.SoundLaws.{row_found, object_here, slot_within, apart_at}
-use Rattle.arena_state.proofs.DeathLaws.{Linked, Died, told}
+use Rattle.arena_state.proofs.DeathLaws.{Linked, Died, IsGone, told}
 use Rattle.arena_state.proofs.RecordLaws.{same_use, set_use}
 use Rattle.arena_state.proofs.UnlinkLaws.{IsUnlinked, slot_of, slot_is, has_left, unlinked_state}
 use Rattle.arena_state.proofs.LeftLaws.{list_of_objects, unlinked_sound, freed}
@@ -72,17 +72,15 @@ module _ (p : Pieces) (s : IsSound p) (d o : ℕ) (listed_now : has (list_at (pi
   module _ (dslot oslot : ℕ) (at_d : HasSlot p.places d dslot) (at_o : HasSlot p.places o oslot)
       (w : Holdings) (went : List (Located × Located)) (dead : List Located)
       (tells : IsTold Linked Died p.holdings w went dead) where
-    pub held_is : w ≡ record p.holdings { labels = after_deaths p.holdings.records.items dead p.holdings.labels }
-    held_is = told p.holdings tells.events w tells.follows
-        ∙ ap (λ (ps : List Located). record p.holdings { labels = after_deaths p.holdings.records.items ps p.holdings.labels })
-        tells.objects_are
+    pub held_is : IsGone p.holdings dead w
+    held_is = subst (λ (ps : List Located). IsGone p.holdings ps w) tells.objects_are (told p.holdings tells.events w tells.follows)
 
     pub container_within : dslot < vec_len w.records
-    container_within = subst (λ (h : Holdings). dslot < vec_len h.records) (sym held_is)
+    container_within = subst (λ (rs : Vec Record). dslot < vec_len rs) (sym held_is.records)
         (omega (arith, slot_within p s d dslot at_d, p.holdings.records.ok.0))
 
     records_are : w.records.items ≡ p.holdings.records.items
-    records_are = ap (λ (h : Holdings). h.records.items) held_is
+    records_are = ap (λ (rs : Vec Record). rs.items) held_is.records
 
     use_is : body_use (record_in p.holdings.records.items dslot).body ≡ use_of (pieces_state p) d
     use_is = sym (ap (use_in p.holdings.records.items) (row_found p s d dslot at_d)
@@ -138,7 +136,7 @@ module _ (p : Pieces) (s : IsSound p) (d o : ℕ) (listed_now : has (list_at (pi
           dead = dead;
           slots = handed.objects_slots;
           lost = lost;
-          labels = labels ∙ ap (λ (h : Holdings). h.labels) held_is;
+          labels = labels ∙ held_is.labels;
           uses = uses;
           records = λ x. ap (λ (xs : List Record). record_in xs x) (records ∙ ap (λ (xs : List Record). set xs dslot r) records_are)
               ∙ elim (cases_Bool (x == dslot)) [

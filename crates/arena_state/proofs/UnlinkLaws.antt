@@ -22,7 +22,7 @@ use Rattle.kernel_rules.specs.declared.objects.Object.{Object}
 use Rattle.kernel_laws.proofs.Sums.{sum_same}
 use Rattle.arena_state.specs.declared.records.Record.{Record}
 use Rattle.arena_state.specs.declared.pieces.Pieces.{Pieces}
-use Rattle.arena_state.specs.Rows.{Row, rows_of}
+use Rattle.arena_state.specs.Rows.{row_slot, rows_of}
 use Rattle.arena_state.specs.Assembled.{pieces_state, object_in, objects_in, record_in, assembled, claims, claims_in, with_use}
 use Rattle.arena_state.specs.Deaths.{after_deaths}
 use Rattle.arena_state.specs.Sound.{IsSound}
@@ -53,10 +53,6 @@ pub record IsUnlinked (p q : Pieces) (d o : ℕ) : Type 0 where
   pub records : (x : ℕ) → record_in q.holdings.records.items x
       ≡ with_use (uses x) (record_in p.holdings.records.items x)
   pub room : length q.holdings.records.items ≡ length p.holdings.records.items
-
-abbrev pub row_slot : Option Row → ℕ
-row_slot None = 0
-row_slot (Some r) = r.slot
 
 -- at each place an id has its slot
 pub slot_at : {T : Type 0} (t : Tree T) (k : ℕ) → k < length (ids_in t.lists)

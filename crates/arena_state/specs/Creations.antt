@@ -27,5 +27,8 @@ pub record IsPlaced (old new : Pieces) (d parent : ℕ) (x : Record) : Type 0 wh
   pub cells : length new.places.cells ≡ length old.places.cells
   pub tree : IsWellFormed new.places
   pub labels : new.holdings.labels ≡ old.holdings.labels
+  pub segments : new.holdings.segments ≡ old.holdings.segments
+  pub queues : new.holdings.queues ≡ old.holdings.queues
+  pub spaces : new.holdings.spaces ≡ old.holdings.spaces
   pub records : new.holdings.records.items
       ≡ charged (slice_set old.holdings.records.items slot x) parent x.quota

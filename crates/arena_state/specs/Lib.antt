@@ -5,3 +5,6 @@ pub mod States
 pub mod Deaths
 pub mod Creations
 pub mod Kept
+pub mod Filled
+pub mod Stocked
+pub mod Contents

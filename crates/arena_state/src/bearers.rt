@@ -42,7 +42,7 @@ impl ArenaState {
                 let verify = self.pieces.holdings.labels.intern(&top, meter);
                 let thread = kept_thread(clearance, verify, entry_point);
                 let given = fresh_record(label, quota, Kept::Thread(thread));
-                place(&mut self.pieces, container, parent, given, meter)
+                place(&mut self.pieces, container, parent, given, meter).id
             }
             None => unreachable!(),
         }
@@ -74,7 +74,7 @@ impl ArenaState {
                     closure: gate.closure,
                 };
                 let given = fresh_record(label, quota, Kept::Gate(kept));
-                place(&mut self.pieces, container, parent, given, meter)
+                place(&mut self.pieces, container, parent, given, meter).id
             }
             None => unreachable!(),
         }

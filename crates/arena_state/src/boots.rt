@@ -14,9 +14,11 @@ use crate::pieces::Pieces;
 use crate::records::{Kept, fresh_record, kept_thread};
 use crate::states::ArenaState;
 use crate::uniform::uniform;
+use address_spaces::Spaces;
 use base::{Level, Limits, Meter, NoMemory, ObjectId, TypeSet};
 use containers::Containers;
 use label_intern::{LabelIx, Labels};
+use segments::{Queues, Segments};
 use std::alloc::Global;
 
 // The labels that a boot stores: those of the root, of the boot thread with its clearance and verify label, and of the
@@ -62,8 +64,8 @@ fn first_labels(labels: &mut Labels, device: Level, meter: &mut Meter) -> First
 
 impl ArenaState {
     /// The newly booted state: the root container, and in it the boot thread and the device. All pools are taken here:
-    /// as many slots and links as the root has pages, and three indexes of labels for each, and three more. The error is
-    /// want of memory.
+    /// as many slots, links and frames as the root has pages, and three indexes of labels for each, and three more. The
+    /// error is want of memory.
     pub fn boot(alloc: Global, limits: &Limits, meter: &mut Meter) -> Result<ArenaState, NoMemory>
         requires { in_range limits.now ≡ true }
         ensures { IfOk result (λ a. state_of a ≡ booted limits.now) }
@@ -86,11 +88,22 @@ impl ArenaState {
         let _count = places.len();
         records[thread.0] = boot_thread;
         records[device.0] = boot_device;
+        let segments = Segments::boot(alloc, pool)?;
+        let queues = Queues::boot(alloc, pool)?;
+        let spaces = Spaces::boot(alloc, pool)?;
+        let spare = Meter::new(alloc)?;
         Ok(ArenaState {
             pieces: Pieces {
                 limits: *limits,
                 places,
-                holdings: Holdings { records, labels },
+                holdings: Holdings {
+                    records,
+                    labels,
+                    segments,
+                    queues,
+                    spaces,
+                    spare,
+                },
                 next_id: limits.next_id,
                 next_category: limits.next_category,
             },

@@ -33,7 +33,7 @@ impl ArenaState {
             Some(parent) => {
                 let label = self.pieces.holdings.labels.intern(label, meter);
                 let given = fresh_record(label, quota, Kept::Container(avoid, 1));
-                place(&mut self.pieces, container, parent, given, meter)
+                place(&mut self.pieces, container, parent, given, meter).id
             }
             None => unreachable!(),
         }
@@ -59,7 +59,12 @@ impl ArenaState {
             Some(parent) => {
                 let label = self.pieces.holdings.labels.intern(label, meter);
                 let given = fresh_record(label, quota, Kept::Segment(pages));
-                place(&mut self.pieces, container, parent, given, meter)
+                let made = place(&mut self.pieces, container, parent, given, meter);
+                self.pieces
+                    .holdings
+                    .segments
+                    .resize(made.slot, pages, meter);
+                made.id
             }
             None => unreachable!(),
         }
@@ -84,7 +89,7 @@ impl ArenaState {
             Some(parent) => {
                 let label = self.pieces.holdings.labels.intern(label, meter);
                 let given = fresh_record(label, quota, Kept::AddressSpace);
-                place(&mut self.pieces, container, parent, given, meter)
+                place(&mut self.pieces, container, parent, given, meter).id
             }
             None => unreachable!(),
         }

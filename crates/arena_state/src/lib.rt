@@ -1,9 +1,10 @@
-//! The state of the arena kernel: objects in slots, interned labels, kept uses.
+//! The state of the arena kernel: objects in slots, interned labels, kept uses, and by slot what segments, devices and
+//! address spaces hold.
 //!
 //! A contract sees it as a state of the rules, which is well formed. Each change gives the state that the rules name:
-//! no slot, link or label index ever lacks, since each object was admitted by its quota. Only the boot takes memory.
-//! Labels of stored objects are compared by bits that are kept, without a scan. Which calls are refused, and what a
-//! segment's bytes, an address space's slots and a device's packets become, is left to the crates above.
+//! no slot, link, frame or label index ever lacks, since each object was admitted by its quota. Only the boot takes
+//! memory. Labels of stored objects are compared by bits that are kept, without a scan. Which calls are refused is left
+//! to the crates above.
 #![tactic(auto)]
 
 mod bearers;
@@ -11,6 +12,9 @@ mod bearing_reads;
 mod bindings;
 mod boots;
 mod charges;
+mod content_changes;
+mod contents;
+mod copies;
 mod creations;
 mod edits;
 mod entries;
@@ -18,12 +22,14 @@ mod holdings;
 mod kept;
 mod label_tests;
 mod lists;
+mod optional_labels;
 mod pieces;
 mod placing;
 mod reads;
 mod records;
 mod sights;
 mod states;
+mod translations;
 mod uniform;
 mod unlinks;
 mod uses;

@@ -1,5 +1,5 @@
 //! A slot, an id and a first link for a new record.
-ghost use Rattle.std.specs.Prelude.{◌≡◌, ◌+◌, ◌<◌, ◌≤◌, ◌^◌, true, length, All, IsSome};
+ghost use Rattle.std.specs.Prelude.{◌≡◌, [], ◌∷◌, ◌++◌, ◌+◌, ◌<◌, ◌≤◌, ◌^◌, true, length, All, IsSome};
 ghost use Rattle.base.specs.Live.{has};
 ghost use Rattle.containers.specs.Tree.{ids_in, link_count, record_at};
 ghost use Rattle.arena_state.specs.Assembled.{record_in, body_use};
@@ -8,16 +8,18 @@ ghost use Rattle.arena_state.specs.Creations.{IsPlaced};
 use crate::pieces::Pieces;
 use crate::records::{Record, charge};
 use base::{Meter, ObjectId, Slot};
+use containers::Located;
 
 /// A record gets a free slot and the next id, which comes last in a container's list, and the container, whose slot is
-/// the parent's, is charged its quota. It takes no memory and scans no label.
+/// the parent's, is charged its quota. What the slot holds beside the record stays. It takes no memory and scans no
+/// label.
 pub fn place(
     pieces: &mut Pieces,
     container: ObjectId,
     parent: Slot,
     given: Record,
     meter: &mut Meter,
-) -> ObjectId
+) -> Located
     requires container { has (ids_in pieces.old.places.lists) container ≡ true }
     requires rises { All (λ i. i < pieces.old.next_id) (ids_in pieces.old.places.lists) }
     requires left { pieces.old.next_id < 2 ^ 61 }
@@ -28,8 +30,9 @@ pub fn place(
     requires there { IsSome (record_at pieces.old.places parent.0) }
     requires quota { let kept = record_in pieces.old.holdings.records.items parent.0 in
         body_use kept.body + given.quota ≤ kept.quota }
-    ensures id { result ≡ pieces.old.next_id }
+    ensures id { result.id ≡ pieces.old.next_id }
     ensures placed { IsPlaced pieces.old pieces.new container parent.0 given }
+    ensures slot { pieces.new.places.slots ≡ pieces.old.places.slots ++ result.slot.0 ∷ [] }
     ensures scans { meter.new.scans ≡ meter.old.scans }
 {
     let next = pieces.next_id;
@@ -42,5 +45,5 @@ pub fn place(
     let most = charged.quota;
     charge(charged, pages, most);
     pieces.next_id = next + 1;
-    id
+    Located { id, slot }
 }

@@ -14,10 +14,12 @@ use base::{Data, Kind, Meter, ObjectId, Slot, TypeSet};
 impl Kept {
     ghost use Rattle.std.specs.Prelude.{[]};
     ghost use Rattle.arena_state.specs.Assembled.{body_of};
+    ghost use Rattle.arena_state.specs.Filled.{filled_body};
 
     /// The kind of the object.
     pub fn kind(&self) -> Kind
-        ensures { (labels : _) (list : _) → kind_of (body_of labels self.now list) ≡ result }
+        ensures { (content : _) (labels : _) (list : _)
+            → kind_of (filled_body content (body_of labels self.now list)) ≡ result }
     {
         match self {
             Kept::Container(_, _) => Kind::Container,

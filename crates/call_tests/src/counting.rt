@@ -1,7 +1,7 @@
 //! A store that counts each look.
 ghost use Rattle.std.specs.Prelude.{◌≡◌};
 
-use base::{Data, Kind, Meter, NoMemory, ObjectId, TypeSet};
+use base::{Data, Kind, Meter, NoMemory, ObjectId, Rights, TypeSet};
 use kernel_rules::{Entry, Gate, Ids, Mapping, Place, Thread};
 use kernel_store::{Seen, Sight, Store};
 use label_lattice::Label;
@@ -155,6 +155,19 @@ impl Store for Counting {
 
     fn thread(&self, id: ObjectId, meter: &mut Meter) -> Option<Thread> {
         Store::thread(&self.state, id, meter)
+    }
+
+    fn translate(
+        &self,
+        thread: ObjectId,
+        slot: usize,
+        meter: &mut Meter,
+    ) -> Option<(ObjectId, Rights)> {
+        Store::translate(&self.state, thread, slot, meter)
+    }
+
+    fn id_at(&self, place: usize, meter: &mut Meter) -> Option<ObjectId> {
+        Store::id_at(&self.state, place, meter)
     }
 
     fn next_id(&self) -> ObjectId {

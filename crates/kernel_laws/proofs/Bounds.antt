@@ -204,8 +204,10 @@ listed_once s f r =
           omega arith
     ] refl
 
+-- own costs, objects and links
 pub root_bounds : (s : State) (root : Object) → is_well_formed s ≡ true → object_at s 1 ≡ Some root
-    → (length s.objects ≤ root.quota) × (link_count s + 1 ≤ root.quota)
+    → (sum_by (λ e. own_cost e.1.body) s.objects ≤ root.quota) × (length s.objects ≤ root.quota)
+    × (link_count s + 1 ≤ root.quota)
 root_bounds s root wf there =
     let h : Soundness s = soundness_of s wf in
     let all : AreRecords s s.objects = records_of s s.objects h.rise h.kept (λ o x found. found) in
@@ -259,7 +261,7 @@ root_bounds s root wf there =
     let rest : sum_by (λ f. once (f.0 == 1) * 1 + once (not (f.0 == 1))) s.objects ≡ 1 + others s
     = sum_plus (λ f. once (f.0 == 1) * 1) (λ f. once (not (f.0 == 1))) s.objects
     ∙ ap (λ n. n + others s) (one_at (λ i. 1) 1 s.objects h.rise recorded) in
-    (omega arith, omega arith)
+    (omega arith, omega arith, omega arith)
   where
     one_of : (b : Bool) → once b * 1 + once (not b) ≡ 1
     one_of true = refl

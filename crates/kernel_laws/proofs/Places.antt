@@ -1,6 +1,6 @@
 -- Where writing is allowed, the segment is not immutable.
-use Rattle.std.proofs.Common.{◌≡◌, ℕ, ◌+◌, ◌*◌, ◌%◌, ◌/◌, Bool, true, false, cond, not, ◌&&◌, ◌==◌, nat_lt}
-use Rattle.std.proofs.Common.{List, [], ◌∷◌, Option, Some, None, refl, ◌∙◌, subst}
+use Rattle.std.proofs.Common.{◌≡◌, ℕ, ◌+◌, ◌*◌, ◌%◌, ◌/◌, Bool, true, false, cond, not, ◌&&◌, nat_lt}
+use Rattle.std.proofs.Common.{List, [], ◌∷◌, Option, Some, None, refl, subst}
 use Rattle.std.proofs.lemmas.Bool.{and_parts, both_ways}
 use Rattle.base.specs.Sets.{may_write, reading}
 use Rattle.base.specs.declared.sets.Rights.{Rights}

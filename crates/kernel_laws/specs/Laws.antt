@@ -7,7 +7,7 @@ use Rattle.label_lattice.specs.Listing.{label_cmp}
 use Rattle.kernel_rules.specs.Scratch.{stored_labels, is_stored_in, labels_of}
 use Rattle.base.specs.Live.{IsLive, links}
 use Rattle.base.specs.declared.kinds.Kind.TheVariants as kinds
-use Rattle.kernel_rules.specs.State.{State, object_at, lists_of, is_kind}
+use Rattle.kernel_rules.specs.State.{State, object_at, lists_of, is_kind, own_cost}
 use Rattle.kernel_rules.specs.Step.{next, edit}
 use Rattle.kernel_rules.specs.Runs.{booted, replies_to, state_after}
 use Rattle.kernel_rules.specs.Translate.{covers, slot_at}
@@ -89,6 +89,13 @@ abbrev pub RootBoundsAll : Type 0
 RootBoundsAll =
     (s : State) (root : Object) → is_well_formed s ≡ true → object_at s 1 ≡ Some root
     → (length s.objects ≤ root.quota) × (link_count s + 1 ≤ root.quota)
+
+-- the quota of the root bounds what all objects of a well-formed state cost for themselves, in
+-- pages
+abbrev pub RootBoundsCosts : Type 0
+RootBoundsCosts =
+    (s : State) (root : Object) → is_well_formed s ≡ true → object_at s 1 ≡ Some root
+    → sum_by (λ e. own_cost e.1.body) s.objects ≤ root.quota
 
 -- a table of labels has each label that the objects store once, in its place, and no other
 abbrev pub LabelsAreListed : Type 0

@@ -1,7 +1,8 @@
 //! Laws of the next state.
 ghost use Rattle.kernel_laws.specs.Laws.{LabelsAreOwn, LabelsRise, ReadOnlyStays};
 ghost use Rattle.kernel_laws.specs.Laws.{LinkedStays, RecordedAreLive};
-ghost use Rattle.kernel_laws.specs.Laws.{RecordedAreEdited, RootBoundsAll, LabelsAreListed};
+ghost use Rattle.kernel_laws.specs.Laws.{RecordedAreEdited, RootBoundsAll, RootBoundsCosts};
+ghost use Rattle.kernel_laws.specs.Laws.{LabelsAreListed};
 ghost use Rattle.kernel_laws.specs.Laws.{IdsRise, CategoriesRise, MappingsApart};
 
 /// The label of an object changes by its own calls alone.
@@ -38,6 +39,11 @@ pub fn recorded_are_edited()
 /// The quota of the root bounds the objects, and with one more the links.
 pub fn root_bounds_all()
     ensures { RootBoundsAll }
+{}
+
+/// The quota of the root bounds what all objects cost for themselves, in pages of 256 bytes.
+pub fn root_bounds_costs()
+    ensures { RootBoundsCosts }
 {}
 
 /// A recomputed table of labels has each label that the objects store once, in its place, and no

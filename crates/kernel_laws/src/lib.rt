@@ -8,4 +8,5 @@ mod laws;
 pub use laws::{
     categories_rise, ids_rise, labels_are_listed, labels_are_own, labels_rise, linked_stays,
     mappings_are_apart, read_only_stays, recorded_are_edited, recorded_are_live, root_bounds_all,
+    root_bounds_costs,
 };

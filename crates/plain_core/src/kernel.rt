@@ -10,8 +10,8 @@ use crate::machine::Machine;
 use base::{Kind, Limits, Meter, NoMemory, ObjectId};
 use kernel_calls::{ask, step};
 use kernel_rules::{Call, Query, Reply, Tables};
+use kernel_tables::tables;
 use plain_state::{BootRefusal, PlainState};
-use plain_tables::tables;
 use std::alloc::Global;
 
 /// A label kernel that keeps nothing but its records, and computes liveness, use and label rules

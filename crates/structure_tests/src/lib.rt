@@ -6,8 +6,12 @@
 pub fn structures_are_tested() {}
 
 #[cfg(test)]
+mod address_spaces_tests;
+#[cfg(test)]
 mod entry_lists_tests;
 #[cfg(test)]
 mod label_intern_tests;
 #[cfg(test)]
 mod object_arena_tests;
+#[cfg(test)]
+mod segments_tests;

@@ -1,11 +1,13 @@
-use Rattle.std.proofs.Common.{refl, ap, arith}
+use Rattle.std.proofs.Common.{[], refl, ap, arith}
 use Rattle.kernel_rules.proofs.StoredLaws.{stored_test}
 use Rattle.kernel_rules.specs.declared.objects.Body.TheVariants as is
 use Rattle.label_intern.proofs.OwnersLemmas.{takes_then}
 use Rattle.arena_state.specs.declared.records.Record.{Record}
 use Rattle.arena_state.specs.declared.records.Kept.TheVariants as keeps
 use Rattle.arena_state.proofs.CreateLaws.{labels_fit, slot_room, link_room, below_next, enough}
-use Rattle.arena_state.proofs.NewLaws.{new_sound, new_state, still}
+use Rattle.arena_state.proofs.NewLaws.{new_sound, still}
+use Rattle.arena_state.proofs.WholeCreateLaws.{segments_kept, created_stocked, created_whole}
+use Rattle.arena_state.proofs.WholeLaws.{same_fitting}
 use Rattle.arena_state.proofs.states.ArenaState.create_gate.Goals as goal
 
 pub intern-label-requires : goal.intern-label-requires
@@ -13,7 +15,7 @@ intern-label-requires c =
     omega (
       arith,
       labels_fit c.args.self.now.pieces c.args.self.now.sound c.args.container c.args.quota c.args.label.now (is.Gate c.args.gate.now)
-          c.requires.fitting (stored_test c.args.label.now c.requires.label),
+          (same_fitting c.args.self.now.pieces c.args.self.now.sound c.args.self.now.stocked c.args.container c.args.quota (is.Gate c.args.gate.now) c.requires.fitting) (stored_test c.args.label.now c.requires.label),
     )
 
 pub intern-clearance-requires : goal.intern-clearance-requires
@@ -23,23 +25,23 @@ intern-clearance-requires c =
       c.intern-label.ensures.owners,
       c.intern-label.ensures.takes.pool,
       labels_fit c.args.self.now.pieces c.args.self.now.sound c.args.container c.args.quota c.args.label.now (is.Gate c.args.gate.now)
-          c.requires.fitting (stored_test c.args.label.now c.requires.label),
+          (same_fitting c.args.self.now.pieces c.args.self.now.sound c.args.self.now.stocked c.args.container c.args.quota (is.Gate c.args.gate.now) c.requires.fitting) (stored_test c.args.label.now c.requires.label),
     )
 
 pub place-requires-clause-rises : goal.place-requires-clause-rises
 place-requires-clause-rises c =
     below_next c.args.self.now.pieces c.args.self.now.sound c.args.container c.args.quota c.args.label.now (is.Gate c.args.gate.now)
-    c.requires.fitting (stored_test c.args.label.now c.requires.label)
+    (same_fitting c.args.self.now.pieces c.args.self.now.sound c.args.self.now.stocked c.args.container c.args.quota (is.Gate c.args.gate.now) c.requires.fitting) (stored_test c.args.label.now c.requires.label)
 
 pub place-requires-clause-slots : goal.place-requires-clause-slots
 place-requires-clause-slots c =
     slot_room c.args.self.now.pieces c.args.self.now.sound c.args.container c.args.quota c.args.label.now (is.Gate c.args.gate.now)
-    c.requires.fitting (stored_test c.args.label.now c.requires.label)
+    (same_fitting c.args.self.now.pieces c.args.self.now.sound c.args.self.now.stocked c.args.container c.args.quota (is.Gate c.args.gate.now) c.requires.fitting) (stored_test c.args.label.now c.requires.label)
 
 pub place-requires-clause-room : goal.place-requires-clause-room
 place-requires-clause-room c =
     link_room c.args.self.now.pieces c.args.self.now.sound c.args.container c.args.quota c.args.label.now (is.Gate c.args.gate.now)
-    c.requires.fitting (stored_test c.args.label.now c.requires.label)
+    (same_fitting c.args.self.now.pieces c.args.self.now.sound c.args.self.now.stocked c.args.container c.args.quota (is.Gate c.args.gate.now) c.requires.fitting) (stored_test c.args.label.now c.requires.label)
 
 pub place-requires-clause-quota : goal.place-requires-clause-quota
 place-requires-clause-quota c =
@@ -47,22 +49,37 @@ place-requires-clause-quota c =
       arith,
       ap (λ (r : Record). r.quota) c.fresh_record-given.ensures,
       enough c.args.self.now.pieces c.args.self.now.sound c.args.container c.args.quota c.args.label.now (is.Gate c.args.gate.now)
-          c.requires.fitting (stored_test c.args.label.now c.requires.label) c.in-Some.parent.0 c.in-Some.ensures.found.has,
+          (same_fitting c.args.self.now.pieces c.args.self.now.sound c.args.self.now.stocked c.args.container c.args.quota (is.Gate c.args.gate.now) c.requires.fitting) (stored_test c.args.label.now c.requires.label) c.in-Some.parent.0 c.in-Some.ensures.found.has,
     )
 
 pub invariant_of-self : goal.invariant_of-self
 invariant_of-self c = record {
   sound = new_sound c.args.self.now.pieces c.args.self.now.sound c.args.container c.args.quota c.args.label.now (is.Gate c.args.gate.now)
-      c.requires.fitting (stored_test c.args.label.now c.requires.label)
+      (same_fitting c.args.self.now.pieces c.args.self.now.sound c.args.self.now.stocked c.args.container c.args.quota (is.Gate c.args.gate.now) c.requires.fitting) (stored_test c.args.label.now c.requires.label)
       c.in-Some.parent.0 c.in-Some.ensures.found.has c.intern-clearance.new.self c.intern-label.result.0 (keeps.Gate (record { clearance = c.intern-clearance.result; space = c.args.gate.now.space; entry_point = c.args.gate.now.entry_point; closure = c.args.gate.now.closure }))
       c.fresh_record-given.result c.fresh_record-given.ensures c.place.new.pieces c.place.ensures.placed
       (takes_then _ _ _ _ _ c.intern-label.ensures.takes c.intern-clearance.ensures.takes) (still _ _ _ _ _ _ c.intern-label.ensures.takes c.intern-label.ensures.given c.intern-clearance.ensures.takes) (λ i. is.Gate (record c.args.gate.now { clearance = c.intern-clearance.ensures.given i })) (refl);
+  stocked = created_stocked c.args.self.now.pieces c.args.self.now.sound c.args.container c.args.quota c.args.label.now (is.Gate c.args.gate.now)
+      (same_fitting c.args.self.now.pieces c.args.self.now.sound c.args.self.now.stocked c.args.container c.args.quota (is.Gate c.args.gate.now) c.requires.fitting) (stored_test c.args.label.now c.requires.label)
+      c.in-Some.parent.0 c.in-Some.ensures.found.has c.intern-clearance.new.self c.intern-label.result.0 (keeps.Gate (record { clearance = c.intern-clearance.result; space = c.args.gate.now.space; entry_point = c.args.gate.now.entry_point; closure = c.args.gate.now.closure }))
+      c.fresh_record-given.result c.fresh_record-given.ensures c.place.new.pieces c.place.ensures.placed
+      (takes_then _ _ _ _ _ c.intern-label.ensures.takes c.intern-clearance.ensures.takes) (still _ _ _ _ _ _ c.intern-label.ensures.takes c.intern-label.ensures.given c.intern-clearance.ensures.takes) (λ i. is.Gate (record c.args.gate.now { clearance = c.intern-clearance.ensures.given i })) (refl) c.args.self.now.stocked
+      c.place.new.pieces.holdings.segments [] (segments_kept c.args.self.now.pieces c.args.self.now.sound c.args.container c.args.quota c.args.label.now (is.Gate c.args.gate.now)
+      (same_fitting c.args.self.now.pieces c.args.self.now.sound c.args.self.now.stocked c.args.container c.args.quota (is.Gate c.args.gate.now) c.requires.fitting) (stored_test c.args.label.now c.requires.label)
+      c.in-Some.parent.0 c.in-Some.ensures.found.has c.intern-clearance.new.self c.intern-label.result.0 (keeps.Gate (record { clearance = c.intern-clearance.result; space = c.args.gate.now.space; entry_point = c.args.gate.now.entry_point; closure = c.args.gate.now.closure }))
+      c.fresh_record-given.result c.fresh_record-given.ensures c.place.new.pieces c.place.ensures.placed
+      (takes_then _ _ _ _ _ c.intern-label.ensures.takes c.intern-clearance.ensures.takes) (still _ _ _ _ _ _ c.intern-label.ensures.takes c.intern-label.ensures.given c.intern-clearance.ensures.takes) (λ i. is.Gate (record c.args.gate.now { clearance = c.intern-clearance.ensures.given i })) (refl) c.args.self.now.stocked) refl;
 }
 
 pub returns-clause-state : goal.returns-clause-state
 returns-clause-state c =
-    new_state c.args.self.now.pieces c.args.self.now.sound c.args.container c.args.quota c.args.label.now (is.Gate c.args.gate.now)
-    c.requires.fitting (stored_test c.args.label.now c.requires.label)
+    created_whole c.args.self.now.pieces c.args.self.now.sound c.args.container c.args.quota c.args.label.now (is.Gate c.args.gate.now)
+    (same_fitting c.args.self.now.pieces c.args.self.now.sound c.args.self.now.stocked c.args.container c.args.quota (is.Gate c.args.gate.now) c.requires.fitting) (stored_test c.args.label.now c.requires.label)
     c.in-Some.parent.0 c.in-Some.ensures.found.has c.intern-clearance.new.self c.intern-label.result.0 (keeps.Gate (record { clearance = c.intern-clearance.result; space = c.args.gate.now.space; entry_point = c.args.gate.now.entry_point; closure = c.args.gate.now.closure }))
     c.fresh_record-given.result c.fresh_record-given.ensures c.place.new.pieces c.place.ensures.placed
-    (takes_then _ _ _ _ _ c.intern-label.ensures.takes c.intern-clearance.ensures.takes) (still _ _ _ _ _ _ c.intern-label.ensures.takes c.intern-label.ensures.given c.intern-clearance.ensures.takes) (λ i. is.Gate (record c.args.gate.now { clearance = c.intern-clearance.ensures.given i })) (refl)
+    (takes_then _ _ _ _ _ c.intern-label.ensures.takes c.intern-clearance.ensures.takes) (still _ _ _ _ _ _ c.intern-label.ensures.takes c.intern-label.ensures.given c.intern-clearance.ensures.takes) (λ i. is.Gate (record c.args.gate.now { clearance = c.intern-clearance.ensures.given i })) (refl) c.args.self.now.stocked
+    c.place.new.pieces.holdings.segments [] (segments_kept c.args.self.now.pieces c.args.self.now.sound c.args.container c.args.quota c.args.label.now (is.Gate c.args.gate.now)
+    (same_fitting c.args.self.now.pieces c.args.self.now.sound c.args.self.now.stocked c.args.container c.args.quota (is.Gate c.args.gate.now) c.requires.fitting) (stored_test c.args.label.now c.requires.label)
+    c.in-Some.parent.0 c.in-Some.ensures.found.has c.intern-clearance.new.self c.intern-label.result.0 (keeps.Gate (record { clearance = c.intern-clearance.result; space = c.args.gate.now.space; entry_point = c.args.gate.now.entry_point; closure = c.args.gate.now.closure }))
+    c.fresh_record-given.result c.fresh_record-given.ensures c.place.new.pieces c.place.ensures.placed
+    (takes_then _ _ _ _ _ c.intern-label.ensures.takes c.intern-clearance.ensures.takes) (still _ _ _ _ _ _ c.intern-label.ensures.takes c.intern-label.ensures.given c.intern-clearance.ensures.takes) (λ i. is.Gate (record c.args.gate.now { clearance = c.intern-clearance.ensures.given i })) (refl) c.args.self.now.stocked) refl

@@ -1,11 +1,13 @@
-use Rattle.std.proofs.Common.{refl, ap, arith, None, replicate}
+use Rattle.std.proofs.Common.{[], refl, ap, arith, None, replicate}
 use Rattle.kernel_rules.proofs.StoredLaws.{stored_test}
 use Rattle.kernel_rules.specs.declared.objects.Body.TheVariants as is
 use Rattle.label_intern.proofs.OwnersLemmas.{takes_as}
 use Rattle.arena_state.specs.declared.records.Record.{Record}
 use Rattle.arena_state.specs.declared.records.Kept.TheVariants as keeps
 use Rattle.arena_state.proofs.CreateLaws.{labels_fit, slot_room, link_room, below_next, enough}
-use Rattle.arena_state.proofs.NewLaws.{new_sound, new_state}
+use Rattle.arena_state.proofs.NewLaws.{new_sound}
+use Rattle.arena_state.proofs.WholeCreateLaws.{segments_kept, created_stocked, created_whole}
+use Rattle.arena_state.proofs.WholeLaws.{same_fitting}
 use Rattle.arena_state.proofs.states.ArenaState.create_space.Goals as goal
 
 pub intern-label-requires : goal.intern-label-requires
@@ -13,23 +15,23 @@ intern-label-requires c =
     omega (
       arith,
       labels_fit c.args.self.now.pieces c.args.self.now.sound c.args.container c.args.quota c.args.label.now (is.AddressSpace (record { slots = replicate 16 None }))
-          c.requires.fitting (stored_test c.args.label.now c.requires.label),
+          (same_fitting c.args.self.now.pieces c.args.self.now.sound c.args.self.now.stocked c.args.container c.args.quota (is.AddressSpace (record { slots = replicate 16 None })) c.requires.fitting) (stored_test c.args.label.now c.requires.label),
     )
 
 pub place-requires-clause-rises : goal.place-requires-clause-rises
 place-requires-clause-rises c =
     below_next c.args.self.now.pieces c.args.self.now.sound c.args.container c.args.quota c.args.label.now (is.AddressSpace (record { slots = replicate 16 None }))
-    c.requires.fitting (stored_test c.args.label.now c.requires.label)
+    (same_fitting c.args.self.now.pieces c.args.self.now.sound c.args.self.now.stocked c.args.container c.args.quota (is.AddressSpace (record { slots = replicate 16 None })) c.requires.fitting) (stored_test c.args.label.now c.requires.label)
 
 pub place-requires-clause-slots : goal.place-requires-clause-slots
 place-requires-clause-slots c =
     slot_room c.args.self.now.pieces c.args.self.now.sound c.args.container c.args.quota c.args.label.now (is.AddressSpace (record { slots = replicate 16 None }))
-    c.requires.fitting (stored_test c.args.label.now c.requires.label)
+    (same_fitting c.args.self.now.pieces c.args.self.now.sound c.args.self.now.stocked c.args.container c.args.quota (is.AddressSpace (record { slots = replicate 16 None })) c.requires.fitting) (stored_test c.args.label.now c.requires.label)
 
 pub place-requires-clause-room : goal.place-requires-clause-room
 place-requires-clause-room c =
     link_room c.args.self.now.pieces c.args.self.now.sound c.args.container c.args.quota c.args.label.now (is.AddressSpace (record { slots = replicate 16 None }))
-    c.requires.fitting (stored_test c.args.label.now c.requires.label)
+    (same_fitting c.args.self.now.pieces c.args.self.now.sound c.args.self.now.stocked c.args.container c.args.quota (is.AddressSpace (record { slots = replicate 16 None })) c.requires.fitting) (stored_test c.args.label.now c.requires.label)
 
 pub place-requires-clause-quota : goal.place-requires-clause-quota
 place-requires-clause-quota c =
@@ -37,22 +39,37 @@ place-requires-clause-quota c =
       arith,
       ap (λ (r : Record). r.quota) c.fresh_record-given.ensures,
       enough c.args.self.now.pieces c.args.self.now.sound c.args.container c.args.quota c.args.label.now (is.AddressSpace (record { slots = replicate 16 None }))
-          c.requires.fitting (stored_test c.args.label.now c.requires.label) c.in-Some.parent.0 c.in-Some.ensures.found.has,
+          (same_fitting c.args.self.now.pieces c.args.self.now.sound c.args.self.now.stocked c.args.container c.args.quota (is.AddressSpace (record { slots = replicate 16 None })) c.requires.fitting) (stored_test c.args.label.now c.requires.label) c.in-Some.parent.0 c.in-Some.ensures.found.has,
     )
 
 pub invariant_of-self : goal.invariant_of-self
 invariant_of-self c = record {
   sound = new_sound c.args.self.now.pieces c.args.self.now.sound c.args.container c.args.quota c.args.label.now (is.AddressSpace (record { slots = replicate 16 None }))
-      c.requires.fitting (stored_test c.args.label.now c.requires.label)
+      (same_fitting c.args.self.now.pieces c.args.self.now.sound c.args.self.now.stocked c.args.container c.args.quota (is.AddressSpace (record { slots = replicate 16 None })) c.requires.fitting) (stored_test c.args.label.now c.requires.label)
       c.in-Some.parent.0 c.in-Some.ensures.found.has c.intern-label.new.self c.intern-label.result.0 (keeps.AddressSpace)
       c.fresh_record-given.result c.fresh_record-given.ensures c.place.new.pieces c.place.ensures.placed
       (takes_as _ _ _ _ (λ i. omega arith) c.intern-label.ensures.takes) (c.intern-label.ensures.given) (refl) (refl);
+  stocked = created_stocked c.args.self.now.pieces c.args.self.now.sound c.args.container c.args.quota c.args.label.now (is.AddressSpace (record { slots = replicate 16 None }))
+      (same_fitting c.args.self.now.pieces c.args.self.now.sound c.args.self.now.stocked c.args.container c.args.quota (is.AddressSpace (record { slots = replicate 16 None })) c.requires.fitting) (stored_test c.args.label.now c.requires.label)
+      c.in-Some.parent.0 c.in-Some.ensures.found.has c.intern-label.new.self c.intern-label.result.0 (keeps.AddressSpace)
+      c.fresh_record-given.result c.fresh_record-given.ensures c.place.new.pieces c.place.ensures.placed
+      (takes_as _ _ _ _ (λ i. omega arith) c.intern-label.ensures.takes) (c.intern-label.ensures.given) (refl) (refl) c.args.self.now.stocked
+      c.place.new.pieces.holdings.segments [] (segments_kept c.args.self.now.pieces c.args.self.now.sound c.args.container c.args.quota c.args.label.now (is.AddressSpace (record { slots = replicate 16 None }))
+      (same_fitting c.args.self.now.pieces c.args.self.now.sound c.args.self.now.stocked c.args.container c.args.quota (is.AddressSpace (record { slots = replicate 16 None })) c.requires.fitting) (stored_test c.args.label.now c.requires.label)
+      c.in-Some.parent.0 c.in-Some.ensures.found.has c.intern-label.new.self c.intern-label.result.0 (keeps.AddressSpace)
+      c.fresh_record-given.result c.fresh_record-given.ensures c.place.new.pieces c.place.ensures.placed
+      (takes_as _ _ _ _ (λ i. omega arith) c.intern-label.ensures.takes) (c.intern-label.ensures.given) (refl) (refl) c.args.self.now.stocked) refl;
 }
 
 pub returns-clause-state : goal.returns-clause-state
 returns-clause-state c =
-    new_state c.args.self.now.pieces c.args.self.now.sound c.args.container c.args.quota c.args.label.now (is.AddressSpace (record { slots = replicate 16 None }))
-    c.requires.fitting (stored_test c.args.label.now c.requires.label)
+    created_whole c.args.self.now.pieces c.args.self.now.sound c.args.container c.args.quota c.args.label.now (is.AddressSpace (record { slots = replicate 16 None }))
+    (same_fitting c.args.self.now.pieces c.args.self.now.sound c.args.self.now.stocked c.args.container c.args.quota (is.AddressSpace (record { slots = replicate 16 None })) c.requires.fitting) (stored_test c.args.label.now c.requires.label)
     c.in-Some.parent.0 c.in-Some.ensures.found.has c.intern-label.new.self c.intern-label.result.0 (keeps.AddressSpace)
     c.fresh_record-given.result c.fresh_record-given.ensures c.place.new.pieces c.place.ensures.placed
-    (takes_as _ _ _ _ (λ i. omega arith) c.intern-label.ensures.takes) (c.intern-label.ensures.given) (refl) (refl)
+    (takes_as _ _ _ _ (λ i. omega arith) c.intern-label.ensures.takes) (c.intern-label.ensures.given) (refl) (refl) c.args.self.now.stocked
+    c.place.new.pieces.holdings.segments [] (segments_kept c.args.self.now.pieces c.args.self.now.sound c.args.container c.args.quota c.args.label.now (is.AddressSpace (record { slots = replicate 16 None }))
+    (same_fitting c.args.self.now.pieces c.args.self.now.sound c.args.self.now.stocked c.args.container c.args.quota (is.AddressSpace (record { slots = replicate 16 None })) c.requires.fitting) (stored_test c.args.label.now c.requires.label)
+    c.in-Some.parent.0 c.in-Some.ensures.found.has c.intern-label.new.self c.intern-label.result.0 (keeps.AddressSpace)
+    c.fresh_record-given.result c.fresh_record-given.ensures c.place.new.pieces c.place.ensures.placed
+    (takes_as _ _ _ _ (λ i. omega arith) c.intern-label.ensures.takes) (c.intern-label.ensures.given) (refl) (refl) c.args.self.now.stocked) refl

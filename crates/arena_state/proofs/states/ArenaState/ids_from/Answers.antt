@@ -1,6 +1,6 @@
 use Rattle.std.proofs.Common.{ap, sym, ◌∙◌, ℕ, List, take, drop}
 use Rattle.containers.specs.Tree.{list_of}
-use Rattle.arena_state.proofs.ViewLaws.{listed_is}
+use Rattle.arena_state.proofs.WholeLaws.{listed_is}
 use Rattle.arena_state.proofs.WindowLaws.{window_is}
 use Rattle.arena_state.proofs.states.ArenaState.ids_from.Goals as goal
 

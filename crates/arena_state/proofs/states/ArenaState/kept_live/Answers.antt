@@ -1,5 +1,5 @@
 use Rattle.std.proofs.Common.{ℕ, Option, Some, sym, ap, ◌∙◌, arith}
-use Rattle.arena_state.proofs.ViewLaws.{id_at, id_past}
+use Rattle.arena_state.proofs.WholeLaws.{id_at, id_past}
 use Rattle.arena_state.proofs.states.ArenaState.kept_live.Goals as goal
 
 pub returns-then-place-len-clause-value : goal.returns-then-place-len-clause-value

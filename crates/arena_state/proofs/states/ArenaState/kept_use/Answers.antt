@@ -1,7 +1,8 @@
-use Rattle.std.proofs.Common.{◌∙◌, ap, arith}
+use Rattle.std.proofs.Common.{◌∙◌, sym, ap, arith}
 use Rattle.arena_state.specs.declared.records.Record.{Record}
 use Rattle.arena_state.specs.Assembled.{body_use}
 use Rattle.arena_state.proofs.EditLaws.{read_is, kept_use_is, use_within}
+use Rattle.arena_state.proofs.StockLaws.{whole_use}
 use Rattle.arena_state.proofs.states.ArenaState.kept_use.Goals as goal
 
 pub pages_of-requires : goal.pages_of-requires
@@ -24,4 +25,4 @@ returns-in-Some-clause-some c =
     c.pages_of.ensures
     ∙ ap (λ (r : Record). body_use r.body)
     (read_is p s c.args.id c.in-Some.slot.0 row.has c.index-in-Some.result.now c.index-in-Some.ensures)
-    ∙ kept_use_is p s c.args.id c.in-Some.slot.0 row.has
+    ∙ kept_use_is p s c.args.id c.in-Some.slot.0 row.has ∙ sym (whole_use p s c.args.self.now.stocked c.args.id)

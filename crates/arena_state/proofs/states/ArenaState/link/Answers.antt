@@ -1,43 +1,84 @@
-use Rattle.std.proofs.Common.{refl, ap, length}
+use Rattle.std.proofs.Common.{refl, ap, ◌∙◌, length, ◌+◌, true, false, ◌++◌, ◌∷◌, []}
+use Rattle.std.specs.Ordering.{nat_cmp}
+use Rattle.std.specs.Map.{lookup}
+use Rattle.std.specs.BTreeMap.{is_at}
+use Rattle.base.specs.declared.kinds.Kind.TheVariants as kinds
+use Rattle.containers.specs.Tree.{add_lists}
+use Rattle.containers.proofs.Lists.{ids_added}
+use Rattle.kernel_rules.specs.Changes.{listing}
 use Rattle.std.specs.Vec.{with_item}
 use Rattle.arena_state.specs.declared.pieces.Pieces.{Pieces}
 use Rattle.arena_state.proofs.LinkedLaws.{not_linked, not_root, link_left, no_object, no_container, container_listed, object_listed, enough, sound_then, state_then}
+use Rattle.arena_state.specs.declared.records.Record.{Record}
+use Rattle.arena_state.specs.Rows.{rows_of, row_slot}
+use Rattle.arena_state.specs.Assembled.{body_use}
+use Rattle.arena_state.specs.Stocked.{kept_pages, keeps_space}
+use Rattle.arena_state.proofs.SoundLaws.{slot_within}
+use Rattle.arena_state.proofs.EditLaws.{read_is}
+use Rattle.arena_state.proofs.HeldLaws.{held_stocked, held_state, read_set, slots_by_ids}
+use Rattle.arena_state.proofs.WholeEditLaws.{relisting_apart, reuse_pages, reuse_space}
+use Rattle.arena_state.proofs.WholeLaws.{kind_bare, holds_bare, fixed_bare, listed_bare, linked_bare, none_bare}
 use Rattle.arena_state.proofs.states.ArenaState.link.Goals as goal
 
 pub link-requires-clause-container : goal.link-requires-clause-container
-link-requires-clause-container c = container_listed c.args.self.now.pieces c.args.self.now.sound c.args.container c.args.entry.now c.requires.container c.requires.held c.requires.plain c.requires.fixed c.requires.unlisted c.requires.room
+link-requires-clause-container c = container_listed c.args.self.now.pieces c.args.self.now.sound c.args.container c.args.entry.now (kind_bare c.args.self.now.pieces kinds.Container c.args.container true c.requires.container) (holds_bare c.args.self.now.pieces c.args.entry.now c.requires.held) (kind_bare c.args.self.now.pieces kinds.Container c.args.entry.now.object false c.requires.plain) (fixed_bare c.args.self.now.pieces c.args.entry.now.object true c.requires.fixed) (listed_bare c.args.self.now.pieces c.args.container c.args.entry.now.object false c.requires.unlisted) (linked_bare c.args.self.now.pieces c.args.self.now.sound c.args.self.now.stocked c.args.container c.args.entry.now.object c.requires.room)
     c.in-Some.parent.0 c.in-Some-slot.object.0 c.in-Some.ensures.found.has c.in-Some-slot.ensures.found.has
 
 pub link-requires-clause-object : goal.link-requires-clause-object
-link-requires-clause-object c = object_listed c.args.self.now.pieces c.args.self.now.sound c.args.container c.args.entry.now c.requires.container c.requires.held c.requires.plain c.requires.fixed c.requires.unlisted c.requires.room
+link-requires-clause-object c = object_listed c.args.self.now.pieces c.args.self.now.sound c.args.container c.args.entry.now (kind_bare c.args.self.now.pieces kinds.Container c.args.container true c.requires.container) (holds_bare c.args.self.now.pieces c.args.entry.now c.requires.held) (kind_bare c.args.self.now.pieces kinds.Container c.args.entry.now.object false c.requires.plain) (fixed_bare c.args.self.now.pieces c.args.entry.now.object true c.requires.fixed) (listed_bare c.args.self.now.pieces c.args.container c.args.entry.now.object false c.requires.unlisted) (linked_bare c.args.self.now.pieces c.args.self.now.sound c.args.self.now.stocked c.args.container c.args.entry.now.object c.requires.room)
     c.in-Some.parent.0 c.in-Some-slot.object.0 c.in-Some.ensures.found.has c.in-Some-slot.ensures.found.has
 
 pub link-requires-clause-not_root : goal.link-requires-clause-not_root
-link-requires-clause-not_root c = not_root c.args.self.now.pieces c.args.self.now.sound c.args.container c.args.entry.now c.requires.container c.requires.held c.requires.plain c.requires.fixed c.requires.unlisted c.requires.room
+link-requires-clause-not_root c = not_root c.args.self.now.pieces c.args.self.now.sound c.args.container c.args.entry.now (kind_bare c.args.self.now.pieces kinds.Container c.args.container true c.requires.container) (holds_bare c.args.self.now.pieces c.args.entry.now c.requires.held) (kind_bare c.args.self.now.pieces kinds.Container c.args.entry.now.object false c.requires.plain) (fixed_bare c.args.self.now.pieces c.args.entry.now.object true c.requires.fixed) (listed_bare c.args.self.now.pieces c.args.container c.args.entry.now.object false c.requires.unlisted) (linked_bare c.args.self.now.pieces c.args.self.now.sound c.args.self.now.stocked c.args.container c.args.entry.now.object c.requires.room)
 
 pub link-requires-clause-fresh : goal.link-requires-clause-fresh
-link-requires-clause-fresh c = not_linked c.args.self.now.pieces c.args.self.now.sound c.args.container c.args.entry.now c.requires.container c.requires.held c.requires.plain c.requires.fixed c.requires.unlisted c.requires.room
+link-requires-clause-fresh c = not_linked c.args.self.now.pieces c.args.self.now.sound c.args.container c.args.entry.now (kind_bare c.args.self.now.pieces kinds.Container c.args.container true c.requires.container) (holds_bare c.args.self.now.pieces c.args.entry.now c.requires.held) (kind_bare c.args.self.now.pieces kinds.Container c.args.entry.now.object false c.requires.plain) (fixed_bare c.args.self.now.pieces c.args.entry.now.object true c.requires.fixed) (listed_bare c.args.self.now.pieces c.args.container c.args.entry.now.object false c.requires.unlisted) (linked_bare c.args.self.now.pieces c.args.self.now.sound c.args.self.now.stocked c.args.container c.args.entry.now.object c.requires.room)
 
 pub link-requires-clause-room : goal.link-requires-clause-room
-link-requires-clause-room c = link_left c.args.self.now.pieces c.args.self.now.sound c.args.container c.args.entry.now c.requires.container c.requires.held c.requires.plain c.requires.fixed c.requires.unlisted c.requires.room
+link-requires-clause-room c = link_left c.args.self.now.pieces c.args.self.now.sound c.args.container c.args.entry.now (kind_bare c.args.self.now.pieces kinds.Container c.args.container true c.requires.container) (holds_bare c.args.self.now.pieces c.args.entry.now c.requires.held) (kind_bare c.args.self.now.pieces kinds.Container c.args.entry.now.object false c.requires.plain) (fixed_bare c.args.self.now.pieces c.args.entry.now.object true c.requires.fixed) (listed_bare c.args.self.now.pieces c.args.container c.args.entry.now.object false c.requires.unlisted) (linked_bare c.args.self.now.pieces c.args.self.now.sound c.args.self.now.stocked c.args.container c.args.entry.now.object c.requires.room)
 
 pub charge-requires : goal.charge-requires
-charge-requires c = enough c.args.self.now.pieces c.args.self.now.sound c.args.container c.args.entry.now c.requires.container c.requires.held c.requires.plain c.requires.fixed c.requires.unlisted c.requires.room
+charge-requires c = enough c.args.self.now.pieces c.args.self.now.sound c.args.container c.args.entry.now (kind_bare c.args.self.now.pieces kinds.Container c.args.container true c.requires.container) (holds_bare c.args.self.now.pieces c.args.entry.now c.requires.held) (kind_bare c.args.self.now.pieces kinds.Container c.args.entry.now.object false c.requires.plain) (fixed_bare c.args.self.now.pieces c.args.entry.now.object true c.requires.fixed) (listed_bare c.args.self.now.pieces c.args.container c.args.entry.now.object false c.requires.unlisted) (linked_bare c.args.self.now.pieces c.args.self.now.sound c.args.self.now.stocked c.args.container c.args.entry.now.object c.requires.room)
     c.in-Some.parent.0 c.in-Some-slot.object.0 c.in-Some.ensures.found.has c.in-Some-slot.ensures.found.has
     c.index.result.now c.index_mut-charged.result.now c.index.ensures c.index_mut-charged.ensures.value
 
 pub unreachable-requires : goal.unreachable-requires
-unreachable-requires c = no_object c.args.self.now.pieces c.args.self.now.sound c.args.container c.args.entry.now c.requires.container c.requires.held c.requires.plain c.requires.fixed c.requires.unlisted c.requires.room c.in-None-slot.ensures.none
+unreachable-requires c = no_object c.args.self.now.pieces c.args.self.now.sound c.args.container c.args.entry.now (kind_bare c.args.self.now.pieces kinds.Container c.args.container true c.requires.container) (holds_bare c.args.self.now.pieces c.args.entry.now c.requires.held) (kind_bare c.args.self.now.pieces kinds.Container c.args.entry.now.object false c.requires.plain) (fixed_bare c.args.self.now.pieces c.args.entry.now.object true c.requires.fixed) (listed_bare c.args.self.now.pieces c.args.container c.args.entry.now.object false c.requires.unlisted) (linked_bare c.args.self.now.pieces c.args.self.now.sound c.args.self.now.stocked c.args.container c.args.entry.now.object c.requires.room) (none_bare c.args.self.now.pieces c.args.entry.now.object c.in-None-slot.ensures.none)
 
 pub unreachable-requires-in-None : goal.unreachable-requires-in-None
-unreachable-requires-in-None c = no_container c.args.self.now.pieces c.args.self.now.sound c.args.container c.args.entry.now c.requires.container c.requires.held c.requires.plain c.requires.fixed c.requires.unlisted c.requires.room c.in-None.ensures.none
+unreachable-requires-in-None c = no_container c.args.self.now.pieces c.args.self.now.sound c.args.container c.args.entry.now (kind_bare c.args.self.now.pieces kinds.Container c.args.container true c.requires.container) (holds_bare c.args.self.now.pieces c.args.entry.now c.requires.held) (kind_bare c.args.self.now.pieces kinds.Container c.args.entry.now.object false c.requires.plain) (fixed_bare c.args.self.now.pieces c.args.entry.now.object true c.requires.fixed) (listed_bare c.args.self.now.pieces c.args.container c.args.entry.now.object false c.requires.unlisted) (linked_bare c.args.self.now.pieces c.args.self.now.sound c.args.self.now.stocked c.args.container c.args.entry.now.object c.requires.room) (none_bare c.args.self.now.pieces c.args.container c.in-None.ensures.none)
 
 pub invariant_of-self : goal.invariant_of-self
 invariant_of-self c = record {
-  sound = sound_then c.args.self.now.pieces c.args.self.now.sound c.args.container c.args.entry.now c.requires.container c.requires.held c.requires.plain c.requires.fixed c.requires.unlisted c.requires.room
+  sound = sound_then c.args.self.now.pieces c.args.self.now.sound c.args.container c.args.entry.now (kind_bare c.args.self.now.pieces kinds.Container c.args.container true c.requires.container) (holds_bare c.args.self.now.pieces c.args.entry.now c.requires.held) (kind_bare c.args.self.now.pieces kinds.Container c.args.entry.now.object false c.requires.plain) (fixed_bare c.args.self.now.pieces c.args.entry.now.object true c.requires.fixed) (listed_bare c.args.self.now.pieces c.args.container c.args.entry.now.object false c.requires.unlisted) (linked_bare c.args.self.now.pieces c.args.self.now.sound c.args.self.now.stocked c.args.container c.args.entry.now.object c.requires.room)
       c.in-Some.parent.0 c.in-Some-slot.object.0 c.in-Some.ensures.found.has c.in-Some-slot.ensures.found.has
       c.index.result.now c.index_mut-charged.result.now c.index.ensures c.index_mut-charged.ensures.value
       _ refl refl refl (λ i. (c.link.ensures.linked i).lists) (λ i. (c.link.ensures.linked i).slots) (ap (λ t. length t.cells) c.link.ensures.linked) c.len-count.ensures.well_formed refl c.charge.new.given c.charge.ensures refl;
+  stocked =
+      let q : Pieces = record c.args.self.now.pieces {
+        places = c.link.new.self;
+        holdings = record c.args.self.now.pieces.holdings {
+          records = with_item c.args.self.now.pieces.holdings.records c.in-Some.parent.0 c.charge.new.given;
+        };
+      } in
+      held_stocked c.args.self.now.pieces q (record {
+        limits = refl;
+        segments = refl;
+        queues = refl;
+        spaces = refl;
+        slots = λ i. (c.link.ensures.linked i).slots;
+        ids = λ id. (λ i. row_slot (lookup (is_at (nat_cmp id)) (rows_of (c.link.ensures.linked i).lists (c.link.ensures.linked i).slots)))
+            ∙ slots_by_ids c.args.self.now.pieces.places.lists (add_lists c.args.self.now.pieces.places.lists c.args.container c.args.entry.now.object) c.args.self.now.pieces.places.slots
+            (ids_added c.args.self.now.pieces.places.lists c.args.container c.args.entry.now.object) id;
+        pages = read_set kept_pages c.args.self.now.pieces.holdings.records.items c.in-Some.parent.0 c.charge.new.given
+            (slot_within c.args.self.now.pieces c.args.self.now.sound c.args.container c.in-Some.parent.0 c.in-Some.ensures.found.has)
+            (ap (λ (r : Record). kept_pages r.body) c.charge.ensures ∙ reuse_pages (body_use c.index_mut-charged.result.now.body + c.index.result.now.quota) c.index_mut-charged.result.now.body
+            ∙ ap (λ (r : Record). kept_pages r.body) (read_is c.args.self.now.pieces c.args.self.now.sound c.args.container c.in-Some.parent.0 c.in-Some.ensures.found.has c.index_mut-charged.result.now c.index_mut-charged.ensures.value));
+        space = read_set keeps_space c.args.self.now.pieces.holdings.records.items c.in-Some.parent.0 c.charge.new.given
+            (slot_within c.args.self.now.pieces c.args.self.now.sound c.args.container c.in-Some.parent.0 c.in-Some.ensures.found.has)
+            (ap (λ (r : Record). keeps_space r.body) c.charge.ensures ∙ reuse_space (body_use c.index_mut-charged.result.now.body + c.index.result.now.quota) c.index_mut-charged.result.now.body
+            ∙ ap (λ (r : Record). keeps_space r.body) (read_is c.args.self.now.pieces c.args.self.now.sound c.args.container c.in-Some.parent.0 c.in-Some.ensures.found.has c.index_mut-charged.result.now c.index_mut-charged.ensures.value));
+      }) c.args.self.now.stocked;
 }
 
 pub returns-clause-state : goal.returns-clause-state
@@ -48,7 +89,26 @@ returns-clause-state c =
         records = with_item c.args.self.now.pieces.holdings.records c.in-Some.parent.0 c.charge.new.given;
       };
     } in
-    state_then c.args.self.now.pieces c.args.self.now.sound c.args.container c.args.entry.now c.requires.container c.requires.held c.requires.plain c.requires.fixed c.requires.unlisted c.requires.room
+    held_state c.args.self.now.pieces q (record {
+      limits = refl;
+      segments = refl;
+      queues = refl;
+      spaces = refl;
+      slots = λ i. (c.link.ensures.linked i).slots;
+      ids = λ id. (λ i. row_slot (lookup (is_at (nat_cmp id)) (rows_of (c.link.ensures.linked i).lists (c.link.ensures.linked i).slots)))
+          ∙ slots_by_ids c.args.self.now.pieces.places.lists (add_lists c.args.self.now.pieces.places.lists c.args.container c.args.entry.now.object) c.args.self.now.pieces.places.slots
+          (ids_added c.args.self.now.pieces.places.lists c.args.container c.args.entry.now.object) id;
+      pages = read_set kept_pages c.args.self.now.pieces.holdings.records.items c.in-Some.parent.0 c.charge.new.given
+          (slot_within c.args.self.now.pieces c.args.self.now.sound c.args.container c.in-Some.parent.0 c.in-Some.ensures.found.has)
+          (ap (λ (r : Record). kept_pages r.body) c.charge.ensures ∙ reuse_pages (body_use c.index_mut-charged.result.now.body + c.index.result.now.quota) c.index_mut-charged.result.now.body
+          ∙ ap (λ (r : Record). kept_pages r.body) (read_is c.args.self.now.pieces c.args.self.now.sound c.args.container c.in-Some.parent.0 c.in-Some.ensures.found.has c.index_mut-charged.result.now c.index_mut-charged.ensures.value));
+      space = read_set keeps_space c.args.self.now.pieces.holdings.records.items c.in-Some.parent.0 c.charge.new.given
+          (slot_within c.args.self.now.pieces c.args.self.now.sound c.args.container c.in-Some.parent.0 c.in-Some.ensures.found.has)
+          (ap (λ (r : Record). keeps_space r.body) c.charge.ensures ∙ reuse_space (body_use c.index_mut-charged.result.now.body + c.index.result.now.quota) c.index_mut-charged.result.now.body
+          ∙ ap (λ (r : Record). keeps_space r.body) (read_is c.args.self.now.pieces c.args.self.now.sound c.args.container c.in-Some.parent.0 c.in-Some.ensures.found.has c.index_mut-charged.result.now c.index_mut-charged.ensures.value));
+    })
+    c.args.self.now.sound c.args.container (listing c.args.entry.now.object) (relisting_apart (λ ids. ids ++ c.args.entry.now.object ∷ []))
+    (state_then c.args.self.now.pieces c.args.self.now.sound c.args.container c.args.entry.now (kind_bare c.args.self.now.pieces kinds.Container c.args.container true c.requires.container) (holds_bare c.args.self.now.pieces c.args.entry.now c.requires.held) (kind_bare c.args.self.now.pieces kinds.Container c.args.entry.now.object false c.requires.plain) (fixed_bare c.args.self.now.pieces c.args.entry.now.object true c.requires.fixed) (listed_bare c.args.self.now.pieces c.args.container c.args.entry.now.object false c.requires.unlisted) (linked_bare c.args.self.now.pieces c.args.self.now.sound c.args.self.now.stocked c.args.container c.args.entry.now.object c.requires.room)
     c.in-Some.parent.0 c.in-Some-slot.object.0 c.in-Some.ensures.found.has c.in-Some-slot.ensures.found.has
     c.index.result.now c.index_mut-charged.result.now c.index.ensures c.index_mut-charged.ensures.value
-    q refl refl refl (λ i. (c.link.ensures.linked i).lists) (λ i. (c.link.ensures.linked i).slots) (ap (λ t. length t.cells) c.link.ensures.linked) c.len-count.ensures.well_formed refl c.charge.new.given c.charge.ensures refl
+    q refl refl refl (λ i. (c.link.ensures.linked i).lists) (λ i. (c.link.ensures.linked i).slots) (ap (λ t. length t.cells) c.link.ensures.linked) c.len-count.ensures.well_formed refl c.charge.new.given c.charge.ensures refl)

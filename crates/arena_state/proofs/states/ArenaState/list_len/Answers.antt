@@ -1,5 +1,5 @@
 use Rattle.std.proofs.Common.{List, ℕ, length, sym, ap, ◌∙◌}
-use Rattle.arena_state.proofs.ViewLaws.{listed_is}
+use Rattle.arena_state.proofs.WholeLaws.{listed_is}
 use Rattle.arena_state.proofs.states.ArenaState.list_len.Goals as goal
 
 pub returns-in-Some-clause-value : goal.returns-in-Some-clause-value

@@ -1,5 +1,5 @@
 use Rattle.std.proofs.Common.{◌∙◌}
-use Rattle.arena_state.proofs.ViewLaws.{links_is}
+use Rattle.arena_state.proofs.WholeLaws.{links_is}
 use Rattle.arena_state.proofs.states.ArenaState.lists.Goals as goal
 
 pub returns-clause-value : goal.returns-clause-value

@@ -4,8 +4,8 @@ use Rattle.base.specs.Live.{has}
 use Rattle.base.specs.declared.ids.Slot.{Slot}
 use Rattle.kernel_rules.specs.State.{object_at, of_object, list_at, listed}
 use Rattle.arena_state.specs.States.{state_of, HasRow}
-use Rattle.arena_state.proofs.ViewLaws.{links_is}
-use Rattle.arena_state.proofs.StepLaws.{object_there}
+use Rattle.arena_state.proofs.WholeLaws.{links_is}
+use Rattle.arena_state.proofs.WholeLaws.{object_there}
 use Rattle.arena_state.proofs.states.ArenaState.lists_found.Goals as goal
 
 pub is_linked-requires-clause-container : goal.is_linked-requires-clause-container

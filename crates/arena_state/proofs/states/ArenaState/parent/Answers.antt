@@ -1,4 +1,4 @@
-use Rattle.arena_state.proofs.ParentLaws.{container_there, parent_is, parent_none}
+use Rattle.arena_state.proofs.WholeLaws.{container_there, parent_is, parent_none}
 use Rattle.arena_state.proofs.states.ArenaState.parent.Goals as goal
 
 pub parent-requires : goal.parent-requires

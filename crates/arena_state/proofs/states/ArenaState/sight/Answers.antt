@@ -7,6 +7,7 @@ use Rattle.kernel_store.specs.Sights.{is_of}
 use Rattle.kernel_store.specs.declared.sights.Seen.{Seen}
 use Rattle.kernel_store.proofs.SightLaws.{kind_seen}
 use Rattle.arena_state.specs.States.{state_of}
+use Rattle.arena_state.proofs.StockLaws.{whole_formed}
 use Rattle.arena_state.proofs.states.ArenaState.sight.Goals as goal
 use Rattle.arena_state.proofs.states.ArenaState.sight.Goals.{then-holds, else-holds, then-holds-2+then-listed, then-holds-2+else-listed, else-holds-2}
 
@@ -19,7 +20,7 @@ returns-clause-value c =
     = c.is-holds.ensures ∙ ap (λ (z : Seen). is_of kinds.Container z.kind) c.seen-around.ensures
     ∙ kind_seen s kinds.Container e.container in
     let live : c.is-holds.result ≡ is_live_kind s kinds.Container e.container
-    = kind ∙ live_kind s kinds.Container e.container c.args.self.now.sound.formed in
+    = kind ∙ live_kind s kinds.Container e.container (whole_formed c.args.self.now.pieces c.args.self.now.sound c.args.self.now.stocked) in
     let accessible : c.if-holds.result ≡ is_accessible s t e.container
     = elim c.if-holds.branch [
       | then-holds w ↦ w.result-is ∙ ap (λ (z : Seen). z.observed) c.seen-around.ensures

@@ -1,5 +1,6 @@
 use Rattle.std.proofs.Common.{◌∙◌, sym}
 use Rattle.arena_state.specs.States.{state_of}
+use Rattle.arena_state.proofs.StockLaws.{whole_formed}
 use Rattle.arena_state.proofs.UnlistedLaws.{unlisted_state}
 use Rattle.arena_state.proofs.states.ArenaState.unref.Goals as goal
 
@@ -8,5 +9,5 @@ unlink-requires c = record { listed = sym c.lists.ensures.value ∙ c.if-lists.t
 
 pub returns-else-lists-clause-state : goal.returns-else-lists-clause-state
 returns-else-lists-clause-state c =
-    unlisted_state (state_of c.args.self.now) c.args.entry.now.container c.args.entry.now.object c.args.self.now.sound.formed
+    unlisted_state (state_of c.args.self.now) c.args.entry.now.container c.args.entry.now.object (whole_formed c.args.self.now.pieces c.args.self.now.sound c.args.self.now.stocked)
     (sym c.lists.ensures.value ∙ c.if-lists.false)

@@ -1,0 +1,140 @@
+//! What is read of the contents of objects: a segment's bytes, the slots of an address space, a device's packets. No
+//! label is scanned.
+ghost use Rattle.std.specs.Prelude.{◌≡◌, ◌≤◌, ◌+◌, ◌*◌, length, nat_lt, slice_range};
+ghost use Rattle.kernel_rules.specs.State.{bytes_at, packets_at, page_count, slots_at};
+ghost use Rattle.kernel_rules.specs.Translate.{slot_at};
+ghost use Rattle.arena_state.specs.Contents.{keeps_device};
+ghost use Rattle.arena_state.specs.States.{state_of};
+ghost use Rattle.arena_state.specs.Stocked.{kept_pages, keeps_space};
+
+use crate::records::Kept;
+use crate::states::ArenaState;
+use base::{Data, Meter, ObjectId};
+use kernel_rules::Mapping;
+
+impl Kept {
+    // Whether it is an address space.
+    pub(crate) fn is_space(&self) -> bool
+        ensures { result ≡ keeps_space self.now }
+    {
+        match self {
+            Kept::AddressSpace => true,
+            Kept::Container(_, _)
+            | Kept::Segment(_)
+            | Kept::Thread(_)
+            | Kept::Gate(_)
+            | Kept::Device => false,
+        }
+    }
+
+    // Whether it is a device.
+    pub(crate) fn is_device(&self) -> bool
+        ensures { result ≡ keeps_device self.now }
+    {
+        match self {
+            Kept::Device => true,
+            Kept::Container(_, _)
+            | Kept::Segment(_)
+            | Kept::AddressSpace
+            | Kept::Thread(_)
+            | Kept::Gate(_) => false,
+        }
+    }
+
+    // How many pages of bytes it has.
+    fn pages(&self) -> u32
+        ensures { result ≡ kept_pages self.now }
+    {
+        match self {
+            Kept::Segment(pages) => *pages,
+            Kept::Container(_, _)
+            | Kept::AddressSpace
+            | Kept::Thread(_)
+            | Kept::Gate(_)
+            | Kept::Device => 0,
+        }
+    }
+}
+
+impl ArenaState {
+    /// The whole pages of a segment, of 256 bytes: 0 for any other object.
+    pub fn page_count(&self, id: ObjectId, meter: &mut Meter) -> u32
+        ensures value { result ≡ page_count (state_of self.now) id }
+        ensures scans { meter.new.scans ≡ meter.old.scans }
+    {
+        match self.row(id, meter) {
+            Some(row) => row.body.pages(),
+            None => 0,
+        }
+    }
+
+    /// Whether so many bytes from `offset` on go past the whole pages of a segment.
+    pub fn is_past(&self, id: ObjectId, offset: u32, count: u32, meter: &mut Meter) -> bool
+        ensures value { result ≡ nat_lt (256 * page_count (state_of self.now) id) (offset + count) }
+        ensures scans { meter.new.scans ≡ meter.old.scans }
+    {
+        256 * u64::from(self.page_count(id, meter)) < u64::from(offset) + u64::from(count)
+    }
+
+    /// So many bytes of a segment, from one on, up to 64.
+    pub fn bytes_from(&self, id: ObjectId, from: usize, count: u32, meter: &mut Meter) -> Data
+        requires few { count ≤ 64 }
+        requires inside { from + count ≤ length (bytes_at (state_of self.now) id) }
+        ensures value { result ≡ slice_range (bytes_at (state_of self.now) id) from (from + count) }
+        ensures scans { meter.new.scans ≡ meter.old.scans }
+    {
+        match self.slot(id, meter) {
+            Some(slot) => {
+                let segments = &self.pieces.holdings.segments;
+                segments.read(slot, from, count as usize, meter)
+            }
+            None => Data::from_slice(&[]),
+        }
+    }
+
+    /// The sixteen slots of an address space, and none for any other object.
+    pub fn slots(&self, id: ObjectId, meter: &mut Meter) -> &[Option<Mapping>]
+        ensures value { result.now ≡ slots_at (state_of self.now) id }
+        ensures few { length result.now ≤ 16 }
+        ensures scans { meter.new.scans ≡ meter.old.scans }
+    {
+        match self.slot(id, meter) {
+            Some(slot) => {
+                if self.pieces.holdings.records[slot.0].body.is_space() {
+                    self.pieces.holdings.spaces.mappings(slot)
+                } else {
+                    &[]
+                }
+            }
+            None => &[],
+        }
+    }
+
+    /// What a slot of an address space maps, if anything.
+    pub fn mapped(&self, id: ObjectId, place: usize, meter: &mut Meter) -> Option<Mapping>
+        ensures value { result ≡ slot_at (state_of self.now) id place }
+        ensures scans { meter.new.scans ≡ meter.old.scans }
+    {
+        match self.slots(id, meter).get(place) {
+            None => None,
+            Some(mapping) => *mapping,
+        }
+    }
+
+    /// A device's packets, the first one first, and none for any other object.
+    pub fn packets(&self, id: ObjectId, meter: &mut Meter) -> &[Data]
+        ensures value { result.now ≡ packets_at (state_of self.now) id }
+        ensures scans { meter.new.scans ≡ meter.old.scans }
+    {
+        match self.slot(id, meter) {
+            Some(slot) => {
+                if self.pieces.holdings.records[slot.0].body.is_device() {
+                    self.pieces.holdings.queues.packets(slot)
+                } else {
+                    &[]
+                }
+            }
+            None => &[],
+        }
+    }
+}

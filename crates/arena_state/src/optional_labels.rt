@@ -1,0 +1,172 @@
+//! Creations and changes of labels that may be none, as a call that stores a label gives it: where there is no label
+//! nothing changes.
+ghost use Rattle.std.specs.Prelude.{◌≡◌, ◌*◌, [], replicate, None, IfSome};
+ghost use Rattle.label_lattice.specs.Label.{IsStored};
+ghost use Rattle.kernel_rules.specs.Changes.{changed, cleared, labelled};
+ghost use Rattle.kernel_rules.specs.Fitting.{IsFitting};
+ghost use Rattle.kernel_rules.specs.State.{bytes_at};
+ghost use Rattle.kernel_rules.specs.Step.{made_of, new_thread, with_value};
+ghost use Rattle.kernel_rules.specs.declared.objects.Body.TheVariants as is;
+ghost use Rattle.arena_state.specs.States.{state_of};
+
+use crate::states::ArenaState;
+use base::{Meter, ObjectId, TypeSet};
+use kernel_rules::Gate;
+use label_lattice::Label;
+
+impl ArenaState {
+    /// A new container as `create_container` makes it, where there is a label; else nothing changes. The next id is told.
+    pub fn make_container(
+        &mut self,
+        container: ObjectId,
+        label: Option<Label>,
+        quota: u32,
+        avoid: TypeSet,
+        meter: &mut Meter,
+    ) -> ObjectId
+        requires fitting { IsFitting (state_of self.old) container quota (is.Container avoid []) }
+        requires label { IfSome label IsStored }
+        ensures id { result ≡ (state_of self.old).next_id }
+        ensures state { state_of self.new ≡ made_of (state_of self.old) container label quota
+            (is.Container avoid []) }
+    {
+        match label {
+            Some(label) => self.create_container(container, &label, quota, avoid, meter),
+            None => self.next_id(),
+        }
+    }
+
+    /// A new segment as `create_segment` makes it, where there is a label; else nothing changes. The next id is told.
+    pub fn make_segment(
+        &mut self,
+        container: ObjectId,
+        label: Option<Label>,
+        quota: u32,
+        pages: u32,
+        meter: &mut Meter,
+    ) -> ObjectId
+        requires fitting { IsFitting (state_of self.old) container quota
+            (is.Segment (replicate (256 * pages) 0)) }
+        requires label { IfSome label IsStored }
+        ensures id { result ≡ (state_of self.old).next_id }
+        ensures state { state_of self.new ≡ made_of (state_of self.old) container label quota
+            (is.Segment (replicate (256 * pages) 0)) }
+    {
+        match label {
+            Some(label) => self.create_segment(container, &label, quota, pages, meter),
+            None => self.next_id(),
+        }
+    }
+
+    /// A new segment as `create_copy` makes it, where there is a label; else nothing changes. The next id is told.
+    pub fn make_copy(
+        &mut self,
+        container: ObjectId,
+        label: Option<Label>,
+        quota: u32,
+        source: ObjectId,
+        meter: &mut Meter,
+    ) -> ObjectId
+        requires fitting { IsFitting (state_of self.old) container quota
+            (is.Segment (bytes_at (state_of self.old) source)) }
+        requires label { IfSome label IsStored }
+        ensures id { result ≡ (state_of self.old).next_id }
+        ensures state { state_of self.new ≡ made_of (state_of self.old) container label quota
+            (is.Segment (bytes_at (state_of self.old) source)) }
+    {
+        match label {
+            Some(label) => self.create_copy(container, &label, quota, source, meter),
+            None => self.next_id(),
+        }
+    }
+
+    /// A new address space as `create_space` makes it, where there is a label; else nothing changes. The next id is
+    /// told.
+    pub fn make_space(
+        &mut self,
+        container: ObjectId,
+        label: Option<Label>,
+        quota: u32,
+        meter: &mut Meter,
+    ) -> ObjectId
+        requires fitting { IsFitting (state_of self.old) container quota
+            (is.AddressSpace (record { slots = replicate 16 None })) }
+        requires label { IfSome label IsStored }
+        ensures id { result ≡ (state_of self.old).next_id }
+        ensures state { state_of self.new ≡ made_of (state_of self.old) container label quota
+            (is.AddressSpace (record { slots = replicate 16 None })) }
+    {
+        match label {
+            Some(label) => self.create_space(container, &label, quota, meter),
+            None => self.next_id(),
+        }
+    }
+
+    /// A new thread as `create_thread` makes it, where there is a label; else nothing changes. The next id is told.
+    pub fn make_thread(
+        &mut self,
+        container: ObjectId,
+        label: Option<Label>,
+        quota: u32,
+        clearance: Label,
+        entry_point: u64,
+        meter: &mut Meter,
+    ) -> ObjectId
+        requires fitting { IsFitting (state_of self.old) container quota
+            (new_thread clearance entry_point) }
+        requires label { IfSome label IsStored }
+        ensures id { result ≡ (state_of self.old).next_id }
+        ensures state { state_of self.new ≡ made_of (state_of self.old) container label quota
+            (new_thread clearance entry_point) }
+    {
+        match label {
+            Some(label) => {
+                self.create_thread(container, &label, quota, &clearance, entry_point, meter)
+            }
+            None => self.next_id(),
+        }
+    }
+
+    /// A new gate as `create_gate` makes it, where there is a label; else nothing changes. The next id is told.
+    pub fn make_gate(
+        &mut self,
+        container: ObjectId,
+        label: Option<Label>,
+        quota: u32,
+        gate: Gate,
+        meter: &mut Meter,
+    ) -> ObjectId
+        requires fitting { IsFitting (state_of self.old) container quota (is.Gate gate) }
+        requires label { IfSome label IsStored }
+        ensures id { result ≡ (state_of self.old).next_id }
+        ensures state { state_of self.new ≡ made_of (state_of self.old) container label quota
+            (is.Gate gate) }
+    {
+        match label {
+            Some(label) => self.create_gate(container, &label, quota, &gate, meter),
+            None => self.next_id(),
+        }
+    }
+
+    /// A thread gets this label, where it is there; else nothing changes.
+    pub fn give_label(&mut self, thread: ObjectId, label: Option<Label>, meter: &mut Meter)
+        requires { IfSome label IsStored }
+        ensures { state_of self.new ≡ with_value (state_of self.old) label
+            (λ l. changed (state_of self.old) thread (labelled l)) }
+    {
+        if let Some(label) = label {
+            self.set_label(thread, &label, meter);
+        }
+    }
+
+    /// A thread gets this clearance, where it is there; else nothing changes.
+    pub fn give_clearance(&mut self, thread: ObjectId, clearance: Option<Label>, meter: &mut Meter)
+        requires { IfSome clearance IsStored }
+        ensures { state_of self.new ≡ with_value (state_of self.old) clearance
+            (λ c. changed (state_of self.old) thread (cleared c)) }
+    {
+        if let Some(clearance) = clearance {
+            self.set_clearance(thread, &clearance, meter);
+        }
+    }
+}

@@ -1,4 +1,0 @@
-use Rattle.plain_tables.proofs.recomputing.+add_slots.Given as goal
-
-abbrev pub decreases-add_slots : goal.decreases-add_slots
-decreases-add_slots l = l.count

@@ -1,0 +1,14 @@
+use Rattle.std.proofs.Common.{arith, length-set}
+use Rattle.segments.proofs.Rows.{popped, popped_view}
+use Rattle.segments.proofs.frames.Frames.pop.Goals as goal
+
+pub invariant_of-self : goal.invariant_of-self
+invariant_of-self c =
+    let a = c.self.inside in
+    let kept = popped a.frames.items a.tables.items a.free.items c.self.invariant.0 _ c.self.view_is c.args.slot _ c.requires.slot c.index_mut-table.ensures.value c.requires.some _ c.pop-frame.ensures.rest _ _ c.pop-frame.ensures.last c.push_reserved.ensures.items in
+    (kept, omega (arith, c.self.invariant.1, length-set a.tables.items c.args.slot c.pop-frame.new.self), omega (arith, c.self.invariant.2, c.push_reserved.ensures.capacity))
+
+pub returns-clause-after : goal.returns-clause-after
+returns-clause-after c =
+    let a = c.self.inside in
+    popped_view a.frames.items a.tables.items a.free.items c.self.invariant.0 _ c.self.view_is c.args.slot _ c.requires.slot c.index_mut-table.ensures.value c.requires.some _ c.pop-frame.ensures.rest

@@ -1,0 +1,155 @@
+//! The arena kernel: what it keeps equals recomputation, and no call takes memory after boot.
+ghost use Rattle.std.specs.Prelude.{◌≡◌, ◌↔◌, true, false, IfOk, IfSome, IfNone, IsErrOf, None, option_copied};
+ghost use Rattle.std.specs.Prelude.{option_map, slice_get};
+ghost use Rattle.base.specs.Limits.{in_range};
+ghost use Rattle.base.specs.declared.kinds.Kind.TheVariants as kinds;
+ghost use Rattle.kernel_rules.specs.Scratch.{ids_of, scratch};
+ghost use Rattle.kernel_rules.specs.State.{is_live_kind, object_at, use_of};
+ghost use Rattle.kernel_rules.specs.Runs.{booted};
+ghost use Rattle.arena_state.specs.Kept.{label_kept, order_kept};
+ghost use Rattle.arena_state.specs.States.{state_of};
+
+use arena_state::ArenaState;
+use base::{Kind, Limits, Meter, NoMemory, ObjectId};
+use kernel_calls::{ask, step_surely};
+use kernel_rules::{Call, Query, Reply, Tables};
+use kernel_tables::tables;
+use label_intern::{LabelIx, OrderBits};
+use label_lattice::Label;
+use plain_core::{BootRefusal, Machine};
+use std::alloc::Global;
+
+/// A label kernel that takes all its memory at boot and keeps what its calls decide by: label orders,
+/// uses and live ids. A contract sees it as its state, which is well formed at all times.
+#[derive(Drop)]
+pub struct Kernel {
+    alloc: Global,
+    pub(crate) state: ArenaState,
+}
+
+/// A booted state, for limits in range. Want of memory is the only error.
+fn booted_state(alloc: Global, limits: &Limits) -> Result<ArenaState, NoMemory>
+    requires { in_range limits.now ≡ true }
+    ensures { IfOk result (λ state. state_of state ≡ booted limits.now) }
+{
+    let mut meter = Meter::new(alloc)?;
+    ArenaState::boot(alloc, limits, &mut meter)
+}
+
+impl Kernel {
+    ghost use Rattle.kernel_rules.specs.Runs.{booted};
+    ghost use Rattle.syscall_core.specs.Kernel.{kernel_state};
+
+    /// A newly booted kernel: the root container 1, the boot thread 2 and the device 3. All its memory
+    /// is taken here. The error is `BadLimits` exactly where a limit is out of its range, and else, for
+    /// want of memory, `Unavailable`.
+    pub fn boot(alloc: Global, limits: &Limits) -> Result<Kernel, BootRefusal>
+        ensures state { IfOk result (λ kernel. kernel_state kernel ≡ booted limits.now) }
+        ensures limits { IsErrOf result BootRefusal.BadLimits ↔ (in_range limits.now ≡ false) }
+    {
+        if !limits.is_in_range() {
+            return Err(BootRefusal::BadLimits);
+        }
+        match booted_state(alloc, limits) {
+            Ok(state) => Ok(Kernel { alloc, state }),
+            Err(_) => Err(BootRefusal::Unavailable),
+        }
+    }
+
+    /// The tables of the kernel's state, recomputed by its calls. Want of memory is the only error.
+    pub fn tables(&self, meter: &mut Meter) -> Result<Tables, NoMemory>
+        ensures { IfOk result (λ tables. tables ≡ scratch (kernel_state self.now)) }
+    {
+        tables(self.alloc, self, meter)
+    }
+
+    /// Whether an id is that of a live thread. No label is scanned.
+    pub fn is_thread(&self, thread: ObjectId, meter: &mut Meter) -> bool
+        ensures value { result ≡ is_live_kind (kernel_state self.now) kinds.Thread thread }
+        ensures scans { meter.new.scans ≡ meter.old.scans }
+    {
+        self.state.is_live_kind(Kind::Thread, thread, meter)
+    }
+
+    /// The label of an index, none where it has none. Each stored label has one index.
+    pub fn kept_label(&self, index: LabelIx) -> Option<&Label>
+        ensures { option_copied result ≡ label_kept self.now.state index.0 }
+    {
+        self.state.kept_label(index)
+    }
+
+    /// How the label of an index compares with that of another, none where one has none. No label is
+    /// scanned.
+    pub fn kept_order(&self, one: LabelIx, other: LabelIx) -> Option<OrderBits>
+        ensures { option_map (λ o. o.0) result ≡ order_kept self.now.state one.0 other.0 }
+    {
+        self.state.kept_order(one, other)
+    }
+
+    /// What a live object uses, in pages of 256 bytes, as it is kept; none for any other id.
+    pub fn kept_use(&self, id: ObjectId, meter: &mut Meter) -> Option<u32>
+        ensures some { IfSome result (λ pages. pages ≡ use_of (kernel_state self.now) id) }
+        ensures none { IfNone result (object_at (kernel_state self.now) id ≡ None) }
+        ensures scans { meter.new.scans ≡ meter.old.scans }
+    {
+        self.state.kept_use(id, meter)
+    }
+
+    /// The id at a place among the live ids, which rise, from 0 on; none from their number on.
+    pub fn kept_live(&self, place: usize, meter: &mut Meter) -> Option<ObjectId>
+        ensures value { result ≡ slice_get (ids_of (kernel_state self.now).objects) place }
+        ensures scans { meter.new.scans ≡ meter.old.scans }
+    {
+        self.state.kept_live(place, meter)
+    }
+}
+
+impl Kernel {
+    ghost use Rattle.kernel_rules.specs.Step.{answer, next, query_answer};
+    ghost use Rattle.kernel_calls.specs.Quiet.{is_quiet};
+    ghost use Rattle.syscall_core.specs.Kernel.{kernel_state};
+
+    /// One call of a thread that may change the state, as `Machine::step` says; it takes no memory, so
+    /// there is no error. A call that names no label and makes none scans none, refused or not.
+    pub fn step_surely(&mut self, thread: ObjectId, call: &Call, meter: &mut Meter) -> Reply
+        ensures reply { result ≡ answer (kernel_state self.old) thread call.now }
+        ensures state { kernel_state self.new ≡ next (kernel_state self.old) thread call.now }
+        ensures quiet { is_quiet call.now ≡ true → meter.new.scans ≡ meter.old.scans }
+    {
+        step_surely(self, thread, call, meter)
+    }
+
+    /// One query of a thread, as `Machine::ask` says; it takes no memory, so there is no error. No label
+    /// is scanned.
+    pub fn ask_surely(&self, thread: ObjectId, query: &Query, meter: &mut Meter) -> Reply
+        ensures reply { result ≡ query_answer (kernel_state self.now) thread query.now }
+        ensures scans { meter.new.scans ≡ meter.old.scans }
+    {
+        ask(self, thread, query, meter)
+    }
+}
+
+impl Machine for Kernel {
+    ghost use Rattle.std.specs.Prelude.{IsOk, IfOk, OnOk, OnErr, ◌≡◌};
+    ghost use Rattle.kernel_rules.specs.Step.{answer, next, query_answer};
+    ghost use Rattle.syscall_core.specs.Kernel.{kernel_state};
+
+    ghost state = { kernel_state };
+
+    fn step(&mut self, thread: ObjectId, call: &Call, meter: &mut Meter) -> Result<Reply, NoMemory>
+        ensures reply { IfOk result (λ reply. reply ≡ answer (kernel_state self.old) thread call.now) }
+        ensures ok { OnOk result (kernel_state self.new ≡ next (kernel_state self.old) thread call.now) }
+        ensures err { OnErr result (kernel_state self.new ≡ kernel_state self.old) }
+        ensures sure { IsOk result }
+    {
+        Ok(self.step_surely(thread, call, meter))
+    }
+
+    fn ask(&self, thread: ObjectId, query: &Query, meter: &mut Meter) -> Result<Reply, NoMemory>
+        ensures reply { IfOk result
+            (λ reply. reply ≡ query_answer (kernel_state self.now) thread query.now) }
+        ensures sure { IsOk result }
+    {
+        Ok(self.ask_surely(thread, query, meter))
+    }
+}

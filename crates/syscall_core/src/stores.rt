@@ -1,0 +1,336 @@
+//! The arena kernel as what calls keep objects in: it takes no memory after its boot, and a call that compares only
+//! labels which are kept scans none.
+ghost use Rattle.std.specs.Prelude.{◌≡◌};
+
+use crate::kernel::Kernel;
+use base::{Data, Kind, Meter, ObjectId, Rights, TypeSet};
+use kernel_rules::{Entry, Gate, Ids, Mapping, Place, Thread};
+use kernel_store::{Seen, Sight, Store};
+use label_lattice::Label;
+use std::convert::Infallible;
+
+impl Store for Kernel {
+    ghost use Rattle.syscall_core.specs.Kernel.{kernel_state};
+    ghost use Rattle.arena_state.proofs.StockLaws.{whole_formed};
+
+    ghost state = { kernel_state };
+
+    ghost kept = { λ m. m.scans };
+
+    ghost spends = { λ n a b. Unit {0} };
+
+    type Want = Infallible;
+
+    fn is_live_kind(&self, kind: Kind, id: ObjectId, meter: &mut Meter) -> bool {
+        self.state.is_live_kind(kind, id, meter)
+    }
+
+    fn look(&self, thread: ObjectId, id: ObjectId, meter: &mut Meter) -> Seen {
+        self.state.look(thread, id, meter)
+    }
+
+    fn sight(&self, thread: ObjectId, entry: &Entry, meter: &mut Meter) -> Sight {
+        self.state.sight(thread, entry, meter)
+    }
+
+    fn is_there(&self, id: ObjectId, meter: &mut Meter) -> bool {
+        self.state.is_there(id, meter)
+    }
+
+    fn is_cleared(&self, thread: ObjectId, id: ObjectId, meter: &mut Meter) -> bool {
+        self.state.is_cleared(thread, id, meter)
+    }
+
+    fn label(&self, id: ObjectId, meter: &mut Meter) -> Option<&Label> {
+        self.state.label(id, meter)
+    }
+
+    fn clearance(&self, thread: ObjectId, meter: &mut Meter) -> Option<&Label> {
+        self.state.clearance(thread, meter)
+    }
+
+    fn is_fixed(&self, id: ObjectId, meter: &mut Meter) -> bool {
+        self.state.is_fixed(id, meter)
+    }
+
+    fn is_immutable(&self, id: ObjectId, meter: &mut Meter) -> bool {
+        self.state.is_immutable(id, meter)
+    }
+
+    fn quota(&self, id: ObjectId, meter: &mut Meter) -> u32 {
+        self.state.quota(id, meter)
+    }
+
+    fn used_pages(&self, id: ObjectId, meter: &mut Meter) -> u32 {
+        self.state.used_pages(id, meter)
+    }
+
+    fn is_over(&self, container: ObjectId, pages: u32, meter: &mut Meter) -> bool {
+        self.state.is_over(container, pages, meter)
+    }
+
+    fn avoids(&self, kind: Kind, id: ObjectId, meter: &mut Meter) -> bool {
+        self.state.avoids(kind, id, meter)
+    }
+
+    fn avoids_kind_of(&self, container: ObjectId, id: ObjectId, meter: &mut Meter) -> bool {
+        self.state.avoids_kind_of(container, id, meter)
+    }
+
+    fn joined(&self, container: ObjectId, kinds: TypeSet, meter: &mut Meter) -> TypeSet {
+        self.state.joined(container, kinds, meter)
+    }
+
+    fn list_len(&self, container: ObjectId, meter: &mut Meter) -> usize {
+        self.state.list_len(container, meter)
+    }
+
+    fn ids_from(&self, container: ObjectId, from: u32, meter: &mut Meter) -> Ids {
+        self.state.ids_from(container, from, meter)
+    }
+
+    fn parent(&self, container: ObjectId, meter: &mut Meter) -> ObjectId {
+        self.state.parent(container, meter)
+    }
+
+    fn is_past(&self, id: ObjectId, offset: u32, count: u32, meter: &mut Meter) -> bool {
+        self.state.is_past(id, offset, count, meter)
+    }
+
+    fn bytes_from(&self, id: ObjectId, from: usize, count: u32, meter: &mut Meter) -> Data {
+        self.state.bytes_from(id, from, count, meter)
+    }
+
+    fn place(&self, thread: ObjectId, address: u64, meter: &mut Meter) -> Option<Place> {
+        self.state.place(thread, address, meter)
+    }
+
+    fn is_shown(&self, thread: ObjectId, id: ObjectId, meter: &mut Meter) -> bool {
+        self.state.is_shown(thread, id, meter)
+    }
+
+    fn page_count(&self, id: ObjectId, meter: &mut Meter) -> u32 {
+        self.state.page_count(id, meter)
+    }
+
+    fn slots(&self, id: ObjectId, meter: &mut Meter) -> &[Option<Mapping>] {
+        self.state.slots(id, meter)
+    }
+
+    fn slot(&self, id: ObjectId, slot: usize, meter: &mut Meter) -> Option<Mapping> {
+        self.state.mapped(id, slot, meter)
+    }
+
+    fn packets(&self, id: ObjectId, meter: &mut Meter) -> &[Data] {
+        self.state.packets(id, meter)
+    }
+
+    fn metadata(&self, id: ObjectId, meter: &mut Meter) -> Option<Data> {
+        self.state.metadata(id, meter)
+    }
+
+    fn gate(&self, id: ObjectId, meter: &mut Meter) -> Option<Gate> {
+        self.state.gate(id, meter)
+    }
+
+    fn thread(&self, id: ObjectId, meter: &mut Meter) -> Option<Thread> {
+        self.state.thread(id, meter)
+    }
+
+    fn translate(
+        &self,
+        thread: ObjectId,
+        slot: usize,
+        meter: &mut Meter,
+    ) -> Option<(ObjectId, Rights)> {
+        self.state.translate(thread, slot, meter)
+    }
+
+    fn id_at(&self, place: usize, meter: &mut Meter) -> Option<ObjectId> {
+        self.state.kept_live(place, meter)
+    }
+
+    fn next_id(&self) -> ObjectId {
+        self.state.next_id()
+    }
+
+    fn next_category(&self) -> u64 {
+        self.state.next_category()
+    }
+
+    fn link(
+        &mut self,
+        container: ObjectId,
+        entry: &Entry,
+        meter: &mut Meter,
+    ) -> Result<(), Infallible> {
+        self.state.link(container, entry, meter);
+        Ok(())
+    }
+
+    fn unref(&mut self, entry: &Entry, meter: &mut Meter) -> Result<(), Infallible> {
+        self.state.unref(entry, meter);
+        Ok(())
+    }
+
+    fn set_fixed(&mut self, id: ObjectId, meter: &mut Meter) {
+        self.state.set_fixed(id, meter);
+    }
+
+    fn quota_move(&mut self, entry: &Entry, up: u32, down: u32, meter: &mut Meter) {
+        self.state.quota_move(entry, up, down, meter);
+    }
+
+    fn write_bytes(&mut self, id: ObjectId, at: usize, given: &[u8], meter: &mut Meter) {
+        self.state.write_bytes(id, at, given, meter);
+    }
+
+    fn resize(&mut self, id: ObjectId, pages: u32, meter: &mut Meter) -> Result<(), Infallible> {
+        self.state.resize(id, pages, meter);
+        Ok(())
+    }
+
+    fn set_slot(&mut self, id: ObjectId, slot: usize, mapping: Option<Mapping>, meter: &mut Meter) {
+        self.state.set_slot(id, slot, mapping, meter);
+    }
+
+    fn dev_send(
+        &mut self,
+        id: ObjectId,
+        packet: Data,
+        meter: &mut Meter,
+    ) -> Result<(), Infallible> {
+        self.state.dev_send(id, packet, meter);
+        Ok(())
+    }
+
+    fn dev_recv(&mut self, id: ObjectId, meter: &mut Meter) {
+        self.state.dev_recv(id, meter);
+    }
+
+    fn set_immutable(&mut self, id: ObjectId, meter: &mut Meter) {
+        self.state.set_immutable(id, meter);
+    }
+
+    fn meta_set(&mut self, id: ObjectId, given: &Data, meter: &mut Meter) {
+        self.state.meta_set(id, given, meter);
+    }
+
+    fn set_label(&mut self, thread: ObjectId, label: Option<Label>, meter: &mut Meter) {
+        self.state.give_label(thread, label, meter);
+    }
+
+    fn set_clearance(&mut self, thread: ObjectId, clearance: Option<Label>, meter: &mut Meter) {
+        self.state.give_clearance(thread, clearance, meter);
+    }
+
+    fn set_space(&mut self, thread: ObjectId, space: Entry, meter: &mut Meter) {
+        self.state.set_space(thread, space, meter);
+    }
+
+    fn own_category(
+        &mut self,
+        thread: ObjectId,
+        label: Option<Label>,
+        clearance: Option<Label>,
+        meter: &mut Meter,
+    ) {
+        self.state.own_category(thread, label, clearance, meter);
+    }
+
+    fn enter(
+        &mut self,
+        thread: ObjectId,
+        label: Label,
+        clearance: Label,
+        verify: Label,
+        gate: &Gate,
+        meter: &mut Meter,
+    ) {
+        self.state
+            .enter(thread, &label, &clearance, &verify, gate, meter);
+    }
+
+    fn create_container(
+        &mut self,
+        container: ObjectId,
+        label: Option<Label>,
+        quota: u32,
+        kinds: TypeSet,
+        meter: &mut Meter,
+    ) -> Result<ObjectId, Infallible> {
+        Ok(
+            self.state
+                .make_container(container, label, quota, kinds, meter),
+        )
+    }
+
+    fn create_segment(
+        &mut self,
+        container: ObjectId,
+        label: Option<Label>,
+        quota: u32,
+        pages: u32,
+        meter: &mut Meter,
+    ) -> Result<ObjectId, Infallible> {
+        Ok(
+            self.state
+                .make_segment(container, label, quota, pages, meter),
+        )
+    }
+
+    fn create_copy(
+        &mut self,
+        container: ObjectId,
+        label: Option<Label>,
+        quota: u32,
+        source: ObjectId,
+        meter: &mut Meter,
+    ) -> Result<ObjectId, Infallible> {
+        Ok(self.state.make_copy(container, label, quota, source, meter))
+    }
+
+    fn create_space(
+        &mut self,
+        container: ObjectId,
+        label: Option<Label>,
+        quota: u32,
+        meter: &mut Meter,
+    ) -> Result<ObjectId, Infallible> {
+        Ok(self.state.make_space(container, label, quota, meter))
+    }
+
+    fn create_thread(
+        &mut self,
+        container: ObjectId,
+        label: Option<Label>,
+        quota: u32,
+        clearance: Label,
+        entry_point: u64,
+        meter: &mut Meter,
+    ) -> Result<ObjectId, Infallible> {
+        Ok(
+            self.state
+                .make_thread(container, label, quota, clearance, entry_point, meter),
+        )
+    }
+
+    fn create_gate(
+        &mut self,
+        container: ObjectId,
+        label: Option<Label>,
+        quota: u32,
+        gate: Gate,
+        meter: &mut Meter,
+    ) -> Result<ObjectId, Infallible> {
+        Ok(self.state.make_gate(container, label, quota, gate, meter))
+    }
+
+    ghost sound = { λ s. whole_formed s.state.pieces s.state.sound s.state.stocked };
+
+    ghost none_spent = { λ m. tt };
+
+    ghost more_spent = { λ a b l m h k. tt };
+
+    ghost both_spent = { λ a b l m n h k. tt };
+}
