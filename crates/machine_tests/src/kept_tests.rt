@@ -26,6 +26,7 @@ fn what_is_kept_is_told(rt: HostRuntime) -> Result<(), Fail> {
     assert_eq!(rt; stored, 3);
     let reply = kernel.step_surely(boot_thread(), &Call::CatCreate, &mut meter);
     assert!(rt; matches!(reply, Reply::Category(_)));
-    assert_eq!(rt; kernel.tables(&mut meter)?.labels.len(), 5);
+    // {1}, {3}, and what the boot thread has now: {1:*,1} and {1:3,2}.
+    assert_eq!(rt; kernel.tables(&mut meter)?.labels.len(), 4);
     Ok(())
 }
