@@ -6,7 +6,7 @@ ghost use Rattle.base.specs.declared.kinds.Kind.TheVariants as kinds;
 ghost use Rattle.kernel_rules.specs.History.{IsLegal, state_of, count};
 ghost use Rattle.kernel_rules.specs.State.{is_live_kind};
 ghost use Rattle.kernel_rules.specs.Step.{query_answer};
-ghost use Rattle.plain_core.specs.Kernel.{kernel_state};
+ghost use Rattle.syscall_core.specs.Kernel.{kernel_state};
 ghost use Rattle.published_copy.specs.Seats.{seat_refused};
 ghost use Rattle.published_copy.specs.Tallies.{IsTallied};
 ghost use Rattle.published_copy.specs.Turns.{turn, is_turn, with_event, receipt_of, passed_on};
@@ -19,8 +19,8 @@ use crate::refusals::{SeatRefusal, SubmitRefusal};
 use crate::tallies::{Tally, count_events, events_of};
 use base::{Limits, Meter, NoMemory, ObjectId};
 use kernel_rules::{Call, Event, Query, Reply};
-use plain_core::{Machine, PlainKernel};
 use std::marker::{Model, PhantomData};
+use syscall_core::Kernel;
 
 /// A kernel, the journal of all calls that were made to it, and the threads that were given seats. A
 /// contract sees it as the journal, which is legal, and in whose state the kernel is, at all times, and
@@ -28,7 +28,7 @@ use std::marker::{Model, PhantomData};
 #[derive(Drop)]
 pub struct Book<B: Naming> {
     limits: Limits,
-    kernel: PlainKernel,
+    kernel: Kernel,
     meter: Meter,
     journal: Vec<Event>,
     tallies: Vec<Tally>,
@@ -39,7 +39,7 @@ pub struct Book<B: Naming> {
 impl<B: Naming> Model for Book<B> {
     ghost use Rattle.std.specs.Prelude.{◌≡◌};
     ghost use Rattle.kernel_rules.specs.History.{IsLegal, state_of};
-    ghost use Rattle.plain_core.specs.Kernel.{kernel_state};
+    ghost use Rattle.syscall_core.specs.Kernel.{kernel_state};
     ghost use Rattle.published_copy.specs.Books.{BookView};
     ghost use Rattle.published_copy.specs.Tallies.{IsTallied};
 
@@ -78,7 +78,7 @@ impl<B: Naming> Book<B> {
     /// The book of a boot, with no event and no seat given.
     pub(crate) fn new(
         limits: Limits,
-        kernel: PlainKernel,
+        kernel: Kernel,
         meter: Meter,
         journal: Vec<Event>,
         tallies: Vec<Tally>,
@@ -119,7 +119,7 @@ impl<B: Naming> Book<B> {
     }
 
     /// The kernel, in the state that the journal leads to.
-    pub fn kernel(&self) -> &PlainKernel
+    pub fn kernel(&self) -> &Kernel
         ensures { kernel_state result.now ≡ state_of B.limits self.now.journal }
     {
         &self.kernel
@@ -165,25 +165,29 @@ impl<B: Naming> Book<B> {
             return Err(SubmitRefusal::OutOfTurn);
         }
         make_room(&mut self.journal, &mut self.tallies)?;
-        let reply = self.kernel.step(pass.thread(), call, &mut self.meter)?;
+        let reply = self
+            .kernel
+            .step_surely(pass.thread(), call, &mut self.meter);
         self.journal.push_reserved(pass.event(call, &reply));
         count_events(&mut self.tallies, pass.thread(), pass.number());
         Ok(pass.pass_on(&reply, self.journal.len()))
     }
 
     /// Why a thread is given no seat, if anything: the least that holds.
-    fn seat_refused(&self, thread: ObjectId) -> Option<SeatRefusal>
-        ensures row { result ≡ seat_refused B.limits self.now thread }
+    fn seat_refused(&mut self, thread: ObjectId) -> Option<SeatRefusal>
+        ensures row { result ≡ seat_refused B.limits self.old thread }
         ensures live { IfNone result
-            (is_live_kind (state_of B.limits self.now.journal) kinds.Thread thread ≡ true) }
-        ensures first { IfNone result (count thread self.now.journal ≡ 0) }
-        ensures room { IfNone result (length self.now.seated < 64) }
-        ensures within { length self.now.seated ≤ 64 }
+            (is_live_kind (state_of B.limits self.old.journal) kinds.Thread thread ≡ true) }
+        ensures first { IfNone result (count thread self.old.journal ≡ 0) }
+        ensures room { IfNone result (length self.old.seated < 64) }
+        ensures within { length self.old.seated ≤ 64 }
+        ensures legal { IsLegal B.limits self.old.journal }
+        ensures kept { self.new ≡ self.old }
     {
         if self.places.has(thread) || events_of(&self.tallies, thread) > 0 {
             return Some(SeatRefusal::SeatTaken);
         }
-        if !self.kernel.is_thread(thread) {
+        if !self.kernel.is_thread(thread, &mut self.meter) {
             return Some(SeatRefusal::NoThread);
         }
         if self.places.are_spent() {
@@ -216,22 +220,15 @@ impl<B: Naming> Book<B> {
     }
 
     /// What the kernel answers to a query of the pass's thread, which has then seen the whole journal.
-    /// Without memory nothing changes.
-    pub(crate) fn ask(
-        &self,
-        pass: &mut Pass<B>,
-        query: &Query,
-        meter: &mut Meter,
-    ) -> Result<Reply, NoMemory>
-        ensures reply { IfOk result (λ reply. reply
-            ≡ query_answer (state_of B.limits self.now.journal) pass.old.thread query.now) }
-        ensures pass { OnOk result
-            (pass.new ≡ turn pass.old.thread pass.old.number (length self.now.journal)) }
-        ensures kept { OnErr result (pass.new ≡ pass.old) }
+    pub(crate) fn ask(&self, pass: &mut Pass<B>, query: &Query, meter: &mut Meter) -> Reply
+        ensures reply { result
+            ≡ query_answer (state_of B.limits self.now.journal) pass.old.thread query.now }
+        ensures pass { pass.new
+            ≡ turn pass.old.thread pass.old.number (length self.now.journal) }
         ensures legal { IsLegal B.limits self.now.journal }
     {
-        let reply = self.kernel.ask(pass.thread(), query, meter)?;
+        let reply = self.kernel.ask_surely(pass.thread(), query, meter);
         pass.see(self.journal.len());
-        Ok(reply)
+        reply
     }
 }

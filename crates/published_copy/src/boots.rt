@@ -2,7 +2,7 @@
 ghost use Rattle.std.specs.Prelude.{◌≡◌, ◌↔◌, false, IfOk, IfErr, IsErrOf};
 ghost use Rattle.base.specs.Limits.{in_range};
 ghost use Rattle.kernel_rules.specs.Runs.{booted};
-ghost use Rattle.plain_core.specs.Kernel.{kernel_state};
+ghost use Rattle.syscall_core.specs.Kernel.{kernel_state};
 ghost use Rattle.published_copy.specs.Seats.{IsOpened, IsNotOpened};
 
 use crate::books::Book;
@@ -14,16 +14,16 @@ use crate::seats::Seat;
 use crate::tallies::Tally;
 use base::{Limits, Meter, NoMemory, ObjectId};
 use kernel_rules::Event;
-use plain_core::{BootRefusal, PlainKernel};
 use std::alloc::Global;
 use std::marker::Model;
 use std::sync::{Mutex, Wait};
+use syscall_core::{BootRefusal, Kernel};
 
 /// A boot that has no name yet. A contract sees it as its limits.
 #[derive(Drop)]
 pub struct Blank {
     limits: Limits,
-    kernel: PlainKernel,
+    kernel: Kernel,
     meter: Meter,
     journal: Vec<Event>,
     tallies: Vec<Tally>,
@@ -34,7 +34,7 @@ impl Model for Blank {
     ghost use Rattle.std.specs.Prelude.{◌≡◌, []};
     ghost use Rattle.base.specs.declared.ranges.Limits.{Limits};
     ghost use Rattle.kernel_rules.specs.Runs.{booted};
-    ghost use Rattle.plain_core.specs.Kernel.{kernel_state};
+    ghost use Rattle.syscall_core.specs.Kernel.{kernel_state};
 
     ghost Value = { Limits };
 
@@ -45,7 +45,7 @@ impl Model for Blank {
 }
 
 /// A boot over a newly booted kernel, with all that seats need.
-fn blank_over(alloc: Global, limits: &Limits, kernel: PlainKernel) -> Result<Blank, NoMemory>
+fn blank_over(alloc: Global, limits: &Limits, kernel: Kernel) -> Result<Blank, NoMemory>
     requires { kernel_state kernel ≡ booted limits.now }
     ensures { IfOk result (λ blank. blank ≡ limits.now) }
 {
@@ -68,7 +68,7 @@ impl Blank {
         ensures blank { IfOk result (λ blank. blank ≡ limits.now) }
         ensures limits { IsErrOf result BootRefusal.BadLimits ↔ (in_range limits.now ≡ false) }
     {
-        let kernel = PlainKernel::boot(alloc, limits)?;
+        let kernel = Kernel::boot(alloc, limits)?;
         match blank_over(alloc, limits, kernel) {
             Ok(blank) => Ok(blank),
             Err(_) => Err(BootRefusal::Unavailable),

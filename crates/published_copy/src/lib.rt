@@ -23,7 +23,7 @@ pub use kernel_rules::Event;
 pub use lending::Lent;
 pub use naming::Naming;
 pub use passes::{Pass, Standing};
-pub use plain_core::BootRefusal;
 pub use receipts::Receipt;
 pub use refusals::{SeatRefusal, SubmitRefusal};
 pub use seats::Seat;
+pub use syscall_core::BootRefusal;

@@ -7,7 +7,7 @@ use crate::naming::Naming;
 use crate::passes::Pass;
 use crate::receipts::Receipt;
 use crate::refusals::SubmitRefusal;
-use base::{Meter, NoMemory};
+use base::Meter;
 use kernel_rules::{Call, Query, Reply};
 use std::marker::Model;
 use std::sync::{Mutex, Wait};
@@ -52,12 +52,10 @@ impl<B: Naming> Seat<'_, B> {
         self.lock.lock(rt).commit(&mut self.pass, call)
     }
 
-    /// Asks, which waits for the lock and is no event. The seat has then seen the whole journal.
-    /// Without memory, the only error, nothing changes.
-    pub fn read<R: Wait>(&mut self, rt: &R, query: &Query) -> Result<Reply, NoMemory>
-        ensures done { IfOk result
-            (λ reply. IsRead B.limits self.old query.now reply self.new) }
-        ensures kept { OnErr result (self.new ≡ self.old) }
+    /// Asks, which waits for the lock and is no event. The seat has then seen the whole journal. It takes
+    /// no memory.
+    pub fn read<R: Wait>(&mut self, rt: &R, query: &Query) -> Reply
+        ensures { IsRead B.limits self.old query.now result self.new }
     {
         self.lock
             .lock(rt)

@@ -3,7 +3,7 @@ use Rattle.kernel_rules.specs.Step.{next, answer}
 use Rattle.kernel_rules.specs.History.{IsLegal, Follows, state_of, count}
 use Rattle.kernel_rules.specs.declared.events.Event.{Event}
 use Rattle.kernel_rules.proofs.HistoryLaws.{legal-snoc, state_of-snoc}
-use Rattle.plain_core.specs.Kernel.{kernel_state}
+use Rattle.syscall_core.specs.Kernel.{kernel_state}
 use Rattle.published_copy.specs.Tallies.{tallied}
 use Rattle.published_copy.proofs.TallyLaws.{tallied-more}
 use Rattle.published_copy.proofs.books.Book.commit.Goals as goal
@@ -17,7 +17,7 @@ invariant_of-self-2 g c =
     let items : c.push_reserved.new.self.items ≡ old ++ event ∷ [] = search rules in
     let number : event.number ≡ count event.thread old + 1 = search rules in
     let reply : event.reply ≡ answer (kernel_state c.self.inside.kernel) event.thread event.call = search rules in
-    let stepped : kernel_state c.step.new.self ≡ next (kernel_state c.self.inside.kernel) event.thread event.call = search rules in
+    let stepped : kernel_state c.step_surely-reply.new.self ≡ next (kernel_state c.self.inside.kernel) event.thread event.call = search rules in
     let given : (other : ℕ) → tallied other c.count_events.new.tallies.items ≡ (if event.thread == other then event.number else tallied other tallies) = search rules in
     let follows : Follows limits old event = record {
       number = number;
