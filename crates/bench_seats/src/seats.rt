@@ -90,10 +90,7 @@ fn shows_bytes(reply: &Reply) -> bool {
 
 // Whether those bytes were read.
 fn is_read<B: Naming, R: Wait>(rt: &R, seat: &mut Seat<'_, B>, query: &Query) -> bool {
-    match seat.read(rt, query) {
-        Ok(reply) => shows_bytes(&reply),
-        Err(_) => false,
-    }
+    shows_bytes(&seat.read(rt, query))
 }
 
 fn submit_all<B: Naming, R: Wait>(

@@ -56,17 +56,6 @@ fn submitted<B: Naming, R: Wait>(
     }
 }
 
-fn read<B: Naming, R: Wait>(
-    rt: &R,
-    seat: &mut Seat<'_, B>,
-    query: &Query,
-) -> Result<Answer, NoMemory> {
-    match seat.read(rt, query) {
-        Ok(reply) => Ok(Answer::Replied(reply)),
-        Err(error) => Err(error),
-    }
-}
-
 /// What a line made, where its call made something.
 fn made(answer: &Answer) -> Option<Value> {
     match answer {
@@ -112,7 +101,7 @@ impl<'s, B: Naming> Worker<'s, B> {
         match resolve(&line.call, &names) {
             Err(name) => Ok(Answer::Unbound(name)),
             Ok(Asked::Write(call)) => submitted(rt, seat, &call),
-            Ok(Asked::Read(query)) => read(rt, seat, &query),
+            Ok(Asked::Read(query)) => Ok(Answer::Replied(seat.read(rt, &query))),
         }
     }
 

@@ -70,11 +70,7 @@ fn want_memory_at<B: Naming, R: Wait + Abort>(rt: &R, shared: &Shared<B>) -> Res
     let made = submit_again(rt, shared, &mut other, &open_segment());
     assert!(rt; is_made(&made, 14, 1, 11));
     let query = Query::SegmentLen { entry: in_root(14) };
-    let read = match seat.read(rt, &query) {
-        Ok(read) => read,
-        Err(_) => seat.read(rt, &query)?,
-    };
-    assert!(rt; matches!(read, Reply::Pages(1)));
+    assert!(rt; matches!(seat.read(rt, &query), Reply::Pages(1)));
     let mut pass = seat.into_pass();
     let mut book = shared.book(rt);
     for number in 11..20u64 {

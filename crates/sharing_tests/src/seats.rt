@@ -2,7 +2,7 @@
 ghost use Rattle.std.specs.Prelude.{◌≡◌};
 
 use crate::samples::{is_refusal, open_segment, write};
-use base::{Data, ObjectId, Refusal};
+use base::{Data, Meter, ObjectId, Refusal};
 use kernel_rules::{Call, Query, Reply};
 use published_copy::{Blank, BootRefusal, Naming, SeatRefusal, Shared, SubmitRefusal};
 use std::marker::Brand;
@@ -11,7 +11,11 @@ use std::sync::Wait;
 use std::test::Fail;
 use test_support::{MOST_PAGES, boot_thread, in_root, is_data, is_object, new_thread};
 
-fn use_one_boot<B: Naming, R: Wait + Abort>(rt: &R, shared: &Shared<B>) -> Result<(), Fail> {
+fn use_one_boot<B: Naming, R: Wait + Abort>(
+    rt: &R,
+    shared: &Shared<B>,
+    meter: &mut Meter,
+) -> Result<(), Fail> {
     let mut seat = shared.open_seat(rt, boot_thread())?;
     let made = seat.submit(rt, &open_segment())?;
     assert!(rt; is_object(made.reply, 4) && made.number == 1 && made.length == 1);
@@ -22,7 +26,7 @@ fn use_one_boot<B: Naming, R: Wait + Abort>(rt: &R, shared: &Shared<B>) -> Resul
         offset: 0,
         count: 2,
     };
-    let read = seat.read(rt, &query)?;
+    let read = seat.read(rt, &query);
     assert!(rt; is_data(read, b"ok"));
     let mut pass = seat.into_pass();
     assert!(rt; pass.thread() == boot_thread() && pass.number() == 3 && pass.length() == 2);
@@ -32,20 +36,24 @@ fn use_one_boot<B: Naming, R: Wait + Abort>(rt: &R, shared: &Shared<B>) -> Resul
     assert!(rt; receipt.number == 3 && receipt.length == 3 && pass.number() == 4);
     assert!(rt; book.limits() == &MOST_PAGES && book.events().len() == 3);
     assert!(rt; book.events()[2].thread == boot_thread() && book.events()[2].number == 3);
-    assert!(rt; book.kernel().is_thread(boot_thread()));
-    assert!(rt; !book.kernel().is_thread(ObjectId::new(4)));
+    assert!(rt; book.kernel().is_thread(boot_thread(), meter));
+    assert!(rt; !book.kernel().is_thread(ObjectId::new(4), meter));
     Ok(())
 }
 
-fn use_boot<B: Naming, R: Wait + Abort>(rt: &R, blank: Blank) -> Result<(), Fail>
+fn use_boot<B: Naming, R: Wait + Abort>(rt: &R, blank: Blank, meter: &mut Meter) -> Result<(), Fail>
     requires { blank ≡ B.limits }
 {
     let shared = blank.open::<B>();
-    use_one_boot(rt, &shared)
+    use_one_boot(rt, &shared, meter)
 }
 
 // What is closed is the book at the end, with the calls of seats and of lent books.
-fn close_at<B: Naming, R: Wait + Abort>(rt: &R, shared: Shared<B>) -> Result<(), Fail> {
+fn close_at<B: Naming, R: Wait + Abort>(
+    rt: &R,
+    shared: Shared<B>,
+    meter: &mut Meter,
+) -> Result<(), Fail> {
     let mut pass = shared.open_seat(rt, boot_thread())?.into_pass();
     shared.book(rt).commit(&mut pass, &open_segment())?;
     shared.book(rt).commit(&mut pass, &new_thread())?;
@@ -53,29 +61,35 @@ fn close_at<B: Naming, R: Wait + Abort>(rt: &R, shared: Shared<B>) -> Result<(),
         .open_seat(rt, ObjectId::new(5))?
         .submit(rt, &Call::CatCreate)?;
     let book = shared.close();
-    assert!(rt; book.limits() == &MOST_PAGES && book.kernel().is_thread(ObjectId::new(5)));
+    assert!(rt; book.limits() == &MOST_PAGES && book.kernel().is_thread(ObjectId::new(5), meter));
     let events = book.into_events();
     assert!(rt; events.len() == 3 && events[0].number == 1 && events[1].number == 2);
     assert!(rt; events[2].thread == ObjectId::new(5) && events[2].number == 1);
     Ok(())
 }
 
-fn close_boot<B: Naming, R: Wait + Abort>(rt: &R, blank: Blank) -> Result<(), Fail>
+fn close_boot<B: Naming, R: Wait + Abort>(
+    rt: &R,
+    blank: Blank,
+    meter: &mut Meter,
+) -> Result<(), Fail>
     requires { blank ≡ B.limits }
 {
-    close_at(rt, blank.open::<B>())
+    close_at(rt, blank.open::<B>(), meter)
 }
 
 #[test]
 fn what_is_closed_has_every_call(rt: HostRuntime) -> Result<(), Fail> {
     let blank = Blank::boot(rt.alloc(), &MOST_PAGES)?;
-    close_boot::<Brand, HostRuntime>(&rt, blank)
+    let mut meter = Meter::new(rt.alloc())?;
+    close_boot::<Brand, HostRuntime>(&rt, blank, &mut meter)
 }
 
 #[test]
 fn a_call_is_an_event(rt: HostRuntime) -> Result<(), Fail> {
     let blank = Blank::boot(rt.alloc(), &MOST_PAGES)?;
-    use_boot::<Brand, HostRuntime>(&rt, blank)
+    let mut meter = Meter::new(rt.alloc())?;
+    use_boot::<Brand, HostRuntime>(&rt, blank, &mut meter)
 }
 
 #[test]

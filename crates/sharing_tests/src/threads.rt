@@ -4,7 +4,6 @@ ghost use Rattle.std.specs.Prelude.{◌≡◌};
 use crate::samples::{open_segment, write};
 use base::{Data, Meter, ObjectId};
 use kernel_rules::{Call, Event, Query, Reply};
-use plain_core::{Machine, PlainKernel};
 use published_copy::{Blank, Naming, Seat, Shared};
 use std::alloc::Global;
 use std::marker::Brand;
@@ -13,6 +12,7 @@ use std::sync::{Mutex, Wait};
 use std::test::Fail;
 use std::thread;
 use std::thread::Threads;
+use syscall_core::{Machine, PlainKernel};
 use test_support::{MOST_PAGES, boot_thread, in_root, is_data, new_thread};
 
 /// How many threads call at once, and how often each.
@@ -51,7 +51,7 @@ fn is_same(one: &Reply, other: &Reply) -> bool {
     }
 }
 
-/// Whether a newly booted kernel gives the events' replies, in their order.
+/// Whether a newly booted plain kernel gives the events' replies, in their order.
 fn is_replayed(kernel: &mut PlainKernel, meter: &mut Meter, events: &[Event]) -> bool {
     for event in events {
         match kernel.step(event.thread, &event.call, meter) {
@@ -128,10 +128,7 @@ fn is_read<B: Naming, R: Wait>(rt: &R, reader: &Mutex<Seat<'_, B>>, text: &Data)
         offset: 0,
         count: 5,
     };
-    match reader.lock(rt).read(rt, &query) {
-        Ok(reply) => is_data(reply, text.as_slice()),
-        Err(_) => false,
-    }
+    is_data(reader.lock(rt).read(rt, &query), text.as_slice())
 }
 
 fn read_there<B: Naming + Send, R: Threads + Wait + Sync>(
