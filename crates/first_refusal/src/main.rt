@@ -4,41 +4,28 @@
 
 use base::{Category, Level, Limits, Meter, ObjectId, Refusal};
 use label_lattice::{Pair, RawLabel};
-use plain_core::{Call, Entry, Machine, NewSegment, NewThread, PlainKernel, Query, Reply};
 use std::io;
+use syscall_core::{Call, Entry, Kernel, NewSegment, NewThread, Query, Reply};
 
 /// A new category, which the thread owns.
-fn new_category(kernel: &mut PlainKernel, thread: ObjectId, meter: &mut Meter) -> Option<Category> {
-    match kernel.step(thread, &Call::CatCreate, meter) {
-        Ok(Reply::Category(category)) => Some(category),
-        _ => None,
-    }
-}
-
-/// The id of the object that a reply tells.
-fn object_in(reply: &Reply) -> Option<ObjectId> {
-    match reply {
-        Reply::Object(id) => Some(*id),
+fn new_category(kernel: &mut Kernel, thread: ObjectId, meter: &mut Meter) -> Option<Category> {
+    match kernel.step_surely(thread, &Call::CatCreate, meter) {
+        Reply::Category(category) => Some(category),
         _ => None,
     }
 }
 
 /// The object that a call of the thread makes.
-fn make(
-    kernel: &mut PlainKernel,
-    thread: ObjectId,
-    call: &Call,
-    meter: &mut Meter,
-) -> Option<ObjectId> {
-    match kernel.step(thread, call, meter) {
-        Ok(reply) => object_in(&reply),
-        Err(_) => None,
+fn make(kernel: &mut Kernel, thread: ObjectId, call: &Call, meter: &mut Meter) -> Option<ObjectId> {
+    match kernel.step_surely(thread, call, meter) {
+        Reply::Object(id) => Some(id),
+        _ => None,
     }
 }
 
 /// What the thread is refused, where it reads the first bytes of a segment in the root.
 fn refusal_of_read(
-    kernel: &PlainKernel,
+    kernel: &Kernel,
     thread: ObjectId,
     object: ObjectId,
     meter: &mut Meter,
@@ -51,8 +38,8 @@ fn refusal_of_read(
         offset: 0,
         count: 4,
     };
-    match kernel.ask(thread, &read, meter) {
-        Ok(Reply::Refused(refusal)) => Some(refusal),
+    match kernel.ask_surely(thread, &read, meter) {
+        Reply::Refused(refusal) => Some(refusal),
         _ => None,
     }
 }
@@ -83,7 +70,7 @@ fn stranger() -> Call {
 }
 
 /// What a stranger is refused, where it reads a segment that a category guards.
-fn read_a_secret(kernel: &mut PlainKernel, meter: &mut Meter) -> Option<Refusal> {
+fn read_a_secret(kernel: &mut Kernel, meter: &mut Meter) -> Option<Refusal> {
     let boot = ObjectId::new(2);
     let category = new_category(kernel, boot, meter)?;
     let secret = make(kernel, boot, &segment_guarded_by(category), meter)?;
@@ -99,7 +86,7 @@ fn main(rt: HostRuntime) -> io::Result<()> {
         next_category: 1,
     };
     let (Ok(mut kernel), Ok(mut meter)) = (
-        PlainKernel::boot(rt.alloc(), &limits),
+        Kernel::boot(rt.alloc(), &limits),
         Meter::new(rt.alloc()),
     ) else {
         return println!(rt; "no boot");

@@ -6,12 +6,12 @@ ghost use Rattle.std.specs.Prelude.{◌≡◌};
 
 use base::{Level, Limits, ObjectId};
 use label_lattice::RawLabel;
-use plain_core::{Call, Event, NewThread, Reply};
 use published_copy::{Blank, Naming, SeatRefusal, Shared, SubmitRefusal};
 use std::io;
 use std::marker::Brand;
 use std::sync::Wait;
 use std::thread::{Threads, join};
+use syscall_core::{Call, Event, NewThread, Reply};
 use thiserror::Error;
 
 /// Why the kernel is not shared.
