@@ -1,5 +1,6 @@
-//! Scripts of many calls, with what their lines answer: played as the program does, their dumps
-//! audited, and their write calls made by `run` on a plain kernel.
+//! Scripts of many calls, with what their lines answer, on both machines: played as the program does,
+//! by the arena kernel; their dumps audited, by the plain machine, tables too; and their write calls made
+//! by `run` on a plain kernel.
 use crate::worked_scripts::{WorkedScript, worked_scripts};
 use auditor::{Verdict, audit};
 use base::{NoMemory, ObjectId};
@@ -14,7 +15,7 @@ use std::sync::Wait;
 use std::test::Fail;
 use std::thread::Threads;
 
-// A script's output is this, and its dump is clean.
+// A script's output by the arena kernel is this, and its dump is clean, which the plain machine tells.
 fn check_played<R: Abort + AllocGlobal + Threads + Wait + Sync>(
     rt: &R,
     worked: &WorkedScript,
@@ -103,7 +104,7 @@ fn check_run<R: Abort + AllocGlobal + Threads + Wait + Sync>(
 }
 
 #[test]
-fn scripts_are_run(rt: HostRuntime) -> Result<(), Fail> {
+fn scripts_answer_the_same_on_the_plain_machine(rt: HostRuntime) -> Result<(), Fail> {
     let scripts = worked_scripts();
     let mut made = 0usize;
     for worked in &scripts {
