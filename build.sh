@@ -1,8 +1,9 @@
 # Starts a proved program of this repository, which is built first where it isn't or is older than its sources. To be sourced
-# where `top` is the repository's folder; then `start CRATE WORDS..` becomes the program with these words.
+# where `top` is a path of the repository's folder; then `start CRATE WORDS..` becomes the program with these words.
 
-# The crates that a program is made of: itself and what crates.txt says that it uses, one through another.
-crates_of() {
+# The folders of the sources that a program is made of, in one line: its own crate's and those of what crates.txt says that it
+# uses, one through another. Definitions and proofs change no program: `./test` looks at them.
+sources_of() {
     awk -F: -v program="$1" '
         { uses[$1] = $2 }
         END {
@@ -14,16 +15,18 @@ crates_of() {
                     for (i = 1; i <= n; i++) if (used[i] in uses && !(used[i] in made)) { made[used[i]] = 1; more = 1 }
                 }
             } while (more)
-            for (crate in made) print crate
+            for (crate in made) printf "%s/src ", crate
+            print ""
         }' "$top/crates.txt"
 }
 
-# Whether the program is missing or older than a source of its crates.
+# Whether the program is missing or older than a source of its crates. Which these are is kept in a file, since each start asks.
 is_old() {
     [ -x "$program" ] || return 0
-    # shellcheck disable=SC2086 # a word for each crate
-    newer=$(cd "$top/crates" && find $crates ../crates.txt \( -name out -o -name out-log -o -name must-fail \) -prune \
-        -o -type f -newer "$program" -print -quit)
+    if [ ! -f "$kept" ] || [ "$top/crates.txt" -nt "$kept" ]; then sources_of "$crate" >"$kept"; fi
+    read -r sources <"$kept"
+    # shellcheck disable=SC2086 # a word for each folder
+    newer=$(cd "$top/crates" && exec find ../crates.txt $sources -type f -newer "$program" -print -quit)
     [ -n "$newer" ]
 }
 
@@ -35,10 +38,11 @@ show_build() {
         printf '%s\n' "$text" >&2
         return
     fi
-    count=$(printf '%s\n' "$crates" | wc -l)
+    # shellcheck disable=SC2046 # a word for each crate
+    set -- $(sources_of "$crate")
     while kill -0 "$job" 2>/dev/null; do
         done=$(grep -c '^logic=proved' "$log" 2>/dev/null || true)
-        printf '\r%s: %s of %s crates' "$text" "${done:-0}" "$count" >&2
+        printf '\r%s: %s of %s crates' "$text" "${done:-0}" "$#" >&2
         sleep 1
     done
     printf '\n' >&2
@@ -47,6 +51,7 @@ show_build() {
 # Proves and builds the program, which then runs once on its stored input. Whoever interrupts it ends the build too, which
 # is a process group of its own.
 build() {
+    name=$(printf '%s' "$crate" | tr _ -)
     command -v rt >/dev/null || { echo "$name: rt (the Rattle toolchain) is not on the path" >&2; exit 70; }
     (cd "$top/crates/$crate" && exec setsid rt run <stdin >"$log" 2>&1) &
     job=$!
@@ -62,12 +67,12 @@ build() {
 }
 
 start() {
+    case $top in /*) ;; *) top=$PWD/$top ;; esac
     crate=$1
     shift
-    name=$(printf '%s' "$crate" | tr _ -)
     program=$top/crates/$crate/out/$crate
     log=$top/crates/$crate/out-log
-    crates=$(crates_of "$crate")
+    kept=$top/crates/$crate/out/sources
     if is_old; then build; fi
     exec "$program" "$@"
 }
