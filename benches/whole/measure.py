@@ -88,7 +88,9 @@ def main():
             folder = f"{options.folder}/{size}"
             made = sorted(it.removesuffix(".script") for it in os.listdir(folder) if it.endswith(".script"))
             names = options.workloads or made
-            taken[size] = measure(folder, programs, names, options.rounds, empty.name)
+            # A short script is played more often, since user time is told in ticks.
+            rounds = options.rounds * max(1, int(sizes[-1]) // int(size))
+            taken[size] = measure(folder, programs, names, rounds, empty.name)
     print("\nA call of ours, as a ratio to one at the least number of lines:")
     for name in names:
         print(f"{name:4}" + "".join(f"{size:>8}: {taken[size][name] / taken[sizes[0]][name]:.2f}" for size in sizes))
