@@ -44,3 +44,4 @@ pub mod ContentLaws
 pub mod RefillLaws
 pub mod CopyLaws
 pub mod ResizeLaws
+pub mod CarriedLaws

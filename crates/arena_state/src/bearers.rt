@@ -1,11 +1,12 @@
 //! New threads and gates, which store labels beside their own.
-ghost use Rattle.std.specs.Prelude.{◌≡◌};
+ghost use Rattle.std.specs.Prelude.{◌≡◌, ◌≤◌, ◌+◌};
 ghost use Rattle.label_lattice.specs.Label.{IsStored};
 ghost use Rattle.kernel_rules.specs.Changes.{made, fresh_object};
 ghost use Rattle.kernel_rules.specs.Fitting.{IsFitting};
 ghost use Rattle.kernel_rules.specs.Step.{new_thread};
 ghost use Rattle.kernel_rules.specs.declared.objects.Body.TheVariants as is;
-ghost use Rattle.arena_state.specs.States.{state_of};
+ghost use Rattle.kernel_store.specs.Storing.{storing};
+ghost use Rattle.arena_state.specs.States.{state_of, labels_stored};
 
 use crate::placing::place;
 use crate::records::{Kept, KeptGate, fresh_record, kept_thread};
@@ -33,6 +34,8 @@ impl ArenaState {
         ensures id { result ≡ (state_of self.old).next_id }
         ensures state { state_of self.new ≡ made (state_of self.old) container
             (fresh_object label.now quota (new_thread clearance.now entry_point)) }
+        ensures scans { meter.new.scans
+            ≤ meter.old.scans + storing 3 (labels_stored self.old) }
     {
         match self.slot(container, meter) {
             Some(parent) => {
@@ -62,6 +65,8 @@ impl ArenaState {
         ensures id { result ≡ (state_of self.old).next_id }
         ensures state { state_of self.new ≡ made (state_of self.old) container
             (fresh_object label.now quota (is.Gate gate.now)) }
+        ensures scans { meter.new.scans
+            ≤ meter.old.scans + storing 2 (labels_stored self.old) }
     {
         match self.slot(container, meter) {
             Some(parent) => {

@@ -1,9 +1,10 @@
 //! Other labels of a thread: the new ones are stored first, and the old ones let go then.
-ghost use Rattle.std.specs.Prelude.{◌≡◌, ◌<◌, ◌^◌, IfSome};
+ghost use Rattle.std.specs.Prelude.{◌≡◌, ◌≤◌, ◌+◌, ◌<◌, ◌^◌, IfSome};
 ghost use Rattle.label_lattice.specs.Label.{IsStored};
 ghost use Rattle.kernel_rules.specs.Changes.{changed, cleared, labelled, owning};
 ghost use Rattle.kernel_rules.specs.Step.{owned};
-ghost use Rattle.arena_state.specs.States.{state_of};
+ghost use Rattle.kernel_store.specs.Storing.{storing};
+ghost use Rattle.arena_state.specs.States.{state_of, labels_stored};
 
 use crate::records::{Kept, reclear};
 use crate::states::ArenaState;
@@ -15,7 +16,10 @@ impl ArenaState {
     /// one call stores.
     pub fn set_label(&mut self, id: ObjectId, label: &Label, meter: &mut Meter)
         requires { IsStored label.now }
-        ensures { state_of self.new ≡ changed (state_of self.old) id (labelled label.now) }
+        ensures state { state_of self.new ≡ changed (state_of self.old) id (labelled label.now) }
+        ensures scans { meter.new.scans
+            ≤ meter.old.scans + storing 1 (labels_stored self.old) }
+        ensures growth { labels_stored self.new ≤ labels_stored self.old + 1 }
     {
         match self.slot(id, meter) {
             Some(slot) => {
@@ -31,7 +35,9 @@ impl ArenaState {
     /// A thread gets this clearance; any other object stays.
     pub fn set_clearance(&mut self, thread: ObjectId, clearance: &Label, meter: &mut Meter)
         requires { IsStored clearance.now }
-        ensures { state_of self.new ≡ changed (state_of self.old) thread (cleared clearance.now) }
+        ensures state { state_of self.new ≡ changed (state_of self.old) thread (cleared clearance.now) }
+        ensures scans { meter.new.scans
+            ≤ meter.old.scans + storing 1 (labels_stored self.old) }
     {
         match self.slot(thread, meter) {
             Some(slot) => {
@@ -52,8 +58,10 @@ impl ArenaState {
     fn own(&mut self, thread: ObjectId, label: &Label, clearance: &Label, meter: &mut Meter)
         requires label { IsStored label.now }
         requires clearance { IsStored clearance.now }
-        ensures { state_of self.new
+        ensures state { state_of self.new
             ≡ changed (state_of self.old) thread (owning label.now clearance.now) }
+        ensures scans { meter.new.scans
+            ≤ meter.old.scans + storing 2 (labels_stored self.old) }
     {
         self.set_label(thread, label, meter);
         self.set_clearance(thread, clearance, meter);
@@ -70,7 +78,9 @@ impl ArenaState {
         requires left { (state_of self.old).next_category < 2 ^ 61 }
         requires label { IfSome label IsStored }
         requires clearance { IfSome clearance IsStored }
-        ensures { state_of self.new ≡ owned (state_of self.old) thread label clearance }
+        ensures state { state_of self.new ≡ owned (state_of self.old) thread label clearance }
+        ensures scans { meter.new.scans
+            ≤ meter.old.scans + storing 2 (labels_stored self.old) }
     {
         if let Some(label) = label {
             if let Some(clearance) = clearance {

@@ -1,5 +1,5 @@
 //! New segments with the bytes of others.
-ghost use Rattle.std.specs.Prelude.{◌≡◌, ◌<◌, [], length, slice_set, IfSome};
+ghost use Rattle.std.specs.Prelude.{◌≡◌, ◌≤◌, ◌+◌, ◌<◌, [], length, slice_set, IfSome};
 ghost use Rattle.label_lattice.specs.Label.{IsStored};
 ghost use Rattle.kernel_rules.specs.Changes.{made, fresh_object};
 ghost use Rattle.kernel_rules.specs.Fitting.{IsFitting};
@@ -7,7 +7,8 @@ ghost use Rattle.kernel_rules.specs.State.{bytes_at};
 ghost use Rattle.kernel_rules.specs.declared.objects.Body.TheVariants as is;
 ghost use Rattle.segments.specs.Segments.{bytes_in, pages_of, HasRoom};
 ghost use Rattle.arena_state.specs.Contents.{bytes_found};
-ghost use Rattle.arena_state.specs.States.{state_of};
+ghost use Rattle.kernel_store.specs.Storing.{storing};
+ghost use Rattle.arena_state.specs.States.{state_of, labels_stored};
 
 use crate::placing::place;
 use crate::records::{Kept, fresh_record};
@@ -22,7 +23,8 @@ fn copy_bytes(segments: &mut Segments, from: Option<Slot>, to: Slot, meter: &mut
     requires to { to.0 < length segments.old }
     requires blank { bytes_in segments.old to.0 ≡ [] }
     requires room { HasRoom segments.old to.0 (pages_of (bytes_found segments.old from)) }
-    ensures { segments.new ≡ slice_set segments.old to.0 (bytes_found segments.old from) }
+    ensures after { segments.new ≡ slice_set segments.old to.0 (bytes_found segments.old from) }
+    ensures scans { meter.new.scans ≡ meter.old.scans }
 {
     match from {
         Some(from) => segments.copy(from, to, meter),
@@ -47,6 +49,8 @@ impl ArenaState {
         ensures id { result ≡ (state_of self.old).next_id }
         ensures state { state_of self.new ≡ made (state_of self.old) container
             (fresh_object label.now quota (is.Segment (bytes_at (state_of self.old) source))) }
+        ensures scans { meter.new.scans
+            ≤ meter.old.scans + storing 1 (labels_stored self.old) }
     {
         match self.slot(container, meter) {
             Some(parent) => {

@@ -4,7 +4,8 @@ ghost use Rattle.label_lattice.specs.Label.{IsStored};
 ghost use Rattle.kernel_rules.specs.Changes.{made, fresh_object};
 ghost use Rattle.kernel_rules.specs.Fitting.{IsFitting};
 ghost use Rattle.kernel_rules.specs.declared.objects.Body.TheVariants as is;
-ghost use Rattle.arena_state.specs.States.{state_of};
+ghost use Rattle.kernel_store.specs.Storing.{storing};
+ghost use Rattle.arena_state.specs.States.{state_of, labels_stored};
 
 use crate::placing::place;
 use crate::records::{Kept, fresh_record};
@@ -28,6 +29,8 @@ impl ArenaState {
         ensures id { result ≡ (state_of self.old).next_id }
         ensures state { state_of self.new ≡ made (state_of self.old) container
             (fresh_object label.now quota (is.Container avoid [])) }
+        ensures scans { meter.new.scans
+            ≤ meter.old.scans + storing 1 (labels_stored self.old) }
     {
         match self.slot(container, meter) {
             Some(parent) => {
@@ -54,6 +57,8 @@ impl ArenaState {
         ensures id { result ≡ (state_of self.old).next_id }
         ensures state { state_of self.new ≡ made (state_of self.old) container
             (fresh_object label.now quota (is.Segment (replicate (256 * pages) 0))) }
+        ensures scans { meter.new.scans
+            ≤ meter.old.scans + storing 1 (labels_stored self.old) }
     {
         match self.slot(container, meter) {
             Some(parent) => {
@@ -84,6 +89,8 @@ impl ArenaState {
         ensures id { result ≡ (state_of self.old).next_id }
         ensures state { state_of self.new ≡ made (state_of self.old) container
             (fresh_object label.now quota (is.AddressSpace (record { slots = replicate 16 None }))) }
+        ensures scans { meter.new.scans
+            ≤ meter.old.scans + storing 1 (labels_stored self.old) }
     {
         match self.slot(container, meter) {
             Some(parent) => {

@@ -1,8 +1,9 @@
 //! A thread that enters a gate: its new labels are stored first, and the old ones let go then.
-ghost use Rattle.std.specs.Prelude.{◌≡◌};
+ghost use Rattle.std.specs.Prelude.{◌≡◌, ◌≤◌, ◌+◌};
 ghost use Rattle.label_lattice.specs.Label.{IsStored};
 ghost use Rattle.kernel_rules.specs.Changes.{changed, entered};
-ghost use Rattle.arena_state.specs.States.{state_of};
+ghost use Rattle.kernel_store.specs.Storing.{storing};
+ghost use Rattle.arena_state.specs.States.{state_of, labels_stored};
 
 use crate::records::{Kept, KeptThread, rebind};
 use crate::states::ArenaState;
@@ -25,8 +26,10 @@ impl ArenaState {
         requires label { IsStored label.now }
         requires clearance { IsStored clearance.now }
         requires verify { IsStored verify.now }
-        ensures { state_of self.new ≡ changed (state_of self.old) thread
+        ensures state { state_of self.new ≡ changed (state_of self.old) thread
             (entered label.now clearance.now verify.now gate.now) }
+        ensures scans { meter.new.scans
+            ≤ meter.old.scans + storing 3 (labels_stored self.old) }
     {
         match self.slot(thread, meter) {
             Some(slot) => {

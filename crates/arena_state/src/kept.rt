@@ -1,7 +1,9 @@
 //! The labels that are stored, by index, and how they compare.
-ghost use Rattle.std.specs.Prelude.{◌≡◌, option_copied, option_map};
+ghost use Rattle.std.specs.Prelude.{◌≡◌, ◌≤◌, option_copied, option_map};
 ghost use Rattle.label_intern.specs.Held.{held_at};
+ghost use Rattle.kernel_store.specs.Storing.{label_count};
 ghost use Rattle.arena_state.specs.Kept.{label_kept, order_kept};
+ghost use Rattle.arena_state.specs.States.{state_of, labels_stored};
 
 use crate::states::ArenaState;
 use label_intern::{LabelIx, OrderBits};
@@ -29,5 +31,13 @@ impl ArenaState {
         } else {
             None
         }
+    }
+
+    /// The stored labels are no more than the different labels that objects carry. Nothing is done: a caller's proof has
+    /// this from a call.
+    pub fn labels_are_carried(&self)
+        ensures { labels_stored self.now ≤ label_count (state_of self.now) }
+    {
+        self.pieces.holdings.labels.well_formed();
     }
 }

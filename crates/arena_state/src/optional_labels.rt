@@ -1,13 +1,14 @@
 //! Creations and changes of labels that may be none, as a call that stores a label gives it: where there is no label
 //! nothing changes.
-ghost use Rattle.std.specs.Prelude.{◌≡◌, ◌*◌, [], replicate, None, IfSome};
+ghost use Rattle.std.specs.Prelude.{◌≡◌, ◌≤◌, ◌+◌, ◌*◌, [], replicate, None, IfSome};
 ghost use Rattle.label_lattice.specs.Label.{IsStored};
 ghost use Rattle.kernel_rules.specs.Changes.{changed, cleared, labelled};
 ghost use Rattle.kernel_rules.specs.Fitting.{IsFitting};
 ghost use Rattle.kernel_rules.specs.State.{bytes_at};
 ghost use Rattle.kernel_rules.specs.Step.{made_of, new_thread, with_value};
 ghost use Rattle.kernel_rules.specs.declared.objects.Body.TheVariants as is;
-ghost use Rattle.arena_state.specs.States.{state_of};
+ghost use Rattle.kernel_store.specs.Storing.{storing};
+ghost use Rattle.arena_state.specs.States.{state_of, labels_stored};
 
 use crate::states::ArenaState;
 use base::{Meter, ObjectId, TypeSet};
@@ -29,6 +30,8 @@ impl ArenaState {
         ensures id { result ≡ (state_of self.old).next_id }
         ensures state { state_of self.new ≡ made_of (state_of self.old) container label quota
             (is.Container avoid []) }
+        ensures scans { meter.new.scans
+            ≤ meter.old.scans + storing 1 (labels_stored self.old) }
     {
         match label {
             Some(label) => self.create_container(container, &label, quota, avoid, meter),
@@ -51,6 +54,8 @@ impl ArenaState {
         ensures id { result ≡ (state_of self.old).next_id }
         ensures state { state_of self.new ≡ made_of (state_of self.old) container label quota
             (is.Segment (replicate (256 * pages) 0)) }
+        ensures scans { meter.new.scans
+            ≤ meter.old.scans + storing 1 (labels_stored self.old) }
     {
         match label {
             Some(label) => self.create_segment(container, &label, quota, pages, meter),
@@ -73,6 +78,8 @@ impl ArenaState {
         ensures id { result ≡ (state_of self.old).next_id }
         ensures state { state_of self.new ≡ made_of (state_of self.old) container label quota
             (is.Segment (bytes_at (state_of self.old) source)) }
+        ensures scans { meter.new.scans
+            ≤ meter.old.scans + storing 1 (labels_stored self.old) }
     {
         match label {
             Some(label) => self.create_copy(container, &label, quota, source, meter),
@@ -95,6 +102,8 @@ impl ArenaState {
         ensures id { result ≡ (state_of self.old).next_id }
         ensures state { state_of self.new ≡ made_of (state_of self.old) container label quota
             (is.AddressSpace (record { slots = replicate 16 None })) }
+        ensures scans { meter.new.scans
+            ≤ meter.old.scans + storing 1 (labels_stored self.old) }
     {
         match label {
             Some(label) => self.create_space(container, &label, quota, meter),
@@ -118,6 +127,8 @@ impl ArenaState {
         ensures id { result ≡ (state_of self.old).next_id }
         ensures state { state_of self.new ≡ made_of (state_of self.old) container label quota
             (new_thread clearance entry_point) }
+        ensures scans { meter.new.scans
+            ≤ meter.old.scans + storing 3 (labels_stored self.old) }
     {
         match label {
             Some(label) => {
@@ -141,6 +152,8 @@ impl ArenaState {
         ensures id { result ≡ (state_of self.old).next_id }
         ensures state { state_of self.new ≡ made_of (state_of self.old) container label quota
             (is.Gate gate) }
+        ensures scans { meter.new.scans
+            ≤ meter.old.scans + storing 2 (labels_stored self.old) }
     {
         match label {
             Some(label) => self.create_gate(container, &label, quota, &gate, meter),
@@ -151,8 +164,10 @@ impl ArenaState {
     /// A thread gets this label, where it is there; else nothing changes.
     pub fn give_label(&mut self, thread: ObjectId, label: Option<Label>, meter: &mut Meter)
         requires { IfSome label IsStored }
-        ensures { state_of self.new ≡ with_value (state_of self.old) label
+        ensures state { state_of self.new ≡ with_value (state_of self.old) label
             (λ l. changed (state_of self.old) thread (labelled l)) }
+        ensures scans { meter.new.scans
+            ≤ meter.old.scans + storing 1 (labels_stored self.old) }
     {
         if let Some(label) = label {
             self.set_label(thread, &label, meter);
@@ -162,8 +177,10 @@ impl ArenaState {
     /// A thread gets this clearance, where it is there; else nothing changes.
     pub fn give_clearance(&mut self, thread: ObjectId, clearance: Option<Label>, meter: &mut Meter)
         requires { IfSome clearance IsStored }
-        ensures { state_of self.new ≡ with_value (state_of self.old) clearance
+        ensures state { state_of self.new ≡ with_value (state_of self.old) clearance
             (λ c. changed (state_of self.old) thread (cleared c)) }
+        ensures scans { meter.new.scans
+            ≤ meter.old.scans + storing 1 (labels_stored self.old) }
     {
         if let Some(clearance) = clearance {
             self.set_clearance(thread, &clearance, meter);

@@ -1,5 +1,5 @@
 //! Labels that give each category one level.
-ghost use Rattle.std.specs.Prelude.{◌≡◌, ◌==◌, false};
+ghost use Rattle.std.specs.Prelude.{◌≡◌, ◌==◌, ◌≤◌, ◌+◌, false};
 ghost use Rattle.base.specs.Level.{rank_of};
 ghost use Rattle.kernel_rules.specs.Step.{uniform};
 
@@ -9,7 +9,8 @@ use label_lattice::{Label, Pairs, RawLabel};
 /// The label that gives each category this level, which is not star. One scan.
 pub fn uniform(level: Level, meter: &mut Meter) -> Label
     requires { (rank_of level == 0) ≡ false }
-    ensures { result ≡ uniform level }
+    ensures value { result ≡ uniform level }
+    ensures scans { meter.new.scans ≤ meter.old.scans + 1 }
 {
     let raw = RawLabel {
         default: level,

@@ -27,10 +27,13 @@ impl Counting {
 
 impl Store for Counting {
     ghost use Rattle.call_tests.specs.Counted.{counted_state};
+    ghost use Rattle.kernel_store.proofs.StoringLaws.{nothing_kept};
 
     ghost state = { counted_state };
 
     ghost kept = { λ m. 0 };
+
+    ghost stored = { λ s. 0 };
 
     ghost spends = { λ n a b. Unit {0} };
 
@@ -344,6 +347,8 @@ impl Store for Counting {
     }
 
     ghost sound = { λ s. s.state.well_formed };
+
+    ghost kept_scans = { λ n l m h. nothing_kept n };
 
     ghost none_spent = { λ m. tt };
 

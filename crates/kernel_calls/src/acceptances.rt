@@ -1,9 +1,10 @@
 //! What a call that nothing refuses changes and answers.
-ghost use Rattle.std.specs.Prelude.{◌≡◌, true, None, IfOk, OnOk, OnErr};
+ghost use Rattle.std.specs.Prelude.{◌≡◌, ◌≤◌, ◌+◌, true, None, IfOk, OnOk, OnErr};
 ghost use Rattle.kernel_rules.specs.Step.{accepted, answer, next};
-ghost use Rattle.kernel_calls.specs.Quiet.{is_quiet};
+ghost use Rattle.kernel_calls.specs.Scans.{is_quiet, most_scans, stores};
 ghost use Rattle.kernel_rules.specs.Table.{refused};
 ghost use Rattle.kernel_calls.specs.Settled.{settled};
+ghost use Rattle.kernel_store.specs.Storing.{storing};
 
 use crate::refusals::refused;
 use base::{Meter, ObjectId};
@@ -32,6 +33,8 @@ fn accept<S: Store>(
     ensures ok { OnOk result (S.state state.new ≡ settled (S.state state.old) thread call.now) }
     ensures err { OnErr result (S.state state.new ≡ S.state state.old) }
     ensures meter { is_quiet call.now ≡ true → S.kept meter.new ≡ S.kept meter.old }
+    ensures scans { S.kept meter.new ≤ S.kept meter.old
+        + stores call.now + storing (stores call.now) (S.stored state.old) }
 {
     match call {
         Call::CatCreate => Ok(cat_create(state, thread, meter)),
@@ -95,6 +98,8 @@ pub fn step<S: Store>(
     ensures ok { OnOk result (S.state state.new ≡ next (S.state state.old) thread call.now) }
     ensures err { OnErr result (S.state state.new ≡ S.state state.old) }
     ensures meter { is_quiet call.now ≡ true → S.kept meter.new ≡ S.kept meter.old }
+    ensures scans { S.kept meter.new
+        ≤ S.kept meter.old + most_scans (stores call.now) (S.stored state.old) }
 {
     match refused(state, thread, call, meter) {
         Some(refusal) => Ok(Reply::Refused(refusal)),

@@ -1,7 +1,8 @@
 //! The calls and queries of a kernel over whatever keeps its objects: `step` and `ask` find what
 //! refuses a call, and what it changes and answers where nothing does. They promise the answers and
 //! the states of the rules, that a refused call and want of memory change nothing, and that calls
-//! which name no label compare none anew. What the objects are kept in is left to the store.
+//! which store no label compare none anew, and others at most so many. What the objects are kept in
+//! is left to the store.
 #![tactic(auto)]
 
 mod acceptances;

@@ -2,7 +2,7 @@
 ghost use Rattle.std.specs.Prelude.{◌≡◌, true, None};
 ghost use Rattle.kernel_rules.specs.Step.{found, query_answer};
 ghost use Rattle.kernel_rules.specs.Table.{query_refused};
-ghost use Rattle.kernel_calls.specs.Quiet.{is_load};
+ghost use Rattle.kernel_calls.specs.Scans.{is_load};
 
 use base::{Meter, ObjectId, Refusal};
 use kernel_rules::{Query, Reply};

@@ -1,6 +1,6 @@
 //! What refuses a call.
-ghost use Rattle.std.specs.Prelude.{◌≡◌, true};
-ghost use Rattle.kernel_calls.specs.Quiet.{is_quiet};
+ghost use Rattle.std.specs.Prelude.{◌≡◌, ◌≤◌, ◌+◌, true};
+ghost use Rattle.kernel_calls.specs.Scans.{is_quiet};
 ghost use Rattle.kernel_rules.specs.Table.{refused};
 
 use base::{Meter, ObjectId, Refusal};
@@ -28,6 +28,7 @@ pub fn refused<S: Store>(
 ) -> Option<Refusal>
     ensures value { result ≡ refused (S.state state.now) thread call.now }
     ensures meter { is_quiet call.now ≡ true → S.kept meter.new ≡ S.kept meter.old }
+    ensures scans { S.kept meter.new ≤ S.kept meter.old + 11 }
 {
     match call {
         Call::CatCreate => refused_cat_create(state, thread, meter),

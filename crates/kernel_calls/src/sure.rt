@@ -1,7 +1,7 @@
 //! Calls over a store that never wants memory.
-ghost use Rattle.std.specs.Prelude.{◌≡◌, true};
+ghost use Rattle.std.specs.Prelude.{◌≡◌, ◌≤◌, ◌+◌, true};
 ghost use Rattle.kernel_rules.specs.Step.{answer, next};
-ghost use Rattle.kernel_calls.specs.Quiet.{is_quiet};
+ghost use Rattle.kernel_calls.specs.Scans.{is_quiet, most_scans, stores};
 
 use crate::acceptances::step;
 use base::{Meter, ObjectId};
@@ -20,6 +20,8 @@ pub fn step_surely<S: Store<Want = Infallible>>(
     ensures reply { result ≡ answer (S.state state.old) thread call.now }
     ensures state { S.state state.new ≡ next (S.state state.old) thread call.now }
     ensures meter { is_quiet call.now ≡ true → S.kept meter.new ≡ S.kept meter.old }
+    ensures scans { S.kept meter.new
+        ≤ S.kept meter.old + most_scans (stores call.now) (S.stored state.old) }
 {
     match step(state, thread, call, meter) {
         Ok(reply) => reply,

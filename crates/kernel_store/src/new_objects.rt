@@ -1,5 +1,5 @@
 //! What refuses a new object.
-ghost use Rattle.std.specs.Prelude.{◌≡◌, ◌∷◌, [], ◌||◌, not, is_none, option_copied};
+ghost use Rattle.std.specs.Prelude.{◌≡◌, ◌≤◌, ◌+◌, ◌∷◌, [], ◌||◌, not, is_none, option_copied};
 ghost use Rattle.base.specs.declared.refusals.Refusal.TheVariants as refusal;
 ghost use Rattle.label_lattice.specs.Raw.{all_made, is_bad_below, raw_has_star};
 ghost use Rattle.label_rules.specs.LabelRules.{both, below, between, stored};
@@ -34,8 +34,9 @@ fn fitting<S: Store>(
     pages: u64,
     meter: &mut Meter,
 ) -> [Condition; 8]
-    ensures { result ≡ fitting (S.state state.now) thread
+    ensures value { result ≡ fitting (S.state state.now) thread
         made.now.kind made.now.container made.now.quota pages }
+    ensures meter { S.kept meter.new ≡ S.kept meter.old }
 {
     let seen = state.sight(thread, &itself(made.container), meter);
     let [access] = at_container(&seen);
@@ -103,8 +104,9 @@ pub fn is_in_range<S: Store>(
     label: Option<&Label>,
     meter: &mut Meter,
 ) -> bool
-    ensures { result
+    ensures value { result
         ≡ in_range_of (S.state state.now) thread (option_copied label.entry) }
+    ensures meter { S.kept meter.new ≤ S.kept meter.old + 2 }
 {
     let own = state.label(thread, meter);
     let clearance = state.clearance(thread, meter);
@@ -119,8 +121,9 @@ pub fn new_object<S: Store>(
     pages: u64,
     meter: &mut Meter,
 ) -> [Condition; 10]
-    ensures { result ≡ new_object (S.state state.now) thread
+    ensures value { result ≡ new_object (S.state state.now) thread
         made.now.kind made.now.container made.now.label made.now.quota pages }
+    ensures meter { S.kept meter.new ≤ S.kept meter.old + 3 }
 {
     let stored = stored_of(&made.label, meter);
     let label = stored.as_ref();
@@ -151,8 +154,9 @@ pub fn new_object<S: Store>(
 }
 
 fn is_above<S: Store>(state: &S, thread: ObjectId, label: Option<&Label>, meter: &mut Meter) -> bool
-    ensures { result ≡ both below (label_at (S.state state.now) thread)
+    ensures value { result ≡ both below (label_at (S.state state.now) thread)
         (option_copied label.entry) }
+    ensures meter { S.kept meter.new ≤ S.kept meter.old + 1 }
 {
     let own = state.label(thread, meter);
     is_below(own, label, meter)
@@ -165,8 +169,9 @@ fn is_bounded<S: Store>(
     clearance: Option<&Label>,
     meter: &mut Meter,
 ) -> bool
-    ensures { result ≡ between (option_copied label.entry) (option_copied clearance.entry)
+    ensures value { result ≡ between (option_copied label.entry) (option_copied clearance.entry)
         (clearance_at (S.state state.now) thread) }
+    ensures meter { S.kept meter.new ≤ S.kept meter.old + 2 }
 {
     let own = state.clearance(thread, meter);
     is_between(label, clearance, own, meter)
@@ -180,8 +185,9 @@ pub fn new_bearer<S: Store>(
     raw_clearance: &RawLabel,
     meter: &mut Meter,
 ) -> [Condition; 12]
-    ensures { result ≡ new_bearer (S.state state.now) thread
+    ensures value { result ≡ new_bearer (S.state state.now) thread
         made.now.kind made.now.container made.now.label made.now.quota raw_clearance.now }
+    ensures meter { S.kept meter.new ≤ S.kept meter.old + 5 }
 {
     let stored = stored_of(&made.label, meter);
     let label = stored.as_ref();

@@ -1,5 +1,6 @@
 //! The labels and clearances that a thread may give to what it makes, and to itself.
 ghost use Rattle.std.specs.Prelude.{◌≡◌, option_copied};
+ghost use Rattle.base.specs.Counts.{ScansAtMost};
 ghost use Rattle.label_rules.specs.LabelRules.{between, may_clear};
 
 use crate::orders::{is_below, is_below_join_up};
@@ -15,8 +16,9 @@ pub fn is_between(
     high: Option<&Label>,
     meter: &mut Meter,
 ) -> bool
-    ensures { result ≡ between
+    ensures value { result ≡ between
         (option_copied low.entry) (option_copied label.entry) (option_copied high.entry) }
+    ensures scans { ScansAtMost 2 meter.old meter.new }
 {
     is_below(low, label, meter) && is_below(label, high, meter)
 }
@@ -30,8 +32,9 @@ pub fn may_clear(
     asked: Option<&Label>,
     meter: &mut Meter,
 ) -> bool
-    ensures { result ≡ may_clear
+    ensures value { result ≡ may_clear
         (option_copied own.entry) (option_copied clearance.entry) (option_copied asked.entry) }
+    ensures scans { ScansAtMost 2 meter.old meter.new }
 {
     is_below(own, asked, meter) && is_below_join_up(asked, clearance, own, meter)
 }

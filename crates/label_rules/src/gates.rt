@@ -1,5 +1,6 @@
 //! Who may enter a gate.
 ghost use Rattle.std.specs.Prelude.{◌≡◌, option_copied};
+ghost use Rattle.base.specs.Counts.{ScansAtMost};
 ghost use Rattle.label_rules.specs.LabelRules.{may_enter};
 
 use crate::orders::{is_above_floor, is_below, is_below_join};
@@ -30,7 +31,8 @@ pub struct Asked {
 /// and at most the verify label; the new label is at least the floor of thread and gate, and at
 /// most the new clearance; and that is at most the maximum of both clearances (HiStar, OSDI 2006).
 pub fn may_enter(thread: &Bearer, gate: &Bearer, asked: &Asked, meter: &mut Meter) -> bool
-    ensures { result ≡ may_enter thread.now gate.now asked.now }
+    ensures value { result ≡ may_enter thread.now gate.now asked.now }
+    ensures scans { ScansAtMost 5 meter.old meter.new }
 {
     is_below(thread.label.as_ref(), gate.clearance.as_ref(), meter)
         && is_below(thread.label.as_ref(), asked.verify.as_ref(), meter)

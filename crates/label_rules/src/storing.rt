@@ -1,5 +1,6 @@
 //! Labels as they are stored.
 ghost use Rattle.std.specs.Prelude.{◌≡◌, IfSome};
+ghost use Rattle.base.specs.Counts.{ScansAtMost};
 ghost use Rattle.label_lattice.specs.Label.{IsStored};
 ghost use Rattle.label_rules.specs.LabelRules.{stored, with_category};
 
@@ -11,6 +12,7 @@ use label_lattice::{Label, RawLabel};
 pub fn stored_of(raw: &RawLabel, meter: &mut Meter) -> Option<Label>
     ensures stored { result ≡ stored raw.now }
     ensures fit { IfSome result IsStored }
+    ensures scans { ScansAtMost 1 meter.old meter.new }
 {
     match Label::from_raw(raw, meter) {
         Ok(label) => Some(label),
@@ -28,6 +30,7 @@ pub fn with_category(
 ) -> Option<Label>
     ensures value { result ≡ with_category label.now category level }
     ensures fit { IfSome result IsStored }
+    ensures scans { ScansAtMost 1 meter.old meter.new }
 {
     label.with(category, level, meter)
 }

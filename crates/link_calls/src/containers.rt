@@ -1,9 +1,10 @@
 //! The calls that make containers and read their lists.
-ghost use Rattle.std.specs.Prelude.{◌≡◌, None, IfOk, OnOk, OnErr};
+ghost use Rattle.std.specs.Prelude.{◌≡◌, ◌≤◌, ◌+◌, None, IfOk, OnOk, OnErr};
 ghost use Rattle.kernel_rules.specs.Step.{accepted, edit, found};
 ghost use Rattle.kernel_rules.specs.Table.{refused, query_refused};
 ghost use Rattle.kernel_rules.specs.declared.calls.Call.TheVariants as call;
 ghost use Rattle.kernel_rules.specs.declared.calls.Query.TheVariants as query;
+ghost use Rattle.kernel_store.specs.Storing.{storing};
 
 use base::{Kind, Meter, ObjectId, Refusal};
 use kernel_rules::{NewContainer, Reply};
@@ -17,7 +18,8 @@ pub fn refused_container_create<S: Store>(
     made: &NewContainer,
     meter: &mut Meter,
 ) -> Option<Refusal>
-    ensures { result ≡ refused (S.state state.now) thread (call.ContainerCreate made.now) }
+    ensures value { result ≡ refused (S.state state.now) thread (call.ContainerCreate made.now) }
+    ensures meter { S.kept meter.new ≤ S.kept meter.old + 3 }
 {
     let object = NewObject {
         kind: Kind::Container,
@@ -44,6 +46,8 @@ pub fn container_create<S: Store>(
     ensures ok { OnOk result (S.state state.new ≡ edit (S.state state.old) thread
         (call.ContainerCreate made.now)) }
     ensures err { OnErr result (S.state state.new ≡ S.state state.old) }
+    ensures meter { S.kept meter.new
+        ≤ S.kept meter.old + 1 + storing 1 (S.stored state.old) }
 {
     let kinds = state.joined(made.container, made.avoid, meter);
     let label = stored_of(&made.label, meter);

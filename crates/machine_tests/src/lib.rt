@@ -1,5 +1,6 @@
 //! Tests of both machines, the plain one and the arena kernel, each against the other: storms of calls
-//! drawn from a stated seed, after which their tables are the same, and calls after boot without memory.
+//! drawn from a stated seed, after which their tables are the same, and calls after boot without memory; and
+//! how many labels calls of the arena kernel scan.
 #![tactic(auto)]
 
 /// This crate has tests alone.
@@ -13,5 +14,7 @@ mod drawn;
 mod kept_tests;
 #[cfg(test)]
 mod known;
+#[cfg(test)]
+mod scan_tests;
 #[cfg(test)]
 mod storm_tests;

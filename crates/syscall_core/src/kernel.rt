@@ -1,5 +1,5 @@
 //! The arena kernel: what it keeps equals recomputation, and no call takes memory after boot.
-ghost use Rattle.std.specs.Prelude.{◌≡◌, ◌↔◌, true, false, IfOk, IfSome, IfNone, IsErrOf, None, option_copied};
+ghost use Rattle.std.specs.Prelude.{◌≡◌, ◌≤◌, ◌+◌, ◌↔◌, true, false, IfOk, IfSome, IfNone, IsErrOf, None, option_copied};
 ghost use Rattle.std.specs.Prelude.{option_map, slice_get};
 ghost use Rattle.base.specs.Limits.{in_range};
 ghost use Rattle.base.specs.declared.kinds.Kind.TheVariants as kinds;
@@ -106,16 +106,21 @@ impl Kernel {
 
 impl Kernel {
     ghost use Rattle.kernel_rules.specs.Step.{answer, next, query_answer};
-    ghost use Rattle.kernel_calls.specs.Quiet.{is_quiet};
+    ghost use Rattle.kernel_calls.specs.Scans.{is_quiet, most_scans, stores};
+    ghost use Rattle.kernel_store.specs.Storing.{label_count};
     ghost use Rattle.syscall_core.specs.Kernel.{kernel_state};
 
     /// One call of a thread that may change the state, as `Machine::step` says; it takes no memory, so
-    /// there is no error. A call that names no label and makes none scans none, refused or not.
+    /// there is no error. A call that stores no label scans none, refused or not; one that stores n labels,
+    /// where objects carry m different ones before it, scans at most 12 + 6(n + 1)(m + n) times.
     pub fn step_surely(&mut self, thread: ObjectId, call: &Call, meter: &mut Meter) -> Reply
         ensures reply { result ≡ answer (kernel_state self.old) thread call.now }
         ensures state { kernel_state self.new ≡ next (kernel_state self.old) thread call.now }
         ensures quiet { is_quiet call.now ≡ true → meter.new.scans ≡ meter.old.scans }
+        ensures scans { meter.new.scans ≤ meter.old.scans
+            + most_scans (stores call.now) (label_count (kernel_state self.old)) }
     {
+        self.state.labels_are_carried();
         step_surely(self, thread, call, meter)
     }
 
@@ -130,8 +135,10 @@ impl Kernel {
 }
 
 impl Machine for Kernel {
-    ghost use Rattle.std.specs.Prelude.{IsOk, IfOk, OnOk, OnErr, ◌≡◌};
+    ghost use Rattle.std.specs.Prelude.{IsOk, IfOk, OnOk, OnErr, ◌≡◌, ◌≤◌, ◌+◌};
+    ghost use Rattle.kernel_calls.specs.Scans.{most_scans, stores};
     ghost use Rattle.kernel_rules.specs.Step.{answer, next, query_answer};
+    ghost use Rattle.kernel_store.specs.Storing.{label_count};
     ghost use Rattle.syscall_core.specs.Kernel.{kernel_state};
 
     ghost state = { kernel_state };
@@ -141,6 +148,8 @@ impl Machine for Kernel {
         ensures ok { OnOk result (kernel_state self.new ≡ next (kernel_state self.old) thread call.now) }
         ensures err { OnErr result (kernel_state self.new ≡ kernel_state self.old) }
         ensures sure { IsOk result }
+        ensures scans { meter.new.scans ≤ meter.old.scans
+            + most_scans (stores call.now) (label_count (kernel_state self.old)) }
     {
         Ok(self.step_surely(thread, call, meter))
     }

@@ -12,10 +12,13 @@ use std::convert::Infallible;
 impl Store for Kernel {
     ghost use Rattle.syscall_core.specs.Kernel.{kernel_state};
     ghost use Rattle.arena_state.proofs.StockLaws.{whole_formed};
+    ghost use Rattle.arena_state.specs.States.{labels_stored};
 
     ghost state = { kernel_state };
 
     ghost kept = { λ m. m.scans };
+
+    ghost stored = { λ k. labels_stored k.state };
 
     ghost spends = { λ n a b. Unit {0} };
 
@@ -327,6 +330,8 @@ impl Store for Kernel {
     }
 
     ghost sound = { λ s. whole_formed s.state.pieces s.state.sound s.state.stocked };
+
+    ghost kept_scans = { λ n l m h. h.no_more };
 
     ghost none_spent = { λ m. tt };
 

@@ -1,10 +1,11 @@
 //! The call that makes a category.
-ghost use Rattle.std.specs.Prelude.{◌≡◌, ◌||◌, is_none, None, IfSome};
+ghost use Rattle.std.specs.Prelude.{◌≡◌, ◌≤◌, ◌+◌, ◌||◌, is_none, None, IfSome};
 ghost use Rattle.label_lattice.specs.Label.{IsStored};
 ghost use Rattle.kernel_rules.specs.Rows.{own_label, own_clearance};
 ghost use Rattle.kernel_rules.specs.Step.{accepted, edit};
 ghost use Rattle.kernel_rules.specs.Table.{refused};
 ghost use Rattle.kernel_rules.specs.declared.calls.Call.TheVariants as call;
+ghost use Rattle.kernel_store.specs.Storing.{storing};
 
 use base::{Category, Level, Meter, ObjectId, Refusal};
 use kernel_rules::Reply;
@@ -16,6 +17,7 @@ use label_rules::with_category;
 fn own_label<S: Store>(state: &S, thread: ObjectId, meter: &mut Meter) -> Option<Label>
     ensures value { result ≡ own_label (S.state state.now) thread }
     ensures fit { IfSome result IsStored }
+    ensures meter { S.kept meter.new ≤ S.kept meter.old + 1 }
 {
     let category = Category(state.next_category());
     match state.label(thread, meter) {
@@ -28,6 +30,7 @@ fn own_label<S: Store>(state: &S, thread: ObjectId, meter: &mut Meter) -> Option
 fn own_clearance<S: Store>(state: &S, thread: ObjectId, meter: &mut Meter) -> Option<Label>
     ensures value { result ≡ own_clearance (S.state state.now) thread }
     ensures fit { IfSome result IsStored }
+    ensures meter { S.kept meter.new ≤ S.kept meter.old + 1 }
 {
     let category = Category(state.next_category());
     match state.clearance(thread, meter) {
@@ -37,8 +40,9 @@ fn own_clearance<S: Store>(state: &S, thread: ObjectId, meter: &mut Meter) -> Op
 }
 
 fn is_full<S: Store>(state: &S, thread: ObjectId, meter: &mut Meter) -> bool
-    ensures { result ≡ (is_none (own_label (S.state state.now) thread)
+    ensures value { result ≡ (is_none (own_label (S.state state.now) thread)
         || is_none (own_clearance (S.state state.now) thread)) }
+    ensures meter { S.kept meter.new ≤ S.kept meter.old + 2 }
 {
     own_label(state, thread, meter).is_none() || own_clearance(state, thread, meter).is_none()
 }
@@ -49,7 +53,8 @@ pub fn refused_cat_create<S: Store>(
     thread: ObjectId,
     meter: &mut Meter,
 ) -> Option<Refusal>
-    ensures { result ≡ refused (S.state state.now) thread call.CatCreate }
+    ensures value { result ≡ refused (S.state state.now) thread call.CatCreate }
+    ensures meter { S.kept meter.new ≤ S.kept meter.old + 2 }
 {
     let full = is_full(state, thread, meter);
     let spent = 1 << 61 <= state.next_category();
@@ -64,6 +69,8 @@ pub fn cat_create<S: Store>(state: &mut S, thread: ObjectId, meter: &mut Meter) 
     requires { refused (S.state state.old) thread call.CatCreate ≡ None }
     ensures reply { result ≡ accepted (S.state state.old) thread call.CatCreate }
     ensures state { S.state state.new ≡ edit (S.state state.old) thread call.CatCreate }
+    ensures meter { S.kept meter.new
+        ≤ S.kept meter.old + 2 + storing 2 (S.stored state.old) }
 {
     let category = Category(state.next_category());
     let label = own_label(state, thread, meter);

@@ -1,5 +1,6 @@
 //! The calls that make and enter gates.
-ghost use Rattle.std.specs.Prelude.{◌≡◌, ◌∷◌, [], None, IfOk, OnOk, OnErr, IfSome};
+ghost use Rattle.std.specs.Prelude.{◌≡◌, ◌≤◌, ◌+◌, ◌∷◌, [], None, IfOk, OnOk, OnErr, IfSome};
+ghost use Rattle.base.specs.Counts.{ScansAtMost};
 ghost use Rattle.base.specs.declared.refusals.Refusal.TheVariants as refusal;
 ghost use Rattle.label_lattice.specs.Label.{IsStored};
 ghost use Rattle.label_rules.specs.LabelRules.{may_enter, stored};
@@ -10,6 +11,7 @@ ghost use Rattle.label_lattice.specs.Raw.{is_bad_below};
 ghost use Rattle.kernel_rules.specs.Step.{accepted, edit, through_gate, told_by};
 ghost use Rattle.kernel_rules.specs.Table.{refused, own_bearer, gate_bearer};
 ghost use Rattle.kernel_rules.specs.declared.calls.Call.TheVariants as call;
+ghost use Rattle.kernel_store.specs.Storing.{storing};
 
 use base::{Kind, Meter, ObjectId, Refusal};
 use kernel_rules::{Entry, Gate, NewGate, Reply};
@@ -27,7 +29,8 @@ pub fn refused_gate_create<S: Store>(
     made: &NewGate,
     meter: &mut Meter,
 ) -> Option<Refusal>
-    ensures { result ≡ refused (S.state state.now) thread (call.GateCreate made.now) }
+    ensures value { result ≡ refused (S.state state.now) thread (call.GateCreate made.now) }
+    ensures meter { S.kept meter.new ≤ S.kept meter.old + 5 }
 {
     let halted = halted(state, thread, meter);
     let space = state.sight(thread, &made.space, meter);
@@ -57,6 +60,8 @@ pub fn gate_create<S: Store>(
     ensures ok { OnOk result (S.state state.new ≡ edit (S.state state.old) thread
         (call.GateCreate made.now)) }
     ensures err { OnErr result (S.state state.new ≡ S.state state.old) }
+    ensures meter { S.kept meter.new
+        ≤ S.kept meter.old + 2 + storing 2 (S.stored state.old) }
 {
     let label = stored_of(&made.label, meter);
     let Some(clearance) = stored_of(&made.clearance, meter) else {
@@ -73,7 +78,8 @@ pub fn gate_create<S: Store>(
 }
 
 fn own_bearer<S: Store>(state: &S, thread: ObjectId, meter: &mut Meter) -> Bearer
-    ensures { result ≡ own_bearer (S.state state.now) thread }
+    ensures value { result ≡ own_bearer (S.state state.now) thread }
+    ensures meter { S.kept meter.new ≡ S.kept meter.old }
 {
     Bearer {
         label: state.label(thread, meter).copied(),
@@ -82,7 +88,8 @@ fn own_bearer<S: Store>(state: &S, thread: ObjectId, meter: &mut Meter) -> Beare
 }
 
 fn gate_bearer<S: Store>(state: &S, gate: ObjectId, meter: &mut Meter) -> Bearer
-    ensures { result ≡ gate_bearer (S.state state.now) gate }
+    ensures value { result ≡ gate_bearer (S.state state.now) gate }
+    ensures meter { S.kept meter.new ≡ S.kept meter.old }
 {
     let clearance = match state.gate(gate, meter) {
         None => None,
@@ -101,8 +108,9 @@ fn is_open<S: Store>(
     asked: &Asked,
     meter: &mut Meter,
 ) -> bool
-    ensures { result ≡ may_enter (own_bearer (S.state state.now) thread)
+    ensures value { result ≡ may_enter (own_bearer (S.state state.now) thread)
         (gate_bearer (S.state state.now) gate) asked.now }
+    ensures meter { S.kept meter.new ≤ S.kept meter.old + 5 }
 {
     let own = own_bearer(state, thread, meter);
     let gate = gate_bearer(state, gate, meter);
@@ -130,6 +138,7 @@ fn asked_of(entering: &Entering, meter: &mut Meter) -> Asked
     ensures label { IfSome result.label IsStored }
     ensures clearance { IfSome result.clearance IsStored }
     ensures verify { IfSome result.verify IsStored }
+    ensures scans { ScansAtMost 3 meter.old meter.new }
 {
     Asked {
         label: stored_of(&entering.label, meter),
@@ -140,8 +149,9 @@ fn asked_of(entering: &Entering, meter: &mut Meter) -> Asked
 
 /// The raw label can be that of a thread, a clearance or a verify label.
 fn good_raw_label<S: Store>(state: &S, raw: &RawLabel, meter: &mut Meter) -> [Condition; 1]
-    ensures { result ≡ (refusal.BadLabel, is_bad_below (S.state state.now).next_category raw.now)
+    ensures value { result ≡ (refusal.BadLabel, is_bad_below (S.state state.now).next_category raw.now)
         ∷ [] }
+    ensures meter { S.kept meter.new ≤ S.kept meter.old + 1 }
 {
     let label = stored_of(raw, meter);
     good_label(state, raw, label.as_ref())
@@ -155,9 +165,10 @@ pub fn refused_gate_enter<S: Store>(
     entering: &Entering,
     meter: &mut Meter,
 ) -> Option<Refusal>
-    ensures { result ≡ refused (S.state state.now) thread
+    ensures value { result ≡ refused (S.state state.now) thread
         (call.GateEnter gate.now entering.now.label
         entering.now.clearance entering.now.verify) }
+    ensures meter { S.kept meter.new ≤ S.kept meter.old + 11 }
 {
     let halted = halted(state, thread, meter);
     let seen = state.sight(thread, gate, meter);
@@ -184,8 +195,10 @@ fn enter<S: Store>(
     requires label { IfSome asked.now.label IsStored }
     requires clearance { IfSome asked.now.clearance IsStored }
     requires verify { IfSome asked.now.verify IsStored }
-    ensures { S.state state.new ≡ through_gate (S.state state.old) thread
+    ensures state { S.state state.new ≡ through_gate (S.state state.old) thread
         asked.now.label asked.now.clearance asked.now.verify gate.now }
+    ensures meter { S.kept meter.new
+        ≤ S.kept meter.old + storing 3 (S.stored state.old) }
 {
     if let Some(label) = asked.label {
         if let Some(clearance) = asked.clearance {
@@ -225,6 +238,8 @@ pub fn gate_enter<S: Store>(
     ensures state { S.state state.new ≡ edit (S.state state.old) thread
         (call.GateEnter gate.now entering.now.label
         entering.now.clearance entering.now.verify) }
+    ensures meter { S.kept meter.new
+        ≤ S.kept meter.old + 3 + storing 3 (S.stored state.old) }
 {
     let asked = asked_of(entering, meter);
     let entered = state.gate(gate.object, meter);

@@ -1,10 +1,11 @@
 //! The calls by which a thread changes its label and its clearance.
-ghost use Rattle.std.specs.Prelude.{◌≡◌, None, option_copied};
+ghost use Rattle.std.specs.Prelude.{◌≡◌, ◌≤◌, ◌+◌, None, option_copied};
 ghost use Rattle.label_rules.specs.LabelRules.{may_clear};
 ghost use Rattle.kernel_rules.specs.State.{label_at, clearance_at};
 ghost use Rattle.kernel_rules.specs.Step.{accepted, edit};
 ghost use Rattle.kernel_rules.specs.Table.{refused};
 ghost use Rattle.kernel_rules.specs.declared.calls.Call.TheVariants as call;
+ghost use Rattle.kernel_store.specs.Storing.{storing};
 
 use base::{Meter, ObjectId, Refusal};
 use kernel_rules::Reply;
@@ -19,7 +20,8 @@ pub fn refused_self_set_label<S: Store>(
     raw: &RawLabel,
     meter: &mut Meter,
 ) -> Option<Refusal>
-    ensures { result ≡ refused (S.state state.now) thread (call.SelfSetLabel raw.now) }
+    ensures value { result ≡ refused (S.state state.now) thread (call.SelfSetLabel raw.now) }
+    ensures meter { S.kept meter.new ≤ S.kept meter.old + 3 }
 {
     let label = stored_of(raw, meter);
     let label = label.as_ref();
@@ -41,6 +43,8 @@ pub fn self_set_label<S: Store>(
     ensures reply { result ≡ accepted (S.state state.old) thread (call.SelfSetLabel raw.now) }
     ensures state { S.state state.new
         ≡ edit (S.state state.old) thread (call.SelfSetLabel raw.now) }
+    ensures meter { S.kept meter.new
+        ≤ S.kept meter.old + 1 + storing 1 (S.stored state.old) }
 {
     let label = stored_of(raw, meter);
     state.set_label(thread, label, meter);
@@ -53,8 +57,9 @@ fn may_clear_to<S: Store>(
     asked: Option<&Label>,
     meter: &mut Meter,
 ) -> bool
-    ensures { result ≡ may_clear (label_at (S.state state.now) thread)
+    ensures value { result ≡ may_clear (label_at (S.state state.now) thread)
         (clearance_at (S.state state.now) thread) (option_copied asked.entry) }
+    ensures meter { S.kept meter.new ≤ S.kept meter.old + 2 }
 {
     let label = state.label(thread, meter);
     let clearance = state.clearance(thread, meter);
@@ -68,7 +73,8 @@ pub fn refused_self_set_clearance<S: Store>(
     raw: &RawLabel,
     meter: &mut Meter,
 ) -> Option<Refusal>
-    ensures { result ≡ refused (S.state state.now) thread (call.SelfSetClearance raw.now) }
+    ensures value { result ≡ refused (S.state state.now) thread (call.SelfSetClearance raw.now) }
+    ensures meter { S.kept meter.new ≤ S.kept meter.old + 3 }
 {
     let clearance = stored_of(raw, meter);
     let clearance = clearance.as_ref();
@@ -90,6 +96,8 @@ pub fn self_set_clearance<S: Store>(
     ensures reply { result ≡ accepted (S.state state.old) thread (call.SelfSetClearance raw.now) }
     ensures state { S.state state.new
         ≡ edit (S.state state.old) thread (call.SelfSetClearance raw.now) }
+    ensures meter { S.kept meter.new
+        ≤ S.kept meter.old + 1 + storing 1 (S.stored state.old) }
 {
     let clearance = stored_of(raw, meter);
     state.set_clearance(thread, clearance, meter);

@@ -1,9 +1,10 @@
 //! The calls that make threads, give them an address space, and tell what they are.
-ghost use Rattle.std.specs.Prelude.{◌≡◌, None, IfOk, OnOk, OnErr};
+ghost use Rattle.std.specs.Prelude.{◌≡◌, ◌≤◌, ◌+◌, None, IfOk, OnOk, OnErr};
 ghost use Rattle.kernel_rules.specs.Step.{accepted, edit, found};
 ghost use Rattle.kernel_rules.specs.Table.{refused, query_refused};
 ghost use Rattle.kernel_rules.specs.declared.calls.Call.TheVariants as call;
 ghost use Rattle.kernel_rules.specs.declared.calls.Query.TheVariants as query;
+ghost use Rattle.kernel_store.specs.Storing.{storing};
 
 use base::{Kind, Meter, ObjectId, Refusal};
 use kernel_rules::{Entry, NewThread, Reply};
@@ -48,7 +49,8 @@ pub fn refused_thread_create<S: Store>(
     made: &NewThread,
     meter: &mut Meter,
 ) -> Option<Refusal>
-    ensures { result ≡ refused (S.state state.now) thread (call.ThreadCreate made.now) }
+    ensures value { result ≡ refused (S.state state.now) thread (call.ThreadCreate made.now) }
+    ensures meter { S.kept meter.new ≤ S.kept meter.old + 5 }
 {
     let object = NewObject {
         kind: Kind::Thread,
@@ -75,6 +77,8 @@ pub fn thread_create<S: Store>(
     ensures ok { OnOk result (S.state state.new ≡ edit (S.state state.old) thread
         (call.ThreadCreate made.now)) }
     ensures err { OnErr result (S.state state.new ≡ S.state state.old) }
+    ensures meter { S.kept meter.new
+        ≤ S.kept meter.old + 2 + storing 3 (S.stored state.old) }
 {
     let label = stored_of(&made.label, meter);
     let Some(clearance) = stored_of(&made.clearance, meter) else {

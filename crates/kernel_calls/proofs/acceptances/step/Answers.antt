@@ -2,6 +2,7 @@ use Rattle.std.proofs.Common.{◌≡◌, true, sym, ◌∙◌, subst}
 use Rattle.kernel_rules.specs.State.{State}
 use Rattle.kernel_rules.specs.WellFormed.{is_well_formed}
 use Rattle.kernel_rules.proofs.StepLaws.{step_refused, step_done}
+use Rattle.kernel_calls.proofs.ScanLaws.{scans_within, looked_within}
 use Rattle.kernel_calls.proofs.SettleLaws.{settled_next}
 use Rattle.kernel_calls.proofs.acceptances.step.Goals as goal
 
@@ -22,3 +23,12 @@ returns-in_ok-reply-in-None-clause-ok g c =
     ∙ settled_next _ _ _ (sym c.refused.ensures.value ∙ c.in-None.is)
     (subst (λ (s : State). is_well_formed s ≡ true) c.in_ok-reply-in-None.ensures.ok
     (g.met.S.Store.sound _))
+
+pub returns-in-Some-clause-scans : goal.returns-in-Some-clause-scans
+returns-in-Some-clause-scans g c =
+    looked_within c.args.call.now (g.S.Store.stored c.args.state.now) _ _ c.refused.ensures.scans
+
+pub returns-in_ok-reply-in-None-clause-scans : goal.returns-in_ok-reply-in-None-clause-scans
+returns-in_ok-reply-in-None-clause-scans g c =
+    scans_within c.args.call.now (g.S.Store.stored c.args.state.now) _ _ _
+    c.refused.ensures.scans c.accept.ensures.scans

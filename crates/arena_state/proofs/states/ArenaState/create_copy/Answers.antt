@@ -71,12 +71,12 @@ invariant_of-self c =
           c.in-Some.parent.0 c.in-Some.ensures.found.has c.intern-label.new.self c.intern-label.result.0 c.fresh_record-given.result
           c.fresh_record-given.ensures c.place-made.new.pieces c.place-made.ensures.placed c.intern-label.ensures.takes c.intern-label.ensures.given
           c.place-made.result.slot.0 c.place-made.ensures.slot c.slot-from.result c.slot-from.ensures.found c.slot-from.ensures.none
-          c.copy_bytes.new.segments c.copy_bytes.ensures;
+          c.copy_bytes.new.segments c.copy_bytes.ensures.after;
       stocked = copy_stocked c.args.self.now c.args.container c.args.quota c.args.label.now c.args.source c.page_count-pages.result c.page_count-pages.ensures.value c.requires.fitting (stored_test c.args.label.now c.requires.label)
           c.in-Some.parent.0 c.in-Some.ensures.found.has c.intern-label.new.self c.intern-label.result.0 c.fresh_record-given.result
           c.fresh_record-given.ensures c.place-made.new.pieces c.place-made.ensures.placed c.intern-label.ensures.takes c.intern-label.ensures.given
           c.place-made.result.slot.0 c.place-made.ensures.slot c.slot-from.result c.slot-from.ensures.found c.slot-from.ensures.none
-          c.copy_bytes.new.segments c.copy_bytes.ensures;
+          c.copy_bytes.new.segments c.copy_bytes.ensures.after;
     }
 
 pub returns-clause-state : goal.returns-clause-state
@@ -85,4 +85,4 @@ returns-clause-state c =
     c.in-Some.parent.0 c.in-Some.ensures.found.has c.intern-label.new.self c.intern-label.result.0 c.fresh_record-given.result
     c.fresh_record-given.ensures c.place-made.new.pieces c.place-made.ensures.placed c.intern-label.ensures.takes c.intern-label.ensures.given
     c.place-made.result.slot.0 c.place-made.ensures.slot c.slot-from.result c.slot-from.ensures.found c.slot-from.ensures.none
-    c.copy_bytes.new.segments c.copy_bytes.ensures
+    c.copy_bytes.new.segments c.copy_bytes.ensures.after

@@ -73,7 +73,7 @@ invariant_of-self c = record {
       c.fresh_record-given.result c.fresh_record-given.ensures c.place.new.pieces c.place.ensures.placed
       (takes_as _ _ _ _ (λ i. rw c.kept_thread-thread.ensures (omega arith)) (takes_then _ _ _ _ _ (takes_then _ _ _ _ _ c.intern-label.ensures.takes c.intern-clearance.ensures.takes) c.intern-verify.ensures.takes)) (still _ _ _ _ _ _ c.intern-label.ensures.takes c.intern-label.ensures.given (takes_then _ _ _ _ _ c.intern-clearance.ensures.takes c.intern-verify.ensures.takes)) (rw c.kept_thread-thread.ensures (λ i. is.Thread (record {
         clearance = still _ _ _ _ _ _ c.intern-clearance.ensures.takes c.intern-clearance.ensures.given c.intern-verify.ensures.takes i;
-        verify = (c.intern-verify.ensures.given ∙ c.uniform-top.ensures) i;
+        verify = (c.intern-verify.ensures.given ∙ c.uniform-top.ensures.value) i;
         space = record { container = 0; object = 0 };
         entry_point = c.args.entry_point;
         closure = 0;
@@ -84,7 +84,7 @@ invariant_of-self c = record {
       c.fresh_record-given.result c.fresh_record-given.ensures c.place.new.pieces c.place.ensures.placed
       (takes_as _ _ _ _ (λ i. rw c.kept_thread-thread.ensures (omega arith)) (takes_then _ _ _ _ _ (takes_then _ _ _ _ _ c.intern-label.ensures.takes c.intern-clearance.ensures.takes) c.intern-verify.ensures.takes)) (still _ _ _ _ _ _ c.intern-label.ensures.takes c.intern-label.ensures.given (takes_then _ _ _ _ _ c.intern-clearance.ensures.takes c.intern-verify.ensures.takes)) (rw c.kept_thread-thread.ensures (λ i. is.Thread (record {
         clearance = still _ _ _ _ _ _ c.intern-clearance.ensures.takes c.intern-clearance.ensures.given c.intern-verify.ensures.takes i;
-        verify = (c.intern-verify.ensures.given ∙ c.uniform-top.ensures) i;
+        verify = (c.intern-verify.ensures.given ∙ c.uniform-top.ensures.value) i;
         space = record { container = 0; object = 0 };
         entry_point = c.args.entry_point;
         closure = 0;
@@ -95,7 +95,7 @@ invariant_of-self c = record {
       c.fresh_record-given.result c.fresh_record-given.ensures c.place.new.pieces c.place.ensures.placed
       (takes_as _ _ _ _ (λ i. rw c.kept_thread-thread.ensures (omega arith)) (takes_then _ _ _ _ _ (takes_then _ _ _ _ _ c.intern-label.ensures.takes c.intern-clearance.ensures.takes) c.intern-verify.ensures.takes)) (still _ _ _ _ _ _ c.intern-label.ensures.takes c.intern-label.ensures.given (takes_then _ _ _ _ _ c.intern-clearance.ensures.takes c.intern-verify.ensures.takes)) (rw c.kept_thread-thread.ensures (λ i. is.Thread (record {
         clearance = still _ _ _ _ _ _ c.intern-clearance.ensures.takes c.intern-clearance.ensures.given c.intern-verify.ensures.takes i;
-        verify = (c.intern-verify.ensures.given ∙ c.uniform-top.ensures) i;
+        verify = (c.intern-verify.ensures.given ∙ c.uniform-top.ensures.value) i;
         space = record { container = 0; object = 0 };
         entry_point = c.args.entry_point;
         closure = 0;
@@ -110,7 +110,7 @@ returns-clause-state c =
     c.fresh_record-given.result c.fresh_record-given.ensures c.place.new.pieces c.place.ensures.placed
     (takes_as _ _ _ _ (λ i. rw c.kept_thread-thread.ensures (omega arith)) (takes_then _ _ _ _ _ (takes_then _ _ _ _ _ c.intern-label.ensures.takes c.intern-clearance.ensures.takes) c.intern-verify.ensures.takes)) (still _ _ _ _ _ _ c.intern-label.ensures.takes c.intern-label.ensures.given (takes_then _ _ _ _ _ c.intern-clearance.ensures.takes c.intern-verify.ensures.takes)) (rw c.kept_thread-thread.ensures (λ i. is.Thread (record {
       clearance = still _ _ _ _ _ _ c.intern-clearance.ensures.takes c.intern-clearance.ensures.given c.intern-verify.ensures.takes i;
-      verify = (c.intern-verify.ensures.given ∙ c.uniform-top.ensures) i;
+      verify = (c.intern-verify.ensures.given ∙ c.uniform-top.ensures.value) i;
       space = record { container = 0; object = 0 };
       entry_point = c.args.entry_point;
       closure = 0;
@@ -121,7 +121,7 @@ returns-clause-state c =
     c.fresh_record-given.result c.fresh_record-given.ensures c.place.new.pieces c.place.ensures.placed
     (takes_as _ _ _ _ (λ i. rw c.kept_thread-thread.ensures (omega arith)) (takes_then _ _ _ _ _ (takes_then _ _ _ _ _ c.intern-label.ensures.takes c.intern-clearance.ensures.takes) c.intern-verify.ensures.takes)) (still _ _ _ _ _ _ c.intern-label.ensures.takes c.intern-label.ensures.given (takes_then _ _ _ _ _ c.intern-clearance.ensures.takes c.intern-verify.ensures.takes)) (rw c.kept_thread-thread.ensures (λ i. is.Thread (record {
       clearance = still _ _ _ _ _ _ c.intern-clearance.ensures.takes c.intern-clearance.ensures.given c.intern-verify.ensures.takes i;
-      verify = (c.intern-verify.ensures.given ∙ c.uniform-top.ensures) i;
+      verify = (c.intern-verify.ensures.given ∙ c.uniform-top.ensures.value) i;
       space = record { container = 0; object = 0 };
       entry_point = c.args.entry_point;
       closure = 0;

@@ -55,8 +55,8 @@ invariant_of-self c = record {
       c.args.self.now.stocked;
 }
 
-pub returns-in-Thread : goal.returns-in-Thread
-returns-in-Thread c =
+pub returns-in-Thread-clause-state : goal.returns-in-Thread-clause-state
+returns-in-Thread-clause-state c =
     held_state c.args.self.now.pieces (with_both c.args.self.now.pieces c.in-Some.slot.0 c.rebind.new.given c.let_go-in-Thread-2.new.self)
     (rebound_held c.args.self.now.pieces c.args.self.now.sound c.args.thread c.in-Some.slot.0 c.in-Some.ensures.found.has
     c.rebind.new.given c.let_go-in-Thread-2.new.self
@@ -77,9 +77,9 @@ returns-in-Thread c =
     (lets_then _ _ _ _ _ c.let_go.ensures.lets (lets_then _ _ _ _ _ c.let_go-in-Thread.ensures.lets c.let_go-in-Thread-2.ensures.lets)))
     c.index_mut.result.now (read_is c.args.self.now.pieces c.args.self.now.sound c.args.thread c.in-Some.slot.0 c.in-Some.ensures.found.has c.index_mut.result.now c.index_mut.ensures.value)))
 
-pub returns-in_default : goal.returns-in_default
-returns-in_default c =
-    c.set_label.ensures
+pub returns-in_default-clause-state : goal.returns-in_default-clause-state
+returns-in_default-clause-state c =
+    c.set_label.ensures.state
     ∙ sym (whole_changed c.args.self.now.pieces c.args.self.now.sound c.args.thread (labelled c.args.label.now) (λ o x. refl))
     ∙ ap (filled_state (content_at c.args.self.now.pieces)) (entered_other c.args.self.now.pieces c.args.self.now.sound c.args.thread c.in-Some.slot.0 c.in-Some.ensures.found.has
     c.args.label.now c.args.clearance.now c.args.verify.now c.args.gate.now

@@ -34,8 +34,8 @@ invariant_of-self c = record {
       c.args.self.now.stocked;
 }
 
-pub returns-in-Thread : goal.returns-in-Thread
-returns-in-Thread c =
+pub returns-in-Thread-clause-state : goal.returns-in-Thread-clause-state
+returns-in-Thread-clause-state c =
     held_state c.args.self.now.pieces (with_both c.args.self.now.pieces c.in-Some.slot.0 c.reclear.new.given c.let_go.new.self)
     (rebound_held c.args.self.now.pieces c.args.self.now.sound c.args.thread c.in-Some.slot.0 c.in-Some.ensures.found.has
     c.reclear.new.given c.let_go.new.self
@@ -53,8 +53,8 @@ returns-in-Thread c =
     c.let_go.ensures.lets c.index_mut.result.now
     (read_is c.args.self.now.pieces c.args.self.now.sound c.args.thread c.in-Some.slot.0 c.in-Some.ensures.found.has c.index_mut.result.now c.index_mut.ensures.value)))
 
-pub returns-in_default : goal.returns-in_default
-returns-in_default c =
+pub returns-in_default-clause-state : goal.returns-in_default-clause-state
+returns-in_default-clause-state c =
     held_state c.args.self.now.pieces c.args.self.now.pieces (held_same c.args.self.now.pieces)
     c.args.self.now.sound c.args.thread (cleared c.args.clearance.now) (cleared_apart c.args.clearance.now)
     (uncleared_state c.args.self.now.pieces c.args.self.now.sound c.args.thread c.in-Some.slot.0 c.in-Some.ensures.found.has c.args.clearance.now

@@ -31,8 +31,8 @@ invariant_of-self c =
           c.args.self.now.stocked;
     }
 
-pub returns-in-Some : goal.returns-in-Some
-returns-in-Some c =
+pub returns-in-Some-clause-state : goal.returns-in-Some-clause-state
+returns-in-Some-clause-state c =
     let row = c.in-Some.ensures.found.has in
     let read = read_is c.args.self.now.pieces c.args.self.now.sound c.args.id c.in-Some.slot.0 row in
     held_state c.args.self.now.pieces
