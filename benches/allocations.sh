@@ -9,12 +9,12 @@ bench=$top/crates/bench_structures/out/bench_structures
 folder=$(mktemp -d)
 trap 'rm -rf "$folder"' EXIT
 built=$(cd "$top/crates/bench_structures" && rt run --jobs 1 2>&1) || { echo "$built" >&2; exit 1; }
-${CC:-cc} -O1 -shared -fPIC -o "$folder/count.so" "$top/benches/count_allocations.c" -ldl
+${CC:-cc} -O1 -shared -fPIC -w -o "$folder/count.so" "$top/gate/count.c"
 
 LD_PRELOAD=$folder/count.so "$bench" calls "$rounds" >"$folder/told"
 cat "$folder/told"
-booted=$(sed -n 's/^allocations \([0-9]*\) at: booted$/\1/p' "$folder/told")
-played=$(sed -n 's/^allocations \([0-9]*\) at: played: [1-9].*$/\1/p' "$folder/told")
+booted=$(sed -n 's/^requests \([0-9]*\): booted$/\1/p' "$folder/told")
+played=$(sed -n 's/^requests \([0-9]*\): played: [1-9].*$/\1/p' "$folder/told")
 if [ -z "$booted" ] || [ -z "$played" ] || [ "$booted" = 0 ]; then
     echo 'allocations: nothing was counted or played' >&2
     exit 1

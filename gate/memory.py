@@ -15,10 +15,10 @@ def kit():
     return os.path.dirname(subprocess.run(["rt", "doc"], check=True, stdout=subprocess.PIPE, text=True).stdout.strip())
 
 
-def allocator(room):
-    """The library that refuses, made by the toolchain's own compiler."""
-    made = f"{room}/refuse.so"
-    words = [f"{kit()}/toolchain/bin/clang", "-shared", "-fPIC", "-O2", "-nostdlib", "-fuse-ld=lld", "-o", made, "gate/refuse.c"]
+def library(room, name):
+    """The library of gate/NAME.c, to be loaded before a program, made by the toolchain's own compiler."""
+    made = f"{room}/{name}.so"
+    words = [f"{kit()}/toolchain/bin/clang", "-shared", "-fPIC", "-O2", "-nostdlib", "-fuse-ld=lld", "-o", made, f"gate/{name}.c"]
     subprocess.run(words, check=True)
     return made
 
@@ -117,8 +117,8 @@ def program_cases(tree, room):
 def refuse(report, tree, room):
     """Refuses each request in turn in the tests of want of memory and in the programs."""
     report.heading("Refused allocations")
-    library = allocator(room)
+    refusing = library(room, "refuse")
     cases = [*test_cases(tree), *program_cases(tree, room)]
     with ThreadPoolExecutor(os.cpu_count()) as pool:
-        for is_well, text in pool.map(lambda case: case.tried(library), cases):
+        for is_well, text in pool.map(lambda case: case.tried(refusing), cases):
             report.counts(is_well, text)

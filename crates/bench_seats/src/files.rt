@@ -1,6 +1,6 @@
 //! Writes and reads of 64 bytes of a file, each at its thread's place.
-use crate::clock::nanos_since;
 use anyhow::Result;
+use bench_support::nanos_since;
 use std::fs::File;
 use std::os::unix::fs::FileExt;
 use std::rt::Clock;

@@ -1,6 +1,6 @@
 //! A bare lock round a number.
-use crate::clock::nanos_since;
 use anyhow::Result;
+use bench_support::nanos_since;
 use std::rt::Clock;
 use std::sync::{Mutex, Wait};
 use std::thread;

@@ -4,14 +4,13 @@
 
 ghost use Rattle.std.specs.Prelude.{◌≡◌};
 
-mod clock;
 mod files;
 mod locks;
 mod seats;
 
-use crate::clock::print_ratio;
 use anyhow::Result;
 use base::{Level, Limits};
+use bench_support::print_ratio;
 use published_copy::{Blank, Naming, Shared};
 use std::alloc::Global;
 use std::env;

@@ -1,7 +1,7 @@
 //! Writes and reads of 64 bytes of a segment, each through its thread's seat.
-use crate::clock::nanos_since;
 use anyhow::{Result, bail};
 use base::{Data, Level, ObjectId};
+use bench_support::nanos_since;
 use kernel_rules::{Call, Entry, NewSegment, NewThread, Query, Reply};
 use label_lattice::{Pairs, RawLabel};
 use published_copy::{Naming, Seat, Shared};

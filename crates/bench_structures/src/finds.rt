@@ -1,8 +1,9 @@
 //! Finding an id.
 
-use crate::clock::{MOST, nanos_since, print_ratio};
+use crate::sizes::{MOST, print_beside_map};
 use anyhow::Result;
 use base::ObjectId;
+use bench_support::nanos_since;
 use containers_twin::{Guarded, Hierarchy};
 use std::alloc::Global;
 use std::collections::BTreeMap;
@@ -58,5 +59,5 @@ pub fn find(rt: &(impl Clock + Print), alloc: Global, objects: usize, rounds: us
     }
     let theirs = nanos_since(rt, start)?;
     println!(rt; "found {found} and {found_there}")?;
-    print_ratio(rt, "find", size, found, ours, theirs)
+    print_beside_map(rt, alloc, "find", size, found, ours, theirs)
 }

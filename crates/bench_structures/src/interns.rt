@@ -1,9 +1,10 @@
 //! Storing a label.
 
-use crate::clock::{MOST, nanos_since, print_ratio};
 use crate::pool::{Pool, label_of};
+use crate::sizes::{MOST, print_beside_map};
 use anyhow::Result;
 use base::{Meter, NoMemory};
+use bench_support::nanos_since;
 use label_lattice::Label;
 use std::alloc::Global;
 use std::collections::BTreeMap;
@@ -82,6 +83,7 @@ impl Stored {
 // A label that is there or not, stored and released so many times.
 fn intern_one(
     rt: &(impl Clock + Print),
+    alloc: Global,
     what: &str,
     stored: usize,
     rounds: usize,
@@ -105,7 +107,7 @@ fn intern_one(
     }
     let theirs = nanos_since(rt, start)?;
     println!(rt; "sum of indexes {sum}")?;
-    print_ratio(rt, what, stored, rounds as u64, ours, theirs)
+    print_beside_map(rt, alloc, what, stored, rounds as u64, ours, theirs)
 }
 
 /// Stores a label that is stored, the middle one, and a new one, each released again, beside so many stored labels, in a
@@ -135,7 +137,15 @@ pub fn intern(
     ] {
         let label = label_of(category, &mut meter).ok_or(NoMemory)?;
         let one = (&mut pool, &mut map, &mut meter);
-        intern_one(rt, what, stored, rounds, one, (&label, &key_of(category)))?;
+        intern_one(
+            rt,
+            alloc,
+            what,
+            stored,
+            rounds,
+            one,
+            (&label, &key_of(category)),
+        )?;
     }
     Ok(())
 }

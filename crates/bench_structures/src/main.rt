@@ -3,10 +3,10 @@
 #![tactic(auto)]
 
 mod calls;
-mod clock;
 mod finds;
 mod interns;
 mod pool;
+mod sizes;
 mod unrefs;
 
 use anyhow::Result;

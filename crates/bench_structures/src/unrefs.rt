@@ -1,8 +1,9 @@
 //! Taking out a subtree.
 
-use crate::clock::{MOST, nanos_since, print_ratio};
+use crate::sizes::{MOST, print_beside_map};
 use anyhow::Result;
 use base::ObjectId;
+use bench_support::nanos_since;
 use containers::{Located, Visitor};
 use containers_twin::{Guarded, Hierarchy};
 use std::alloc::Global;
@@ -140,5 +141,13 @@ pub fn unref(
     let (links_there, objects_there) = (seen_there.links, seen_there.objects);
     let each = probes / objects.max(1);
     println!(rt; "went {objects} of {links} and {objects_there} of {links_there}, probes {each}")?;
-    print_ratio(rt, "unref, an object of", size, objects, ours, theirs)
+    print_beside_map(
+        rt,
+        alloc,
+        "unref, an object of",
+        size,
+        objects,
+        ours,
+        theirs,
+    )
 }

@@ -1,8 +1,7 @@
-//! Whether two machines answer and keep the same.
+//! Whether two machines answer the same.
 use base::NoMemory;
 use call_text::write_reply;
-use kernel_rules::{Compared, Reply, Shown, Tables, Used};
-use label_lattice::RawLabel;
+use kernel_rules::Reply;
 use std::alloc::Global;
 
 /// Whether two replies have one spelling.
@@ -10,53 +9,4 @@ pub fn are_same(alloc: Global, one: &Reply, other: &Reply) -> Result<bool, NoMem
     let one = write_reply(alloc, one, &[])?;
     let other = write_reply(alloc, other, &[])?;
     Ok(one.as_slice() == other.as_slice())
-}
-
-fn is_used(one: &Used, other: &Used) -> bool {
-    one.id == other.id && one.pages == other.pages
-}
-
-fn is_shown(one: &Shown, other: &Shown) -> bool {
-    one.thread == other.thread
-        && one.slot == other.slot
-        && one.segment == other.segment
-        && one.rights == other.rights
-}
-
-fn is_labelled(one: &RawLabel, other: &RawLabel) -> bool {
-    one.default == other.default && one.pairs.as_slice() == other.pairs.as_slice()
-}
-
-fn is_ordered(one: &Compared, other: &Compared) -> bool {
-    one.first == other.first && one.second == other.second && one.bits == other.bits
-}
-
-/// Whether two tables are the same.
-pub fn are_equal(one: &Tables, other: &Tables) -> bool {
-    let is_long = one.uses.len() == other.uses.len()
-        && one.shown.len() == other.shown.len()
-        && one.labels.len() == other.labels.len()
-        && one.orders.len() == other.orders.len();
-    is_long
-        && one.live.as_slice() == other.live.as_slice()
-        && one
-            .uses
-            .iter()
-            .zip(other.uses.iter())
-            .all(|(a, b)| is_used(a, b))
-        && one
-            .shown
-            .iter()
-            .zip(other.shown.iter())
-            .all(|(a, b)| is_shown(a, b))
-        && one
-            .labels
-            .iter()
-            .zip(other.labels.iter())
-            .all(|(a, b)| is_labelled(a, b))
-        && one
-            .orders
-            .iter()
-            .zip(other.orders.iter())
-            .all(|(a, b)| is_ordered(a, b))
 }

@@ -1,5 +1,5 @@
 //! Storms of calls on both machines: each reply is the same, and so are the tables.
-use crate::compared::{are_equal, are_same};
+use crate::compared::are_same;
 use crate::drawn::{COUNTED, Storm};
 use base::{Limits, Meter, NoMemory, ObjectId};
 use kernel_rules::{Call, Query};
@@ -7,7 +7,7 @@ use std::alloc::Global;
 use std::process::Abort;
 use std::test::Fail;
 use syscall_core::{Kernel, Machine, PlainKernel};
-use test_support::{EIGHT_PAGES, MOST_PAGES};
+use test_support::{EIGHT_PAGES, MOST_PAGES, are_equal};
 
 const CALLS: u32 = 10_000;
 

@@ -374,23 +374,36 @@ def module(told, body, *more):
     return f'{told}\n{imports(body, *more)}\n\n{body}'
 
 
+def scripts_in(path):
+    """The scripts of a file."""
+    read = []
+    for text in path.read_text().splitlines():
+        text = text.strip()
+        if text.startswith('##'):
+            name, *options = text[2:].split()
+            read.append(Script(name, dict(word.split('=') for word in options)))
+        elif text.startswith('!'):
+            read[-1].end(text[1:].strip())
+        elif text == '--':
+            read[-1].spoken.append(None)
+        elif text:
+            read[-1].line(text)
+    return read
+
+
+CRATE = Path(__file__).resolve().parent.parent
+
+
+def all_scripts():
+    """The scripts of each file."""
+    return {path: scripts_in(path) for path in sorted(CRATE.glob('scripts/*.txt'))}
+
+
 def main():
     files = Files(sys.argv[1:] == ['--check'])
-    crate = Path(__file__).resolve().parent.parent
+    crate = CRATE
     modules, scripts = [], []
-    for path in sorted(crate.glob('scripts/*.txt')):
-        read = []
-        for text in path.read_text().splitlines():
-            text = text.strip()
-            if text.startswith('##'):
-                name, *options = text[2:].split()
-                read.append(Script(name, dict(word.split('=') for word in options)))
-            elif text.startswith('!'):
-                read[-1].end(text[1:].strip())
-            elif text == '--':
-                read[-1].spoken.append(None)
-            elif text:
-                read[-1].line(text)
+    for path, read in all_scripts().items():
         name = path.stem.capitalize()
         modules.append(name)
         scripts += [script for script in read if script.is_played]
@@ -416,4 +429,5 @@ def main():
     return 1 if files.is_check and files.other else 0
 
 
-sys.exit(main())
+if __name__ == '__main__':
+    sys.exit(main())

@@ -1,11 +1,9 @@
-//! Times of one run, and their ratio.
+//! What the benches share: the time since another one, and a line of two times with their ratio.
+#![tactic(auto)]
 
 use anyhow::Result;
 use std::rt::Clock;
 use std::time::Instant;
-
-/// The most objects or labels that are timed.
-pub const MOST: usize = 4000;
 
 /// The nanoseconds since a time.
 pub fn nanos_since(rt: &impl Clock, start: Instant) -> Result<u64> {
@@ -14,19 +12,20 @@ pub fn nanos_since(rt: &impl Clock, start: Instant) -> Result<u64> {
     Ok(whole.saturating_add(u64::from(elapsed.subsec_nanos())))
 }
 
-/// A line with the times of so many steps on both, as nanoseconds a step, and the ratio of the first to the second.
+/// A line with the times of so many steps, ours and others', as nanoseconds a step, and the ratio of the first to the
+/// second.
 pub fn print_ratio(
     rt: &impl Print,
     what: &str,
-    size: usize,
+    other: &str,
     steps: u64,
     ours: u64,
-    map: u64,
+    theirs: u64,
 ) -> Result<()> {
     let steps = steps.max(1);
-    let hundredths = ours.saturating_mul(100) / map.max(1);
+    let hundredths = ours.saturating_mul(100) / theirs.max(1);
     let (whole, part) = (hundredths / 100, hundredths % 100);
-    let (ours, map) = (ours / steps, map / steps);
-    println!(rt; "{what} {size}: {ours} ns, map {map} ns, ratio {whole}.{part:02}")?;
+    let (ours, theirs) = (ours / steps, theirs / steps);
+    println!(rt; "{what}: {ours} ns, {other} {theirs} ns, ratio {whole}.{part:02}")?;
     Ok(())
 }

@@ -1,0 +1,121 @@
+//! `both_machines run SCRIPT [LIMITS]`: a script on both machines. Its lines are played one after another on the plain one; then the
+//! arena kernel is booted, and gets the same calls and nothing else between the lines `booted` and `played`, so that whoever
+//! counts requests for memory sees what its calls take. It prints the lines that `histar` prints, in the script's order,
+//! by the arena kernel's replies, and last `same`, where all replies and the tables at the end are those of the plain
+//! machine. Without words it plays its standard input with the default limits.
+#![tactic(auto)]
+
+mod arena;
+mod compared;
+mod plain;
+
+use crate::arena::{Replies, asked_again};
+use crate::compared::{differing_step, put_steps};
+use crate::plain::{Played, play};
+use base::{Limits, NoMemory};
+use call_text::{Script, ScriptError, read_script};
+use histar_args::{DEFAULTS, read_words};
+use program_io::{Fault, bytes_of, tell_answer, words_of};
+use std::alloc::Global;
+use std::fs::File;
+use std::io::{Read, Write};
+use std::process::ExitCode;
+use test_support::are_equal;
+
+const NAME: &str = "both-machines";
+
+/// What is told of a script.
+#[derive(Clone, Copy)]
+enum Told {
+    /// Both machines answer and keep the same.
+    Same,
+    /// The first line that they answer otherwise, by its number.
+    Differs(u32),
+    /// They answer the same, and keep other tables.
+    OtherTables,
+}
+
+fn script_of<I: Read>(alloc: Global, input: &mut I) -> Result<Script, Fault> {
+    let bytes = bytes_of(alloc, input)?;
+    match read_script(alloc, bytes.as_slice()) {
+        Ok(script) => Ok(script),
+        Err(ScriptError::Memory) => Err(Fault::Memory),
+        Err(ScriptError::Line(_)) => Err(Fault::Input),
+    }
+}
+
+fn told_of(alloc: Global, played: &Played, replies: &Replies) -> Result<Told, NoMemory> {
+    if let Some(number) = differing_step(alloc, played, replies)? {
+        return Ok(Told::Differs(number));
+    }
+    if are_equal(&played.tables, &replies.tables) {
+        Ok(Told::Same)
+    } else {
+        Ok(Told::OtherTables)
+    }
+}
+
+/// Plays a script on both machines, and prints what the arena kernel answers.
+fn compare<I: Read>(
+    rt: &HostRuntime,
+    alloc: Global,
+    input: &mut I,
+    limits: &Limits,
+) -> Result<Told, Fault> {
+    let script = script_of(alloc, input)?;
+    let played = play(alloc, &script, limits)?;
+    let replies = asked_again(rt, alloc, played.steps.as_slice(), limits)?;
+    let text = put_steps(alloc, &played, &replies)?;
+    if rt.stdout().write_all(text.as_slice()).is_err() {
+        return Err(Fault::Output);
+    }
+    let told = told_of(alloc, &played, &replies)?;
+    Ok(told)
+}
+
+/// Says whether the plain machine answers the same, and if not, what differs first.
+fn say(rt: &HostRuntime, told: Told) -> Result<(), Fault> {
+    let said = match told {
+        Told::Same => println!(rt; "same"),
+        Told::Differs(line) => println!(rt; "line {line} differs"),
+        Told::OtherTables => println!(rt; "the tables differ"),
+    };
+    match said {
+        Ok(()) => Ok(()),
+        Err(_) => Err(Fault::Output),
+    }
+}
+
+/// Plays what an input gives on both machines, and answers the status: 0 where they are the same, 1 where they aren't, and
+/// that of a fault.
+fn ended<I: Read>(rt: &HostRuntime, input: &mut I, limits: &Limits) -> u8 {
+    let told = match compare(rt, rt.alloc(), input, limits) {
+        Ok(told) => told,
+        Err(fault) => return fault.tell(NAME, &mut rt.stderr()),
+    };
+    match (say(rt, told), told) {
+        (Ok(()), Told::Same) => 0,
+        (Ok(()), _) => 1,
+        (Err(fault), _) => fault.tell(NAME, &mut rt.stderr()),
+    }
+}
+
+fn main(rt: HostRuntime) -> ExitCode {
+    let alloc = rt.alloc();
+    let mut err = rt.stderr();
+    let words = match words_of(&rt) {
+        Ok(words) => words,
+        Err(fault) => return ExitCode::from(fault.tell(NAME, &mut err)),
+    };
+    if words.len() <= 1 {
+        return ExitCode::from(ended(&rt, &mut rt.reader(), &DEFAULTS.limits));
+    }
+    let told = match read_words(alloc, words.as_slice()) {
+        Ok(told) => told,
+        Err(answer) => return ExitCode::from(tell_answer(&rt, NAME, &answer, &mut err)),
+    };
+    let Ok(mut script) = File::open(&rt, told.script) else {
+        return ExitCode::from(Fault::Input.tell(NAME, &mut err));
+    };
+    ExitCode::from(ended(&rt, &mut script, &told.options.limits))
+}
