@@ -164,10 +164,10 @@ class Trial:
 
     def alone(self, edit, kept):
         """An edit tried by itself: over kept work first, and from nothing where it isn't refused so."""
-        well, text = self.rt.must_fail(self.crate, edit.file, FLAGS, kept)
-        if kept and (not well or NAME_GONE in text):
-            well, text = self.rt.must_fail(self.crate, edit.file, FLAGS)
-        return (False, NO_CONTRACT) if NAME_GONE in text else (well, text.partition(": ")[2])
+        verdict, text = self.rt.must_fail(self.crate, edit.file, FLAGS, kept)
+        if kept and (verdict != self.rt.REFUSED or NAME_GONE in text):
+            verdict, text = self.rt.must_fail(self.crate, edit.file, FLAGS)
+        return (False, NO_CONTRACT) if NAME_GONE in text else (verdict == self.rt.REFUSED, text.partition(": ")[2])
 
     def over_kept(self, kept):
         """Each edit's verdict, all over one another's work."""
