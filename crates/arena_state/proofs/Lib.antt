@@ -1,5 +1,6 @@
 pub mod RowLaws
 pub mod ListLaws
+pub mod LookLaws
 pub mod LabelLaws
 pub mod RecordLaws
 pub mod SoundLaws
@@ -45,3 +46,5 @@ pub mod RefillLaws
 pub mod CopyLaws
 pub mod ResizeLaws
 pub mod CarriedLaws
+pub mod ShownLaws
+pub mod RepairedLaws

@@ -5,6 +5,9 @@ pub mod States
 pub mod Deaths
 pub mod Creations
 pub mod Kept
+pub mod Looks
 pub mod Filled
 pub mod Stocked
 pub mod Contents
+pub mod Touched
+pub mod Shown

@@ -6,6 +6,7 @@ ghost use Rattle.kernel_rules.specs.Fitting.{IsFitting};
 ghost use Rattle.kernel_rules.specs.Step.{new_thread};
 ghost use Rattle.kernel_rules.specs.declared.objects.Body.TheVariants as is;
 ghost use Rattle.kernel_store.specs.Storing.{storing};
+ghost use Rattle.arena_state.specs.Shown.{KeepsSlots};
 ghost use Rattle.arena_state.specs.States.{state_of, labels_stored};
 
 use crate::placing::place;
@@ -36,6 +37,7 @@ impl ArenaState {
             (fresh_object label.now quota (new_thread clearance.now entry_point)) }
         ensures scans { meter.new.scans
             ≤ meter.old.scans + storing 3 (labels_stored self.old) }
+        ensures slots { KeepsSlots self.old self.new (state_of self.old).next_id }
     {
         match self.slot(container, meter) {
             Some(parent) => {
@@ -67,6 +69,7 @@ impl ArenaState {
             (fresh_object label.now quota (is.Gate gate.now)) }
         ensures scans { meter.new.scans
             ≤ meter.old.scans + storing 2 (labels_stored self.old) }
+        ensures slots { KeepsSlots self.old self.new (state_of self.old).next_id }
     {
         match self.slot(container, meter) {
             Some(parent) => {

@@ -20,6 +20,7 @@ impl ArenaState {
         ensures scans { meter.new.scans
             ≤ meter.old.scans + storing 1 (labels_stored self.old) }
         ensures growth { labels_stored self.new ≤ labels_stored self.old + 1 }
+        ensures places { self.new.pieces.places ≡ self.old.pieces.places }
     {
         match self.slot(id, meter) {
             Some(slot) => {
@@ -38,6 +39,7 @@ impl ArenaState {
         ensures state { state_of self.new ≡ changed (state_of self.old) thread (cleared clearance.now) }
         ensures scans { meter.new.scans
             ≤ meter.old.scans + storing 1 (labels_stored self.old) }
+        ensures places { self.new.pieces.places ≡ self.old.pieces.places }
     {
         match self.slot(thread, meter) {
             Some(slot) => {
@@ -62,6 +64,7 @@ impl ArenaState {
             ≡ changed (state_of self.old) thread (owning label.now clearance.now) }
         ensures scans { meter.new.scans
             ≤ meter.old.scans + storing 2 (labels_stored self.old) }
+        ensures places { self.new.pieces.places ≡ self.old.pieces.places }
     {
         self.set_label(thread, label, meter);
         self.set_clearance(thread, clearance, meter);
@@ -81,6 +84,7 @@ impl ArenaState {
         ensures state { state_of self.new ≡ owned (state_of self.old) thread label clearance }
         ensures scans { meter.new.scans
             ≤ meter.old.scans + storing 2 (labels_stored self.old) }
+        ensures places { self.new.pieces.places ≡ self.old.pieces.places }
     {
         if let Some(label) = label {
             if let Some(clearance) = clearance {

@@ -4,6 +4,7 @@ ghost use Rattle.base.specs.Live.{has};
 ghost use Rattle.base.specs.declared.kinds.Kind.TheVariants as kinds;
 ghost use Rattle.kernel_rules.specs.Changes.{changed, listing, requoted};
 ghost use Rattle.kernel_rules.specs.State.{holds, is_fixed, is_kind_at, list_at, quota_at, use_of};
+ghost use Rattle.arena_state.specs.Shown.{KeepsAllSlots};
 ghost use Rattle.arena_state.specs.States.{state_of};
 
 use crate::records::{charge, discharge, requote};
@@ -25,6 +26,7 @@ impl ArenaState {
             ≤ quota_at (state_of self.old) container }
         ensures state { state_of self.new
             ≡ changed (state_of self.old) container (listing entry.now.object) }
+        ensures slots { KeepsAllSlots self.old self.new }
         ensures scans { meter.new.scans ≡ meter.old.scans }
     {
         match self.slot(container, meter) {
@@ -55,6 +57,7 @@ impl ArenaState {
             ≤ quota_at (state_of self.old) entry.now.object }
         ensures state { state_of self.new
             ≡ changed (state_of self.old) entry.now.object (requoted up down) }
+        ensures places { self.new.pieces.places ≡ self.old.pieces.places }
         ensures scans { meter.new.scans ≡ meter.old.scans }
     {
         match self.slot(entry.container, meter) {

@@ -64,6 +64,7 @@ impl ArenaState {
         requires { place < 16 }
         ensures state { state_of self.new ≡ changed (state_of self.old) id
             (with_body (reslot (λ slots. slice_set slots place mapping))) }
+        ensures places { self.new.pieces.places ≡ self.old.pieces.places }
         ensures scans { meter.new.scans ≡ meter.old.scans }
     {
         match self.slot(id, meter) {
@@ -83,6 +84,7 @@ impl ArenaState {
         requires { at + length given.now ≤ length (bytes_at (state_of self.old) id) }
         ensures state { state_of self.new
             ≡ changed (state_of self.old) id (with_body (rebyte (written at given.now))) }
+        ensures places { self.new.pieces.places ≡ self.old.pieces.places }
         ensures scans { meter.new.scans ≡ meter.old.scans }
     {
         match self.slot(id, meter) {
@@ -98,6 +100,7 @@ impl ArenaState {
         requires room { 1 + pages ≤ quota_at (state_of self.old) id }
         ensures state { state_of self.new
             ≡ changed (state_of self.old) id (with_body (rebyte (resized (256 * pages)))) }
+        ensures places { self.new.pieces.places ≡ self.old.pieces.places }
         ensures scans { meter.new.scans ≡ meter.old.scans }
     {
         match self.slot(id, meter) {
@@ -116,6 +119,7 @@ impl ArenaState {
         requires room { length (packets_at (state_of self.old) id) < 4 }
         ensures state { state_of self.new ≡ changed (state_of self.old) id
             (with_body (requeue (λ packets. packets ++ packet ∷ []))) }
+        ensures places { self.new.pieces.places ≡ self.old.pieces.places }
         ensures scans { meter.new.scans ≡ meter.old.scans }
     {
         match self.slot(id, meter) {
@@ -132,6 +136,7 @@ impl ArenaState {
     pub fn dev_recv(&mut self, id: ObjectId, meter: &mut Meter)
         ensures state { state_of self.new
             ≡ changed (state_of self.old) id (with_body (requeue (drop 1))) }
+        ensures places { self.new.pieces.places ≡ self.old.pieces.places }
         ensures scans { meter.new.scans ≡ meter.old.scans }
     {
         match self.slot(id, meter) {

@@ -4,7 +4,7 @@ ghost use Rattle.std.specs.Prelude.{◌≡◌, ◌≤◌, ◌+◌, ◌*◌, leng
 ghost use Rattle.kernel_rules.specs.State.{bytes_at, packets_at, page_count, slots_at};
 ghost use Rattle.kernel_rules.specs.Translate.{slot_at};
 ghost use Rattle.arena_state.specs.Contents.{keeps_device};
-ghost use Rattle.arena_state.specs.States.{state_of};
+ghost use Rattle.arena_state.specs.States.{state_of, find_cost};
 ghost use Rattle.arena_state.specs.Stocked.{kept_pages, keeps_space};
 
 use crate::records::Kept;
@@ -61,6 +61,7 @@ impl ArenaState {
     pub fn page_count(&self, id: ObjectId, meter: &mut Meter) -> u32
         ensures value { result ≡ page_count (state_of self.now) id }
         ensures scans { meter.new.scans ≡ meter.old.scans }
+        ensures probes { meter.new.probes ≤ meter.old.probes + find_cost self.now }
     {
         match self.row(id, meter) {
             Some(row) => row.body.pages(),
@@ -82,6 +83,7 @@ impl ArenaState {
         requires inside { from + count ≤ length (bytes_at (state_of self.now) id) }
         ensures value { result ≡ slice_range (bytes_at (state_of self.now) id) from (from + count) }
         ensures scans { meter.new.scans ≡ meter.old.scans }
+        ensures probes { meter.new.probes ≤ meter.old.probes + find_cost self.now + 2 }
     {
         match self.slot(id, meter) {
             Some(slot) => {
@@ -97,6 +99,7 @@ impl ArenaState {
         ensures value { result.now ≡ slots_at (state_of self.now) id }
         ensures few { length result.now ≤ 16 }
         ensures scans { meter.new.scans ≡ meter.old.scans }
+        ensures probes { meter.new.probes ≤ meter.old.probes + find_cost self.now }
     {
         match self.slot(id, meter) {
             Some(slot) => {

@@ -8,6 +8,7 @@ ghost use Rattle.kernel_rules.specs.declared.objects.Body.TheVariants as is;
 ghost use Rattle.segments.specs.Segments.{bytes_in, pages_of, HasRoom};
 ghost use Rattle.arena_state.specs.Contents.{bytes_found};
 ghost use Rattle.kernel_store.specs.Storing.{storing};
+ghost use Rattle.arena_state.specs.Shown.{KeepsSlots};
 ghost use Rattle.arena_state.specs.States.{state_of, labels_stored};
 
 use crate::placing::place;
@@ -51,6 +52,7 @@ impl ArenaState {
             (fresh_object label.now quota (is.Segment (bytes_at (state_of self.old) source))) }
         ensures scans { meter.new.scans
             ≤ meter.old.scans + storing 1 (labels_stored self.old) }
+        ensures slots { KeepsSlots self.old self.new (state_of self.old).next_id }
     {
         match self.slot(container, meter) {
             Some(parent) => {

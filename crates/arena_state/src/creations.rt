@@ -5,6 +5,7 @@ ghost use Rattle.kernel_rules.specs.Changes.{made, fresh_object};
 ghost use Rattle.kernel_rules.specs.Fitting.{IsFitting};
 ghost use Rattle.kernel_rules.specs.declared.objects.Body.TheVariants as is;
 ghost use Rattle.kernel_store.specs.Storing.{storing};
+ghost use Rattle.arena_state.specs.Shown.{KeepsSlots};
 ghost use Rattle.arena_state.specs.States.{state_of, labels_stored};
 
 use crate::placing::place;
@@ -31,6 +32,7 @@ impl ArenaState {
             (fresh_object label.now quota (is.Container avoid [])) }
         ensures scans { meter.new.scans
             ≤ meter.old.scans + storing 1 (labels_stored self.old) }
+        ensures slots { KeepsSlots self.old self.new (state_of self.old).next_id }
     {
         match self.slot(container, meter) {
             Some(parent) => {
@@ -59,6 +61,7 @@ impl ArenaState {
             (fresh_object label.now quota (is.Segment (replicate (256 * pages) 0))) }
         ensures scans { meter.new.scans
             ≤ meter.old.scans + storing 1 (labels_stored self.old) }
+        ensures slots { KeepsSlots self.old self.new (state_of self.old).next_id }
     {
         match self.slot(container, meter) {
             Some(parent) => {
@@ -91,6 +94,7 @@ impl ArenaState {
             (fresh_object label.now quota (is.AddressSpace (record { slots = replicate 16 None }))) }
         ensures scans { meter.new.scans
             ≤ meter.old.scans + storing 1 (labels_stored self.old) }
+        ensures slots { KeepsSlots self.old self.new (state_of self.old).next_id }
     {
         match self.slot(container, meter) {
             Some(parent) => {

@@ -12,6 +12,7 @@ impl ArenaState {
     /// An object is read-only for good.
     pub fn set_immutable(&mut self, id: ObjectId, meter: &mut Meter)
         ensures state { state_of self.new ≡ changed (state_of self.old) id made_immutable }
+        ensures places { self.new.pieces.places ≡ self.old.pieces.places }
         ensures scans { meter.new.scans ≡ meter.old.scans }
     {
         match self.slot(id, meter) {
@@ -23,6 +24,7 @@ impl ArenaState {
     /// An object's quota never changes again.
     pub fn set_fixed(&mut self, id: ObjectId, meter: &mut Meter)
         ensures state { state_of self.new ≡ changed (state_of self.old) id made_fixed }
+        ensures places { self.new.pieces.places ≡ self.old.pieces.places }
         ensures scans { meter.new.scans ≡ meter.old.scans }
     {
         match self.slot(id, meter) {
@@ -34,6 +36,7 @@ impl ArenaState {
     /// An object gets these metadata, and then zeros.
     pub fn meta_set(&mut self, id: ObjectId, given: &Data, meter: &mut Meter)
         ensures state { state_of self.new ≡ changed (state_of self.old) id (noted given.now) }
+        ensures places { self.new.pieces.places ≡ self.old.pieces.places }
         ensures scans { meter.new.scans ≡ meter.old.scans }
     {
         match self.slot(id, meter) {
@@ -48,6 +51,7 @@ impl ArenaState {
     /// A thread gets this address space.
     pub fn set_space(&mut self, thread: ObjectId, space: Entry, meter: &mut Meter)
         ensures state { state_of self.new ≡ changed (state_of self.old) thread (spaced space) }
+        ensures places { self.new.pieces.places ≡ self.old.pieces.places }
         ensures scans { meter.new.scans ≡ meter.old.scans }
     {
         match self.slot(thread, meter) {

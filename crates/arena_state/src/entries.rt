@@ -30,6 +30,7 @@ impl ArenaState {
             (entered label.now clearance.now verify.now gate.now) }
         ensures scans { meter.new.scans
             ≤ meter.old.scans + storing 3 (labels_stored self.old) }
+        ensures places { self.new.pieces.places ≡ self.old.pieces.places }
     {
         match self.slot(thread, meter) {
             Some(slot) => {

@@ -1,12 +1,12 @@
 //! Tests of the labels of stored objects, by the order bits that are kept. No label is scanned.
-ghost use Rattle.std.specs.Prelude.{◌≡◌, ◌==◌, ◌<◌, IsSome, IfSome, option_copied, true};
+ghost use Rattle.std.specs.Prelude.{◌≡◌, ◌==◌, ◌≤◌, ◌+◌, ◌<◌, IsSome, IfSome, option_copied, true};
 ghost use Rattle.std.specs.Int.RustNames.{bit_and};
 ghost use Rattle.base.specs.declared.kinds.Kind.TheVariants as kinds;
 ghost use Rattle.label_rules.specs.LabelRules.{both, below, visible, shown};
 ghost use Rattle.label_intern.specs.Held.{held_at, label_of};
 ghost use Rattle.kernel_rules.specs.State.{label_at, clearance_at, observes, flows_to};
 ghost use Rattle.kernel_rules.specs.State.{is_live_kind, is_accessible};
-ghost use Rattle.arena_state.specs.States.{state_of, label_found, IsLabelled};
+ghost use Rattle.arena_state.specs.States.{state_of, find_cost, label_found, IsLabelled};
 
 use crate::records::{Kept, Record};
 use crate::states::ArenaState;
@@ -154,6 +154,7 @@ impl ArenaState {
     pub fn is_live_kind(&self, kind: Kind, id: ObjectId, meter: &mut Meter) -> bool
         ensures value { result ≡ is_live_kind (state_of self.now) kind id }
         ensures scans { meter.new.scans ≡ meter.old.scans }
+        ensures probes { meter.new.probes ≤ meter.old.probes + find_cost self.now }
     {
         self.is_kind(kind, id, meter)
     }

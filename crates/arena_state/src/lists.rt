@@ -1,5 +1,5 @@
 //! What containers list, and which ids are live. No label is scanned.
-ghost use Rattle.std.specs.Prelude.{◌≡◌, ◌≤◌, true, length, slice_get, take, drop};
+ghost use Rattle.std.specs.Prelude.{◌≡◌, ◌≤◌, ◌+◌, true, length, slice_get, take, drop};
 ghost use Rattle.base.specs.Live.{has};
 ghost use Rattle.kernel_rules.specs.Scratch.{ids_of};
 ghost use Rattle.base.specs.declared.kinds.Kind.TheVariants as kinds;
@@ -73,6 +73,7 @@ impl ArenaState {
     pub fn kept_live(&self, place: usize, meter: &mut Meter) -> Option<ObjectId>
         ensures value { result ≡ slice_get (ids_of (state_of self.now).objects) place }
         ensures scans { meter.new.scans ≡ meter.old.scans }
+        ensures probes { meter.new.probes ≤ meter.old.probes + 1 }
     {
         if place < self.pieces.places.len() {
             Some(self.pieces.places.live(place, meter))

@@ -8,6 +8,7 @@ ghost use Rattle.kernel_rules.specs.State.{bytes_at};
 ghost use Rattle.kernel_rules.specs.Step.{made_of, new_thread, with_value};
 ghost use Rattle.kernel_rules.specs.declared.objects.Body.TheVariants as is;
 ghost use Rattle.kernel_store.specs.Storing.{storing};
+ghost use Rattle.arena_state.specs.Shown.{KeepsSlots};
 ghost use Rattle.arena_state.specs.States.{state_of, labels_stored};
 
 use crate::states::ArenaState;
@@ -32,6 +33,7 @@ impl ArenaState {
             (is.Container avoid []) }
         ensures scans { meter.new.scans
             ≤ meter.old.scans + storing 1 (labels_stored self.old) }
+        ensures slots { KeepsSlots self.old self.new (state_of self.old).next_id }
     {
         match label {
             Some(label) => self.create_container(container, &label, quota, avoid, meter),
@@ -56,6 +58,7 @@ impl ArenaState {
             (is.Segment (replicate (256 * pages) 0)) }
         ensures scans { meter.new.scans
             ≤ meter.old.scans + storing 1 (labels_stored self.old) }
+        ensures slots { KeepsSlots self.old self.new (state_of self.old).next_id }
     {
         match label {
             Some(label) => self.create_segment(container, &label, quota, pages, meter),
@@ -80,6 +83,7 @@ impl ArenaState {
             (is.Segment (bytes_at (state_of self.old) source)) }
         ensures scans { meter.new.scans
             ≤ meter.old.scans + storing 1 (labels_stored self.old) }
+        ensures slots { KeepsSlots self.old self.new (state_of self.old).next_id }
     {
         match label {
             Some(label) => self.create_copy(container, &label, quota, source, meter),
@@ -104,6 +108,7 @@ impl ArenaState {
             (is.AddressSpace (record { slots = replicate 16 None })) }
         ensures scans { meter.new.scans
             ≤ meter.old.scans + storing 1 (labels_stored self.old) }
+        ensures slots { KeepsSlots self.old self.new (state_of self.old).next_id }
     {
         match label {
             Some(label) => self.create_space(container, &label, quota, meter),
@@ -129,6 +134,7 @@ impl ArenaState {
             (new_thread clearance entry_point) }
         ensures scans { meter.new.scans
             ≤ meter.old.scans + storing 3 (labels_stored self.old) }
+        ensures slots { KeepsSlots self.old self.new (state_of self.old).next_id }
     {
         match label {
             Some(label) => {
@@ -154,6 +160,7 @@ impl ArenaState {
             (is.Gate gate) }
         ensures scans { meter.new.scans
             ≤ meter.old.scans + storing 2 (labels_stored self.old) }
+        ensures slots { KeepsSlots self.old self.new (state_of self.old).next_id }
     {
         match label {
             Some(label) => self.create_gate(container, &label, quota, &gate, meter),
@@ -168,6 +175,7 @@ impl ArenaState {
             (λ l. changed (state_of self.old) thread (labelled l)) }
         ensures scans { meter.new.scans
             ≤ meter.old.scans + storing 1 (labels_stored self.old) }
+        ensures places { self.new.pieces.places ≡ self.old.pieces.places }
     {
         if let Some(label) = label {
             self.set_label(thread, &label, meter);
@@ -181,6 +189,7 @@ impl ArenaState {
             (λ c. changed (state_of self.old) thread (cleared c)) }
         ensures scans { meter.new.scans
             ≤ meter.old.scans + storing 1 (labels_stored self.old) }
+        ensures places { self.new.pieces.places ≡ self.old.pieces.places }
     {
         if let Some(clearance) = clearance {
             self.set_clearance(thread, &clearance, meter);

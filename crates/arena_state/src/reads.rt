@@ -1,11 +1,11 @@
 //! What is read of one object. No label is scanned.
-ghost use Rattle.std.specs.Prelude.{◌≡◌, ◌+◌, IfSome, IfNone, None, is_some, nat_lt};
+ghost use Rattle.std.specs.Prelude.{◌≡◌, ◌≤◌, ◌+◌, IfSome, IfNone, None, is_some, nat_lt};
 ghost use Rattle.std.specs.Prelude.{option_copied, option_map, true};
 ghost use Rattle.kernel_rules.specs.State.{object_at, of_object, is_fixed, is_immutable, quota_at};
 ghost use Rattle.kernel_rules.specs.State.{use_of, is_kind_at, avoids_at, kind_of};
 ghost use Rattle.kernel_rules.specs.Changes.{joined_at};
 ghost use Rattle.arena_state.specs.Assembled.{body_use};
-ghost use Rattle.arena_state.specs.States.{state_of, HasRow, Shows, Finds};
+ghost use Rattle.arena_state.specs.States.{state_of, find_cost, HasRow, Shows, Finds};
 
 use crate::records::{Kept, Record};
 use crate::states::ArenaState;
@@ -51,6 +51,7 @@ impl ArenaState {
         ensures found { IfSome result (λ r. Shows self.now id r.now) }
         ensures none { IfNone result (object_at (state_of self.now) id ≡ None) }
         ensures scans { meter.new.scans ≡ meter.old.scans }
+        ensures probes { meter.new.probes ≤ meter.old.probes + find_cost self.now }
     {
         let slot = self.slot(id, meter);
         self.record(id, slot)
@@ -112,6 +113,7 @@ impl ArenaState {
     pub fn is_kind(&self, kind: Kind, id: ObjectId, meter: &mut Meter) -> bool
         ensures value { result ≡ is_kind_at (state_of self.now) kind id }
         ensures scans { meter.new.scans ≡ meter.old.scans }
+        ensures probes { meter.new.probes ≤ meter.old.probes + find_cost self.now }
     {
         match self.row(id, meter) {
             Some(row) => row.body.kind() == kind,

@@ -1,15 +1,18 @@
-//! What a thread's address space shows, and where an address lies, by what the thread sees of entries. No label is
-//! scanned.
-ghost use Rattle.std.specs.Prelude.{◌≡◌, ◌≤◌, ◌+◌, ◌/◌, true, length};
-ghost use Rattle.kernel_rules.specs.Translate.{through, through_space, translate, own_space};
-ghost use Rattle.kernel_rules.specs.Translate.{covers, place_at, place_by, place_among};
-ghost use Rattle.kernel_rules.specs.Translate.{slots_through, place_of};
-ghost use Rattle.arena_state.specs.States.{state_of};
+//! What a thread's address space shows, and where an address lies, by the row that is kept for the
+//! thread. No label is looked at.
+ghost use Rattle.std.specs.Prelude.{◌≡◌, ◌≤◌, ◌<◌, ◌+◌, ◌*◌, ◌/◌, ◌∷◌, [], true, length, option_copied};
+ghost use Rattle.containers.specs.Tree.{HasSlot};
+ghost use Rattle.kernel_rules.specs.Translate.{translate, own_space, slots_through};
+ghost use Rattle.kernel_rules.specs.Translate.{covers, place_at, place_by, place_among, place_of};
+ghost use Rattle.arena_state.specs.Shown.{AreKept};
+ghost use Rattle.arena_state.specs.States.{state_of, find_cost, Finds};
 
-use crate::records::Kept;
+use crate::records::{Kept, Record};
 use crate::states::ArenaState;
 use base::{Meter, ObjectId, Rights};
+use containers::Located;
 use kernel_rules::{Entry, Mapping, Place};
+use translation_rows::Rows;
 
 // Whether a mapping covers a virtual page.
 fn covers(mapping: &Option<Mapping>, page: u64) -> bool
@@ -25,12 +28,14 @@ fn covers(mapping: &Option<Mapping>, page: u64) -> bool
 }
 
 impl ArenaState {
-    // The entry of a thread's address space, none for any other object.
-    fn space_of(&self, thread: ObjectId, meter: &mut Meter) -> Option<Entry>
-        ensures value { result ≡ own_space (state_of self.now) thread }
-        ensures scans { meter.new.scans ≡ meter.old.scans }
+    // The entry of a thread's address space by the record that was found, none for any other
+    // object.
+    pub(crate) fn space_in(&self, thread: ObjectId, found: Option<&Record>) -> Option<Entry>
+        requires { Finds self.now thread (option_copied found) }
+        ensures { result ≡ own_space (state_of self.now) thread }
     {
-        match self.row(thread, meter) {
+        let _thread = thread;
+        match found {
             Some(row) => match &row.body {
                 Kept::Thread(kept) => Some(kept.space),
                 _ => None,
@@ -39,74 +44,27 @@ impl ArenaState {
         }
     }
 
-    // The segment that a mapping shows to a thread, with the rights to it.
-    fn through(
-        &self,
-        thread: ObjectId,
-        mapping: &Option<Mapping>,
-        meter: &mut Meter,
-    ) -> Option<(ObjectId, Rights)>
-        ensures value { result ≡ through (state_of self.now) thread mapping.now }
-        ensures scans { meter.new.scans ≡ meter.old.scans }
-    {
-        match mapping {
-            None => None,
-            Some(mapping) => {
-                let sight = self.sight(thread, &mapping.entry, meter);
-                if sight.accessible && sight.listed && sight.object.observed {
-                    let rights = if sight.object.flowing && !sight.object.immutable {
-                        mapping.rights
-                    } else {
-                        mapping.rights.reading()
-                    };
-                    Some((mapping.entry.object, rights))
-                } else {
-                    None
-                }
-            }
-        }
-    }
-
-    // What a slot of the address space of an entry shows to a thread.
-    fn through_space(
-        &self,
-        thread: ObjectId,
-        space: &Option<Entry>,
-        place: usize,
-        meter: &mut Meter,
-    ) -> Option<(ObjectId, Rights)>
-        ensures value { result ≡ through_space (state_of self.now) thread place space.now }
-        ensures scans { meter.new.scans ≡ meter.old.scans }
-    {
-        match space {
-            None => None,
-            Some(space) => {
-                let named = space.container.number() != 0 || space.object.number() != 0;
-                let sight = self.sight(thread, space, meter);
-                if named && sight.accessible && sight.listed && sight.object.observed {
-                    let mapping = self.mapped(space.object, place, meter);
-                    self.through(thread, &mapping, meter)
-                } else {
-                    None
-                }
-            }
-        }
-    }
-
-    /// What a slot of a thread's address space shows: a segment, with the rights to it. It is by entry: an entry that
-    /// went shows nothing.
-    #[tactic(auto, unfolding(kernel_rules::specs::Translate::translate))]
-    pub fn translate(
+    /// What a slot of a thread's address space shows, by its row: a segment, with the rights to it;
+    /// nothing for what is no thread, and from the sixteenth slot on.
+    pub fn kept_translation(
         &self,
         thread: ObjectId,
         place: usize,
+        rows: &Rows,
         meter: &mut Meter,
     ) -> Option<(ObjectId, Rights)>
+        requires { AreKept self.now rows.now }
         ensures value { result ≡ translate (state_of self.now) thread place }
         ensures scans { meter.new.scans ≡ meter.old.scans }
+        ensures probes { meter.new.probes ≤ meter.old.probes + find_cost self.now + 1 }
     {
-        let space = self.space_of(thread, meter);
-        self.through_space(thread, &space, place, meter)
+        if 16 <= place {
+            return None;
+        }
+        match self.slot(thread, meter) {
+            Some(slot) => rows.shown(slot, place, meter),
+            None => None,
+        }
     }
 
     // Where an address lies in a segment that is shown, at a page of it, unless that is past its end.
@@ -119,6 +77,7 @@ impl ArenaState {
     ) -> Option<Place>
         ensures value { result ≡ place_at (state_of self.now) address page shown }
         ensures scans { meter.new.scans ≡ meter.old.scans }
+        ensures probes { meter.new.probes ≤ meter.old.probes + find_cost self.now }
     {
         if page < u64::from(self.page_count(shown.0, meter)) {
             Some(Place {
@@ -142,6 +101,7 @@ impl ArenaState {
         requires { covers (address / 256) mapping.now ≡ true }
         ensures value { result ≡ place_by (state_of self.now) address mapping.now shown }
         ensures scans { meter.new.scans ≡ meter.old.scans }
+        ensures probes { meter.new.probes ≤ meter.old.probes + find_cost self.now }
     {
         match mapping {
             None => None,
@@ -155,27 +115,33 @@ impl ArenaState {
         }
     }
 
-    // Where an address of a thread lies by these slots, of which the first has this place.
+    // Where an address of a thread lies by these slots, of which the first has this place, and by
+    // the thread's row.
     fn place_among(
         &self,
-        thread: ObjectId,
+        thread: Located,
         address: u64,
         first: usize,
         slots: &[Option<Mapping>],
+        rows: &Rows,
         meter: &mut Meter,
     ) -> Option<Place>
-        requires { first + length slots.now ≤ 16 }
-        ensures value { result ≡ place_among (state_of self.now) thread address first slots.now }
+        requires thread { HasSlot self.now.pieces.places thread.id thread.slot.0 }
+        requires rows { AreKept self.now rows.now }
+        requires few { first + length slots.now ≤ 16 }
+        ensures value { result
+            ≡ place_among (state_of self.now) thread.id address first slots.now }
         ensures scans { meter.new.scans ≡ meter.old.scans }
+        ensures probes { meter.new.probes ≤ meter.old.probes + find_cost self.now + 1 }
     {
         match slots {
             [] => None,
             [mapping, rest @ ..] => {
                 if covers(mapping, address / 256) {
-                    let shown = self.translate(thread, first, meter);
+                    let shown = rows.shown(thread.slot, first, meter);
                     self.place_by(address, mapping, shown, meter)
                 } else {
-                    self.place_among(thread, address, first + 1, rest, meter)
+                    self.place_among(thread, address, first + 1, rest, rows, meter)
                 }
             }
         }
@@ -186,6 +152,7 @@ impl ArenaState {
         ensures value { result.now ≡ slots_through (state_of self.now) space.now }
         ensures few { length result.now ≤ 16 }
         ensures scans { meter.new.scans ≡ meter.old.scans }
+        ensures probes { meter.new.probes ≤ meter.old.probes + find_cost self.now }
     {
         match space {
             None => &[],
@@ -193,14 +160,29 @@ impl ArenaState {
         }
     }
 
-    /// Where an address of a thread lies, by the one mapping that covers its page.
+    /// Where an address of a thread lies, by the one mapping that covers its page, and by the
+    /// thread's row.
     #[tactic(auto, unfolding(kernel_rules::specs::Translate::place_of))]
-    pub fn place(&self, thread: ObjectId, address: u64, meter: &mut Meter) -> Option<Place>
+    pub fn place(
+        &self,
+        thread: ObjectId,
+        address: u64,
+        rows: &Rows,
+        meter: &mut Meter,
+    ) -> Option<Place>
+        requires { AreKept self.now rows.now }
         ensures value { result ≡ place_of (state_of self.now) thread address }
         ensures scans { meter.new.scans ≡ meter.old.scans }
+        ensures probes { meter.new.probes ≤ meter.old.probes + 3 * find_cost self.now + 1 }
     {
-        let space = self.space_of(thread, meter);
-        let slots = self.slots_through(&space, meter);
-        self.place_among(thread, address, 0, slots, meter)
+        match self.slot(thread, meter) {
+            Some(slot) => {
+                let space = self.space_in(thread, self.record(thread, Some(slot)));
+                let slots = self.slots_through(&space, meter);
+                let thread = Located { id: thread, slot };
+                self.place_among(thread, address, 0, slots, rows, meter)
+            }
+            None => None,
+        }
     }
 }

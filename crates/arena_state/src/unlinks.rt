@@ -4,6 +4,7 @@ ghost use Rattle.base.specs.Live.{has};
 ghost use Rattle.kernel_rules.specs.State.{list_at};
 ghost use Rattle.kernel_rules.specs.Changes.{changed, delisting};
 ghost use Rattle.kernel_rules.specs.Step.{restricted};
+ghost use Rattle.arena_state.specs.Shown.{KeepsAllSlots};
 ghost use Rattle.arena_state.specs.States.{state_of};
 
 use crate::records::discharge;
@@ -17,6 +18,7 @@ impl ArenaState {
     pub fn unref(&mut self, entry: &Entry, meter: &mut Meter)
         ensures state { state_of self.new ≡ restricted
             (changed (state_of self.old) entry.now.container (delisting entry.now.object)) }
+        ensures slots { KeepsAllSlots self.old self.new }
         ensures scans { meter.new.scans ≡ meter.old.scans }
     {
         if self.lists(entry.container, entry.object, meter) {
@@ -30,6 +32,7 @@ impl ArenaState {
             ≡ true }
         ensures state { state_of self.new ≡ restricted
             (changed (state_of self.old) entry.now.container (delisting entry.now.object)) }
+        ensures slots { KeepsAllSlots self.old self.new }
         ensures scans { meter.new.scans ≡ meter.old.scans }
     {
         match self.slot(entry.container, meter) {

@@ -2,7 +2,7 @@
 ghost use Rattle.std.specs.Prelude.{◌≡◌, None, IfSome, IfNone, ◌≤◌, ◌<◌, ◌+◌, ◌^◌};
 ghost use Rattle.kernel_rules.specs.State.{object_at, use_of};
 ghost use Rattle.arena_state.specs.Assembled.{body_use};
-ghost use Rattle.arena_state.specs.States.{state_of};
+ghost use Rattle.arena_state.specs.States.{state_of, find_cost};
 
 use crate::records::Kept;
 use crate::states::ArenaState;
@@ -28,6 +28,7 @@ impl ArenaState {
         ensures some { IfSome result (λ pages. pages ≡ use_of (state_of self.now) id) }
         ensures none { IfNone result (object_at (state_of self.now) id ≡ None) }
         ensures scans { meter.new.scans ≡ meter.old.scans }
+        ensures probes { meter.new.probes ≤ meter.old.probes + find_cost self.now }
     {
         match self.slot(id, meter) {
             Some(slot) => {

@@ -130,7 +130,7 @@ fn each_entry_is_looked_at_once(rt: HostRuntime) -> Result<(), Fail> {
             (None, looks)
         );
     }
-    assert_eq!(rt; looks_at(&store, &load_of_a_byte(), &mut meter), (None, 4));
+    assert_eq!(rt; looks_at(&store, &load_of_a_byte(), &mut meter), (None, 3));
     let unref = Call::Unref { entry: segment };
     assert_eq!(rt;
         looks_of(&mut store, &mut twin, &unref, &mut meter)?,

@@ -25,7 +25,6 @@ fn refused<S: Store>(
 ) -> Option<Refusal>
     ensures value { result ≡ query_refused (S.state state.now) thread query.now }
     ensures meter { S.kept meter.new ≡ S.kept meter.old }
-    ensures looks { is_load query.now ≡ true → S.spends 9 meter.old meter.new }
 {
     match query {
         Query::SelfGet => refused_self_get(state, thread, meter),
@@ -53,7 +52,6 @@ fn found<S: Store>(state: &S, thread: ObjectId, query: &Query, meter: &mut Meter
     requires { query_refused (S.state state.now) thread query.now ≡ None }
     ensures value { result ≡ found (S.state state.now) thread query.now }
     ensures meter { S.kept meter.new ≡ S.kept meter.old }
-    ensures looks { is_load query.now ≡ true → S.spends 9 meter.old meter.new }
 {
     match query {
         Query::SelfGet => self_get(state, thread, meter),
@@ -76,12 +74,15 @@ fn found<S: Store>(state: &S, thread: ObjectId, query: &Query, meter: &mut Meter
 }
 
 /// One query: its refusal, or what it finds where nothing refuses it. It compares no label anew, and
-/// reading through the address space takes at most 18 looks, the look at the bytes among them.
+/// reading through the address space takes at most 9 looks, those at the bytes among them.
 pub fn ask<S: Store>(state: &S, thread: ObjectId, query: &Query, meter: &mut Meter) -> Reply
     ensures value { result ≡ query_answer (S.state state.now) thread query.now }
     ensures meter { S.kept meter.new ≡ S.kept meter.old }
-    ensures looks { is_load query.now ≡ true → S.spends 18 meter.old meter.new }
+    ensures looks { is_load query.now ≡ true → S.spends 9 meter.old meter.new }
 {
+    if let Query::Load { address, count } = query {
+        return load(state, thread, *address, *count, meter);
+    }
     match refused(state, thread, query, meter) {
         Some(refusal) => Reply::Refused(refusal),
         None => found(state, thread, query, meter),

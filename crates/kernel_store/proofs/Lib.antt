@@ -1,3 +1,4 @@
 pub mod PartLaws
 pub mod SightLaws
 pub mod StoringLaws
+pub mod NamedLaws

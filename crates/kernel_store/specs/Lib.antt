@@ -1,3 +1,4 @@
 pub mod Sights
 pub mod Parts
 pub mod Storing
+pub mod Named

@@ -32,7 +32,7 @@ pub fn refusal_of(row: &[&[Condition]]) -> Option<Refusal>
 pub fn halted<S: Store>(state: &S, thread: ObjectId, meter: &mut Meter) -> [Condition; 1]
     ensures value { result ≡ halted (S.state state.now) thread }
     ensures meter { S.kept meter.new ≡ S.kept meter.old }
-    ensures looks { S.spends 1 meter.old meter.new }
+    ensures looks { S.spends 2 meter.old meter.new }
 {
     let runs = state.is_live_kind(Kind::Thread, thread, meter);
     [(Refusal::Halted, !runs)]

@@ -1,5 +1,6 @@
-//! Storms of calls on both machines: each reply is the same, and so are the tables.
-use crate::compared::are_same;
+//! Storms of calls on both machines: each reply is the same, and so are the tables and the kept
+//! rows.
+use crate::compared::{are_same, keeps_rows};
 use crate::drawn::{COUNTED, Storm};
 use base::{Limits, Meter, NoMemory, ObjectId};
 use kernel_rules::{Call, Query};
@@ -54,7 +55,7 @@ impl Pair {
     fn have_same_tables(&mut self) -> Result<bool, NoMemory> {
         let one = self.plain.tables(&mut self.meter)?;
         let other = self.kernel.tables(&mut self.meter)?;
-        Ok(are_equal(&one, &other))
+        Ok(are_equal(&one, &other) && keeps_rows(&self.kernel, &one, &mut self.meter))
     }
 }
 

@@ -7,10 +7,13 @@ ghost use Rattle.kernel_rules.specs.Scratch.{ids_of, scratch};
 ghost use Rattle.kernel_rules.specs.State.{is_live_kind, object_at, use_of};
 ghost use Rattle.kernel_rules.specs.Runs.{booted};
 ghost use Rattle.arena_state.specs.Kept.{label_kept, order_kept};
+ghost use Rattle.arena_state.specs.Shown.{AreKept};
+ghost use Rattle.kernel_rules.specs.Translate.{translate};
+ghost use Rattle.translation_laws.specs.Names.{IsNamedRightly};
 ghost use Rattle.arena_state.specs.States.{state_of};
 
 use arena_state::ArenaState;
-use base::{Kind, Limits, Meter, NoMemory, ObjectId};
+use base::{Kind, Limits, Meter, NoMemory, ObjectId, Rights};
 use kernel_calls::{ask, step_surely};
 use kernel_rules::{Call, Query, Reply, Tables};
 use kernel_tables::tables;
@@ -18,22 +21,29 @@ use label_intern::{LabelIx, OrderBits};
 use label_lattice::Label;
 use plain_core::{BootRefusal, Machine};
 use std::alloc::Global;
+use translation_rows::Rows;
 
-/// A label kernel that takes all its memory at boot and keeps what its calls decide by: label orders,
-/// uses and live ids. A contract sees it as its state, which is well formed at all times.
+/// A label kernel that takes all its memory at boot and keeps what its calls decide by: label
+/// orders, translations, uses and live ids. A contract sees it as its state, which is well formed
+/// at all times.
 #[derive(Drop)]
 pub struct Kernel {
     alloc: Global,
     pub(crate) state: ArenaState,
+    pub(crate) rows: Rows,
+    ghost kept: { AreKept state rows },
+    ghost named: { IsNamedRightly (state_of state) },
 }
 
-/// A booted state, for limits in range. Want of memory is the only error.
-fn booted_state(alloc: Global, limits: &Limits) -> Result<ArenaState, NoMemory>
+/// A booted kernel, for limits in range. Want of memory is the only error.
+fn booted_kernel(alloc: Global, limits: &Limits) -> Result<Kernel, NoMemory>
     requires { in_range limits.now ≡ true }
-    ensures { IfOk result (λ state. state_of state ≡ booted limits.now) }
+    ensures { IfOk result (λ kernel. state_of kernel.state ≡ booted limits.now) }
 {
     let mut meter = Meter::new(alloc)?;
-    ArenaState::boot(alloc, limits, &mut meter)
+    let state = ArenaState::boot(alloc, limits, &mut meter)?;
+    let rows = state.new_rows(alloc, &mut meter)?;
+    Ok(Kernel { alloc, state, rows })
 }
 
 impl Kernel {
@@ -50,8 +60,8 @@ impl Kernel {
         if !limits.is_in_range() {
             return Err(BootRefusal::BadLimits);
         }
-        match booted_state(alloc, limits) {
-            Ok(state) => Ok(Kernel { alloc, state }),
+        match booted_kernel(alloc, limits) {
+            Ok(kernel) => Ok(kernel),
             Err(_) => Err(BootRefusal::Unavailable),
         }
     }
@@ -67,7 +77,9 @@ impl Kernel {
     pub fn is_thread(&self, thread: ObjectId, meter: &mut Meter) -> bool
         ensures value { result ≡ is_live_kind (kernel_state self.now) kinds.Thread thread }
         ensures scans { meter.new.scans ≡ meter.old.scans }
+        ensures probes { meter.new.probes ≤ meter.old.probes + 16 }
     {
+        self.rows.few();
         self.state.is_live_kind(Kind::Thread, thread, meter)
     }
 
@@ -86,12 +98,33 @@ impl Kernel {
         self.state.kept_order(one, other)
     }
 
+    /// What a slot of a live thread's address space shows, as it is kept: a segment, with the
+    /// rights to it. None for any other id, and from the sixteenth slot on. No label is scanned.
+    pub fn kept_translation(
+        &self,
+        thread: ObjectId,
+        slot: usize,
+        meter: &mut Meter,
+    ) -> Option<(ObjectId, Rights)>
+        ensures value { result ≡ translate (kernel_state self.now) thread slot }
+        ensures threads { is_live_kind (kernel_state self.now) kinds.Thread thread ≡ false
+            → result ≡ None }
+        ensures slots { 16 ≤ slot → result ≡ None }
+        ensures scans { meter.new.scans ≡ meter.old.scans }
+        ensures probes { meter.new.probes ≤ meter.old.probes + 16 }
+    {
+        self.rows.few();
+        self.state.kept_translation(thread, slot, &self.rows, meter)
+    }
+
     /// What a live object uses, in pages of 256 bytes, as it is kept; none for any other id.
     pub fn kept_use(&self, id: ObjectId, meter: &mut Meter) -> Option<u32>
         ensures some { IfSome result (λ pages. pages ≡ use_of (kernel_state self.now) id) }
         ensures none { IfNone result (object_at (kernel_state self.now) id ≡ None) }
         ensures scans { meter.new.scans ≡ meter.old.scans }
+        ensures probes { meter.new.probes ≤ meter.old.probes + 16 }
     {
+        self.rows.few();
         self.state.kept_use(id, meter)
     }
 
@@ -99,6 +132,7 @@ impl Kernel {
     pub fn kept_live(&self, place: usize, meter: &mut Meter) -> Option<ObjectId>
         ensures value { result ≡ slice_get (ids_of (kernel_state self.now).objects) place }
         ensures scans { meter.new.scans ≡ meter.old.scans }
+        ensures probes { meter.new.probes ≤ meter.old.probes + 16 }
     {
         self.state.kept_live(place, meter)
     }
@@ -106,7 +140,7 @@ impl Kernel {
 
 impl Kernel {
     ghost use Rattle.kernel_rules.specs.Step.{answer, next, query_answer};
-    ghost use Rattle.kernel_calls.specs.Scans.{is_quiet, most_scans, stores};
+    ghost use Rattle.kernel_calls.specs.Scans.{is_load, is_quiet, most_scans, stores};
     ghost use Rattle.kernel_store.specs.Storing.{label_count};
     ghost use Rattle.syscall_core.specs.Kernel.{kernel_state};
 
@@ -125,10 +159,12 @@ impl Kernel {
     }
 
     /// One query of a thread, as `Machine::ask` says; it takes no memory, so there is no error. No label
-    /// is scanned.
+    /// is scanned, and a `load` adds at most 64 probes.
     pub fn ask_surely(&self, thread: ObjectId, query: &Query, meter: &mut Meter) -> Reply
         ensures reply { result ≡ query_answer (kernel_state self.now) thread query.now }
         ensures scans { meter.new.scans ≡ meter.old.scans }
+        ensures probes { is_load query.now ≡ true
+            → meter.new.probes ≤ meter.old.probes + 64 }
     {
         ask(self, thread, query, meter)
     }

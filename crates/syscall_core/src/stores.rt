@@ -3,6 +3,7 @@
 ghost use Rattle.std.specs.Prelude.{◌≡◌};
 
 use crate::kernel::Kernel;
+use arena_state::Change;
 use base::{Data, Kind, Meter, ObjectId, Rights, TypeSet};
 use kernel_rules::{Entry, Gate, Ids, Mapping, Place, Thread};
 use kernel_store::{Seen, Sight, Store};
@@ -11,7 +12,9 @@ use std::convert::Infallible;
 
 impl Store for Kernel {
     ghost use Rattle.syscall_core.specs.Kernel.{kernel_state};
+    ghost use Rattle.arena_state.proofs.LookLaws.{no_looks, more_looks, both_looks};
     ghost use Rattle.arena_state.proofs.StockLaws.{whole_formed};
+    ghost use Rattle.arena_state.specs.Looks.{Looks};
     ghost use Rattle.arena_state.specs.States.{labels_stored};
 
     ghost state = { kernel_state };
@@ -20,11 +23,12 @@ impl Store for Kernel {
 
     ghost stored = { λ k. labels_stored k.state };
 
-    ghost spends = { λ n a b. Unit {0} };
+    ghost spends = { Looks };
 
     type Want = Infallible;
 
     fn is_live_kind(&self, kind: Kind, id: ObjectId, meter: &mut Meter) -> bool {
+        self.rows.few();
         self.state.is_live_kind(kind, id, meter)
     }
 
@@ -101,11 +105,13 @@ impl Store for Kernel {
     }
 
     fn bytes_from(&self, id: ObjectId, from: usize, count: u32, meter: &mut Meter) -> Data {
+        self.rows.few();
         self.state.bytes_from(id, from, count, meter)
     }
 
     fn place(&self, thread: ObjectId, address: u64, meter: &mut Meter) -> Option<Place> {
-        self.state.place(thread, address, meter)
+        self.rows.few();
+        self.state.place(thread, address, &self.rows, meter)
     }
 
     fn is_shown(&self, thread: ObjectId, id: ObjectId, meter: &mut Meter) -> bool {
@@ -146,7 +152,7 @@ impl Store for Kernel {
         slot: usize,
         meter: &mut Meter,
     ) -> Option<(ObjectId, Rights)> {
-        self.state.translate(thread, slot, meter)
+        self.state.kept_translation(thread, slot, &self.rows, meter)
     }
 
     fn id_at(&self, place: usize, meter: &mut Meter) -> Option<ObjectId> {
@@ -168,11 +174,18 @@ impl Store for Kernel {
         meter: &mut Meter,
     ) -> Result<(), Infallible> {
         self.state.link(container, entry, meter);
+        let linked = Entry {
+            container,
+            object: entry.object,
+        };
+        self.state
+            .repair(&Change::Entry(linked), &mut self.rows, meter);
         Ok(())
     }
 
     fn unref(&mut self, entry: &Entry, meter: &mut Meter) -> Result<(), Infallible> {
         self.state.unref(entry, meter);
+        self.state.repair(&Change::All, &mut self.rows, meter);
         Ok(())
     }
 
@@ -195,6 +208,7 @@ impl Store for Kernel {
 
     fn set_slot(&mut self, id: ObjectId, slot: usize, mapping: Option<Mapping>, meter: &mut Meter) {
         self.state.set_slot(id, slot, mapping, meter);
+        self.state.repair(&Change::Space(id), &mut self.rows, meter);
     }
 
     fn dev_send(
@@ -213,6 +227,8 @@ impl Store for Kernel {
 
     fn set_immutable(&mut self, id: ObjectId, meter: &mut Meter) {
         self.state.set_immutable(id, meter);
+        self.state
+            .repair(&Change::Object(id), &mut self.rows, meter);
     }
 
     fn meta_set(&mut self, id: ObjectId, given: &Data, meter: &mut Meter) {
@@ -221,6 +237,7 @@ impl Store for Kernel {
 
     fn set_label(&mut self, thread: ObjectId, label: Option<Label>, meter: &mut Meter) {
         self.state.give_label(thread, label, meter);
+        self.state.remake_row(thread, &mut self.rows, meter);
     }
 
     fn set_clearance(&mut self, thread: ObjectId, clearance: Option<Label>, meter: &mut Meter) {
@@ -229,6 +246,7 @@ impl Store for Kernel {
 
     fn set_space(&mut self, thread: ObjectId, space: Entry, meter: &mut Meter) {
         self.state.set_space(thread, space, meter);
+        self.state.remake_row(thread, &mut self.rows, meter);
     }
 
     fn own_category(
@@ -239,6 +257,7 @@ impl Store for Kernel {
         meter: &mut Meter,
     ) {
         self.state.own_category(thread, label, clearance, meter);
+        self.state.remake_row(thread, &mut self.rows, meter);
     }
 
     fn enter(
@@ -252,6 +271,7 @@ impl Store for Kernel {
     ) {
         self.state
             .enter(thread, &label, &clearance, &verify, gate, meter);
+        self.state.remake_row(thread, &mut self.rows, meter);
     }
 
     fn create_container(
@@ -262,10 +282,11 @@ impl Store for Kernel {
         kinds: TypeSet,
         meter: &mut Meter,
     ) -> Result<ObjectId, Infallible> {
-        Ok(
-            self.state
-                .make_container(container, label, quota, kinds, meter),
-        )
+        let id = self
+            .state
+            .make_container(container, label, quota, kinds, meter);
+        self.state.remake_row(id, &mut self.rows, meter);
+        Ok(id)
     }
 
     fn create_segment(
@@ -276,10 +297,11 @@ impl Store for Kernel {
         pages: u32,
         meter: &mut Meter,
     ) -> Result<ObjectId, Infallible> {
-        Ok(
-            self.state
-                .make_segment(container, label, quota, pages, meter),
-        )
+        let id = self
+            .state
+            .make_segment(container, label, quota, pages, meter);
+        self.state.remake_row(id, &mut self.rows, meter);
+        Ok(id)
     }
 
     fn create_copy(
@@ -290,7 +312,9 @@ impl Store for Kernel {
         source: ObjectId,
         meter: &mut Meter,
     ) -> Result<ObjectId, Infallible> {
-        Ok(self.state.make_copy(container, label, quota, source, meter))
+        let id = self.state.make_copy(container, label, quota, source, meter);
+        self.state.remake_row(id, &mut self.rows, meter);
+        Ok(id)
     }
 
     fn create_space(
@@ -300,7 +324,9 @@ impl Store for Kernel {
         quota: u32,
         meter: &mut Meter,
     ) -> Result<ObjectId, Infallible> {
-        Ok(self.state.make_space(container, label, quota, meter))
+        let id = self.state.make_space(container, label, quota, meter);
+        self.state.remake_row(id, &mut self.rows, meter);
+        Ok(id)
     }
 
     fn create_thread(
@@ -312,10 +338,11 @@ impl Store for Kernel {
         entry_point: u64,
         meter: &mut Meter,
     ) -> Result<ObjectId, Infallible> {
-        Ok(
-            self.state
-                .make_thread(container, label, quota, clearance, entry_point, meter),
-        )
+        let id = self
+            .state
+            .make_thread(container, label, quota, clearance, entry_point, meter);
+        self.state.remake_row(id, &mut self.rows, meter);
+        Ok(id)
     }
 
     fn create_gate(
@@ -326,16 +353,18 @@ impl Store for Kernel {
         gate: Gate,
         meter: &mut Meter,
     ) -> Result<ObjectId, Infallible> {
-        Ok(self.state.make_gate(container, label, quota, gate, meter))
+        let id = self.state.make_gate(container, label, quota, gate, meter);
+        self.state.remake_row(id, &mut self.rows, meter);
+        Ok(id)
     }
 
     ghost sound = { λ s. whole_formed s.state.pieces s.state.sound s.state.stocked };
 
     ghost kept_scans = { λ n l m h. h.no_more };
 
-    ghost none_spent = { λ m. tt };
+    ghost none_spent = { no_looks };
 
-    ghost more_spent = { λ a b l m h k. tt };
+    ghost more_spent = { more_looks };
 
-    ghost both_spent = { λ a b l m n h k. tt };
+    ghost both_spent = { both_looks };
 }

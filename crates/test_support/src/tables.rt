@@ -6,7 +6,8 @@ fn is_used(one: &Used, other: &Used) -> bool {
     one.id == other.id && one.pages == other.pages
 }
 
-fn is_shown(one: &Shown, other: &Shown) -> bool {
+/// Whether two rows of translation are the same.
+pub fn is_shown(one: &Shown, other: &Shown) -> bool {
     one.thread == other.thread
         && one.slot == other.slot
         && one.segment == other.segment

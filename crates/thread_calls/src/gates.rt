@@ -1,12 +1,14 @@
 //! The calls that make and enter gates.
-ghost use Rattle.std.specs.Prelude.{◌≡◌, ◌≤◌, ◌+◌, ◌∷◌, [], None, IfOk, OnOk, OnErr, IfSome};
+ghost use Rattle.std.specs.Prelude.{◌≡◌, ◌≤◌, ◌+◌, ◌∷◌, [], ℕ, true, None};
+ghost use Rattle.std.specs.Prelude.{IfOk, OnOk, OnErr, IfSome};
 ghost use Rattle.base.specs.Counts.{ScansAtMost};
 ghost use Rattle.base.specs.declared.refusals.Refusal.TheVariants as refusal;
 ghost use Rattle.label_lattice.specs.Label.{IsStored};
 ghost use Rattle.label_rules.specs.LabelRules.{may_enter, stored};
 ghost use Rattle.label_rules.specs.declared.gates.Asked.{Asked};
 ghost use Rattle.label_rules.specs.declared.gates.Bearer.{Bearer};
-ghost use Rattle.kernel_rules.specs.State.{gate_at};
+ghost use Rattle.base.specs.declared.kinds.Kind.TheVariants as kinds;
+ghost use Rattle.kernel_rules.specs.State.{gate_at, is_kind_at};
 ghost use Rattle.label_lattice.specs.Raw.{is_bad_below};
 ghost use Rattle.kernel_rules.specs.Step.{accepted, edit, through_gate, told_by};
 ghost use Rattle.kernel_rules.specs.Table.{refused, own_bearer, gate_bearer};
@@ -192,6 +194,8 @@ fn enter<S: Store>(
     gate: &Option<Gate>,
     meter: &mut Meter,
 )
+    requires thread { is_kind_at (S.state state.old) kinds.Thread thread ≡ true }
+    requires gate { (id : ℕ) × (gate.now ≡ gate_at (S.state state.old) id) }
     requires label { IfSome asked.now.label IsStored }
     requires clearance { IfSome asked.now.clearance IsStored }
     requires verify { IfSome asked.now.verify IsStored }
@@ -232,6 +236,8 @@ pub fn gate_enter<S: Store>(
     entering: &Entering,
     meter: &mut Meter,
 ) -> Reply
+    requires { refused (S.state state.old) thread (call.GateEnter gate.now entering.now.label
+        entering.now.clearance entering.now.verify) ≡ None }
     ensures reply { result ≡ accepted (S.state state.old) thread
         (call.GateEnter gate.now entering.now.label
         entering.now.clearance entering.now.verify) }

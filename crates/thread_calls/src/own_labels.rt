@@ -40,6 +40,7 @@ pub fn self_set_label<S: Store>(
     raw: &RawLabel,
     meter: &mut Meter,
 ) -> Reply
+    requires { refused (S.state state.old) thread (call.SelfSetLabel raw.now) ≡ None }
     ensures reply { result ≡ accepted (S.state state.old) thread (call.SelfSetLabel raw.now) }
     ensures state { S.state state.new
         ≡ edit (S.state state.old) thread (call.SelfSetLabel raw.now) }

@@ -33,6 +33,7 @@ pub fn self_set_as<S: Store>(
     space: &Entry,
     meter: &mut Meter,
 ) -> Reply
+    requires { refused (S.state state.old) thread (call.SelfSetAs space.now) ≡ None }
     ensures reply { result ≡ accepted (S.state state.old) thread (call.SelfSetAs space.now) }
     ensures state { S.state state.new
         ≡ edit (S.state state.old) thread (call.SelfSetAs space.now) }

@@ -60,8 +60,7 @@ follow_kind s n k e f h = record {
 }
 
 follow_space : (s n : State) (e : Entry) → Follows s n → NamesSpace s e → NamesSpace n e
-follow_space s n e f (inl h) = inl h
-follow_space s n e f (inr h) = inr (follow_kind s n kinds.AddressSpace e f h)
+follow_space s n e f h = λ some. follow_kind s n kinds.AddressSpace e f (h some)
 
 follow : (s n : State) (b : body.Body) → Follows s n → NamesRightly s b → NamesRightly n b
 follow s n b f h = record {
@@ -117,7 +116,7 @@ same_names s a b space slots h = record {
   slots = λ i m on. h.slots i m (ap (λ l. slot_in (slice_get l i)) (sym slots) ∙ on);
 }
 
-named_alike : (s : State) (o : ℕ) (f : Object → Object) → IsNamedRightly s
+pub named_alike : (s : State) (o : ℕ) (f : Object → Object) → IsNamedRightly s
     → ((x : Object) → kind_of (f x).body ≡ kind_of x.body)
     → ((x : Object) → space_in (f x).body ≡ space_in x.body)
     → ((x : Object) → slots_of (f x).body ≡ slots_of x.body) → IsNamedRightly (changed s o f)
@@ -125,7 +124,7 @@ named_alike s o f h kind space slots =
     named_changed s o f h kind (λ x found. same_names s x.body (f x).body (space x) (slots x) (h o x found))
 
 -- what is live names as before
-named_rest : (s : State) → IsNamedRightly s → IsNamedRightly (restricted s)
+pub named_rest : (s : State) → IsNamedRightly s → IsNamedRightly (restricted s)
 named_rest s h o x now =
     follow s (restricted s) x.body (record { next = omega arith; kinds = kept })
     (elim (is_live (lists_of s.objects) o)
@@ -315,7 +314,7 @@ reslot_names s k v (is.Gate g) new h = h
 reslot_names s k v (is.Device packets) new h = h
 
 -- a body that names nothing
-empty_slots : (n i : ℕ) → slot_in (slice_get (replicate n None) i) ≡ None
+pub empty_slots : (n i : ℕ) → slot_in (slice_get (replicate n None) i) ≡ None
 empty_slots zero i = refl
 empty_slots (suc n) zero = refl
 empty_slots (suc n) (suc i) = empty_slots n i
@@ -328,7 +327,7 @@ nameless s b space none = record {
   slots = λ i m on. let never : Some m ≡ None = sym on ∙ none i in absurd (cc);
 }
 
-named_value : {X : Type 0} (s : State) (v : Option X) (f : X → State) → IsNamedRightly s
+pub named_value : {X : Type 0} (s : State) (v : Option X) (f : X → State) → IsNamedRightly s
     → ((x : X) → v ≡ Some x → IsNamedRightly (f x)) → IsNamedRightly (with_value s v f)
 named_value s None f h each = h
 named_value s (Some x) f h each = each x refl
@@ -345,7 +344,7 @@ named_made s d x h new =
     follow s (changed s d (listing s.next_id)) x.body (follows_changed s d (listing s.next_id) kinds) new in
     named_new (changed s d (listing s.next_id)) x mid there
 
-named_created : (s : State) (d : ℕ) (x : Option LabelValue) (q : ℕ) (b : body.Body) → IsNamedRightly s
+pub named_created : (s : State) (d : ℕ) (x : Option LabelValue) (q : ℕ) (b : body.Body) → IsNamedRightly s
     → NamesRightly s b → IsNamedRightly (made_of s d x q b)
 named_created s d x q b h new =
     named_value s x (λ l. made s d (fresh_object l q b)) h
@@ -374,7 +373,7 @@ space_gate (is.AddressSpace slots) r h = absurd (cc)
 space_gate (is.Thread t) r h = absurd (cc)
 space_gate (is.Device packets) r h = absurd (cc)
 
-gate_space : (s : State) (g : ℕ) (gate : Gate) → IsNamedRightly s → gate_at s g ≡ Some gate
+pub gate_space : (s : State) (g : ℕ) (gate : Gate) → IsNamedRightly s → gate_at s g ≡ Some gate
     → NamesSpace s gate.space
 gate_space s g gate h =
     elim (object_at s g)
@@ -385,7 +384,7 @@ gate_space s g gate h =
     ] refl
 
 -- a thread with another body
-named_thread : (s : State) (t : ℕ) (f : Object → Object) (g : thread.Thread → thread.Thread) → IsNamedRightly s
+pub named_thread : (s : State) (t : ℕ) (f : Object → Object) (g : thread.Thread → thread.Thread) → IsNamedRightly s
     → ((x : Object) → (f x).body ≡ rethread g x.body)
     → ((x : Object) (r : thread.Thread) → object_at s t ≡ Some x → thread_of x.body ≡ Some r
     → NamesSpace s (g r).space) → IsNamedRightly (changed s t f)
@@ -394,11 +393,11 @@ named_thread s t f g h same new =
     (λ x found. subst (λ (b : body.Body). NamesRightly s b) (sym (same x))
     (rethread_names s g x.body (λ r on. new x r found on) (h t x found)))
 
-old_space : (s : State) (t : ℕ) (x : Object) (r : thread.Thread) → IsNamedRightly s → object_at s t ≡ Some x
+pub old_space : (s : State) (t : ℕ) (x : Object) (r : thread.Thread) → IsNamedRightly s → object_at s t ≡ Some x
     → thread_of x.body ≡ Some r → NamesSpace s r.space
 old_space s t x r h found on = (h t x found).space r.space (space_thread x.body r on)
 
-named_owned : (s : State) (t : ℕ) (l c : Option LabelValue) → IsNamedRightly s → IsNamedRightly (owned s t l c)
+pub named_owned : (s : State) (t : ℕ) (l c : Option LabelValue) → IsNamedRightly s → IsNamedRightly (owned s t l c)
 named_owned s t None c h = h
 named_owned s t (Some l) None h = h
 named_owned s t (Some l) (Some c) h =
@@ -410,7 +409,7 @@ named_owned s t (Some l) (Some c) h =
     x.body (record { next = omega arith; kinds = λ k q old g. g }) (mid o x found))
 
 -- what is recorded was given
-given_kind : (s : State) (k : kind.Kind) (o : ℕ) → is_well_formed s ≡ true → is_kind_at s k o ≡ true
+pub given_kind : (s : State) (k : kind.Kind) (o : ℕ) → is_well_formed s ≡ true → is_kind_at s k o ≡ true
     → (o < s.next_id) × (of_object true (is_kind k) (object_at s o) ≡ true)
 given_kind s k o wf h =
     let given : list_all (λ e. nat_lt e.0 s.next_id) s.objects ≡ true =
@@ -443,30 +442,30 @@ space_from s t e wf first second =
     elim (names_none e)
     as (λ v. names_none e ≡ v → (not v && not (is_accessible s t e.container)) ≡ false
     → (not v && not (is_kind_at s kinds.AddressSpace e.object)) ≡ false → NamesSpace s e) [
-      | true ↦ λ none a b. inl none
+      | true ↦ λ none a b. λ some. absurd (both_ways (names_none e) some none)
       | false ↦ λ some a b.
-          inr (names_from s t kinds.AddressSpace e wf (not-false _ a) (not-false _ b))
+          λ _. names_from s t kinds.AddressSpace e wf (not-false _ a) (not-false _ b)
     ] refl first second
 
-named_bytes : (s : State) (o : ℕ) (f : List ℕ → List ℕ) → IsNamedRightly s
+pub named_bytes : (s : State) (o : ℕ) (f : List ℕ → List ℕ) → IsNamedRightly s
     → IsNamedRightly (changed s o (with_body (rebyte f)))
 named_bytes s o f h =
     named_alike s o (with_body (rebyte f)) h (λ x. kind-rebyte f x.body) (λ x. space-rebyte f x.body)
     (λ x. slots-rebyte f x.body)
 
-named_packets : (s : State) (o : ℕ) (f : List (List ℕ) → List (List ℕ)) → IsNamedRightly s
+pub named_packets : (s : State) (o : ℕ) (f : List (List ℕ) → List (List ℕ)) → IsNamedRightly s
     → IsNamedRightly (changed s o (with_body (requeue f)))
 named_packets s o f h =
     named_alike s o (with_body (requeue f)) h (λ x. kind-requeue f x.body) (λ x. space-requeue f x.body)
     (λ x. slots-requeue f x.body)
 
-named_lists : (s : State) (o : ℕ) (f : List ℕ → List ℕ) → IsNamedRightly s
+pub named_lists : (s : State) (o : ℕ) (f : List ℕ → List ℕ) → IsNamedRightly s
     → IsNamedRightly (changed s o (with_body (relist f)))
 named_lists s o f h =
     named_alike s o (with_body (relist f)) h (λ x. kind-relist f x.body) (λ x. space-relist f x.body)
     (λ x. slots-relist f x.body)
 
-named_slot : (s : State) (o k : ℕ) (v : Option Mapping) → IsNamedRightly s
+pub named_slot : (s : State) (o k : ℕ) (v : Option Mapping) → IsNamedRightly s
     → ((m : Mapping) → v ≡ Some m → NamesKind s kinds.Segment m.entry)
     → IsNamedRightly (changed s o (with_body (reslot (λ slots. slice_set slots k v))))
 named_slot s o k v h new =
@@ -474,7 +473,7 @@ named_slot s o k v h new =
     (λ x. kind-reslot (λ slots. slice_set slots k v) x.body)
     (λ x found. reslot_names s k v x.body new (h o x found))
 
-nothing_named : (s : State) (b : body.Body) → space_in b ≡ None → slots_of b ≡ [] → NamesRightly s b
+pub nothing_named : (s : State) (b : body.Body) → space_in b ≡ None → slots_of b ≡ [] → NamesRightly s b
 nothing_named s b space slots =
     nameless s b (λ e on. let never : Some e ≡ None = sym on ∙ space in absurd (cc))
     (λ i. ap (λ l. slot_in (slice_get l i)) slots)
@@ -507,7 +506,7 @@ named_edit s t (call.ThreadCreate n) wf r h =
     named_bearer s n.container _ n.quota _ _ h
     (λ c. nameless s (new_thread c n.entry_point)
     (λ e on. let same : (record { container = 0; object = 0 }) ≡ e = cc in
-    subst (λ (a : Entry). NamesSpace s a) same (inl refl)) (λ i. refl))
+    subst (λ (a : Entry). NamesSpace s a) same (λ some. absurd (both_ways true some refl))) (λ i. refl))
 named_edit s t (call.GateCreate n) wf r h =
     let none = none_hold (halted s t ++ row s t (call.GateCreate n)) r in
     named_bearer s n.container _ n.quota _ _ h

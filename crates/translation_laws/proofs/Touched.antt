@@ -42,36 +42,39 @@ use Rattle.translation_laws.proofs.Plain.{plain_lem}
 use Rattle.translation_laws.proofs.Slots.{slot_lem, immutable_lem}
 use Rattle.translation_laws.proofs.Threads.{spaced_lem, labels_lem, label_own, owning_own, entered_own}
 
-rows_value : {X : Type 0} (s : State) (q i : ℕ) (v : Option X) (f : X → State)
+pub rows_value : {X : Type 0} (s : State) (q i : ℕ) (v : Option X) (f : X → State)
     → ((x : X) → translate (f x) q i ≡ translate s q i) → translate (with_value s v f) q i ≡ translate s q i
 rows_value s q i None f each = refl
 rows_value s q i (Some x) f each = each x
 
 -- a new object, where the entries name rightly
-made_row : (s : State) (t d : ℕ) (x : Object) (q i : ℕ) → is_well_formed s ≡ true → IsNamedRightly s
-    → (not (is_accessible s t d)) ≡ false → (q ≡ s.next_id → ⊥) → translate (made s d x) q i ≡ translate s q i
-made_row s t d x q i wf names reached other =
-    let kind : is_kind_at s kinds.Container d ≡ true = accessible_kind s t d (not-false _ reached) in
+made_row : (s : State) (d : ℕ) (x : Object) (q i : ℕ) → is_well_formed s ≡ true → IsNamedRightly s
+    → is_kind_at s kinds.Container d ≡ true → (q ≡ s.next_id → ⊥) → translate (made s d x) q i ≡ translate s q i
+made_row s d x q i wf names kind other =
     unless_none s (made s d x) q i (made_own s d x q wf kind other)
     (λ some. made_lem s d x q i wf kind other (λ e on. names_no_new s e (through_names s q i e names some on)))
 
-created_row : (s : State) (t d : ℕ) (l : Option LabelValue) (quota : ℕ) (b : body.Body) (q i : ℕ)
-    → is_well_formed s ≡ true → IsNamedRightly s → (not (is_accessible s t d)) ≡ false
+pub created_row : (s : State) (d : ℕ) (l : Option LabelValue) (quota : ℕ) (b : body.Body) (q i : ℕ)
+    → is_well_formed s ≡ true → IsNamedRightly s → is_kind_at s kinds.Container d ≡ true
     → (q ≡ s.next_id → ⊥) → translate (made_of s d l quota b) q i ≡ translate s q i
-created_row s t d l quota b q i wf names reached other =
+created_row s d l quota b q i wf names kind other =
     rows_value s q i l (λ l. made s d (fresh_object l quota b))
-    (λ l. made_row s t d (fresh_object l quota b) q i wf names reached other)
+    (λ l. made_row s d (fresh_object l quota b) q i wf names kind other)
 
-bearer_row : (s : State) (t d : ℕ) (l : Option LabelValue) (quota : ℕ) (y : Option LabelValue)
+bearer_row : (s : State) (d : ℕ) (l : Option LabelValue) (quota : ℕ) (y : Option LabelValue)
     (b : LabelValue → body.Body) (q i : ℕ)
-    → is_well_formed s ≡ true → IsNamedRightly s → (not (is_accessible s t d)) ≡ false
+    → is_well_formed s ≡ true → IsNamedRightly s → is_kind_at s kinds.Container d ≡ true
     → (q ≡ s.next_id → ⊥) → translate (made_bearer s d l quota y b) q i ≡ translate s q i
-bearer_row s t d l quota y b q i wf names reached other =
+bearer_row s d l quota y b q i wf names kind other =
     rows_value s q i y (λ c. made_of s d l quota (b c))
-    (λ c. created_row s t d l quota (b c) q i wf names reached other)
+    (λ c. created_row s d l quota (b c) q i wf names kind other)
+
+-- a container that the caller reaches is one
+reached : (s : State) (t d : ℕ) → (not (is_accessible s t d)) ≡ false → is_kind_at s kinds.Container d ≡ true
+reached s t d h = accessible_kind s t d (not-false _ h)
 
 -- a thread's label, where the entries name rightly
-labels_row : (s n : State) (t q i : ℕ) → IsNamedRightly s → is_kind_at s kinds.Thread t ≡ true → (q ≡ t → ⊥)
+pub labels_row : (s n : State) (t q i : ℕ) → IsNamedRightly s → is_kind_at s kinds.Thread t ≡ true → (q ≡ t → ⊥)
     → own_space n q ≡ own_space s q
     → (LabelChangesKeepRows s t q i → translate n q i ≡ translate s q i) → translate n q i ≡ translate s q i
 labels_row s n t q i names kind other own each =
@@ -83,7 +86,7 @@ counted_row : (s : State) (k q i : ℕ) → translate (record s { next_category 
 unfolding translate
 counted_row s k q i = refl
 
-owned_row : (s : State) (t q i : ℕ) (l c : Option LabelValue) → IsNamedRightly s
+pub owned_row : (s : State) (t q i : ℕ) (l c : Option LabelValue) → IsNamedRightly s
     → is_kind_at s kinds.Thread t ≡ true → (q ≡ t → ⊥) → translate (owned s t l c) q i ≡ translate s q i
 owned_row s t q i None c names kind other = refl
 owned_row s t q i (Some l) None names kind other = refl
@@ -176,23 +179,23 @@ edit_row s t (call.SelfSetClearance y) q i wf names r out =
 edit_row s t (call.SelfSetAs e) q i wf names r out =
     spaced_lem s t q i e (acts_of s t (call.SelfSetAs e) r) out
 edit_row s t (call.ContainerCreate n) q i wf names r out =
-    created_row s t n.container _ n.quota _ q i wf names
-    (none_hold (halted s t ++ row s t (call.ContainerCreate n)) r).1.0 out
+    created_row s n.container _ n.quota _ q i wf names
+    (reached s t n.container (none_hold (halted s t ++ row s t (call.ContainerCreate n)) r).1.0) out
 edit_row s t (call.SegmentCreate n) q i wf names r out =
-    created_row s t n.container _ n.quota _ q i wf names
-    (none_hold (halted s t ++ row s t (call.SegmentCreate n)) r).1.0 out
+    created_row s n.container _ n.quota _ q i wf names
+    (reached s t n.container (none_hold (halted s t ++ row s t (call.SegmentCreate n)) r).1.0) out
 edit_row s t (call.SegmentCopy n) q i wf names r out =
-    created_row s t n.container _ n.quota _ q i wf names
-    (none_hold (halted s t ++ row s t (call.SegmentCopy n)) r).1.1.1.1.1.0 out
+    created_row s n.container _ n.quota _ q i wf names
+    (reached s t n.container (none_hold (halted s t ++ row s t (call.SegmentCopy n)) r).1.1.1.1.1.0) out
 edit_row s t (call.AsCreate n) q i wf names r out =
-    created_row s t n.container _ n.quota _ q i wf names
-    (none_hold (halted s t ++ row s t (call.AsCreate n)) r).1.0 out
+    created_row s n.container _ n.quota _ q i wf names
+    (reached s t n.container (none_hold (halted s t ++ row s t (call.AsCreate n)) r).1.0) out
 edit_row s t (call.ThreadCreate n) q i wf names r out =
-    bearer_row s t n.container _ n.quota _ _ q i wf names
-    (none_hold (halted s t ++ row s t (call.ThreadCreate n)) r).1.0 out
+    bearer_row s n.container _ n.quota _ _ q i wf names
+    (reached s t n.container (none_hold (halted s t ++ row s t (call.ThreadCreate n)) r).1.0) out
 edit_row s t (call.GateCreate n) q i wf names r out =
-    bearer_row s t n.container _ n.quota _ _ q i wf names
-    (none_hold (halted s t ++ row s t (call.GateCreate n)) r).1.1.1.1.0 out
+    bearer_row s n.container _ n.quota _ _ q i wf names
+    (reached s t n.container (none_hold (halted s t ++ row s t (call.GateCreate n)) r).1.1.1.1.0) out
 edit_row s t (call.Link d e) q i wf names r out =
     listing_lem s d e.object q i (soundness_of s wf).live
     (λ a on at same. out (subst (λ (z : Entry). Through s q i z)

@@ -1,6 +1,7 @@
 use Rattle.std.proofs.Common.{subst, Option, IfSome, arith}
 use Rattle.label_lattice.specs.Label.{LabelValue, IsStored}
 use Rattle.thread_calls.proofs.BearerLaws.{gate_fits}
+use Rattle.thread_calls.proofs.SpaceLaws.{gate_space}
 use Rattle.thread_calls.proofs.gates.gate_create.Goals as goal
 
 pub create_gate-requires-clause-fitting : goal.create_gate-requires-clause-fitting
@@ -32,3 +33,7 @@ returns-in_err-id-clause-meter g c =
       g.met.S.Store.kept_scans 1 _ _ c.stored_of-label.ensures.scans,
       g.met.S.Store.kept_scans 1 _ _ c.stored_of.ensures.scans,
     )
+
+pub create_gate-requires-clause-space : goal.create_gate-requires-clause-space
+create_gate-requires-clause-space g c =
+    gate_space (g.S.Store.state c.args.state.now) c.args.thread c.args.made.now c.requires

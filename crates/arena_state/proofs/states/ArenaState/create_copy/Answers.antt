@@ -4,6 +4,7 @@ use Rattle.kernel_rules.specs.declared.objects.Body.TheVariants as is
 use Rattle.arena_state.specs.declared.records.Record.{Record}
 use Rattle.arena_state.proofs.CreateLaws.{labels_fit, slot_room, link_room, below_next, enough}
 use Rattle.arena_state.proofs.CopyLaws.{blank_fits, copy_blank, copy_from, copy_room, copy_sound, copy_stocked, copy_whole}
+use Rattle.arena_state.proofs.ShownLaws.{placed_slots}
 use Rattle.arena_state.proofs.states.ArenaState.create_copy.Goals as goal
 
 pub intern-label-requires : goal.intern-label-requires
@@ -86,3 +87,6 @@ returns-clause-state c =
     c.fresh_record-given.ensures c.place-made.new.pieces c.place-made.ensures.placed c.intern-label.ensures.takes c.intern-label.ensures.given
     c.place-made.result.slot.0 c.place-made.ensures.slot c.slot-from.result c.slot-from.ensures.found c.slot-from.ensures.none
     c.copy_bytes.new.segments c.copy_bytes.ensures.after
+
+pub returns-clause-slots : goal.returns-clause-slots
+returns-clause-slots c = placed_slots _ _ _ _ _ c.place-made.ensures.placed

@@ -8,6 +8,7 @@ use Rattle.arena_state.proofs.CreateLaws.{labels_fit, slot_room, link_room, belo
 use Rattle.arena_state.proofs.NewLaws.{new_sound, still}
 use Rattle.arena_state.proofs.WholeCreateLaws.{segments_kept, created_stocked, created_whole}
 use Rattle.arena_state.proofs.WholeLaws.{same_fitting}
+use Rattle.arena_state.proofs.ShownLaws.{placed_slots}
 use Rattle.arena_state.proofs.states.ArenaState.create_gate.Goals as goal
 
 pub intern-label-requires : goal.intern-label-requires
@@ -83,3 +84,6 @@ returns-clause-state c =
     c.in-Some.parent.0 c.in-Some.ensures.found.has c.intern-clearance.new.self c.intern-label.result.0 (keeps.Gate (record { clearance = c.intern-clearance.result; space = c.args.gate.now.space; entry_point = c.args.gate.now.entry_point; closure = c.args.gate.now.closure }))
     c.fresh_record-given.result c.fresh_record-given.ensures c.place.new.pieces c.place.ensures.placed
     (takes_then _ _ _ _ _ c.intern-label.ensures.takes c.intern-clearance.ensures.takes) (still _ _ _ _ _ _ c.intern-label.ensures.takes c.intern-label.ensures.given c.intern-clearance.ensures.takes) (λ i. is.Gate (record c.args.gate.now { clearance = c.intern-clearance.ensures.given i })) (refl) c.args.self.now.stocked) refl
+
+pub returns-clause-slots : goal.returns-clause-slots
+returns-clause-slots c = placed_slots _ _ _ _ _ c.place.ensures.placed

@@ -10,6 +10,7 @@ use Rattle.std.proofs.lemmas.List.{length-replicate}
 use Rattle.arena_state.proofs.WholeCreateLaws.{bytes_vacant, created_stocked, created_whole, stocked_sound, resized_new}
 use Rattle.arena_state.proofs.WholeLaws.{same_fitting}
 use Rattle.arena_state.proofs.PageRoomLaws.{new_room}
+use Rattle.arena_state.proofs.ShownLaws.{placed_slots}
 use Rattle.arena_state.proofs.states.ArenaState.create_segment.Goals as goal
 
 pub intern-label-requires : goal.intern-label-requires
@@ -104,3 +105,6 @@ returns-clause-state c =
     c.fresh_record-given.result c.fresh_record-given.ensures c.place-made.new.pieces c.place-made.ensures.placed
     (takes_as _ _ _ _ (λ i. omega arith) c.intern-label.ensures.takes) (c.intern-label.ensures.given) (refl) (segment_cost c.args.pages) c.args.self.now.stocked))
     (length-replicate (256 * c.args.pages) 0)
+
+pub returns-clause-slots : goal.returns-clause-slots
+returns-clause-slots c = placed_slots _ _ _ _ _ c.place-made.ensures.placed

@@ -8,6 +8,7 @@ use Rattle.arena_state.proofs.CreateLaws.{labels_fit, slot_room, link_room, belo
 use Rattle.arena_state.proofs.NewLaws.{new_sound}
 use Rattle.arena_state.proofs.WholeCreateLaws.{segments_kept, created_stocked, created_whole}
 use Rattle.arena_state.proofs.WholeLaws.{same_fitting}
+use Rattle.arena_state.proofs.ShownLaws.{placed_slots}
 use Rattle.arena_state.proofs.states.ArenaState.create_space.Goals as goal
 
 pub intern-label-requires : goal.intern-label-requires
@@ -73,3 +74,6 @@ returns-clause-state c =
     c.in-Some.parent.0 c.in-Some.ensures.found.has c.intern-label.new.self c.intern-label.result.0 (keeps.AddressSpace)
     c.fresh_record-given.result c.fresh_record-given.ensures c.place.new.pieces c.place.ensures.placed
     (takes_as _ _ _ _ (λ i. omega arith) c.intern-label.ensures.takes) (c.intern-label.ensures.given) (refl) (refl) c.args.self.now.stocked) refl
+
+pub returns-clause-slots : goal.returns-clause-slots
+returns-clause-slots c = placed_slots _ _ _ _ _ c.place.ensures.placed

@@ -9,6 +9,7 @@ use Rattle.arena_state.proofs.CreateLaws.{labels_fit, slot_room, link_room, belo
 use Rattle.arena_state.proofs.NewLaws.{new_sound, still}
 use Rattle.arena_state.proofs.WholeCreateLaws.{segments_kept, created_stocked, created_whole}
 use Rattle.arena_state.proofs.WholeLaws.{same_fitting}
+use Rattle.arena_state.proofs.ShownLaws.{placed_slots}
 use Rattle.arena_state.proofs.states.ArenaState.create_thread.Goals as goal
 
 pub intern-label-requires : goal.intern-label-requires
@@ -126,3 +127,6 @@ returns-clause-state c =
       entry_point = c.args.entry_point;
       closure = 0;
     }))) (refl) c.args.self.now.stocked) refl
+
+pub returns-clause-slots : goal.returns-clause-slots
+returns-clause-slots c = placed_slots _ _ _ _ _ c.place.ensures.placed

@@ -14,6 +14,7 @@ use Rattle.arena_state.specs.Rows.{rows_of, row_slot}
 use Rattle.arena_state.specs.Assembled.{body_use}
 use Rattle.arena_state.specs.Stocked.{kept_pages, keeps_space}
 use Rattle.arena_state.proofs.SoundLaws.{slot_within}
+use Rattle.arena_state.proofs.ShownLaws.{linked_slots}
 use Rattle.arena_state.proofs.EditLaws.{read_is}
 use Rattle.arena_state.proofs.HeldLaws.{held_stocked, held_state, read_set, slots_by_ids}
 use Rattle.arena_state.proofs.WholeEditLaws.{relisting_apart, reuse_pages, reuse_space}
@@ -80,6 +81,10 @@ invariant_of-self c = record {
             ∙ ap (λ (r : Record). keeps_space r.body) (read_is c.args.self.now.pieces c.args.self.now.sound c.args.container c.in-Some.parent.0 c.in-Some.ensures.found.has c.index_mut-charged.result.now c.index_mut-charged.ensures.value));
       }) c.args.self.now.stocked;
 }
+
+pub returns-clause-slots : goal.returns-clause-slots
+returns-clause-slots c = λ id slot h.
+    linked_slots c.args.self.now.pieces.places c.link.new.self c.args.container c.args.entry.now.object c.link.ensures.linked id slot h
 
 pub returns-clause-state : goal.returns-clause-state
 returns-clause-state c =

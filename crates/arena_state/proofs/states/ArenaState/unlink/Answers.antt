@@ -101,6 +101,9 @@ invariant_of-self c =
           ∙ ap (λ (rs : Vec Record). keeps_space (record_in rs.items x).body) gone.records);
     }
 
+pub returns-clause-slots : goal.returns-clause-slots
+returns-clause-slots c = λ id slot h. (c.unref.ensures.kept id slot h).0
+
 pub returns-clause-state : goal.returns-clause-state
 returns-clause-state c =
     let h = c.unref.ensures.handed in

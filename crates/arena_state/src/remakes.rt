@@ -1,0 +1,168 @@
+//! Rows of translation that are remade: what the sixteen slots of an object's address space show,
+//! recomputed by what a thread sees of entries. No label is scanned.
+ghost use Rattle.std.specs.Prelude.{◌≡◌, ◌≢◌, ℕ, ◌<◌, ◌≤◌, true, not, ◌&&◌, Some, None};
+ghost use Rattle.std.specs.Prelude.{slice_get, slice_index_or, IfOk};
+ghost use Rattle.containers.specs.Tree.{HasSlot};
+ghost use Rattle.kernel_rules.specs.Translate.{names_none, opens, own_space, slot_in};
+ghost use Rattle.kernel_rules.specs.Translate.{through, through_space};
+ghost use Rattle.translation_rows.specs.Rows.{slot_count};
+ghost use Rattle.arena_state.specs.Shown.{AreKept, IsRow, SameAt, Tells, thread_named};
+ghost use Rattle.arena_state.specs.States.{state_of, HasRow};
+
+use crate::states::ArenaState;
+use base::{Meter, NoMemory, ObjectId, Rights, Slot};
+use kernel_rules::{Entry, Mapping};
+use std::alloc::Global;
+use translation_rows::Rows;
+
+// What a slot of this number maps, where there is such a slot and it is filled.
+fn mapping_in(slots: &[Option<Mapping>], place: usize) -> Option<Mapping>
+    ensures { result ≡ slot_in (slice_get slots.now place) }
+{
+    match slots.get(place) {
+        None => None,
+        Some(mapping) => *mapping,
+    }
+}
+
+impl ArenaState {
+    // The entry of a thread's address space, none for any other object.
+    pub(crate) fn space_of(&self, thread: ObjectId, meter: &mut Meter) -> Option<Entry>
+        ensures value { result ≡ own_space (state_of self.now) thread }
+        ensures scans { meter.new.scans ≡ meter.old.scans }
+    {
+        let slot = self.slot(thread, meter);
+        self.space_in(thread, self.record(thread, slot))
+    }
+
+    // The segment that a mapping shows to a thread, with the rights to it.
+    fn through(
+        &self,
+        thread: ObjectId,
+        mapping: &Option<Mapping>,
+        meter: &mut Meter,
+    ) -> Option<(ObjectId, Rights)>
+        ensures value { result ≡ through (state_of self.now) thread mapping.now }
+        ensures scans { meter.new.scans ≡ meter.old.scans }
+    {
+        match mapping {
+            None => None,
+            Some(mapping) => {
+                let sight = self.sight(thread, &mapping.entry, meter);
+                if sight.accessible && sight.listed && sight.object.observed {
+                    let rights = if sight.object.flowing && !sight.object.immutable {
+                        mapping.rights
+                    } else {
+                        mapping.rights.reading()
+                    };
+                    Some((mapping.entry.object, rights))
+                } else {
+                    None
+                }
+            }
+        }
+    }
+
+    // Whether the entry of an address space names one and stands open to a thread.
+    fn is_open(&self, thread: ObjectId, space: &Entry, meter: &mut Meter) -> bool
+        ensures value { result
+            ≡ (not (names_none space.now) && opens (state_of self.now) thread space.now) }
+        ensures scans { meter.new.scans ≡ meter.old.scans }
+    {
+        let named = space.container.number() != 0 || space.object.number() != 0;
+        let sight = self.sight(thread, space, meter);
+        named && sight.accessible && sight.listed && sight.object.observed
+    }
+
+    // What the sixteen slots show of an address space whose entry stands open to a thread.
+    fn row_through(
+        &self,
+        thread: ObjectId,
+        space: &Entry,
+        meter: &mut Meter,
+    ) -> [Option<(ObjectId, Rights)>; 16]
+        requires { (not (names_none space.now) && opens (state_of self.now) thread space.now)
+            ≡ true }
+        ensures row { (i : ℕ) → i < 16 → slice_index_or result i None
+            ≡ through_space (state_of self.now) thread i (Some space.now) }
+        ensures scans { meter.new.scans ≡ meter.old.scans }
+    {
+        let slots = self.slots(space.object, meter);
+        let mut row = [None; 16];
+        for place in 0..16 {
+            row[place] = self.through(thread, &mapping_in(slots, place), meter);
+        }
+        row
+    }
+
+    // What the sixteen slots of an object's address space show to it.
+    fn row_of(&self, thread: ObjectId, meter: &mut Meter) -> [Option<(ObjectId, Rights)>; 16]
+        ensures row { IsRow (state_of self.now) thread result }
+        ensures scans { meter.new.scans ≡ meter.old.scans }
+    {
+        match self.space_of(thread, meter) {
+            Some(space) => {
+                if self.is_open(thread, &space, meter) {
+                    self.row_through(thread, &space, meter)
+                } else {
+                    [None; 16]
+                }
+            }
+            None => [None; 16],
+        }
+    }
+
+    // The id of an object, if it is a thread, by its slot.
+    fn named(&self, id: ObjectId, slot: Slot) -> Option<ObjectId>
+        requires { HasRow self.now id slot.0 }
+        ensures { result ≡ thread_named (state_of self.now) id }
+    {
+        match self.space_in(id, self.record(id, Some(slot))) {
+            Some(_) => Some(id),
+            None => None,
+        }
+    }
+
+    /// The row of an object, if there is such an object, says what its slots show, and its slot
+    /// names it if it is a thread. All other slots stay.
+    pub fn remake_row(&self, thread: ObjectId, rows: &mut Rows, meter: &mut Meter)
+        requires { slot_count rows.old ≡ (state_of self.now).limits.pages }
+        ensures size { slot_count rows.new ≡ slot_count rows.old }
+        ensures row { (slot : ℕ) → HasSlot self.now.pieces.places thread slot
+            → Tells (state_of self.now) thread rows.new slot }
+        ensures others { (slot : ℕ) → ¬ HasSlot self.now.pieces.places thread slot
+            → SameAt rows.old rows.new slot }
+        ensures scans { meter.new.scans ≡ meter.old.scans }
+    {
+        match self.slot(thread, meter) {
+            Some(slot) => {
+                let named = self.named(thread, slot);
+                rows.set(slot, named, self.row_of(thread, meter));
+            }
+            None => {}
+        }
+    }
+
+    // Each object's row says what its slots show.
+    fn remake_rows(&self, rows: &mut Rows, meter: &mut Meter)
+        requires { slot_count rows.old ≡ (state_of self.now).limits.pages }
+        ensures kept { AreKept self.now rows.new }
+        ensures scans { meter.new.scans ≡ meter.old.scans }
+    {
+        for place in 0..self.pieces.places.len() {
+            let id = self.pieces.places.live(place, meter);
+            self.remake_row(id, rows, meter);
+        }
+    }
+
+    /// A row for each slot, that of each object's slot saying what its slots show. Only this takes
+    /// memory; the error is want of it.
+    pub fn new_rows(&self, alloc: Global, meter: &mut Meter) -> Result<Rows, NoMemory>
+        requires { (state_of self.now).limits.pages ≤ 512 }
+        ensures { IfOk result (λ rows. AreKept self.now rows) }
+    {
+        let mut rows = Rows::boot(alloc, self.pieces.limits.pages as usize)?;
+        self.remake_rows(&mut rows, meter);
+        Ok(rows)
+    }
+}
