@@ -1,32 +1,51 @@
 //! What the arena kernel keeps, after a boot and a call.
-use base::{Meter, ObjectId};
+use crate::metered::Metered;
+use base::ObjectId;
 use label_intern::LabelIx;
 use std::test::Fail;
-use syscall_core::{Call, Kernel, Reply};
-use test_support::{LIMITS, boot_thread, device};
+use syscall_core::{Call, Reply};
+use test_support::{agree, boot_thread, device};
 
 #[test]
 fn what_is_kept_is_told(rt: HostRuntime) -> Result<(), Fail> {
-    let mut meter = Meter::new(rt.alloc())?;
-    let mut kernel = Kernel::boot(rt.alloc(), &LIMITS)?;
-    assert!(rt; kernel.is_thread(boot_thread(), &mut meter));
-    assert!(rt; !kernel.is_thread(device(), &mut meter));
-    assert_eq!(rt; kernel.kept_use(ObjectId::root(), &mut meter), Some(4));
-    assert_eq!(rt; kernel.kept_use(ObjectId::new(4), &mut meter), None);
-    assert_eq!(rt; kernel.kept_live(2, &mut meter), Some(device()));
-    assert_eq!(rt; kernel.kept_live(3, &mut meter), None);
+    let mut kernel = Metered::boot(rt.alloc())?;
+    assert!(rt; kernel.is_thread(boot_thread()));
+    assert!(rt; !kernel.is_thread(device()));
+    assert!(rt; agree(kernel.kept_use(ObjectId::root()), Some(4)));
+    assert!(rt; agree(kernel.kept_use(ObjectId::new(4)), None));
+    assert!(rt; agree(kernel.kept_live(2), Some(device())));
+    assert!(rt; agree(kernel.kept_live(3), None));
+    Ok(())
+}
+
+/// How many labels are kept, where each of them has an order with itself.
+fn kept_labels(kernel: &Metered) -> Option<u16> {
     let mut stored = 0u16;
     for index in 0..195u16 {
-        if kernel.kept_label(LabelIx(index)).is_some() {
+        if kernel.is_kept(LabelIx(index)) {
+            if !kernel.is_ordered(LabelIx(index)) {
+                return None;
+            }
             stored = stored.saturating_add(1);
-            assert!(rt; kernel.kept_order(LabelIx(index), LabelIx(index)).is_some());
         }
     }
+    Some(stored)
+}
+
+#[test]
+fn kept_labels_have_their_order(rt: HostRuntime) -> Result<(), Fail> {
+    let kernel = Metered::boot(rt.alloc())?;
     // The labels {1}, {2} and {3}.
-    assert_eq!(rt; stored, 3);
-    let reply = kernel.step_surely(boot_thread(), &Call::CatCreate, &mut meter);
+    assert!(rt; agree(kept_labels(&kernel), Some(3)));
+    Ok(())
+}
+
+#[test]
+fn tables_have_what_is_named_now(rt: HostRuntime) -> Result<(), Fail> {
+    let mut kernel = Metered::boot(rt.alloc())?;
+    let reply = kernel.step(&Call::CatCreate);
     assert!(rt; matches!(reply, Reply::Category(_)));
     // {1}, {3}, and what the boot thread has now: {1:*,1} and {1:3,2}.
-    assert_eq!(rt; kernel.tables(&mut meter)?.labels.len(), 4);
+    assert!(rt; agree(kernel.labels()?, 4));
     Ok(())
 }

@@ -15,6 +15,8 @@ mod kept_tests;
 #[cfg(test)]
 mod known;
 #[cfg(test)]
+mod metered;
+#[cfg(test)]
 mod scan_tests;
 #[cfg(test)]
 mod storm_tests;

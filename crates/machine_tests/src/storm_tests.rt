@@ -3,7 +3,6 @@
 use crate::compared::{are_same, keeps_rows};
 use crate::drawn::{COUNTED, Storm};
 use base::{Limits, Meter, NoMemory, ObjectId};
-use kernel_rules::{Call, Query};
 use std::alloc::Global;
 use std::process::Abort;
 use std::test::Fail;
@@ -17,35 +16,44 @@ const SEED: u64 = 2006;
 /// How often at least each of the counted calls is to be done.
 const ENOUGH: u32 = 50;
 
+/// A storm, and the machines that it is played on.
 #[derive(Drop)]
-struct Pair {
+struct Played {
+    storm: Storm,
     plain: PlainKernel,
     kernel: Kernel,
     meter: Meter,
 }
 
-impl Pair {
-    fn call(
-        &mut self,
-        alloc: Global,
-        storm: &mut Storm,
-        thread: ObjectId,
-        call: &Call,
-    ) -> Result<bool, NoMemory> {
-        match self.plain.step(thread, call, &mut self.meter) {
+impl Played {
+    fn boot(alloc: Global, limits: &Limits, most: u32) -> Result<Played, Fail> {
+        Ok(Played {
+            storm: Storm::new(alloc, SEED, most)?,
+            plain: PlainKernel::boot(alloc, limits)?,
+            kernel: Kernel::boot(alloc, limits)?,
+            meter: Meter::new(alloc)?,
+        })
+    }
+
+    /// Whether the next call, by a thread, is answered the same.
+    fn call(&mut self, alloc: Global, thread: ObjectId) -> Result<bool, NoMemory> {
+        let call = self.storm.call(thread);
+        match self.plain.step(thread, &call, &mut self.meter) {
             Ok(one) => {
-                let other = self.kernel.step_surely(thread, call, &mut self.meter);
-                storm.learn(call, &one)?;
+                let other = self.kernel.step_surely(thread, &call, &mut self.meter);
+                self.storm.learn(&call, &one)?;
                 are_same(alloc, &one, &other)
             }
             Err(error) => Err(error),
         }
     }
 
-    fn ask(&mut self, alloc: Global, thread: ObjectId, query: &Query) -> Result<bool, NoMemory> {
-        match self.plain.ask(thread, query, &mut self.meter) {
+    /// Whether the next query, by a thread, is answered the same.
+    fn ask(&mut self, alloc: Global, thread: ObjectId) -> Result<bool, NoMemory> {
+        let query = self.storm.query();
+        match self.plain.ask(thread, &query, &mut self.meter) {
             Ok(one) => {
-                let other = self.kernel.ask_surely(thread, query, &mut self.meter);
+                let other = self.kernel.ask_surely(thread, &query, &mut self.meter);
                 are_same(alloc, &one, &other)
             }
             Err(error) => Err(error),
@@ -59,6 +67,28 @@ impl Pair {
     }
 }
 
+// A call and a query of one thread.
+fn check_round<R: Abort>(rt: &R, alloc: Global, played: &mut Played) -> Result<(), NoMemory> {
+    let thread = played.storm.thread();
+    assert!(rt; played.call(alloc, thread)?);
+    assert!(rt; played.ask(alloc, thread)?);
+    Ok(())
+}
+
+// So many rounds, and then the tables.
+fn check_rounds<R: Abort>(
+    rt: &R,
+    alloc: Global,
+    played: &mut Played,
+    rounds: u32,
+) -> Result<(), NoMemory> {
+    for _ in 0..rounds {
+        check_round(rt, alloc, played)?;
+    }
+    assert!(rt; played.have_same_tables()?);
+    Ok(())
+}
+
 // How often each counted call was done. The tables are compared after each of so many calls.
 fn storm<R: Abort>(
     rt: &R,
@@ -67,23 +97,11 @@ fn storm<R: Abort>(
     most: u32,
     each: u32,
 ) -> Result<[u32; COUNTED], Fail> {
-    let mut storm = Storm::new(alloc, SEED, most)?;
-    let mut pair = Pair {
-        plain: PlainKernel::boot(alloc, limits)?,
-        kernel: Kernel::boot(alloc, limits)?,
-        meter: Meter::new(alloc)?,
-    };
-    for number in 0..CALLS {
-        let thread = storm.thread();
-        let call = storm.call(thread);
-        assert!(rt; pair.call(alloc, &mut storm, thread, &call)?);
-        let query = storm.query();
-        assert!(rt; pair.ask(alloc, thread, &query)?);
-        if number % each.max(1) == 0 {
-            assert!(rt; pair.have_same_tables()?);
-        }
+    let mut played = Played::boot(alloc, limits, most)?;
+    for _ in 0..CALLS / each.max(1) {
+        check_rounds(rt, alloc, &mut played, each)?;
     }
-    Ok(storm.done())
+    Ok(played.storm.done())
 }
 
 #[test]

@@ -1,12 +1,12 @@
 //! Lists by index, and without memory.
 ghost use Rattle.std.specs.Prelude.{◌≡◌, [], ◌∷◌, map, IfOk};
-ghost use Rattle.entry_lists.specs.Lists.{empty_lists};
+ghost use Rattle.entry_lists.specs.Lists.{empty_lists, cells_at, with_cells, StandsAt};
 
 use base::{Meter, NoMemory};
 use entry_lists::Rings;
 use std::alloc::Global;
 use std::test::Fail;
-use test_support::meter_again;
+use test_support::{agree, meter_again};
 
 // Two families of four cells, made once more where the first making had no memory.
 fn rings_again(alloc: Global) -> Result<Rings<2>, NoMemory>
@@ -18,28 +18,45 @@ fn rings_again(alloc: Global) -> Result<Rings<2>, NoMemory>
     }
 }
 
+// Cells 3 and 0 in a list of the first family, and cell 3 in one of the second.
+fn link_three(rings: &mut Rings<2>, meter: &mut Meter)
+    requires { rings.old ≡ map (empty_lists 4) (2 ∷ 3 ∷ []) }
+    ensures linked { rings.new
+        ≡ with_cells (with_cells (map (empty_lists 4) (2 ∷ 3 ∷ [])) 0 1 (3 ∷ 0 ∷ [])) 1 2 (3 ∷ []) }
+    ensures first { StandsAt (cells_at rings.new 0 1) 0 3 }
+{
+    rings.push_back(0, 1, 3, meter);
+    rings.push_back(0, 1, 0, meter);
+    rings.push_back(1, 2, 3, meter);
+}
+
 #[test]
 fn cells_stand_in_one_list_of_each_family(rt: HostRuntime) -> Result<(), Fail> {
     let mut meter = Meter::new(rt.alloc())?;
     let mut rings = Rings::<2>::new(rt.alloc(), &[2, 3], 4)?;
-    rings.push_back(0, 1, 3, &mut meter);
-    rings.push_back(0, 1, 0, &mut meter);
-    rings.push_back(1, 2, 3, &mut meter);
-    assert_eq!(rt; meter.probes(), 6);
+    link_three(&mut rings, &mut meter);
+    assert!(rt; agree(meter.probes(), 6));
 
-    assert_eq!(rt; rings.len(0, 1, &mut meter), 2);
-    assert_eq!(rt; rings.len(0, 0, &mut meter), 0);
-    assert_eq!(rt; rings.first(0, 1, &mut meter), Some(3));
-    assert_eq!(rt; rings.next(0, 3, &mut meter), Some(0));
-    assert_eq!(rt; rings.next(0, 0, &mut meter), None);
-    assert_eq!(rt; rings.head_of(1, 3, &mut meter), 2);
-    assert_eq!(rt; meter.probes(), 12);
+    assert!(rt; agree(rings.len(0, 1, &mut meter), 2));
+    assert!(rt; agree(rings.len(0, 0, &mut meter), 0));
+    assert!(rt; agree(rings.first(0, 1, &mut meter), Some(3)));
+    assert!(rt; agree(rings.next(0, 3, &mut meter), Some(0)));
+    assert!(rt; agree(rings.next(0, 0, &mut meter), None));
+    assert!(rt; agree(rings.head_of(1, 3, &mut meter), 2));
+    assert!(rt; agree(meter.probes(), 12));
+    Ok(())
+}
 
+#[test]
+fn a_cell_leaves_one_family(rt: HostRuntime) -> Result<(), Fail> {
+    let mut meter = Meter::new(rt.alloc())?;
+    let mut rings = Rings::<2>::new(rt.alloc(), &[2, 3], 4)?;
+    link_three(&mut rings, &mut meter);
     rings.unlink(0, 3, &mut meter);
-    assert_eq!(rt; rings.first(0, 1, &mut meter), Some(0));
-    assert_eq!(rt; rings.first(1, 2, &mut meter), Some(3));
-    assert_eq!(rt; meter.probes(), 18);
-    assert_eq!(rt; meter.scans(), 0);
+    assert!(rt; agree(rings.first(0, 1, &mut meter), Some(0)));
+    assert!(rt; agree(rings.first(1, 2, &mut meter), Some(3)));
+    assert!(rt; agree(meter.probes(), 12));
+    assert!(rt; agree(meter.scans(), 0));
     Ok(())
 }
 
@@ -48,13 +65,11 @@ fn cells_stand_in_one_list_of_each_family(rt: HostRuntime) -> Result<(), Fail> {
 fn want_of_memory_changes_nothing(rt: HostRuntime) -> Result<(), Fail> {
     let mut meter = meter_again(rt.alloc())?;
     let mut rings = rings_again(rt.alloc())?;
-    rings.push_back(0, 1, 3, &mut meter);
-    rings.push_back(0, 1, 0, &mut meter);
-    rings.push_back(1, 2, 3, &mut meter);
-    assert_eq!(rt; rings.len(0, 1, &mut meter), 2);
-    assert_eq!(rt; rings.first(0, 1, &mut meter), Some(3));
-    assert_eq!(rt; rings.next(0, 3, &mut meter), Some(0));
-    assert_eq!(rt; rings.head_of(1, 3, &mut meter), 2);
-    assert_eq!(rt; meter.probes(), 10);
+    link_three(&mut rings, &mut meter);
+    assert!(rt; agree(rings.len(0, 1, &mut meter), 2));
+    assert!(rt; agree(rings.first(0, 1, &mut meter), Some(3)));
+    assert!(rt; agree(rings.next(0, 3, &mut meter), Some(0)));
+    assert!(rt; agree(rings.head_of(1, 3, &mut meter), 2));
+    assert!(rt; agree(meter.probes(), 10));
     Ok(())
 }

@@ -6,7 +6,7 @@ use label_intern::{Labels, OrderBits};
 use label_lattice::Label;
 use std::alloc::Global;
 use std::test::Fail;
-use test_support::{everywhere, label_with, meter_again, plain};
+use test_support::{agree, everywhere, is_true, label_with, meter_again, plain};
 
 // Three indexes, booted once more where the first boot had no memory.
 fn booted_again(alloc: Global) -> Result<Labels, NoMemory>
@@ -27,20 +27,20 @@ fn order_is_kept(rt: HostRuntime) -> Result<(), Fail> {
 
     let a = labels.intern(&owner, &mut meter);
     let b = labels.intern(&plain, &mut meter);
-    assert_eq!(rt; labels.order(a, b), OrderBits(3));
-    assert_eq!(rt; labels.order(b, a), OrderBits(6));
-    assert_eq!(rt; labels.order(a, a), OrderBits(7));
-    assert_eq!(rt; labels.len(), 2);
-    assert!(rt; labels.get(b).same(&plain, &mut meter));
+    assert!(rt; agree(labels.order(a, b), OrderBits(3)));
+    assert!(rt; agree(labels.order(b, a), OrderBits(6)));
+    assert!(rt; agree(labels.order(a, a), OrderBits(7)));
+    assert!(rt; agree(labels.len(), 2));
+    assert!(rt; is_true(labels.get(b).same(&plain, &mut meter)));
 
     labels.release(a);
-    assert!(rt; !labels.holds(a));
+    assert!(rt; is_true(!labels.holds(a)));
     let scans = meter.scans();
     let again = labels.intern(&plain, &mut meter);
     assert_eq!(rt; again, b);
-    assert!(rt; meter.scans() <= scans + 10);
+    assert!(rt; is_true(meter.scans() <= scans + 10));
     labels.release(b);
-    assert!(rt; labels.holds(b));
+    assert!(rt; is_true(labels.holds(b)));
     Ok(())
 }
 
@@ -49,16 +49,16 @@ fn order_is_kept(rt: HostRuntime) -> Result<(), Fail> {
 fn want_of_memory_changes_nothing(rt: HostRuntime) -> Result<(), Fail> {
     let mut meter = meter_again(rt.alloc())?;
     let mut labels = booted_again(rt.alloc())?;
-    assert_eq!(rt; labels.len(), 0);
+    assert!(rt; agree(labels.len(), 0));
     let low = Label::from_raw(&plain(), &mut meter)?;
     let high = Label::from_raw(&everywhere(Level::L2), &mut meter)?;
     let a = labels.intern(&low, &mut meter);
     let b = labels.intern(&high, &mut meter);
-    assert_eq!(rt; labels.order(a, b), OrderBits(7));
-    assert_eq!(rt; labels.order(b, a), OrderBits(0));
-    assert_eq!(rt; labels.len(), 2);
+    assert!(rt; agree(labels.order(a, b), OrderBits(7)));
+    assert!(rt; agree(labels.order(b, a), OrderBits(0)));
+    assert!(rt; agree(labels.len(), 2));
     labels.release(a);
-    assert!(rt; !labels.holds(a));
-    assert!(rt; labels.holds(b));
+    assert!(rt; is_true(!labels.holds(a)));
+    assert!(rt; is_true(labels.holds(b)));
     Ok(())
 }

@@ -6,7 +6,7 @@ use base::{Meter, NoMemory, ObjectId};
 use object_arena::Arena;
 use std::alloc::Global;
 use std::test::Fail;
-use test_support::meter_again;
+use test_support::{agree, is_true, meter_again};
 
 // Three slots, booted once more where the first boot had no memory.
 fn booted_again(alloc: Global) -> Result<Arena<char>, NoMemory>
@@ -24,24 +24,24 @@ fn objects_are_found_by_their_ids(rt: HostRuntime) -> Result<(), Fail> {
     let mut arena = Arena::boot(rt.alloc(), 3)?;
     let first = arena.insert(ObjectId::new(4), 'a');
     let second = arena.insert(ObjectId::new(9), 'b');
-    assert_eq!(rt; arena.len(), 2);
-    assert!(rt; first != second);
+    assert!(rt; agree(arena.len(), 2));
+    assert!(rt; is_true(first != second));
 
-    assert_eq!(rt; arena.find(ObjectId::new(9), &mut meter), Some(second));
-    assert_eq!(rt; arena.find(ObjectId::new(5), &mut meter), None);
+    assert!(rt; agree(arena.find(ObjectId::new(9), &mut meter), Some(second)));
+    assert!(rt; agree(arena.find(ObjectId::new(5), &mut meter), None));
     // Three slots are 11 in binary digits, so each finding has at most 3 probes.
-    assert!(rt; meter.probes() <= 6);
-    assert_eq!(rt; meter.scans(), 0);
+    assert!(rt; is_true(meter.probes() <= 6));
+    assert!(rt; agree(meter.scans(), 0));
 
     *arena.get_mut(second) = 'c';
-    assert_eq!(rt; *arena.get(second), 'c');
-    assert_eq!(rt; *arena.get(first), 'a');
-    assert_eq!(rt; arena.id_at(1, &mut meter), ObjectId::new(9));
+    assert!(rt; agree(*arena.get(second), 'c'));
+    assert!(rt; agree(*arena.get(first), 'a'));
+    assert!(rt; agree(arena.id_at(1, &mut meter), ObjectId::new(9)));
 
-    assert_eq!(rt; arena.remove(ObjectId::new(4), &mut meter), 'a');
-    assert_eq!(rt; arena.find(ObjectId::new(4), &mut meter), None);
-    assert_eq!(rt; arena.find(ObjectId::new(9), &mut meter), Some(second));
-    assert_eq!(rt; arena.len(), 1);
+    assert!(rt; agree(arena.remove(ObjectId::new(4), &mut meter), 'a'));
+    assert!(rt; agree(arena.find(ObjectId::new(4), &mut meter), None));
+    assert!(rt; agree(arena.find(ObjectId::new(9), &mut meter), Some(second)));
+    assert!(rt; agree(arena.len(), 1));
     Ok(())
 }
 
@@ -55,15 +55,15 @@ fn objects_go_together(rt: HostRuntime) -> Result<(), Fail> {
     // 7 is the id of none.
     arena.remove_all(&[10, 7, 4].map(ObjectId::new), &mut meter);
     // By halves each id takes two probes; each slot that goes is read once, and so is each of the three places.
-    assert_eq!(rt; meter.probes(), 11);
-    assert_eq!(rt; arena.len(), 1);
-    assert_eq!(rt; arena.find(ObjectId::new(9), &mut meter), Some(second));
-    assert_eq!(rt; arena.find(ObjectId::new(4), &mut meter), None);
-    assert_eq!(rt; arena.find(ObjectId::new(10), &mut meter), None);
+    assert!(rt; agree(meter.probes(), 11));
+    assert!(rt; agree(arena.len(), 1));
+    assert!(rt; agree(arena.find(ObjectId::new(9), &mut meter), Some(second)));
+    assert!(rt; agree(arena.find(ObjectId::new(4), &mut meter), None));
+    assert!(rt; agree(arena.find(ObjectId::new(10), &mut meter), None));
     if let Some(slot) = arena.find(ObjectId::new(9), &mut meter) {
-        assert_eq!(rt; *arena.get(slot), 'b');
+        assert!(rt; agree(*arena.get(slot), 'b'));
     }
-    assert_eq!(rt; meter.scans(), 0);
+    assert!(rt; agree(meter.scans(), 0));
     Ok(())
 }
 
@@ -72,14 +72,14 @@ fn objects_go_together(rt: HostRuntime) -> Result<(), Fail> {
 fn want_of_memory_changes_nothing(rt: HostRuntime) -> Result<(), Fail> {
     let mut meter = meter_again(rt.alloc())?;
     let mut arena = booted_again(rt.alloc())?;
-    assert_eq!(rt; arena.len(), 0);
+    assert!(rt; agree(arena.len(), 0));
     let first = arena.insert(ObjectId::new(4), 'a');
     let second = arena.insert(ObjectId::new(9), 'b');
-    assert_eq!(rt; arena.find(ObjectId::new(9), &mut meter), Some(second));
-    assert_eq!(rt; arena.find(ObjectId::new(5), &mut meter), None);
-    assert_eq!(rt; *arena.get(first), 'a');
-    assert_eq!(rt; *arena.get(second), 'b');
-    assert_eq!(rt; arena.remove(ObjectId::new(4), &mut meter), 'a');
-    assert_eq!(rt; arena.len(), 1);
+    assert!(rt; agree(arena.find(ObjectId::new(9), &mut meter), Some(second)));
+    assert!(rt; agree(arena.find(ObjectId::new(5), &mut meter), None));
+    assert!(rt; agree(*arena.get(first), 'a'));
+    assert!(rt; agree(*arena.get(second), 'b'));
+    assert!(rt; agree(arena.remove(ObjectId::new(4), &mut meter), 'a'));
+    assert!(rt; agree(arena.len(), 1));
     Ok(())
 }

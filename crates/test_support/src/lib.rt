@@ -6,6 +6,7 @@
 
 mod calls;
 mod dumps;
+mod facts;
 mod labels;
 mod limits;
 mod memory;
@@ -16,6 +17,7 @@ mod tables;
 
 pub use calls::{new_container, new_segment, new_thread};
 pub use dumps::EMPTY_DUMP;
+pub use facts::{agree, is_true};
 pub use labels::{everywhere, label_with, pair, plain};
 pub use limits::{EIGHT_PAGES, LIMITS, MOST_PAGES};
 pub use memory::meter_again;
