@@ -16,4 +16,4 @@ for lines in ${LINES:-4096 16384 65536}; do
     "$top/benches/whole/workloads.py" "$room/$lines" --lines "$lines"
 done
 "$top/benches/whole/measure.py" "$top/benches/twin/target/release/twin" "$top/crates/histar/out/histar" "$room" \
-    --rounds "${ROUNDS:-7}" -- "$@"
+    --rounds "${ROUNDS:-7}" "$@"

@@ -1,65 +1,156 @@
-//! Times calls through seats beside a bare lock and beside a file, with several threads at once. Each ratio is of one
-//! run, so it says the same on a slow machine and on a fast one.
+//! Times calls through seats beside a bare lock, a file, and a kernel under a lock that readers
+//! share, with several threads at once, and how reads and writes go on beside each other. Each
+//! ratio is of one run, so it says the same on a slow machine and on a fast one.
 #![tactic(auto)]
 
 ghost use Rattle.std.specs.Prelude.{◌≡◌};
 
 mod files;
+mod kernels;
 mod locks;
+mod samples;
 mod seats;
 
+use crate::kernels::Locked;
+use crate::samples::LIMITS;
 use anyhow::Result;
-use base::{Level, Limits};
 use bench_support::print_ratio;
-use published_copy::{Blank, Naming, Shared};
+use published_copy::{Blank, Naming, Seat, Shared};
 use std::alloc::Global;
 use std::env;
 use std::fs::File;
 use std::marker::Brand;
 use std::rt::Clock;
-use std::sync::Wait;
 use std::sync::atomic::{AtomicU64, Ordering};
+use std::sync::{Mutex, Wait};
 use std::thread::Threads;
 
-const USAGE: &str = "bench_seats THREADS ROUNDS FILE
-THREADS is 1 to 63, ROUNDS what each does, and FILE is written over.";
+const USAGE: &str = "bench_seats ROUNDS FILE
+ROUNDS is how often all threads of a line do what it tells, and FILE is written over.";
 
-const LIMITS: Limits = Limits {
-    pages: 512,
-    device: Level::L1,
-    next_id: 4,
-    next_category: 1,
-};
+/// How many threads do the same at once.
+const THREADS: [usize; 3] = [1, 2, 4];
 
-/// What is timed.
-#[derive(Clone, Copy)]
-struct Load {
-    threads: u64,
-    rounds: u64,
+/// How many seats read while one writes.
+const CROWDS: [usize; 8] = [0, 1, 2, 4, 8, 16, 32, 63];
+
+/// How many seats there are beside the boot thread's.
+const WORKERS: u64 = 63;
+
+/// So many of the seats, or all where there are fewer.
+fn first<T>(seats: &[T], count: usize) -> &[T] {
+    seats.split_at(count.min(seats.len())).0
 }
 
-fn compare_at<B: Naming + Send, R: Threads + Wait + Clock + Print + Sync>(
+/// The seats after the first.
+fn rest<T>(seats: &[T]) -> &[T] {
+    seats.split_at(seats.len().min(1)).1
+}
+
+/// What so many threads do at once, beside others.
+fn compare_at<'s, B: Naming + Send, R: Threads + Wait + Clock + Print + Sync>(
     rt: &R,
-    alloc: Global,
-    shared: &Shared<B>,
+    seats: &[Mutex<Seat<'s, B>>],
+    locked: &Locked,
     file: &File,
-    load: Load,
+    threads: usize,
+    rounds: u64,
 ) -> Result<()> {
-    let Load { threads, rounds } = load;
-    let steps = threads.saturating_mul(rounds);
-    let workers = seats::workers(rt, alloc, shared, threads)?;
+    let count = threads as u64;
+    let steps = count.saturating_mul(rounds);
+    let workers = first(rest(seats), threads);
     let done = AtomicU64::new(0);
-    let adds = locks::time_adds(rt, threads, rounds)?;
-    let submits = seats::time_submits(rt, workers.as_slice(), rounds, &done)?;
-    let writes = files::time_writes(rt, file, threads, rounds)?;
-    let reads = seats::time_reads(rt, workers.as_slice(), rounds, &done)?;
-    let file_reads = files::time_reads(rt, file, threads, rounds)?;
+    let adds = locks::time_adds(rt, count, rounds)?;
+    let submits = seats::time_submits(rt, workers, rounds, &done)?;
+    let writes = files::time_writes(rt, file, count, rounds)?;
+    let reads = seats::time_reads(rt, workers, rounds, &done)?;
+    let file_reads = files::time_reads(rt, file, count, rounds)?;
+    let locked_reads = locked.time_reads(rt, threads, rounds, &done)?;
     let done = done.load(Ordering::SeqCst);
     println!(rt; "{threads} threads, {rounds} rounds each, {done} calls done")?;
     print_ratio(rt, "submit", "bare lock", steps, submits, adds)?;
     print_ratio(rt, "submit", "pwrite", steps, submits, writes)?;
-    print_ratio(rt, "read", "bare lock", steps, reads, adds)?;
-    print_ratio(rt, "read", "pread", steps, reads, file_reads)
+    print_ratio(rt, "read", "pread", steps, reads, file_reads)?;
+    print_ratio(
+        rt,
+        "read",
+        "under a shared lock",
+        steps,
+        reads,
+        locked_reads,
+    )
+}
+
+/// A line with how many times the reads of one thread four make, by the times in which each makes
+/// as many.
+fn print_growth(rt: &impl Print, what: &str, one: u64, four: u64) -> Result<()> {
+    let hundredths = one.saturating_mul(400) / four.max(1);
+    let (whole, part) = (hundredths / 100, hundredths % 100);
+    println!(rt; "4 readers beside a writer, {what}: {whole}.{part:02} times the reads of one")?;
+    Ok(())
+}
+
+/// How reads grow with their threads while one more thread writes.
+fn grow<'s, B: Naming + Send, R: Threads + Wait + Clock + Print + Sync>(
+    rt: &R,
+    seats: &[Mutex<Seat<'s, B>>],
+    locked: &Locked,
+    rounds: u64,
+) -> Result<()> {
+    let (writer, workers) = (first(seats, 1), rest(seats));
+    let done = AtomicU64::new(0);
+    let one = seats::time_reads_beside(rt, writer, first(workers, 1), rounds, &done)?;
+    let four = seats::time_reads_beside(rt, writer, first(workers, 4), rounds, &done)?;
+    print_growth(rt, "seats", one, four)?;
+    let one = locked.time_reads_beside(rt, 1, rounds, &done)?;
+    let four = locked.time_reads_beside(rt, 4, rounds, &done)?;
+    print_growth(rt, "shared lock", one, four)
+}
+
+/// What a submit takes while more and more seats read, beside one while none does.
+fn crowd<'s, B: Naming + Send, R: Threads + Wait + Clock + Print + Sync>(
+    rt: &R,
+    seats: &[Mutex<Seat<'s, B>>],
+    rounds: u64,
+) -> Result<()> {
+    let (writer, workers) = (first(seats, 1), rest(seats));
+    let done = AtomicU64::new(0);
+    let alone = seats::time_submits(rt, writer, rounds, &done)?;
+    for readers in CROWDS {
+        let readers = first(workers, readers);
+        let taken = seats::time_submits_beside(rt, writer, readers, rounds, &done)?;
+        let count = readers.len();
+        println!(rt; "beside {count} readers")?;
+        print_ratio(rt, "submit", "alone", rounds, taken, alone)?;
+    }
+    Ok(())
+}
+
+fn compare_seated<'s, B: Naming + Send, R: Threads + Wait + Clock + Print + Sync>(
+    rt: &R,
+    seats: &[Mutex<Seat<'s, B>>],
+    locked: &Locked,
+    file: &File,
+    rounds: u64,
+) -> Result<()> {
+    for threads in THREADS {
+        let each = rounds / (threads as u64).max(1);
+        compare_at(rt, seats, locked, file, threads, each)?;
+    }
+    grow(rt, seats, locked, rounds)?;
+    crowd(rt, seats, rounds / 400)
+}
+
+fn compare_all<B: Naming + Send, R: Threads + Wait + Clock + Print + Sync>(
+    rt: &R,
+    alloc: Global,
+    shared: &Shared<B>,
+    file: &File,
+    rounds: u64,
+) -> Result<()> {
+    let locked = Locked::new(alloc, 4)?;
+    let seats = seats::seats(rt, alloc, shared, WORKERS)?;
+    compare_seated(rt, seats.as_slice(), &locked, file, rounds)
 }
 
 fn compare<B: Naming + Send, R: Threads + Wait + Clock + Print + Sync>(
@@ -67,12 +158,12 @@ fn compare<B: Naming + Send, R: Threads + Wait + Clock + Print + Sync>(
     alloc: Global,
     blank: Blank,
     file: &File,
-    load: Load,
+    rounds: u64,
 ) -> Result<()>
-    requires { blank ≡ B.limits }
+    requires { blank ≡ B.boot }
 {
     let shared = blank.open::<B>();
-    compare_at(rt, alloc, &shared, file, load)
+    compare_all(rt, alloc, &shared, file, rounds)
 }
 
 // The number at a place among the words.
@@ -82,17 +173,9 @@ fn number(words: &[String], at: usize) -> Option<u64> {
 
 fn main(rt: HostRuntime) -> Result<()> {
     let words: Vec<String> = env::args(&rt)?.collect(rt.alloc())?;
-    let (Some(threads), Some(rounds), Some(path)) = (
-        number(&words, 1),
-        number(&words, 2),
-        words.get(3),
-    ) else {
+    let (Some(rounds), Some(path)) = (number(&words, 1), words.get(2)) else {
         rt.println(USAGE)?;
         return Ok(());
-    };
-    let load = Load {
-        threads: threads.clamp(1, 63),
-        rounds,
     };
     let file = File::options()
         .read(true)
@@ -100,5 +183,5 @@ fn main(rt: HostRuntime) -> Result<()> {
         .create(true)
         .open(&rt, path.as_str())?;
     let blank = Blank::boot(rt.alloc(), &LIMITS)?;
-    compare::<Brand, HostRuntime>(&rt, rt.alloc(), blank, &file, load)
+    compare::<Brand, HostRuntime>(&rt, rt.alloc(), blank, &file, rounds)
 }

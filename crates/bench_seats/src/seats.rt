@@ -1,74 +1,22 @@
 //! Writes and reads of 64 bytes of a segment, each through its thread's seat.
+use crate::samples::{boot_thread, new_segment, new_thread, read, shows_bytes, write};
 use anyhow::{Result, bail};
-use base::{Data, Level, ObjectId};
+use base::ObjectId;
 use bench_support::nanos_since;
-use kernel_rules::{Call, Entry, NewSegment, NewThread, Query, Reply};
-use label_lattice::{Pairs, RawLabel};
+use kernel_rules::{Call, Query, Reply};
 use published_copy::{Naming, Seat, Shared};
 use std::alloc::Global;
 use std::rt::Clock;
-use std::sync::atomic::{AtomicU64, Ordering};
+use std::sync::atomic::{AtomicBool, AtomicU64, Ordering};
 use std::sync::{Mutex, Wait};
 use std::thread;
 use std::thread::Threads;
 use std::time::Instant;
 
-const BYTES: [u8; 64] = [7; 64];
-
-fn everywhere(level: Level) -> RawLabel {
-    RawLabel {
-        default: level,
-        pairs: Pairs::new(),
-    }
-}
-
-// The first object that the boot thread makes.
-fn segment() -> Entry {
-    Entry {
-        container: ObjectId::root(),
-        object: ObjectId::new(4),
-    }
-}
-
-fn new_segment() -> Call {
-    Call::SegmentCreate(NewSegment {
-        container: ObjectId::root(),
-        label: everywhere(Level::L1),
-        quota: 2,
-        pages: 1,
-    })
-}
-
-fn new_thread() -> Call {
-    Call::ThreadCreate(NewThread {
-        container: ObjectId::root(),
-        label: everywhere(Level::L1),
-        quota: 1,
-        clearance: everywhere(Level::L2),
-        entry_point: 0,
-    })
-}
-
 fn object_in(reply: Reply) -> Option<ObjectId> {
     match reply {
         Reply::Object(id) => Some(id),
         _ => None,
-    }
-}
-
-fn write() -> Call {
-    Call::SegmentWrite {
-        entry: segment(),
-        offset: 0,
-        data: Data::from_slice(&BYTES),
-    }
-}
-
-fn read() -> Query {
-    Query::SegmentRead {
-        entry: segment(),
-        offset: 0,
-        count: 64,
     }
 }
 
@@ -80,17 +28,12 @@ fn is_written<B: Naming, R: Wait>(rt: &R, seat: &mut Seat<'_, B>, call: &Call) -
     }
 }
 
-// Whether the bytes that were written are shown.
-fn shows_bytes(reply: &Reply) -> bool {
-    match reply {
-        Reply::Bytes(bytes) => bytes.as_slice() == BYTES.as_slice(),
-        _ => false,
+// Whether the bytes that were written were read.
+fn is_read<B: Naming>(seat: &mut Seat<'_, B>, query: &Query) -> bool {
+    match seat.read(query) {
+        Ok(reply) => shows_bytes(&reply),
+        Err(_) => false,
     }
-}
-
-// Whether those bytes were read.
-fn is_read<B: Naming, R: Wait>(rt: &R, seat: &mut Seat<'_, B>, query: &Query) -> bool {
-    shows_bytes(&seat.read(rt, query))
 }
 
 fn submit_all<B: Naming, R: Wait>(
@@ -120,34 +63,88 @@ fn read_all<B: Naming, R: Wait>(
     let mut seat = worker.lock(rt);
     let mut found = 0u64;
     for _ in 0..rounds {
-        if is_read(rt, &mut seat, &query) {
+        if is_read(&mut seat, &query) {
             found = found.wrapping_add(1);
         }
     }
     done.fetch_add(found, Ordering::SeqCst);
 }
 
-/// A segment of a page, and a seat for each of so many new threads.
-pub fn workers<'s, B: Naming, R: Wait>(
+fn submit_until<B: Naming, R: Wait>(rt: &R, writer: &Mutex<Seat<'_, B>>, stop: &AtomicBool) {
+    let call = write();
+    let mut seat = writer.lock(rt);
+    for _ in rt.forever() {
+        if stop.load(Ordering::SeqCst) {
+            return;
+        }
+        let _ = seat.submit(rt, &call);
+    }
+}
+
+fn read_until<B: Naming, R: Wait>(rt: &R, worker: &Mutex<Seat<'_, B>>, stop: &AtomicBool) {
+    let query = read();
+    let mut seat = worker.lock(rt);
+    for _ in rt.forever() {
+        if stop.load(Ordering::SeqCst) {
+            return;
+        }
+        let _ = seat.read(&query);
+    }
+}
+
+/// A new thread, which the boot thread makes.
+fn make_thread<B: Naming, R: Wait>(rt: &R, boot: &mut Seat<'_, B>) -> Result<ObjectId> {
+    let made = boot.submit(rt, &new_thread())?;
+    match object_in(made.reply) {
+        Some(thread) => Ok(thread),
+        None => bail!("no thread"),
+    }
+}
+
+fn add_seat<'s, B: Naming, R: Wait>(
+    rt: &R,
+    shared: &'s Shared<B>,
+    thread: ObjectId,
+    seats: &mut Vec<Mutex<Seat<'s, B>>>,
+) -> Result<()> {
+    seats.push(Mutex::new(shared.open_seat(rt, thread)?))?;
+    Ok(())
+}
+
+/// The segment with its bytes, and so many new threads with their seats.
+fn fill<'s, B: Naming, R: Wait>(
+    rt: &R,
+    shared: &'s Shared<B>,
+    boot: &mut Seat<'_, B>,
+    threads: u64,
+    seats: &mut Vec<Mutex<Seat<'s, B>>>,
+) -> Result<()> {
+    boot.submit(rt, &new_segment())?;
+    boot.submit(rt, &write())?;
+    for _ in 0..threads {
+        let thread = make_thread(rt, boot)?;
+        add_seat(rt, shared, thread, seats)?;
+    }
+    Ok(())
+}
+
+/// A segment of a page with the bytes, a seat for the boot thread, and then one for each of so many
+/// new threads.
+pub fn seats<'s, B: Naming, R: Wait>(
     rt: &R,
     alloc: Global,
     shared: &'s Shared<B>,
     threads: u64,
 ) -> Result<Vec<Mutex<Seat<'s, B>>>> {
-    let mut boot = shared.open_seat(rt, ObjectId::new(2))?;
-    boot.submit(rt, &new_segment())?;
-    let mut workers = Vec::new(alloc);
-    for _ in 0..threads {
-        let made = boot.submit(rt, &new_thread())?;
-        let Some(thread) = object_in(made.reply) else {
-            bail!("no thread");
-        };
-        workers.push(Mutex::new(shared.open_seat(rt, thread)?))?;
-    }
-    Ok(workers)
+    let mut boot = shared.open_seat(rt, boot_thread())?;
+    let mut others = Vec::new(alloc);
+    fill(rt, shared, &mut boot, threads, &mut others)?;
+    others.insert(0, Mutex::new(boot))?;
+    Ok(others)
 }
 
-/// The nanoseconds in which all workers at once write so often each, while it is counted what was done.
+/// The nanoseconds in which all workers at once write so often each, while it is counted what was
+/// done.
 pub fn time_submits<'s, B: Naming + Send, R: Threads + Wait + Clock + Sync>(
     rt: &R,
     workers: &[Mutex<Seat<'s, B>>],
@@ -163,7 +160,8 @@ pub fn time_submits<'s, B: Naming + Send, R: Threads + Wait + Clock + Sync>(
     nanos_since(rt, start)
 }
 
-/// The nanoseconds in which all workers at once read so often each, while it is counted what was done.
+/// The nanoseconds in which all workers at once read so often each, while it is counted what was
+/// done.
 pub fn time_reads<'s, B: Naming + Send, R: Threads + Wait + Clock + Sync>(
     rt: &R,
     workers: &[Mutex<Seat<'s, B>>],
@@ -177,4 +175,45 @@ pub fn time_reads<'s, B: Naming + Send, R: Threads + Wait + Clock + Sync>(
         }
     });
     nanos_since(rt, start)
+}
+
+/// The same while the writers write on and on.
+pub fn time_reads_beside<'s, B: Naming + Send, R: Threads + Wait + Clock + Sync>(
+    rt: &R,
+    writers: &[Mutex<Seat<'s, B>>],
+    workers: &[Mutex<Seat<'s, B>>],
+    rounds: u64,
+    done: &AtomicU64,
+) -> Result<u64> {
+    let stop = AtomicBool::new(false);
+    let stop = &stop;
+    thread::scope(thread::scope_env(), rt, |scope| {
+        for writer in writers {
+            let _ = scope.spawn(move || submit_until(rt, writer, stop));
+        }
+        let taken = time_reads(rt, workers, rounds, done);
+        stop.store(true, Ordering::SeqCst);
+        taken
+    })
+}
+
+/// The nanoseconds in which the writers at once write so often each, while all workers read on and
+/// on.
+pub fn time_submits_beside<'s, B: Naming + Send, R: Threads + Wait + Clock + Sync>(
+    rt: &R,
+    writers: &[Mutex<Seat<'s, B>>],
+    workers: &[Mutex<Seat<'s, B>>],
+    rounds: u64,
+    done: &AtomicU64,
+) -> Result<u64> {
+    let stop = AtomicBool::new(false);
+    let stop = &stop;
+    thread::scope(thread::scope_env(), rt, |scope| {
+        for worker in workers {
+            let _ = scope.spawn(move || read_until(rt, worker, stop));
+        }
+        let taken = time_submits(rt, writers, rounds, done);
+        stop.store(true, Ordering::SeqCst);
+        taken
+    })
 }

@@ -1,7 +1,11 @@
-//! What the benches share: the time since another one, and a line of two times with their ratio.
+//! What the benches share: the time since another one, a line of two times with their ratio, and writes and reads of a
+//! file beside which calls are timed.
 #![tactic(auto)]
 
+mod files;
+
 use anyhow::Result;
+pub use files::{read_all, write_all};
 use std::rt::Clock;
 use std::time::Instant;
 

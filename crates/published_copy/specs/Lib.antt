@@ -1,5 +1,10 @@
 pub mod Refusals
+pub mod Boots
 pub mod Books
+pub mod Entries
+pub mod Rules
+pub mod Absorbed
+pub mod Shares
 pub mod Turns
 pub mod Tallies
 pub mod Seats

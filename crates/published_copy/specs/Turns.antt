@@ -1,42 +1,58 @@
--- What a pass knows, and what a committed call makes of it and of the journal.
-use Rattle.std.specs.Prelude.{◌≡◌, ℕ, ◌+◌, Bool, true, false, ◌&&◌, ◌==◌, nat_le, List, [], ◌∷◌, ◌++◌}
-use Rattle.std.specs.Prelude.{length}
+-- What passes and seats know, and what calls make of it.
+use mathlib.Core.List.{IsPrefix}
+use Rattle.std.specs.Prelude.{◌≡◌, ℕ, ◌+◌, ◌⊎◌, Bool, true, false, ◌&&◌, ◌==◌, nat_le, List, []}
+use Rattle.std.specs.Prelude.{◌∷◌, ◌++◌, length}
 use Rattle.base.specs.declared.ranges.Limits.{Limits}
 use Rattle.kernel_rules.specs.History.{state_of, count, IsLegal}
+use Rattle.kernel_rules.specs.State.{State}
 use Rattle.kernel_rules.specs.Step.{answer, query_answer}
 use Rattle.kernel_rules.specs.declared.calls.Call.{Call}
 use Rattle.kernel_rules.specs.declared.calls.Query.{Query}
 use Rattle.kernel_rules.specs.declared.replies.Reply.{Reply}
 use Rattle.kernel_rules.specs.declared.events.Event.{Event}
-use Rattle.published_copy.specs.declared.passes.Standing.{Standing}
 use Rattle.published_copy.specs.declared.receipts.Receipt.{Receipt}
 use Rattle.published_copy.specs.declared.refusals.SubmitRefusal as submit
 use Rattle.published_copy.specs.declared.refusals.SubmitRefusal.TheVariants as no_submit
 
--- the turn of a thread, with the number of its next event and how many events it has seen
-abbrev pub turn : ℕ → ℕ → ℕ → Standing
-turn thread number length = record { thread = thread; number = number; length = length }
+-- what a pass knows: its thread, the number of its next event, and the list that it has seen, which
+-- begins the boot's one list
+pub record Turn : Type 0 where
+  pub thread : ℕ
+  pub number : ℕ
+  pub seen : List Event
 
--- the number is the thread's next in the journal, and the journal has all that was seen
-abbrev pub is_turn : List Event → Standing → Bool
+-- what a seat knows: its pass, and the longest list that its opening, its submits and the notes
+-- that it learnt gave it
+pub record SeatView : Type 0 where
+  pub pass : Turn
+  pub told : List Event
+
+abbrev pub turn : ℕ → ℕ → List Event → Turn
+turn thread number seen = record { thread = thread; number = number; seen = seen }
+
+abbrev pub seat_with : Turn → List Event → SeatView
+seat_with pass told = record { pass = pass; told = told }
+
+-- the number is the thread's next in the journal, and the journal is no shorter than what was seen
+abbrev pub is_turn : List Event → Turn → Bool
 is_turn journal pass =
-    (pass.number == count pass.thread journal + 1) && nat_le pass.length (length journal)
+    (pass.number == count pass.thread journal + 1) && nat_le (length pass.seen) (length journal)
 
--- the event that a call makes: its reply is the answer in the journal's state
-abbrev pub event_of : Limits → List Event → Standing → Call → Event
-event_of limits journal pass call = record {
+-- the event that a call makes: its reply is the answer in this state
+abbrev pub event_at : State → Turn → Call → Event
+event_at s pass call = record {
   thread = pass.thread;
   number = pass.number;
   call = call;
-  reply = answer (state_of limits journal) pass.thread call;
+  reply = answer s pass.thread call;
 }
 
 -- the journal with that event at its end
-abbrev pub with_event : Limits → List Event → Standing → Call → List Event
-with_event limits journal pass call = journal ++ event_of limits journal pass call ∷ []
+abbrev pub with_event : Limits → List Event → Turn → Call → List Event
+with_event limits journal pass call = journal ++ event_at (state_of limits journal) pass call ∷ []
 
 -- the receipt of that event
-abbrev pub receipt_of : Limits → List Event → Standing → Call → Receipt
+abbrev pub receipt_of : Limits → List Event → Turn → Call → Receipt
 receipt_of limits journal pass call = record {
   reply = answer (state_of limits journal) pass.thread call;
   number = pass.number;
@@ -44,31 +60,45 @@ receipt_of limits journal pass call = record {
 }
 
 -- the pass then: its number is the next one, and it has seen the journal with that event
-abbrev pub passed_on : List Event → Standing → Standing
-passed_on journal pass = turn pass.thread (pass.number + 1) (length journal + 1)
+abbrev pub passed_on : Limits → List Event → Turn → Call → Turn
+passed_on limits journal pass call =
+    turn pass.thread (pass.number + 1) (with_event limits journal pass call)
 
--- at some legal journal it was the pass's turn, with the call's event the journal is legal, and the
--- receipt is that event's: what a caller knows who did not hold the lock
-abbrev pub IsSubmitted : Limits → Standing → Call → Receipt → Standing → Type 0
-IsSubmitted limits pass call receipt after =
-    (journal : List Event) × IsLegal limits (with_event limits journal pass call)
-    × (is_turn journal pass ≡ true) × (receipt ≡ receipt_of limits journal pass call)
-    × (after ≡ passed_on journal pass)
+-- some journal begins with all that the seat had seen; with the call's event it is legal, and is
+-- what the seat has then seen and was told; the receipt is that event's
+abbrev pub IsSubmitted : Limits → SeatView → Call → Receipt → SeatView → Type 0
+IsSubmitted limits seat call receipt after =
+    (journal : List Event) × IsPrefix seat.pass.seen journal
+    × IsLegal limits (with_event limits journal seat.pass call)
+    × (receipt ≡ receipt_of limits journal seat.pass call)
+    × (after ≡ seat_with (passed_on limits journal seat.pass call)
+    (with_event limits journal seat.pass call))
 
 -- whether it was the pass's turn, where a call of it is refused so
 abbrev pub was_turn : submit.SubmitRefusal → Bool
 was_turn no_submit.Memory = true
 was_turn no_submit.OutOfTurn = false
 
--- at some legal journal it was the pass's turn where memory was wanted, and was not where the call came
--- out of turn
-abbrev pub IsNotSubmitted : Limits → Standing → submit.SubmitRefusal → Type 0
+-- at some legal journal it was the pass's turn where memory was wanted, and was not where the call
+-- came out of turn
+abbrev pub IsNotSubmitted : Limits → Turn → submit.SubmitRefusal → Type 0
 IsNotSubmitted limits pass refusal =
     (journal : List Event) × IsLegal limits journal × (is_turn journal pass ≡ was_turn refusal)
 
--- at some legal journal, which is what the pass has seen then, the reply is the answer of its state
-abbrev pub IsRead : Limits → Standing → Query → Reply → Standing → Type 0
-IsRead limits pass query reply after =
-    (journal : List Event) × IsLegal limits journal
-    × (reply ≡ query_answer (state_of limits journal) pass.thread query)
-    × (after ≡ turn pass.thread pass.number (length journal))
+-- what the seat has then seen is a legal list that begins with what it had seen, and the reply is
+-- the answer in its state; what it was told stays
+abbrev pub IsRead : Limits → SeatView → Query → Reply → SeatView → Type 0
+IsRead limits seat query reply after =
+    (after ≡ seat_with (turn seat.pass.thread seat.pass.number after.pass.seen) seat.told)
+    × IsPrefix seat.pass.seen after.pass.seen × IsLegal limits after.pass.seen
+    × (reply ≡ query_answer (state_of limits after.pass.seen) seat.pass.thread query)
+
+-- the list is the longer of the two, and each of the two begins it
+abbrev pub IsLonger : List Event → List Event → List Event → Type 0
+IsLonger xs ys zs = ((zs ≡ xs) ⊎ (zs ≡ ys)) × IsPrefix xs zs × IsPrefix ys zs
+
+-- what the seat has then seen, and what it was told, is the longer of that and of the note
+abbrev pub IsLearnt : SeatView → List Event → SeatView → Type 0
+IsLearnt seat note after =
+    (after.pass.thread ≡ seat.pass.thread) × (after.pass.number ≡ seat.pass.number)
+    × IsLonger seat.pass.seen note after.pass.seen × IsLonger seat.told note after.told

@@ -5,26 +5,29 @@ ghost use Rattle.std.specs.Prelude.{◌^◌, IsTrue, IfNone, vec_len, vec_capaci
 ghost use Rattle.base.specs.declared.kinds.Kind.TheVariants as kinds;
 ghost use Rattle.kernel_rules.specs.History.{IsLegal, state_of, count};
 ghost use Rattle.kernel_rules.specs.State.{is_live_kind};
-ghost use Rattle.kernel_rules.specs.Step.{query_answer};
 ghost use Rattle.syscall_core.specs.Kernel.{kernel_state};
 ghost use Rattle.published_copy.specs.Seats.{seat_refused};
 ghost use Rattle.published_copy.specs.Tallies.{IsTallied};
 ghost use Rattle.published_copy.specs.Turns.{turn, is_turn, with_event, receipt_of, passed_on};
+ghost use mathlib.Core.List.{IsPrefix};
 
+use crate::lanes::Lane;
 use crate::naming::Naming;
+use crate::pairs::Pair;
 use crate::passes::Pass;
 use crate::places::Places;
 use crate::receipts::Receipt;
 use crate::refusals::{SeatRefusal, SubmitRefusal};
 use crate::tallies::{Tally, count_events, events_of};
 use base::{Limits, Meter, NoMemory, ObjectId};
-use kernel_rules::{Call, Event, Query, Reply};
-use std::marker::{Model, PhantomData};
+use kernel_rules::{Call, Event};
+use std::marker::Model;
+use std::sync::Wait;
 use syscall_core::Kernel;
 
-/// A kernel, the journal of all calls that were made to it, and the threads that were given seats. A
-/// contract sees it as the journal, which is legal, and in whose state the kernel is, at all times, and
-/// those threads.
+/// A kernel with its two copies, the journal of all calls that were made to it, and the threads
+/// that were given seats. A contract sees it as the journal, which is legal, and in whose state the
+/// kernel and the published copy are, at all times, and those threads.
 #[derive(Drop)]
 pub struct Book<B: Naming> {
     limits: Limits,
@@ -33,7 +36,7 @@ pub struct Book<B: Naming> {
     journal: Vec<Event>,
     tallies: Vec<Tally>,
     places: Places,
-    of: PhantomData<B>,
+    pair: Pair<B>,
 }
 
 impl<B: Naming> Model for Book<B> {
@@ -47,9 +50,10 @@ impl<B: Naming> Model for Book<B> {
 
     ghost view = { λ b. record { journal = b.journal.items; seated = b.places } };
 
-    ghost invariant = { λ b. (b.limits ≡ B.limits) × IsLegal B.limits b.journal.items
-        × (kernel_state b.kernel ≡ state_of B.limits b.journal.items)
-        × IsTallied b.tallies.items b.journal.items };
+    ghost invariant = { λ b. (b.limits ≡ B.boot.limits) × IsLegal B.boot.limits b.journal.items
+        × (kernel_state b.kernel ≡ state_of B.boot.limits b.journal.items)
+        × IsTallied b.tallies.items b.journal.items
+        × (b.pair ≡ b.journal.items) };
 }
 
 /// Whether a pass's number is its thread's next, and the journal has all that the pass has seen.
@@ -58,8 +62,9 @@ fn is_turn<B: Naming>(journal: &[Event], tallies: &[Tally], pass: &Pass<B>) -> b
     ensures turn { result ≡ is_turn journal.now pass.now }
     ensures number { IsTrue result → pass.now.number ≡ count pass.now.thread journal.now + 1 }
     ensures fits { IsTrue result → pass.now.number + 1 < 2 ^ 64 }
+    ensures within { IsTrue result → length pass.now.seen ≤ length journal.now }
 {
-    pass.number() == events_of(tallies, pass.thread()) + 1 && pass.length() <= journal.len()
+    pass.number() == events_of(tallies, pass.thread()) + 1 && pass.length() <= journal.len() as u64
 }
 
 /// There is room for one event and one tally more. Nothing else changes, also without memory.
@@ -83,11 +88,13 @@ impl<B: Naming> Book<B> {
         journal: Vec<Event>,
         tallies: Vec<Tally>,
         places: Places,
+        pair: Pair<B>,
     ) -> Book<B>
-        requires limits { limits ≡ B.limits }
-        requires booted { kernel_state kernel ≡ state_of B.limits [] }
+        requires limits { limits ≡ B.boot.limits }
+        requires booted { kernel_state kernel ≡ state_of B.boot.limits [] }
         requires empty { (journal.items ≡ []) × (tallies.items ≡ []) }
         requires free { places ≡ [] }
+        requires pair { pair ≡ [] }
         ensures journal { result.journal ≡ [] }
         ensures seated { result.seated ≡ [] }
     {
@@ -98,37 +105,39 @@ impl<B: Naming> Book<B> {
             journal,
             tallies,
             places,
-            of: PhantomData,
+            pair,
         }
     }
 
     /// The limits of the boot.
     pub fn limits(&self) -> &Limits
-        ensures { result.now ≡ B.limits }
+        ensures { result.now ≡ B.boot.limits }
     {
         &self.limits
     }
 
-    /// The journal: every event since the boot, the oldest first. Each event's reply is the answer of
-    /// the rules in the state of the events before it, and each thread's events are numbered from 1.
+    /// The journal: every event since the boot, the oldest first. Each event's reply is the answer
+    /// of the rules in the state of the events before it, and each thread's events are numbered
+    /// from 1.
     pub fn events(&self) -> &[Event]
         ensures journal { result.now ≡ self.now.journal }
-        ensures legal { IsLegal B.limits self.now.journal }
+        ensures legal { IsLegal B.boot.limits self.now.journal }
     {
         self.journal.as_slice()
     }
 
     /// The kernel, in the state that the journal leads to.
     pub fn kernel(&self) -> &Kernel
-        ensures { kernel_state result.now ≡ state_of B.limits self.now.journal }
+        ensures { kernel_state result.now ≡ state_of B.boot.limits self.now.journal }
     {
         &self.kernel
     }
 
-    /// The journal, of a book that is used no more.
-    pub fn into_events(self) -> Vec<Event>
+    /// The journal, of a book that is used no more. The copies' memory is given back, once no
+    /// reader has one; a book that is dropped keeps it.
+    pub fn into_events<R: Wait>(self, rt: &R) -> Vec<Event>
         ensures journal { result.items ≡ self.journal }
-        ensures legal { IsLegal B.limits self.journal }
+        ensures legal { IsLegal B.boot.limits self.journal }
     {
         let Book {
             limits: _,
@@ -137,51 +146,60 @@ impl<B: Naming> Book<B> {
             journal,
             tallies: _,
             places: _,
-            of: _,
+            pair,
         } = self;
+        pair.close(rt);
         journal
     }
 
-    /// Makes a call as the pass's thread, as `Lent::commit` says. Which threads were given seats stays
-    /// as it is.
-    pub(crate) fn commit(
+    /// Makes a call as the pass's thread, as `Lent::commit` says. Which threads were given seats
+    /// stays as it is.
+    pub(crate) fn commit<R: Wait>(
         &mut self,
+        rt: &R,
         pass: &mut Pass<B>,
         call: &Call,
     ) -> Result<Receipt, SubmitRefusal>
-        ensures receipt { IfOk result
-            (λ receipt. receipt ≡ receipt_of B.limits self.old.journal pass.old call.now) }
+        ensures receipt { IfOk result (λ receipt. receipt
+            ≡ receipt_of B.boot.limits self.old.journal pass.old call.now) }
         ensures journal { OnOk result
-            (self.new.journal ≡ with_event B.limits self.old.journal pass.old call.now) }
+            (self.new.journal ≡ with_event B.boot.limits self.old.journal pass.old call.now) }
         ensures seated { self.new.seated ≡ self.old.seated }
-        ensures pass { OnOk result (pass.new ≡ passed_on self.old.journal pass.old) }
+        ensures pass { OnOk result
+            (pass.new ≡ passed_on B.boot.limits self.old.journal pass.old call.now) }
+        ensures begins { OnOk result (IsPrefix pass.old.seen self.old.journal) }
 
         ensures turn { IsErrOf result SubmitRefusal.OutOfTurn
             ↔ (is_turn self.old.journal pass.old ≡ false) }
         ensures kept { OnErr result ((self.new ≡ self.old) × (pass.new ≡ pass.old)) }
-        ensures legal { IsLegal B.limits self.new.journal }
+        ensures legal { IsLegal B.boot.limits self.new.journal }
     {
         if !is_turn(&self.journal, &self.tallies, pass) {
             return Err(SubmitRefusal::OutOfTurn);
         }
+        let events = self.journal.len() as u64;
+        let _begins = self.pair.front(events).has(pass.front());
         make_room(&mut self.journal, &mut self.tallies)?;
-        let reply = self
-            .kernel
-            .step_surely(pass.thread(), call, &mut self.meter);
+        let (kernel, meter) = (&mut self.kernel, &mut self.meter);
+        let made = self.pair.commit(rt, kernel, meter, pass, call, events + 1);
+        let Ok(reply) = made else {
+            return Err(SubmitRefusal::Memory);
+        };
         self.journal.push_reserved(pass.event(call, &reply));
         count_events(&mut self.tallies, pass.thread(), pass.number());
-        Ok(pass.pass_on(&reply, self.journal.len()))
+        let front = self.pair.front(events + 1);
+        Ok(pass.pass_on(&reply, self.journal.len(), front))
     }
 
     /// Why a thread is given no seat, if anything: the least that holds.
     fn seat_refused(&mut self, thread: ObjectId) -> Option<SeatRefusal>
-        ensures row { result ≡ seat_refused B.limits self.old thread }
+        ensures row { result ≡ seat_refused B.boot.limits self.old thread }
         ensures live { IfNone result
-            (is_live_kind (state_of B.limits self.old.journal) kinds.Thread thread ≡ true) }
+            (is_live_kind (state_of B.boot.limits self.old.journal) kinds.Thread thread ≡ true) }
         ensures first { IfNone result (count thread self.old.journal ≡ 0) }
         ensures room { IfNone result (length self.old.seated < 64) }
         ensures within { length self.old.seated ≤ 64 }
-        ensures legal { IsLegal B.limits self.old.journal }
+        ensures legal { IsLegal B.boot.limits self.old.journal }
         ensures kept { self.new ≡ self.old }
     {
         if self.places.has(thread) || events_of(&self.tallies, thread) > 0 {
@@ -196,39 +214,32 @@ impl<B: Naming> Book<B> {
         None
     }
 
-    /// A pass and a meter for a live thread that was given no seat and has no event: it is given one of
-    /// the 64 seats. The journal stays as it is, and an error changes nothing.
-    pub(crate) fn seat(&mut self, thread: ObjectId) -> Result<(Pass<B>, Meter), SeatRefusal>
-        ensures pass { IfOk result (λ seat. seat.0 ≡ turn thread 1 (length self.old.journal)) }
-        ensures free { OnOk result (seat_refused B.limits self.old thread ≡ None) }
+    /// A pass, a reader and a meter for a live thread that was given no seat and has no event: it
+    /// is given one of the 64 seats. The journal stays as it is, and an error changes nothing.
+    pub(crate) fn seat<R: Wait>(
+        &mut self,
+        rt: &R,
+        thread: ObjectId,
+    ) -> Result<(Pass<B>, Lane<B>, Meter), SeatRefusal>
+        ensures pass { IfOk result (λ seat. seat.0 ≡ turn thread 1 self.old.journal) }
+        ensures free { OnOk result (seat_refused B.boot.limits self.old thread ≡ None) }
         ensures row { IfErr result
-            (λ refusal. seat_refused B.limits self.old thread ≡ Some refusal) }
+            (λ refusal. seat_refused B.boot.limits self.old thread ≡ Some refusal) }
         ensures live { OnOk result
-            (is_live_kind (state_of B.limits self.old.journal) kinds.Thread thread ≡ true) }
+            (is_live_kind (state_of B.boot.limits self.old.journal) kinds.Thread thread ≡ true) }
         ensures first { OnOk result (count thread self.old.journal ≡ 0) }
         ensures given { OnOk result (self.new.seated ≡ self.old.seated ++ thread ∷ []) }
         ensures journal { self.new.journal ≡ self.old.journal }
         ensures kept { OnErr result (self.new ≡ self.old) }
         ensures within { length self.old.seated ≤ 64 }
-        ensures legal { IsLegal B.limits self.old.journal }
+        ensures legal { IsLegal B.boot.limits self.old.journal }
     {
         if let Some(refusal) = self.seat_refused(thread) {
             return Err(refusal);
         }
+        let lane = self.pair.lane(rt);
         let meter = self.places.give(thread);
-        Ok((Pass::new(thread, 1, self.journal.len()), meter))
-    }
-
-    /// What the kernel answers to a query of the pass's thread, which has then seen the whole journal.
-    pub(crate) fn ask(&self, pass: &mut Pass<B>, query: &Query, meter: &mut Meter) -> Reply
-        ensures reply { result
-            ≡ query_answer (state_of B.limits self.now.journal) pass.old.thread query.now }
-        ensures pass { pass.new
-            ≡ turn pass.old.thread pass.old.number (length self.now.journal) }
-        ensures legal { IsLegal B.limits self.now.journal }
-    {
-        let reply = self.kernel.ask_surely(pass.thread(), query, meter);
-        pass.see(self.journal.len());
-        reply
+        let front = self.pair.front(self.journal.len() as u64);
+        Ok((Pass::new(thread, 1, front), lane, meter))
     }
 }

@@ -1,4 +1,5 @@
 //! A boot, and what threads share of it.
+ghost use Rattle.core.specs.Mem.{manually_drop_value};
 ghost use Rattle.std.specs.Prelude.{◌≡◌, ◌↔◌, false, IfOk, IfErr, IsErrOf};
 ghost use Rattle.base.specs.Limits.{in_range};
 ghost use Rattle.kernel_rules.specs.Runs.{booted};
@@ -7,19 +8,24 @@ ghost use Rattle.published_copy.specs.Seats.{IsOpened, IsNotOpened};
 
 use crate::books::Book;
 use crate::lending::Lent;
+use crate::logs::{Head, Told, empty_log};
 use crate::naming::Naming;
+use crate::pairs::Pair;
 use crate::places::Places;
 use crate::refusals::SeatRefusal;
 use crate::seats::Seat;
 use crate::tallies::Tally;
+use crate::writers::{Writer, first_copies};
 use base::{Limits, Meter, NoMemory, ObjectId};
 use kernel_rules::Event;
 use std::alloc::Global;
 use std::marker::Model;
-use std::sync::{Mutex, Wait};
+use std::mem::ManuallyDrop;
+use std::sync::{Arc, Mutex, Wait};
 use syscall_core::{BootRefusal, Kernel};
 
-/// A boot that has no name yet. A contract sees it as its limits.
+/// A boot that has no name yet. A contract sees it as the log of its events, by its name, and its
+/// limits. One that is dropped keeps the copies' memory.
 #[derive(Drop)]
 pub struct Blank {
     limits: Limits,
@@ -28,29 +34,42 @@ pub struct Blank {
     journal: Vec<Event>,
     tallies: Vec<Tally>,
     places: Places,
+    seen: Told,
+    head: Arc<Head>,
+    writer: ManuallyDrop<Writer>,
 }
 
 impl Model for Blank {
-    ghost use Rattle.std.specs.Prelude.{◌≡◌, []};
-    ghost use Rattle.base.specs.declared.ranges.Limits.{Limits};
+    ghost use Rattle.core.specs.Mem.{manually_drop_value};
+    ghost use Rattle.std.specs.Prelude.{◌≡◌, [], drop};
+    ghost use Rattle.std.specs.Arc.{arc_value};
     ghost use Rattle.kernel_rules.specs.Runs.{booted};
     ghost use Rattle.syscall_core.specs.Kernel.{kernel_state};
+    ghost use Rattle.published_copy.specs.Boots.{Boot, boot_of};
+    ghost use Rattle.published_copy.specs.Rules.{head_of};
+    ghost use Rattle.published_copy.specs.Shares.{IsShown};
 
-    ghost Value = { Limits };
+    ghost Value = { Boot };
 
-    ghost view = { λ b. b.limits };
+    ghost view = { λ b. boot_of b.seen.book b.limits };
 
     ghost invariant = { λ b. (kernel_state b.kernel ≡ booted b.limits)
-        × (b.journal.items ≡ []) × (b.tallies.items ≡ []) × (b.places ≡ []) };
+        × (b.journal.items ≡ []) × (b.tallies.items ≡ []) × (b.places ≡ [])
+        × (b.seen.log ≡ []) × (arc_value b.head ≡ head_of b.seen.book)
+        × IsShown (boot_of b.seen.book b.limits) (manually_drop_value b.writer).desk.shown.value []
+        × (drop (manually_drop_value b.writer).behind (manually_drop_value b.writer).log.items
+        ≡ []) };
 }
 
-/// A boot over a newly booted kernel, with all that seats need.
+/// A boot over a newly booted kernel, with its two copies and all that seats need.
 fn blank_over(alloc: Global, limits: &Limits, kernel: Kernel) -> Result<Blank, NoMemory>
     requires { kernel_state kernel ≡ booted limits.now }
-    ensures { IfOk result (λ blank. blank ≡ limits.now) }
+    ensures { IfOk result (λ blank. blank.limits ≡ limits.now) }
 {
     let meter = Meter::new(alloc)?;
     let places = Places::new(alloc)?;
+    let (head, seen) = empty_log(alloc)?;
+    let writer = first_copies(alloc, limits, &seen)?;
     Ok(Blank {
         limits: *limits,
         kernel,
@@ -58,14 +77,18 @@ fn blank_over(alloc: Global, limits: &Limits, kernel: Kernel) -> Result<Blank, N
         journal: Vec::new(alloc),
         tallies: Vec::new(alloc),
         places,
+        seen,
+        head,
+        writer: unsafe { ManuallyDrop::new_unchecked(writer) },
     })
 }
 
 impl Blank {
-    /// Boots a kernel, with an empty journal and all that seats need. The error is `BadLimits` exactly
-    /// where a limit is out of its range, and else, for want of memory, `Unavailable`.
+    /// Boots a kernel and its two copies, with an empty journal and all that seats need. The error
+    /// is `BadLimits` exactly where a limit is out of its range, and else, for want of memory,
+    /// `Unavailable`.
     pub fn boot(alloc: Global, limits: &Limits) -> Result<Blank, BootRefusal>
-        ensures blank { IfOk result (λ blank. blank ≡ limits.now) }
+        ensures blank { IfOk result (λ blank. blank.limits ≡ limits.now) }
         ensures limits { IsErrOf result BootRefusal.BadLimits ↔ (in_range limits.now ≡ false) }
     {
         let kernel = Kernel::boot(alloc, limits)?;
@@ -77,7 +100,7 @@ impl Blank {
 
     /// The boot under the name of `B`. It takes no memory.
     pub fn open<B: Naming>(self) -> Shared<B>
-        requires { self ≡ B.limits }
+        requires { self ≡ B.boot }
     {
         let Blank {
             limits,
@@ -86,9 +109,13 @@ impl Blank {
             journal,
             tallies,
             places,
+            seen,
+            head,
+            writer,
         } = self;
+        let pair = Pair::new(seen, head, writer);
         Shared {
-            book: Mutex::new(Book::new(limits, kernel, meter, journal, tallies, places)),
+            book: Mutex::new(Book::new(limits, kernel, meter, journal, tallies, places, pair)),
         }
     }
 }
@@ -105,20 +132,20 @@ impl<B: Naming> Shared<B> {
         Lent::new(self.book.lock(rt))
     }
 
-    /// A seat for a live thread that has had none: its first event will be number 1. It waits for the
-    /// lock, and takes no memory. The error is `SeatTaken` where the thread was given a seat, or has an
-    /// event by a pass of another boot, else `NoThread` where the id is not that of a live thread, and
-    /// else `SeatsSpent` where 64 seats were given.
+    /// A seat for a live thread that has had none: its first event will be number 1. It waits for
+    /// the lock, and for those who still read the copy that isn't published, and takes no memory.
+    /// The error is `SeatTaken` where the thread was given a seat or has an event, else `NoThread`
+    /// where the id is not that of a live thread, and else `SeatsSpent` where 64 seats were given.
     pub fn open_seat<R: Wait>(&self, rt: &R, thread: ObjectId) -> Result<Seat<'_, B>, SeatRefusal>
-        ensures done { IfOk result (λ seat. IsOpened B.limits thread seat) }
-        ensures refused { IfErr result (λ refusal. IsNotOpened B.limits thread refusal) }
+        ensures done { IfOk result (λ seat. IsOpened B.boot.limits thread seat) }
+        ensures refused { IfErr result (λ refusal. IsNotOpened B.boot.limits thread refusal) }
     {
-        let (pass, meter) = self.book.lock(rt).seat(thread)?;
-        Ok(Seat::new(&self.book, pass, meter))
+        let (pass, lane, meter) = self.book.lock(rt).seat(rt, thread)?;
+        Ok(Seat::new(&self.book, pass, lane, meter))
     }
 
-    /// The book at the end: no seat is left then and it is not lent, so nothing more comes to its journal.
-    /// It takes no lock and no memory.
+    /// The book at the end: no seat is left then and it is not lent, so nothing more comes to its
+    /// journal. It takes no lock and no memory.
     pub fn close(self) -> Book<B> {
         let Shared { book } = self;
         book.into_inner()

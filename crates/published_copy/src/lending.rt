@@ -1,6 +1,7 @@
 //! A book that is lent.
 ghost use Rattle.std.specs.Prelude.{◌≡◌, ◌↔◌, false, IfOk, OnOk, OnErr, IsErrOf};
 ghost use Rattle.std.specs.Sync.Mutex.{mutex_guard_value};
+ghost use mathlib.Core.List.{IsPrefix};
 ghost use Rattle.kernel_rules.specs.History.{IsLegal};
 ghost use Rattle.published_copy.specs.Turns.{is_turn, with_event, receipt_of, passed_on};
 
@@ -12,10 +13,11 @@ use crate::refusals::SubmitRefusal;
 use kernel_rules::Call;
 use std::marker::Model;
 use std::ops::Deref;
-use std::sync::MutexGuard;
+use std::sync::{MutexGuard, Wait};
 
-/// The book of a shared kernel, which no one else has while this is kept. It is read as a `Book` is, and
-/// changes by `commit` alone: no one who has it has a `&mut Book`, so it stays the book of its kernel.
+/// The book of a shared kernel, which no one else has while this is kept. It is read as a `Book`
+/// is, and changes by `commit` alone: no one who has it has a `&mut Book`, so it stays the book of
+/// its kernel.
 #[derive(Drop)]
 pub struct Lent<'a, B: Naming> {
     guard: MutexGuard<'a, Book<B>>,
@@ -40,24 +42,31 @@ impl<'a, B: Naming> Lent<'a, B> {
 }
 
 impl<B: Naming> Lent<'_, B> {
-    /// Makes a call as the pass's thread, which is one event more at the journal's end. The error is
-    /// `OutOfTurn` exactly where the pass's number is not its thread's next in the journal, or the pass
-    /// has seen more events than the journal has, and else, for want of memory, `Memory`. An error
-    /// changes nothing.
-    pub fn commit(&mut self, pass: &mut Pass<B>, call: &Call) -> Result<Receipt, SubmitRefusal>
-        ensures receipt { IfOk result
-            (λ receipt. receipt ≡ receipt_of B.limits self.old.journal pass.old call.now) }
+    /// Makes a call as the pass's thread, which is one event more at the journal's end, and waits
+    /// for those who still read the copy that takes it in. The error is `OutOfTurn` exactly where
+    /// the pass's number is not its thread's next in the journal, or the pass has seen more events
+    /// than the journal has, and else, for want of memory, `Memory`. An error changes nothing.
+    pub fn commit<R: Wait>(
+        &mut self,
+        rt: &R,
+        pass: &mut Pass<B>,
+        call: &Call,
+    ) -> Result<Receipt, SubmitRefusal>
+        ensures receipt { IfOk result (λ receipt. receipt
+            ≡ receipt_of B.boot.limits self.old.journal pass.old call.now) }
         ensures journal { OnOk result
-            (self.new.journal ≡ with_event B.limits self.old.journal pass.old call.now) }
+            (self.new.journal ≡ with_event B.boot.limits self.old.journal pass.old call.now) }
         ensures seated { self.new.seated ≡ self.old.seated }
-        ensures pass { OnOk result (pass.new ≡ passed_on self.old.journal pass.old) }
+        ensures pass { OnOk result
+            (pass.new ≡ passed_on B.boot.limits self.old.journal pass.old call.now) }
+        ensures begins { OnOk result (IsPrefix pass.old.seen self.old.journal) }
 
         ensures turn { IsErrOf result SubmitRefusal.OutOfTurn
             ↔ (is_turn self.old.journal pass.old ≡ false) }
         ensures kept { OnErr result ((self.new ≡ self.old) × (pass.new ≡ pass.old)) }
-        ensures legal { IsLegal B.limits self.new.journal }
+        ensures legal { IsLegal B.boot.limits self.new.journal }
     {
-        self.guard.commit(pass, call)
+        self.guard.commit(rt, pass, call)
     }
 }
 

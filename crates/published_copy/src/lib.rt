@@ -1,29 +1,42 @@
-//! One kernel that many threads call, under one lock, with a journal of every call. A thread calls
-//! through its seat, of which it can have one, and each call is one event of the journal. The type under
-//! the lock promises that the journal is legal and that the kernel is in its state, whenever the lock is
-//! free; `Lent::commit` is exact. That a seat's calls come to the journal in the order in which they were
-//! made follows from the seat's number. Whoever closes the shared kernel has the book at its end. Who gets
-//! the lock next is left to the lock.
+//! One kernel that many threads call and read, in two copies beside the master. A thread calls
+//! through its seat, under one lock, and each call is one event of a journal; it reads the copy
+//! that is published, and waits for nobody. The journal is legal, and the master and the published
+//! copy are in its state; what a seat has seen is a beginning of the journal, which begins each
+//! that it sees later. A read's reply is the answer in the state of what its seat has then seen,
+//! and notes carry what one seat has seen to another. Who gets the lock next, and when a reader
+//! sees another's event that it was not told of, is left open.
 #![tactic(auto)]
 
 mod books;
 mod boots;
+mod copies;
+mod entries;
+mod fronts;
+mod lanes;
 mod lending;
+mod logs;
 mod naming;
+mod notes;
+mod ops;
+mod pairs;
 mod passes;
 mod places;
 mod receipts;
 mod refusals;
+mod rules;
 mod seats;
 mod tallies;
+mod tips;
+mod writers;
 
 pub use books::Book;
 pub use boots::{Blank, Shared};
 pub use kernel_rules::Event;
 pub use lending::Lent;
 pub use naming::Naming;
-pub use passes::{Pass, Standing};
+pub use notes::Note;
+pub use passes::Pass;
 pub use receipts::Receipt;
-pub use refusals::{SeatRefusal, SubmitRefusal};
+pub use refusals::{SeatRefusal, SubmitRefusal, Unread};
 pub use seats::Seat;
 pub use syscall_core::BootRefusal;

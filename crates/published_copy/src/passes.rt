@@ -1,49 +1,41 @@
 //! What a thread carries from call to call.
-ghost use Rattle.std.specs.Prelude.{◌≡◌, ◌+◌, ◌<◌, ◌^◌};
+ghost use Rattle.std.specs.Prelude.{◌≡◌, ◌+◌, ◌<◌, ◌^◌, length};
+ghost use Rattle.kernel_rules.specs.History.{IsLegal};
 ghost use Rattle.published_copy.specs.Turns.{turn};
 
+use crate::fronts::Front;
 use crate::naming::Naming;
 use crate::receipts::Receipt;
 use base::ObjectId;
 use kernel_rules::{Call, Event, Reply};
-use std::marker::{Model, PhantomData};
+use std::marker::Model;
 
-/// A thread, the number of its next event, and how many events it has seen.
-#[derive(Clone, Copy)]
-pub struct Standing {
-    thread: ObjectId,
-    number: u64,
-    length: usize,
-}
-
-/// What a thread carries from call to call. It can't be copied, so a thread has one. A contract sees it
-/// as its `Standing`.
+/// What a thread carries from call to call: the number of its next event, and the events that it
+/// has seen, which begin the boot's one list. It can't be copied, so a thread has one.
 #[derive(Drop)]
 pub struct Pass<B: Naming> {
-    turn: Standing,
-    of: PhantomData<B>,
+    thread: ObjectId,
+    number: u64,
+    front: Front<B>,
 }
 
 impl<B: Naming> Model for Pass<B> {
-    ghost use Rattle.published_copy.specs.declared.passes.Standing.{Standing};
+    ghost use Rattle.published_copy.specs.Turns.{Turn, turn};
 
-    ghost Value = { Standing };
+    ghost Value = { Turn };
 
-    ghost view = { λ p. p.turn };
+    ghost view = { λ p. turn p.thread p.number p.front };
 }
 
 impl<B: Naming> Pass<B> {
-    /// The pass of a thread whose next event has this number, and which has seen so many events.
-    pub(crate) fn new(thread: ObjectId, number: u64, length: usize) -> Pass<B>
-        ensures { result ≡ turn thread number length }
+    /// The pass of a thread whose next event has this number, and which has seen these events.
+    pub(crate) fn new(thread: ObjectId, number: u64, front: Front<B>) -> Pass<B>
+        ensures { result ≡ turn thread number front }
     {
         Pass {
-            turn: Standing {
-                thread,
-                number,
-                length,
-            },
-            of: PhantomData,
+            thread,
+            number,
+            front,
         }
     }
 
@@ -51,31 +43,36 @@ impl<B: Naming> Pass<B> {
     pub fn thread(&self) -> ObjectId
         ensures { result ≡ self.now.thread }
     {
-        self.turn.thread
+        self.thread
     }
 
     /// The number of its next event, from 1.
     pub fn number(&self) -> u64
         ensures { result ≡ self.now.number }
     {
-        self.turn.number
+        self.number
     }
 
-    /// How many events it has seen.
-    pub fn length(&self) -> usize
-        ensures { result ≡ self.now.length }
+    /// How many events it has seen. They are a legal list.
+    pub fn length(&self) -> u64
+        ensures length { result ≡ length self.now.seen }
+        ensures legal { IsLegal B.boot.limits self.now.seen }
     {
-        self.turn.length
+        self.front.len()
     }
 
-    /// It has seen so many events.
-    pub(crate) fn see(&mut self, length: usize)
-        ensures { self.new ≡ turn self.old.thread self.old.number length }
+    /// The events that it has seen.
+    pub(crate) fn front(&self) -> &Front<B>
+        ensures { result.now ≡ self.now.seen }
     {
-        self.turn = Standing {
-            length,
-            ..self.turn
-        };
+        &self.front
+    }
+
+    /// It has seen these events.
+    pub(crate) fn see(&mut self, front: Front<B>)
+        ensures { self.new ≡ turn self.old.thread self.old.number front }
+    {
+        self.front = front;
     }
 
     /// The event that its thread's call is.
@@ -93,20 +90,18 @@ impl<B: Naming> Pass<B> {
         }
     }
 
-    /// Its event was committed, and it has seen so many: the next number is one more.
-    pub(crate) fn pass_on(&mut self, reply: &Reply, length: usize) -> Receipt
+    /// Its event was committed, and it has seen these events, which are so many: the next number is
+    /// one more.
+    pub(crate) fn pass_on(&mut self, reply: &Reply, length: usize, front: Front<B>) -> Receipt
         requires { self.old.number + 1 < 2 ^ 64 }
         ensures reply { result.reply ≡ reply.now }
         ensures number { result.number ≡ self.old.number }
         ensures length { result.length ≡ length }
-        ensures pass { self.new ≡ turn self.old.thread (self.old.number + 1) length }
+        ensures pass { self.new ≡ turn self.old.thread (self.old.number + 1) front }
     {
-        let number = self.number();
-        self.turn = Standing {
-            number: number + 1,
-            length,
-            ..self.turn
-        };
+        let number = self.number;
+        self.number = number + 1;
+        self.front = front;
         Receipt {
             reply: *reply,
             number,

@@ -7,7 +7,7 @@ use std::alloc::Global;
 use std::marker::Model;
 
 /// How many seats a boot has.
-const SEATS: usize = 64;
+pub(crate) const SEATS: usize = 64;
 
 /// The threads that were given seats, and a meter for each seat that is left. A contract sees the
 /// threads.

@@ -1,5 +1,6 @@
-//! Why a seat is not opened, and why a call is not committed.
+//! Why a seat is not opened, a call is not committed, and a query is not answered.
 ghost use Rattle.std.specs.Prelude.{◌≡◌};
+ghost use Rattle.base.specs.declared.refusals.Refusal.TheVariants as is;
 ghost use Rattle.published_copy.specs.declared.refusals.SubmitRefusal.TheVariants.{Memory};
 ghost use Rattle.published_copy.specs.Refusals.{seat_refusal, submit_refusal};
 
@@ -61,5 +62,19 @@ impl From<NoMemory> for SubmitRefusal {
 
     fn from(_: NoMemory) -> SubmitRefusal {
         SubmitRefusal::Memory
+    }
+}
+
+/// Why a query is not answered: no reader is let in. Nothing has changed then.
+#[derive(Clone, Copy, PartialEq, Eq, Debug, Error)]
+#[error("unread")]
+pub struct Unread;
+
+impl Unread {
+    /// Its place in the table of refusals: 46.
+    pub fn refusal(self) -> Refusal
+        ensures { result ≡ is.Unread }
+    {
+        Refusal::Unread
     }
 }

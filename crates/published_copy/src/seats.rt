@@ -1,74 +1,140 @@
 //! A thread's place at a kernel that it shares.
-ghost use Rattle.std.specs.Prelude.{◌≡◌, ◌+◌, IfOk, IfErr, OnOk, OnErr};
-ghost use Rattle.published_copy.specs.Turns.{turn, IsSubmitted, IsNotSubmitted, IsRead};
+ghost use Rattle.std.specs.Prelude.{◌≡◌, IfOk, IfErr, OnErr};
+ghost use Rattle.published_copy.specs.Turns.{IsSubmitted, IsNotSubmitted, IsRead, IsLearnt};
+ghost use Rattle.published_copy.specs.Turns.{seat_with};
 
 use crate::books::Book;
+use crate::fronts::Front;
+use crate::lanes::Lane;
 use crate::naming::Naming;
+use crate::notes::Note;
 use crate::passes::Pass;
 use crate::receipts::Receipt;
-use crate::refusals::SubmitRefusal;
+use crate::refusals::{SubmitRefusal, Unread};
 use base::Meter;
 use kernel_rules::{Call, Query, Reply};
 use std::marker::Model;
 use std::sync::{Mutex, Wait};
 
-/// A thread's place at a kernel that it shares: the thread calls through it. A contract sees it as its
-/// pass.
+/// A thread's place at a kernel that it shares: the thread calls and reads through it. A contract
+/// sees it as its pass and the longest list of events that it was told of.
 #[derive(Drop)]
 pub struct Seat<'a, B: Naming> {
     lock: &'a Mutex<Book<B>>,
     pass: Pass<B>,
+    told: Front<B>,
+    lane: Option<Lane<B>>,
     meter: Meter,
 }
 
 impl<'a, B: Naming> Model for Seat<'a, B> {
-    ghost use Rattle.published_copy.specs.declared.passes.Standing.{Standing};
+    ghost use mathlib.Core.List.{IsPrefix};
+    ghost use Rattle.published_copy.specs.Turns.{SeatView, seat_with};
 
-    ghost Value = { Standing };
+    ghost Value = { SeatView };
 
-    ghost view = { λ s. s.pass };
+    ghost view = { λ s. seat_with s.pass s.told };
+
+    ghost invariant = { λ s. IsPrefix s.told s.pass.seen };
 }
 
 impl<'a, B: Naming> Seat<'a, B> {
-    /// The seat of a pass at the book under a lock.
-    pub(crate) fn new(lock: &'a Mutex<Book<B>>, pass: Pass<B>, meter: Meter) -> Seat<'a, B>
-        ensures { result ≡ pass }
+    /// The seat of a pass at the book under a lock, which was told of what the pass has seen.
+    #[tactic(auto, using(crate::proofs::Prefixes::prefix_self))]
+    pub(crate) fn new(
+        lock: &'a Mutex<Book<B>>,
+        pass: Pass<B>,
+        lane: Lane<B>,
+        meter: Meter,
+    ) -> Seat<'a, B>
+        ensures { result ≡ seat_with pass pass.seen }
     {
-        Seat { lock, pass, meter }
+        let told = pass.front().again();
+        Seat {
+            lock,
+            pass,
+            told,
+            lane: Some(lane),
+            meter,
+        }
     }
 }
 
 impl<B: Naming> Seat<'_, B> {
     /// Makes a call, which waits for the lock and is then one event of the journal: the seat's next
-    /// number's. An error changes nothing; `Memory` is want of memory, and `OutOfTurn` comes where
-    /// `Lent::commit` says: another pass of the thread, one of another boot, made its next event.
+    /// number's, after all that the seat had seen. An error changes nothing; `Memory` is want of
+    /// memory, and `OutOfTurn` comes where `Lent::commit` says.
+    #[tactic(auto, using(crate::proofs::Prefixes::prefix_self))]
     pub fn submit<R: Wait>(&mut self, rt: &R, call: &Call) -> Result<Receipt, SubmitRefusal>
         ensures done { IfOk result
-            (λ receipt. IsSubmitted B.limits self.old call.now receipt self.new) }
+            (λ receipt. IsSubmitted B.boot.limits self.old call.now receipt self.new) }
         ensures refused { IfErr result
-            (λ refusal. IsNotSubmitted B.limits self.old refusal) }
+            (λ refusal. IsNotSubmitted B.boot.limits self.old.pass refusal) }
         ensures kept { OnErr result (self.new ≡ self.old) }
     {
-        self.lock.lock(rt).commit(&mut self.pass, call)
+        let receipt = self.lock.lock(rt).commit(rt, &mut self.pass, call)?;
+        self.told = self.pass.front().again();
+        Ok(receipt)
     }
 
-    /// Asks, which waits for the lock and is no event. The seat has then seen the whole journal. It takes
-    /// no memory.
-    pub fn read<R: Wait>(&mut self, rt: &R, query: &Query) -> Reply
-        ensures { IsRead B.limits self.old query.now result self.new }
+    /// Asks the copy that is published, which is no event, and no step behind what the seat has
+    /// seen. It waits for nobody and takes no memory. `Unread` comes where no reader is let in any
+    /// more, and changes nothing.
+    #[tactic(auto, using(crate::proofs::Prefixes::prefix_trans))]
+    pub fn read(&mut self, query: &Query) -> Result<Reply, Unread>
+        ensures done { IfOk result
+            (λ reply. IsRead B.boot.limits self.old query.now reply self.new) }
+        ensures kept { OnErr result (self.new ≡ self.old) }
     {
-        self.lock
-            .lock(rt)
-            .ask(&mut self.pass, query, &mut self.meter)
+        let Some(lane) = self.lane.take() else {
+            return Err(Unread);
+        };
+        let (lane, answer) = lane.read(self.pass.thread(), query, &mut self.meter);
+        self.lane = Some(lane);
+        let Some((reply, front)) = answer else {
+            return Err(Unread);
+        };
+        if !front.has(self.pass.front()) {
+            return Err(Unread);
+        }
+        let _length = front.len();
+        self.pass.see(front);
+        Ok(reply)
+    }
+
+    /// A note of what the seat had by its opening, its submits and the notes that it learnt. What
+    /// it has seen by reads alone is not in it.
+    pub fn note(&self) -> Note<B>
+        ensures { result ≡ self.now.told }
+    {
+        Note::new(self.told.again())
+    }
+
+    /// The seat has then seen what the note has.
+    #[tactic(auto, using(crate::proofs::Prefixes::prefix_self, crate::proofs::Prefixes::prefix_trans))]
+    pub fn learn(&mut self, note: &Note<B>)
+        ensures { IsLearnt self.old note.now self.new }
+    {
+        let front = note.front();
+        if front.has(self.pass.front()) {
+            self.told = front.again();
+            self.pass.see(front.again());
+            return;
+        }
+        if front.has(&self.told) {
+            self.told = front.again();
+        }
     }
 
     /// The seat's pass, for a caller that commits to a book that it was lent.
     pub fn into_pass(self) -> Pass<B>
-        ensures { result ≡ self.entry }
+        ensures { result ≡ self.entry.pass }
     {
         let Seat {
             lock: _,
             pass,
+            told: _,
+            lane: _,
             meter: _,
         } = self;
         pass

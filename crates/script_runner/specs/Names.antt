@@ -1,8 +1,11 @@
 -- The names of a script, as the entries of a map.
-use Rattle.std.specs.Prelude.{ℕ, List, [], ◌∷◌, ◌++◌, map, Option, Some, None}
+use Rattle.std.specs.Prelude.{◌≡◌, ℕ, List, [], ◌∷◌, ◌++◌, map, nat_eq, Option, Some, None}
 use Rattle.call_text.specs.declared.known_names.Named.{Named}
 use Rattle.call_text.specs.declared.known_names.Value.{Value}
-use Rattle.call_text.specs.Known.{value_of}
+use Rattle.call_text.specs.declared.known_names.Value.TheVariants.{Object, Category}
+use Rattle.call_text.specs.Known.{value_of, name_of}
+use Rattle.indexmap.specs.IndexMap.{get}
+use Rattle.script_runner.specs.declared.names.FirstNames.{FirstNames}
 
 -- an entry as a name with its value
 abbrev pub named : List ℕ × Value → Named
@@ -25,3 +28,12 @@ bound n names = unless_bound (value_of n.name names) n names
 abbrev pub all_bound : List Named → List Named → List Named
 all_bound [] names = names
 all_bound (n ∷ others) names = all_bound others (bound n names)
+
+-- the name that is noted for a value
+abbrev pub first_name : FirstNames → Value → Option (List ℕ)
+first_name first (Object id) = get nat_eq first.objects id
+first_name first (Category category) = get nat_eq first.categories category.0
+
+-- the name that is noted for a value is the first in the list that is bound to it
+abbrev pub AreFirst : FirstNames → List Named → Type 0
+AreFirst first names = (value : Value) → first_name first value ≡ name_of value names

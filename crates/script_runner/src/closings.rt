@@ -6,6 +6,7 @@ use base::{Meter, NoMemory};
 use kernel_rules::{Event, Tables};
 use published_copy::{Book, Naming};
 use std::alloc::Global;
+use std::sync::Wait;
 
 /// A journal, with the tables of the state that it leads to.
 #[derive(Drop)]
@@ -16,14 +17,18 @@ pub struct Closing {
     pub tables: Tables,
 }
 
-/// What stands in a book that was closed: its whole journal.
-pub fn closing_of<B: Naming>(alloc: Global, book: Book<B>) -> Result<Closing, NoMemory>
+/// What stands in a book that was closed: its whole journal. The copies' memory is given back.
+pub fn closing_of<B: Naming, R: Wait>(
+    rt: &R,
+    alloc: Global,
+    book: Book<B>,
+) -> Result<Closing, NoMemory>
     ensures journal { IfOk result (λ closing. closing.events.items ≡ book.journal) }
     ensures closing { IfOk result
-        (λ closing. IsClosing B.limits closing.events.items closing.tables) }
+        (λ closing. IsClosing B.boot.limits closing.events.items closing.tables) }
 {
     let mut meter = Meter::new(alloc)?;
     let tables = book.kernel().tables(&mut meter)?;
-    let events = book.into_events();
+    let events = book.into_events(rt);
     Ok(Closing { events, tables })
 }

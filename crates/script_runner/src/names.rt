@@ -1,7 +1,10 @@
 //! The names of a script, with what they are bound to.
-ghost use Rattle.std.specs.Prelude.{◌≡◌, ◌++◌, [], IfOk, OnOk, OnErr};
+ghost use Rattle.std.specs.Prelude.{◌≡◌, ◌==◌, ◌++◌, ℕ, List, [], ◌∷◌, IfOk, OnOk, OnErr, nat_eq, if◌then◌else◌};
+ghost use Rattle.std.specs.Option.{option_or};
+ghost use Rattle.call_text.specs.declared.known_names.Named.{Named as NamedValue};
 ghost use Rattle.call_text.specs.Known.{start_values};
-ghost use Rattle.script_runner.specs.Names.{bound, all_bound};
+ghost use Rattle.indexmap.specs.IndexMap.{get, IsUnchanged};
+ghost use Rattle.script_runner.specs.Names.{bound, all_bound, first_name, AreFirst};
 
 use call_text::{Known, Named, Value, start_names};
 use indexmap::IndexMap;
@@ -14,16 +17,19 @@ use text_words::Name;
 #[derive(Drop)]
 pub struct BoundNames {
     values: IndexMap<Name, Value>,
+    first_names: FirstNames,
 }
 
 impl Model for BoundNames {
     ghost use Rattle.std.specs.Prelude.{List};
     ghost use Rattle.call_text.specs.declared.known_names.Named.{Named};
-    ghost use Rattle.script_runner.specs.Names.{named_of};
+    ghost use Rattle.script_runner.specs.Names.{named_of, AreFirst};
 
     ghost Value = { List Named };
 
     ghost view = { λ a. named_of a.values.entries };
+
+    ghost invariant = { λ a. AreFirst a.first_names (named_of a.values.entries) };
 }
 
 impl BoundNames {
@@ -33,6 +39,7 @@ impl BoundNames {
     {
         BoundNames {
             values: IndexMap::new(alloc),
+            first_names: FirstNames::none(alloc),
         }
     }
 
@@ -41,9 +48,7 @@ impl BoundNames {
         ensures { IfOk result (λ names. names ≡ start_values) }
     {
         let [root, boot, dev] = start_names();
-        let mut names = BoundNames {
-            values: IndexMap::new(alloc),
-        };
+        let mut names = BoundNames::none(alloc);
         names.bind(&root)?;
         names.bind(&boot)?;
         names.bind(&dev)?;
@@ -57,6 +62,9 @@ impl BoundNames {
         ensures err { OnErr result (self.new ≡ self.old) }
     {
         if !self.values.contains_key(&named.name) {
+            // With room for the name, the insertion cannot fail once the name is noted.
+            self.values.reserve(1)?;
+            self.first_names.note(named)?;
             self.values.insert(named.name, named.value)?;
         }
         Ok(())
@@ -84,13 +92,61 @@ impl Known for BoundNames {
     }
 
     fn name_of(&self, value: &Value) -> Option<Name> {
-        for (name, other) in &self.values {
-            if other.is_same(value) {
-                return Some(*name);
+        self.first_names.name_of(value)
+    }
+}
+
+/// The first name that is bound to each object and to each category, by their numbers.
+#[derive(Drop)]
+struct FirstNames {
+    objects: IndexMap<u64, Name>,
+    categories: IndexMap<u64, Name>,
+}
+
+impl FirstNames {
+    /// No names. It takes no memory before one is noted.
+    fn none(alloc: Global) -> FirstNames
+        ensures { AreFirst result [] }
+    {
+        FirstNames {
+            objects: IndexMap::new(alloc),
+            categories: IndexMap::new(alloc),
+        }
+    }
+
+    /// Notes a name that is bound after all others. An `Err` changes nothing.
+    fn note(&mut self, named: &Named) -> Result<(), AllocError>
+        ensures ok { OnOk result ((names : List NamedValue) → AreFirst self.old names → AreFirst self.new (names ++ named.now ∷ [])) }
+        ensures err { OnErr result ((names : List NamedValue) → AreFirst self.old names → AreFirst self.new names) }
+    {
+        match &named.value {
+            Value::Object(id) => note_first(&mut self.objects, id.number(), &named.name),
+            Value::Category(category) => {
+                note_first(&mut self.categories, category.0, &named.name)
             }
         }
-        None
     }
+
+    /// The first name that is bound to the value.
+    fn name_of(&self, value: &Value) -> Option<Name>
+        ensures { result ≡ first_name self.now value.now }
+    {
+        match value {
+            Value::Object(id) => self.objects.get(&id.number()).copied(),
+            Value::Category(category) => self.categories.get(&category.0).copied(),
+        }
+    }
+}
+
+/// Notes the name for the number. A number that has a name keeps it. An `Err` changes nothing.
+fn note_first(names: &mut IndexMap<u64, Name>, number: u64, name: &Name) -> Result<(), AllocError>
+    ensures ok { OnOk result ((n : ℕ) → get nat_eq names.new n ≡ option_or (get nat_eq names.old n) (if number == n then Some name.now else None)) }
+    ensures err { OnErr result (IsUnchanged names.old names.new) }
+{
+    if !names.contains_key(&number) {
+        names.insert(number, *name)?;
+    }
+    Ok(())
 }
 
 /// The names that a worker knows: what its own lines bound in this phase, and what was bound in earlier ones.

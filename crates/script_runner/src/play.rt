@@ -13,7 +13,7 @@ use base::{Limits, ObjectId};
 use call_text::{Known, Phase, Script, Value};
 use indexmap::IndexSet;
 use kernel_rules::{Event, Tables};
-use published_copy::{Blank, Naming, Shared};
+use published_copy::{Blank, Naming, Note, Shared};
 use std::alloc::{AllocError, Global};
 use std::marker::Brand;
 use std::sync::{Mutex, Wait};
@@ -159,6 +159,43 @@ fn settle<B: Naming, R: Wait>(
     Ok(())
 }
 
+/// What each worker that has a seat tells the others.
+fn notes_of<B: Naming, R: Wait>(
+    rt: &R,
+    alloc: Global,
+    played: &[Mutex<Worker<'_, B>>],
+) -> Result<Vec<Note<B>>, AllocError> {
+    let mut notes = Vec::new(alloc);
+    for worker in played {
+        if let Some(seat) = &worker.lock(rt).seat {
+            notes.push(seat.note())?;
+        }
+    }
+    Ok(notes)
+}
+
+/// A worker's seat, where it has one, has then seen what the notes have.
+fn learn_all<B: Naming>(worker: &mut Worker<'_, B>, notes: &[Note<B>]) {
+    if let Some(seat) = &mut worker.seat {
+        for note in notes {
+            seat.learn(note);
+        }
+    }
+}
+
+/// Every seat learns what every other tells.
+fn tell_all<B: Naming, R: Wait>(
+    rt: &R,
+    alloc: Global,
+    played: &[Mutex<Worker<'_, B>>],
+) -> Result<(), AllocError> {
+    let notes = notes_of(rt, alloc, played)?;
+    for worker in played {
+        learn_all(&mut worker.lock(rt), notes.as_slice());
+    }
+    Ok(())
+}
+
 /// The workers of a script, none with a seat.
 fn idle<'s, B: Naming>(
     alloc: Global,
@@ -186,7 +223,8 @@ fn play_phase<'s, B: Naming + Send, R: Threads + Wait + Sync, G: Gate>(
     if !play_at_once(rt, gate, phase, &parts, &cast, played, names) {
         return Err(PlayFault::Memory);
     }
-    settle(rt, alloc, &parts, played, names)
+    settle(rt, alloc, &parts, played, names)?;
+    Ok(tell_all(rt, alloc, played)?)
 }
 
 /// Plays the phases one after another, and makes the output.
@@ -223,12 +261,12 @@ fn play_booted<B: Naming + Send, R: Threads + Wait + Sync, G: Gate>(
     script: &Script,
     gate: &G,
 ) -> Result<Played, PlayFault>
-    requires { blank ≡ B.limits }
-    ensures { IfOk result (λ played. IsClosing B.limits played.events.items played.tables) }
+    requires { blank ≡ B.boot }
+    ensures { IfOk result (λ played. IsClosing B.boot.limits played.events.items played.tables) }
 {
     let shared = blank.open::<B>();
     let output = play_phases(rt, alloc, &shared, script, gate)?;
-    let Closing { events, tables } = closing_of(alloc, shared.close())?;
+    let Closing { events, tables } = closing_of(rt, alloc, shared.close())?;
     Ok(Played {
         output,
         events,
@@ -237,11 +275,11 @@ fn play_booted<B: Naming + Send, R: Threads + Wait + Sync, G: Gate>(
 }
 
 /// Plays a script on a newly booted kernel: its phases one after another, in each the workers at once, each one with a
-/// seat in a thread of its own. A name is known to the worker that bound it from its next line on, and to all others from
-/// the next phase on. The replies print the names of the script as they are bound when all is played, and `#` and the
-/// number of what has none. It waits for all threads that it starts. Nothing is printed after a fault. The journal and
-/// the tables are the book's at the end: the journal is legal, and the tables are those of the state that it leads to. The
-/// limits are then in range.
+/// seat in a thread of its own; after each phase every seat has seen what every other was told of. A name is known to the
+/// worker that bound it from its next line on, and to all others from the next phase on. The replies print the names of
+/// the script as they are bound when all is played, and `#` and the number of what has none. It waits for all threads that
+/// it starts. Nothing is printed after a fault. The journal and the tables are the book's at the end: the journal is
+/// legal, and the tables are those of the state that it leads to. The limits are then in range.
 pub fn play_all<R: Threads + Wait + Sync, G: Gate>(
     rt: &R,
     alloc: Global,

@@ -56,6 +56,14 @@ fn submitted<B: Naming, R: Wait>(
     }
 }
 
+/// What a query answers, or that it is not answered.
+fn read<B: Naming>(seat: &mut Seat<'_, B>, query: &Query) -> Reply {
+    match seat.read(query) {
+        Ok(reply) => reply,
+        Err(unread) => Reply::Refused(unread.refusal()),
+    }
+}
+
 /// What a line made, where its call made something.
 fn made(answer: &Answer) -> Option<Value> {
     match answer {
@@ -101,7 +109,7 @@ impl<'s, B: Naming> Worker<'s, B> {
         match resolve(&line.call, &names) {
             Err(name) => Ok(Answer::Unbound(name)),
             Ok(Asked::Write(call)) => submitted(rt, seat, &call),
-            Ok(Asked::Read(query)) => Ok(Answer::Replied(seat.read(rt, &query))),
+            Ok(Asked::Read(query)) => Ok(Answer::Replied(read(seat, &query))),
         }
     }
 

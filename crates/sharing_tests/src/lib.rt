@@ -1,6 +1,6 @@
-//! Tests of the kernel that many threads call: seats and books where they answer and where they
-//! refuse, turns, threads that call at once, and each call that takes memory made again where there
-//! was none.
+//! Tests of the kernel that many threads call and read: seats, notes and books where they answer
+//! and where they refuse, threads that read while one writes and while the lock is held, and each
+//! call that takes memory made again where there was none.
 #![tactic(auto)]
 
 /// This crate has tests alone.
@@ -9,10 +9,12 @@ pub fn sharing_is_tested() {}
 #[cfg(test)]
 mod memory;
 #[cfg(test)]
+mod notes;
+#[cfg(test)]
+mod readers;
+#[cfg(test)]
 mod samples;
 #[cfg(test)]
 mod seats;
 #[cfg(test)]
 mod threads;
-#[cfg(test)]
-mod turns;

@@ -1,7 +1,10 @@
 //! Each call without memory.
 ghost use Rattle.std.specs.Prelude.{◌≡◌, IfOk};
 
-use crate::samples::{is_refusal, open_segment};
+use crate::samples::{
+    asked, committed, event_count, first_byte, is_made, is_shown_own, open_segment, passed, seated,
+    submitted,
+};
 use base::ObjectId;
 use kernel_rules::{Call, Query, Reply};
 use published_copy::{
@@ -12,7 +15,7 @@ use std::marker::Brand;
 use std::process::Abort;
 use std::sync::Wait;
 use std::test::Fail;
-use test_support::{MOST_PAGES, boot_thread, in_root, is_object, new_thread};
+use test_support::{MOST_PAGES, boot_thread, in_root, new_thread};
 
 /// A call that is made again where there was no memory. None where the refusal was another one, or
 /// changed the journal.
@@ -22,66 +25,136 @@ fn submit_again<B: Naming, R: Wait>(
     seat: &mut Seat<'_, B>,
     call: &Call,
 ) -> Option<Receipt> {
-    let events = shared.book(rt).events().len();
-    match seat.submit(rt, call) {
+    let events = event_count(rt, shared);
+    match submitted(rt, seat, call) {
         Ok(receipt) => Some(receipt),
-        Err(SubmitRefusal::Memory) if shared.book(rt).events().len() == events => {
-            seat.submit(rt, call).ok()
+        Err(SubmitRefusal::Memory) if event_count(rt, shared) == events => {
+            submitted(rt, seat, call).ok()
         }
         Err(_) => None,
     }
 }
 
-/// The same under a lent book.
-fn commit_again<B: Naming>(
+/// Whether a call, made again where there was no memory, made this object as this event.
+fn is_submitted<B: Naming, R: Wait>(
+    rt: &R,
+    shared: &Shared<B>,
+    seat: &mut Seat<'_, B>,
+    call: &Call,
+    id: u64,
+    number: u64,
+    length: usize,
+) -> bool {
+    match submit_again(rt, shared, seat, call) {
+        Some(receipt) => is_made(&receipt, id, number, length),
+        None => false,
+    }
+}
+
+/// A call under a lent book, made again where there was no memory.
+fn commit_again<B: Naming, R: Wait>(
+    rt: &R,
     book: &mut Lent<'_, B>,
     pass: &mut Pass<B>,
     call: &Call,
 ) -> Option<Receipt> {
     let events = book.events().len();
-    match book.commit(pass, call) {
+    match committed(rt, book, pass, call) {
         Ok(receipt) => Some(receipt),
         Err(SubmitRefusal::Memory) if book.events().len() == events => {
-            book.commit(pass, call).ok()
+            committed(rt, book, pass, call).ok()
         }
         Err(_) => None,
     }
 }
 
-/// Whether a receipt has this object, number and length.
-fn is_made(receipt: &Option<Receipt>, id: u64, number: u64, length: usize) -> bool {
-    match receipt {
-        Some(receipt) => {
-            is_object(receipt.reply, id) && receipt.number == number && receipt.length == length
-        }
+/// Whether that call made this object as this event.
+fn is_committed<B: Naming, R: Wait>(
+    rt: &R,
+    book: &mut Lent<'_, B>,
+    pass: &mut Pass<B>,
+    id: u64,
+    number: u64,
+    length: usize,
+) -> bool {
+    match commit_again(rt, book, pass, &open_segment()) {
+        Some(receipt) => is_made(&receipt, id, number, length),
         None => false,
     }
 }
 
-fn want_memory_at<B: Naming, R: Wait + Abort>(rt: &R, shared: &Shared<B>) -> Result<(), Fail> {
-    let mut seat = shared.open_seat(rt, boot_thread())?;
+/// Whether a segment has one page, for a seat.
+fn is_one_page<B: Naming>(seat: &mut Seat<'_, B>, id: u64) -> bool {
+    matches!(
+        asked(seat, &Query::SegmentLen { entry: in_root(id) }),
+        Ok(Reply::Pages(1))
+    )
+}
+
+// Nine segments, each of which is read once it is made.
+fn make_segments<B: Naming, R: Wait + Abort>(
+    rt: &R,
+    shared: &Shared<B>,
+    seat: &mut Seat<'_, B>,
+) -> Result<(), Fail> {
+    assert!(rt; is_shown_own(seat));
     for number in 1..10u64 {
-        let made = submit_again(rt, shared, &mut seat, &open_segment());
-        assert!(rt; is_made(&made, number + 3, number, number as usize));
-    }
-    let made = submit_again(rt, shared, &mut seat, &new_thread());
-    assert!(rt; is_made(&made, 13, 10, 10));
-    let mut other = shared.open_seat(rt, ObjectId::new(13))?;
-    let made = submit_again(rt, shared, &mut other, &open_segment());
-    assert!(rt; is_made(&made, 14, 1, 11));
-    let query = Query::SegmentLen { entry: in_root(14) };
-    assert!(rt; matches!(seat.read(rt, &query), Reply::Pages(1)));
-    let mut pass = seat.into_pass();
-    let mut book = shared.book(rt);
-    for number in 11..20u64 {
-        let made = commit_again(&mut book, &mut pass, &open_segment());
-        assert!(rt; is_made(&made, number + 4, number, number as usize + 1));
+        let length = number as usize;
+        assert!(rt;
+            is_submitted(
+                rt,
+                shared,
+                seat,
+                &open_segment(),
+                number + 3,
+                number,
+                length
+            )
+        );
+        assert!(rt; first_byte(seat, number + 3) == Some(0));
     }
     Ok(())
 }
 
+// A thread and a seat for it, which makes a segment that the first seat learns of.
+fn make_another_seat<B: Naming, R: Wait + Abort>(
+    rt: &R,
+    shared: &Shared<B>,
+    seat: &mut Seat<'_, B>,
+) -> Result<(), Fail> {
+    assert!(rt; is_submitted(rt, shared, seat, &new_thread(), 13, 10, 10));
+    let mut other = seated(rt, shared, ObjectId::new(13))?;
+    assert!(rt; is_shown_own(&mut other));
+    assert!(rt; is_submitted(rt, shared, &mut other, &open_segment(), 14, 1, 11));
+    seat.learn(&other.note());
+    assert!(rt; is_one_page(seat, 14));
+    Ok(())
+}
+
+// Nine segments more, by calls under a lent book.
+fn make_under_book<B: Naming, R: Wait + Abort>(
+    rt: &R,
+    shared: &Shared<B>,
+    mut pass: Pass<B>,
+) -> Result<(), Fail> {
+    let mut book = shared.book(rt);
+    for number in 11..20u64 {
+        let length = number as usize + 1;
+        assert!(rt; is_committed(rt, &mut book, &mut pass, number + 4, number, length));
+    }
+    Ok(())
+}
+
+// Each read is answered, also after a call that found no memory and a seat that was opened then.
+fn want_memory_at<B: Naming, R: Wait + Abort>(rt: &R, shared: &Shared<B>) -> Result<(), Fail> {
+    let mut seat = seated(rt, shared, boot_thread())?;
+    make_segments(rt, shared, &mut seat)?;
+    make_another_seat(rt, shared, &mut seat)?;
+    make_under_book(rt, shared, passed(seat))
+}
+
 fn want_memory<B: Naming, R: Wait + Abort>(rt: &R, blank: Blank) -> Result<(), Fail>
-    requires { blank ≡ B.limits }
+    requires { blank ≡ B.boot }
 {
     let shared = blank.open::<B>();
     want_memory_at(rt, &shared)
@@ -89,7 +162,7 @@ fn want_memory<B: Naming, R: Wait + Abort>(rt: &R, blank: Blank) -> Result<(), F
 
 /// A boot, made once more where there was no memory for it.
 fn boot_again(alloc: Global) -> Result<Blank, BootRefusal>
-    ensures { IfOk result (λ blank. blank ≡ MOST_PAGES) }
+    ensures { IfOk result (λ blank. blank.limits ≡ MOST_PAGES) }
 {
     match Blank::boot(alloc, &MOST_PAGES) {
         Err(BootRefusal::Unavailable) => Blank::boot(alloc, &MOST_PAGES),
@@ -105,48 +178,27 @@ fn want_of_memory_changes_nothing(rt: HostRuntime) -> Result<(), Fail> {
     want_memory::<Brand, HostRuntime>(&rt, blank)
 }
 
-/// A pass of one boot commits at the other, and where there is no memory for it, its thread may still be
-/// given a seat there.
-fn commit_there<B: Naming, R: Wait + Abort>(
-    rt: &R,
-    one: &Shared<B>,
-    other: &Shared<B>,
-) -> Result<(), Fail> {
-    let mut boot = one.open_seat(rt, boot_thread())?;
-    let made = submit_again(rt, one, &mut boot, &new_thread());
-    assert!(rt; is_made(&made, 4, 1, 1));
-    let mut here = other.open_seat(rt, boot_thread())?;
-    let made = submit_again(rt, other, &mut here, &new_thread());
-    assert!(rt; is_made(&made, 4, 1, 1));
-    let mut pass = one.open_seat(rt, ObjectId::new(4))?.into_pass();
-    let made = other.book(rt).commit(&mut pass, &open_segment());
-    match made {
-        Ok(_) => assert!(rt; is_refusal(&other.open_seat(rt, ObjectId::new(4)), 41)),
-        Err(refusal) => {
-            assert!(rt; refusal == SubmitRefusal::Memory);
-            assert!(rt; other.open_seat(rt, ObjectId::new(4)).is_ok());
-        }
-    }
+// A first call finds no memory, and then a seat is opened, which reads all the same.
+fn open_after_at<B: Naming, R: Wait + Abort>(rt: &R, shared: &Shared<B>) -> Result<(), Fail> {
+    let mut boot = seated(rt, shared, boot_thread())?;
+    assert!(rt; is_submitted(rt, shared, &mut boot, &new_thread(), 4, 1, 1));
+    let _ = submitted(rt, &mut boot, &Call::CatCreate);
+    let mut other = seated(rt, shared, ObjectId::new(4))?;
+    assert!(rt; is_shown_own(&mut other));
+    assert!(rt; is_shown_own(&mut boot));
     Ok(())
 }
 
-fn commit_at_another<B: Naming, R: Wait + Abort>(
-    rt: &R,
-    one: Blank,
-    other: Blank,
-) -> Result<(), Fail>
-    requires one { one ≡ B.limits }
-    requires other { other ≡ B.limits }
+fn open_after<B: Naming, R: Wait + Abort>(rt: &R, blank: Blank) -> Result<(), Fail>
+    requires { blank ≡ B.boot }
 {
-    let one = one.open::<B>();
-    let other = other.open::<B>();
-    commit_there(rt, &one, &other)
+    let shared = blank.open::<B>();
+    open_after_at(rt, &shared)
 }
 
-// A commit that finds no memory gives no thread a place.
+// Seats are opened and read where a call found no memory just before.
 #[test]
-fn want_of_memory_seats_no_one(rt: HostRuntime) -> Result<(), Fail> {
-    let one = boot_again(rt.alloc())?;
-    let other = boot_again(rt.alloc())?;
-    commit_at_another::<Brand, HostRuntime>(&rt, one, other)
+fn want_of_memory_lets_readers_in(rt: HostRuntime) -> Result<(), Fail> {
+    let blank = boot_again(rt.alloc())?;
+    open_after::<Brand, HostRuntime>(&rt, blank)
 }

@@ -1,51 +1,114 @@
 //! Seats and books on their happy paths, and where they refuse.
 ghost use Rattle.std.specs.Prelude.{◌≡◌};
 
-use crate::samples::{is_refusal, open_segment, write};
+use crate::samples::{
+    asked, committed, first_bytes, is_at, is_done_as, is_made, is_refused, open_segment, passed,
+    seated, submitted, write,
+};
 use base::{Data, Meter, ObjectId, Refusal};
-use kernel_rules::{Call, Query, Reply};
-use published_copy::{Blank, BootRefusal, Naming, SeatRefusal, Shared, SubmitRefusal};
+use kernel_rules::{Call, Event, Reply};
+use published_copy::{
+    Blank, BootRefusal, Naming, Pass, Receipt, Seat, SeatRefusal, Shared, SubmitRefusal, Unread,
+};
 use std::marker::Brand;
 use std::process::Abort;
 use std::sync::Wait;
 use std::test::Fail;
+use syscall_core::Kernel;
 use test_support::{MOST_PAGES, boot_thread, in_root, is_data, is_object, new_thread};
+
+// A segment is made and written through a seat, and read.
+fn use_seat<B: Naming, R: Wait + Abort>(rt: &R, seat: &mut Seat<'_, B>) -> Result<(), Fail> {
+    let made = submitted(rt, seat, &open_segment())?;
+    assert!(rt; is_made(&made, 4, 1, 1));
+    let written = submitted(rt, seat, &write(4, Data::from_slice(b"ok")))?;
+    assert!(rt; is_done_as(&written, 2, 2));
+    let read = asked(seat, &first_bytes(4, 2))?;
+    assert!(rt; is_data(read, b"ok"));
+    Ok(())
+}
+
+/// The pass of a seat that was used so.
+fn used_pass<B: Naming, R: Wait + Abort>(rt: &R, shared: &Shared<B>) -> Result<Pass<B>, Fail> {
+    let mut seat = seated(rt, shared, boot_thread())?;
+    use_seat(rt, &mut seat)?;
+    Ok(passed(seat))
+}
+
+/// Whether a receipt tells that there was no such entry, as this event.
+fn has_no_entry(receipt: &Receipt, number: u64, length: usize) -> bool {
+    matches!(receipt.reply, Reply::Refused(Refusal::NoEntry))
+        && receipt.number == number
+        && receipt.length == length
+}
+
+/// Whether the last event is the boot thread's third.
+fn ends_with_third(events: &[Event]) -> bool {
+    match events.last() {
+        Some(event) => event.thread == boot_thread() && event.number == 3,
+        None => false,
+    }
+}
+
+/// Whether the boot thread is one, and the segment is not.
+fn has_threads(kernel: &Kernel, meter: &mut Meter) -> bool {
+    kernel.is_thread(boot_thread(), meter) && !kernel.is_thread(ObjectId::new(4), meter)
+}
 
 fn use_one_boot<B: Naming, R: Wait + Abort>(
     rt: &R,
     shared: &Shared<B>,
     meter: &mut Meter,
 ) -> Result<(), Fail> {
-    let mut seat = shared.open_seat(rt, boot_thread())?;
-    let made = seat.submit(rt, &open_segment())?;
-    assert!(rt; is_object(made.reply, 4) && made.number == 1 && made.length == 1);
-    let written = seat.submit(rt, &write(4, Data::from_slice(b"ok")))?;
-    assert!(rt; matches!(written.reply, Reply::Done) && written.number == 2 && written.length == 2);
-    let query = Query::SegmentRead {
-        entry: in_root(4),
-        offset: 0,
-        count: 2,
-    };
-    let read = seat.read(rt, &query);
-    assert!(rt; is_data(read, b"ok"));
-    let mut pass = seat.into_pass();
-    assert!(rt; pass.thread() == boot_thread() && pass.number() == 3 && pass.length() == 2);
+    let mut pass = used_pass(rt, shared)?;
+    assert!(rt; pass.thread() == boot_thread() && is_at(&pass, 3, 2));
     let mut book = shared.book(rt);
-    let receipt = book.commit(&mut pass, &write(5, Data::from_slice(b"no")))?;
-    assert!(rt; matches!(receipt.reply, Reply::Refused(Refusal::NoEntry)));
-    assert!(rt; receipt.number == 3 && receipt.length == 3 && pass.number() == 4);
-    assert!(rt; book.limits() == &MOST_PAGES && book.events().len() == 3);
-    assert!(rt; book.events()[2].thread == boot_thread() && book.events()[2].number == 3);
-    assert!(rt; book.kernel().is_thread(boot_thread(), meter));
-    assert!(rt; !book.kernel().is_thread(ObjectId::new(4), meter));
+    let receipt = committed(rt, &mut book, &mut pass, &write(5, Data::from_slice(b"no")))?;
+    assert!(rt; has_no_entry(&receipt, 3, 3) && is_at(&pass, 4, 3));
+    assert!(rt; book.limits() == &MOST_PAGES);
+    assert!(rt; book.events().len() == 3 && ends_with_third(book.events()));
+    assert!(rt; has_threads(book.kernel(), meter));
     Ok(())
 }
 
 fn use_boot<B: Naming, R: Wait + Abort>(rt: &R, blank: Blank, meter: &mut Meter) -> Result<(), Fail>
-    requires { blank ≡ B.limits }
+    requires { blank ≡ B.boot }
 {
     let shared = blank.open::<B>();
     use_one_boot(rt, &shared, meter)
+}
+
+/// Whether they are two events of one thread and then the first one of the thread that it made.
+fn are_three(events: &[Event]) -> bool {
+    match events {
+        [one, other, last] => {
+            one.number == 1
+                && other.number == 2
+                && last.thread == ObjectId::new(5)
+                && last.number == 1
+        }
+        _ => false,
+    }
+}
+
+// Two calls under lent books, by the pass of the boot thread's seat.
+fn commit_two<B: Naming, R: Wait>(rt: &R, shared: &Shared<B>) -> Result<(), Fail> {
+    let mut pass = passed(seated(rt, shared, boot_thread())?);
+    committed(rt, &mut shared.book(rt), &mut pass, &open_segment())?;
+    committed(rt, &mut shared.book(rt), &mut pass, &new_thread())?;
+    Ok(())
+}
+
+// One call through the seat of the thread that was made.
+fn submit_one<B: Naming, R: Wait>(rt: &R, shared: &Shared<B>) -> Result<(), Fail> {
+    let mut other = seated(rt, shared, ObjectId::new(5))?;
+    submitted(rt, &mut other, &Call::CatCreate)?;
+    Ok(())
+}
+
+fn call_thrice<B: Naming, R: Wait>(rt: &R, shared: &Shared<B>) -> Result<(), Fail> {
+    commit_two(rt, shared)?;
+    submit_one(rt, shared)
 }
 
 // What is closed is the book at the end, with the calls of seats and of lent books.
@@ -54,17 +117,10 @@ fn close_at<B: Naming, R: Wait + Abort>(
     shared: Shared<B>,
     meter: &mut Meter,
 ) -> Result<(), Fail> {
-    let mut pass = shared.open_seat(rt, boot_thread())?.into_pass();
-    shared.book(rt).commit(&mut pass, &open_segment())?;
-    shared.book(rt).commit(&mut pass, &new_thread())?;
-    shared
-        .open_seat(rt, ObjectId::new(5))?
-        .submit(rt, &Call::CatCreate)?;
+    call_thrice(rt, &shared)?;
     let book = shared.close();
     assert!(rt; book.limits() == &MOST_PAGES && book.kernel().is_thread(ObjectId::new(5), meter));
-    let events = book.into_events();
-    assert!(rt; events.len() == 3 && events[0].number == 1 && events[1].number == 2);
-    assert!(rt; events[2].thread == ObjectId::new(5) && events[2].number == 1);
+    assert!(rt; are_three(book.into_events(rt).as_slice()));
     Ok(())
 }
 
@@ -73,22 +129,22 @@ fn close_boot<B: Naming, R: Wait + Abort>(
     blank: Blank,
     meter: &mut Meter,
 ) -> Result<(), Fail>
-    requires { blank ≡ B.limits }
+    requires { blank ≡ B.boot }
 {
     close_at(rt, blank.open::<B>(), meter)
 }
 
 #[test]
 fn what_is_closed_has_every_call(rt: HostRuntime) -> Result<(), Fail> {
-    let blank = Blank::boot(rt.alloc(), &MOST_PAGES)?;
     let mut meter = Meter::new(rt.alloc())?;
+    let blank = Blank::boot(rt.alloc(), &MOST_PAGES)?;
     close_boot::<Brand, HostRuntime>(&rt, blank, &mut meter)
 }
 
 #[test]
 fn a_call_is_an_event(rt: HostRuntime) -> Result<(), Fail> {
-    let blank = Blank::boot(rt.alloc(), &MOST_PAGES)?;
     let mut meter = Meter::new(rt.alloc())?;
+    let blank = Blank::boot(rt.alloc(), &MOST_PAGES)?;
     use_boot::<Brand, HostRuntime>(&rt, blank, &mut meter)
 }
 
@@ -110,34 +166,56 @@ fn refusals_have_their_numbers(rt: HostRuntime) {
     assert_eq!(rt; SeatRefusal::SeatTaken.refusal().number(), 41);
     assert_eq!(rt; SeatRefusal::NoThread.refusal().number(), 42);
     assert_eq!(rt; SeatRefusal::SeatsSpent.refusal().number(), 43);
+    assert_eq!(rt; Unread.refusal().number(), 46);
 }
 
-// The boot thread makes threads 4 to 67 and a thread 68, which dies. With the boot thread's, 64
-// seats are opened, for threads up to 66.
-fn refuse_seats_at<B: Naming, R: Wait + Abort>(rt: &R, shared: &Shared<B>) -> Result<(), Fail> {
-    assert!(rt; is_refusal(&shared.open_seat(rt, ObjectId::root()), 42));
-    let mut seat = shared.open_seat(rt, boot_thread())?;
+/// Whether a call made this object, or was done where none is told.
+fn is_answered<B: Naming, R: Wait>(
+    rt: &R,
+    seat: &mut Seat<'_, B>,
+    call: &Call,
+    object: Option<u64>,
+) -> bool {
+    match (submitted(rt, seat, call), object) {
+        (Ok(receipt), Some(id)) => is_object(receipt.reply, id),
+        (Ok(receipt), None) => matches!(receipt.reply, Reply::Done),
+        (Err(_), _) => false,
+    }
+}
+
+/// A call that drops an entry of the root.
+fn gone(id: u64) -> Call {
+    Call::Unref { entry: in_root(id) }
+}
+
+// The boot thread makes threads 4 to 67 and a thread 68, which dies.
+fn make_threads<B: Naming, R: Wait + Abort>(rt: &R, seat: &mut Seat<'_, B>) -> Result<(), Fail> {
     for id in 4..69u64 {
-        assert!(rt; is_object(seat.submit(rt, &new_thread())?.reply, id));
+        assert!(rt; is_answered(rt, seat, &new_thread(), Some(id)));
     }
-    let gone = Call::Unref { entry: in_root(68) };
-    assert!(rt; matches!(seat.submit(rt, &gone)?.reply, Reply::Done));
-    assert!(rt; is_refusal(&shared.open_seat(rt, ObjectId::new(68)), 42));
+    assert!(rt; is_answered(rt, seat, &gone(68), None));
+    Ok(())
+}
+
+// With the boot thread's, 64 seats are opened, for threads up to 66.
+fn refuse_seats_at<B: Naming, R: Wait + Abort>(rt: &R, shared: &Shared<B>) -> Result<(), Fail> {
+    assert!(rt; is_refused(rt, shared, ObjectId::root(), 42));
+    let mut seat = seated(rt, shared, boot_thread())?;
+    make_threads(rt, &mut seat)?;
+    assert!(rt; is_refused(rt, shared, ObjectId::new(68), 42));
     for id in 4..67u64 {
-        assert!(rt; shared.open_seat(rt, ObjectId::new(id)).is_ok());
+        assert!(rt; seated(rt, shared, ObjectId::new(id)).is_ok());
     }
-    assert!(rt; is_refusal(&shared.open_seat(rt, ObjectId::new(67)), 43));
-    assert!(rt; is_refusal(&shared.open_seat(rt, ObjectId::new(68)), 42));
-    assert!(rt; is_refusal(&shared.open_seat(rt, ObjectId::new(66)), 41));
-    assert!(rt; is_refusal(&shared.open_seat(rt, boot_thread()), 41));
-    let gone = Call::Unref { entry: in_root(66) };
-    assert!(rt; matches!(seat.submit(rt, &gone)?.reply, Reply::Done));
-    assert!(rt; is_refusal(&shared.open_seat(rt, ObjectId::new(66)), 41));
+    for (id, number) in [(67u64, 43u8), (68, 42), (66, 41), (2, 41)] {
+        assert!(rt; is_refused(rt, shared, ObjectId::new(id), number));
+    }
+    assert!(rt; is_answered(rt, &mut seat, &gone(66), None));
+    assert!(rt; is_refused(rt, shared, ObjectId::new(66), 41));
     Ok(())
 }
 
 fn refuse_seats<B: Naming, R: Wait + Abort>(rt: &R, blank: Blank) -> Result<(), Fail>
-    requires { blank ≡ B.limits }
+    requires { blank ≡ B.boot }
 {
     let shared = blank.open::<B>();
     refuse_seats_at(rt, &shared)

@@ -1,9 +1,9 @@
-//! Threads that call at once.
+//! Threads that call and read at once.
 ghost use Rattle.std.specs.Prelude.{◌≡◌};
 
-use crate::samples::{open_segment, write};
-use base::{Data, Meter, ObjectId};
-use kernel_rules::{Call, Event, Query, Reply};
+use crate::samples::{is_refused, is_shown_own, seated, submitted};
+use base::{Limits, Meter, ObjectId};
+use kernel_rules::{Call, Event, Reply};
 use published_copy::{Blank, Naming, Seat, Shared};
 use std::alloc::Global;
 use std::marker::Brand;
@@ -13,28 +13,59 @@ use std::test::Fail;
 use std::thread;
 use std::thread::Threads;
 use syscall_core::{Machine, PlainKernel};
-use test_support::{MOST_PAGES, boot_thread, in_root, is_data, new_thread};
+use test_support::{MOST_PAGES, boot_thread, is_done, new_thread, plain};
 
-/// How many threads call at once, and how often each.
-const WORKERS: u64 = 63;
+/// Limits with 128 pages.
+const LIMITS: Limits = Limits {
+    pages: 128,
+    ..MOST_PAGES
+};
 
+/// How many threads are made, of which all but one get a seat.
+const THREADS: u64 = 64;
+
+/// How often each seat calls, and reads.
 const CALLS: u64 = 100;
 
-fn submit_all<B: Naming, R: Wait>(rt: &R, worker: &Mutex<Seat<'_, B>>) {
-    for _ in 0..CALLS {
-        let _ = worker.lock(rt).submit(rt, &Call::CatCreate);
+/// Whether a seat's thread is given its own label once more.
+fn is_labelled<B: Naming, R: Wait>(rt: &R, seat: &mut Seat<'_, B>) -> bool {
+    match submitted(rt, seat, &Call::SelfSetLabel { label: plain() }) {
+        Ok(receipt) => is_done(receipt.reply),
+        Err(_) => false,
     }
 }
 
+/// Whether each of a seat's calls is done, and each of its queries answered.
+fn is_served<B: Naming, R: Wait>(rt: &R, seat: &mut Seat<'_, B>) -> bool {
+    for _ in 0..CALLS {
+        if !is_labelled(rt, seat) || !is_shown_own(seat) {
+            return false;
+        }
+    }
+    true
+}
+
+/// A seat that calls in a thread of its own, and whether all was answered.
+#[derive(Drop)]
+struct Worker<'a, B: Naming> {
+    seat: Seat<'a, B>,
+    served: bool,
+}
+
+fn serve<B: Naming, R: Wait>(rt: &R, worker: &Mutex<Worker<'_, B>>) {
+    let mut worker = worker.lock(rt);
+    worker.served = is_served(rt, &mut worker.seat);
+}
+
 /// Each worker calls in a thread of its own, all at once. False where a thread can't be started.
-fn submit_at_once<'s, B: Naming + Send, R: Threads + Wait + Sync>(
+fn serve_at_once<'s, B: Naming + Send, R: Threads + Wait + Sync>(
     rt: &R,
-    workers: &[Mutex<Seat<'s, B>>],
+    workers: &[Mutex<Worker<'s, B>>],
 ) -> bool {
     thread::scope(thread::scope_env(), rt, |scope| {
         let mut all = true;
         for worker in workers {
-            if scope.spawn(move || submit_all(rt, worker)).is_err() {
+            if scope.spawn(move || serve(rt, worker)).is_err() {
                 all = false;
             }
         }
@@ -42,25 +73,23 @@ fn submit_at_once<'s, B: Naming + Send, R: Threads + Wait + Sync>(
     })
 }
 
+/// Whether one reply is what the other is: the same object, or done.
 fn is_same(one: &Reply, other: &Reply) -> bool {
-    match one {
-        Reply::Object(one) => matches!(other, Reply::Object(other) if one == other),
-        Reply::Category(one) => matches!(other, Reply::Category(other) if one == other),
-        Reply::Refused(one) => matches!(other, Reply::Refused(other) if one == other),
-        _ => false,
+    match (one, other) {
+        (Reply::Object(one), Reply::Object(other)) => one == other,
+        (one, other) => is_done(*one) && is_done(*other),
     }
 }
 
-/// Whether a newly booted plain kernel gives the events' replies, in their order.
+/// Whether a newly booted plain kernel makes or does what the events' replies say, in their order.
 fn is_replayed(kernel: &mut PlainKernel, meter: &mut Meter, events: &[Event]) -> bool {
     for event in events {
-        match kernel.step(event.thread, &event.call, meter) {
-            Ok(reply) => {
-                if !is_same(&reply, &event.reply) {
-                    return false;
-                }
-            }
-            Err(_) => return false,
+        let same = match kernel.step(event.thread, &event.call, meter) {
+            Ok(reply) => is_same(&reply, &event.reply),
+            Err(_) => false,
+        };
+        if !same {
+            return false;
         }
     }
     true
@@ -80,29 +109,91 @@ fn is_numbered(events: &[Event], thread: ObjectId, count: u64) -> bool {
     number == count
 }
 
+fn add_worker<'s, B: Naming>(
+    workers: &mut Vec<Mutex<Worker<'s, B>>>,
+    seat: Seat<'s, B>,
+) -> Result<(), Fail> {
+    workers.push(Mutex::new(Worker {
+        seat,
+        served: false,
+    }))?;
+    Ok(())
+}
+
+/// The boot thread makes all others.
+fn make_threads<B: Naming, R: Wait>(rt: &R, boot: &mut Seat<'_, B>) -> Result<(), Fail> {
+    for _ in 0..THREADS {
+        submitted(rt, boot, &new_thread())?;
+    }
+    Ok(())
+}
+
+/// A worker for each of them but the last.
+fn hire_others<'s, B: Naming, R: Wait>(
+    rt: &R,
+    shared: &'s Shared<B>,
+    workers: &mut Vec<Mutex<Worker<'s, B>>>,
+) -> Result<(), Fail> {
+    for id in 4..THREADS + 3 {
+        add_worker(workers, seated(rt, shared, ObjectId::new(id))?)?;
+    }
+    Ok(())
+}
+
+/// A worker for the boot thread's seat, and those of the others.
+fn hire<'s, B: Naming, R: Wait>(
+    rt: &R,
+    alloc: Global,
+    shared: &'s Shared<B>,
+) -> Result<Vec<Mutex<Worker<'s, B>>>, Fail> {
+    let mut boot = seated(rt, shared, boot_thread())?;
+    make_threads(rt, &mut boot)?;
+    let mut workers = Vec::new(alloc);
+    add_worker(&mut workers, boot)?;
+    hire_others(rt, shared, &mut workers)?;
+    Ok(workers)
+}
+
+/// Whether the events are those of all workers, each one's numbered from 1.
+fn are_numbered(events: &[Event]) -> bool {
+    let mut all = events.len() as u64 == THREADS + THREADS * CALLS
+        && is_numbered(events, boot_thread(), THREADS + CALLS);
+    for id in 4..THREADS + 3 {
+        if !is_numbered(events, ObjectId::new(id), CALLS) {
+            all = false;
+        }
+    }
+    all
+}
+
+// The journal has every call, and a plain kernel answers them as it says.
+fn replay<B: Naming, R: Wait + Abort>(
+    rt: &R,
+    alloc: Global,
+    shared: &Shared<B>,
+) -> Result<(), Fail> {
+    let mut meter = Meter::new(alloc)?;
+    let mut kernel = PlainKernel::boot(alloc, &LIMITS)?;
+    let book = shared.book(rt);
+    assert!(rt; are_numbered(book.events()));
+    assert!(rt; is_replayed(&mut kernel, &mut meter, book.events()));
+    Ok(())
+}
+
 fn work_at<B: Naming + Send, R: Threads + Wait + Sync + Abort>(
     rt: &R,
     alloc: Global,
     shared: &Shared<B>,
 ) -> Result<(), Fail> {
-    let mut boot = shared.open_seat(rt, boot_thread())?;
-    let mut workers = Vec::new(alloc);
-    for id in 4..WORKERS + 4 {
-        boot.submit(rt, &new_thread())?;
-        workers.push(Mutex::new(shared.open_seat(rt, ObjectId::new(id))?))?;
+    let workers = hire(rt, alloc, shared)?;
+    assert!(rt; serve_at_once(rt, workers.as_slice()));
+    for worker in &workers {
+        assert!(rt; worker.lock(rt).served);
     }
-    assert!(rt; submit_at_once(rt, workers.as_slice()));
-    let book = shared.book(rt);
-    let events = book.events();
-    assert_eq!(rt; events.len() as u64, WORKERS + WORKERS * CALLS);
-    assert!(rt; is_numbered(events, boot_thread(), WORKERS));
-    for id in 4..WORKERS + 4 {
-        assert!(rt; is_numbered(events, ObjectId::new(id), CALLS));
-    }
-    let mut kernel = PlainKernel::boot(alloc, &MOST_PAGES)?;
-    let mut meter = Meter::new(alloc)?;
-    assert!(rt; is_replayed(&mut kernel, &mut meter, events));
-    Ok(())
+    assert!(rt; is_refused(rt, shared, boot_thread(), 41));
+    assert!(rt; is_refused(rt, shared, ObjectId::root(), 42));
+    assert!(rt; is_refused(rt, shared, ObjectId::new(THREADS + 3), 43));
+    replay(rt, alloc, shared)
 }
 
 fn work<B: Naming + Send, R: Threads + Wait + Sync + Abort>(
@@ -110,7 +201,7 @@ fn work<B: Naming + Send, R: Threads + Wait + Sync + Abort>(
     alloc: Global,
     blank: Blank,
 ) -> Result<(), Fail>
-    requires { blank ≡ B.limits }
+    requires { blank ≡ B.boot }
 {
     let shared = blank.open::<B>();
     work_at(rt, alloc, &shared)
@@ -118,59 +209,6 @@ fn work<B: Naming + Send, R: Threads + Wait + Sync + Abort>(
 
 #[test]
 fn the_journal_has_every_call(rt: HostRuntime) -> Result<(), Fail> {
-    let blank = Blank::boot(rt.alloc(), &MOST_PAGES)?;
+    let blank = Blank::boot(rt.alloc(), &LIMITS)?;
     work::<Brand, HostRuntime>(&rt, rt.alloc(), blank)
-}
-
-fn is_read<B: Naming, R: Wait>(rt: &R, reader: &Mutex<Seat<'_, B>>, text: &Data) -> bool {
-    let query = Query::SegmentRead {
-        entry: in_root(5),
-        offset: 0,
-        count: 5,
-    };
-    is_data(reader.lock(rt).read(rt, &query), text.as_slice())
-}
-
-fn read_there<B: Naming + Send, R: Threads + Wait + Sync>(
-    rt: &R,
-    reader: &Mutex<Seat<'_, B>>,
-    text: &Data,
-) -> bool {
-    thread::scope(thread::scope_env(), rt, |scope| {
-        match scope.spawn(move || is_read(rt, reader, text)) {
-            Ok(handle) => handle.join(rt),
-            Err(_) => false,
-        }
-    })
-}
-
-fn write_here_at<B: Naming + Send, R: Threads + Wait + Sync + Abort>(
-    rt: &R,
-    shared: &Shared<B>,
-) -> Result<(), Fail> {
-    let mut boot = shared.open_seat(rt, boot_thread())?;
-    boot.submit(rt, &new_thread())?;
-    boot.submit(rt, &open_segment())?;
-    let reader = Mutex::new(shared.open_seat(rt, ObjectId::new(4))?);
-    for text in [Data::from_slice(b"first"), Data::from_slice(b"then.")] {
-        boot.submit(rt, &write(5, text))?;
-        assert!(rt; read_there(rt, &reader, &text));
-    }
-    Ok(())
-}
-
-fn write_here<B: Naming + Send, R: Threads + Wait + Sync + Abort>(
-    rt: &R,
-    blank: Blank,
-) -> Result<(), Fail>
-    requires { blank ≡ B.limits }
-{
-    let shared = blank.open::<B>();
-    write_here_at(rt, &shared)
-}
-
-#[test]
-fn one_writes_and_another_reads(rt: HostRuntime) -> Result<(), Fail> {
-    let blank = Blank::boot(rt.alloc(), &MOST_PAGES)?;
-    write_here::<Brand, HostRuntime>(&rt, blank)
 }

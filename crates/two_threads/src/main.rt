@@ -6,7 +6,7 @@ ghost use Rattle.std.specs.Prelude.{◌≡◌};
 
 use base::{Level, Limits, ObjectId};
 use label_lattice::RawLabel;
-use published_copy::{Blank, Naming, SeatRefusal, Shared, SubmitRefusal};
+use published_copy::{Blank, Naming, Seat, SeatRefusal, Shared, SubmitRefusal};
 use std::io;
 use std::marker::Brand;
 use std::sync::Wait;
@@ -53,26 +53,53 @@ fn count_of(events: &[Event], thread: ObjectId) -> usize {
     events.iter().filter(|event| event.thread == thread).count()
 }
 
-/// The boot thread makes another thread, and then both make a category at once.
-fn share<B: Naming + Send, R: Threads + Wait + Sync>(rt: &R, blank: Blank) -> Result<Counts, Fault>
-    requires { blank ≡ B.limits }
-{
-    let shared: Shared<B> = blank.open::<B>();
-    let boot = ObjectId::new(2);
-    let mut seat = shared.open_seat(rt, boot)?;
-    let other = object_in(&seat.submit(rt, &new_thread())?.reply);
-    let mut other_seat = shared.open_seat(rt, other)?;
+/// Both seats make a category at once.
+fn call_at_once<B: Naming + Send, R: Threads + Wait + Sync>(
+    rt: &R,
+    one: &mut Seat<'_, B>,
+    other: &mut Seat<'_, B>,
+) -> Result<(), Fault> {
     let (mine, theirs) = join(
         rt,
-        || seat.submit(rt, &Call::CatCreate),
-        || other_seat.submit(rt, &Call::CatCreate),
+        || one.submit(rt, &Call::CatCreate),
+        || other.submit(rt, &Call::CatCreate),
     );
     let _ = (mine?, theirs?);
+    Ok(())
+}
+
+/// The boot thread makes another thread, and then both make a category at once. The other thread.
+fn share_with<B: Naming + Send, R: Threads + Wait + Sync>(
+    rt: &R,
+    shared: &Shared<B>,
+    seat: &mut Seat<'_, B>,
+) -> Result<ObjectId, Fault> {
+    let other = object_in(&seat.submit(rt, &new_thread())?.reply);
+    let mut other_seat = shared.open_seat(rt, other)?;
+    call_at_once(rt, seat, &mut other_seat)?;
+    Ok(other)
+}
+
+/// The boot thread, through its seat, and another thread share a kernel.
+fn share_at<B: Naming + Send, R: Threads + Wait + Sync>(
+    rt: &R,
+    shared: &Shared<B>,
+) -> Result<Counts, Fault> {
+    let boot = ObjectId::new(2);
+    let mut seat = shared.open_seat(rt, boot)?;
+    let other = share_with(rt, shared, &mut seat)?;
     let book = shared.book(rt);
     Ok(Counts {
         boot: count_of(book.events(), boot),
         other: count_of(book.events(), other),
     })
+}
+
+fn share<B: Naming + Send, R: Threads + Wait + Sync>(rt: &R, blank: Blank) -> Result<Counts, Fault>
+    requires { blank ≡ B.boot }
+{
+    let shared: Shared<B> = blank.open::<B>();
+    share_at(rt, &shared)
 }
 
 fn main(rt: HostRuntime) -> io::Result<()> {

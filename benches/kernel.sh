@@ -1,0 +1,45 @@
+#!/usr/bin/env bash
+# Times calls of the arena kernel by one thread, beside positional reads and writes of a file in memory and beside a file
+# that is made and goes, and beside a simple kernel in plain Rust (benches/simple), and prints ratios, each of one run, how
+# long a boot takes, and the bytes of an event and of a call: at 8, 64 and 512 pages as full as they get, with plain labels,
+# and at 64 pages with 4, 8 and 16 categories in each label, which is as many as a label has room for. Not a test: it ends
+# zero whatever the times are. It needs cargo and python3 beside the toolchain.
+#
+# kernel.sh   ROUNDS=100000 may be set
+set -eu
+top=$(cd "$(dirname "$0")/.." && pwd)
+bench=$top/crates/bench_kernel/out/bench_kernel
+simple=$top/benches/simple/target/release/simple
+command -v cargo >/dev/null || { echo "kernel.sh: cargo is not on the path, and the simple kernel is built with it" >&2; exit 2; }
+cargo build --quiet --release --offline --manifest-path "$top/benches/simple/Cargo.toml"
+built=$(cd "$top/crates/bench_kernel" && rt run --jobs 1 2>&1) || { echo "$built" >&2; exit 1; }
+folder=$(mktemp -d -p /dev/shm)
+trap 'rm -rf "$folder"' EXIT
+
+# prints a table of the rows that both have, each with the ratio of ours to the simple kernel's
+compare() {
+    python3 - "$1" "$2" <<'PYTHON'
+import re, sys
+
+def rows(path):
+    found = (re.match(r"([^:]+): (\d+) (ns|us)", line) for line in open(path))
+    return {row[1]: (int(row[2]), row[3]) for row in found if row}
+
+ours, simple = rows(sys.argv[1]), rows(sys.argv[2])
+for name, (time, unit) in ours.items():
+    if name in simple:
+        other = simple[name][0]
+        print(f"{name}: {time} {unit}, simple {other} {unit}, ratio {time / max(other, 1):.2f}")
+PYTHON
+}
+
+# (seven pages are the boot's, the segment's and the space's, and one is left for what is made and goes)
+for size in "8 0" "64 0" "512 0" "64 4" "64 8" "64 16"; do
+    read -r pages categories <<<"$size"
+    words=("$pages" $((pages - 8)) "$categories" "${ROUNDS:-100000}")
+    echo "== $pages pages, $categories categories"
+    "$bench" "${words[@]}" "$folder/file" | tee "$folder/ours"
+    "$simple" "${words[@]}" >"$folder/simple"
+    echo "-- beside the simple kernel"
+    compare "$folder/ours" "$folder/simple"
+done

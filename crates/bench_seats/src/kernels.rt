@@ -1,0 +1,111 @@
+//! The same writes and reads of a kernel of its own, under a lock that readers share.
+use crate::samples::{LIMITS, boot_thread, new_segment, read, shows_bytes, write};
+use anyhow::Result;
+use base::Meter;
+use bench_support::nanos_since;
+use std::alloc::Global;
+use std::rt::Clock;
+use std::sync::atomic::{AtomicBool, AtomicU64, Ordering};
+use std::sync::{Mutex, RwLock, Wait};
+use std::thread;
+use std::thread::Threads;
+use std::time::Instant;
+use syscall_core::Kernel;
+
+/// A kernel under a lock that readers share, with a meter for each of them, and one for who writes.
+#[derive(Drop)]
+pub struct Locked {
+    kernel: RwLock<Kernel>,
+    writer: Mutex<Meter>,
+    meters: Vec<Mutex<Meter>>,
+}
+
+fn read_all<R: Wait>(
+    rt: &R,
+    kernel: &RwLock<Kernel>,
+    meter: &Mutex<Meter>,
+    rounds: u64,
+    done: &AtomicU64,
+) {
+    let query = read();
+    let mut meter = meter.lock(rt);
+    let mut found = 0u64;
+    for _ in 0..rounds {
+        let reply = kernel
+            .read(rt)
+            .ask_surely(boot_thread(), &query, &mut meter);
+        if shows_bytes(&reply) {
+            found = found.wrapping_add(1);
+        }
+    }
+    done.fetch_add(found, Ordering::SeqCst);
+}
+
+fn write_until<R: Wait>(rt: &R, locked: &Locked, stop: &AtomicBool) {
+    let call = write();
+    let mut meter = locked.writer.lock(rt);
+    for _ in rt.forever() {
+        if stop.load(Ordering::SeqCst) {
+            return;
+        }
+        locked
+            .kernel
+            .write(rt)
+            .step_surely(boot_thread(), &call, &mut meter);
+    }
+}
+
+impl Locked {
+    /// A kernel with a segment that has the bytes, for so many readers.
+    pub fn new(alloc: Global, readers: u64) -> Result<Locked> {
+        let mut kernel = Kernel::boot(alloc, &LIMITS)?;
+        let mut meter = Meter::new(alloc)?;
+        kernel.step_surely(boot_thread(), &new_segment(), &mut meter);
+        kernel.step_surely(boot_thread(), &write(), &mut meter);
+        let mut meters = Vec::new(alloc);
+        for _ in 0..readers {
+            meters.push(Mutex::new(Meter::new(alloc)?))?;
+        }
+        Ok(Locked {
+            kernel: RwLock::new(kernel),
+            writer: Mutex::new(meter),
+            meters,
+        })
+    }
+
+    /// The nanoseconds in which so many readers at once read so often each, while it is counted
+    /// what was done.
+    pub fn time_reads<R: Threads + Wait + Clock + Sync>(
+        &self,
+        rt: &R,
+        readers: usize,
+        rounds: u64,
+        done: &AtomicU64,
+    ) -> Result<u64> {
+        let start = Instant::now(rt)?;
+        thread::scope(thread::scope_env(), rt, |scope| {
+            for meter in self.meters.iter().take(readers) {
+                let _ = scope.spawn(move || read_all(rt, &self.kernel, meter, rounds, done));
+            }
+        });
+        nanos_since(rt, start)
+    }
+
+    /// The same while another thread writes on and on.
+    pub fn time_reads_beside<R: Threads + Wait + Clock + Sync>(
+        &self,
+        rt: &R,
+        readers: usize,
+        rounds: u64,
+        done: &AtomicU64,
+    ) -> Result<u64> {
+        let stop = AtomicBool::new(false);
+        let stop = &stop;
+        thread::scope(thread::scope_env(), rt, |scope| {
+            let _ = scope.spawn(move || write_until(rt, self, stop));
+            let taken = self.time_reads(rt, readers, rounds, done);
+            stop.store(true, Ordering::SeqCst);
+            taken
+        })
+    }
+}

@@ -1,0 +1,37 @@
+use Rattle.std.proofs.Common.{◌≡◌, ◌∷◌, ◌++◌, [], ◌∙◌, sym, ap, subst, IfSome, rules}
+use Rattle.kernel_rules.specs.History.{state_of}
+use Rattle.kernel_rules.specs.Step.{next}
+use Rattle.kernel_rules.specs.declared.events.Event.{Event}
+use Rattle.syscall_core.specs.Kernel.{kernel_state}
+use Rattle.published_copy.specs.declared.ops.Op.{Op}
+use Rattle.published_copy.specs.declared.entries.Entry.TheVariants.{Made}
+use Rattle.published_copy.specs.Absorbed.{listed}
+use Rattle.published_copy.specs.Entries.{made}
+use Rattle.published_copy.specs.Shares.{IsNext, copies_with}
+use Rattle.published_copy.specs.Turns.{event_at, with_event}
+use Rattle.published_copy.proofs.Commits.{awaits, makes}
+use Rattle.published_copy.proofs.pairs.Pair.commit.Goals as goal
+
+pub publish-requires-clause-made : goal.publish-requires-clause-made
+publish-requires-clause-made g c =
+    let boot = g.B.Naming.boot in
+    let list = made c.self.inside.tip in
+    let op : Op = c.in-Some.op in
+    let queued : c.queue.new.self ≡ copies_with list (op ∷ []) = search rules in
+    let nx : IsNext boot list op = search rules in
+    let saw : op.seen.log ≡ c.attempt-tried.new.tip = search rules in
+    let settled : c.settle.new.self ≡ c.attempt-tried.new.tip ++ Made ∷ [] = search rules in
+    awaits boot c.queue.new.self list op c.attempt-tried.new.tip c.settle.new.self queued nx saw settled
+
+pub publish-requires-clause-state : goal.publish-requires-clause-state
+publish-requires-clause-state g c =
+    let limits = g.B.Naming.boot.limits in
+    let list = made c.self.inside.tip in
+    let pass = c.args.pass.now in
+    let call = c.args.call.now in
+    let event : Event = event_at (state_of limits list) pass call in
+    let stepped : kernel_state c.make-reply.new.kernel ≡ next (kernel_state c.args.kernel.now) pass.thread call = search rules in
+    let made_is : made c.settle.new.self ≡ list ++ event ∷ [] = search rules in
+    let was : kernel_state c.args.kernel.now ≡ state_of limits list = search rules in
+    makes limits list event (kernel_state c.args.kernel.now) (kernel_state c.make-reply.new.kernel) was stepped
+    ∙ ap (state_of limits) (sym made_is)

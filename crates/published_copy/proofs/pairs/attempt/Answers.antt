@@ -1,0 +1,40 @@
+use Rattle.std.proofs.Common.{◌≡◌, ◌++◌, ◌∷◌, [], List, ap, ◌∙◌, refl, arith, rules}
+use Rattle.kernel_rules.specs.declared.events.Event.{Event}
+use Rattle.kernel_rules.specs.History.{state_of}
+use Rattle.published_copy.specs.declared.entries.Entry.{Entry}
+use Rattle.published_copy.specs.declared.entries.Entry.TheVariants.{Made}
+use Rattle.syscall_core.specs.Kernel.{kernel_state}
+use Rattle.published_copy.specs.Turns.{event_at}
+use Rattle.published_copy.specs.Entries.{made, weight, tried}
+use Rattle.published_copy.proofs.EntryLaws.{made-tried, made-made, weight-append}
+use Rattle.published_copy.proofs.pairs.attempt.Goals as goal
+
+pub returns-clause-same : goal.returns-clause-same
+returns-clause-same g c =
+    let e : Event = event_at (kernel_state c.args.kernel.now) c.args.pass.now c.args.call.now in
+    let log : c.attempt.new.self ≡ c.args.tip.now ++ tried e ∷ [] = search rules in
+    ap made log ∙ made-tried c.args.tip.now e
+
+pub returns-clause-list : goal.returns-clause-list
+returns-clause-list g c =
+    let e : Event = event_at (kernel_state c.args.kernel.now) c.args.pass.now c.args.call.now in
+    let log : c.attempt.new.self ≡ c.args.tip.now ++ tried e ∷ [] = search rules in
+    ap (λ (l : List Entry). made (l ++ Made ∷ [])) (c.seen.ensures.log ∙ log)
+    ∙ (made-made c.args.tip.now e ∙ ap (λ s. made c.args.tip.now ++ event_at s c.args.pass.now c.args.call.now ∷ []) c.requires.state)
+
+pub returns-clause-next : goal.returns-clause-next
+returns-clause-next g c = record {
+  event = event_at (state_of g.B.Naming.boot.limits (made c.args.tip.now)) c.args.pass.now c.args.call.now;
+  thread_is = search rules;
+  call_is = refl;
+  length_is = c.requires.events;
+  log_is = c.seen.ensures.book;
+  list_is = returns-clause-list g c;
+  may = record { number = c.requires.number; reply = refl };
+}
+
+pub returns-clause-room : goal.returns-clause-room
+returns-clause-room g c =
+    let e : Event = event_at (kernel_state c.args.kernel.now) c.args.pass.now c.args.call.now in
+    let log : c.attempt.new.self ≡ c.args.tip.now ++ tried e ∷ [] = search rules in
+    omega (arith, ap weight log, weight-append c.args.tip.now (tried e ∷ []), c.weight.ensures, c.if-weight.false)

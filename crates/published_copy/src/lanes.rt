@@ -1,0 +1,63 @@
+//! A reader of the two copies.
+ghost use Rattle.std.specs.Prelude.{◌≡◌, IfSome};
+ghost use Rattle.left_right.specs.Sides.{view};
+ghost use Rattle.kernel_rules.specs.History.{state_of};
+ghost use Rattle.kernel_rules.specs.Step.{query_answer};
+ghost use Rattle.published_copy.specs.Shares.{Names};
+
+use crate::copies::Copied;
+use crate::fronts::Front;
+use crate::naming::Naming;
+use crate::rules::{Published, See, Tag};
+use base::{Meter, ObjectId};
+use kernel_rules::{Query, Reply};
+use left_right::reader::Reader;
+use std::marker::PhantomData;
+
+/// A reader of the two copies, which knows their boot.
+#[derive(Drop)]
+pub(crate) struct Lane<B: Naming> {
+    reader: Reader<Copied, Tag, Published>,
+    of: PhantomData<B>,
+    ghost named: { Names (view reader.place) B.boot },
+}
+
+impl<B: Naming> Lane<B> {
+    /// The lane of a reader.
+    pub(crate) fn new(reader: Reader<Copied, Tag, Published>) -> Lane<B>
+        requires { Names (view reader.place) B.boot }
+    {
+        Lane {
+            reader,
+            of: PhantomData,
+        }
+    }
+
+    /// What the copy that is published answers, and the list whose state it is. None where the
+    /// writer is gone.
+    pub(crate) fn read(
+        self,
+        thread: ObjectId,
+        query: &Query,
+        meter: &mut Meter,
+    ) -> (Lane<B>, Option<(Reply, Front<B>)>)
+        ensures { IfSome result.1
+            (λ r. r.0 ≡ query_answer (state_of B.boot.limits r.1) thread query.now) }
+    {
+        let Lane { reader, of } = self;
+        match reader.enter_as::<See>() {
+            Err(reader) => (Lane { reader, of }, None),
+            Ok(reading) => {
+                let copy = reading.get();
+                if !copy.sealed {
+                    let reader = reading.leave();
+                    return (Lane { reader, of }, None);
+                }
+                let reply = copy.kernel.ask_surely(thread, query, meter);
+                let front = Front::of(copy.length, copy.seen.again());
+                let reader = reading.leave();
+                (Lane { reader, of }, Some((reply, front)))
+            }
+        }
+    }
+}

@@ -1,0 +1,38 @@
+//! What one seat tells another.
+ghost use Rattle.std.specs.Prelude.{◌≡◌};
+
+use crate::fronts::Front;
+use crate::naming::Naming;
+use std::marker::Model;
+
+/// What a seat had by its opening, its submits and the notes that it learnt: for another seat,
+/// which has then seen as much. Contracts see the list of events.
+#[derive(Drop)]
+pub struct Note<B: Naming> {
+    front: Front<B>,
+}
+
+impl<B: Naming> Model for Note<B> {
+    ghost use Rattle.std.specs.Prelude.{List};
+    ghost use Rattle.kernel_rules.specs.declared.events.Event.{Event};
+
+    ghost Value = { List Event };
+
+    ghost view = { λ n. n.front };
+}
+
+impl<B: Naming> Note<B> {
+    /// A note of these events.
+    pub(crate) fn new(front: Front<B>) -> Note<B>
+        ensures { result ≡ front }
+    {
+        Note { front }
+    }
+
+    /// The events.
+    pub(crate) fn front(&self) -> &Front<B>
+        ensures { result.now ≡ self.now }
+    {
+        &self.front
+    }
+}

@@ -1,0 +1,178 @@
+//! The log of a boot's events, and the two copies of their state.
+ghost use Rattle.core.specs.Mem.{manually_drop_value};
+ghost use Rattle.std.specs.Prelude.{◌≡◌, ◌+◌, ◌<◌, ◌^◌, ◌++◌, ◌∷◌, [], drop, length};
+ghost use Rattle.std.specs.Prelude.{IfOk, OnOk, OnErr, IfSome, OnSome};
+ghost use Rattle.std.specs.Arc.{arc_value};
+ghost use Rattle.kernel_rules.specs.History.{state_of, count};
+ghost use Rattle.kernel_rules.specs.Step.{answer, next};
+ghost use Rattle.syscall_core.specs.Kernel.{kernel_state};
+ghost use Rattle.published_copy.specs.Absorbed.{listed};
+ghost use Rattle.published_copy.specs.Entries.{made, weight};
+ghost use Rattle.published_copy.specs.Rules.{head_of};
+ghost use Rattle.published_copy.specs.Shares.{IsShown, IsNext};
+ghost use Rattle.published_copy.specs.Turns.{with_event};
+
+use crate::fronts::Front;
+use crate::lanes::Lane;
+use crate::logs::{Head, Told};
+use crate::naming::Naming;
+use crate::ops::Op;
+use crate::passes::Pass;
+use crate::tips::Tip;
+use crate::writers::{Copies, Writer};
+use base::{Meter, NoMemory, ObjectId};
+use kernel_rules::{Call, Reply};
+use std::marker::Model;
+use std::mem::ManuallyDrop;
+use std::sync::{Arc, Wait};
+use syscall_core::Kernel;
+
+/// The log of a boot's events, and the two copies, of which the published one is in the state that
+/// the events lead to. Contracts see the events.
+#[derive(Drop)]
+pub(crate) struct Pair<B: Naming> {
+    tip: Tip<B>,
+    head: Arc<Head>,
+    copies: Copies<B>,
+}
+
+impl<B: Naming> Model for Pair<B> {
+    ghost use Rattle.std.specs.Prelude.{◌≡◌, List, []};
+    ghost use Rattle.std.specs.Arc.{arc_value};
+    ghost use Rattle.kernel_rules.specs.History.{IsLegal};
+    ghost use Rattle.kernel_rules.specs.declared.events.Event.{Event};
+    ghost use Rattle.published_copy.specs.Entries.{made};
+    ghost use Rattle.published_copy.specs.Rules.{head_of};
+    ghost use Rattle.published_copy.specs.Shares.{copies_with};
+
+    ghost Value = { List Event };
+
+    ghost view = { λ p. made p.tip };
+
+    ghost invariant = { λ p. (arc_value p.head ≡ head_of B.boot.log)
+        × (p.copies ≡ copies_with (made p.tip) [])
+        × IsLegal B.boot.limits (made p.tip) };
+}
+
+/// The call is tried in the log, and is an operation for the copies. What the log has made stays.
+/// None where the log or the head's owners are too many to count, and then nothing changes.
+fn attempt<B: Naming, R: Wait>(
+    rt: &R,
+    tip: &mut Tip<B>,
+    head: &Arc<Head>,
+    kernel: &Kernel,
+    pass: &Pass<B>,
+    call: &Call,
+    events: u64,
+) -> Option<Op>
+    requires head { arc_value head.now ≡ head_of B.boot.log }
+    requires state { kernel_state kernel.now ≡ state_of B.boot.limits (made tip.old) }
+    requires number { pass.now.number ≡ count pass.now.thread (made tip.old) + 1 }
+    requires events { events ≡ length (made tip.old) + 1 }
+    ensures same { made tip.new ≡ made tip.old }
+    ensures log { IfSome result (λ op. op.seen.log ≡ tip.new) }
+    ensures next { IfSome result (λ op. IsNext B.boot (made tip.old) op) }
+    ensures list { IfSome result
+        (λ op. listed op ≡ with_event B.boot.limits (made tip.old) pass.now call.now) }
+    ensures room { OnSome result (weight tip.new + 1 < 2 ^ 64) }
+{
+    if tip.weight() >= u64::MAX - 3 {
+        return None;
+    }
+    let head_too = Arc::try_clone(head).ok()?;
+    tip.attempt(rt, head, kernel, pass, call);
+    Some(Op {
+        thread: pass.thread(),
+        call: *call,
+        length: events,
+        weight: tip.weight(),
+        seen: tip.seen(),
+        head: head_too,
+    })
+}
+
+/// The master makes a thread's call.
+fn make(kernel: &mut Kernel, meter: &mut Meter, thread: ObjectId, call: &Call) -> Reply
+    ensures reply { result ≡ answer (kernel_state kernel.old) thread call.now }
+    ensures state { kernel_state kernel.new ≡ next (kernel_state kernel.old) thread call.now }
+{
+    kernel.step_surely(thread, call, meter)
+}
+
+impl<B: Naming> Pair<B> {
+    /// The log and the copies of a boot, with no event.
+    pub(crate) fn new(seen: Told, head: Arc<Head>, writer: ManuallyDrop<Writer>) -> Pair<B>
+        requires empty { seen.log ≡ [] }
+        requires log { seen.book ≡ B.boot.log }
+        requires head { arc_value head ≡ head_of B.boot.log }
+        requires shown { IsShown B.boot (manually_drop_value writer).desk.shown.value [] }
+        requires pending { drop (manually_drop_value writer).behind
+            (manually_drop_value writer).log.items ≡ [] }
+        ensures { result ≡ [] }
+    {
+        Pair {
+            tip: Tip::new(seen),
+            head,
+            copies: Copies::new(writer),
+        }
+    }
+
+    /// All events, which are so many, as they were seen.
+    pub(crate) fn front(&self, events: u64) -> Front<B>
+        requires { events ≡ length self.now }
+        ensures { result ≡ self.now }
+    {
+        Front::of(events, self.tip.seen())
+    }
+
+    /// Makes a pass's call, as the event that comes next: the log tries it, the master makes it,
+    /// the log has made it, and then readers are shown the copy that has it. Without memory nothing
+    /// changes.
+    pub(crate) fn commit<R: Wait>(
+        &mut self,
+        rt: &R,
+        kernel: &mut Kernel,
+        meter: &mut Meter,
+        pass: &Pass<B>,
+        call: &Call,
+        events: u64,
+    ) -> Result<Reply, NoMemory>
+        requires state { kernel_state kernel.old ≡ state_of B.boot.limits self.old }
+        requires number { pass.now.number ≡ count pass.now.thread self.old + 1 }
+        requires events { events ≡ length self.old + 1 }
+        ensures event { OnOk result
+            (self.new ≡ with_event B.boot.limits self.old pass.now call.now) }
+        ensures reply { IfOk result
+            (λ reply. reply ≡ answer (kernel_state kernel.old) pass.now.thread call.now) }
+        ensures state { OnOk result
+            (kernel_state kernel.new ≡ next (kernel_state kernel.old) pass.now.thread call.now) }
+        ensures kept { OnErr result ((self.new ≡ self.old) × (kernel.new ≡ kernel.old)) }
+    {
+        let tried = attempt(rt, &mut self.tip, &self.head, kernel, pass, call, events);
+        let Some(op) = tried else {
+            return Err(NoMemory);
+        };
+        self.copies.queue(op)?;
+        let reply = make(kernel, meter, pass.thread(), call);
+        self.tip.settle(rt, &self.head);
+        self.copies.publish(rt, &self.tip, kernel);
+        Ok(reply)
+    }
+
+    /// A reader of the copies, which knows their boot.
+    pub(crate) fn lane<R: Wait>(&mut self, rt: &R) -> Lane<B>
+        ensures { self.new ≡ self.old }
+    {
+        self.copies.lane(rt)
+    }
+
+    /// Gives back the copies' memory, once no reader has one.
+    pub(crate) fn close<R: Wait>(self, rt: &R) {
+        let Pair {
+            tip: _,
+            head: _,
+            copies,
+        } = self;
+        copies.close(rt)
+    }
+}

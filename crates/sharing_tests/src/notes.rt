@@ -1,0 +1,133 @@
+//! What notes carry from seat to seat.
+ghost use Rattle.std.specs.Prelude.{◌≡◌};
+
+use crate::samples::{first_byte, is_at, make_two, open_segment, passed, seated, submitted, write};
+use base::{Data, ObjectId};
+use published_copy::{Blank, Naming, Note, Seat, Shared};
+use std::marker::Brand;
+use std::process::Abort;
+use std::sync::{Mutex, Wait};
+use std::test::Fail;
+use std::thread;
+use std::thread::Threads;
+use test_support::{MOST_PAGES, boot_thread, new_thread};
+
+/// What a seat that learns a note reads then, in its own thread.
+fn learn_and_read<B: Naming, R: Wait>(
+    rt: &R,
+    reader: &Mutex<Seat<'_, B>>,
+    note: &Note<B>,
+) -> Option<u8> {
+    let mut seat = reader.lock(rt);
+    seat.learn(note);
+    first_byte(&mut seat, 5)
+}
+
+fn learn_there<B: Naming + Send + Sync, R: Threads + Wait + Sync>(
+    rt: &R,
+    reader: &Mutex<Seat<'_, B>>,
+    note: &Note<B>,
+) -> Option<u8> {
+    thread::scope(thread::scope_env(), rt, |scope| {
+        match scope.spawn(move || learn_and_read(rt, reader, note)) {
+            Ok(handle) => handle.join(rt),
+            Err(_) => None,
+        }
+    })
+}
+
+/// Whether one who learns what the boot thread's seat has once it wrote a byte reads that byte.
+fn is_told<B: Naming + Send + Sync, R: Threads + Wait + Sync>(
+    rt: &R,
+    boot: &mut Seat<'_, B>,
+    reader: &Mutex<Seat<'_, B>>,
+    byte: u8,
+) -> bool {
+    match submitted(rt, boot, &write(5, Data::from_slice(&[byte]))) {
+        Ok(_) => learn_there(rt, reader, &boot.note()) == Some(byte),
+        Err(_) => false,
+    }
+}
+
+fn tell_by<B: Naming + Send + Sync, R: Threads + Wait + Sync + Abort>(
+    rt: &R,
+    shared: &Shared<B>,
+    boot: &mut Seat<'_, B>,
+) -> Result<(), Fail> {
+    let reader = Mutex::new(seated(rt, shared, ObjectId::new(4))?);
+    assert!(rt; is_told(rt, boot, &reader, b'A'));
+    assert!(rt; is_told(rt, boot, &reader, b'B'));
+    Ok(())
+}
+
+fn tell_at<B: Naming + Send + Sync, R: Threads + Wait + Sync + Abort>(
+    rt: &R,
+    shared: &Shared<B>,
+) -> Result<(), Fail> {
+    let mut boot = seated(rt, shared, boot_thread())?;
+    make_two(rt, &mut boot)?;
+    tell_by(rt, shared, &mut boot)
+}
+
+fn tell<B: Naming + Send + Sync, R: Threads + Wait + Sync + Abort>(
+    rt: &R,
+    blank: Blank,
+) -> Result<(), Fail>
+    requires { blank ≡ B.boot }
+{
+    let shared = blank.open::<B>();
+    tell_at(rt, &shared)
+}
+
+#[test]
+fn who_learns_a_note_reads_what_it_has(rt: HostRuntime) -> Result<(), Fail> {
+    let blank = Blank::boot(rt.alloc(), &MOST_PAGES)?;
+    tell::<Brand, HostRuntime>(&rt, blank)
+}
+
+// A note has what its seat submitted and learnt, and not what it saw by reads alone; and who learns
+// it has seen as much, and no less than before.
+fn hand_on_to<B: Naming, R: Wait + Abort>(
+    rt: &R,
+    boot: &mut Seat<'_, B>,
+    mut one: Seat<'_, B>,
+    mut other: Seat<'_, B>,
+) -> Result<(), Fail> {
+    let early = boot.note();
+    submitted(rt, boot, &open_segment())?;
+    assert!(rt; first_byte(&mut one, 6) == Some(0));
+    other.learn(&one.note());
+    assert!(rt; is_at(&passed(other), 1, 2));
+    one.learn(&boot.note());
+    one.learn(&early);
+    assert!(rt; is_at(&passed(one), 1, 3));
+    Ok(())
+}
+
+/// The boot thread makes threads 4 and 5.
+fn make_threads<B: Naming, R: Wait>(rt: &R, boot: &mut Seat<'_, B>) -> Result<(), Fail> {
+    submitted(rt, boot, &new_thread())?;
+    submitted(rt, boot, &new_thread())?;
+    Ok(())
+}
+
+fn hand_on_at<B: Naming, R: Wait + Abort>(rt: &R, shared: &Shared<B>) -> Result<(), Fail> {
+    let mut boot = seated(rt, shared, boot_thread())?;
+    make_threads(rt, &mut boot)?;
+    let one = seated(rt, shared, ObjectId::new(4))?;
+    let other = seated(rt, shared, ObjectId::new(5))?;
+    hand_on_to(rt, &mut boot, one, other)
+}
+
+fn hand_on<B: Naming, R: Wait + Abort>(rt: &R, blank: Blank) -> Result<(), Fail>
+    requires { blank ≡ B.boot }
+{
+    let shared = blank.open::<B>();
+    hand_on_at(rt, &shared)
+}
+
+#[test]
+fn notes_have_no_reads(rt: HostRuntime) -> Result<(), Fail> {
+    let blank = Blank::boot(rt.alloc(), &MOST_PAGES)?;
+    hand_on::<Brand, HostRuntime>(&rt, blank)
+}
