@@ -1,5 +1,6 @@
 //! How many looks each call takes: one at the caller, one at each entry or container that its row
-//! names, and one at bytes that are read. What is asked for is answered as by the plain state itself.
+//! names, and one at bytes that are read. An address is looked up once, and who has it mapped need not
+//! be looked at. What is asked for is answered as by the plain state itself.
 use crate::Counting;
 use base::{Data, Meter, NoMemory, ObjectId, Refusal, Rights, TypeSet};
 use kernel_calls::{ask, step};
@@ -115,7 +116,7 @@ fn each_entry_is_looked_at_once(rt: HostRuntime) -> Result<(), Fail> {
             3,
         ),
         (Call::SelfSetAs { space }, 2),
-        (Call::Store { address: 768, data }, 3),
+        (Call::Store { address: 768, data }, 1),
         (
             Call::QuotaMove {
                 entry: in_root(4),
@@ -130,7 +131,7 @@ fn each_entry_is_looked_at_once(rt: HostRuntime) -> Result<(), Fail> {
             (None, looks)
         );
     }
-    assert_eq!(rt; looks_at(&store, &load_of_a_byte(), &mut meter), (None, 3));
+    assert_eq!(rt; looks_at(&store, &load_of_a_byte(), &mut meter), (None, 2));
     let unref = Call::Unref { entry: segment };
     assert_eq!(rt;
         looks_of(&mut store, &mut twin, &unref, &mut meter)?,

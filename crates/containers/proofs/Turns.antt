@@ -15,6 +15,10 @@ module _ (size : ℕ) (r : List Lists) (paired : IsPaired size r) where
   pub linked_one : (h x : ℕ) → h ≢ size → Stands r 0 h x → IsLinked (family_at r 1) x
   linked_one h x ne s = let of = paired.object_of h x ne s in (of.0, of.2.place, of.2.stands)
 
+  -- and a cell that is not spare stands in family 0
+  pub linked_zero : (o x : ℕ) → o ≢ size → Stands r 1 o x → IsLinked (family_at r 0) x
+  linked_zero o x ne s = let of = paired.holder_of o x ne s in (of.0, of.3.place, of.3.stands)
+
   pub last_linked : (last : ℕ) → Some last ≡ slice_get (cells_at r 0 (size + 1)) 0 → IsLinked (family_at r 1) last
   last_linked last e = linked_one (size + 1) last (λ (x : size + 1 ≡ size). omega arith) (first_stands r 0 (size + 1) last e)
 

@@ -135,7 +135,8 @@ fn sweep<V: Visitor>(
     }
 }
 
-/// The cell by which a container lists an object, if it does.
+/// The cell by which a container lists an object, if it does. It goes through the links to the object,
+/// which are few where the container's entries may be many.
 pub fn find_link(
     rings: &Rings<2>,
     size: usize,
@@ -150,17 +151,17 @@ pub fn find_link(
     ensures absent { IfNone result (Lists' size rings.now container object → ⊥) }
     ensures scans { meter.new.scans ≡ meter.old.scans }
 {
-    let len = rings.len(0, container, meter);
-    let mut next = rings.first(0, container, meter);
+    let len = rings.len(1, object, meter);
+    let mut next = rings.first(1, object, meter);
     for place in 0..len {
         // For the proof alone: the invariant counts the places that were passed.
         let _place = place;
         match next {
             Some(cell) => {
-                if rings.head_of(1, cell, meter) == object {
+                if rings.head_of(0, cell, meter) == container {
                     return Some(cell);
                 }
-                next = rings.next(0, cell, meter);
+                next = rings.next(1, cell, meter);
             }
             None => unreachable!(),
         }

@@ -1,5 +1,5 @@
 -- The state that a call leads to is the next one.
-use Rattle.std.proofs.Common.{◌≡◌, ℕ, true, false, cond, None, refl, sym, ◌∙◌}
+use Rattle.std.proofs.Common.{◌≡◌, ℕ, true, false, cond, None, Result, Ok, Err, OnOk, refl, sym, ◌∙◌, subst}
 use Rattle.kernel_rules.specs.State.{State}
 use Rattle.kernel_rules.specs.Step.{next, edit, restricted}
 use Rattle.kernel_rules.specs.Table.{refused}
@@ -24,3 +24,10 @@ settled_is s t c =
 pub settled_next : (s : State) (t : ℕ) (c : Call) → refused s t c ≡ None
     → is_well_formed (settled s t c) ≡ true → settled s t c ≡ next s t c
 settled_next s t c h sound = settled_is s t c sound ∙ sym (step_done s t c h).1
+
+-- where there is an answer, a well-formed state that the call leads to is the next one
+pub then_next : {A E : Type 0} (r : Result A E) (new s : State) (t : ℕ) (c : Call) → refused s t c ≡ None
+    → is_well_formed new ≡ true → OnOk r (new ≡ settled s t c) → OnOk r (new ≡ next s t c)
+then_next (Ok x) new s t c h sound is =
+    is ∙ settled_next s t c h (subst (λ (n : State). is_well_formed n ≡ true) is sound)
+then_next (Err x) new s t c h sound is = is

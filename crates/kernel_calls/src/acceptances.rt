@@ -3,13 +3,14 @@ ghost use Rattle.std.specs.Prelude.{◌≡◌, ◌≤◌, ◌+◌, true, None, I
 ghost use Rattle.kernel_rules.specs.Step.{accepted, answer, next};
 ghost use Rattle.kernel_calls.specs.Scans.{is_quiet, most_scans, stores};
 ghost use Rattle.kernel_rules.specs.Table.{refused};
+ghost use Rattle.kernel_rules.specs.declared.replies.Reply.TheVariants as told;
 ghost use Rattle.kernel_calls.specs.Settled.{settled};
 ghost use Rattle.kernel_store.specs.Storing.{storing};
 
 use crate::refusals::refused;
-use base::{Meter, ObjectId};
+use base::{Category, Meter, ObjectId};
 use kernel_rules::{Call, Reply};
-use kernel_store::Store;
+use kernel_store::{Store, refuse};
 use link_calls::{container_create, link, quota_move, set_fixed, unref};
 use memory_calls::{
     as_create, as_map, as_unmap, dev_recv, dev_send, meta_set, segment_copy, segment_create,
@@ -20,16 +21,32 @@ use thread_calls::{
     thread_create,
 };
 
-/// What a call that nothing refuses changes and answers. Without memory, which is the only error,
-/// nothing is changed.
+// The reply is the category that was made. (In a function of its own, as `kernel_store::refuse` says.)
+fn tell_category(reply: &mut Reply, made: Category)
+    ensures { reply.new ≡ told.Category made }
+{
+    *reply = Reply::Category(made);
+}
+
+// The reply is the object that was made.
+fn tell_object(reply: &mut Reply, made: ObjectId)
+    ensures { reply.new ≡ told.Object made }
+{
+    *reply = Reply::Object(made);
+}
+
+// What a call that nothing refuses changes, and what the reply then is. Without memory, which is the
+// only error, nothing is changed but the reply.
 fn accept<S: Store>(
     state: &mut S,
     thread: ObjectId,
     call: &Call,
+    reply: &mut Reply,
     meter: &mut Meter,
-) -> Result<Reply, S::Want>
-    requires { refused (S.state state.old) thread call.now ≡ None }
-    ensures reply { IfOk result (λ reply. reply ≡ accepted (S.state state.old) thread call.now) }
+) -> Result<(), S::Want>
+    requires done { reply.old ≡ told.Done }
+    requires free { refused (S.state state.old) thread call.now ≡ None }
+    ensures reply { OnOk result (reply.new ≡ accepted (S.state state.old) thread call.now) }
     ensures ok { OnOk result (S.state state.new ≡ settled (S.state state.old) thread call.now) }
     ensures err { OnErr result (S.state state.new ≡ S.state state.old) }
     ensures meter { is_quiet call.now ≡ true → S.kept meter.new ≡ S.kept meter.old }
@@ -37,18 +54,30 @@ fn accept<S: Store>(
         + stores call.now + storing (stores call.now) (S.stored state.old) }
 {
     match call {
-        Call::CatCreate => Ok(cat_create(state, thread, meter)),
+        Call::CatCreate => Ok(tell_category(reply, cat_create(state, thread, meter))),
         Call::SelfSetLabel { label } => Ok(self_set_label(state, thread, label, meter)),
-        Call::SelfSetClearance { clearance } => Ok(self_set_clearance(
-            state, thread, clearance, meter,
-        )),
+        Call::SelfSetClearance { clearance } => {
+            Ok(self_set_clearance(state, thread, clearance, meter))
+        }
         Call::SelfSetAs { space } => Ok(self_set_as(state, thread, space, meter)),
-        Call::ContainerCreate(made) => container_create(state, thread, made, meter),
-        Call::SegmentCreate(made) => segment_create(state, thread, made, meter),
-        Call::SegmentCopy(made) => segment_copy(state, thread, made, meter),
-        Call::AsCreate(made) => as_create(state, thread, made, meter),
-        Call::ThreadCreate(made) => thread_create(state, thread, made, meter),
-        Call::GateCreate(made) => gate_create(state, thread, made, meter),
+        Call::ContainerCreate(made) => Ok(tell_object(
+            reply,
+            container_create(state, thread, made, meter)?,
+        )),
+        Call::SegmentCreate(made) => Ok(tell_object(
+            reply,
+            segment_create(state, thread, made, meter)?,
+        )),
+        Call::SegmentCopy(made) => Ok(tell_object(
+            reply,
+            segment_copy(state, thread, made, meter)?,
+        )),
+        Call::AsCreate(made) => Ok(tell_object(reply, as_create(state, thread, made, meter)?)),
+        Call::ThreadCreate(made) => Ok(tell_object(
+            reply,
+            thread_create(state, thread, made, meter)?,
+        )),
+        Call::GateCreate(made) => Ok(tell_object(reply, gate_create(state, thread, made, meter)?)),
         Call::Link { target, entry } => link(state, thread, *target, entry, meter),
         Call::Unref { entry } => unref(state, thread, entry, meter),
         Call::QuotaMove { entry, change } => Ok(quota_move(state, thread, entry, *change, meter)),
@@ -67,7 +96,7 @@ fn accept<S: Store>(
             mapping,
         } => Ok(as_map(state, thread, space, *slot, mapping, meter)),
         Call::AsUnmap { space, slot } => Ok(as_unmap(state, thread, space, *slot, meter)),
-        Call::Store { address, data } => Ok(store(state, thread, *address, data, meter)),
+        Call::Store { address, data } => Ok(store(state, thread, *address, data, reply, meter)),
         Call::GateEnter {
             gate,
             label,
@@ -75,15 +104,42 @@ fn accept<S: Store>(
             verify,
         } => {
             let entering = Entering {
-                label: *label,
-                clearance: *clearance,
-                verify: *verify,
+                label,
+                clearance,
+                verify,
             };
-            Ok(gate_enter(state, thread, gate, &entering, meter))
+            Ok(gate_enter(state, thread, gate, &entering, reply, meter))
         }
         Call::DevSend { entry, data } => dev_send(state, thread, entry, data, meter),
-        Call::DevRecv { entry } => Ok(dev_recv(state, thread, entry, meter)),
+        Call::DevRecv { entry } => Ok(dev_recv(state, thread, entry, reply, meter)),
     }
+}
+
+/// One call, as `step` says, with its reply put where `Done` stands: a reply is large, and is so made
+/// where it is wanted.
+pub(crate) fn step_into<S: Store>(
+    state: &mut S,
+    thread: ObjectId,
+    call: &Call,
+    reply: &mut Reply,
+    meter: &mut Meter,
+) -> Result<(), S::Want>
+    requires { reply.old ≡ told.Done }
+    ensures reply { OnOk result (reply.new ≡ answer (S.state state.old) thread call.now) }
+    ensures ok { OnOk result (S.state state.new ≡ next (S.state state.old) thread call.now) }
+    ensures err { OnErr result (S.state state.new ≡ S.state state.old) }
+    ensures meter { is_quiet call.now ≡ true → S.kept meter.new ≡ S.kept meter.old }
+    ensures scans { S.kept meter.new
+        ≤ S.kept meter.old + most_scans (stores call.now) (S.stored state.old) }
+{
+    if let Call::Store { address, data } = call {
+        return Ok(store(state, thread, *address, data, reply, meter));
+    }
+    if let Some(refusal) = refused(state, thread, call, meter) {
+        refuse(reply, refusal);
+        return Ok(());
+    }
+    accept(state, thread, call, reply, meter)
 }
 
 /// One call: its refusal, or what it changes and answers where nothing refuses it. Without memory,
@@ -101,11 +157,7 @@ pub fn step<S: Store>(
     ensures scans { S.kept meter.new
         ≤ S.kept meter.old + most_scans (stores call.now) (S.stored state.old) }
 {
-    match refused(state, thread, call, meter) {
-        Some(refusal) => Ok(Reply::Refused(refusal)),
-        None => {
-            let reply = accept(state, thread, call, meter)?;
-            Ok(reply)
-        }
-    }
+    let mut reply = Reply::Done;
+    step_into(state, thread, call, &mut reply, meter)?;
+    Ok(reply)
 }

@@ -11,5 +11,5 @@ mod refusals;
 mod sure;
 
 pub use acceptances::step;
-pub use queries::ask;
-pub use sure::step_surely;
+pub use queries::{ask, ask_into};
+pub use sure::{step_surely, step_surely_into};

@@ -2,11 +2,12 @@
 ghost use Rattle.std.specs.Prelude.{◌≡◌, true, None};
 ghost use Rattle.kernel_rules.specs.Step.{found, query_answer};
 ghost use Rattle.kernel_rules.specs.Table.{query_refused};
+ghost use Rattle.kernel_rules.specs.declared.replies.Reply.TheVariants as told;
 ghost use Rattle.kernel_calls.specs.Scans.{is_load};
 
 use base::{Meter, ObjectId, Refusal};
 use kernel_rules::{Query, Reply};
-use kernel_store::Store;
+use kernel_store::{Store, refuse};
 use link_calls::{
     container_list, container_parent, obj_quota, refused_container_list, refused_container_parent,
     refused_obj_quota,
@@ -48,29 +49,58 @@ fn refused<S: Store>(
     }
 }
 
-fn found<S: Store>(state: &S, thread: ObjectId, query: &Query, meter: &mut Meter) -> Reply
-    requires { query_refused (S.state state.now) thread query.now ≡ None }
-    ensures value { result ≡ found (S.state state.now) thread query.now }
+// The reply has what a query finds that nothing refuses.
+fn found<S: Store>(state: &S, thread: ObjectId, query: &Query, reply: &mut Reply, meter: &mut Meter)
+    requires done { reply.old ≡ told.Done }
+    requires free { query_refused (S.state state.now) thread query.now ≡ None }
+    ensures value { reply.new ≡ found (S.state state.now) thread query.now }
     ensures meter { S.kept meter.new ≡ S.kept meter.old }
 {
     match query {
-        Query::SelfGet => self_get(state, thread, meter),
-        Query::ObjLabel { entry } => obj_label(state, thread, entry, meter),
-        Query::ObjQuota { entry } => obj_quota(state, thread, entry, meter),
+        Query::SelfGet => self_get(state, thread, reply, meter),
+        Query::ObjLabel { entry } => obj_label(state, thread, entry, reply, meter),
+        Query::ObjQuota { entry } => obj_quota(state, thread, entry, reply, meter),
         Query::ContainerList { container, from } => {
-            container_list(state, thread, *container, *from, meter)
+            container_list(state, thread, *container, *from, reply, meter)
         }
-        Query::ContainerParent { container } => container_parent(state, thread, *container, meter),
-        Query::SegmentLen { entry } => segment_len(state, thread, entry, meter),
+        Query::ContainerParent { container } => {
+            container_parent(state, thread, *container, reply, meter)
+        }
+        Query::SegmentLen { entry } => segment_len(state, thread, entry, reply, meter),
         Query::SegmentRead {
             entry,
             offset,
             count,
-        } => segment_read(state, thread, entry, *offset, *count, meter),
-        Query::MetaGet { entry } => meta_get(state, thread, entry, meter),
-        Query::AsGet { space, slot } => as_get(state, thread, space, *slot, meter),
-        Query::Load { address, count } => load(state, thread, *address, *count, meter),
+        } => segment_read(state, thread, entry, *offset, *count, reply, meter),
+        Query::MetaGet { entry } => meta_get(state, thread, entry, reply, meter),
+        Query::AsGet { space, slot } => as_get(state, thread, space, *slot, reply, meter),
+        Query::Load { address, count } => load(state, thread, *address, *count, reply, meter),
     }
+}
+
+/// One query, as `ask` says, with its reply put where `Done` stands: a reply is large, and is so made
+/// where it is wanted.
+pub fn ask_into<S: Store>(
+    state: &S,
+    thread: ObjectId,
+    query: &Query,
+    reply: &mut Reply,
+    meter: &mut Meter,
+)
+    requires { reply.old ≡ told.Done }
+    ensures value { reply.new ≡ query_answer (S.state state.now) thread query.now }
+    ensures meter { S.kept meter.new ≡ S.kept meter.old }
+    ensures looks { is_load query.now ≡ true → S.spends 9 meter.old meter.new }
+{
+    if let Query::Load { address, count } = query {
+        load(state, thread, *address, *count, reply, meter);
+        return;
+    }
+    if let Some(refusal) = refused(state, thread, query, meter) {
+        refuse(reply, refusal);
+        return;
+    }
+    found(state, thread, query, reply, meter)
 }
 
 /// One query: its refusal, or what it finds where nothing refuses it. It compares no label anew, and
@@ -80,11 +110,7 @@ pub fn ask<S: Store>(state: &S, thread: ObjectId, query: &Query, meter: &mut Met
     ensures meter { S.kept meter.new ≡ S.kept meter.old }
     ensures looks { is_load query.now ≡ true → S.spends 9 meter.old meter.new }
 {
-    if let Query::Load { address, count } = query {
-        return load(state, thread, *address, *count, meter);
-    }
-    match refused(state, thread, query, meter) {
-        Some(refusal) => Reply::Refused(refusal),
-        None => found(state, thread, query, meter),
-    }
+    let mut reply = Reply::Done;
+    ask_into(state, thread, query, &mut reply, meter);
+    reply
 }

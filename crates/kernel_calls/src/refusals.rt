@@ -73,9 +73,9 @@ pub fn refused<S: Store>(
             verify,
         } => {
             let entering = Entering {
-                label: *label,
-                clearance: *clearance,
-                verify: *verify,
+                label,
+                clearance,
+                verify,
             };
             refused_gate_enter(state, thread, gate, &entering, meter)
         }

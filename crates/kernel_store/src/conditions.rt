@@ -6,13 +6,14 @@ ghost use Rattle.base.specs.declared.refusals.Refusal.TheVariants as refusal;
 ghost use Rattle.kernel_rules.specs.Rows.{refusal_of, halted, is_shape, allows};
 ghost use Rattle.kernel_rules.specs.State.{quota_at, use_of, page_count};
 ghost use Rattle.kernel_rules.specs.Translate.{names_none};
+ghost use Rattle.kernel_rules.specs.declared.replies.Reply.TheVariants as told;
 ghost use Rattle.kernel_store.specs.Parts.{joined};
 ghost use Rattle.kernel_store.specs.Sights.{is_of};
 
 use crate::sights::{Seen, Sight};
 use crate::stores::Store;
 use base::{Kind, Meter, ObjectId, Refusal};
-use kernel_rules::{Entry, Place, least, least_of};
+use kernel_rules::{Entry, Place, Reply, least, least_of};
 
 /// A refusal, and whether it is given.
 pub type Condition = (Refusal, bool);
@@ -26,6 +27,14 @@ pub fn refusal_of(row: &[&[Condition]]) -> Option<Refusal>
         [] => None,
         [first, rest @ ..] => least_of(least(first), refusal_of(rest)),
     }
+}
+
+/// The reply is a refusal. (In a function of its own, since a reply is large: each value that a
+/// function makes is set to zero where the function begins, be it needed or not.)
+pub fn refuse(reply: &mut Reply, refusal: Refusal)
+    ensures { reply.new ≡ told.Refused refusal }
+{
+    *reply = Reply::Refused(refusal);
 }
 
 /// The caller is no live thread.

@@ -11,8 +11,8 @@ mod stores;
 
 pub use conditions::{
     Condition, at_container, flowing, halted, in_container, listed_in, mapped_to_read,
-    mapped_to_write, modified, not_immutable, not_of_kind, observed, of_kind, refusal_of, shaped,
-    space_entry, with_room, within,
+    mapped_to_write, modified, not_immutable, not_of_kind, observed, of_kind, refusal_of, refuse,
+    shaped, space_entry, with_room, within,
 };
 pub use new_objects::{NewObject, good_label, is_in_range, new_bearer, new_object};
 pub use sights::{Seen, Sight, itself};

@@ -4,6 +4,7 @@ ghost use Rattle.kernel_rules.specs.Step.{accepted, edit, found};
 ghost use Rattle.kernel_rules.specs.Table.{refused, query_refused};
 ghost use Rattle.kernel_rules.specs.declared.calls.Call.TheVariants as call;
 ghost use Rattle.kernel_rules.specs.declared.calls.Query.TheVariants as query;
+ghost use Rattle.kernel_rules.specs.declared.replies.Reply.TheVariants as told;
 ghost use Rattle.kernel_store.specs.Storing.{storing};
 
 use base::{Kind, Meter, ObjectId, Refusal};
@@ -39,9 +40,9 @@ pub fn container_create<S: Store>(
     thread: ObjectId,
     made: &NewContainer,
     meter: &mut Meter,
-) -> Result<Reply, S::Want>
+) -> Result<ObjectId, S::Want>
     requires { refused (S.state state.old) thread (call.ContainerCreate made.now) ≡ None }
-    ensures reply { IfOk result (λ reply. reply ≡ accepted (S.state state.old) thread
+    ensures object { IfOk result (λ id. told.Object id ≡ accepted (S.state state.old) thread
         (call.ContainerCreate made.now)) }
     ensures ok { OnOk result (S.state state.new ≡ edit (S.state state.old) thread
         (call.ContainerCreate made.now)) }
@@ -52,7 +53,7 @@ pub fn container_create<S: Store>(
     let kinds = state.joined(made.container, made.avoid, meter);
     let label = stored_of(&made.label, meter);
     let id = state.create_container(made.container, label, made.quota, kinds, meter)?;
-    Ok(Reply::Object(id))
+    Ok(id)
 }
 
 /// What refuses to read a container's list.
@@ -80,18 +81,19 @@ pub fn container_list<S: Store>(
     thread: ObjectId,
     container: ObjectId,
     from: u32,
+    reply: &mut Reply,
     meter: &mut Meter,
-) -> Reply
+)
     requires { query_refused (S.state state.now) thread
         (query.ContainerList container from) ≡ None }
-    ensures value { result ≡ found (S.state state.now) thread
+    ensures value { reply.new ≡ found (S.state state.now) thread
         (query.ContainerList container from) }
     ensures meter { S.kept meter.new ≡ S.kept meter.old }
 {
-    Reply::Listed {
+    *reply = Reply::Listed {
         count: state.list_len(container, meter) as u64,
         ids: state.ids_from(container, from, meter),
-    }
+    };
 }
 
 /// What refuses to ask for a container's own container.
@@ -116,12 +118,13 @@ pub fn container_parent<S: Store>(
     state: &S,
     thread: ObjectId,
     container: ObjectId,
+    reply: &mut Reply,
     meter: &mut Meter,
-) -> Reply
+)
     requires { query_refused (S.state state.now) thread
         (query.ContainerParent container) ≡ None }
-    ensures value { result ≡ found (S.state state.now) thread (query.ContainerParent container) }
+    ensures value { reply.new ≡ found (S.state state.now) thread (query.ContainerParent container) }
     ensures meter { S.kept meter.new ≡ S.kept meter.old }
 {
-    Reply::Parent(state.parent(container, meter))
+    *reply = Reply::Parent(state.parent(container, meter));
 }

@@ -20,7 +20,7 @@ use crate::receipts::Receipt;
 use crate::refusals::{SeatRefusal, SubmitRefusal};
 use crate::tallies::{Tally, count_events, events_of};
 use base::{Limits, Meter, NoMemory, ObjectId};
-use kernel_rules::{Call, Event};
+use kernel_rules::{Call, Event, Reply};
 use std::marker::Model;
 use std::sync::Wait;
 use syscall_core::Kernel;
@@ -181,8 +181,11 @@ impl<B: Naming> Book<B> {
         let _begins = self.pair.front(events).has(pass.front());
         make_room(&mut self.journal, &mut self.tallies)?;
         let (kernel, meter) = (&mut self.kernel, &mut self.meter);
-        let made = self.pair.commit(rt, kernel, meter, pass, call, events + 1);
-        let Ok(reply) = made else {
+        let mut reply = Reply::Done;
+        let made = self
+            .pair
+            .commit(rt, kernel, meter, pass, call, events + 1, &mut reply);
+        let Ok(()) = made else {
             return Err(SubmitRefusal::Memory);
         };
         self.journal.push_reserved(pass.event(call, &reply));

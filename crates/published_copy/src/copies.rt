@@ -8,7 +8,7 @@ ghost use Rattle.syscall_core.specs.Kernel.{kernel_state};
 use crate::logs::{Told, weighed};
 use crate::ops::Op;
 use base::{Limits, Meter, NoMemory};
-use kernel_rules::Event;
+use kernel_rules::{Event, Reply};
 use left_right::Absorb;
 use std::alloc::{AllocError, Global};
 use std::marker::Model;
@@ -67,8 +67,10 @@ impl Absorb<Op> for Copied {
     ghost never_fails = { Unit {0} };
 
     fn absorb_first(&mut self, operation: &Op, _other: &Copied) -> Result<(), AllocError> {
+        let mut reply = Reply::Done;
+        let meter = &mut self.meter;
         self.kernel
-            .step_surely(operation.thread, &operation.call, &mut self.meter);
+            .step_into(operation.thread, &operation.call, &mut reply, meter);
         self.length = operation.length;
         let (weight, seen) = weighed(&operation.head, &operation.seen);
         if weight > operation.weight && weight - 1 == operation.weight {

@@ -3,6 +3,7 @@ ghost use Rattle.std.specs.Prelude.{◌≡◌, IfSome};
 ghost use Rattle.left_right.specs.Sides.{view};
 ghost use Rattle.kernel_rules.specs.History.{state_of};
 ghost use Rattle.kernel_rules.specs.Step.{query_answer};
+ghost use Rattle.kernel_rules.specs.declared.replies.Reply.TheVariants as told;
 ghost use Rattle.published_copy.specs.Shares.{Names};
 
 use crate::copies::Copied;
@@ -33,16 +34,18 @@ impl<B: Naming> Lane<B> {
         }
     }
 
-    /// What the copy that is published answers, and the list whose state it is. None where the
-    /// writer is gone.
+    /// The reply, which is `Done`, becomes what the copy that is published answers; the list is that
+    /// whose state it is. None where the writer is gone.
     pub(crate) fn read(
         self,
         thread: ObjectId,
         query: &Query,
+        reply: &mut Reply,
         meter: &mut Meter,
-    ) -> (Lane<B>, Option<(Reply, Front<B>)>)
+    ) -> (Lane<B>, Option<Front<B>>)
+        requires { reply.old ≡ told.Done }
         ensures { IfSome result.1
-            (λ r. r.0 ≡ query_answer (state_of B.boot.limits r.1) thread query.now) }
+            (λ list. reply.new ≡ query_answer (state_of B.boot.limits list) thread query.now) }
     {
         let Lane { reader, of } = self;
         match reader.enter_as::<See>() {
@@ -53,10 +56,10 @@ impl<B: Naming> Lane<B> {
                     let reader = reading.leave();
                     return (Lane { reader, of }, None);
                 }
-                let reply = copy.kernel.ask_surely(thread, query, meter);
+                copy.kernel.ask_into(thread, query, reply, meter);
                 let front = Front::of(copy.length, copy.seen.again());
                 let reader = reading.leave();
-                (Lane { reader, of }, Some((reply, front)))
+                (Lane { reader, of }, Some(front))
             }
         }
     }

@@ -1,10 +1,11 @@
 //! The log of a boot's events, and the two copies of their state.
 ghost use Rattle.core.specs.Mem.{manually_drop_value};
 ghost use Rattle.std.specs.Prelude.{◌≡◌, ◌+◌, ◌<◌, ◌^◌, ◌++◌, ◌∷◌, [], drop, length};
-ghost use Rattle.std.specs.Prelude.{IfOk, OnOk, OnErr, IfSome, OnSome};
+ghost use Rattle.std.specs.Prelude.{OnOk, OnErr, IfSome, OnSome};
 ghost use Rattle.std.specs.Arc.{arc_value};
 ghost use Rattle.kernel_rules.specs.History.{state_of, count};
 ghost use Rattle.kernel_rules.specs.Step.{answer, next};
+ghost use Rattle.kernel_rules.specs.declared.replies.Reply.TheVariants as told;
 ghost use Rattle.syscall_core.specs.Kernel.{kernel_state};
 ghost use Rattle.published_copy.specs.Absorbed.{listed};
 ghost use Rattle.published_copy.specs.Entries.{made, weight};
@@ -91,12 +92,13 @@ fn attempt<B: Naming, R: Wait>(
     })
 }
 
-/// The master makes a thread's call.
-fn make(kernel: &mut Kernel, meter: &mut Meter, thread: ObjectId, call: &Call) -> Reply
-    ensures reply { result ≡ answer (kernel_state kernel.old) thread call.now }
+/// The master makes a thread's call, and the reply, which is `Done`, becomes its answer.
+fn make(kernel: &mut Kernel, meter: &mut Meter, thread: ObjectId, call: &Call, reply: &mut Reply)
+    requires { reply.old ≡ told.Done }
+    ensures reply { reply.new ≡ answer (kernel_state kernel.old) thread call.now }
     ensures state { kernel_state kernel.new ≡ next (kernel_state kernel.old) thread call.now }
 {
-    kernel.step_surely(thread, call, meter)
+    kernel.step_into(thread, call, reply, meter)
 }
 
 impl<B: Naming> Pair<B> {
@@ -126,8 +128,8 @@ impl<B: Naming> Pair<B> {
     }
 
     /// Makes a pass's call, as the event that comes next: the log tries it, the master makes it,
-    /// the log has made it, and then readers are shown the copy that has it. Without memory nothing
-    /// changes.
+    /// the log has made it, and then readers are shown the copy that has it. The reply, which is
+    /// `Done`, becomes its answer. Without memory nothing changes.
     pub(crate) fn commit<R: Wait>(
         &mut self,
         rt: &R,
@@ -136,14 +138,16 @@ impl<B: Naming> Pair<B> {
         pass: &Pass<B>,
         call: &Call,
         events: u64,
-    ) -> Result<Reply, NoMemory>
+        reply: &mut Reply,
+    ) -> Result<(), NoMemory>
+        requires done { reply.old ≡ told.Done }
         requires state { kernel_state kernel.old ≡ state_of B.boot.limits self.old }
         requires number { pass.now.number ≡ count pass.now.thread self.old + 1 }
         requires events { events ≡ length self.old + 1 }
         ensures event { OnOk result
             (self.new ≡ with_event B.boot.limits self.old pass.now call.now) }
-        ensures reply { IfOk result
-            (λ reply. reply ≡ answer (kernel_state kernel.old) pass.now.thread call.now) }
+        ensures reply { OnOk result
+            (reply.new ≡ answer (kernel_state kernel.old) pass.now.thread call.now) }
         ensures state { OnOk result
             (kernel_state kernel.new ≡ next (kernel_state kernel.old) pass.now.thread call.now) }
         ensures kept { OnErr result ((self.new ≡ self.old) × (kernel.new ≡ kernel.old)) }
@@ -153,10 +157,10 @@ impl<B: Naming> Pair<B> {
             return Err(NoMemory);
         };
         self.copies.queue(op)?;
-        let reply = make(kernel, meter, pass.thread(), call);
+        make(kernel, meter, pass.thread(), call, reply);
         self.tip.settle(rt, &self.head);
         self.copies.publish(rt, &self.tip, kernel);
-        Ok(reply)
+        Ok(())
     }
 
     /// A reader of the copies, which knows their boot.

@@ -89,9 +89,10 @@ impl<B: Naming> Seat<'_, B> {
         let Some(lane) = self.lane.take() else {
             return Err(Unread);
         };
-        let (lane, answer) = lane.read(self.pass.thread(), query, &mut self.meter);
+        let mut reply = Reply::Done;
+        let (lane, front) = lane.read(self.pass.thread(), query, &mut reply, &mut self.meter);
         self.lane = Some(lane);
-        let Some((reply, front)) = answer else {
+        let Some(front) = front else {
             return Err(Unread);
         };
         if !front.has(self.pass.front()) {

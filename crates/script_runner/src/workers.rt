@@ -50,17 +50,19 @@ fn submitted<B: Naming, R: Wait>(
     call: &Call,
 ) -> Result<Answer, NoMemory> {
     match seat.submit(rt, call) {
-        Ok(receipt) => Ok(Answer::Replied(receipt.reply)),
-        Err(SubmitRefusal::OutOfTurn) => Ok(Answer::Replied(Reply::Refused(Refusal::OutOfTurn))),
-        Err(SubmitRefusal::Memory) => Err(NoMemory),
+        Ok(receipt) => return Ok(Answer::Replied(receipt.reply)),
+        Err(SubmitRefusal::OutOfTurn) => {
+            return Ok(Answer::Replied(Reply::Refused(Refusal::OutOfTurn)));
+        }
+        Err(SubmitRefusal::Memory) => return Err(NoMemory),
     }
 }
 
 /// What a query answers, or that it is not answered.
 fn read<B: Naming>(seat: &mut Seat<'_, B>, query: &Query) -> Reply {
     match seat.read(query) {
-        Ok(reply) => reply,
-        Err(unread) => Reply::Refused(unread.refusal()),
+        Ok(reply) => return reply,
+        Err(unread) => return Reply::Refused(unread.refusal()),
     }
 }
 
@@ -106,10 +108,11 @@ impl<'s, B: Naming> Worker<'s, B> {
             own: &self.own,
             earlier,
         };
+        // (calls and replies are large, and what a match is worth is moved once more: so each arm returns)
         match resolve(&line.call, &names) {
-            Err(name) => Ok(Answer::Unbound(name)),
-            Ok(Asked::Write(call)) => submitted(rt, seat, &call),
-            Ok(Asked::Read(query)) => Ok(Answer::Replied(read(seat, &query))),
+            Err(name) => return Ok(Answer::Unbound(name)),
+            Ok(Asked::Write(call)) => return submitted(rt, seat, &call),
+            Ok(Asked::Read(query)) => return Ok(Answer::Replied(read(seat, &query))),
         }
     }
 

@@ -9,12 +9,13 @@ ghost use Rattle.kernel_rules.specs.Runs.{booted};
 ghost use Rattle.arena_state.specs.Kept.{label_kept, order_kept};
 ghost use Rattle.arena_state.specs.Shown.{AreKept};
 ghost use Rattle.kernel_rules.specs.Translate.{translate};
+ghost use Rattle.kernel_rules.specs.declared.replies.Reply.TheVariants as told;
 ghost use Rattle.translation_laws.specs.Names.{IsNamedRightly};
 ghost use Rattle.arena_state.specs.States.{state_of};
 
 use arena_state::ArenaState;
 use base::{Kind, Limits, Meter, NoMemory, ObjectId, Rights};
-use kernel_calls::{ask, step_surely};
+use kernel_calls::{ask_into, step_surely_into};
 use kernel_rules::{Call, Query, Reply, Tables};
 use kernel_tables::tables;
 use label_intern::{LabelIx, OrderBits};
@@ -144,6 +145,20 @@ impl Kernel {
     ghost use Rattle.kernel_store.specs.Storing.{label_count};
     ghost use Rattle.syscall_core.specs.Kernel.{kernel_state};
 
+    /// One call, as `step_surely` says, with its reply put where `Done` stands: a reply is large, and is
+    /// so made where it is wanted.
+    pub fn step_into(&mut self, thread: ObjectId, call: &Call, reply: &mut Reply, meter: &mut Meter)
+        requires { reply.old ≡ told.Done }
+        ensures reply { reply.new ≡ answer (kernel_state self.old) thread call.now }
+        ensures state { kernel_state self.new ≡ next (kernel_state self.old) thread call.now }
+        ensures quiet { is_quiet call.now ≡ true → meter.new.scans ≡ meter.old.scans }
+        ensures scans { meter.new.scans ≤ meter.old.scans
+            + most_scans (stores call.now) (label_count (kernel_state self.old)) }
+    {
+        self.state.labels_are_carried();
+        step_surely_into(self, thread, call, reply, meter)
+    }
+
     /// One call of a thread that may change the state, as `Machine::step` says; it takes no memory, so
     /// there is no error. A call that stores no label scans none, refused or not; one that stores n labels,
     /// where objects carry m different ones before it, scans at most 12 + 6(n + 1)(m + n) times.
@@ -154,8 +169,20 @@ impl Kernel {
         ensures scans { meter.new.scans ≤ meter.old.scans
             + most_scans (stores call.now) (label_count (kernel_state self.old)) }
     {
-        self.state.labels_are_carried();
-        step_surely(self, thread, call, meter)
+        let mut reply = Reply::Done;
+        self.step_into(thread, call, &mut reply, meter);
+        reply
+    }
+
+    /// One query, as `ask_surely` says, with its reply put where `Done` stands.
+    pub fn ask_into(&self, thread: ObjectId, query: &Query, reply: &mut Reply, meter: &mut Meter)
+        requires { reply.old ≡ told.Done }
+        ensures reply { reply.new ≡ query_answer (kernel_state self.now) thread query.now }
+        ensures scans { meter.new.scans ≡ meter.old.scans }
+        ensures probes { is_load query.now ≡ true
+            → meter.new.probes ≤ meter.old.probes + 64 }
+    {
+        ask_into(self, thread, query, reply, meter)
     }
 
     /// One query of a thread, as `Machine::ask` says; it takes no memory, so there is no error. No label
@@ -166,7 +193,9 @@ impl Kernel {
         ensures probes { is_load query.now ≡ true
             → meter.new.probes ≤ meter.old.probes + 64 }
     {
-        ask(self, thread, query, meter)
+        let mut reply = Reply::Done;
+        self.ask_into(thread, query, &mut reply, meter);
+        reply
     }
 }
 

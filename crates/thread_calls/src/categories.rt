@@ -5,10 +5,10 @@ ghost use Rattle.kernel_rules.specs.Rows.{own_label, own_clearance};
 ghost use Rattle.kernel_rules.specs.Step.{accepted, edit};
 ghost use Rattle.kernel_rules.specs.Table.{refused};
 ghost use Rattle.kernel_rules.specs.declared.calls.Call.TheVariants as call;
+ghost use Rattle.kernel_rules.specs.declared.replies.Reply.TheVariants as told;
 ghost use Rattle.kernel_store.specs.Storing.{storing};
 
 use base::{Category, Level, Meter, ObjectId, Refusal};
-use kernel_rules::Reply;
 use kernel_store::{Store, halted, refusal_of};
 use label_lattice::Label;
 use label_rules::with_category;
@@ -65,9 +65,9 @@ pub fn refused_cat_create<S: Store>(
 }
 
 /// Makes a category, which the thread owns.
-pub fn cat_create<S: Store>(state: &mut S, thread: ObjectId, meter: &mut Meter) -> Reply
+pub fn cat_create<S: Store>(state: &mut S, thread: ObjectId, meter: &mut Meter) -> Category
     requires { refused (S.state state.old) thread call.CatCreate ≡ None }
-    ensures reply { result ≡ accepted (S.state state.old) thread call.CatCreate }
+    ensures category { told.Category result ≡ accepted (S.state state.old) thread call.CatCreate }
     ensures state { S.state state.new ≡ edit (S.state state.old) thread call.CatCreate }
     ensures meter { S.kept meter.new
         ≤ S.kept meter.old + 2 + storing 2 (S.stored state.old) }
@@ -76,5 +76,5 @@ pub fn cat_create<S: Store>(state: &mut S, thread: ObjectId, meter: &mut Meter) 
     let label = own_label(state, thread, meter);
     let clearance = own_clearance(state, thread, meter);
     state.own_category(thread, label, clearance, meter);
-    Reply::Category(category)
+    category
 }

@@ -13,6 +13,7 @@ ghost use Rattle.label_lattice.specs.Raw.{is_bad_below};
 ghost use Rattle.kernel_rules.specs.Step.{accepted, edit, through_gate, told_by};
 ghost use Rattle.kernel_rules.specs.Table.{refused, own_bearer, gate_bearer};
 ghost use Rattle.kernel_rules.specs.declared.calls.Call.TheVariants as call;
+ghost use Rattle.kernel_rules.specs.declared.replies.Reply.TheVariants as told;
 ghost use Rattle.kernel_store.specs.Storing.{storing};
 
 use base::{Kind, Meter, ObjectId, Refusal};
@@ -55,9 +56,9 @@ pub fn gate_create<S: Store>(
     thread: ObjectId,
     made: &NewGate,
     meter: &mut Meter,
-) -> Result<Reply, S::Want>
+) -> Result<ObjectId, S::Want>
     requires { refused (S.state state.old) thread (call.GateCreate made.now) ≡ None }
-    ensures reply { IfOk result (λ reply. reply ≡ accepted (S.state state.old) thread
+    ensures object { IfOk result (λ id. told.Object id ≡ accepted (S.state state.old) thread
         (call.GateCreate made.now)) }
     ensures ok { OnOk result (S.state state.new ≡ edit (S.state state.old) thread
         (call.GateCreate made.now)) }
@@ -67,7 +68,7 @@ pub fn gate_create<S: Store>(
 {
     let label = stored_of(&made.label, meter);
     let Some(clearance) = stored_of(&made.clearance, meter) else {
-        return Ok(Reply::Object(state.next_id()));
+        return Ok(state.next_id());
     };
     let gate = Gate {
         clearance,
@@ -76,7 +77,7 @@ pub fn gate_create<S: Store>(
         closure: made.closure,
     };
     let id = state.create_gate(made.container, label, made.quota, gate, meter)?;
-    Ok(Reply::Object(id))
+    Ok(id)
 }
 
 fn own_bearer<S: Store>(state: &S, thread: ObjectId, meter: &mut Meter) -> Bearer
@@ -121,21 +122,21 @@ fn is_open<S: Store>(
 
 /// The three labels that a thread asks of a gate, as they are given.
 #[derive(Clone, Copy)]
-pub struct Entering {
+pub struct Entering<'a> {
     /// Its new label.
-    pub label: RawLabel,
+    pub label: &'a RawLabel,
     /// Its new clearance.
-    pub clearance: RawLabel,
+    pub clearance: &'a RawLabel,
     /// The label that it proves to the gate's owner.
-    pub verify: RawLabel,
+    pub verify: &'a RawLabel,
 }
 
 /// The three labels, where they can be stored.
 fn asked_of(entering: &Entering, meter: &mut Meter) -> Asked
     ensures value { result ≡ record {
-      label = stored entering.now.label;
-      clearance = stored entering.now.clearance;
-      verify = stored entering.now.verify;
+      label = stored entering.now.label.now;
+      clearance = stored entering.now.clearance.now;
+      verify = stored entering.now.verify.now;
     } }
     ensures label { IfSome result.label IsStored }
     ensures clearance { IfSome result.clearance IsStored }
@@ -143,9 +144,9 @@ fn asked_of(entering: &Entering, meter: &mut Meter) -> Asked
     ensures scans { ScansAtMost 3 meter.old meter.new }
 {
     Asked {
-        label: stored_of(&entering.label, meter),
-        clearance: stored_of(&entering.clearance, meter),
-        verify: stored_of(&entering.verify, meter),
+        label: stored_of(entering.label, meter),
+        clearance: stored_of(entering.clearance, meter),
+        verify: stored_of(entering.verify, meter),
     }
 }
 
@@ -168,8 +169,8 @@ pub fn refused_gate_enter<S: Store>(
     meter: &mut Meter,
 ) -> Option<Refusal>
     ensures value { result ≡ refused (S.state state.now) thread
-        (call.GateEnter gate.now entering.now.label
-        entering.now.clearance entering.now.verify) }
+        (call.GateEnter gate.now entering.now.label.now
+        entering.now.clearance.now entering.now.verify.now) }
     ensures meter { S.kept meter.new ≤ S.kept meter.old + 11 }
 {
     let halted = halted(state, thread, meter);
@@ -180,9 +181,9 @@ pub fn refused_gate_enter<S: Store>(
         &halted,
         &in_container(&seen),
         &of_kind(Kind::Gate, &seen.object),
-        &good_raw_label(state, &entering.label, meter),
-        &good_raw_label(state, &entering.clearance, meter),
-        &good_raw_label(state, &entering.verify, meter),
+        &good_raw_label(state, entering.label, meter),
+        &good_raw_label(state, entering.clearance, meter),
+        &good_raw_label(state, entering.verify, meter),
         &[(Refusal::GateDenied, !open)],
     ])
 }
@@ -215,40 +216,43 @@ fn enter<S: Store>(
     }
 }
 
-fn told_by(gate: &Option<Gate>) -> Reply
-    ensures { result ≡ told_by gate.now }
+// The reply is what a gate tells.
+fn tell(gate: &Option<Gate>, reply: &mut Reply)
+    requires { reply.old ≡ told.Done }
+    ensures { reply.new ≡ told_by gate.now }
 {
-    match gate {
-        None => Reply::Done,
-        Some(gate) => Reply::Entered {
+    if let Some(gate) = gate {
+        *reply = Reply::Entered {
             entry_point: gate.entry_point,
             closure: gate.closure,
-        },
+        };
     }
 }
 
 /// The thread enters a gate: it has the asked labels, and the gate's address space, entry point and
-/// closure.
+/// closure, of which the reply tells.
 pub fn gate_enter<S: Store>(
     state: &mut S,
     thread: ObjectId,
     gate: &Entry,
     entering: &Entering,
+    reply: &mut Reply,
     meter: &mut Meter,
-) -> Reply
-    requires { refused (S.state state.old) thread (call.GateEnter gate.now entering.now.label
-        entering.now.clearance entering.now.verify) ≡ None }
-    ensures reply { result ≡ accepted (S.state state.old) thread
-        (call.GateEnter gate.now entering.now.label
-        entering.now.clearance entering.now.verify) }
+)
+    requires done { reply.old ≡ told.Done }
+    requires free { refused (S.state state.old) thread (call.GateEnter gate.now entering.now.label.now
+        entering.now.clearance.now entering.now.verify.now) ≡ None }
+    ensures reply { reply.new ≡ accepted (S.state state.old) thread
+        (call.GateEnter gate.now entering.now.label.now
+        entering.now.clearance.now entering.now.verify.now) }
     ensures state { S.state state.new ≡ edit (S.state state.old) thread
-        (call.GateEnter gate.now entering.now.label
-        entering.now.clearance entering.now.verify) }
+        (call.GateEnter gate.now entering.now.label.now
+        entering.now.clearance.now entering.now.verify.now) }
     ensures meter { S.kept meter.new
         ≤ S.kept meter.old + 3 + storing 3 (S.stored state.old) }
 {
     let asked = asked_of(entering, meter);
     let entered = state.gate(gate.object, meter);
     enter(state, thread, &asked, &entered, meter);
-    told_by(&entered)
+    tell(&entered, reply);
 }

@@ -2,13 +2,12 @@
 ghost use Rattle.std.specs.Prelude.{◌≡◌, ◌≤◌, ◌+◌, None, option_copied};
 ghost use Rattle.label_rules.specs.LabelRules.{may_clear};
 ghost use Rattle.kernel_rules.specs.State.{label_at, clearance_at};
-ghost use Rattle.kernel_rules.specs.Step.{accepted, edit};
+ghost use Rattle.kernel_rules.specs.Step.{edit};
 ghost use Rattle.kernel_rules.specs.Table.{refused};
 ghost use Rattle.kernel_rules.specs.declared.calls.Call.TheVariants as call;
 ghost use Rattle.kernel_store.specs.Storing.{storing};
 
 use base::{Meter, ObjectId, Refusal};
-use kernel_rules::Reply;
 use kernel_store::{Store, good_label, halted, is_in_range, refusal_of};
 use label_lattice::{Label, RawLabel};
 use label_rules::{may_clear, stored_of};
@@ -34,14 +33,8 @@ pub fn refused_self_set_label<S: Store>(
 }
 
 /// The thread has another label.
-pub fn self_set_label<S: Store>(
-    state: &mut S,
-    thread: ObjectId,
-    raw: &RawLabel,
-    meter: &mut Meter,
-) -> Reply
+pub fn self_set_label<S: Store>(state: &mut S, thread: ObjectId, raw: &RawLabel, meter: &mut Meter)
     requires { refused (S.state state.old) thread (call.SelfSetLabel raw.now) ≡ None }
-    ensures reply { result ≡ accepted (S.state state.old) thread (call.SelfSetLabel raw.now) }
     ensures state { S.state state.new
         ≡ edit (S.state state.old) thread (call.SelfSetLabel raw.now) }
     ensures meter { S.kept meter.new
@@ -49,7 +42,6 @@ pub fn self_set_label<S: Store>(
 {
     let label = stored_of(raw, meter);
     state.set_label(thread, label, meter);
-    Reply::Done
 }
 
 fn may_clear_to<S: Store>(
@@ -93,8 +85,7 @@ pub fn self_set_clearance<S: Store>(
     thread: ObjectId,
     raw: &RawLabel,
     meter: &mut Meter,
-) -> Reply
-    ensures reply { result ≡ accepted (S.state state.old) thread (call.SelfSetClearance raw.now) }
+)
     ensures state { S.state state.new
         ≡ edit (S.state state.old) thread (call.SelfSetClearance raw.now) }
     ensures meter { S.kept meter.new
@@ -102,5 +93,4 @@ pub fn self_set_clearance<S: Store>(
 {
     let clearance = stored_of(raw, meter);
     state.set_clearance(thread, clearance, meter);
-    Reply::Done
 }

@@ -4,6 +4,7 @@ ghost use Rattle.kernel_rules.specs.Step.{accepted, edit, found};
 ghost use Rattle.kernel_rules.specs.Table.{refused, query_refused};
 ghost use Rattle.kernel_rules.specs.declared.calls.Call.TheVariants as call;
 ghost use Rattle.kernel_rules.specs.declared.calls.Query.TheVariants as query;
+ghost use Rattle.kernel_rules.specs.declared.replies.Reply.TheVariants as told;
 ghost use Rattle.kernel_store.specs.Storing.{storing};
 
 use base::{Kind, Meter, ObjectId, Refusal};
@@ -27,20 +28,13 @@ pub fn refused_self_set_as<S: Store>(
 }
 
 /// The thread has another address space.
-pub fn self_set_as<S: Store>(
-    state: &mut S,
-    thread: ObjectId,
-    space: &Entry,
-    meter: &mut Meter,
-) -> Reply
+pub fn self_set_as<S: Store>(state: &mut S, thread: ObjectId, space: &Entry, meter: &mut Meter)
     requires { refused (S.state state.old) thread (call.SelfSetAs space.now) ≡ None }
-    ensures reply { result ≡ accepted (S.state state.old) thread (call.SelfSetAs space.now) }
     ensures state { S.state state.new
         ≡ edit (S.state state.old) thread (call.SelfSetAs space.now) }
     ensures meter { S.kept meter.new ≡ S.kept meter.old }
 {
     state.set_space(thread, *space, meter);
-    Reply::Done
 }
 
 /// What refuses to make a thread.
@@ -71,9 +65,9 @@ pub fn thread_create<S: Store>(
     thread: ObjectId,
     made: &NewThread,
     meter: &mut Meter,
-) -> Result<Reply, S::Want>
+) -> Result<ObjectId, S::Want>
     requires { refused (S.state state.old) thread (call.ThreadCreate made.now) ≡ None }
-    ensures reply { IfOk result (λ reply. reply ≡ accepted (S.state state.old) thread
+    ensures object { IfOk result (λ id. told.Object id ≡ accepted (S.state state.old) thread
         (call.ThreadCreate made.now)) }
     ensures ok { OnOk result (S.state state.new ≡ edit (S.state state.old) thread
         (call.ThreadCreate made.now)) }
@@ -83,7 +77,7 @@ pub fn thread_create<S: Store>(
 {
     let label = stored_of(&made.label, meter);
     let Some(clearance) = stored_of(&made.clearance, meter) else {
-        return Ok(Reply::Object(state.next_id()));
+        return Ok(state.next_id());
     };
     let id = state.create_thread(
         made.container,
@@ -93,7 +87,7 @@ pub fn thread_create<S: Store>(
         made.entry_point,
         meter,
     )?;
-    Ok(Reply::Object(id))
+    Ok(id)
 }
 
 /// What refuses to tell what the caller is.
@@ -105,23 +99,23 @@ pub fn refused_self_get<S: Store>(state: &S, thread: ObjectId, meter: &mut Meter
 }
 
 /// What the caller is.
-pub fn self_get<S: Store>(state: &S, thread: ObjectId, meter: &mut Meter) -> Reply
-    ensures value { result ≡ found (S.state state.now) thread query.SelfGet }
+pub fn self_get<S: Store>(state: &S, thread: ObjectId, reply: &mut Reply, meter: &mut Meter)
+    requires { reply.old ≡ told.Done }
+    ensures value { reply.new ≡ found (S.state state.now) thread query.SelfGet }
     ensures meter { S.kept meter.new ≡ S.kept meter.old }
 {
-    match (
+    if let (Some(own), Some(label)) = (
         state.thread(thread, meter),
         state.label(thread, meter).copied(),
     ) {
-        (Some(own), Some(label)) => Reply::Own {
+        *reply = Reply::Own {
             label,
             clearance: own.clearance,
             verify: own.verify,
             space: own.space,
             entry_point: own.entry_point,
             closure: own.closure,
-        },
-        _ => Reply::Done,
+        };
     }
 }
 
@@ -146,12 +140,18 @@ pub fn refused_obj_label<S: Store>(
 }
 
 /// The label of an object.
-pub fn obj_label<S: Store>(state: &S, thread: ObjectId, entry: &Entry, meter: &mut Meter) -> Reply
-    ensures value { result ≡ found (S.state state.now) thread (query.ObjLabel entry.now) }
+pub fn obj_label<S: Store>(
+    state: &S,
+    thread: ObjectId,
+    entry: &Entry,
+    reply: &mut Reply,
+    meter: &mut Meter,
+)
+    requires { reply.old ≡ told.Done }
+    ensures value { reply.new ≡ found (S.state state.now) thread (query.ObjLabel entry.now) }
     ensures meter { S.kept meter.new ≡ S.kept meter.old }
 {
-    match state.label(entry.object, meter).copied() {
-        None => Reply::Done,
-        Some(label) => Reply::Label(label),
+    if let Some(label) = state.label(entry.object, meter) {
+        *reply = Reply::Label(*label);
     }
 }

@@ -6,7 +6,7 @@ use Rattle.containers.proofs.cells.find_link.Given as goal
 
 abbrev pub invariant-loop-place : goal.invariant-loop-place
 invariant-loop-place l = record {
-  next : l.next ≡ slice_get (cells_at l.rings 0 l.container) l.place;
-  before : (k c : ℕ) → k < l.place → StandsAt (cells_at l.rings 0 l.container) k c → Stands l.rings 1 l.object c → ⊥;
+  next : l.next ≡ slice_get (cells_at l.rings 1 l.object) l.place;
+  before : (k c : ℕ) → k < l.place → StandsAt (cells_at l.rings 1 l.object) k c → Stands l.rings 0 l.container c → ⊥;
   scans : l.meter.scans ≡ l.initial.meter.scans;
 }

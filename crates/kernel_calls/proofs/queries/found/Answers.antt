@@ -7,4 +7,4 @@ pub returns-in-Load-clause-value : goal.returns-in-Load-clause-value
 returns-in-Load-clause-value g c =
     c.load.ensures.value
     ∙ ap (query_answer (g.S.Store.state c.args.state.now) c.args.thread) (sym c.in-Load.is)
-    ∙ ask_found _ _ _ c.requires
+    ∙ ask_found _ _ _ c.requires.free

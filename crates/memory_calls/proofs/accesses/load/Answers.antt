@@ -3,19 +3,19 @@ use Rattle.kernel_rules.proofs.StepLaws.{ask_refused, ask_found}
 use Rattle.memory_calls.proofs.accesses.load.Goals as goal
 
 pub returns-in-Some-clause-value : goal.returns-in-Some-clause-value
-returns-in-Some-clause-value g c = sym (ask_refused _ _ _ _ (sym c.refused_there.ensures.value ∙ c.in-Some.is))
+returns-in-Some-clause-value g c = c.refuse.ensures ∙ sym (ask_refused _ _ _ _ (sym c.refused_there.ensures.value ∙ c.in-Some.is))
 
-pub returns-in-None-clause-value : goal.returns-in-None-clause-value
-returns-in-None-clause-value g c =
-    c.found_there.ensures.value ∙ sym (ask_found _ _ _ (sym c.refused_there.ensures.value ∙ c.in-None.is))
+pub returns-in-Some-place-clause-value : goal.returns-in-Some-place-clause-value
+returns-in-Some-place-clause-value g c =
+    c.bytes_there.ensures.value ∙ sym (ask_found _ _ _ (sym c.refused_there.ensures.value ∙ c.in_default.is))
 
 pub returns-in-Some-clause-looks : goal.returns-in-Some-clause-looks
 returns-in-Some-clause-looks g c =
     g.met.S.Store.more_spent 7 9 _ _ (omega arith)
     (g.met.S.Store.both_spent 5 2 _ _ _ c.place-place.ensures.looks c.refused_there.ensures.looks)
 
-pub returns-in-None-clause-looks : goal.returns-in-None-clause-looks
-returns-in-None-clause-looks g c =
+pub returns-in-Some-place-clause-looks : goal.returns-in-Some-place-clause-looks
+returns-in-Some-place-clause-looks g c =
     g.met.S.Store.both_spent 7 2 _ _ _
     (g.met.S.Store.both_spent 5 2 _ _ _ c.place-place.ensures.looks c.refused_there.ensures.looks)
-    c.found_there.ensures.looks
+    c.bytes_there.ensures.looks

@@ -30,8 +30,8 @@ publish-requires-clause-state g c =
     let pass = c.args.pass.now in
     let call = c.args.call.now in
     let event : Event = event_at (state_of limits list) pass call in
-    let stepped : kernel_state c.make-reply.new.kernel ≡ next (kernel_state c.args.kernel.now) pass.thread call = search rules in
+    let stepped : kernel_state c.make.new.kernel ≡ next (kernel_state c.args.kernel.now) pass.thread call = search rules in
     let made_is : made c.settle.new.self ≡ list ++ event ∷ [] = search rules in
     let was : kernel_state c.args.kernel.now ≡ state_of limits list = search rules in
-    makes limits list event (kernel_state c.args.kernel.now) (kernel_state c.make-reply.new.kernel) was stepped
+    makes limits list event (kernel_state c.args.kernel.now) (kernel_state c.make.new.kernel) was stepped
     ∙ ap (state_of limits) (sym made_is)

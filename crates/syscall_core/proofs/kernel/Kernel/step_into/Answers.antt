@@ -4,7 +4,7 @@ use Rattle.kernel_calls.proofs.ScanLaws.{more_scans}
 use Rattle.kernel_store.specs.Storing.{label_count}
 use Rattle.arena_state.specs.States.{labels_stored}
 use Rattle.syscall_core.specs.Kernel.{kernel_state}
-use Rattle.syscall_core.proofs.kernel.Kernel.step_surely.Goals as goal
+use Rattle.syscall_core.proofs.kernel.Kernel.step_into.Goals as goal
 
 pub returns-clause-scans : goal.returns-clause-scans
 returns-clause-scans c =
@@ -12,5 +12,5 @@ returns-clause-scans c =
       arith,
       more_scans (stores c.args.call.now) (labels_stored c.args.self.now.state)
           (label_count (kernel_state c.args.self.now)) c.labels_are_carried.ensures,
-      c.step_surely.ensures.scans,
+      c.step_surely_into.ensures.scans,
     )
