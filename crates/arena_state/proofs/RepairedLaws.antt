@@ -125,3 +125,16 @@ all_passed a c n rows le k = record {
       k.kept id slot h (inl (omega (arith, within, le, a.sound.cells)));
   named = k.named;
 }
+
+-- slots that are no thread's need not be passed
+pub none_before : (a : ArenaState) (c : Change) (n : ℕ) (rows : BySlot)
+    → ((slot : ℕ) → slot < n → thread_at rows slot ≡ None) → AreKeptBut a c 0 rows → AreKeptBut a c n rows
+none_before a c n rows none k = record {
+  size = k.size;
+  kept = λ id slot h when. elim when [
+    | inl lt ↦ k.kept id slot h (inr
+        (ap (reaches_by (state_of a) c) (named_none id (own_space (state_of a) id) (sym (k.named id slot h) ∙ none slot lt))))
+    | inr untouched ↦ k.kept id slot h (inr untouched)
+  ];
+  named = k.named;
+}

@@ -112,13 +112,14 @@ impl ArenaState {
     }
 
     /// Where the rows of all threads but those that a change touches say what is shown after it,
-    /// those are remade, and no other: so each row does.
+    /// those are remade, and no other: so each row does. The walk leaves out the slots before the
+    /// first thread's: a pool gives its last slots first, so threads that are made early have those.
     pub fn repair(&self, change: &Change, rows: &mut Rows, meter: &mut Meter)
         requires { AreKeptBut self.now change.now 0 rows.old }
         ensures kept { AreKept self.now rows.new }
         ensures scans { meter.new.scans ≡ meter.old.scans }
     {
-        for place in 0..self.pieces.limits.pages as usize {
+        for place in rows.first()..self.pieces.limits.pages as usize {
             self.repair_slot(Slot(place), change, rows, meter);
         }
     }

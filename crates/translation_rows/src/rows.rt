@@ -1,5 +1,5 @@
 //! Rows by slot.
-ghost use Rattle.std.specs.Prelude.{◌≡◌, ◌<◌, ◌≤◌, IfOk};
+ghost use Rattle.std.specs.Prelude.{◌≡◌, ◌<◌, ◌≤◌, ℕ, None, IfOk};
 ghost use Rattle.base.specs.Counts.{probed};
 
 use base::{Meter, NoMemory, ObjectId, Rights, Slot};
@@ -12,6 +12,8 @@ use std::marker::Model;
 pub struct Rows {
     threads: Vec<Option<ObjectId>>,
     rows: Vec<[Option<(ObjectId, Rights)>; 16]>,
+    // No slot before this one is a thread's.
+    first: usize,
 }
 
 impl Model for Rows {
@@ -19,12 +21,14 @@ impl Model for Rows {
 
     ghost Value = { BySlot };
 
-    ghost use Rattle.std.specs.Prelude.{◌≡◌, ◌≤◌, length, All};
+    ghost use Rattle.std.specs.Prelude.{◌≡◌, ◌≤◌, ◌<◌, ℕ, None, length, slice_index_or, All};
 
     ghost view = { λ a. record { threads = a.threads.items; rows = a.rows.items } };
 
     ghost invariant = { λ a. (length a.threads.items ≡ length a.rows.items)
-        × All (λ row. length row ≡ 16) a.rows.items × (length a.rows.items ≤ 512) };
+        × All (λ row. length row ≡ 16) a.rows.items × (length a.rows.items ≤ 512)
+        × ((slot : ℕ) → slot < a.first → slice_index_or a.threads.items slot None ≡ None)
+        × (a.first ≤ length a.rows.items) };
 }
 
 impl Rows {
@@ -40,7 +44,11 @@ impl Rows {
         threads.resize(slots, None)?;
         let mut rows = Vec::new(alloc);
         rows.resize(slots, [None; 16])?;
-        Ok(Rows { threads, rows })
+        Ok(Rows {
+            threads,
+            rows,
+            first: slots,
+        })
     }
 
     /// The thread that a slot names, none where it is no thread's. One probe.
@@ -51,6 +59,15 @@ impl Rows {
     {
         meter.probe();
         self.threads[slot.0]
+    }
+
+    /// A slot before which none is a thread's.
+    pub fn first(&self) -> usize
+        ensures none { (slot : ℕ) → slot < result → thread_at self.now slot ≡ None }
+        ensures within { result ≤ slot_count self.now }
+    {
+        let (_threads, _rows) = (&self.threads, &self.rows);
+        self.first
     }
 
     /// There are at most 512 rows. Nothing is done: a caller's proof has this from a call.
@@ -82,6 +99,9 @@ impl Rows {
         ensures all { self.new ≡ with_row self.old slot.0 thread row }
         ensures named { thread_at self.new slot.0 ≡ thread }
     {
+        if thread.is_some() {
+            self.first = self.first.min(slot.0);
+        }
         self.threads[slot.0] = thread;
         self.rows[slot.0] = row;
     }
