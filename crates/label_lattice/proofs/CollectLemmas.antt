@@ -3,12 +3,11 @@ use Rattle.std.proofs.Common.{◌≡◌, ◌≢◌, ℕ, ◌+◌, ◌<◌, ◌�
 use Rattle.std.proofs.Common.{[]}
 use Rattle.std.proofs.Common.{◌∷◌, length, drop, get_or, refl, sym, ◌∙◌, subst, nat_lt, arith, ◌==◌}
 use Rattle.std.proofs.Common.{if◌then◌else◌, eq-eqb, nat_le, Some, None}
-use Rattle.std.proofs.Common.{add-one, take, ◌-◌, length-drop}
-use Rattle.std.proofs.lemmas.List.{take_all}
+use Rattle.std.proofs.Common.{add-one}
 use Rattle.std.proofs.Math.ListN.{drop_of_length-le}
 use Rattle.std.proofs.Math.Seq.{drop-cons}
 use Rattle.std.specs.List.{list_any}
-use Rattle.label_lattice.specs.Pairs.{filler}
+use Rattle.label_lattice.specs.Columns.{filler}
 use Rattle.label_lattice.proofs.OrderLemmas.{le_means, le_fails}
 use Rattle.std.proofs.lemmas.Bool.{cases_eq, cases_order}
 use Rattle.base.specs.declared.levels.Level.{Level}
@@ -17,7 +16,7 @@ use Rattle.base.specs.Level.{rank_of}
 use Rattle.label_lattice.specs.declared.pairings.Pair.{Pair}
 use Rattle.label_lattice.specs.Levels.{level_at, IsRising, DiffersFrom}
 use Rattle.label_lattice.specs.Label.{IsStored}
-use Rattle.label_lattice.specs.Placed.{kept, placed, fitting}
+use Rattle.label_lattice.specs.Placed.{kept, placed}
 use Rattle.label_lattice.specs.Raw.{has_twice, differing, collected, collected_all}
 use Rattle.label_lattice.proofs.LabelLemmas.{bool_cases}
 use Rattle.label_lattice.proofs.PlacedLemmas.{placed-same, placed-after, placed-before}
@@ -96,29 +95,35 @@ module _ (d : Level) (p : Pair) (rest : List Pair) where
 -- what collecting keeps
 pub record CollectGoesOn (d : Level) (pairs : List Pair) (i : ℕ) (es : List Pair) : Type 0 where
   pub few : length es ≤ 16
+  pub rising : IsRising es
   pub apart : IsApart es (drop i pairs)
   pub collects : collected d (drop i pairs) es ≡ collected d pairs []
-  pub twice : has_twice (drop i pairs) ≡ has_twice pairs
+  pub once : has_twice pairs ≡ false
+  pub once_on : has_twice (drop i pairs) ≡ false
   pub count : length es + differing d (drop i pairs) ≡ differing d pairs
 
 -- a step
-pub collect_step : (d : Level) (pairs : List Pair) (i : ℕ) (es : List Pair) (p : Pair)
+collect_step : (d : Level) (pairs : List Pair) (i : ℕ) (es : List Pair) (p : Pair)
     → CollectGoesOn d pairs i es → drop i pairs ≡ p ∷ drop (i + 1) pairs
-    → any_at p.category.0 (drop (i + 1) pairs) ≡ false → length (placed d p es) ≤ 16
+    → length (placed d p es) ≤ 16
     → CollectGoesOn d pairs (i + 1) (placed d p es)
-collect_step d pairs i es p on head fresh room =
+collect_step d pairs i es p on head room =
     let apart : IsApart es (p ∷ drop (i + 1) pairs) =
     subst (λ (r : List Pair). IsApart es r) head on.apart in
-    let twice : has_twice (p ∷ drop (i + 1) pairs) ≡ has_twice pairs =
-    subst (λ (r : List Pair). has_twice r ≡ has_twice pairs) head on.twice in
+    let once : has_twice (p ∷ drop (i + 1) pairs) ≡ false =
+    subst (λ (r : List Pair). has_twice r ≡ false) head on.once_on in
+    let fresh : any_at p.category.0 (drop (i + 1) pairs) ≡ false =
+    or_false_left (any_at p.category.0 (drop (i + 1) pairs)) _ once in
     record {
       few = room;
+      rising = placed-IsRising d p es on.rising;
       apart =
           IsApart-placed d p (drop (i + 1) pairs) es fresh
           (IsApart-rest es p (drop (i + 1) pairs) apart);
       collects =
           subst (λ (r : List Pair). collected d r es ≡ collected d pairs []) head on.collects;
-      twice = rw fresh at twice;
+      once = on.once;
+      once_on = or_false_right (any_at p.category.0 (drop (i + 1) pairs)) _ once;
       count =
           length-placed d p (drop (i + 1) pairs) es apart
           ∙ subst (λ (r : List Pair). length es + differing d r ≡ differing d pairs) head on.count;
@@ -129,7 +134,7 @@ or_true true = refl
 or_true false = refl
 
 -- where a step finds no room, too many differ
-pub collect_full : (d : Level) (pairs : List Pair) (i : ℕ) (es : List Pair) (p : Pair)
+collect_full : (d : Level) (pairs : List Pair) (i : ℕ) (es : List Pair) (p : Pair)
     → CollectGoesOn d pairs i es → drop i pairs ≡ p ∷ drop (i + 1) pairs
     → 16 < length (placed d p es) → (has_twice pairs || nat_lt 16 (differing d pairs)) ≡ true
 collect_full d pairs i es p on head full =
@@ -140,28 +145,15 @@ collect_full d pairs i es p on head full =
     ∙ subst (λ (r : List Pair). length es + differing d r ≡ differing d pairs) head on.count in
     rw (lt_true 16 (differing d pairs) (omega arith)) (or_true (has_twice pairs))
 
--- where a step finds the category again, it stands twice
-pub collect_twice : (d : Level) (pairs : List Pair) (i : ℕ) (es : List Pair) (p : Pair)
-    → CollectGoesOn d pairs i es → drop i pairs ≡ p ∷ drop (i + 1) pairs
-    → any_at p.category.0 (drop (i + 1) pairs) ≡ true
-    → (has_twice pairs || nat_lt 16 (differing d pairs)) ≡ true
-collect_twice d pairs i es p on head again =
-    let twice : has_twice (p ∷ drop (i + 1) pairs) ≡ has_twice pairs =
-    subst (λ (r : List Pair). has_twice r ≡ has_twice pairs) head on.twice in
-    let found : true ≡ has_twice pairs = rw again at twice in
-    rw (← found) refl
-
 -- at the end all is collected
-pub collect_done : (d : Level) (pairs : List Pair) (i : ℕ) (es : List Pair)
+collect_done : (d : Level) (pairs : List Pair) (i : ℕ) (es : List Pair)
     → CollectGoesOn d pairs i es → drop i pairs ≡ []
     → ((has_twice pairs || nat_lt 16 (differing d pairs)) ≡ false) × (es ≡ collected d pairs [])
 collect_done d pairs i es on done =
-    let twice : false ≡ has_twice pairs =
-    subst (λ (r : List Pair). has_twice r ≡ has_twice pairs) done on.twice in
     let count : length es + 0 ≡ differing d pairs =
     subst (λ (r : List Pair). length es + differing d r ≡ differing d pairs) done on.count in
     let few : length es ≤ 16 = on.few in (
-      rw (← twice, lt_false 16 (differing d pairs) (omega arith)) refl,
+      rw (on.once, lt_false 16 (differing d pairs) (omega arith)) refl,
       subst (λ (r : List Pair). collected d r es ≡ collected d pairs []) done on.collects,
     )
 
@@ -216,55 +208,23 @@ head_at : (pairs : List Pair) (i : ℕ) → i < length pairs
     → drop i pairs ≡ get_or pairs i filler ∷ drop (i + 1) pairs
 head_at pairs i h = rw add-one (drop-cons pairs i filler h)
 
-rest_whole : (pairs : List Pair) (i : ℕ) → take (length pairs - i) (drop i pairs) ≡ drop i pairs
-rest_whole pairs i = take_all (length pairs - i) (drop i pairs) (rw length-drop (omega arith))
-
 -- the answer where a pair finds no room
-pub collect_none : (d : Level) (pairs : List Pair) (i : ℕ) (es view : List Pair)
-    → CollectGoesOn d pairs i es → i < length pairs → view ≡ es
-    → None ≡ fitting (placed d (get_or pairs i filler) view)
-    → None ≡ collected_all d pairs
-collect_none d pairs i es view on within same none =
-    let p : Pair = get_or pairs i filler in
-    let none' : None ≡ fitting (placed d (get_or pairs i filler) es) = rw same at none in
-    elim (bool_cases (nat_le (length (placed d (get_or pairs i filler) es)) 16)) [
-      | inl room ↦
-          absurd
-          (let e : None ≡ Some (placed d (get_or pairs i filler) es) = rw room at none' in cc)
-      | inr full ↦
-          rw (collect_full d pairs i es (get_or pairs i filler) on (head_at pairs i within)
-          (le_fails (length (placed d (get_or pairs i filler) es)) 16 full)) refl
-    ]
-
--- the answer where a pair's category comes again
-pub collect_again : (d : Level) (pairs : List Pair) (i : ℕ) (es : List Pair)
+pub collect_none : (d : Level) (pairs : List Pair) (i : ℕ) (es : List Pair)
     → CollectGoesOn d pairs i es → i < length pairs
-    → true ≡ any_at (get_or pairs i filler).category.0
-    (take (length pairs - (i + 1)) (drop (i + 1) pairs))
+    → false ≡ nat_le (length (placed d (get_or pairs i filler) es)) 16
     → None ≡ collected_all d pairs
-collect_again d pairs i es on within again =
-    rw (collect_twice d pairs i es (get_or pairs i filler) on (head_at pairs i within)
-    (sym (rw (rest_whole pairs (i + 1)) at again))) refl
+collect_none d pairs i es on within full =
+    rw (collect_full d pairs i es (get_or pairs i filler) on (head_at pairs i within)
+    (le_fails (length (placed d (get_or pairs i filler) es)) 16 (sym full))) refl
 
 -- a step that found room
-pub collect_some : (d : Level) (pairs : List Pair) (i : ℕ) (es view next : List Pair)
-    → CollectGoesOn d pairs i es → i < length pairs → view ≡ es
-    → false ≡ any_at (get_or pairs i filler).category.0
-    (take (length pairs - (i + 1)) (drop (i + 1) pairs))
-    → Some next ≡ fitting (placed d (get_or pairs i filler) view)
-    → CollectGoesOn d pairs (i + 1) next
-collect_some d pairs i es view next on within same fresh some =
-    let fresh' : any_at (get_or pairs i filler).category.0 (drop (i + 1) pairs) ≡ false =
-    sym (rw (rest_whole pairs (i + 1)) at fresh) in
-    let some' : Some next ≡ fitting (placed d (get_or pairs i filler) es) = rw same at some in
-    elim (bool_cases (nat_le (length (placed d (get_or pairs i filler) es)) 16)) [
-      | inl room ↦
-          let found : Some next ≡ Some (placed d (get_or pairs i filler) es) = rw room at some' in
-          let e : next ≡ placed d (get_or pairs i filler) es = (cc) in
-          rw e (collect_step d pairs i es (get_or pairs i filler) on (head_at pairs i within) fresh'
-          (le_means (length (placed d (get_or pairs i filler) es)) 16 room))
-      | inr full ↦ absurd (let e : Some next ≡ None = rw full at some' in cc)
-    ]
+pub collect_some : (d : Level) (pairs : List Pair) (i : ℕ) (es : List Pair)
+    → CollectGoesOn d pairs i es → i < length pairs
+    → true ≡ nat_le (length (placed d (get_or pairs i filler) es)) 16
+    → CollectGoesOn d pairs (i + 1) (placed d (get_or pairs i filler) es)
+collect_some d pairs i es on within room =
+    collect_step d pairs i es (get_or pairs i filler) on (head_at pairs i within)
+    (le_means (length (placed d (get_or pairs i filler) es)) 16 (sym room))
 
 -- the answer at the end
 pub collect_end : (d : Level) (pairs : List Pair) (i : ℕ) (es : List Pair)

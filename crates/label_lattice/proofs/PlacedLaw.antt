@@ -1,14 +1,14 @@
 -- Labels after a category was given a level: when there is room, and what is stored.
 use Rattle.std.proofs.Common.{◌≡◌, ℕ, ◌<◌, ◌≤◌, inl, inr, true, false, List, length, nat_le, arith}
 use Rattle.std.proofs.Common.{◌==◌, if◌then◌else◌, Some, None}
-use Rattle.std.proofs.Common.{suc, ◌↔◌, refl, [], ◌∷◌}
+use Rattle.std.proofs.Common.{suc, ◌↔◌, refl, sym, [], ◌∷◌}
 use Rattle.std.specs.Prelude.{Option, IfSome, IsNone}
 use Rattle.base.specs.declared.levels.Level.{Level}
 use Rattle.base.specs.Level.{rank_of}
 use Rattle.std.proofs.lemmas.Bool.{cases_eq, cases_order}
 use Rattle.label_lattice.specs.declared.pairings.Pair.{Pair}
 use Rattle.label_lattice.specs.Label.{LabelValue, level, IsStored}
-use Rattle.label_lattice.specs.Placed.{kept, placed, fitting, with_level}
+use Rattle.label_lattice.specs.Placed.{kept, placed, with_level}
 use Rattle.label_lattice.proofs.LabelLemmas.{bool_cases}
 use Rattle.label_lattice.proofs.PlacedLemmas.{placed-same, placed-after, placed-before}
 use Rattle.label_lattice.proofs.PlacedLemmas.{placed-here, placed-other, placed-IsRising}
@@ -49,21 +49,15 @@ with-levels l p r stored e =
       | inr full ↦ rw full tt
     ])
 
--- the exceptions that were found can be stored
+-- the exceptions that were made can be stored
 pub stored_from_placed : (l : LabelValue) (p : Pair) (es : List Pair) → IsStored l
-    → Some es ≡ fitting (placed l.default_level p l.exceptions)
+    → es ≡ placed l.default_level p l.exceptions
+    → true ≡ nat_le (length (placed l.default_level p l.exceptions)) 16
     → IsStored (record { default_level = l.default_level; exceptions = es })
-stored_from_placed l p es stored e =
-    elim (bool_cases (nat_le (length (placed l.default_level p l.exceptions)) 16)) [
-      | inl room ↦
-          let found : Some es ≡ Some (placed l.default_level p l.exceptions) = rw room at e in
-          let same : es ≡ placed l.default_level p l.exceptions = (cc) in
-          rw same (with_level-IsStored l p stored
-          (le_means (length (placed l.default_level p l.exceptions)) 16 room))
-      | inr full ↦
-          let none : Some es ≡ None = rw full at e in
-          absurd (cc)
-    ]
+stored_from_placed l p es stored e room =
+    rw e
+    (with_level-IsStored l p stored
+    (le_means (length (placed l.default_level p l.exceptions)) 16 (sym room)))
 
 pub with-stored : (l : LabelValue) (p : Pair) (r : Option LabelValue) → IsStored l
     → r ≡ (if nat_le (length (with_level l p).exceptions) 16 then Some (with_level l p) else None)

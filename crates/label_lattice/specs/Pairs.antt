@@ -1,31 +1,34 @@
--- How a short list of pairs lies in an array.
-use Rattle.std.specs.Prelude.{◌≡◌, ℕ, ◌-◌, ◌++◌, List, length, take, replicate, refl}
-use Rattle.base.specs.declared.levels.Level.TheVariants.{Star}
+-- The short list of pairs that two arrays hold.
+use Rattle.std.specs.Prelude.{◌≡◌, ℕ, ◌≤◌, List, [], ◌∷◌, length, take, refl}
+use Rattle.base.specs.declared.ids.Category.{Category}
+use Rattle.base.specs.declared.levels.Level.{Level}
 use Rattle.label_lattice.specs.declared.pairings.Pair.{Pair}
 use Rattle.label_lattice.specs.declared.pairings.Pairs.TheInside.{Inside}
+use Rattle.label_lattice.specs.Columns.{categories_of, levels_of}
 
--- what fills the places past the end
-abbrev pub filler : Pair
-filler = record { category = record { 0 = 0 }; level = Star }
+-- the category and the level at each place
+abbrev pub paired : List Category → List Level → List Pair
+paired [] ls = []
+paired (c ∷ cs) [] = []
+paired (c ∷ cs) (l ∷ ls) = record { category = c; level = l } ∷ paired cs ls
 
--- the items that the cells hold
-abbrev pub items_of : ℕ → List Pair → List Pair
-items_of len cells = take len cells
-
--- the cells that hold the items
-abbrev pub cells_of : ℕ → List Pair → List Pair
-cells_of n ps = ps ++ replicate (n - length ps) filler
+-- the items that the arrays hold
+abbrev pub items_of : ℕ → List Category → List Level → List Pair
+items_of len cs ls = take len (paired cs ls)
 
 -- what is true of the fields
-pub record IsFilled (n len : ℕ) (cells : List Pair) : Type 0 where
-  pub within : length (take len cells) ≡ len
-  pub fill : cells_of n (take len cells) ≡ cells
+pub record IsFilled (n len : ℕ) (cs : List Category) (ls : List Level) : Type 0 where
+  pub few : len ≤ n
+  pub within : length (items_of len cs ls) ≡ len
+  pub categories : categories_of n (items_of len cs ls) ≡ cs
+  pub levels : levels_of n (items_of len cs ls) ≡ ls
 
 -- the fields come back from the items
-pub cells_of-items_of : (n : ℕ) (p : Inside n) → IsFilled n p.len p.cells
+pub fields_of-items_of : (n : ℕ) (p : Inside n) → IsFilled n p.len p.categories p.levels
     → record {
-      len = length (items_of p.len p.cells);
-      cells = cells_of n (items_of p.len p.cells);
+      len = length (items_of p.len p.categories p.levels);
+      categories = categories_of n (items_of p.len p.categories p.levels);
+      levels = levels_of n (items_of p.len p.categories p.levels);
     }
     ≡ p
-cells_of-items_of n p kept = rw (kept.fill, kept.within) refl
+fields_of-items_of n p kept = rw (kept.categories, kept.levels, kept.within) refl

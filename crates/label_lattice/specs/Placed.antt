@@ -1,6 +1,5 @@
 -- A label after one category was given a level.
-use Rattle.std.specs.Prelude.{ℕ, ◌==◌, suc, nat_lt, nat_le, List, [], ◌∷◌, length}
-use Rattle.std.specs.Prelude.{Option, Some, None, if◌then◌else◌}
+use Rattle.std.specs.Prelude.{ℕ, ◌==◌, suc, nat_lt, List, [], ◌∷◌, if◌then◌else◌}
 use Rattle.base.specs.declared.levels.Level.{Level}
 use Rattle.base.specs.Level.{rank_of}
 use Rattle.label_lattice.specs.declared.pairings.Pair.{Pair}
@@ -21,10 +20,6 @@ placed default p [] = kept default p []
 placed default p (q ∷ qs) =
     if nat_lt q.category.0 p.category.0 then q ∷ placed default p qs
     else kept default p (if q.category.0 == p.category.0 then qs else q ∷ qs)
-
--- the list, where a label has room for it
-abbrev pub fitting : List Pair → Option (List Pair)
-fitting es = if nat_le (length es) 16 then Some es else None
 
 -- the label after a category was given a level
 abbrev pub with_level : LabelValue → Pair → LabelValue

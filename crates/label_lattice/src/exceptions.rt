@@ -1,12 +1,11 @@
 //! Lists of exceptions from a default: what they say, and how they are made and changed.
-ghost use Rattle.std.specs.Prelude.{◌≡◌, ◌==◌, ◌≤◌, ◌++◌, ◌||◌, nat_le, nat_lt, if◌then◌else◌};
-ghost use Rattle.std.specs.Prelude.{IfSome, [], length, drop, take};
+ghost use Rattle.std.specs.Prelude.{◌≡◌, ◌==◌, ◌≤◌, IsTrue, nat_le, if◌then◌else◌, [], length};
+ghost use Rattle.std.specs.Prelude.{Some, None};
 ghost use Rattle.std.specs.List.{list_any};
-ghost use Rattle.base.specs.declared.levels.Level.{Level};
-ghost use Rattle.label_lattice.specs.declared.pairings.Pair.{Pair};
-ghost use Rattle.label_lattice.specs.Levels.{level_at, any_star};
-ghost use Rattle.label_lattice.specs.Placed.{place_in, placed, kept, fitting};
-ghost use Rattle.label_lattice.specs.Raw.{collected_all};
+ghost use Rattle.base.specs.Level.{rank_of};
+ghost use Rattle.label_lattice.specs.Levels.{level_at, IsRising};
+ghost use Rattle.label_lattice.specs.Placed.{place_in, placed};
+ghost use Rattle.label_lattice.specs.Raw.{collected_all, has_twice};
 
 use crate::pairings::{Pair, Pairs};
 use base::{Category, Level};
@@ -15,95 +14,103 @@ use base::{Category, Level};
 const MOST: usize = 16;
 
 /// The level of a category.
-pub fn level_of(default: Level, pairs: &[Pair], category: Category) -> Level
+pub fn level_of(default: Level, pairs: &Pairs<16>, category: Category) -> Level
     ensures { result ≡ level_at default pairs.now category.0 }
 {
-    for pair in pairs {
-        if pair.category == category {
+    for place in 0..pairs.len() {
+        let pair = pairs.pair_at(place);
+        if pair.category.0 == category.0 {
             return pair.level;
         }
     }
     default
 }
 
-/// Whether a pair has star.
-pub fn has_star_in(pairs: &[Pair]) -> bool
-    ensures { result ≡ any_star pairs.now }
+/// Whether a level is star.
+pub fn has_star_in(levels: &[Level]) -> bool
+    ensures { result ≡ list_any (λ l. rank_of l == 0) levels.now }
 {
-    pairs.iter().any(|pair| pair.level.rank() == 0)
+    levels.iter().any(|level| level.rank() == 0)
 }
 
-/// Whether a pair has the category.
-fn has_category(category: u64, pairs: &[Pair]) -> bool
-    ensures { result ≡ list_any (λ p. p.category.0 == category) pairs.now }
+/// Whether a category stands in the list.
+fn has_category(category: u64, categories: &[Category]) -> bool
+    ensures { result ≡ list_any (λ c. c.0 == category) categories.now }
 {
-    pairs.iter().any(|pair| pair.category.0 == category)
+    categories.iter().any(|each| each.0 == category)
 }
 
-/// How many pairs come before a category.
-fn place_of(pairs: &[Pair], category: u64) -> usize
+/// Whether a category stands in the list twice. Those that rise are compared with one other each.
+fn has_twice(pairs: &Pairs<24>) -> bool
+    ensures { result ≡ has_twice pairs.now }
+{
+    let categories = pairs.categories();
+    let mut greatest = 0;
+    for (i, category) in categories.iter().enumerate() {
+        if greatest < category.0 {
+            greatest = category.0;
+        } else if has_category(category.0, &categories[..i]) {
+            return true;
+        }
+    }
+    false
+}
+
+/// How many pairs come before a category. It is looked for from the end, where most are put.
+fn place_of(pairs: &Pairs<16>, category: u64) -> usize
+    requires { IsRising pairs.now }
     ensures within { result ≤ length pairs.now }
     ensures place { result ≡ place_in category pairs.now }
 {
-    for (i, pair) in pairs.iter().enumerate() {
-        if category <= pair.category.0 {
-            return i;
-        }
+    let mut place = pairs.len();
+    while place > 0 && category <= pairs.pair_at(place - 1).category.0 {
+        place -= 1;
     }
-    pairs.len()
+    place
 }
 
-/// The place after a category, which has its place in the list.
-fn after_of(pairs: &[Pair], place: usize, category: u64) -> usize
-    requires place { place ≡ place_in category pairs.now }
-    requires within { place ≤ length pairs.now }
-    ensures within { result ≤ length pairs.now }
-    ensures onward { place ≤ result }
-    ensures parts { (default : Level) (p : Pair) → p.category.0 ≡ category →
-        placed default p pairs.now
-        ≡ take place pairs.now ++ kept default p (drop result pairs.now) }
+/// Gives a category of the exceptions a level, where there is room. Otherwise they stay as they
+/// are, and the answer is no.
+pub fn place(exceptions: &mut Pairs<16>, default: Level, pair: Pair) -> bool
+    requires { IsRising exceptions.old }
+    ensures room { result ≡ nat_le (length (placed default pair exceptions.old)) 16 }
+    ensures placed { exceptions.new
+        ≡ (if result then placed default pair exceptions.old else exceptions.old) }
 {
-    if place < pairs.len() && pairs[place].category.0 == category {
-        place + 1
-    } else {
-        place
+    let many = exceptions.len();
+    let place = place_of(exceptions, pair.category.0);
+    let differs = pair.level.rank() != default.rank();
+    if exceptions.has_at(place, pair.category.0) {
+        if differs {
+            exceptions.set(place, pair);
+        } else {
+            exceptions.remove(place);
+        }
+        return true;
     }
+    if differs {
+        if many == MOST {
+            return false;
+        }
+        exceptions.insert(place, pair);
+    }
+    true
 }
 
-/// The exceptions with a category at a level, where they have room.
-pub fn placed_in(default: Level, old: &[Pair], pair: Pair) -> Option<Pairs<16>>
-    requires { length old.now ≤ 16 }
-    ensures { result ≡ fitting (placed default pair old.now) }
+/// The exceptions of pairs in any order, put into an empty list, unless a category stands there
+/// twice or too many differ from the default. Then the answer is no.
+pub fn collect(exceptions: &mut Pairs<16>, default: Level, pairs: &Pairs<24>) -> bool
+    requires { exceptions.old ≡ [] }
+    ensures value { (if result then Some exceptions.new else None) ≡ collected_all default pairs.now }
+    ensures few { IsTrue result → length exceptions.new ≤ 16 }
 {
-    let place = place_of(old, pair.category.0);
-    let after = after_of(old, place, pair.category.0);
-    let mut new = Pairs::new();
-    new.extend(&old[..place]);
-    if pair.level.rank() != default.rank() {
-        if place + (old.len() - after) >= MOST {
-            return None;
-        }
-        new.push(pair);
+    if has_twice(pairs) {
+        return false;
     }
-    new.extend(&old[after..]);
-    Some(new)
-}
-
-/// The exceptions of pairs in any order, unless a category stands there twice or too many differ
-/// from the default.
-pub fn collect(default: Level, pairs: &[Pair]) -> Option<Pairs<16>>
-    ensures value { result ≡ collected_all default pairs.now }
-    ensures few { IfSome result (λ es. length es ≤ 16) }
-{
-    let mut found = Pairs::new();
-    for (i, pair) in pairs.iter().enumerate() {
-        if has_category(pair.category.0, &pairs[i + 1..]) {
-            return None;
-        }
-        match placed_in(default, found.as_slice(), *pair) {
-            Some(next) => found = next,
-            None => return None,
+    for i in 0..pairs.len() {
+        if !place(exceptions, default, pairs.pair_at(i)) {
+            return false;
         }
     }
-    Some(found)
+    true
 }

@@ -13,7 +13,7 @@ ghost use Rattle.label_lattice.specs.Placed.{with_level};
 ghost use Rattle.label_lattice.specs.Raw.{is_bad, is_bad_below, stored_of, raw_of};
 ghost use Rattle.label_lattice.specs.Rule.{rule_test};
 
-use crate::exceptions::{collect, has_star_in, level_of, placed_in};
+use crate::exceptions::{collect, has_star_in, level_of, place};
 use crate::listing::compare_pairs;
 use crate::pairings::{Pair, Pairs};
 use crate::raw_labels::RawLabel;
@@ -59,13 +59,14 @@ impl Label {
         if raw.default.rank() == 0 {
             return Err(Refusal::BadLabel);
         }
-        match collect(raw.default, raw.pairs.as_slice()) {
-            Some(exceptions) => Ok(Label {
-                default: raw.default,
-                exceptions,
-            }),
-            None => Err(Refusal::BadLabel),
+        let mut exceptions = Pairs::new();
+        if !collect(&mut exceptions, raw.default, &raw.pairs) {
+            return Err(Refusal::BadLabel);
         }
+        Ok(Label {
+            default: raw.default,
+            exceptions,
+        })
     }
 
     /// The label that a raw label says, where that is good and names only categories from 1 and
@@ -83,12 +84,11 @@ impl Label {
         ensures levels { IfOk result
             (λ l. (c : ℕ) → level_of l c ≡ level_at raw.now.default raw.now.pairs c) }
     {
-        let label = Label::from_raw(raw, meter);
-        if raw.all_made(next_category) {
-            label
-        } else {
-            Err(Refusal::BadLabel)
+        if !raw.all_made(next_category) {
+            meter.scan();
+            return Err(Refusal::BadLabel);
         }
+        Label::from_raw(raw, meter)
     }
 
     /// The label as its holder would hand it in: the same default, and the exceptions by rising
@@ -100,7 +100,7 @@ impl Label {
     {
         meter.scan();
         let mut pairs = Pairs::new();
-        pairs.extend(self.exceptions.as_slice());
+        pairs.append(&self.exceptions);
         RawLabel {
             default: self.default,
             pairs,
@@ -113,7 +113,7 @@ impl Label {
         ensures level { result ≡ level self.now category.0 }
     {
         meter.scan();
-        level_of(self.default, self.exceptions.as_slice(), category)
+        level_of(self.default, &self.exceptions, category)
     }
 
     /// Whether a category has star, which is ownership (HiStar, OSDI 2006). It adds one scan.
@@ -123,7 +123,7 @@ impl Label {
         ensures test { result ≡ has_star self.now }
     {
         meter.scan();
-        has_star_in(self.exceptions.as_slice())
+        has_star_in(self.exceptions.levels())
     }
 
     /// Whether the labels are equal, which they are where each category has the same level in both
@@ -148,7 +148,7 @@ impl Label {
     {
         meter.scan();
         let defaults = self.default.rank().cmp(&other.default.rank());
-        let exceptions = compare_pairs(self.exceptions.as_slice(), other.exceptions.as_slice());
+        let exceptions = compare_pairs(&self.exceptions, &other.exceptions);
         defaults.then(exceptions)
     }
 
@@ -177,7 +177,10 @@ impl Label {
         ensures { let new = with_level self.now pair in
             result ≡ (if nat_le (length new.exceptions) 16 then Some new else None) }
     {
-        let exceptions = placed_in(self.default, self.exceptions.as_slice(), pair)?;
+        let mut exceptions = self.exceptions;
+        if !place(&mut exceptions, self.default, pair) {
+            return None;
+        }
         Some(Label {
             default: self.default,
             exceptions,
@@ -192,11 +195,11 @@ impl Label {
         holds_everywhere(
             rule,
             a.default,
-            a.exceptions.as_slice(),
+            &a.exceptions,
             b.default,
-            b.exceptions.as_slice(),
+            &b.exceptions,
             c.default,
-            c.exceptions.as_slice(),
+            &c.exceptions,
         )
     }
 }

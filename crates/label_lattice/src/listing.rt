@@ -6,7 +6,7 @@ ghost use Rattle.label_lattice.specs.Bits.{bits_of};
 ghost use Rattle.label_lattice.specs.Listing.{pair_cmp, label_cmp};
 
 use crate::labels::Label;
-use crate::pairings::Pair;
+use crate::pairings::{Pair, Pairs};
 use base::Meter;
 use std::cmp::Ordering;
 
@@ -20,21 +20,16 @@ fn compare_pair(one: &Pair, other: &Pair) -> Ordering
 }
 
 /// Lists of pairs place by place, a list before those that it begins.
-pub fn compare_pairs(one: &[Pair], other: &[Pair]) -> Ordering
+pub fn compare_pairs(one: &Pairs<16>, other: &Pairs<16>) -> Ordering
     ensures { result ≡ slice_cmp pair_cmp one.now other.now }
 {
-    match one {
-        [] => match other {
-            [] => Ordering::Equal,
-            [_, ..] => Ordering::Less,
-        },
-        [first, rest @ ..] => match other {
-            [] => Ordering::Greater,
-            [second, others @ ..] => {
-                compare_pair(first, second).then(compare_pairs(rest, others))
-            }
-        },
+    for place in 0..one.len().min(other.len()) {
+        let order = compare_pair(&one.pair_at(place), &other.pair_at(place));
+        if order != Ordering::Equal {
+            return order;
+        }
     }
+    one.len().cmp(&other.len())
 }
 
 impl Label {

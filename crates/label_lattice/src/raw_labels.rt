@@ -1,11 +1,13 @@
 //! Labels as callers hand them in.
-ghost use Rattle.std.specs.Prelude.{◌≡◌, ◌≤◌, ◌<◌, ◌↔◌, ◌⊎◌, IsTrue, All, Any, length};
+ghost use Rattle.std.specs.Prelude.{◌≡◌, ◌≤◌, ◌<◌, ◌↔◌, ◌⊎◌, ◌&&◌, IsTrue, All, Any};
+ghost use Rattle.std.specs.Prelude.{length, nat_lt};
+ghost use Rattle.std.specs.List.{list_all};
 ghost use Rattle.base.specs.declared.levels.Level.TheVariants.{Star};
 ghost use Rattle.label_lattice.specs.Raw.{raw_has_star, all_made};
 
 use crate::exceptions::has_star_in;
 use crate::pairings::{Pair, Pairs};
-use base::Level;
+use base::{Category, Level};
 
 /// A label as a caller hands it in: a default, and 0 to 24 pairs in any order. Not each can be
 /// stored: `Label::from_raw` and `Label::from_raw_below` tell which.
@@ -38,7 +40,7 @@ impl RawLabel {
             ((self.now.default ≡ Star) ⊎ Any (λ p. p.level ≡ Star) self.now.pairs) }
         ensures test { result ≡ raw_has_star self.now }
     {
-        self.default.rank() == 0 || has_star_in(self.pairs.as_slice())
+        self.default.rank() == 0 || has_star_in(self.pairs.levels())
     }
 
     /// Whether each category was made: it is from 1 and below the next category that a counter
@@ -48,13 +50,15 @@ impl RawLabel {
             All (λ p. (1 ≤ p.category.0) × (p.category.0 < next_category)) self.now.pairs }
         ensures test { result ≡ all_made next_category self.now.pairs }
     {
-        all_made_in(self.pairs.as_slice(), next_category)
+        all_made_in(self.pairs.categories(), next_category)
     }
 }
 
 /// Whether each category of the list is from 1 and below a number.
-fn all_made_in(pairs: &[Pair], next_category: u64) -> bool
-    ensures { result ≡ all_made next_category pairs.now }
+fn all_made_in(categories: &[Category], next_category: u64) -> bool
+    ensures { result ≡ list_all (λ c. nat_lt 0 c.0 && nat_lt c.0 next_category) categories.now }
 {
-    pairs.iter().all(|pair| 0 < pair.category.0 && pair.category.0 < next_category)
+    categories
+        .iter()
+        .all(|category| 0 < category.0 && category.0 < next_category)
 }

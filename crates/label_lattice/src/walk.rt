@@ -4,7 +4,7 @@ ghost use Rattle.label_lattice.specs.Levels.{next_of, IsRising};
 ghost use Rattle.label_lattice.specs.Rule.{rule_test, up_rank, down_rank};
 ghost use Rattle.label_lattice.specs.Walk.{Takes, HoldsEverywhere};
 
-use crate::pairings::Pair;
+use crate::pairings::Pairs;
 use base::Level;
 
 /// What is asked of three levels at each category. A rule on two labels passes the second one
@@ -54,11 +54,11 @@ impl Rule {
 }
 
 /// The category at a place, and past the end the largest number.
-fn next(pairs: &[Pair], at: usize) -> u64
+fn next(pairs: &Pairs<16>, at: usize) -> u64
     ensures { result ≡ next_of (drop at pairs.now) }
 {
     if at < pairs.len() {
-        pairs[at].category.0
+        pairs.pair_at(at).category.0
     } else {
         u64::MAX
     }
@@ -73,7 +73,7 @@ struct Taken {
 
 /// The level of a category that is not above the one at the place, and the place after the
 /// category.
-fn take_at(default: Level, pairs: &[Pair], place: usize, category: u64) -> Taken
+fn take_at(default: Level, pairs: &Pairs<16>, place: usize, category: u64) -> Taken
     requires rising { IsRising pairs.now }
     requires within { place ≤ length pairs.now }
     requires least { category ≤ next_of (drop place pairs.now) }
@@ -84,9 +84,9 @@ fn take_at(default: Level, pairs: &[Pair], place: usize, category: u64) -> Taken
     ensures moved { place < length pairs.now →
         next_of (drop place pairs.now) ≡ category → place < result.place }
 {
-    if place < pairs.len() && pairs[place].category.0 == category {
+    if pairs.has_at(place, category) {
         Taken {
-            level: pairs[place].level,
+            level: pairs.pair_at(place).level,
             place: place + 1,
         }
     } else {
@@ -103,11 +103,11 @@ fn take_at(default: Level, pairs: &[Pair], place: usize, category: u64) -> Taken
 pub fn holds_everywhere(
     rule: Rule,
     a_default: Level,
-    a: &[Pair],
+    a: &Pairs<16>,
     b_default: Level,
-    b: &[Pair],
+    b: &Pairs<16>,
     c_default: Level,
-    c: &[Pair],
+    c: &Pairs<16>,
 ) -> bool
     requires a_rising { IsRising a.now }
     requires b_rising { IsRising b.now }

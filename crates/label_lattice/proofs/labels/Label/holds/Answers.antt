@@ -17,9 +17,6 @@ returns c =
     let c_pairs : c.c.inside.exceptions ≡ c.args.c.now.exceptions =
     ap (λ (l : LabelValue). l.exceptions) c.c.view_is in
     rw (
-      c.as_slice.ensures,
-      c.as_slice-2.ensures,
-      c.as_slice-3.ensures,
       a_default,
       b_default,
       c_default,

@@ -5,5 +5,4 @@ pub invariant_of-result : goal.invariant_of-result
 invariant_of-result c =
     stored_from_placed (record
     { default_level = c.self.inside.default; exceptions = c.self.inside.exceptions })
-    c.args.pair _ c.self.invariant
-    (rw c.as_slice.ensures at c.in_ok-exceptions.ensures)
+    c.args.pair _ c.self.invariant c.if-not-place.ensures.placed c.if-not-place.ensures.room
