@@ -11,7 +11,7 @@ use Rattle.label_lattice.specs.Label.{LabelValue}
 use Rattle.label_lattice.specs.Placed.{kept, placed, with_level}
 use Rattle.label_lattice.specs.Raw.{is_made, all_made, collected, stored_of}
 use Rattle.label_lattice.proofs.LabelLemmas.{bool_cases}
-use Rattle.label_lattice.proofs.OrderLemmas.{and_parts, and_both}
+use Rattle.label_lattice.proofs.WalkLemmas.{and_parts, and_both}
 use Rattle.label_lattice.proofs.PlacedLemmas.{placed-same, placed-after, placed-before}
 
 module _ (next : ℕ) (d : Level) (p : Pair) where

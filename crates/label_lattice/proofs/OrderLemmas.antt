@@ -1,6 +1,6 @@
 -- The order over all categories, its test that computes, and what the walk says of both.
 use Rattle.std.proofs.Common.{◌≡◌, ℕ, suc, ◌+◌, ◌<◌, ◌≤◌, ◌↔◌, ◌++◌, ◌⊎◌, inl, inr, Bool, IsTrue}
-use Rattle.std.proofs.Common.{true, false, ◌&&◌, nat_le, arith, List, [], ◌∷◌, map, refl, ap, ◌∙◌}
+use Rattle.std.proofs.Common.{false, nat_le, arith, List, [], ◌∷◌, map, refl, ap, ◌∙◌}
 use Rattle.std.specs.List.{list_all}
 use Rattle.std.proofs.lemmas.Bool.Decides.{nat_tests, same_from_decides}
 use Rattle.std.proofs.lemmas.Bool.{cases_eq}
@@ -12,7 +12,7 @@ use Rattle.label_lattice.specs.Label.{LabelValue, level, IsStored}
 use Rattle.label_lattice.specs.Rule.{up_rank, down_rank}
 use Rattle.label_lattice.specs.Order.{Levels, Leq, leq_test, levels, join, up, down, IsOutside}
 use Rattle.label_lattice.specs.Order.{IsDescribed}
-use Rattle.label_lattice.proofs.WalkLemmas.{level_at-other}
+use Rattle.label_lattice.proofs.WalkLemmas.{level_at-other, and_parts, and_both}
 use Rattle.label_lattice.proofs.LabelLemmas.{same_labels, rank_of-injective}
 
 -- the test of two numbers says what it means
@@ -50,14 +50,6 @@ pub IsOutside-above_all : (c : ℕ) (ps : List ℕ) → above_all ps ≤ c → I
 unfolding above_all
 IsOutside-above_all c [] h = tt
 IsOutside-above_all c (p ∷ ps) h = ((omega (arith, h)), IsOutside-above_all c ps (omega (arith, h)))
-
-pub and_parts : (x y : Bool) → IsTrue (x && y) → IsTrue x × IsTrue y
-and_parts true y h = (refl, h)
-and_parts false y h = absurd (let e : false ≡ true = h in cc)
-
-pub and_both : (x y : Bool) → IsTrue x → IsTrue y → IsTrue (x && y)
-and_both true y hx hy = hy
-and_both false y hx hy = hx
 
 -- where a test holds of all points, it holds of a number or the number is outside
 all_points : (t : ℕ → Bool) (c : ℕ) (ps : List ℕ) → IsTrue (list_all t ps)

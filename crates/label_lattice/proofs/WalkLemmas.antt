@@ -1,12 +1,24 @@
 -- One step of the walk leaves what is asked of all categories as it was.
 use Rattle.std.proofs.Common.{◌≡◌, ◌≢◌, ℕ, zero, suc, ◌+◌, ◌<◌, ◌≤◌, inl, inr, Bool, IsTrue, List}
 use Rattle.std.proofs.Common.{[], ◌∷◌, length, drop, get_or, refl, ◌∙◌, subst, arith, max}
+use Rattle.std.proofs.Common.{true, false, ◌&&◌, ◌↔◌, sym}
+use Rattle.std.proofs.Math.ListN.{drop_of_length-le}
 use Rattle.std.proofs.lemmas.Bool.Decides.{nat_tests}
-use Rattle.std.proofs.lemmas.Bool.{cases_eq}
+use Rattle.std.proofs.Common.{min, ◌-◌, ◌^◌, ◌⊎◌}
+use Rattle.std.proofs.lemmas.Bool.{cases_eq, cases_order}
 use Rattle.base.specs.declared.levels.Level.{Level}
 use Rattle.label_lattice.specs.declared.pairings.Pair.{Pair}
 use Rattle.label_lattice.specs.Levels.{level_at, next_of, IsRising, IsAbove}
 use Rattle.label_lattice.specs.Walk.{Takes, HoldsEverywhere}
+
+-- both parts of a conjunction
+pub and_parts : (x y : Bool) → IsTrue (x && y) → IsTrue x × IsTrue y
+and_parts true y h = (refl, h)
+and_parts false y h = absurd (let e : false ≡ true = h in cc)
+
+pub and_both : (x y : Bool) → IsTrue x → IsTrue y → IsTrue (x && y)
+and_both true y hx hy = hy
+and_both false y hx hy = hx
 
 -- what is above a number is above a smaller one
 pub IsAbove-lower : (ps : List Pair) (m n : ℕ) → m ≤ n → IsAbove n ps → IsAbove m ps
@@ -132,3 +144,102 @@ pub record WalkGoesOn (t : Level → Level → Level → Bool) (da db dc : Level
       → HoldsEverywhere t da a db b dc c
   pub back : HoldsEverywhere t da a db b dc c
       → HoldsEverywhere t da (drop i a) db (drop j b) dc (drop k c)
+
+-- what the walk over two lists keeps for a rule: whether it held so far, and what is left of the
+-- lists, decide the answer
+pub record ComparesOn (t : Level → Level → Level → Bool) (da db : Level) (a b : List Pair)
+    (i j : ℕ) (r : Bool) : Type 0 where
+  pub defaults : IsTrue r → IsTrue (t da db db)
+  pub forth : IsTrue r → HoldsEverywhere t da (drop i a) db (drop j b) db (drop j b)
+      → HoldsEverywhere t da a db b db b
+  pub so_far : HoldsEverywhere t da a db b db b → IsTrue r
+  pub back : HoldsEverywhere t da a db b db b
+      → HoldsEverywhere t da (drop i a) db (drop j b) db (drop j b)
+
+-- the beginning
+pub compare_none : (t : Level → Level → Level → Bool) (da db : Level) (a b : List Pair) (r : Bool)
+    → r ≡ t da db db → ComparesOn t da db a b 0 0 r
+compare_none t da db a b r e = record {
+  defaults = λ h. sym e ∙ h;
+  forth = λ h rest. rest;
+  so_far = λ whole. e ∙ default_test t da db db a b b whole;
+  back = λ whole. whole;
+}
+
+-- a turn
+pub compare_more : (t : Level → Level → Level → Bool) (da db : Level) (a b : List Pair)
+    (i j : ℕ) (r : Bool) (m i' j' : ℕ) (x y : Level) (r' : Bool) → ComparesOn t da db a b i j r
+    → Takes da (drop i a) m x (drop i' a) → Takes db (drop j b) m y (drop j' b)
+    → r' ≡ (r && t x y y) → ComparesOn t da db a b i' j' r'
+compare_more t da db a b i j r m i' j' x y r' on ta tb e = record {
+  defaults = λ h. on.defaults (and_parts r (t x y y) (sym e ∙ h)).0;
+  forth =
+      λ h rest. on.forth (and_parts r (t x y y) (sym e ∙ h)).0
+      (step_forth t da db db m (drop i a) (drop i' a) (drop j b) (drop j' b) (drop j b) (drop j' b)
+      x y y ta tb tb (and_parts r (t x y y) (sym e ∙ h)).1 rest);
+  so_far =
+      λ whole. e ∙ and_both r (t x y y) (on.so_far whole)
+      (step_test t da db db m (drop i a) (drop i' a) (drop j b) (drop j' b) (drop j b) (drop j' b)
+      x y y ta tb tb (on.back whole));
+  back =
+      λ whole. step_back t da db db m (drop i a) (drop i' a) (drop j b) (drop j' b) (drop j b)
+      (drop j' b) x y y ta tb tb (on.defaults (on.so_far whole)) (on.back whole);
+}
+
+-- the end
+pub compare_all : (t : Level → Level → Level → Bool) (da db : Level) (a b : List Pair)
+    (i j : ℕ) (r : Bool) → ComparesOn t da db a b i j r → length a ≤ i → length b ≤ j
+    → IsTrue r ↔ HoldsEverywhere t da a db b db b
+compare_all t da db a b i j r on past_a past_b = (
+  λ h. on.forth h
+      (rw (drop_of_length-le a past_a, drop_of_length-le b past_b) (λ k. on.defaults h)),
+  λ whole. on.so_far whole,
+)
+
+past_end : (ps : List Pair) (i : ℕ) → length ps ≤ i → next_of (drop i ps) ≡ 2 ^ 64 - 1
+past_end ps i past = rw (drop_of_length-le ps past) refl
+
+-- each turn moves on in a list
+pub walk_moves : (a b : List Pair) (i j i' j' m : ℕ)
+    → next_of (drop i a) < 2 ^ 64 → next_of (drop j b) < 2 ^ 64
+    → m ≡ min (next_of (drop i a)) (next_of (drop j b))
+    → i ≤ i' → i' ≤ length a → j ≤ j' → j' ≤ length b
+    → (i < length a → next_of (drop i a) ≡ m → i < i')
+    → (j < length b → next_of (drop j b) ≡ m → j < j')
+    → (i < length a) ⊎ (j < length b)
+    → (length a - i') + (length b - j') < (length a - i) + (length b - j)
+walk_moves a b i j i' j' m fa fb least oa wa ob wb ma mb some =
+    elim (cases_order i (length a)) [
+      | inl end_a ↦
+          let top : next_of (drop i a) ≡ 2 ^ 64 - 1 = past_end a i (omega (arith, end_a)) in
+          let in_b : j < length b =
+          elim some [ inl in_a ↦ absurd (omega (arith, in_a, end_a)) | inr in_b ↦ in_b ] in
+          let is_b : next_of (drop j b) ≡ m = omega (arith, top, fb, least) in
+          let moves : j < j' = mb in_b is_b in
+          omega (arith, oa, moves, in_b)
+      | inr apart ↦ elim apart [
+        | inl in_a ↦ elim (cases_order (next_of (drop i a)) (next_of (drop j b))) [
+          | inl same ↦
+              let moves : i < i' = ma in_a (omega (arith, same, least)) in
+              omega (arith, ob, moves, in_a)
+          | inr either ↦ elim either [
+            | inl low ↦
+                let moves : i < i' = ma in_a (omega (arith, low, least)) in
+                omega (arith, ob, moves, in_a)
+            | inr high ↦ elim (cases_order j (length b)) [
+              | inl end_b ↦
+                  let top : next_of (drop j b) ≡ 2 ^ 64 - 1 =
+                  past_end b j (omega (arith, end_b)) in
+                  absurd (omega (arith, top, fa, high))
+              | inr near ↦ elim near [
+                | inl in_b ↦
+                    let moves : j < j' = mb in_b (omega (arith, high, least)) in
+                    omega (arith, oa, moves, in_b)
+                | inr past_b ↦ absurd (omega (arith, past_b, ob, wb))
+              ]
+            ]
+          ]
+        ]
+        | inr past_a ↦ absurd (omega (arith, past_a, oa, wa))
+      ]
+    ]

@@ -12,12 +12,13 @@ ghost use Rattle.label_lattice.specs.Listing.{label_cmp};
 ghost use Rattle.label_lattice.specs.Placed.{with_level};
 ghost use Rattle.label_lattice.specs.Raw.{is_bad, is_bad_below, stored_of, raw_of};
 ghost use Rattle.label_lattice.specs.Rule.{rule_test};
+ghost use Rattle.label_lattice.specs.declared.walk.Rule.TheVariants.{Leq, LeqUp, LeqUpUp};
 
 use crate::exceptions::{collect, has_star_in, level_of, place};
 use crate::listing::compare_pairs;
 use crate::pairings::{Pair, Pairs};
 use crate::raw_labels::RawLabel;
-use crate::walk::{Rule, holds_everywhere};
+use crate::walk::{Orders, Rule, compare_everywhere, holds_everywhere};
 use base::{Category, Level, Meter, Refusal};
 use std::cmp::Ordering;
 use std::marker::Model;
@@ -185,6 +186,26 @@ impl Label {
             default: self.default,
             exceptions,
         })
+    }
+
+    /// Which of the three rules on two labels hold at each category.
+    pub(crate) fn compare(&self, other: &Label) -> Orders
+        ensures plain { IsTrue result.plain ↔
+            ((k : ℕ) → IsTrue (rule_test Leq
+            (level self.now k) (level other.now k) (level other.now k))) }
+        ensures second_raised { IsTrue result.second_raised ↔
+            ((k : ℕ) → IsTrue (rule_test LeqUp
+            (level self.now k) (level other.now k) (level other.now k))) }
+        ensures both_raised { IsTrue result.both_raised ↔
+            ((k : ℕ) → IsTrue (rule_test LeqUpUp
+            (level self.now k) (level other.now k) (level other.now k))) }
+    {
+        compare_everywhere(
+            self.default,
+            &self.exceptions,
+            other.default,
+            &other.exceptions,
+        )
     }
 
     /// Whether a rule holds of three labels at each category.

@@ -40,9 +40,9 @@ impl Label {
         ensures scans { meter.new ≡ scanned 3 meter.old }
         ensures bits { result ≡ bits_of self.now other.now }
     {
-        let one = if self.leq(other, meter) { 1 } else { 0 };
-        let two = if self.leq_up(other, meter) { 2 } else { 0 };
-        let four = if self.leq_up_up(other, meter) { 4 } else { 0 };
-        one + two + four
+        meter.scan();
+        meter.scan();
+        meter.scan();
+        self.compare(other).bits()
     }
 }

@@ -1,7 +1,10 @@
-//! The one merge walk over three lists of exceptions, which decides each order test.
-ghost use Rattle.std.specs.Prelude.{◌≡◌, ◌<◌, ◌≤◌, ◌↔◌, IsTrue, length, drop};
+//! The merge walks over lists of exceptions, which decide each order test: over two lists for the
+//! three orders of two labels at once, and over three lists for the rules on three labels.
+ghost use Rattle.std.specs.Prelude.{◌≡◌, ◌<◌, ◌≤◌, ◌+◌, ◌↔◌, ◌&&◌, IsTrue, if◌then◌else◌};
+ghost use Rattle.std.specs.Prelude.{length, drop};
 ghost use Rattle.label_lattice.specs.Levels.{next_of, IsRising};
 ghost use Rattle.label_lattice.specs.Rule.{rule_test, up_rank, down_rank};
+ghost use Rattle.label_lattice.specs.declared.walk.Rule.TheVariants.{Leq, LeqUp, LeqUpUp};
 ghost use Rattle.label_lattice.specs.Walk.{Takes, HoldsEverywhere};
 
 use crate::pairings::Pairs;
@@ -95,6 +98,88 @@ fn take_at(default: Level, pairs: &Pairs<16>, place: usize, category: u64) -> Ta
             place,
         }
     }
+}
+
+/// How two labels compare: which of three rules on the first and the second hold.
+#[derive(Clone, Copy)]
+pub struct Orders {
+    /// `Rule::Leq` holds.
+    pub plain: bool,
+    /// `Rule::LeqUp` holds.
+    pub second_raised: bool,
+    /// `Rule::LeqUpUp` holds.
+    pub both_raised: bool,
+}
+
+impl Orders {
+    /// Which rules hold of one category's levels.
+    fn of_levels(a: Level, b: Level) -> Orders
+        ensures plain { result.plain ≡ rule_test Leq a b b }
+        ensures second_raised { result.second_raised ≡ rule_test LeqUp a b b }
+        ensures both_raised { result.both_raised ≡ rule_test LeqUpUp a b b }
+    {
+        Orders {
+            plain: Rule::Leq.holds(a, b, b),
+            second_raised: Rule::LeqUp.holds(a, b, b),
+            both_raised: Rule::LeqUpUp.holds(a, b, b),
+        }
+    }
+
+    /// The sum of 1 for the first rule, 2 for the second and 4 for the third, of those that hold.
+    pub fn bits(self) -> u8
+        ensures { result ≡ (if self.plain then 1 else 0) + (if self.second_raised then 2 else 0)
+            + (if self.both_raised then 4 else 0) }
+    {
+        let one = if self.plain { 1 } else { 0 };
+        let two = if self.second_raised { 2 } else { 0 };
+        let four = if self.both_raised { 4 } else { 0 };
+        one + two + four
+    }
+
+    /// The rules that hold in both.
+    fn and(self, other: Orders) -> Orders
+        ensures plain { result.plain ≡ (self.plain && other.plain) }
+        ensures second_raised { result.second_raised ≡ (self.second_raised && other.second_raised) }
+        ensures both_raised { result.both_raised ≡ (self.both_raised && other.both_raised) }
+    {
+        Orders {
+            plain: self.plain && other.plain,
+            second_raised: self.second_raised && other.second_raised,
+            both_raised: self.both_raised && other.both_raised,
+        }
+    }
+}
+
+/// Which rules hold at each category of two labels, each a default and its exceptions. Each turn
+/// compares the levels of the least category that is left in a list, and the defaults stand for all
+/// that are in none.
+pub fn compare_everywhere(
+    a_default: Level,
+    a: &Pairs<16>,
+    b_default: Level,
+    b: &Pairs<16>,
+) -> Orders
+    requires a_rising { IsRising a.now }
+    requires b_rising { IsRising b.now }
+    ensures plain { IsTrue result.plain ↔
+        HoldsEverywhere (rule_test Leq) a_default a.now b_default b.now b_default b.now }
+    ensures second_raised { IsTrue result.second_raised ↔
+        HoldsEverywhere (rule_test LeqUp) a_default a.now b_default b.now b_default b.now }
+    ensures both_raised { IsTrue result.both_raised ↔
+        HoldsEverywhere (rule_test LeqUpUp) a_default a.now b_default b.now b_default b.now }
+{
+    let mut orders = Orders::of_levels(a_default, b_default);
+    let mut i = 0;
+    let mut j = 0;
+    while i < a.len() || j < b.len() {
+        let category = next(a, i).min(next(b, j));
+        let of_a = take_at(a_default, a, i, category);
+        let of_b = take_at(b_default, b, j, category);
+        orders = orders.and(Orders::of_levels(of_a.level, of_b.level));
+        i = of_a.place;
+        j = of_b.place;
+    }
+    orders
 }
 
 /// Whether a rule holds at each category of three labels, each a default and its exceptions. Each

@@ -7,4 +7,4 @@ returns-clause-test c =
     leq_test-from_tests (levels c.args.self.now) (levels c.args.other.now) _
     (IsDescribed-levels _)
     (IsDescribed-levels _)
-    c.holds.ensures
+    c.compare.ensures.plain

@@ -8,4 +8,4 @@ returns-clause-test c =
     leq_test-from_tests (levels c.args.self.now) (up (levels c.args.other.now)) _
     (IsDescribed-levels _)
     (IsDescribed-up (levels c.args.other.now) (IsDescribed-levels _))
-    c.holds.ensures
+    c.compare.ensures.second_raised
