@@ -100,8 +100,8 @@ fn put_raw_label<K: Known>(out: &mut Vec<u8>, label: &RawLabel, names: &K) -> Re
         ≡ out.old.items ++ label_text (K.names names.now) label.now) }
 {
     out.push(b'{')?;
-    for pair in label.pairs.as_slice() {
-        put_pair(out, pair, names)?;
+    for place in 0..label.pairs.len() {
+        put_pair(out, &label.pairs.pair_at(place), names)?;
     }
     put_level(out, label.default)?;
     out.push(b'}')?;

@@ -51,11 +51,9 @@ fn put_label(out: &mut Vec<u8>, label: &RawLabel) -> Result<(), AllocError>
         ≡ out.old.items ++ label_text (spoken_label label.now)) }
     ensures fits { OnOk result (IsLabel (spoken_label label.now)) }
 {
-    // For the proof alone: a raw label has at most 24 pairs.
-    let _few = label.pairs.len();
     out.push(b'{')?;
-    for pair in label.pairs.as_slice() {
-        put_pair(out, pair)?;
+    for place in 0..label.pairs.len() {
+        put_pair(out, &label.pairs.pair_at(place))?;
     }
     put_level(out, label.default)?;
     out.push(b'}')?;

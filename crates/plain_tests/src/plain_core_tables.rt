@@ -35,7 +35,7 @@ fn tables_are_recomputed(rt: HostRuntime) -> Result<(), Fail> {
     assert_eq!(rt; tables.shown.len(), 0);
     let defaults = [Level::L1, Level::L2, Level::L3];
     for (label, default) in tables.labels.iter().zip(defaults) {
-        assert!(rt; label.default == default && label.pairs.as_slice().is_empty());
+        assert!(rt; label.default == default && label.pairs.len() == 0);
     }
     assert_eq!(rt; tables.labels.len(), 3);
     for (order, (first, second, bits)) in tables.orders.iter().zip(BOOT_ORDERS) {

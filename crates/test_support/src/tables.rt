@@ -1,6 +1,6 @@
 //! Whether two tables are the same.
 use kernel_rules::{Compared, Shown, Tables, Used};
-use label_lattice::RawLabel;
+use label_lattice::{Pairs, RawLabel};
 
 fn is_used(one: &Used, other: &Used) -> bool {
     one.id == other.id && one.pages == other.pages
@@ -14,8 +14,21 @@ pub fn is_shown(one: &Shown, other: &Shown) -> bool {
         && one.rights == other.rights
 }
 
-fn is_labelled(one: &RawLabel, other: &RawLabel) -> bool {
-    one.default == other.default && one.pairs.as_slice() == other.pairs.as_slice()
+fn is_paired(one: &Pairs<24>, other: &Pairs<24>) -> bool {
+    if one.len() != other.len() {
+        return false;
+    }
+    for place in 0..one.len() {
+        if one.pair_at(place) != other.pair_at(place) {
+            return false;
+        }
+    }
+    true
+}
+
+/// Whether two raw labels are the same, pair by pair.
+pub fn is_labelled(one: &RawLabel, other: &RawLabel) -> bool {
+    one.default == other.default && is_paired(&one.pairs, &other.pairs)
 }
 
 fn is_ordered(one: &Compared, other: &Compared) -> bool {

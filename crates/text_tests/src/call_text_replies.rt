@@ -95,7 +95,7 @@ fn label(alloc: Global, default: Level, pairs: &[(u64, Level)]) -> Result<Option
     let mut meter = Meter::new(alloc)?;
     let mut raw = everywhere(default);
     for (number, level) in pairs {
-        if raw.pairs.as_slice().len() < 24 {
+        if raw.pairs.len() < 24 {
             raw.pairs.push(pair(*number, *level));
         }
     }

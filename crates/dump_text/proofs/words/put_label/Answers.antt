@@ -10,20 +10,20 @@ use Rattle.dump_text.proofs.words.put_label.Goals as goal
 
 pub returns-clause-text : goal.returns-clause-text
 returns-clause-text c =
-    let all : take c.loop-pair.pair-index c.as_slice-pair-items.result.now ≡ c.args.label.now.pairs =
-    take_all c.loop-pair.pair-index c.as_slice-pair-items.result.now c.loop-pair-test.false ∙ c.as_slice-pair-items.ensures in
-    let opened : c.loop-pair.out.items ≡ c.args.out.now.items ++ 123 ∷ flat_map (λ p. pair_text p ++ 44 ∷ []) (map spoken_pair c.args.label.now.pairs) =
-    c.loop-pair.invariant.text ∙ ap (λ (ps : List Pair). c.args.out.now.items ++ 123 ∷ flat_map (λ p. pair_text p ++ 44 ∷ []) (map spoken_pair ps)) all in
+    let all : take c.loop-place.place c.args.label.now.pairs ≡ c.args.label.now.pairs =
+    take_all c.loop-place.place c.args.label.now.pairs (rw c.len-place-end.ensures.value at c.loop-place-test.false) in
+    let opened : c.loop-place.out.items ≡ c.args.out.now.items ++ 123 ∷ flat_map (λ p. pair_text p ++ 44 ∷ []) (map spoken_pair c.args.label.now.pairs) =
+    c.loop-place.invariant.text ∙ ap (λ (ps : List Pair). c.args.out.now.items ++ 123 ∷ flat_map (λ p. pair_text p ++ 44 ∷ []) (map spoken_pair ps)) all in
     label_written c.args.out.now.items _ _ _ (map spoken_pair c.args.label.now.pairs) c.args.label.now.default opened c.in_ok-put_level.ensures c.in_ok-push-2.ensures.items
 
 pub returns-clause-fits : goal.returns-clause-fits
 returns-clause-fits c =
-    let all : take c.loop-pair.pair-index c.as_slice-pair-items.result.now ≡ c.args.label.now.pairs =
-    take_all c.loop-pair.pair-index c.as_slice-pair-items.result.now c.loop-pair-test.false ∙ c.as_slice-pair-items.ensures in
+    let all : take c.loop-place.place c.args.label.now.pairs ≡ c.args.label.now.pairs =
+    take_all c.loop-place.place c.args.label.now.pairs (rw c.len-place-end.ensures.value at c.loop-place-test.false) in
     let count = length-map c.args.label.now.pairs spoken_pair in
-    let few = c.len-few.ensures.few in
-    let same = c.len-few.ensures.value in
+    let few = c.len-place-end.ensures.few in
+    let same = c.len-place-end.ensures.value in
     record {
-      pairs = pairs_fit c.args.label.now.pairs (subst (λ (ps : List Pair). AllByRecursion (λ p. IsPair (spoken_pair p)) ps) all c.loop-pair.invariant.fits);
+      pairs = pairs_fit c.args.label.now.pairs (subst (λ (ps : List Pair). AllByRecursion (λ p. IsPair (spoken_pair p)) ps) all c.loop-place.invariant.fits);
       few = omega (arith, count, few, same);
     }
