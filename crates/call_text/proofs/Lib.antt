@@ -1,4 +1,3 @@
-pub mod PartLemmas
 pub mod LineLemmas
 pub mod TextLemmas
 pub mod Faults

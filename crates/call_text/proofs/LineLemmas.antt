@@ -11,7 +11,7 @@ use Rattle.text_words.proofs.OneLemmas.{first_part}
 use Rattle.text_words.proofs.Outside.{name_outside, space_outside, end_outside}
 use Rattle.spoken_calls.specs.Spoken.{Spoken, spoken_text}
 use Rattle.spoken_calls.proofs.SpokenLemmas.{spoken_is_one, spoken_lacks_end}
-use Rattle.call_text.proofs.PartLemmas.{not_in}
+use Rattle.text_words.proofs.PartLemmas.{not_in}
 use Rattle.call_text.proofs.TextLemmas.{IsGrammar}
 use Rattle.call_text.specs.declared.lines.Written.{Written}
 use Rattle.call_text.specs.declared.lines.Written.TheVariants.{Break, Said}

@@ -6,7 +6,7 @@ use Rattle.std.proofs.lemmas.List.{append-nil, length-append}
 use Rattle.text_words.specs.Lacks.{lacks}
 use Rattle.text_words.proofs.OneLemmas.{first_part}
 use Rattle.call_text.specs.Text.{run, line, lines_text, FaultsAt, Spells}
-use Rattle.call_text.proofs.PartLemmas.{not_in}
+use Rattle.text_words.proofs.PartLemmas.{not_in}
 
 run_from : {S V : Type 0} (next : S → V → Option S) (s : Option S) (vs : List V) (v : V) → run next s (vs ++ v ∷ []) ≡ run next (run next s vs) (v ∷ [])
 run_from next None vs v = refl

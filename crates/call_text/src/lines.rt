@@ -5,10 +5,9 @@ ghost use Rattle.spoken_calls.specs.Verb.{makes};
 ghost use Rattle.call_text.specs.Line.{said_text, IsSaid, bound_text, IsBound, written_text};
 ghost use Rattle.call_text.specs.Line.{FitsWritten};
 
-use crate::parting::parted;
 use spoken_calls::{SpokenCall, read_spoken};
 use std::alloc::{AllocError, Global};
-use text_words::{Name, is_same, read_name};
+use text_words::{Name, is_same, parted, read_name};
 
 /// The most bytes that stand before a line's end.
 const LONGEST: usize = 4096;

@@ -7,12 +7,11 @@ ghost use Rattle.call_text.specs.Reading.{ReadsScript, added};
 
 use crate::errors::ScriptError;
 use crate::lines::{Written, read_line};
-use crate::parting::parted;
 use crate::phases::{Line, Phase, Script};
 use std::alloc::{AllocError, Global};
 use std::collections::BTreeSet;
 use std::mem;
-use text_words::Name;
+use text_words::{Name, parted};
 
 /// The most lines of a script.
 const MOST: u32 = 65_536;

@@ -34,7 +34,7 @@ use Rattle.spoken_calls.specs.Verb.{name_of, kinds_of}
 use Rattle.spoken_calls.specs.Arg.{arg_text, IsArg}
 use Rattle.spoken_calls.specs.Spoken.{AreArgs, Spoken, IsSpoken, spoken_text}
 use Rattle.spoken_calls.proofs.SpokenLemmas.{spoken_lacks_end}
-use Rattle.call_text.proofs.PartLemmas.{not_in}
+use Rattle.text_words.proofs.PartLemmas.{not_in}
 use Rattle.kernel_rules.specs.declared.events.Event.{Event}
 use Rattle.dump_text.specs.Call.{call_text, IsCall, spoken_of}
 use Rattle.dump_text.specs.Report.{report_text}

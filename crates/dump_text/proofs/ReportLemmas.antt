@@ -15,7 +15,7 @@ use Rattle.text_words.proofs.LackLemmas.{decimal_lacks, lacks-append, data_lacks
 use Rattle.text_words.proofs.WordLemmas.{data_is_one}
 use Rattle.std.proofs.lemmas.Fmt.{decimal_injective}
 use Rattle.call_text.specs.ReplyWord.{refusal_text}
-use Rattle.call_text.proofs.PartLemmas.{not_in}
+use Rattle.text_words.proofs.PartLemmas.{not_in}
 use Rattle.dump_text.specs.Report.{report_text, IsReport, IsKernels, entered_text, AreEntered}
 use Rattle.dump_text.proofs.Readings.{cancel}
 

@@ -1,1 +1,2 @@
 pub mod SpokenLemmas
+pub mod FurtherLemmas

@@ -1,5 +1,5 @@
 -- Spoken calls: their words one by one, and no two of one spelling.
-use Rattle.std.proofs.Common.{lit<, ◌≡◌, ℕ, zero, suc, ◌+◌, ◌^◌, ◌<◌, ◌≤◌, Bool, true, false, cond, eqb, List, [], ◌∷◌, ◌++◌, length, Option, Some, None, subst, get_or, take, drop, ◌-◌, map, refl, ap, ◌∙◌, sym, arith}
+use Rattle.std.proofs.Common.{◌≡◌, ℕ, zero, suc, ◌^◌, ◌<◌, Bool, true, false, cond, eqb, List, [], ◌∷◌, ◌++◌, length, subst, get_or, map, refl, ap, ◌∙◌, sym, arith}
 use Rattle.text_words.specs.Lacks.{lacks, AllLack}
 use Rattle.spoken_calls.specs.declared.verbs.Verb.{Verb}
 use Rattle.spoken_calls.specs.declared.verbs.Verb.TheVariants as verbs
@@ -8,12 +8,9 @@ use Rattle.spoken_calls.specs.declared.args.Arg.{Arg}
 use Rattle.spoken_calls.specs.declared.args.Arg.TheVariants as args
 use Rattle.spoken_calls.specs.Verb.{name_of, kinds_of}
 use Rattle.spoken_calls.specs.Arg.{arg_text, IsArg}
-use Rattle.spoken_calls.specs.Spoken.{AreArgs, ReadsArgs, Spoken, IsSpoken, spoken_text, words_of, arguments_text, ReadsArguments}
-use Rattle.std.specs.Global.{Vec}
+use Rattle.spoken_calls.specs.Spoken.{AreArgs, Spoken, IsSpoken, spoken_text, words_of, arguments_text}
 use Rattle.std.specs.List.{slice_split, join_with_byte, flat_map}
-use Rattle.std.proofs.lemmas.List.{take_more, get_or-map, map_push, length-map, append-nil}
-use Rattle.std.proofs.lemmas.List.Splits.{join_with_byte-slice_split}
-use Rattle.std.proofs.Math.Seq.{take-length}
+use Rattle.std.proofs.lemmas.List.{append-nil}
 use Rattle.text_words.proofs.Split.{split_join}
 use Rattle.text_words.proofs.LackLemmas.{join_lacks}
 use Rattle.text_words.proofs.Outside.{IsOutside, number_outside, signed_outside, reference_outside, label_outside, data_outside, space_outside, end_outside}
@@ -56,7 +53,7 @@ pub record IsParting (c : ℕ) : Type 0 where
   pub outside : IsOutside c
   pub verbs : (v : Verb) → lacks c (name_of v) ≡ true
 
-name_lacks_space : (v : Verb) → lacks 32 (name_of v) ≡ true
+pub name_lacks_space : (v : Verb) → lacks 32 (name_of v) ≡ true
 name_lacks_space verbs.CatCreate = refl
 name_lacks_space verbs.SelfSetLabel = refl
 name_lacks_space verbs.SelfSetClearance = refl
@@ -151,45 +148,8 @@ same_text [] (y ∷ ys) = false
 same_text (x ∷ xs) [] = false
 same_text (x ∷ xs) (y ∷ ys) = cond (eqb x y) (same_text xs ys) false
 
-abbrev pub all_verbs : List Verb
+abbrev all_verbs : List Verb
 all_verbs = verbs.CatCreate ∷ verbs.SelfSetLabel ∷ verbs.SelfSetClearance ∷ verbs.SelfSetAs ∷ verbs.ContainerCreate ∷ verbs.SegmentCreate ∷ verbs.SegmentCopy ∷ verbs.AsCreate ∷ verbs.ThreadCreate ∷ verbs.GateCreate ∷ verbs.Link ∷ verbs.Unref ∷ verbs.QuotaMove ∷ verbs.SetFixed ∷ verbs.SetImmutable ∷ verbs.MetaSet ∷ verbs.SegmentResize ∷ verbs.SegmentWrite ∷ verbs.AsMap ∷ verbs.AsUnmap ∷ verbs.Store ∷ verbs.GateEnter ∷ verbs.DevSend ∷ verbs.DevRecv ∷ verbs.SelfGet ∷ verbs.ObjLabel ∷ verbs.ObjQuota ∷ verbs.ContainerList ∷ verbs.ContainerParent ∷ verbs.SegmentLen ∷ verbs.SegmentRead ∷ verbs.MetaGet ∷ verbs.AsGet ∷ verbs.Load ∷ []
-
--- each verb stands in the table
-pub listed : (v : Verb) → (k : ℕ) × (k < 34) × (get_or all_verbs k verbs.CatCreate ≡ v)
-listed verbs.CatCreate = (0, lit< tt, refl)
-listed verbs.SelfSetLabel = (1, lit< tt, refl)
-listed verbs.SelfSetClearance = (2, lit< tt, refl)
-listed verbs.SelfSetAs = (3, lit< tt, refl)
-listed verbs.ContainerCreate = (4, lit< tt, refl)
-listed verbs.SegmentCreate = (5, lit< tt, refl)
-listed verbs.SegmentCopy = (6, lit< tt, refl)
-listed verbs.AsCreate = (7, lit< tt, refl)
-listed verbs.ThreadCreate = (8, lit< tt, refl)
-listed verbs.GateCreate = (9, lit< tt, refl)
-listed verbs.Link = (10, lit< tt, refl)
-listed verbs.Unref = (11, lit< tt, refl)
-listed verbs.QuotaMove = (12, lit< tt, refl)
-listed verbs.SetFixed = (13, lit< tt, refl)
-listed verbs.SetImmutable = (14, lit< tt, refl)
-listed verbs.MetaSet = (15, lit< tt, refl)
-listed verbs.SegmentResize = (16, lit< tt, refl)
-listed verbs.SegmentWrite = (17, lit< tt, refl)
-listed verbs.AsMap = (18, lit< tt, refl)
-listed verbs.AsUnmap = (19, lit< tt, refl)
-listed verbs.Store = (20, lit< tt, refl)
-listed verbs.GateEnter = (21, lit< tt, refl)
-listed verbs.DevSend = (22, lit< tt, refl)
-listed verbs.DevRecv = (23, lit< tt, refl)
-listed verbs.SelfGet = (24, lit< tt, refl)
-listed verbs.ObjLabel = (25, lit< tt, refl)
-listed verbs.ObjQuota = (26, lit< tt, refl)
-listed verbs.ContainerList = (27, lit< tt, refl)
-listed verbs.ContainerParent = (28, lit< tt, refl)
-listed verbs.SegmentLen = (29, lit< tt, refl)
-listed verbs.SegmentRead = (30, lit< tt, refl)
-listed verbs.MetaGet = (31, lit< tt, refl)
-listed verbs.AsGet = (32, lit< tt, refl)
-listed verbs.Load = (33, lit< tt, refl)
 
 first_named : List ℕ → List Verb → Verb
 first_named word [] = verbs.CatCreate
@@ -234,47 +194,6 @@ verb_again verbs.Load = refl
 
 pub verb_is : (v w : Verb) → name_of v ≡ name_of w → v ≡ w
 verb_is v w e = sym (verb_again v) ∙ ap (λ (x : List ℕ). first_named x all_verbs) e ∙ verb_again w
-
--- as the code sees the words
-
-pub not_at : {A : Type 0} (f : A → List ℕ) (ks : List ArgKind) (found : List Arg) (ws : List A) (i : ℕ) (d : ArgKind) (e : A) → AreArgs ks found → map f ws ≡ map arg_text found → i < length ks → length ks ≡ length ws
-    → ((a : Arg) → IsArg (get_or ks i d) a → f (get_or ws i e) ≡ arg_text a → ⊥) → ⊥
-not_at f ks found ws i d e are texts lt same none =
-    no_args ks found i d are lt (λ a is h. none a is (sym (get_or-map f ws i e [] (omega arith)) ∙ ap (λ (x : List (List ℕ)). get_or x i []) texts ∙ h))
-
-pub not_as_many : {A : Type 0} (f : A → List ℕ) (ks : List ArgKind) (found : List Arg) (ws : List A) → AreArgs ks found → map f ws ≡ map arg_text found → length ks ≡ length ws
-not_as_many f ks found ws are texts = same_length ks found are ∙ sym (length-map found arg_text) ∙ ap length (sym texts) ∙ length-map ws f
-
-pub kinds_more : (ks : List ArgKind) (found : List Arg) (items : List Arg) (i : ℕ) (d : ArgKind) (a : Arg) → AreArgs (take i ks) found → IsArg (get_or ks i d) a → i < length ks → items ≡ found ++ a ∷ [] → AreArgs (take (i + 1) ks) items
-kinds_more ks found items i d a are is lt e = rw (e, take_more ks i d lt) (AreArgs-push (take i ks) found (get_or ks i d) a are is)
-
-pub words_more : {A : Type 0} (f : A → List ℕ) (ws : List A) (found items : List Arg) (i : ℕ) (d : A) (a : Arg) → map f (take i ws) ≡ map arg_text found → f (get_or ws i d) ≡ arg_text a → i < length ws → items ≡ found ++ a ∷ []
-    → map f (take (i + 1) ws) ≡ map arg_text items
-words_more f ws found items i d a texts is lt e =
-    rw (e, take_more ws i d lt, map_push f (take i ws) (get_or ws i d), map_push arg_text found a, texts, is) refl
-
-front : {A : Type 0} (f : A → List ℕ) (ws : List A) (d : A) → 1 ≤ length ws → map f ws ≡ f (get_or ws 0 d) ∷ map f (take (length ws - 1) (drop 1 ws))
-front f [] d lt = absurd (omega arith)
-front f (w ∷ ws) d lt = let k : length (w ∷ ws) - 1 ≡ length ws = omega arith in rw (k, take-length ws) refl
-
--- the words of a line that spells a call, one by one
-pub spoken_parts : {A : Type 0} (f : A → List ℕ) (ws : List A) (d : A) (line : List ℕ) (v : Spoken) → map f ws ≡ slice_split (λ b. eqb b 32) line → 1 ≤ length ws → IsSpoken v → line ≡ spoken_text v
-    → (f (get_or ws 0 d) ≡ name_of v.verb) × (map f (take (length ws - 1) (drop 1 ws)) ≡ map arg_text v.args)
-spoken_parts f ws d line v split lt is e =
-    let k : f (get_or ws 0 d) ∷ map f (take (length ws - 1) (drop 1 ws)) ≡ name_of v.verb ∷ map arg_text v.args = sym (front f ws d lt) ∙ split ∙ spoken_split line v is e in
-    (cc, cc)
-
-pub spoken_whole : {A : Type 0} (f : A → List ℕ) (ws : List A) (d : A) (line name : List ℕ) (texts : List (List ℕ)) → map f ws ≡ slice_split (λ b. eqb b 32) line → 1 ≤ length ws
-    → f (get_or ws 0 d) ≡ name → map f (take (length ws - 1) (drop 1 ws)) ≡ texts → line ≡ join_with_byte 32 (name ∷ texts)
-spoken_whole f ws d line name texts split lt first rest =
-    let k : slice_split (λ b. eqb b 32) line ≡ name ∷ texts = sym split ∙ front f ws d lt ∙ rw (first, rest) refl in
-    sym (join_with_byte-slice_split 32 line) ∙ ap (join_with_byte 32) k
-
-pub read_none : (ks : List ArgKind) (words : List (List ℕ)) (r : Option (Vec Arg)) → r ≡ None → ReadsArgs ks words r → (found : List Arg) → AreArgs ks found → words ≡ map arg_text found → ⊥
-read_none ks words r e h = subst (λ (x : Option (Vec Arg)). ReadsArgs ks words x) e h
-
-pub read_some : (ks : List ArgKind) (words : List (List ℕ)) (r : Option (Vec Arg)) (v : Vec Arg) → r ≡ Some v → ReadsArgs ks words r → AreArgs ks v.items × (words ≡ map arg_text v.items)
-read_some ks words r v e h = subst (λ (x : Option (Vec Arg)). ReadsArgs ks words x) e h
 
 -- no line's end stands in a spoken call
 pub spoken_lacks_end : (v : Spoken) → IsSpoken v → lacks 10 (spoken_text v) ≡ true
@@ -330,8 +249,3 @@ pub arguments_lack_end : (ks : List ArgKind) (xs : List Arg) → 0 < length ks �
 arguments_lack_end [] xs some is = absurd (omega arith)
 arguments_lack_end (k ∷ ks) [] some is = absurd is
 arguments_lack_end (k ∷ ks) (a ∷ more) some is = join_lacks 10 32 (arg_text a) (map arg_text more) (λ e. cc) (args_lack 10 (k ∷ ks) (a ∷ more) end_parting is)
-
--- what is read of the words is what is read of the text
-pub arguments_read : (ks : List ArgKind) (text : List ℕ) (words : List (List ℕ)) (r : Option (Vec Arg)) → 0 < length ks → words ≡ slice_split (λ b. eqb b 32) text → ReadsArgs ks words r → ReadsArguments ks text r
-arguments_read ks text words (Some v) some split h = (h.0, sym (join_with_byte-slice_split 32 text) ∙ ap (join_with_byte 32) (sym split ∙ h.1))
-arguments_read ks text words None some split h = λ found are e. h found are (split ∙ arguments_split ks found text some are e)

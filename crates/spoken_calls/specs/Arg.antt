@@ -1,5 +1,5 @@
 -- Arguments of calls, and their spelling.
-use Rattle.std.specs.Prelude.{◌≡◌, ℕ, ◌<◌, ◌^◌, List, decimal}
+use Rattle.std.specs.Prelude.{◌≡◌, ℕ, ◌<◌, ◌^◌, List, [], ◌∷◌, ◌++◌, Bool, true, false, decimal}
 use Rattle.text_words.specs.DataWord.{data_text, IsData}
 use Rattle.text_words.specs.Label.{label_text, IsLabel}
 use Rattle.text_words.specs.Reference.{reference_text, IsReference}
@@ -48,3 +48,10 @@ FitsArg (args.Rights r) = Unit {0}
 pub record IsArg (kind : ArgKind) (arg : Arg) : Type 0 where
   pub kind_is : kind_of arg ≡ kind
   pub fits : FitsArg arg
+
+-- Whether the word is an argument of the kind. The new arguments then are the old ones and it.
+abbrev pub AddsArg : ArgKind → List ℕ → List Arg → List Arg → Bool → Type 0
+AddsArg kind word old new true =
+    (arg : Arg) × IsArg kind arg × (word ≡ arg_text arg) × (new ≡ old ++ arg ∷ [])
+AddsArg kind word old new false =
+    ((arg : Arg) → IsArg kind arg → word ≡ arg_text arg → ⊥) × (new ≡ old)

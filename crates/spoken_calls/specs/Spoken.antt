@@ -1,6 +1,6 @@
 -- A call as its words.
-use Rattle.std.specs.Prelude.{◌≡◌, ℕ, List, [], ◌∷◌, map, Option, Some, None}
-use Rattle.std.specs.List.{join_with_byte}
+use Rattle.std.specs.Prelude.{◌≡◌, ℕ, List, [], ◌∷◌, ◌++◌, map, Bool, true, false, Option, Some, None}
+use Rattle.std.specs.List.{join_with_byte, flat_map}
 use Rattle.std.specs.Global.{Vec}
 use Rattle.spoken_calls.specs.declared.verbs.Verb.{Verb}
 use Rattle.spoken_calls.specs.declared.args.ArgKind.{ArgKind}
@@ -32,10 +32,22 @@ words_of r = name_of r.verb ∷ map arg_text r.args
 abbrev pub spoken_text : Spoken → List ℕ
 spoken_text r = join_with_byte 32 (words_of r)
 
--- what is read of the words of the arguments
-abbrev pub ReadsArgs : List ArgKind → List (List ℕ) → Option (Vec Arg) → Type 0
-ReadsArgs ks words (Some v) = AreArgs ks v.items × (words ≡ map arg_text v.items)
-ReadsArgs ks words None = (found : List Arg) → AreArgs ks found → words ≡ map arg_text found → ⊥
+-- nothing, or a space and what follows
+abbrev pub IsRest : List ℕ → Type 0
+IsRest [] = Unit {0}
+IsRest (b ∷ bytes) = b ≡ 32
+
+-- arguments, each after a space
+abbrev pub further_text : List Arg → List ℕ
+further_text xs = flat_map (λ a. 32 ∷ arg_text a) xs
+
+-- Whether the text is arguments of these kinds, each after a space. The new arguments then are the
+-- old ones and these.
+abbrev pub AddsArgs : List ArgKind → List ℕ → List Arg → List Arg → Bool → Type 0
+AddsArgs ks text old new true =
+    (found : List Arg) × AreArgs ks found × (text ≡ further_text found) × (new ≡ old ++ found)
+AddsArgs ks text old new false =
+    (found : List Arg) → AreArgs ks found → text ≡ further_text found → ⊥
 
 -- arguments, parted by single spaces
 abbrev pub arguments_text : List Arg → List ℕ

@@ -1,5 +1,5 @@
 -- The table of calls: the word of each, the kinds of its arguments, and whether it makes something.
-use Rattle.std.specs.Prelude.{ℕ, Bool, true, false, List, [], ◌∷◌, codes}
+use Rattle.std.specs.Prelude.{◌≡◌, ℕ, ◌<◌, Bool, true, false, List, [], ◌∷◌, length, slice_index_or, codes}
 use Rattle.spoken_calls.specs.declared.verbs.Verb.{Verb}
 use Rattle.spoken_calls.specs.declared.verbs.Verb.TheVariants as verbs
 use Rattle.spoken_calls.specs.declared.args.ArgKind.{ArgKind}
@@ -91,3 +91,7 @@ makes verbs.AsCreate = true
 makes verbs.ThreadCreate = true
 makes verbs.GateCreate = true
 makes _ = false
+
+-- the verb stands in the list
+abbrev pub IsOneOf : Verb → List Verb → Type 0
+IsOneOf v vs = (k : ℕ) × (k < length vs) × (slice_index_or vs k v ≡ v)

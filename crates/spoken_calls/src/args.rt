@@ -1,7 +1,6 @@
 //! Arguments of calls.
-ghost use Rattle.std.specs.Prelude.{◌≡◌, IfOk};
-ghost use Rattle.text_words.specs.Reading.{Reads};
-ghost use Rattle.spoken_calls.specs.Arg.{arg_text, IsArg};
+ghost use Rattle.std.specs.Prelude.{IfOk};
+ghost use Rattle.spoken_calls.specs.Arg.{AddsArg};
 
 use base::{Data, Rights, TypeSet};
 use std::alloc::{AllocError, Global};
@@ -52,90 +51,111 @@ pub enum Arg {
     Rights(Rights),
 }
 
-fn read_object(word: &[u8]) -> Option<Arg>
-    ensures { Reads arg_text (IsArg ArgKind.Object) word.now result }
+/// Adds the object that the word spells, and answers whether it spells one; otherwise nothing is added.
+fn add_object(args: &mut Vec<Arg>, word: &[u8]) -> Result<bool, AllocError>
+    ensures { IfOk result (AddsArg ArgKind.Object word.now args.old.items args.new.items) }
 {
     let Some(reference) = read_reference(word) else {
-        return None;
+        return Ok(false);
     };
-    Some(Arg::Object(reference))
+    args.push(Arg::Object(reference))?;
+    Ok(true)
 }
 
-fn read_short(word: &[u8]) -> Option<Arg>
-    ensures { Reads arg_text (IsArg ArgKind.Number) word.now result }
+/// Adds the number below 2^32, as `add_object` adds an object.
+fn add_number(args: &mut Vec<Arg>, word: &[u8]) -> Result<bool, AllocError>
+    ensures { IfOk result (AddsArg ArgKind.Number word.now args.old.items args.new.items) }
 {
     let Some(number) = read_number(word, u32::MAX as u64) else {
-        return None;
+        return Ok(false);
     };
-    Some(Arg::Number(number as u32))
+    args.push(Arg::Number(number as u32))?;
+    Ok(true)
 }
 
-fn read_wide(word: &[u8]) -> Option<Arg>
-    ensures { Reads arg_text (IsArg ArgKind.Wide) word.now result }
+/// Adds the number below 2^64, as `add_object` adds an object.
+fn add_wide(args: &mut Vec<Arg>, word: &[u8]) -> Result<bool, AllocError>
+    ensures { IfOk result (AddsArg ArgKind.Wide word.now args.old.items args.new.items) }
 {
     let Some(number) = read_number(word, u64::MAX) else {
-        return None;
+        return Ok(false);
     };
-    Some(Arg::Wide(number))
+    args.push(Arg::Wide(number))?;
+    Ok(true)
 }
 
-fn read_change(word: &[u8]) -> Option<Arg>
-    ensures { Reads arg_text (IsArg ArgKind.Signed) word.now result }
+/// Adds the number with a sign, as `add_object` adds an object.
+fn add_signed(args: &mut Vec<Arg>, word: &[u8]) -> Result<bool, AllocError>
+    ensures { IfOk result (AddsArg ArgKind.Signed word.now args.old.items args.new.items) }
 {
     let Some(number) = read_signed(word) else {
-        return None;
+        return Ok(false);
     };
-    Some(Arg::Signed(number))
+    args.push(Arg::Signed(number))?;
+    Ok(true)
 }
 
-fn read_bytes(word: &[u8]) -> Option<Arg>
-    ensures { Reads arg_text (IsArg ArgKind.Data) word.now result }
-{
-    let Some(bytes) = read_data(word) else {
-        return None;
-    };
-    Some(Arg::Data(bytes))
-}
-
-fn read_kinds(word: &[u8]) -> Option<Arg>
-    ensures { Reads arg_text (IsArg ArgKind.Types) word.now result }
-{
-    let Some(set) = read_types(word) else {
-        return None;
-    };
-    Some(Arg::Types(set))
-}
-
-fn read_allowed(word: &[u8]) -> Option<Arg>
-    ensures { Reads arg_text (IsArg ArgKind.Rights) word.now result }
-{
-    let Some(rights) = read_rights(word) else {
-        return None;
-    };
-    Some(Arg::Rights(rights))
-}
-
-fn read_spoken_label(alloc: Global, word: &[u8]) -> Result<Option<Arg>, AllocError>
-    ensures { IfOk result (λ found. Reads arg_text (IsArg ArgKind.Label) word.now found) }
+/// Adds the label, as `add_object` adds an object.
+fn add_label(alloc: Global, args: &mut Vec<Arg>, word: &[u8]) -> Result<bool, AllocError>
+    ensures { IfOk result (AddsArg ArgKind.Label word.now args.old.items args.new.items) }
 {
     let Some(label) = read_label(alloc, word)? else {
-        return Ok(None);
+        return Ok(false);
     };
-    Ok(Some(Arg::Label(label)))
+    args.push(Arg::Label(label))?;
+    Ok(true)
 }
 
-/// The value of a kind that the word spells.
-pub fn read_arg(alloc: Global, kind: ArgKind, word: &[u8]) -> Result<Option<Arg>, AllocError>
-    ensures { IfOk result (λ found. Reads arg_text (IsArg kind) word.now found) }
+/// Adds the bytes, as `add_object` adds an object.
+fn add_data(args: &mut Vec<Arg>, word: &[u8]) -> Result<bool, AllocError>
+    ensures { IfOk result (AddsArg ArgKind.Data word.now args.old.items args.new.items) }
+{
+    let Some(bytes) = read_data(word) else {
+        return Ok(false);
+    };
+    args.push(Arg::Data(bytes))?;
+    Ok(true)
+}
+
+/// Adds the set of kinds, as `add_object` adds an object.
+fn add_types(args: &mut Vec<Arg>, word: &[u8]) -> Result<bool, AllocError>
+    ensures { IfOk result (AddsArg ArgKind.Types word.now args.old.items args.new.items) }
+{
+    let Some(set) = read_types(word) else {
+        return Ok(false);
+    };
+    args.push(Arg::Types(set))?;
+    Ok(true)
+}
+
+/// Adds the rights, as `add_object` adds an object.
+fn add_rights(args: &mut Vec<Arg>, word: &[u8]) -> Result<bool, AllocError>
+    ensures { IfOk result (AddsArg ArgKind.Rights word.now args.old.items args.new.items) }
+{
+    let Some(rights) = read_rights(word) else {
+        return Ok(false);
+    };
+    args.push(Arg::Rights(rights))?;
+    Ok(true)
+}
+
+/// Adds the value of the kind that the word spells, and answers whether it spells one; otherwise nothing is added.
+pub fn add_arg(
+    alloc: Global,
+    args: &mut Vec<Arg>,
+    kind: ArgKind,
+    word: &[u8],
+) -> Result<bool, AllocError>
+    ensures { IfOk result (AddsArg kind word.now args.old.items args.new.items) }
 {
     match kind {
-        ArgKind::Object => Ok(read_object(word)),
-        ArgKind::Number => Ok(read_short(word)),
-        ArgKind::Wide => Ok(read_wide(word)),
-        ArgKind::Signed => Ok(read_change(word)),
-        ArgKind::Label => read_spoken_label(alloc, word),
-        ArgKind::Data => Ok(read_bytes(word)),
-        ArgKind::Types => Ok(read_kinds(word)),
-        ArgKind::Rights => Ok(read_allowed(word)),
+        ArgKind::Object => add_object(args, word),
+        ArgKind::Number => add_number(args, word),
+        ArgKind::Wide => add_wide(args, word),
+        ArgKind::Signed => add_signed(args, word),
+        ArgKind::Label => add_label(alloc, args, word),
+        ArgKind::Data => add_data(args, word),
+        ArgKind::Types => add_types(args, word),
+        ArgKind::Rights => add_rights(args, word),
     }
 }

@@ -1,13 +1,15 @@
 //! A call as its words.
-ghost use Rattle.std.specs.Prelude.{◌≡◌, ◌==◌, ◌<◌, IfOk, map, length};
-ghost use Rattle.std.specs.List.{slice_split};
+ghost use Rattle.std.specs.Prelude.{◌≡◌, ◌<◌, ◌++◌, ◌∷◌, ℕ, List, true, IfOk, IfSome, IfNone, length};
+ghost use Rattle.text_words.specs.Lacks.{lacks};
 ghost use Rattle.text_words.specs.Reading.{Reads};
-ghost use Rattle.spoken_calls.specs.Spoken.{spoken_text, IsSpoken, ReadsArgs, ReadsArguments};
+ghost use Rattle.spoken_calls.specs.Spoken.{spoken_text, IsSpoken, IsRest, AddsArgs};
+ghost use Rattle.spoken_calls.specs.Spoken.{ReadsArguments};
 
-use crate::args::{Arg, ArgKind, read_arg};
+use crate::args::{Arg, ArgKind, add_arg};
 use crate::verbs::{Verb, read_verb};
 use std::alloc::{AllocError, Global};
 use std::marker::Model;
+use text_words::parted;
 
 /// A call and its arguments, which are of the verb's kinds, each in its range. A contract sees the verb and the list of
 /// the arguments.
@@ -44,33 +46,54 @@ impl SpokenCall {
     }
 }
 
-/// The arguments of these kinds that the words spell.
-fn read_args(
-    alloc: Global,
-    kinds: &[ArgKind],
-    words: &[&[u8]],
-) -> Result<Option<Vec<Arg>>, AllocError>
-    ensures { IfOk result (λ found. ReadsArgs kinds.now (map (λ w. w.now) words.now) found) }
+/// What stands before the first space, and the rest, which begins with that space or is empty.
+fn first_word(text: &[u8]) -> (&[u8], &[u8])
+    ensures parts { text.now ≡ result.0.now ++ result.1.now }
+    ensures word { lacks 32 result.0.now ≡ true }
+    ensures rest { IsRest result.1.now }
 {
-    let mut args = Vec::new(alloc);
-    if kinds.len() != words.len() {
-        return Ok(None);
+    match parted(text, b' ') {
+        Some((word, _)) => text.split_at(word.len()),
+        None => text.split_at(text.len()),
     }
-    for i in 0..kinds.len() {
-        let Some(arg) = read_arg(alloc, kinds[i], words[i])? else {
-            return Ok(None);
-        };
-        args.push(arg)?;
-    }
-    Ok(Some(args))
 }
 
-/// The words that stand in the line.
-fn split(alloc: Global, line: &[u8]) -> Result<Vec<&[u8]>, AllocError>
-    ensures { IfOk result
-        (λ words. map (λ w. w.now) words.items ≡ slice_split (λ b. b == 32) line.now) }
+/// What stands after a space.
+fn after_space(text: &[u8]) -> Option<&[u8]>
+    ensures some { IfSome result (λ r. text.now ≡ 32 ∷ r.now) }
+    ensures none { IfNone result ((r : List ℕ) → text.now ≡ 32 ∷ r → ⊥) }
 {
-    line.split(|b| *b == b' ').collect(alloc)
+    match text {
+        [b' ', after @ ..] => Some(after),
+        _ => None,
+    }
+}
+
+/// Adds the arguments of these kinds that the text spells, each after a space, and answers whether it spells them;
+/// otherwise some may have been added.
+fn add_args(
+    alloc: Global,
+    args: &mut Vec<Arg>,
+    kinds: &[ArgKind],
+    text: &[u8],
+) -> Result<bool, AllocError>
+    ensures { IfOk result (AddsArgs kinds.now text.now args.old.items args.new.items) }
+{
+    let mut rest = text;
+    for kind in kinds {
+        let Some(after) = after_space(rest) else {
+            return Ok(false);
+        };
+        let (word, left) = first_word(after);
+        if !add_arg(alloc, args, *kind, word)? {
+            return Ok(false);
+        }
+        rest = left;
+    }
+    if !rest.is_empty() {
+        return Ok(false);
+    }
+    Ok(true)
 }
 
 /// The arguments of these kinds, of which there is at least one, that the text spells, parted by single spaces.
@@ -82,24 +105,32 @@ pub fn read_arguments(
     requires { 0 < length kinds.now }
     ensures { IfOk result (λ found. ReadsArguments kinds.now text.now found) }
 {
-    let words = split(alloc, text)?;
-    let args = read_args(alloc, kinds, words.as_slice())?;
-    Ok(args)
+    let [first, more @ ..] = kinds else {
+        return Ok(None);
+    };
+    let (word, rest) = first_word(text);
+    let mut args = Vec::with_capacity(alloc, kinds.len())?;
+    if !add_arg(alloc, &mut args, *first, word)? {
+        return Ok(None);
+    }
+    if !add_args(alloc, &mut args, more, rest)? {
+        return Ok(None);
+    }
+    Ok(Some(args))
 }
 
 /// The call that the line spells.
 pub fn read_spoken(alloc: Global, line: &[u8]) -> Result<Option<SpokenCall>, AllocError>
     ensures { IfOk result (λ found. Reads spoken_text IsSpoken line.now found) }
 {
-    let words = split(alloc, line)?;
-    let [first, rest @ ..] = words.as_slice() else {
+    let (word, rest) = first_word(line);
+    let Some(verb) = read_verb(word) else {
         return Ok(None);
     };
-    let Some(verb) = read_verb(first) else {
+    let kinds = verb.kinds();
+    let mut args = Vec::with_capacity(alloc, kinds.len())?;
+    if !add_args(alloc, &mut args, kinds, rest)? {
         return Ok(None);
-    };
-    let Some(args) = read_args(alloc, verb.kinds(), rest)? else {
-        return Ok(None);
-    };
+    }
     Ok(Some(SpokenCall { verb, args }))
 }

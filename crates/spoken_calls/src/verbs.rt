@@ -1,7 +1,8 @@
 //! The table of calls.
-ghost use Rattle.std.specs.Prelude.{◌≡◌};
+ghost use Rattle.std.specs.Prelude.{◌≡◌, length};
 ghost use Rattle.text_words.specs.Reading.{Reads};
-ghost use Rattle.spoken_calls.specs.Verb.{name_of, kinds_of, makes};
+ghost use Rattle.spoken_calls.specs.declared.verbs.Verb.{Verb};
+ghost use Rattle.spoken_calls.specs.Verb.{name_of, kinds_of, makes, IsOneOf};
 
 use crate::args::ArgKind;
 use crate::args::ArgKind::{Data, Label, Number, Object, Rights, Signed, Types, Wide};
@@ -45,43 +46,6 @@ pub enum Verb {
     AsGet,
     Load,
 }
-
-const ALL: [Verb; 34] = [
-    Verb::CatCreate,
-    Verb::SelfSetLabel,
-    Verb::SelfSetClearance,
-    Verb::SelfSetAs,
-    Verb::ContainerCreate,
-    Verb::SegmentCreate,
-    Verb::SegmentCopy,
-    Verb::AsCreate,
-    Verb::ThreadCreate,
-    Verb::GateCreate,
-    Verb::Link,
-    Verb::Unref,
-    Verb::QuotaMove,
-    Verb::SetFixed,
-    Verb::SetImmutable,
-    Verb::MetaSet,
-    Verb::SegmentResize,
-    Verb::SegmentWrite,
-    Verb::AsMap,
-    Verb::AsUnmap,
-    Verb::Store,
-    Verb::GateEnter,
-    Verb::DevSend,
-    Verb::DevRecv,
-    Verb::SelfGet,
-    Verb::ObjLabel,
-    Verb::ObjQuota,
-    Verb::ContainerList,
-    Verb::ContainerParent,
-    Verb::SegmentLen,
-    Verb::SegmentRead,
-    Verb::MetaGet,
-    Verb::AsGet,
-    Verb::Load,
-];
 
 impl Verb {
     /// The word.
@@ -187,13 +151,51 @@ impl Verb {
     }
 }
 
+/// The verbs whose words have so many bytes.
+fn of_length(len: usize) -> &'static [Verb]
+    ensures { (v : Verb) → length (name_of v) ≡ len → IsOneOf v result.now }
+{
+    match len {
+        4 => &[Verb::Link, Verb::Load],
+        5 => &[Verb::Unref, Verb::Store],
+        6 => &[Verb::AsMap, Verb::AsGet],
+        8 => &[
+            Verb::MetaSet,
+            Verb::AsUnmap,
+            Verb::DevSend,
+            Verb::DevRecv,
+            Verb::SelfGet,
+            Verb::MetaGet,
+        ],
+        9 => &[
+            Verb::AsCreate,
+            Verb::SetFixed,
+            Verb::ObjLabel,
+            Verb::ObjQuota,
+        ],
+        10 => &[Verb::CatCreate, Verb::QuotaMove, Verb::GateEnter],
+        11 => &[Verb::SelfSetAs, Verb::GateCreate, Verb::SegmentLen],
+        12 => &[Verb::SegmentCopy, Verb::SegmentRead],
+        13 => &[Verb::ThreadCreate, Verb::SetImmutable, Verb::SegmentWrite],
+        14 => &[
+            Verb::SelfSetLabel,
+            Verb::SegmentCreate,
+            Verb::SegmentResize,
+            Verb::ContainerList,
+        ],
+        16 => &[Verb::ContainerCreate, Verb::ContainerParent],
+        18 => &[Verb::SelfSetClearance],
+        _ => &[],
+    }
+}
+
 /// The verb that the word names.
 pub fn read_verb(word: &[u8]) -> Option<Verb>
     ensures { Reads name_of (λ _. Unit) word.now result }
 {
-    for verb in ALL {
+    for verb in of_length(word.len()) {
         if is_same(verb.name().as_bytes(), word) {
-            return Some(verb);
+            return Some(*verb);
         }
     }
     None

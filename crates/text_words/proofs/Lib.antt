@@ -8,3 +8,7 @@ pub mod Outside
 pub mod ReadLemmas
 pub mod NameLemmas
 pub mod SignedLemmas
+pub mod NumberLemmas
+pub mod PartLemmas
+pub mod PairLemmas
+pub mod HexLemmas

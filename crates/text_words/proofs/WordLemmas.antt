@@ -1,18 +1,10 @@
-use Rattle.std.proofs.Common.{◌≡◌, ℕ, ◌*◌, ◌≤◌, ◌<◌, List, [], ◌∷◌, ◌++◌, take, length, Result, Ok, Err, IsTrue, cond, eqb, Bool, false, arith, decimal, sym, refl, subst, ap, ◌∙◌}
-use Rattle.std.proofs.Common.{Fits, w64}
-use Rattle.std.specs.Prelude.{MatchResult}
+use Rattle.std.proofs.Common.{◌≡◌, ℕ, ◌*◌, ◌≤◌, ◌<◌, List, [], ◌∷◌, ◌++◌, take, length, IsTrue, cond, eqb, Bool, false, arith, sym, refl, subst, ap, ◌∙◌}
 use Rattle.std.proofs.Math.Seq.{take-append_seam}
-use Rattle.hex.specs.Hex.{IsBytes}
-use Rattle.std.specs.Str.{IsUtf8}
-use Rattle.std.specs.Str.Parse.{ParsesUnsigned}
-use Rattle.std.proofs.lemmas.Str.{IsUtf8-from_ascii}
-use Rattle.std.proofs.lemmas.Fmt.{IsAscii-decimal, parse-decimal}
-use Rattle.hex.specs.Hex.{encode_lower, lower_digits, decode_sized}
-use Rattle.hex.proofs.HexLemmas.{decode_sized-encode_lower, length-encode_with, decode_of-encode_lower, decode_of-same}
+use Rattle.hex.specs.Hex.{encode_lower, lower_digits}
+use Rattle.hex.proofs.HexLemmas.{length-encode_with, decode_of-encode_lower, decode_of-same}
 use Rattle.hex.specs.Hex.{decode_of}
 use Rattle.base.specs.declared.levels.Level.{Level}
 use Rattle.base.specs.declared.levels.Level.TheVariants.{Star, L0, L1, L2, L3}
-use Rattle.hex.specs.declared.error.FromHexError.{FromHexError}
 use Rattle.std.specs.List.{list_all}
 use Rattle.std.proofs.lemmas.Bool.{leb-true}
 use Rattle.text_words.specs.Name.{IsName, is_letter, is_name_byte}
@@ -20,22 +12,10 @@ use Rattle.text_words.proofs.Split.{both_true}
 use Rattle.text_words.specs.DataWord.{data_text, IsData}
 use Rattle.text_words.specs.LevelWord.{level_text}
 
-pub decimal_utf8 : (bs : List ℕ) (n most : ℕ) → n ≤ most → Fits w64 most → bs ≡ decimal n → IsUtf8 bs
-decimal_utf8 bs n most le fits e = subst IsUtf8 (sym e) (IsUtf8-from_ascii (decimal n) (IsAscii-decimal n (omega arith)))
-
-pub parsed : {E : Type 0} (bs : List ℕ) (r : Result ℕ E) (n most : ℕ) → n ≤ most → Fits w64 most → bs ≡ decimal n → ParsesUnsigned 64 10 bs r → r ≡ Ok n
-parsed bs r n most le fits e h = parse-decimal 64 n bs r (omega arith) (omega arith) e h
-
 -- a text of some bytes, but for the dash
 pub data_is : (word v : List ℕ) → (word ≡ 45 ∷ [] → ⊥) → IsData v → word ≡ data_text v → (word ≡ encode_lower v) × (length word ≡ 2 * length v) × (0 < length v)
 data_is word [] other h e = absurd (other e)
 data_is word (b ∷ bs) other h e = (e, ap length e ∙ length-encode_with lower_digits (b ∷ bs), omega arith)
-
--- what decoding answered, where the text is one of v
-pub decoded : (word v out : List ℕ) (n : ℕ) (r : Result (Unit {0}) FromHexError) → IsBytes v → word ≡ encode_lower v → n ≡ length v → MatchResult (decode_sized word n) (λ bytes. (r ≡ Ok tt) × (out ≡ bytes)) (λ e. r ≡ Err e) → (r ≡ Ok tt) × (out ≡ v)
-decoded word v out n r fits e same h =
-    let k : decode_sized word n ≡ Ok v = ap (λ (w : List ℕ). decode_sized w n) e ∙ decode_sized-encode_lower v n (sym same) fits in
-    rw k at h
 
 pub not_so : (b : Bool) → b ≡ false → IsTrue b → ⊥
 not_so b is_not is_so = cc

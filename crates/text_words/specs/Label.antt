@@ -1,7 +1,6 @@
 -- The spelling of a label.
-use Rattle.std.specs.Prelude.{◌≡◌, ℕ, ◌≤◌, List, [], ◌∷◌, ◌++◌, length, map, Option, Some, None}
+use Rattle.std.specs.Prelude.{ℕ, ◌≤◌, List, [], ◌∷◌, ◌++◌, length, map}
 use Rattle.std.specs.List.{AllByRecursion, join_with_byte}
-use Rattle.std.specs.Global.{Vec}
 use Rattle.base.specs.declared.levels.Level.{Level}
 use Rattle.text_words.specs.declared.spoken_labels.SpokenPair.{SpokenPair}
 use Rattle.text_words.specs.LevelWord.{level_text}
@@ -20,18 +19,15 @@ pair_text p = reference_text p.category ++ 58 ∷ level_text p.level
 abbrev pub IsPair : SpokenPair → Type 0
 IsPair p = IsReference p.category
 
--- the pairs and the default's level, parted by commas, in braces
+-- the pairs and the default's level, parted by commas
+abbrev pub inside_text : LabelValue → List ℕ
+inside_text l = join_with_byte 44 (map pair_text l.pairs ++ level_text l.default ∷ [])
+
+-- the same in braces
 abbrev pub label_text : LabelValue → List ℕ
-label_text l =
-    123 ∷ (join_with_byte 44 (map pair_text l.pairs ++ level_text l.default ∷ []) ++ 125 ∷ [])
+label_text l = 123 ∷ (inside_text l ++ 125 ∷ [])
 
 -- at most 24 pairs
 pub record IsLabel (l : LabelValue) : Type 0 where
   pub pairs : AllByRecursion IsPair l.pairs
   pub few : length l.pairs ≤ 24
-
--- what is read of the words of the pairs
-abbrev pub ReadsPairs : List (List ℕ) → Option (Vec SpokenPair) → Type 0
-ReadsPairs words (Some v) = AllByRecursion IsPair v.items × (words ≡ map pair_text v.items)
-ReadsPairs words None =
-    (ps : List SpokenPair) → AllByRecursion IsPair ps → words ≡ map pair_text ps → ⊥

@@ -1,6 +1,7 @@
 //! Data: two digits a byte, in lower case, or `-` for no bytes.
-ghost use Rattle.std.specs.Prelude.{◌≡◌, ◌*◌, ◌++◌, ℕ, List, length, IsTrue, OnOk};
-ghost use Rattle.hex.specs.Hex.{encode_lower, IsBytes};
+ghost use Rattle.std.specs.Prelude.{◌≡◌, ◌<◌, ◌*◌, ◌++◌, ℕ, List, length, false, IsTrue, OnOk};
+ghost use Rattle.std.specs.Prelude.{slice_index, IfSome, IfNone};
+ghost use Rattle.hex.specs.Hex.{encode_lower, lower_digits, IsBytes};
 ghost use Rattle.text_words.specs.Reading.{Reads};
 ghost use Rattle.text_words.specs.DataWord.{data_text, IsData};
 
@@ -8,12 +9,41 @@ use crate::compared::is_same;
 use base::Data;
 use std::alloc::AllocError;
 
-/// Writes the bytes that the word stands for, in either case of digits.
-fn decode(word: &[u8], out: &mut [u8]) -> bool
-    ensures { (v : List ℕ) → IsBytes v → word.now ≡ encode_lower v → length out.old ≡ length v
-        → IsTrue result × (out.new ≡ v) }
+/// The digits, each at its value.
+static DIGITS: [u8; 16] = *b"0123456789abcdef";
+
+/// The value of the digit: 0 to 15.
+fn digit_value(digit: u8) -> Option<u8>
+    ensures some { IfSome result (λ v. (v < 16) × (digit ≡ slice_index lower_digits v)) }
+    ensures none { IfNone result ((v : ℕ) → v < 16 → digit ≡ slice_index lower_digits v → ⊥) }
 {
-    hex::decode_to_slice(word, out).is_ok()
+    // (the codes of 0 to 9 are 48 to 57, those of a to f are 97 to 102)
+    let value = digit % 16 + digit / 64 * 9;
+    if value >= 16 {
+        return None;
+    }
+    if DIGITS[value as usize] != digit {
+        return None;
+    }
+    Some(value)
+}
+
+/// Writes the bytes that the word spells, two digits each, and answers whether it spells some.
+fn decode(word: &[u8], out: &mut [u8]) -> bool
+    requires { length word.now ≡ 2 * length out.old }
+    ensures yes { IsTrue result → word.now ≡ encode_lower out.new }
+    ensures no { result ≡ false → (v : List ℕ) → IsBytes v → word.now ≡ encode_lower v → ⊥ }
+{
+    for i in 0..out.len() {
+        let Some(high) = digit_value(word[2 * i]) else {
+            return false;
+        };
+        let Some(low) = digit_value(word[2 * i + 1]) else {
+            return false;
+        };
+        out[i] = high * 16 + low;
+    }
+    true
 }
 
 /// Writes two digits a byte.
@@ -32,19 +62,16 @@ pub fn read_data(word: &[u8]) -> Option<Data>
         return Some(Data::from_slice(&[]));
     }
     let len = word.len() / 2;
-    if word.len() > 128 || len == 0 {
+    if len == 0 || len > 64 {
         return None;
     }
-    let mut bytes = [0u8; 64];
-    let bytes = &mut bytes[..len];
+    if word.len() != 2 * len {
+        return None;
+    }
+    let mut room = [0u8; 64];
+    let bytes = &mut room[..len];
     prove!(bytes.len() == len);
     if !decode(word, &mut *bytes) {
-        return None;
-    }
-    let mut again = [0u8; 128];
-    let again = &mut again[..2 * len];
-    encode(&*bytes, &mut *again);
-    if !is_same(again, word) {
         return None;
     }
     Some(Data::from_slice(bytes))

@@ -1,11 +1,11 @@
 //! Labels as a script writes them: `{c:3,#7:*,1}`.
 ghost use Rattle.std.specs.Prelude.{◌≡◌, ◌==◌, ◌≤◌, ◌++◌, ◌∷◌, [], ℕ, List, length, map, IfOk};
 ghost use Rattle.std.specs.Prelude.{OnOk, IfSome, IfNone};
-ghost use Rattle.std.specs.List.{slice_split};
 ghost use Rattle.text_words.specs.Reading.{Reads};
-ghost use Rattle.text_words.specs.Label.{pair_text, IsPair, label_text, IsLabel, ReadsPairs};
+ghost use Rattle.text_words.specs.Label.{pair_text, IsPair, inside_text, label_text, IsLabel};
 
 use crate::level_words::{put_level, read_level};
+use crate::parting::parted;
 use crate::references::{Reference, put_reference, read_reference};
 use base::Level;
 use std::alloc::{AllocError, Global};
@@ -83,26 +83,26 @@ fn inside(word: &[u8]) -> Option<&[u8]>
     }
 }
 
-/// The parts between commas.
-fn split(alloc: Global, text: &[u8]) -> Result<Vec<&[u8]>, AllocError>
-    ensures { IfOk result
-        (λ words. map (λ w. w.now) words.items ≡ slice_split (λ b. b == 44) text.now) }
-{
-    text.split(|b| *b == b',').collect(alloc)
-}
-
-/// The pairs that the words spell.
-fn read_pairs(alloc: Global, words: &[&[u8]]) -> Result<Option<Vec<SpokenPair>>, AllocError>
-    ensures { IfOk result (λ found. ReadsPairs (map (λ w. w.now) words.now) found) }
+/// The label whose pairs and default the text spells, parted by commas.
+fn read_inside(alloc: Global, text: &[u8]) -> Result<Option<SpokenLabel>, AllocError>
+    ensures { IfOk result (λ found. Reads inside_text IsLabel text.now found) }
 {
     let mut pairs = Vec::new(alloc);
-    for i in 0..words.len() {
-        let Some(SpokenPair { category, level }) = read_pair(words[i]) else {
+    let mut rest = text;
+    while let Some((part, after)) = parted(rest, b',') {
+        if pairs.len() >= 24 {
+            return Ok(None);
+        }
+        let Some(SpokenPair { category, level }) = read_pair(part) else {
             return Ok(None);
         };
         pairs.push(SpokenPair { category, level })?;
+        rest = after;
     }
-    Ok(Some(pairs))
+    let Some(default) = read_level(rest) else {
+        return Ok(None);
+    };
+    Ok(Some(SpokenLabel { pairs, default }))
 }
 
 /// The label that the word spells.
@@ -112,20 +112,7 @@ pub fn read_label(alloc: Global, word: &[u8]) -> Result<Option<SpokenLabel>, All
     let Some(text) = inside(word) else {
         return Ok(None);
     };
-    let parts = split(alloc, text)?;
-    let [front @ .., last] = parts.as_slice() else {
-        return Ok(None);
-    };
-    if front.len() > 24 {
-        return Ok(None);
-    }
-    let Some(default) = read_level(last) else {
-        return Ok(None);
-    };
-    let Some(pairs) = read_pairs(alloc, front)? else {
-        return Ok(None);
-    };
-    Ok(Some(SpokenLabel { pairs, default }))
+    read_inside(alloc, text)
 }
 
 /// Adds the spelling of a pair, and a comma.

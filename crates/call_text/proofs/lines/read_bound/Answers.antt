@@ -4,7 +4,7 @@ use Rattle.text_words.proofs.ReadLemmas.{read_not, read_is}
 use Rattle.spoken_calls.specs.Spoken.{Spoken}
 use Rattle.spoken_calls.specs.Verb.{makes}
 use Rattle.call_text.specs.Line.{said_text, IsSaid}
-use Rattle.call_text.proofs.PartLemmas.{not_in}
+use Rattle.text_words.proofs.PartLemmas.{not_in}
 use Rattle.call_text.proofs.LineLemmas.{bound_first, bound_parts, said_is_one}
 use Rattle.call_text.proofs.lines.read_bound.Goals as goal
 

@@ -3,7 +3,7 @@ use Rattle.text_words.specs.Lacks.{lacks}
 use Rattle.text_words.proofs.LabelLemmas.{before_last}
 use Rattle.text_words.proofs.ReadLemmas.{read_not}
 use Rattle.spoken_calls.specs.Spoken.{spoken_text, IsSpoken}
-use Rattle.call_text.proofs.PartLemmas.{not_in}
+use Rattle.text_words.proofs.PartLemmas.{not_in}
 use Rattle.call_text.proofs.LineLemmas.{said_first, said_parts}
 use Rattle.call_text.proofs.lines.read_said.Goals as goal
 

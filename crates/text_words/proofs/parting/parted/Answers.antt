@@ -1,7 +1,7 @@
 use Rattle.std.proofs.Common.{◌≡◌, ◌∙◌, ◌+◌, ◌-◌, length, take, drop, sym, arith}
 use Rattle.std.proofs.lemmas.List.{take_all, length-drop}
-use Rattle.call_text.proofs.PartLemmas.{end_at, no_end}
-use Rattle.call_text.proofs.parting.parted.Goals as goal
+use Rattle.text_words.proofs.PartLemmas.{end_at, no_end}
+use Rattle.text_words.proofs.parting.parted.Goals as goal
 
 pub returns : goal.returns
 returns c =
