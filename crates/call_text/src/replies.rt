@@ -1,27 +1,79 @@
 //! Replies as text.
-ghost use Rattle.std.specs.Prelude.{◌≡◌, ◌++◌, ◌∷◌, map, IfOk, OnOk};
+ghost use Rattle.std.specs.Prelude.{◌≡◌, ◌++◌, ◌∷◌, [], map, IfOk, OnOk};
 ghost use Rattle.call_text.specs.ReplyWord.{words_text};
 ghost use Rattle.call_text.specs.Reply.{own_words, quota_words, mapping_words, reply_text};
 
 use crate::known_names::{Known, NameList, Named};
 use crate::reply_words::{Head, Word, put_further, put_words};
-use base::{NoMemory, ObjectId};
+use base::{Category, Data, NoMemory, ObjectId, Refusal};
 use kernel_rules::{Entry, Mapping, Reply};
 use label_lattice::Label;
 use std::alloc::Global;
 
-/// The words of what a thread is.
-fn own_words(
+/// Adds a category that was made.
+#[inline(never)]
+fn put_category<K: Known>(out: &mut Vec<u8>, category: Category, names: &K) -> Result<(), NoMemory>
+    ensures { OnOk result (out.new.items ≡ out.old.items
+        ++ words_text (K.names names.now) Head.Cat (Word.Category category ∷ [])) }
+{
+    put_words(out, Head::Cat, &[Word::Category(category)], names)
+}
+
+/// Adds an object, after the first word.
+#[inline(never)]
+fn put_object<K: Known>(
+    out: &mut Vec<u8>,
+    first: Head,
+    id: ObjectId,
+    names: &K,
+) -> Result<(), NoMemory>
+    ensures { OnOk result (out.new.items ≡ out.old.items
+        ++ words_text (K.names names.now) first (Word.Object id ∷ [])) }
+{
+    put_words(out, first, &[Word::Object(id)], names)
+}
+
+/// Adds where a thread runs and what it was handed.
+#[inline(never)]
+fn put_entered<K: Known>(
+    out: &mut Vec<u8>,
+    entry_point: u64,
+    closure: u64,
+    names: &K,
+) -> Result<(), NoMemory>
+    ensures { OnOk result (out.new.items ≡ out.old.items
+        ++ words_text (K.names names.now) Head.Entered (Word.Number entry_point ∷ Word.Number closure ∷ [])) }
+{
+    let words = [Word::Number(entry_point), Word::Number(closure)];
+    put_words(out, Head::Entered, &words, names)
+}
+
+/// Adds bytes.
+#[inline(never)]
+fn put_bytes<K: Known>(out: &mut Vec<u8>, bytes: &Data, names: &K) -> Result<(), NoMemory>
+    ensures { OnOk result (out.new.items ≡ out.old.items
+        ++ words_text (K.names names.now) Head.Data (Word.Data bytes.now ∷ [])) }
+{
+    put_words(out, Head::Data, &[Word::Data(*bytes)], names)
+}
+
+/// Adds what a thread is.
+#[inline(never)]
+fn put_own<K: Known>(
+    out: &mut Vec<u8>,
     label: &Label,
     clearance: &Label,
     verify: &Label,
     space: &Entry,
     entry_point: u64,
     closure: u64,
-) -> [Word; 7]
-    ensures { result ≡ own_words label.now clearance.now verify.now space.now entry_point closure }
+    names: &K,
+) -> Result<(), NoMemory>
+    ensures { OnOk result (out.new.items ≡ out.old.items
+        ++ words_text (K.names names.now) Head.Own
+        (own_words label.now clearance.now verify.now space.now entry_point closure)) }
 {
-    [
+    let words = [
         Word::Label(*label),
         Word::Label(*clearance),
         Word::Label(*verify),
@@ -29,22 +81,61 @@ fn own_words(
         Word::Object(space.object),
         Word::Number(entry_point),
         Word::Number(closure),
-    ]
+    ];
+    put_words(out, Head::Own, &words, names)
 }
 
-/// The words of what an object may use and uses.
-fn quota_words(quota: u32, used: u32, fixed: bool, immutable: bool) -> [Word; 4]
-    ensures { result ≡ quota_words quota used fixed immutable }
+/// Adds the label of an object.
+#[inline(never)]
+fn put_label<K: Known>(out: &mut Vec<u8>, label: &Label, names: &K) -> Result<(), NoMemory>
+    ensures { OnOk result (out.new.items ≡ out.old.items
+        ++ words_text (K.names names.now) Head.Label (Word.Label label.now ∷ [])) }
 {
-    [
+    put_words(out, Head::Label, &[Word::Label(*label)], names)
+}
+
+/// Adds what an object may use and uses.
+#[inline(never)]
+fn put_quota<K: Known>(
+    out: &mut Vec<u8>,
+    quota: u32,
+    used: u32,
+    fixed: bool,
+    immutable: bool,
+    names: &K,
+) -> Result<(), NoMemory>
+    ensures { OnOk result (out.new.items ≡ out.old.items
+        ++ words_text (K.names names.now) Head.Quota (quota_words quota used fixed immutable)) }
+{
+    let words = [
         Word::Number(u64::from(quota)),
         Word::Number(u64::from(used)),
         Word::Flag(fixed),
         Word::Flag(immutable),
-    ]
+    ];
+    put_words(out, Head::Quota, &words, names)
+}
+
+/// Adds the length of a segment.
+#[inline(never)]
+fn put_pages<K: Known>(out: &mut Vec<u8>, pages: u32, names: &K) -> Result<(), NoMemory>
+    ensures { OnOk result (out.new.items ≡ out.old.items
+        ++ words_text (K.names names.now) Head.Pages (Word.Number pages ∷ [])) }
+{
+    put_words(out, Head::Pages, &[Word::Number(u64::from(pages))], names)
+}
+
+/// Adds why a call was refused.
+#[inline(never)]
+fn put_refused<K: Known>(out: &mut Vec<u8>, refusal: Refusal, names: &K) -> Result<(), NoMemory>
+    ensures { OnOk result (out.new.items ≡ out.old.items
+        ++ words_text (K.names names.now) Head.Refused (Word.Refusal refusal ∷ [])) }
+{
+    put_words(out, Head::Refused, &[Word::Refusal(refusal)], names)
 }
 
 /// Adds how many ids a container lists, and some of them.
+#[inline(never)]
 fn put_listed<K: Known>(
     out: &mut Vec<u8>,
     count: u64,
@@ -62,6 +153,7 @@ fn put_listed<K: Known>(
 }
 
 /// Adds what a slot maps.
+#[inline(never)]
 fn put_mapping<K: Known>(
     out: &mut Vec<u8>,
     mapping: &Option<Mapping>,
@@ -89,18 +181,16 @@ pub fn put_reply<K: Known>(out: &mut Vec<u8>, reply: &Reply, names: &K) -> Resul
     ensures { OnOk result (out.new.items
         ≡ out.old.items ++ reply_text (K.names names.now) reply.now) }
 {
-    match *reply {
+    // (a function sets room to zero for the words of all its arms: so each arm's words are made in a function of its own)
+    match reply {
         Reply::Done => put_words(out, Head::Ok, &[], names),
-        Reply::Category(category) => put_words(out, Head::Cat, &[Word::Category(category)], names),
-        Reply::Object(id) => put_words(out, Head::Id, &[Word::Object(id)], names),
+        Reply::Category(category) => put_category(out, *category, names),
+        Reply::Object(id) => put_object(out, Head::Id, *id, names),
         Reply::Entered {
             entry_point,
             closure,
-        } => {
-            let words = [Word::Number(entry_point), Word::Number(closure)];
-            put_words(out, Head::Entered, &words, names)
-        }
-        Reply::Bytes(bytes) => put_words(out, Head::Data, &[Word::Data(bytes)], names),
+        } => put_entered(out, *entry_point, *closure, names),
+        Reply::Bytes(bytes) => put_bytes(out, bytes, names),
         Reply::Own {
             label,
             clearance,
@@ -108,27 +198,28 @@ pub fn put_reply<K: Known>(out: &mut Vec<u8>, reply: &Reply, names: &K) -> Resul
             space,
             entry_point,
             closure,
-        } => {
-            let words = own_words(&label, &clearance, &verify, &space, entry_point, closure);
-            put_words(out, Head::Own, &words, names)
-        }
-        Reply::Label(label) => put_words(out, Head::Label, &[Word::Label(label)], names),
+        } => put_own(
+            out,
+            label,
+            clearance,
+            verify,
+            space,
+            *entry_point,
+            *closure,
+            names,
+        ),
+        Reply::Label(label) => put_label(out, label, names),
         Reply::Quota {
             quota,
             used,
             fixed,
             immutable,
-        } => {
-            let words = quota_words(quota, used, fixed, immutable);
-            put_words(out, Head::Quota, &words, names)
-        }
-        Reply::Listed { count, ids } => put_listed(out, count, ids.as_slice(), names),
-        Reply::Parent(id) => put_words(out, Head::Parent, &[Word::Object(id)], names),
-        Reply::Pages(pages) => {
-            put_words(out, Head::Pages, &[Word::Number(u64::from(pages))], names)
-        }
-        Reply::Mapping(mapping) => put_mapping(out, &mapping, names),
-        Reply::Refused(refusal) => put_words(out, Head::Refused, &[Word::Refusal(refusal)], names),
+        } => put_quota(out, *quota, *used, *fixed, *immutable, names),
+        Reply::Listed { count, ids } => put_listed(out, *count, ids.as_slice(), names),
+        Reply::Parent(id) => put_object(out, Head::Parent, *id, names),
+        Reply::Pages(pages) => put_pages(out, *pages, names),
+        Reply::Mapping(mapping) => put_mapping(out, mapping, names),
+        Reply::Refused(refusal) => put_refused(out, *refusal, names),
     }
 }
 

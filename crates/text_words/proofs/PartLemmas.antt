@@ -1,8 +1,7 @@
 -- A text up to a byte, and after it.
-use Rattle.std.proofs.Common.{◌≡◌, ℕ, suc, ◌+◌, ◌<◌, ◌≤◌, Bool, true, false, cond, eqb, eq-eqb, ltb, List, [], ◌∷◌, ◌++◌, length, take, drop, Some, None, refl, ap, sym, arith, subst, ◌⊎◌, inl, inr}
-use Rattle.std.specs.Prelude.{position}
-use Rattle.std.specs.List.{position_or_len}
-use Rattle.std.proofs.lemmas.Bool.{eqb-true, ltb-true, ltb-false}
+use Rattle.std.proofs.Common.{◌≡◌, ℕ, zero, suc, ◌+◌, ◌<◌, Bool, true, false, eqb, eq-eqb, List, [], ◌∷◌, ◌++◌, length, take, drop, refl, ap, arith}
+use Rattle.std.proofs.lemmas.Bool.{eqb-true}
+use Rattle.memchr.specs.Find.{Nowhere, NoneBefore, Passes, is_byte}
 use Rattle.text_words.proofs.Split.{cond_false}
 use Rattle.text_words.specs.Lacks.{lacks}
 
@@ -24,44 +23,25 @@ end_further c x bytes i e h =
       parts = rw k (ap (λ (rest : List ℕ). x ∷ rest) h.parts);
     }
 
-two : (b : Bool) → (b ≡ true) ⊎ (b ≡ false)
-two true = inl refl
-two false = inr refl
+not_true : (b : Bool) → (b ≡ true → ⊥) → b ≡ false
+not_true true other = absurd (other refl)
+not_true false other = refl
 
-ends_at : (c : ℕ) (bytes : List ℕ) → position_or_len (λ b. eqb b c) bytes < length bytes → Ends c bytes (position_or_len (λ b. eqb b c) bytes)
-ends_at c [] lt = absurd (omega arith)
-ends_at c (x ∷ bytes) lt =
-    elim (two (eqb x c)) [
-      | inl e ↦ let k : position_or_len (λ b. eqb b c) (x ∷ bytes) ≡ 0 = rw e refl in subst (λ n. Ends c (x ∷ bytes) n) (sym k) (end_here c x bytes e)
-      | inr e ↦
-          let k : position_or_len (λ b. eqb b c) (x ∷ bytes) ≡ 1 + position_or_len (λ b. eqb b c) bytes = rw e refl in
-          let j : suc (position_or_len (λ b. eqb b c) bytes) ≡ position_or_len (λ b. eqb b c) (x ∷ bytes) = omega arith in
-          subst (λ n. Ends c (x ∷ bytes) n) j (end_further c x bytes (position_or_len (λ b. eqb b c) bytes) e (ends_at c bytes (omega arith)))
-    ]
+ends_at : (c : ℕ) (bytes : List ℕ) (i : ℕ) → i < length bytes → ((k : ℕ) → k < i → Passes (is_byte c) bytes k → ⊥) → Passes (is_byte c) bytes i → Ends c bytes i
+ends_at c [] i lt before here = absurd (omega arith)
+ends_at c (x ∷ bytes) zero lt before here = end_here c x bytes here
+ends_at c (x ∷ bytes) (suc i) lt before here =
+    end_further c x bytes i (not_true (eqb x c) (before 0 (omega arith))) (ends_at c bytes i (omega arith) (λ k less. before (suc k) (omega arith)) here)
 
-some_is : (b : Bool) (m n : ℕ) → cond b (Some m) None ≡ Some n → (b ≡ true) × (m ≡ n)
-some_is true m n e = (refl, cc)
-some_is false m n e = absurd cc
+pub end_at : (c : ℕ) (bytes : List ℕ) (i : ℕ) → NoneBefore (Passes (is_byte c) bytes) 0 (length bytes) i → Passes (is_byte c) bytes i → Ends c bytes i
+end_at c bytes i none here = ends_at c bytes i none.high (λ k less. none.before k (omega arith) less) here
 
-pub end_at : (c : ℕ) (bytes : List ℕ) (i : ℕ) → position (λ b. eqb b c) bytes ≡ Some i → Ends c bytes i
-end_at c bytes i e =
-    let p = some_is (ltb (position_or_len (λ b. eqb b c) bytes) (length bytes)) (position_or_len (λ b. eqb b c) bytes) i e in
-    subst (λ n. Ends c bytes n) p.1 (ends_at c bytes (ltb-true _ _ p.0))
+no_end_at : (c : ℕ) (bytes : List ℕ) → ((k : ℕ) → k < length bytes → Passes (is_byte c) bytes k → ⊥) → lacks c bytes ≡ true
+no_end_at c [] none = refl
+no_end_at c (x ∷ bytes) none = rw (not_true (eqb x c) (none 0 (omega arith))) (no_end_at c bytes (λ k less. none (suc k) (omega arith)))
 
-none_is : (b : Bool) (m : ℕ) → cond b (Some m) None ≡ None → b ≡ false
-none_is true m e = absurd cc
-none_is false m e = refl
-
-no_end_at : (c : ℕ) (bytes : List ℕ) → length bytes ≤ position_or_len (λ b. eqb b c) bytes → lacks c bytes ≡ true
-no_end_at c [] le = refl
-no_end_at c (x ∷ bytes) le =
-    elim (two (eqb x c)) [
-      | inl e ↦ let k : position_or_len (λ b. eqb b c) (x ∷ bytes) ≡ 0 = rw e refl in absurd (omega arith)
-      | inr e ↦ let k : position_or_len (λ b. eqb b c) (x ∷ bytes) ≡ 1 + position_or_len (λ b. eqb b c) bytes = rw e refl in rw e (no_end_at c bytes (omega arith))
-    ]
-
-pub no_end : (c : ℕ) (bytes : List ℕ) → position (λ b. eqb b c) bytes ≡ None → lacks c bytes ≡ true
-no_end c bytes e = no_end_at c bytes (ltb-false _ _ (none_is (ltb (position_or_len (λ b. eqb b c) bytes) (length bytes)) (position_or_len (λ b. eqb b c) bytes) e))
+pub no_end : (c : ℕ) (bytes : List ℕ) → Nowhere (Passes (is_byte c) bytes) 0 (length bytes) → lacks c bytes ≡ true
+no_end c bytes none = no_end_at c bytes (λ k less. none k (omega arith) less)
 
 -- a byte that stands in a text
 pub not_in : (c : ℕ) (a x : List ℕ) → lacks c (a ++ c ∷ x) ≡ true → ⊥

@@ -1,14 +1,8 @@
 //! A text up to a byte, and after it.
-ghost use Rattle.std.specs.Prelude.{◌≡◌, ◌==◌, ◌<◌, ◌++◌, ◌∷◌, true, length, position, IfSome};
-ghost use Rattle.std.specs.Prelude.{IfNone};
+ghost use Rattle.std.specs.Prelude.{◌≡◌, ◌<◌, ◌++◌, ◌∷◌, true, length, IfSome, IfNone};
 ghost use Rattle.text_words.specs.Lacks.{lacks};
 
-/// Where the byte first stands.
-fn place_of(text: &[u8], byte: u8) -> Option<usize>
-    ensures { result ≡ position (λ b. b == byte) text.now }
-{
-    text.iter().position(|b| *b == byte)
-}
+use memchr::memchr;
 
 /// What stands before the first such byte, and what after it.
 pub fn parted(text: &[u8], byte: u8) -> Option<(&[u8], &[u8])>
@@ -17,7 +11,7 @@ pub fn parted(text: &[u8], byte: u8) -> Option<(&[u8], &[u8])>
     ensures shorter { IfSome result (λ r. length r.1.now < length text.now) }
     ensures none { IfNone result (lacks byte text.now ≡ true) }
 {
-    let Some(end) = place_of(text, byte) else {
+    let Some(end) = memchr(byte, text) else {
         return None;
     };
     Some((&text[..end], &text[end + 1..]))
