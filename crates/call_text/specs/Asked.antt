@@ -1,6 +1,8 @@
 -- The table of what verbs ask, with the names that are known.
-use Rattle.std.specs.Prelude.{List}
+use Rattle.std.specs.Prelude.{List, Option, Some, None}
+use Rattle.kernel_rules.specs.declared.calls.Call.{Call}
 use Rattle.kernel_rules.specs.declared.calls.Call.TheVariants as calls
+use Rattle.kernel_rules.specs.declared.calls.Query.{Query}
 use Rattle.kernel_rules.specs.declared.calls.Query.TheVariants as queries
 use Rattle.spoken_calls.specs.declared.args.Arg.{Arg}
 use Rattle.spoken_calls.specs.declared.verbs.Verb.{Verb}
@@ -100,3 +102,8 @@ asked_of verbs.SegmentRead xs names =
 asked_of verbs.MetaGet xs names = Read (queries.MetaGet (entry_at 0 xs names))
 asked_of verbs.AsGet xs names = Read (queries.AsGet (entry_at 0 xs names) (number_at 2 xs))
 asked_of verbs.Load xs names = Read (queries.Load (wide_at 0 xs) (number_at 1 xs))
+
+-- the query, or else the call
+abbrev pub asked_by : Option Query → Call → Asked
+asked_by (Some query) call = Read query
+asked_by None call = Write call

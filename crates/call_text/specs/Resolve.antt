@@ -1,5 +1,7 @@
 -- What a spoken call asks, with the names that are known.
 use Rattle.std.specs.Prelude.{ℕ, List, [], ◌∷◌, Option, Some, None, Result, Ok, Err}
+use Rattle.kernel_rules.specs.declared.calls.Call.{Call}
+use Rattle.kernel_rules.specs.declared.calls.Query.{Query}
 use Rattle.text_words.specs.declared.references.Reference.{Reference}
 use Rattle.text_words.specs.declared.references.Reference.TheVariants.{Number, Name}
 use Rattle.text_words.specs.declared.spoken_labels.SpokenPair.{SpokenPair}
@@ -10,7 +12,7 @@ use Rattle.call_text.specs.declared.known_names.Named.{Named}
 use Rattle.call_text.specs.declared.known_names.Value.{Value}
 use Rattle.call_text.specs.declared.known_names.Value.TheVariants.{Object, Category}
 use Rattle.call_text.specs.declared.asking.Asked.{Asked}
-use Rattle.call_text.specs.Asked.{asked_of}
+use Rattle.call_text.specs.Asked.{asked_of, asked_by}
 use Rattle.call_text.specs.Known.{value_of}
 
 -- the name, unless it is an object's
@@ -69,3 +71,8 @@ or_unbound None asked = Ok asked
 -- what the call asks, or the first name that is not known, or known as the other kind
 abbrev pub resolved : Spoken → List Named → Result Asked (List ℕ)
 resolved call names = or_unbound (first_unbound call.args names) (asked_of call.verb call.args names)
+
+-- an unbound name, or else the query, or else the call
+abbrev pub resolved_by : Result (Option Query) (List ℕ) → Call → Result Asked (List ℕ)
+resolved_by (Err name) call = Err name
+resolved_by (Ok query) call = Ok (asked_by query call)

@@ -1,10 +1,11 @@
 //! What a spoken call asks, with the names that are known.
-ghost use Rattle.std.specs.Prelude.{◌≡◌};
+ghost use Rattle.std.specs.Prelude.{◌≡◌, IfOk, OnErr, OnSome};
 ghost use Rattle.call_text.specs.Resolve.{unbound_object, unbound_category, unbound_pair};
-ghost use Rattle.call_text.specs.Resolve.{unbound_in, first_unbound, resolved};
+ghost use Rattle.call_text.specs.Resolve.{unbound_in, first_unbound, resolved, resolved_by};
 
-use crate::asking::{Asked, make_asked};
+use crate::asking::{Asked, ask};
 use crate::known_names::{Known, Value};
+use kernel_rules::{Call, Query};
 use spoken_calls::{Arg, SpokenCall};
 use text_words::{Name, Reference, SpokenPair};
 
@@ -74,13 +75,32 @@ fn first_unbound<K: Known>(args: &[Arg], names: &K) -> Option<Name>
     None
 }
 
-/// What the call asks, where each of its names is known as what stands there, or the first name, in the order of the
-/// words, that is not known or known as the other kind. A number stands for itself.
+/// What the spoken call asks, where each of its names is known as what stands there, or the first name, in the order of
+/// the words, that is not known or known as the other kind. A number stands for itself. A query is the answer, and a call is
+/// written to `call`, which else stays as it was.
+pub fn resolve_into<K: Known>(
+    spoken: &SpokenCall,
+    names: &K,
+    call: &mut Call,
+) -> Result<Option<Query>, Name>
+    ensures resolved { resolved_by result call.new ≡ resolved spoken.now (K.names names.now) }
+    ensures unbound { OnErr result (call.new ≡ call.old) }
+    ensures query { IfOk result (λ asked. OnSome asked (call.new ≡ call.old)) }
+{
+    if let Some(name) = first_unbound(spoken.args(), names) {
+        return Err(name);
+    }
+    Ok(ask(spoken.verb(), spoken.args(), names, call))
+}
+
+/// What the spoken call asks, as `resolve_into` answers it, with a call by value.
 pub fn resolve<K: Known>(call: &SpokenCall, names: &K) -> Result<Asked, Name>
     ensures { result ≡ resolved call.now (K.names names.now) }
 {
-    if let Some(name) = first_unbound(call.args(), names) {
-        return Err(name);
+    let mut asked = Call::CatCreate;
+    match resolve_into(call, names, &mut asked) {
+        Err(name) => return Err(name),
+        Ok(Some(query)) => return Ok(Asked::Read(query)),
+        Ok(None) => return Ok(Asked::Write(asked)),
     }
-    Ok(make_asked(call.verb(), call.args(), names))
 }

@@ -1,4 +1,4 @@
-//! Calls that make an object.
+//! Calls that make an object. Each function writes a call, which is large, over the one that it is lent.
 ghost use Rattle.std.specs.Prelude.{◌≡◌};
 ghost use Rattle.call_text.specs.Asked.{asked_of};
 
@@ -8,65 +8,71 @@ use crate::places::{label_at, make_entry, number_at, object_at, types_at, wide_a
 use kernel_rules::{Call, NewAddressSpace, NewContainer, NewCopy, NewGate, NewSegment, NewThread};
 use spoken_calls::{Arg, Verb};
 
-pub(super) fn container_create<K: Known>(args: &[Arg], names: &K) -> Call
-    ensures { Asked.Write result ≡ asked_of Verb.ContainerCreate args.now (K.names names.now) }
+#[inline(never)]
+pub(super) fn container_create<K: Known>(args: &[Arg], names: &K, call: &mut Call)
+    ensures { Asked.Write call.new ≡ asked_of Verb.ContainerCreate args.now (K.names names.now) }
 {
-    Call::ContainerCreate(NewContainer {
+    *call = Call::ContainerCreate(NewContainer {
         container: object_at(args, 0, names),
         label: label_at(args, 1, names),
         quota: number_at(args, 2),
         avoid: types_at(args, 3),
-    })
+    });
 }
 
-pub(super) fn segment_create<K: Known>(args: &[Arg], names: &K) -> Call
-    ensures { Asked.Write result ≡ asked_of Verb.SegmentCreate args.now (K.names names.now) }
+#[inline(never)]
+pub(super) fn segment_create<K: Known>(args: &[Arg], names: &K, call: &mut Call)
+    ensures { Asked.Write call.new ≡ asked_of Verb.SegmentCreate args.now (K.names names.now) }
 {
-    Call::SegmentCreate(NewSegment {
+    *call = Call::SegmentCreate(NewSegment {
         container: object_at(args, 0, names),
         label: label_at(args, 1, names),
         quota: number_at(args, 2),
         pages: number_at(args, 3),
-    })
+    });
 }
 
-pub(super) fn segment_copy<K: Known>(args: &[Arg], names: &K) -> Call
-    ensures { Asked.Write result ≡ asked_of Verb.SegmentCopy args.now (K.names names.now) }
+#[inline(never)]
+pub(super) fn segment_copy<K: Known>(args: &[Arg], names: &K, call: &mut Call)
+    ensures { Asked.Write call.new ≡ asked_of Verb.SegmentCopy args.now (K.names names.now) }
 {
-    Call::SegmentCopy(NewCopy {
+    *call = Call::SegmentCopy(NewCopy {
         container: object_at(args, 0, names),
         label: label_at(args, 1, names),
         quota: number_at(args, 2),
         source: make_entry(args, 3, names),
-    })
+    });
 }
 
-pub(super) fn as_create<K: Known>(args: &[Arg], names: &K) -> Call
-    ensures { Asked.Write result ≡ asked_of Verb.AsCreate args.now (K.names names.now) }
+#[inline(never)]
+pub(super) fn as_create<K: Known>(args: &[Arg], names: &K, call: &mut Call)
+    ensures { Asked.Write call.new ≡ asked_of Verb.AsCreate args.now (K.names names.now) }
 {
-    Call::AsCreate(NewAddressSpace {
+    *call = Call::AsCreate(NewAddressSpace {
         container: object_at(args, 0, names),
         label: label_at(args, 1, names),
         quota: number_at(args, 2),
-    })
+    });
 }
 
-pub(super) fn thread_create<K: Known>(args: &[Arg], names: &K) -> Call
-    ensures { Asked.Write result ≡ asked_of Verb.ThreadCreate args.now (K.names names.now) }
+#[inline(never)]
+pub(super) fn thread_create<K: Known>(args: &[Arg], names: &K, call: &mut Call)
+    ensures { Asked.Write call.new ≡ asked_of Verb.ThreadCreate args.now (K.names names.now) }
 {
-    Call::ThreadCreate(NewThread {
+    *call = Call::ThreadCreate(NewThread {
         container: object_at(args, 0, names),
         label: label_at(args, 1, names),
         quota: number_at(args, 2),
         clearance: label_at(args, 3, names),
         entry_point: wide_at(args, 4),
-    })
+    });
 }
 
-pub(super) fn gate_create<K: Known>(args: &[Arg], names: &K) -> Call
-    ensures { Asked.Write result ≡ asked_of Verb.GateCreate args.now (K.names names.now) }
+#[inline(never)]
+pub(super) fn gate_create<K: Known>(args: &[Arg], names: &K, call: &mut Call)
+    ensures { Asked.Write call.new ≡ asked_of Verb.GateCreate args.now (K.names names.now) }
 {
-    Call::GateCreate(NewGate {
+    *call = Call::GateCreate(NewGate {
         container: object_at(args, 0, names),
         label: label_at(args, 1, names),
         quota: number_at(args, 2),
@@ -74,5 +80,5 @@ pub(super) fn gate_create<K: Known>(args: &[Arg], names: &K) -> Call
         space: make_entry(args, 4, names),
         entry_point: wide_at(args, 6),
         closure: wide_at(args, 7),
-    })
+    });
 }
