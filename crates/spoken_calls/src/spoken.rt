@@ -7,9 +7,9 @@ ghost use Rattle.spoken_calls.specs.Spoken.{ReadsArguments};
 
 use crate::args::{Arg, ArgKind, add_arg};
 use crate::verbs::{Verb, read_verb};
+use memchr::memchr;
 use std::alloc::{AllocError, Global};
 use std::marker::Model;
-use text_words::parted;
 
 /// A call and its arguments, which are of the verb's kinds, each in its range. A contract sees the verb and the list of
 /// the arguments.
@@ -52,8 +52,8 @@ fn first_word(text: &[u8]) -> (&[u8], &[u8])
     ensures word { lacks 32 result.0.now ≡ true }
     ensures rest { IsRest result.1.now }
 {
-    match parted(text, b' ') {
-        Some((word, _)) => text.split_at(word.len()),
+    match memchr(b' ', text) {
+        Some(end) => text.split_at(end),
         None => text.split_at(text.len()),
     }
 }

@@ -9,20 +9,28 @@ use crate::compared::is_same;
 use base::Data;
 use std::alloc::AllocError;
 
-/// The digits, each at its value.
-static DIGITS: [u8; 16] = *b"0123456789abcdef";
+/// The value of each digit, by its code, and 16 for each byte that is no digit.
+static VALUES: [u8; 256] = [
+    16, 16, 16, 16, 16, 16, 16, 16, 16, 16, 16, 16, 16, 16, 16, 16, 16, 16, 16, 16, 16, 16, 16, 16,
+    16, 16, 16, 16, 16, 16, 16, 16, 16, 16, 16, 16, 16, 16, 16, 16, 16, 16, 16, 16, 16, 16, 16, 16,
+    0, 1, 2, 3, 4, 5, 6, 7, 8, 9, 16, 16, 16, 16, 16, 16, 16, 16, 16, 16, 16, 16, 16, 16, 16, 16,
+    16, 16, 16, 16, 16, 16, 16, 16, 16, 16, 16, 16, 16, 16, 16, 16, 16, 16, 16, 16, 16, 16, 16, 10,
+    11, 12, 13, 14, 15, 16, 16, 16, 16, 16, 16, 16, 16, 16, 16, 16, 16, 16, 16, 16, 16, 16, 16, 16,
+    16, 16, 16, 16, 16, 16, 16, 16, 16, 16, 16, 16, 16, 16, 16, 16, 16, 16, 16, 16, 16, 16, 16, 16,
+    16, 16, 16, 16, 16, 16, 16, 16, 16, 16, 16, 16, 16, 16, 16, 16, 16, 16, 16, 16, 16, 16, 16, 16,
+    16, 16, 16, 16, 16, 16, 16, 16, 16, 16, 16, 16, 16, 16, 16, 16, 16, 16, 16, 16, 16, 16, 16, 16,
+    16, 16, 16, 16, 16, 16, 16, 16, 16, 16, 16, 16, 16, 16, 16, 16, 16, 16, 16, 16, 16, 16, 16, 16,
+    16, 16, 16, 16, 16, 16, 16, 16, 16, 16, 16, 16, 16, 16, 16, 16, 16, 16, 16, 16, 16, 16, 16, 16,
+    16, 16, 16, 16, 16, 16, 16, 16, 16, 16, 16, 16, 16, 16,
+];
 
 /// The value of the digit: 0 to 15.
 fn digit_value(digit: u8) -> Option<u8>
     ensures some { IfSome result (λ v. (v < 16) × (digit ≡ slice_index lower_digits v)) }
     ensures none { IfNone result ((v : ℕ) → v < 16 → digit ≡ slice_index lower_digits v → ⊥) }
 {
-    // (the codes of 0 to 9 are 48 to 57, those of a to f are 97 to 102)
-    let value = digit % 16 + digit / 64 * 9;
+    let value = VALUES[digit as usize];
     if value >= 16 {
-        return None;
-    }
-    if DIGITS[value as usize] != digit {
         return None;
     }
     Some(value)
