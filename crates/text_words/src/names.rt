@@ -5,11 +5,12 @@ ghost use Rattle.text_words.specs.Reading.{Reads};
 ghost use Rattle.text_words.specs.Name.{is_name, is_name_byte, is_letter, IsName, name_text};
 
 use std::alloc::AllocError;
+use std::hash::{Hash, Hasher};
 use std::marker::Model;
 
 /// A name: a letter a to z, and then up to 15 of a to z, 0 to 9 and `_`. It takes no memory. A contract sees the list of
 /// its bytes.
-#[derive(Clone, Copy, PartialEq, Eq, PartialOrd, Ord, Hash)]
+#[derive(Clone, Copy, PartialEq, Eq, PartialOrd, Ord)]
 pub struct Name {
     len: u8,
     bytes: [u8; 16],
@@ -29,6 +30,24 @@ impl Model for Name {
         × IsName (take a.len a.bytes) };
 
     ghost inverse = { λ bytes. record { len = length bytes; bytes = padded 16 0 bytes } };
+}
+
+impl Hash for Name {
+    ghost use Rattle.std.specs.Prelude.{ℕ, List, [], ◌∷◌};
+    ghost use Rattle.std.specs.Cmp.{second_so};
+    ghost use Rattle.std.specs.Cmp.Lexicographic.{bytes_decides};
+    ghost use Rattle.std.proofs.Common.{ap};
+    ghost use Rattle.base.specs.Padded.{padded};
+
+    ghost hash_input = { λ name. padded 16 0 name ∷ [] };
+
+    ghost respects_eq = { λ a b same. ap (λ (bytes : List ℕ). bytes ∷ [])
+        ((bytes_decides (padded 16 0 a) (padded 16 0 b)).0 (second_so _ _ same)) };
+
+    // (one write of all bytes: a hasher takes bytes one by one much more slowly)
+    fn hash<H: Hasher>(&self, state: &mut H) {
+        state.write(&self.bytes);
+    }
 }
 
 impl Name {
