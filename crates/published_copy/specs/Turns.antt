@@ -10,6 +10,7 @@ use Rattle.kernel_rules.specs.declared.calls.Call.{Call}
 use Rattle.kernel_rules.specs.declared.calls.Query.{Query}
 use Rattle.kernel_rules.specs.declared.replies.Reply.{Reply}
 use Rattle.kernel_rules.specs.declared.events.Event.{Event}
+use Rattle.published_copy.specs.declared.receipts.Placed.{Placed}
 use Rattle.published_copy.specs.declared.receipts.Receipt.{Receipt}
 use Rattle.published_copy.specs.declared.refusals.SubmitRefusal as submit
 use Rattle.published_copy.specs.declared.refusals.SubmitRefusal.TheVariants as no_submit
@@ -57,6 +58,14 @@ receipt_of limits journal pass call = record {
   reply = answer (state_of limits journal) pass.thread call;
   number = pass.number;
   length = length journal + 1;
+}
+
+-- the receipt of an event by its reply and where it stands
+abbrev pub receipt_with : Reply → Placed → Receipt
+receipt_with reply placed = record {
+  reply = reply;
+  number = placed.number;
+  length = placed.length;
 }
 
 -- the pass then: its number is the next one, and it has seen the journal with that event

@@ -3,12 +3,15 @@ ghost use Rattle.std.specs.Prelude.{◌≡◌, ◌≤◌, ◌<◌, ◌+◌, ◌�
 ghost use Rattle.std.specs.Prelude.{IfOk, IfErr, OnOk, OnErr, IsErrOf, Some, None};
 ghost use Rattle.std.specs.Prelude.{◌^◌, IsTrue, IfNone, vec_len, vec_capacity};
 ghost use Rattle.base.specs.declared.kinds.Kind.TheVariants as kinds;
+ghost use Rattle.kernel_rules.specs.declared.replies.Reply.TheVariants as told;
 ghost use Rattle.kernel_rules.specs.History.{IsLegal, state_of, count};
 ghost use Rattle.kernel_rules.specs.State.{is_live_kind};
 ghost use Rattle.syscall_core.specs.Kernel.{kernel_state};
+ghost use Rattle.published_copy.specs.Books.{places_with};
 ghost use Rattle.published_copy.specs.Seats.{seat_refused};
 ghost use Rattle.published_copy.specs.Tallies.{IsTallied};
-ghost use Rattle.published_copy.specs.Turns.{turn, is_turn, with_event, receipt_of, passed_on};
+ghost use Rattle.published_copy.specs.Turns.{turn, is_turn, with_event, receipt_of, receipt_with};
+ghost use Rattle.published_copy.specs.Turns.{passed_on};
 ghost use mathlib.Core.List.{IsPrefix};
 
 use crate::lanes::Lane;
@@ -16,7 +19,7 @@ use crate::naming::Naming;
 use crate::pairs::Pair;
 use crate::passes::Pass;
 use crate::places::Places;
-use crate::receipts::Receipt;
+use crate::receipts::Placed;
 use crate::refusals::{SeatRefusal, SubmitRefusal};
 use crate::tallies::{Tally, count_events, events_of};
 use base::{Limits, Meter, NoMemory, ObjectId};
@@ -48,12 +51,12 @@ impl<B: Naming> Model for Book<B> {
 
     ghost Value = { BookView };
 
-    ghost view = { λ b. record { journal = b.journal.items; seated = b.places } };
+    ghost view = { λ b. record { journal = b.journal.items; seated = b.places.seated } };
 
     ghost invariant = { λ b. (b.limits ≡ B.boot.limits) × IsLegal B.boot.limits b.journal.items
         × (kernel_state b.kernel ≡ state_of B.boot.limits b.journal.items)
         × IsTallied b.tallies.items b.journal.items
-        × (b.pair ≡ b.journal.items) };
+        × (b.pair ≡ b.journal.items) × (b.places.seats ≡ B.boot.seats) };
 }
 
 /// Whether a pass's number is its thread's next, and the journal has all that the pass has seen.
@@ -93,7 +96,7 @@ impl<B: Naming> Book<B> {
         requires limits { limits ≡ B.boot.limits }
         requires booted { kernel_state kernel ≡ state_of B.boot.limits [] }
         requires empty { (journal.items ≡ []) × (tallies.items ≡ []) }
-        requires free { places ≡ [] }
+        requires free { places ≡ places_with [] B.boot.seats }
         requires pair { pair ≡ [] }
         ensures journal { result.journal ≡ [] }
         ensures seated { result.seated ≡ [] }
@@ -152,15 +155,17 @@ impl<B: Naming> Book<B> {
         journal
     }
 
-    /// Makes a call as the pass's thread, as `Lent::commit` says. Which threads were given seats
-    /// stays as it is.
+    /// Makes a call as the pass's thread, as `Lent::commit` says. The reply, which is `Done`, becomes
+    /// the event's, and without one stays. Which threads were given seats stays as it is.
     pub(crate) fn commit<R: Wait>(
         &mut self,
         rt: &R,
         pass: &mut Pass<B>,
         call: &Call,
-    ) -> Result<Receipt, SubmitRefusal>
-        ensures receipt { IfOk result (λ receipt. receipt
+        reply: &mut Reply,
+    ) -> Result<Placed, SubmitRefusal>
+        requires { reply.old ≡ told.Done }
+        ensures receipt { IfOk result (λ placed. receipt_with reply.new placed
             ≡ receipt_of B.boot.limits self.old.journal pass.old call.now) }
         ensures journal { OnOk result
             (self.new.journal ≡ with_event B.boot.limits self.old.journal pass.old call.now) }
@@ -181,27 +186,26 @@ impl<B: Naming> Book<B> {
         let _begins = self.pair.front(events).has(pass.front());
         make_room(&mut self.journal, &mut self.tallies)?;
         let (kernel, meter) = (&mut self.kernel, &mut self.meter);
-        let mut reply = Reply::Done;
         let made = self
             .pair
-            .commit(rt, kernel, meter, pass, call, events + 1, &mut reply);
+            .commit(rt, kernel, meter, pass, call, events + 1, reply);
         let Ok(()) = made else {
             return Err(SubmitRefusal::Memory);
         };
-        self.journal.push_reserved(pass.event(call, &reply));
+        self.journal.push_reserved(pass.event(call, reply));
         count_events(&mut self.tallies, pass.thread(), pass.number());
         let front = self.pair.front(events + 1);
-        Ok(pass.pass_on(&reply, self.journal.len(), front))
+        Ok(pass.pass_on(self.journal.len(), front))
     }
 
     /// Why a thread is given no seat, if anything: the least that holds.
     fn seat_refused(&mut self, thread: ObjectId) -> Option<SeatRefusal>
-        ensures row { result ≡ seat_refused B.boot.limits self.old thread }
+        ensures row { result ≡ seat_refused B.boot self.old thread }
         ensures live { IfNone result
             (is_live_kind (state_of B.boot.limits self.old.journal) kinds.Thread thread ≡ true) }
         ensures first { IfNone result (count thread self.old.journal ≡ 0) }
-        ensures room { IfNone result (length self.old.seated < 64) }
-        ensures within { length self.old.seated ≤ 64 }
+        ensures room { IfNone result (length self.old.seated < B.boot.seats) }
+        ensures within { length self.old.seated ≤ B.boot.seats }
         ensures legal { IsLegal B.boot.limits self.old.journal }
         ensures kept { self.new ≡ self.old }
     {
@@ -218,23 +222,23 @@ impl<B: Naming> Book<B> {
     }
 
     /// A pass, a reader and a meter for a live thread that was given no seat and has no event: it
-    /// is given one of the 64 seats. The journal stays as it is, and an error changes nothing.
+    /// is given one of the seats. The journal stays as it is, and an error changes nothing.
     pub(crate) fn seat<R: Wait>(
         &mut self,
         rt: &R,
         thread: ObjectId,
     ) -> Result<(Pass<B>, Lane<B>, Meter), SeatRefusal>
         ensures pass { IfOk result (λ seat. seat.0 ≡ turn thread 1 self.old.journal) }
-        ensures free { OnOk result (seat_refused B.boot.limits self.old thread ≡ None) }
+        ensures free { OnOk result (seat_refused B.boot self.old thread ≡ None) }
         ensures row { IfErr result
-            (λ refusal. seat_refused B.boot.limits self.old thread ≡ Some refusal) }
+            (λ refusal. seat_refused B.boot self.old thread ≡ Some refusal) }
         ensures live { OnOk result
             (is_live_kind (state_of B.boot.limits self.old.journal) kinds.Thread thread ≡ true) }
         ensures first { OnOk result (count thread self.old.journal ≡ 0) }
         ensures given { OnOk result (self.new.seated ≡ self.old.seated ++ thread ∷ []) }
         ensures journal { self.new.journal ≡ self.old.journal }
         ensures kept { OnErr result (self.new ≡ self.old) }
-        ensures within { length self.old.seated ≤ 64 }
+        ensures within { length self.old.seated ≤ B.boot.seats }
         ensures legal { IsLegal B.boot.limits self.old.journal }
     {
         if let Some(refusal) = self.seat_refused(thread) {

@@ -1,6 +1,6 @@
 //! A boot, and what threads share of it.
 ghost use Rattle.core.specs.Mem.{manually_drop_value};
-ghost use Rattle.std.specs.Prelude.{◌≡◌, ◌↔◌, false, IfOk, IfErr, IsErrOf};
+ghost use Rattle.std.specs.Prelude.{◌≡◌, ◌≤◌, ◌<◌, ◌↔◌, false, IfOk, IfErr, IsErrOf};
 ghost use Rattle.base.specs.Limits.{in_range};
 ghost use Rattle.kernel_rules.specs.Runs.{booted};
 ghost use Rattle.syscall_core.specs.Kernel.{kernel_state};
@@ -11,7 +11,7 @@ use crate::lending::Lent;
 use crate::logs::{Head, Told, empty_log};
 use crate::naming::Naming;
 use crate::pairs::Pair;
-use crate::places::Places;
+use crate::places::{Places, SEATS};
 use crate::refusals::SeatRefusal;
 use crate::seats::Seat;
 use crate::tallies::Tally;
@@ -24,8 +24,8 @@ use std::mem::ManuallyDrop;
 use std::sync::{Arc, Mutex, Wait};
 use syscall_core::{BootRefusal, Kernel};
 
-/// A boot that has no name yet. A contract sees it as the log of its events, by its name, and its
-/// limits. One that is dropped keeps the copies' memory.
+/// A boot that has no name yet. A contract sees it as the log of its events, by its name, its
+/// limits and its seats. One that is dropped keeps the copies' memory.
 #[derive(Drop)]
 pub struct Blank {
     limits: Limits,
@@ -45,31 +45,40 @@ impl Model for Blank {
     ghost use Rattle.std.specs.Arc.{arc_value};
     ghost use Rattle.kernel_rules.specs.Runs.{booted};
     ghost use Rattle.syscall_core.specs.Kernel.{kernel_state};
+    ghost use Rattle.published_copy.specs.Books.{places_with};
     ghost use Rattle.published_copy.specs.Boots.{Boot, boot_of};
     ghost use Rattle.published_copy.specs.Rules.{head_of};
     ghost use Rattle.published_copy.specs.Shares.{IsShown};
 
     ghost Value = { Boot };
 
-    ghost view = { λ b. boot_of b.seen.book b.limits };
+    ghost view = { λ b. boot_of b.seen.book b.limits b.places.seats };
 
     ghost invariant = { λ b. (kernel_state b.kernel ≡ booted b.limits)
-        × (b.journal.items ≡ []) × (b.tallies.items ≡ []) × (b.places ≡ [])
+        × (b.journal.items ≡ []) × (b.tallies.items ≡ []) × (b.places ≡ places_with [] b.places.seats)
         × (b.seen.log ≡ []) × (arc_value b.head ≡ head_of b.seen.book)
-        × IsShown (boot_of b.seen.book b.limits) (manually_drop_value b.writer).desk.shown.value []
+        × IsShown (boot_of b.seen.book b.limits b.places.seats)
+        (manually_drop_value b.writer).desk.shown.value []
         × (drop (manually_drop_value b.writer).behind (manually_drop_value b.writer).log.items
         ≡ []) };
 }
 
 /// A boot over a newly booted kernel, with its two copies and all that seats need.
-fn blank_over(alloc: Global, limits: &Limits, kernel: Kernel) -> Result<Blank, NoMemory>
-    requires { kernel_state kernel ≡ booted limits.now }
-    ensures { IfOk result (λ blank. blank.limits ≡ limits.now) }
+fn blank_over(
+    alloc: Global,
+    limits: &Limits,
+    seats: usize,
+    kernel: Kernel,
+) -> Result<Blank, NoMemory>
+    requires booted { kernel_state kernel ≡ booted limits.now }
+    requires seats { (0 < seats) × (seats ≤ 64) }
+    ensures limits { IfOk result (λ blank. blank.limits ≡ limits.now) }
+    ensures seats { IfOk result (λ blank. blank.seats ≡ seats) }
 {
     let meter = Meter::new(alloc)?;
-    let places = Places::new(alloc)?;
+    let places = Places::new(alloc, seats)?;
     let (head, seen) = empty_log(alloc)?;
-    let writer = first_copies(alloc, limits, &seen)?;
+    let writer = first_copies(alloc, limits, &seen, seats)?;
     Ok(Blank {
         limits: *limits,
         kernel,
@@ -84,15 +93,27 @@ fn blank_over(alloc: Global, limits: &Limits, kernel: Kernel) -> Result<Blank, N
 }
 
 impl Blank {
-    /// Boots a kernel and its two copies, with an empty journal and all that seats need. The error
-    /// is `BadLimits` exactly where a limit is out of its range, and else, for want of memory,
-    /// `Unavailable`.
+    /// Boots a kernel and its two copies, with an empty journal and all that 64 seats need, which are
+    /// the most that a boot has. The error is `BadLimits` exactly where a limit is out of its range,
+    /// and else, for want of memory, `Unavailable`.
     pub fn boot(alloc: Global, limits: &Limits) -> Result<Blank, BootRefusal>
         ensures blank { IfOk result (λ blank. blank.limits ≡ limits.now) }
+        ensures seats { IfOk result (λ blank. blank.seats ≡ 64) }
+        ensures limits { IsErrOf result BootRefusal.BadLimits ↔ (in_range limits.now ≡ false) }
+    {
+        Blank::boot_for(alloc, limits, SEATS)
+    }
+
+    /// A boot as `boot` makes it, for 1 to 64 seats: each call looks at the place of each, so a boot
+    /// for few makes calls faster.
+    pub fn boot_for(alloc: Global, limits: &Limits, seats: usize) -> Result<Blank, BootRefusal>
+        requires { (0 < seats) × (seats ≤ 64) }
+        ensures blank { IfOk result (λ blank. blank.limits ≡ limits.now) }
+        ensures seats { IfOk result (λ blank. blank.seats ≡ seats) }
         ensures limits { IsErrOf result BootRefusal.BadLimits ↔ (in_range limits.now ≡ false) }
     {
         let kernel = Kernel::boot(alloc, limits)?;
-        match blank_over(alloc, limits, kernel) {
+        match blank_over(alloc, limits, seats, kernel) {
             Ok(blank) => Ok(blank),
             Err(_) => Err(BootRefusal::Unavailable),
         }
@@ -135,10 +156,11 @@ impl<B: Naming> Shared<B> {
     /// A seat for a live thread that has had none: its first event will be number 1. It waits for
     /// the lock, and for those who still read the copy that isn't published, and takes no memory.
     /// The error is `SeatTaken` where the thread was given a seat or has an event, else `NoThread`
-    /// where the id is not that of a live thread, and else `SeatsSpent` where 64 seats were given.
+    /// where the id is not that of a live thread, and else `SeatsSpent` where all seats of the boot were
+    /// given.
     pub fn open_seat<R: Wait>(&self, rt: &R, thread: ObjectId) -> Result<Seat<'_, B>, SeatRefusal>
-        ensures done { IfOk result (λ seat. IsOpened B.boot.limits thread seat) }
-        ensures refused { IfErr result (λ refusal. IsNotOpened B.boot.limits thread refusal) }
+        ensures done { IfOk result (λ seat. IsOpened B.boot thread seat) }
+        ensures refused { IfErr result (λ refusal. IsNotOpened B.boot thread refusal) }
     {
         let (pass, lane, meter) = self.book.lock(rt).seat(rt, thread)?;
         Ok(Seat::new(&self.book, pass, lane, meter))

@@ -1,5 +1,5 @@
 //! The copies of the kernel that readers take, and how they take in calls.
-ghost use Rattle.std.specs.Prelude.{◌≡◌, [], IfOk, true};
+ghost use Rattle.std.specs.Prelude.{◌≡◌, ℕ, [], IfOk, true};
 ghost use Rattle.kernel_rules.specs.Runs.{booted};
 ghost use Rattle.published_copy.specs.Boots.{boot_of};
 ghost use Rattle.published_copy.specs.Shares.{IsShown};
@@ -88,7 +88,7 @@ impl Absorb<Op> for Copied {
 pub(crate) fn first_copy(alloc: Global, limits: &Limits, seen: &Told) -> Result<Copied, NoMemory>
     requires { seen.now.log ≡ [] }
     ensures shown { IfOk result
-        (λ copy. IsShown (boot_of seen.now.book limits.now) copy []) }
+        (λ copy. (seats : ℕ) → IsShown (boot_of seen.now.book limits.now seats) copy []) }
     ensures state { IfOk result (λ copy. kernel_state copy.kernel ≡ booted limits.now) }
     ensures rest { IfOk result (λ copy. (copy.limits ≡ limits.now) × (copy.length ≡ 0)
         × (copy.sealed ≡ true) × (copy.seen ≡ seen.now)) }

@@ -5,7 +5,7 @@ use logbook::{Gain, Plain, Play, Rule};
 use syscall_core::Kernel;
 
 /// What stands in the log: an event is tried before there is room for it, and made once there is.
-/// No value but `Made` is made.
+/// No value of it is made.
 #[derive(Clone, Copy)]
 pub(crate) enum Entry {
     Tried(Event),
@@ -51,12 +51,17 @@ impl Play<Entry, u64> for Add {
     ghost then = { Adds };
 }
 
-impl Plain<Entry, Entry, u64> for Add {
+/// That what was tried last is made. (It stands for the entry that says so, since an entry is as
+/// large as an event.)
+pub(crate) struct Sealing;
+
+impl Plain<Sealing, Entry, u64> for Add {
     ghost use Rattle.std.specs.Prelude.{None};
+    ghost use Rattle.published_copy.specs.declared.entries.Entry.TheVariants.{Made};
 
-    ghost ask = { λ entry. entry };
+    ghost ask = { λ _. Made };
 
-    ghost state = { λ entry. None };
+    ghost state = { λ _. None };
 }
 
 /// A call that is to be made to a kernel. The entry that tries it has the kernel's answer.
@@ -69,7 +74,7 @@ pub(crate) struct Trial<'a> {
     /// Which of its thread's events the call is.
     pub(crate) number: u64,
     /// The call.
-    pub(crate) call: Call,
+    pub(crate) call: &'a Call,
 }
 
 impl<'a> Plain<Trial<'a>, Entry, u64> for Add {
@@ -81,8 +86,8 @@ impl<'a> Plain<Trial<'a>, Entry, u64> for Add {
     ghost ask = { λ t. tried (record {
       thread = t.thread;
       number = t.number;
-      call = t.call;
-      reply = answer (kernel_state t.kernel.now) t.thread t.call;
+      call = t.call.now;
+      reply = answer (kernel_state t.kernel.now) t.thread t.call.now;
     }) };
 
     ghost state = { λ t. None };

@@ -10,7 +10,7 @@ use crate::naming::Naming;
 use crate::passes::Pass;
 use crate::receipts::Receipt;
 use crate::refusals::SubmitRefusal;
-use kernel_rules::Call;
+use kernel_rules::{Call, Reply};
 use std::marker::Model;
 use std::ops::Deref;
 use std::sync::{MutexGuard, Wait};
@@ -66,7 +66,9 @@ impl<B: Naming> Lent<'_, B> {
         ensures kept { OnErr result ((self.new ≡ self.old) × (pass.new ≡ pass.old)) }
         ensures legal { IsLegal B.boot.limits self.new.journal }
     {
-        self.guard.commit(rt, pass, call)
+        let mut reply = Reply::Done;
+        let placed = self.guard.commit(rt, pass, call, &mut reply)?;
+        Ok(placed.receipt(&reply))
     }
 }
 

@@ -36,7 +36,7 @@ pub use lending::Lent;
 pub use naming::Naming;
 pub use notes::Note;
 pub use passes::Pass;
-pub use receipts::Receipt;
+pub use receipts::{Placed, Receipt};
 pub use refusals::{SeatRefusal, SubmitRefusal, Unread};
 pub use seats::Seat;
 pub use syscall_core::BootRefusal;

@@ -5,7 +5,7 @@ ghost use mathlib.Core.List.{IsPrefix};
 ghost use Rattle.published_copy.specs.Entries.{weight};
 ghost use Rattle.published_copy.specs.Rules.{head_of};
 
-use crate::entries::{Add, Entry, Law, Look, Nothing};
+use crate::entries::{Add, Entry, Law, Look, Nothing, Sealing};
 use base::NoMemory;
 use logbook::{Offer, Seen, Start, Word};
 use std::alloc::Global;
@@ -25,8 +25,7 @@ pub(crate) fn weighed(head: &Head, told: &Told) -> (u64, Told)
     ensures weight { result.0 ≡ weight result.1.log }
 {
     let mut seen = told.again();
-    let about = Entry::Made;
-    let mut offer: Offer<Entry, u64, Law, Nothing> = seen.plain::<Nothing, Entry, Add>(&about);
+    let mut offer: Offer<Entry, u64, Law, Nothing> = seen.plain::<Nothing, Sealing, Add>(&Sealing);
     let weight = head.load::<Look, Nothing>(&mut seen, &mut offer);
     (weight, seen)
 }

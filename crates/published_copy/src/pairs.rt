@@ -1,16 +1,16 @@
 //! The log of a boot's events, and the two copies of their state.
 ghost use Rattle.core.specs.Mem.{manually_drop_value};
-ghost use Rattle.std.specs.Prelude.{◌≡◌, ◌+◌, ◌<◌, ◌^◌, ◌++◌, ◌∷◌, [], drop, length};
+ghost use Rattle.std.specs.Prelude.{◌≡◌, ◌+◌, ◌<◌, ◌^◌, ◌++◌, ◌∷◌, [], false, drop, length};
 ghost use Rattle.std.specs.Prelude.{OnOk, OnErr, IfSome, OnSome};
 ghost use Rattle.std.specs.Arc.{arc_value};
 ghost use Rattle.kernel_rules.specs.History.{state_of, count};
 ghost use Rattle.kernel_rules.specs.Step.{answer, next};
 ghost use Rattle.kernel_rules.specs.declared.replies.Reply.TheVariants as told;
 ghost use Rattle.syscall_core.specs.Kernel.{kernel_state};
-ghost use Rattle.published_copy.specs.Absorbed.{listed};
+ghost use Rattle.published_copy.specs.Absorbed.{list_of};
 ghost use Rattle.published_copy.specs.Entries.{made, weight};
 ghost use Rattle.published_copy.specs.Rules.{head_of};
-ghost use Rattle.published_copy.specs.Shares.{IsShown, IsNext};
+ghost use Rattle.published_copy.specs.Shares.{IsShown};
 ghost use Rattle.published_copy.specs.Turns.{with_event};
 
 use crate::fronts::Front;
@@ -55,8 +55,9 @@ impl<B: Naming> Model for Pair<B> {
         × IsLegal B.boot.limits (made p.tip) };
 }
 
-/// The call is tried in the log, and is an operation for the copies. What the log has made stays.
-/// None where the log or the head's owners are too many to count, and then nothing changes.
+/// The call is tried in the log, and has an owner of the head for the copies' operation. What the log
+/// has made stays. None where the log or the head's owners are too many to count, and then nothing
+/// changes.
 fn attempt<B: Naming, R: Wait>(
     rt: &R,
     tip: &mut Tip<B>,
@@ -64,32 +65,47 @@ fn attempt<B: Naming, R: Wait>(
     kernel: &Kernel,
     pass: &Pass<B>,
     call: &Call,
-    events: u64,
-) -> Option<Op>
+) -> Option<Arc<Head>>
     requires head { arc_value head.now ≡ head_of B.boot.log }
     requires state { kernel_state kernel.now ≡ state_of B.boot.limits (made tip.old) }
-    requires number { pass.now.number ≡ count pass.now.thread (made tip.old) + 1 }
-    requires events { events ≡ length (made tip.old) + 1 }
     ensures same { made tip.new ≡ made tip.old }
-    ensures log { IfSome result (λ op. op.seen.log ≡ tip.new) }
-    ensures next { IfSome result (λ op. IsNext B.boot (made tip.old) op) }
-    ensures list { IfSome result
-        (λ op. listed op ≡ with_event B.boot.limits (made tip.old) pass.now call.now) }
+    ensures head { IfSome result (λ owner. arc_value owner ≡ head_of B.boot.log) }
+    ensures list { OnSome result (list_of false tip.new
+        ≡ with_event B.boot.limits (made tip.old) pass.now call.now) }
     ensures room { OnSome result (weight tip.new + 1 < 2 ^ 64) }
 {
     if tip.weight() >= u64::MAX - 3 {
         return None;
     }
-    let head_too = Arc::try_clone(head).ok()?;
+    let owner = Arc::try_clone(head).ok()?;
     tip.attempt(rt, head, kernel, pass, call);
-    Some(Op {
+    Some(owner)
+}
+
+/// The call as an operation for the copies, which makes so many events: the log was last tried with
+/// it.
+fn operation<B: Naming>(
+    tip: &Tip<B>,
+    head: Arc<Head>,
+    pass: &Pass<B>,
+    call: &Call,
+    events: u64,
+) -> Op
+    requires { arc_value head ≡ head_of B.boot.log }
+    ensures thread { result.thread ≡ pass.now.thread }
+    ensures call { result.call ≡ call.now }
+    ensures length { result.length ≡ events }
+    ensures book { result.seen.book ≡ B.boot.log }
+    ensures log { result.seen.log ≡ tip.now }
+{
+    Op {
         thread: pass.thread(),
         call: *call,
         length: events,
         weight: tip.weight(),
         seen: tip.seen(),
-        head: head_too,
-    })
+        head,
+    }
 }
 
 /// The master makes a thread's call, and the reply, which is `Done`, becomes its answer.
@@ -152,10 +168,11 @@ impl<B: Naming> Pair<B> {
             (kernel_state kernel.new ≡ next (kernel_state kernel.old) pass.now.thread call.now) }
         ensures kept { OnErr result ((self.new ≡ self.old) × (kernel.new ≡ kernel.old)) }
     {
-        let tried = attempt(rt, &mut self.tip, &self.head, kernel, pass, call, events);
-        let Some(op) = tried else {
+        let tried = attempt(rt, &mut self.tip, &self.head, kernel, pass, call);
+        let Some(head) = tried else {
             return Err(NoMemory);
         };
+        let op = operation(&self.tip, head, pass, call, events);
         self.copies.queue(op)?;
         make(kernel, meter, pass.thread(), call, reply);
         self.tip.settle(rt, &self.head);

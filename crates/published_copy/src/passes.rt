@@ -5,7 +5,7 @@ ghost use Rattle.published_copy.specs.Turns.{turn};
 
 use crate::fronts::Front;
 use crate::naming::Naming;
-use crate::receipts::Receipt;
+use crate::receipts::Placed;
 use base::ObjectId;
 use kernel_rules::{Call, Event, Reply};
 use std::marker::Model;
@@ -92,9 +92,8 @@ impl<B: Naming> Pass<B> {
 
     /// Its event was committed, and it has seen these events, which are so many: the next number is
     /// one more.
-    pub(crate) fn pass_on(&mut self, reply: &Reply, length: usize, front: Front<B>) -> Receipt
+    pub(crate) fn pass_on(&mut self, length: usize, front: Front<B>) -> Placed
         requires { self.old.number + 1 < 2 ^ 64 }
-        ensures reply { result.reply ≡ reply.now }
         ensures number { result.number ≡ self.old.number }
         ensures length { result.length ≡ length }
         ensures pass { self.new ≡ turn self.old.thread (self.old.number + 1) front }
@@ -102,10 +101,6 @@ impl<B: Naming> Pass<B> {
         let number = self.number;
         self.number = number + 1;
         self.front = front;
-        Receipt {
-            reply: *reply,
-            number,
-            length,
-        }
+        Placed { number, length }
     }
 }

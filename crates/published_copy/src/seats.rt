@@ -1,7 +1,8 @@
 //! A thread's place at a kernel that it shares.
-ghost use Rattle.std.specs.Prelude.{◌≡◌, IfOk, IfErr, OnErr};
+ghost use Rattle.std.specs.Prelude.{◌≡◌, IfOk, IfErr, OnOk, OnErr};
+ghost use Rattle.kernel_rules.specs.declared.replies.Reply.TheVariants as told_reply;
 ghost use Rattle.published_copy.specs.Turns.{IsSubmitted, IsNotSubmitted, IsRead, IsLearnt};
-ghost use Rattle.published_copy.specs.Turns.{seat_with};
+ghost use Rattle.published_copy.specs.Turns.{seat_with, receipt_with};
 
 use crate::books::Book;
 use crate::fronts::Front;
@@ -9,7 +10,7 @@ use crate::lanes::Lane;
 use crate::naming::Naming;
 use crate::notes::Note;
 use crate::passes::Pass;
-use crate::receipts::Receipt;
+use crate::receipts::{Placed, Receipt};
 use crate::refusals::{SubmitRefusal, Unread};
 use base::Meter;
 use kernel_rules::{Call, Query, Reply};
@@ -64,7 +65,6 @@ impl<B: Naming> Seat<'_, B> {
     /// Makes a call, which waits for the lock and is then one event of the journal: the seat's next
     /// number's, after all that the seat had seen. An error changes nothing; `Memory` is want of
     /// memory, and `OutOfTurn` comes where `Lent::commit` says.
-    #[tactic(auto, using(crate::proofs::Prefixes::prefix_self))]
     pub fn submit<R: Wait>(&mut self, rt: &R, call: &Call) -> Result<Receipt, SubmitRefusal>
         ensures done { IfOk result
             (λ receipt. IsSubmitted B.boot.limits self.old call.now receipt self.new) }
@@ -72,25 +72,57 @@ impl<B: Naming> Seat<'_, B> {
             (λ refusal. IsNotSubmitted B.boot.limits self.old.pass refusal) }
         ensures kept { OnErr result (self.new ≡ self.old) }
     {
-        let receipt = self.lock.lock(rt).commit(rt, &mut self.pass, call)?;
+        let mut reply = Reply::Done;
+        let placed = self.submit_into(rt, call, &mut reply)?;
+        Ok(placed.receipt(&reply))
+    }
+
+    /// Makes a call as `submit` does, with its reply put where `Done` stands: a reply is large, and is
+    /// so made where it is wanted. It tells where the event stands.
+    #[tactic(auto, using(crate::proofs::Prefixes::prefix_self))]
+    pub fn submit_into<R: Wait>(
+        &mut self,
+        rt: &R,
+        call: &Call,
+        reply: &mut Reply,
+    ) -> Result<Placed, SubmitRefusal>
+        requires { reply.old ≡ told_reply.Done }
+        ensures done { IfOk result (λ placed. IsSubmitted B.boot.limits self.old call.now
+            (receipt_with reply.new placed) self.new) }
+        ensures refused { IfErr result
+            (λ refusal. IsNotSubmitted B.boot.limits self.old.pass refusal) }
+        ensures kept { OnErr result (self.new ≡ self.old) }
+    {
+        let placed = self.lock.lock(rt).commit(rt, &mut self.pass, call, reply)?;
         self.told = self.pass.front().again();
-        Ok(receipt)
+        Ok(placed)
     }
 
     /// Asks the copy that is published, which is no event, and no step behind what the seat has
     /// seen. It waits for nobody and takes no memory. `Unread` comes where no reader is let in any
     /// more, and changes nothing.
-    #[tactic(auto, using(crate::proofs::Prefixes::prefix_trans))]
     pub fn read(&mut self, query: &Query) -> Result<Reply, Unread>
         ensures done { IfOk result
             (λ reply. IsRead B.boot.limits self.old query.now reply self.new) }
         ensures kept { OnErr result (self.new ≡ self.old) }
     {
+        let mut reply = Reply::Done;
+        self.read_into(query, &mut reply)?;
+        Ok(reply)
+    }
+
+    /// Asks as `read` does, with the answer put where `Done` stands.
+    #[tactic(auto, using(crate::proofs::Prefixes::prefix_trans))]
+    pub fn read_into(&mut self, query: &Query, reply: &mut Reply) -> Result<(), Unread>
+        requires { reply.old ≡ told_reply.Done }
+        ensures done { OnOk result
+            (IsRead B.boot.limits self.old query.now reply.new self.new) }
+        ensures kept { OnErr result (self.new ≡ self.old) }
+    {
         let Some(lane) = self.lane.take() else {
             return Err(Unread);
         };
-        let mut reply = Reply::Done;
-        let (lane, front) = lane.read(self.pass.thread(), query, &mut reply, &mut self.meter);
+        let (lane, front) = lane.read(self.pass.thread(), query, reply, &mut self.meter);
         self.lane = Some(lane);
         let Some(front) = front else {
             return Err(Unread);
@@ -100,7 +132,7 @@ impl<B: Naming> Seat<'_, B> {
         }
         let _length = front.len();
         self.pass.see(front);
-        Ok(reply)
+        Ok(())
     }
 
     /// A note of what the seat had by its opening, its submits and the notes that it learnt. What

@@ -6,7 +6,7 @@ ghost use Rattle.published_copy.specs.Turns.{event_at};
 ghost use Rattle.published_copy.specs.declared.entries.Entry.TheVariants.{Made};
 ghost use Rattle.syscall_core.specs.Kernel.{kernel_state};
 
-use crate::entries::{Add, Entry, Law, Nothing, Trial};
+use crate::entries::{Add, Entry, Law, Nothing, Sealing, Trial};
 use crate::logs::{Head, Told};
 use crate::naming::Naming;
 use crate::passes::Pass;
@@ -125,7 +125,7 @@ impl<B: Naming> Tip<B> {
             kernel,
             thread: pass.thread(),
             number: pass.number(),
-            call: *call,
+            call,
         };
         self.add::<Trial<'_>, Add, R>(rt, head, &trial, 2)
     }
@@ -136,6 +136,6 @@ impl<B: Naming> Tip<B> {
         requires room { weight self.old + 1 < 2 ^ 64 }
         ensures { self.new ≡ self.old ++ Made ∷ [] }
     {
-        self.add::<Entry, Add, R>(rt, head, &Entry::Made, 1)
+        self.add::<Sealing, Add, R>(rt, head, &Sealing, 1)
     }
 }

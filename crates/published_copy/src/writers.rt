@@ -1,6 +1,6 @@
 //! The two copies, as their writer has them.
 ghost use Rattle.core.specs.Mem.{manually_drop_value};
-ghost use Rattle.std.specs.Prelude.{◌≡◌, ◌∷◌, [], drop, fold, IfOk, OnErr, IsTrue};
+ghost use Rattle.std.specs.Prelude.{◌≡◌, ◌<◌, ◌≤◌, ◌∷◌, [], drop, fold, IfOk, OnErr, IsTrue};
 ghost use Rattle.left_right.specs.Sides.{view};
 ghost use Rattle.kernel_rules.specs.History.{IsLegal, state_of};
 ghost use Rattle.syscall_core.specs.Kernel.{kernel_state};
@@ -16,7 +16,6 @@ use crate::lanes::Lane;
 use crate::logs::Told;
 use crate::naming::Naming;
 use crate::ops::Op;
-use crate::places::SEATS;
 use crate::rules::{Mark, Published, Tag, Tell};
 use crate::tips::Tip;
 use base::{Limits, NoMemory};
@@ -64,15 +63,21 @@ impl<B: Naming> Model for Copies<B> {
 }
 
 /// Two copies of a newly booted kernel, with a place for the reader of each seat.
-pub(crate) fn first_copies(alloc: Global, limits: &Limits, seen: &Told) -> Result<Writer, NoMemory>
-    requires { seen.now.log ≡ [] }
+pub(crate) fn first_copies(
+    alloc: Global,
+    limits: &Limits,
+    seen: &Told,
+    seats: usize,
+) -> Result<Writer, NoMemory>
+    requires empty { seen.now.log ≡ [] }
+    requires seats { (0 < seats) × (seats ≤ 64) }
     ensures shown { IfOk result
-        (λ w. IsShown (boot_of seen.now.book limits.now) w.desk.shown.value []) }
+        (λ w. IsShown (boot_of seen.now.book limits.now seats) w.desk.shown.value []) }
     ensures pending { IfOk result (λ w. drop w.behind w.log.items ≡ []) }
 {
     let first = first_copy(alloc, limits, seen)?;
     let second = first_copy(alloc, limits, seen)?;
-    Ok(Writer::new(alloc, first, second, SEATS)?)
+    Ok(Writer::new(alloc, first, second, seats)?)
 }
 
 /// Readers take the copy that has all calls.
@@ -123,7 +128,7 @@ fn mark<R: Wait>(writer: &mut Writer, marked: bool, rt: &R)
     }
 }
 
-/// A reader of the copies that knows no boot. Each seat of the 64 has a place, so one is free.
+/// A reader of the copies that knows no boot. Each seat has a place, so one is free.
 fn claim<R: Wait>(writer: &Writer, rt: &R) -> Reader<Copied, Tag, Published>
     ensures { result.place.table_id ≡ writer.now.desk.place.table_id }
 {

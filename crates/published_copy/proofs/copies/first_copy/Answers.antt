@@ -9,5 +9,5 @@ use Rattle.published_copy.proofs.copies.first_copy.Goals as goal
 pub returns-clause-shown : goal.returns-clause-shown
 returns-clause-shown c =
     let state : kernel_state c.in-Ok.kernel ≡ booted c.args.limits.now = search rules in
-    starts (boot_of c.args.seen.now.book c.args.limits.now) _ (ap (λ s. s.book) c.again.ensures) refl
+    λ seats. starts (boot_of c.args.seen.now.book c.args.limits.now seats) _ (ap (λ s. s.book) c.again.ensures) refl
     state refl (ap (λ s. made s.log) c.again.ensures ∙ ap made c.requires)

@@ -19,19 +19,8 @@ pub returns-clause-list : goal.returns-clause-list
 returns-clause-list g c =
     let e : Event = event_at (kernel_state c.args.kernel.now) c.args.pass.now c.args.call.now in
     let log : c.attempt.new.self ≡ c.args.tip.now ++ tried e ∷ [] = search rules in
-    ap (λ (l : List Entry). made (l ++ Made ∷ [])) (c.seen.ensures.log ∙ log)
+    ap (λ (l : List Entry). made (l ++ Made ∷ [])) log
     ∙ (made-made c.args.tip.now e ∙ ap (λ s. made c.args.tip.now ++ event_at s c.args.pass.now c.args.call.now ∷ []) c.requires.state)
-
-pub returns-clause-next : goal.returns-clause-next
-returns-clause-next g c = record {
-  event = event_at (state_of g.B.Naming.boot.limits (made c.args.tip.now)) c.args.pass.now c.args.call.now;
-  thread_is = search rules;
-  call_is = refl;
-  length_is = c.requires.events;
-  log_is = c.seen.ensures.book;
-  list_is = returns-clause-list g c;
-  may = record { number = c.requires.number; reply = refl };
-}
 
 pub returns-clause-room : goal.returns-clause-room
 returns-clause-room g c =

@@ -41,6 +41,7 @@ invariant_of-self-2 g c =
           ∙ ap (count o) (sym items)),
       published ∙ ap (λ l. with_event limits l pass call) c.self.invariant.4
           ∙ ap (λ (e : Event). old ++ e ∷ []) (sym same) ∙ sym items,
+      c.self.invariant.5,
     )
 
 pub returns-clause-legal : goal.returns-clause-legal

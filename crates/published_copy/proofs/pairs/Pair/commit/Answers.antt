@@ -1,11 +1,10 @@
-use Rattle.std.proofs.Common.{◌≡◌, ◌∷◌, ◌++◌, [], ◌∙◌, sym, ap, subst, IfSome, rules}
+use Rattle.std.proofs.Common.{◌≡◌, ◌∷◌, ◌++◌, [], ◌∙◌, sym, ap, refl, false, rules}
 use Rattle.kernel_rules.specs.History.{state_of}
 use Rattle.kernel_rules.specs.Step.{next}
 use Rattle.kernel_rules.specs.declared.events.Event.{Event}
 use Rattle.syscall_core.specs.Kernel.{kernel_state}
-use Rattle.published_copy.specs.declared.ops.Op.{Op}
 use Rattle.published_copy.specs.declared.entries.Entry.TheVariants.{Made}
-use Rattle.published_copy.specs.Absorbed.{listed}
+use Rattle.published_copy.specs.Absorbed.{list_of}
 use Rattle.published_copy.specs.Entries.{made}
 use Rattle.published_copy.specs.Shares.{IsNext, copies_with}
 use Rattle.published_copy.specs.Turns.{event_at, with_event}
@@ -16,12 +15,25 @@ pub publish-requires-clause-made : goal.publish-requires-clause-made
 publish-requires-clause-made g c =
     let boot = g.B.Naming.boot in
     let list = made c.self.inside.tip in
-    let op : Op = c.in-Some.op in
+    let tip = c.attempt-tried.new.tip in
+    let event : Event = event_at (state_of boot.limits list) c.args.pass.now c.args.call.now in
+    let op = c.operation-op.result in
     let queued : c.queue.new.self ≡ copies_with list (op ∷ []) = search rules in
-    let nx : IsNext boot list op = search rules in
-    let saw : op.seen.log ≡ c.attempt-tried.new.tip = search rules in
-    let settled : c.settle.new.self ≡ c.attempt-tried.new.tip ++ Made ∷ [] = search rules in
-    awaits boot c.queue.new.self list op c.attempt-tried.new.tip c.settle.new.self queued nx saw settled
+    let saw : c.operation-op.result.seen.log ≡ tip = search rules in
+    let tried : list_of false tip ≡ list ++ event ∷ [] = search rules in
+    let nx : IsNext boot list op =
+    record {
+      event = event;
+      thread_is = search rules;
+      call_is = search rules;
+      length_is = search rules;
+      log_is = search rules;
+      list_is = ap (list_of false) saw ∙ tried;
+      may = record { number = search rules; reply = refl };
+    }
+    in
+    let settled : c.settle.new.self ≡ tip ++ Made ∷ [] = search rules in
+    awaits boot c.queue.new.self list op tip c.settle.new.self queued nx saw settled
 
 pub publish-requires-clause-state : goal.publish-requires-clause-state
 publish-requires-clause-state g c =
