@@ -6,6 +6,7 @@
 //! that the workers of a phase run at once.
 #![tactic(auto)]
 
+mod answers;
 mod closings;
 mod dumps;
 mod faults;

@@ -9,13 +9,23 @@ use text_words::Name;
 /// lines in the phase, rising.
 pub type Parts = BTreeMap<usize, Vec<usize>>;
 
+/// Adds the workers of a phase. (Lines of one worker often follow each other.)
+fn add_workers(workers: &mut IndexSet<Name>, phase: &Phase) -> Result<(), AllocError> {
+    let mut last = None;
+    for line in &phase.lines {
+        if last != Some(line.worker) {
+            workers.insert(line.worker)?;
+            last = Some(line.worker);
+        }
+    }
+    Ok(())
+}
+
 /// The workers of a script, in the order of their first lines.
 pub fn workers_of(alloc: Global, script: &Script) -> Result<IndexSet<Name>, AllocError> {
     let mut workers = IndexSet::new(alloc);
     for phase in &script.phases {
-        for line in &phase.lines {
-            workers.insert(line.worker)?;
-        }
+        add_workers(&mut workers, phase)?;
     }
     Ok(workers)
 }
@@ -43,8 +53,14 @@ pub fn parts_of(
     workers: &IndexSet<Name>,
 ) -> Result<Parts, AllocError> {
     let mut parts = BTreeMap::new(alloc);
+    let mut last = None;
+    let mut worker = None;
     for (place, line) in phase.lines.iter().enumerate() {
-        if let Some(worker) = workers.get_index_of(&line.worker) {
+        if last != Some(line.worker) {
+            worker = workers.get_index_of(&line.worker);
+            last = Some(line.worker);
+        }
+        if let Some(worker) = worker {
             add_line(&mut parts, alloc, worker, place)?;
         }
     }

@@ -1,13 +1,14 @@
 //! Playing a script: each worker of a phase in a thread of its own.
-ghost use Rattle.std.specs.Prelude.{◌≡◌, IfOk};
+ghost use Rattle.std.specs.Prelude.{◌≡◌, ◌<◌, ◌≤◌, IfOk};
 ghost use Rattle.script_runner.specs.Dumps.{IsClosing, IsPlayed};
 
+use crate::answers::Answers;
 use crate::closings::{Closing, closing_of};
 use crate::faults::PlayFault;
 use crate::gates::Gate;
 use crate::names::BoundNames;
 use crate::parts::{Parts, parts_of, workers_of};
-use crate::printing::output_of;
+use crate::printing::{Answered, output_of};
 use crate::workers::{LinesEnd, Worker};
 use base::{Limits, ObjectId};
 use call_text::{Known, Phase, Script, Value};
@@ -17,8 +18,8 @@ use published_copy::{Blank, Naming, Note, Shared};
 use std::alloc::{AllocError, Global};
 use std::marker::Brand;
 use std::sync::{Mutex, Wait};
-use std::thread;
 use std::thread::Threads;
+use std::{mem, thread};
 use text_words::Name;
 
 /// What a script's lines printed, and what the kernel was asked.
@@ -227,15 +228,28 @@ fn play_phase<'s, B: Naming + Send, R: Threads + Wait + Sync, G: Gate>(
     Ok(tell_all(rt, alloc, played)?)
 }
 
-/// Plays the phases one after another, and makes the output.
-fn play_phases<'s, B: Naming + Send, R: Threads + Wait + Sync, G: Gate>(
+/// What the lines of the workers answered, which they have no longer then.
+fn answers_of<B: Naming, R: Wait>(
+    rt: &R,
+    alloc: Global,
+    played: &[Mutex<Worker<'_, B>>],
+) -> Result<Vec<Answers>, AllocError> {
+    let mut answers = Vec::with_capacity(alloc, played.len())?;
+    for worker in played {
+        answers.push(mem::replace(&mut worker.lock(rt).answers, Answers::none(alloc)))?;
+    }
+    Ok(answers)
+}
+
+/// Plays the phases one after another.
+fn play_phases<'s, 'a, B: Naming + Send, R: Threads + Wait + Sync, G: Gate>(
     rt: &R,
     alloc: Global,
     shared: &'s Shared<B>,
     script: &Script,
+    workers: &'a IndexSet<Name>,
     gate: &G,
-) -> Result<Vec<u8>, PlayFault> {
-    let workers = workers_of(alloc, script)?;
+) -> Result<Answered<'a>, PlayFault> {
     let played: Vec<Mutex<Worker<'s, B>>> = idle(alloc, workers.len())?;
     let mut names = BoundNames::start(alloc)?;
     for phase in &script.phases {
@@ -245,33 +259,47 @@ fn play_phases<'s, B: Naming + Send, R: Threads + Wait + Sync, G: Gate>(
             shared,
             phase,
             gate,
-            &workers,
+            workers,
             played.as_slice(),
             &mut names,
         )?;
     }
-    Ok(output_of(rt, alloc, &workers, played.as_slice(), &names)?)
+    Ok(Answered {
+        workers,
+        answers: answers_of(rt, alloc, played.as_slice())?,
+        names,
+    })
 }
 
-/// Plays a script on a boot, and closes it: what is told of the book is what stands in it once every seat is gone.
+/// Plays a script on a boot, closes it, and makes the output: what is told of the book is what stands in it once every
+/// seat is gone.
 fn play_booted<B: Naming + Send, R: Threads + Wait + Sync, G: Gate>(
     rt: &R,
     alloc: Global,
     blank: Blank,
     script: &Script,
+    workers: &IndexSet<Name>,
     gate: &G,
 ) -> Result<Played, PlayFault>
     requires { blank ≡ B.boot }
     ensures { IfOk result (λ played. IsClosing B.boot.limits played.events.items played.tables) }
 {
     let shared = blank.open::<B>();
-    let output = play_phases(rt, alloc, &shared, script, gate)?;
+    let answered = play_phases(rt, alloc, &shared, script, workers, gate)?;
     let Closing { events, tables } = closing_of(rt, alloc, shared.close())?;
+    let output = output_of(alloc, &answered, events.as_slice())?;
     Ok(Played {
         output,
         events,
         tables,
     })
+}
+
+/// How many seats so many workers can have, of the most that a boot has.
+fn seats_for(workers: usize) -> usize
+    ensures { (0 < result) × (result ≤ 64) }
+{
+    workers.clamp(1, 64)
 }
 
 /// Plays a script on a newly booted kernel: its phases one after another, in each the workers at once, each one with a
@@ -289,8 +317,9 @@ pub fn play_all<R: Threads + Wait + Sync, G: Gate>(
 ) -> Result<Played, PlayFault>
     ensures { IfOk result (λ played. IsPlayed limits.now played.events.items played.tables) }
 {
-    match Blank::boot(alloc, limits) {
-        Ok(blank) => play_booted::<Brand, R, G>(rt, alloc, blank, script, gate),
+    let workers = workers_of(alloc, script)?;
+    match Blank::boot_for(alloc, limits, seats_for(workers.len())) {
+        Ok(blank) => play_booted::<Brand, R, G>(rt, alloc, blank, script, &workers, gate),
         Err(refusal) => Err(PlayFault::Boot(refusal)),
     }
 }

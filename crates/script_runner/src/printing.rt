@@ -1,60 +1,83 @@
 //! What the lines of a script print.
+use crate::answers::{Answer, Answers};
 use crate::names::BoundNames;
-use crate::workers::{Answer, Worker};
 use base::NoMemory;
 use call_text::put_reply;
 use indexmap::IndexSet;
-use published_copy::Naming;
+use kernel_rules::{Event, Reply};
 use std::alloc::Global;
-use std::sync::{Mutex, Wait};
 use text_words::{Name, put_name, put_number};
 
+/// What was played: the workers in the order of their first lines, what the lines of each answered, and the names as
+/// they are bound at the end.
+#[derive(Drop)]
+pub struct Answered<'a> {
+    /// The workers.
+    pub workers: &'a IndexSet<Name>,
+    /// What the lines of each answered.
+    pub answers: Vec<Answers>,
+    /// The names.
+    pub names: BoundNames,
+}
+
+/// Adds a line's own words.
 fn put_answer(
     out: &mut Vec<u8>,
-    worker: &Name,
-    number: u32,
     answer: &Answer,
+    answers: &Answers,
+    events: &[Event],
     names: &BoundNames,
 ) -> Result<(), NoMemory> {
-    put_name(out, worker)?;
-    out.push(b' ')?;
-    put_number(out, u64::from(number))?;
-    out.extend_from_slice(b": ")?;
     match answer {
-        Answer::Replied(reply) => put_reply(out, reply, names)?,
+        Answer::Event(length) => match events.get(length.wrapping_sub(1)) {
+            Some(event) => put_reply(out, &event.reply, names),
+            None => Ok(()),
+        },
+        Answer::Replied(place) => match answers.replies.get(*place) {
+            Some(reply) => put_reply(out, reply, names),
+            None => Ok(()),
+        },
+        Answer::Printed(begin, end) => match answers.printed.get(*begin..*end) {
+            Some(printed) => Ok(out.extend_from_slice(printed)?),
+            None => Ok(()),
+        },
+        Answer::Refused(refusal) => put_reply(out, &Reply::Refused(*refusal), names),
         Answer::Unbound(name) => {
             out.extend_from_slice(b"unbound ")?;
-            put_name(out, name)?;
+            Ok(put_name(out, name)?)
         }
     }
-    out.push(b'\n')?;
-    Ok(())
 }
 
-fn put_worker<B: Naming>(
+fn put_worker(
     out: &mut Vec<u8>,
-    name: &Name,
-    worker: &Worker<'_, B>,
+    worker: &Name,
+    answers: &Answers,
+    events: &[Event],
     names: &BoundNames,
 ) -> Result<(), NoMemory> {
-    for (number, answer) in &worker.answers {
-        put_answer(out, name, *number, answer, names)?;
+    for (number, answer) in &answers.lines {
+        put_name(out, worker)?;
+        out.push(b' ')?;
+        put_number(out, u64::from(*number))?;
+        out.extend_from_slice(b": ")?;
+        put_answer(out, answer, answers, events, names)?;
+        out.push(b'\n')?;
     }
     Ok(())
 }
 
-/// The lines of the workers, in the workers' order: for each its own lines in theirs.
-pub fn output_of<B: Naming, R: Wait>(
-    rt: &R,
+/// The lines of the workers, in the workers' order: for each its own lines in theirs. The replies of calls are those of
+/// the journal.
+pub fn output_of(
     alloc: Global,
-    workers: &IndexSet<Name>,
-    played: &[Mutex<Worker<'_, B>>],
-    names: &BoundNames,
+    answered: &Answered<'_>,
+    events: &[Event],
 ) -> Result<Vec<u8>, NoMemory> {
     let mut out = Vec::new(alloc);
-    for (index, worker) in played.iter().enumerate() {
-        if let Some(name) = workers.get_index(index) {
-            put_worker(&mut out, name, &worker.lock(rt), names)?;
+    for (index, answers) in answered.answers.iter().enumerate() {
+        if let Some(worker) = answered.workers.get_index(index) {
+            put_worker(&mut out, worker, answers, events, &answered.names)?;
         }
     }
     Ok(out)

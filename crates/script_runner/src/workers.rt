@@ -1,4 +1,8 @@
 //! A worker, which plays its lines in order.
+ghost use Rattle.kernel_rules.specs.declared.replies.Reply.TheVariants as told;
+ghost use Rattle.std.specs.Prelude.{◌≡◌};
+
+use crate::answers::{Answer, Answers};
 use crate::gates::{Gate, Turn};
 use crate::names::{BoundNames, WorkerNames};
 use base::{NoMemory, Refusal};
@@ -7,16 +11,6 @@ use kernel_rules::{Call, Query, Reply};
 use published_copy::{Naming, Seat, SeatRefusal, SubmitRefusal};
 use std::alloc::{AllocError, Global};
 use std::sync::Wait;
-use text_words::Name;
-
-/// What a line answered.
-#[derive(Clone, Copy)]
-pub enum Answer {
-    /// What the kernel replied, or the refusal of a seat or a submit.
-    Replied(Reply),
-    /// The first name of the line, the worker's before all, that is not known, or known as the other kind.
-    Unbound(Name),
-}
 
 /// How a worker's lines ended.
 #[derive(Clone, Copy, PartialEq, Eq)]
@@ -38,40 +32,50 @@ pub struct Worker<'s, B: Naming> {
     pub refusal: Option<SeatRefusal>,
     /// What its lines bound in this phase.
     pub own: BoundNames,
-    /// What each of its lines answered, with the line's number.
-    pub answers: Vec<(u32, Answer)>,
+    /// What its lines answered.
+    pub answers: Answers,
     /// How its lines ended.
     pub ended: LinesEnd,
 }
 
+/// What a reply made, where it made something.
+fn made_by(reply: &Reply) -> Option<Value> {
+    match reply {
+        Reply::Category(category) => Some(Value::Category(*category)),
+        Reply::Object(id) => Some(Value::Object(*id)),
+        _ => None,
+    }
+}
+
+/// What a call answers, and what it made.
 fn submitted<B: Naming, R: Wait>(
     rt: &R,
     seat: &mut Seat<'_, B>,
     call: &Call,
+    made: &mut Option<Value>,
 ) -> Result<Answer, NoMemory> {
-    match seat.submit(rt, call) {
-        Ok(receipt) => return Ok(Answer::Replied(receipt.reply)),
-        Err(SubmitRefusal::OutOfTurn) => {
-            return Ok(Answer::Replied(Reply::Refused(Refusal::OutOfTurn)));
+    let mut reply = Reply::Done;
+    match seat.submit_into(rt, call, &mut reply) {
+        Ok(placed) => {
+            *made = made_by(&reply);
+            Ok(Answer::Event(placed.length))
         }
-        Err(SubmitRefusal::Memory) => return Err(NoMemory),
+        Err(SubmitRefusal::OutOfTurn) => Ok(Answer::Refused(Refusal::OutOfTurn)),
+        Err(SubmitRefusal::Memory) => Err(NoMemory),
     }
 }
 
-/// What a query answers, or that it is not answered.
-fn read<B: Naming>(seat: &mut Seat<'_, B>, query: &Query) -> Reply {
-    match seat.read(query) {
-        Ok(reply) => return reply,
-        Err(unread) => return Reply::Refused(unread.refusal()),
-    }
-}
-
-/// What a line made, where its call made something.
-fn made(answer: &Answer) -> Option<Value> {
-    match answer {
-        Answer::Replied(Reply::Category(category)) => Some(Value::Category(*category)),
-        Answer::Replied(Reply::Object(id)) => Some(Value::Object(*id)),
-        _ => None,
+/// What a query answers.
+fn read<B: Naming>(
+    seat: &mut Seat<'_, B>,
+    query: &Query,
+    answers: &mut Answers,
+    names: &WorkerNames<'_>,
+) -> Result<Answer, NoMemory> {
+    let mut reply = Reply::Done;
+    match seat.read_into(query, &mut reply) {
+        Ok(()) => answers.keep(&reply, names),
+        Err(unread) => Ok(Answer::Refused(unread.refusal())),
     }
 }
 
@@ -82,7 +86,7 @@ impl<'s, B: Naming> Worker<'s, B> {
             seat: None,
             refusal: None,
             own: BoundNames::none(alloc),
-            answers: Vec::new(alloc),
+            answers: Answers::none(alloc),
             ended: LinesEnd::Played,
         }
     }
@@ -90,16 +94,18 @@ impl<'s, B: Naming> Worker<'s, B> {
     /// What a line answers of a worker that has no seat.
     fn unseated(&self, line: &Line) -> Answer {
         match self.refusal {
-            Some(refusal) => Answer::Replied(Reply::Refused(refusal.refusal())),
+            Some(refusal) => Answer::Refused(refusal.refusal()),
             None => Answer::Unbound(line.worker),
         }
     }
 
+    /// What a line answers, and what its call made.
     fn answer<R: Wait>(
         &mut self,
         rt: &R,
         line: &Line,
         earlier: &BoundNames,
+        made: &mut Option<Value>,
     ) -> Result<Answer, NoMemory> {
         let Some(seat) = &mut self.seat else {
             return Ok(self.unseated(line));
@@ -108,17 +114,17 @@ impl<'s, B: Naming> Worker<'s, B> {
             own: &self.own,
             earlier,
         };
-        // (calls and replies are large, and what a match is worth is moved once more: so each arm returns)
+        // (a call is large, and what a match is worth is moved once more: so each arm returns)
         match resolve(&line.call, &names) {
             Err(name) => return Ok(Answer::Unbound(name)),
-            Ok(Asked::Write(call)) => return submitted(rt, seat, &call),
-            Ok(Asked::Read(query)) => return Ok(Answer::Replied(read(seat, &query))),
+            Ok(Asked::Write(call)) => return submitted(rt, seat, &call, made),
+            Ok(Asked::Read(query)) => return read(seat, &query, &mut self.answers, &names),
         }
     }
 
     /// Binds the line's name to what its call made.
-    fn bind(&mut self, line: &Line, answer: &Answer) -> Result<(), AllocError> {
-        if let (Some(name), Some(value)) = (line.binds, made(answer)) {
+    fn bind(&mut self, line: &Line, made: Option<Value>) -> Result<(), AllocError> {
+        if let (Some(name), Some(value)) = (line.binds, made) {
             self.own.bind(&Named { name, value })?;
         }
         Ok(())
@@ -136,9 +142,10 @@ impl<'s, B: Naming> Worker<'s, B> {
         if gate.before(index, number) == Turn::Stop {
             return Ok(Turn::Stop);
         }
-        let answer = self.answer(rt, line, earlier)?;
-        self.bind(line, &answer)?;
-        self.answers.push((line.number, answer))?;
+        let mut made = None;
+        let answer = self.answer(rt, line, earlier, &mut made)?;
+        self.bind(line, made)?;
+        self.answers.lines.push((line.number, answer))?;
         Ok(gate.after(index, number))
     }
 
