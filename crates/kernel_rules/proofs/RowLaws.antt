@@ -1,7 +1,9 @@
 -- What rows of conditions give.
 use Rattle.std.proofs.Common.{◌≡◌, ◌≤◌, ◌<◌, ℕ, Bool, true, false, cond, nat_le, [], ◌∷◌}
 use Rattle.std.proofs.Common.{◌++◌, Option, Some, None, refl, sym, ◌∙◌, ap, subst, arith}
+use Rattle.std.proofs.Common.{◌+◌, drop, length, get_or}
 use Rattle.std.proofs.lemmas.Bool.{leb-true, leb-false}
+use Rattle.std.proofs.lemmas.List.{at_drop_more}
 use Rattle.base.specs.declared.refusals.Refusal.{Refusal}
 use Rattle.base.specs.Refusal.{told_as, lesser}
 use Rattle.kernel_rules.specs.Rows.{Row, lesser_of, least_of, refusal_of}
@@ -39,7 +41,8 @@ choice n a b c = elim (nat_le (n a) (n b)) as (λ v. nat_le (n a) (n b) ≡ v �
 lesser-lesser : (a b c : Refusal) → lesser (lesser a b) c ≡ lesser a (lesser b c)
 lesser-lesser a b c = choice (λ r. (told_as r).number) a b c
 
-least_of-least_of : (a b c : Option Refusal) → least_of (least_of a b) c ≡ least_of a (least_of b c)
+-- the least of three refusals does not hang on where it begins
+pub least_of-least_of : (a b c : Option Refusal) → least_of (least_of a b) c ≡ least_of a (least_of b c)
 least_of-least_of None b c = refl
 least_of-least_of (Some x) None c = refl
 least_of-least_of (Some x) (Some y) None = refl
@@ -81,3 +84,25 @@ none_hold (c ∷ row) h =
 pub joined_rows : (a b : Row) (p q : Option Refusal) → p ≡ refusal_of a → q ≡ refusal_of b
     → least_of p q ≡ refusal_of (a ++ b)
 joined_rows a b p q first second = (λ i. least_of (first i) (second i)) ∙ sym (appended a b)
+
+-- a refusal and what is left of a row, one condition on
+pub held_more : (a b : Option Refusal) (row : Row) (i : ℕ) (d : Refusal × Bool) → i < length row
+    → (get_or row i d).1 ≡ true → least_of a (refusal_of (drop i row)) ≡ b
+    → least_of (least_of a (Some (get_or row i d).0)) (refusal_of (drop (i + 1) row)) ≡ b
+held_more a b row i d lt h so_far =
+    least_of-least_of a (Some (get_or row i d).0) rest
+    ∙ ap (λ (v : Bool). least_of a (cond v (Some (lesser_of (get_or row i d).0 rest)) rest)) (sym h)
+    ∙ sym (at_drop_more (λ (r : Row). least_of a (refusal_of r)) row i d lt) ∙ so_far
+  where
+    rest : Option Refusal
+    rest = refusal_of (drop (i + 1) row)
+
+pub unheld_more : (a b : Option Refusal) (row : Row) (i : ℕ) (d : Refusal × Bool) → i < length row
+    → (get_or row i d).1 ≡ false → least_of a (refusal_of (drop i row)) ≡ b
+    → least_of a (refusal_of (drop (i + 1) row)) ≡ b
+unheld_more a b row i d lt h so_far =
+    ap (λ (v : Bool). least_of a (cond v (Some (lesser_of (get_or row i d).0 rest)) rest)) (sym h)
+    ∙ sym (at_drop_more (λ (r : Row). least_of a (refusal_of r)) row i d lt) ∙ so_far
+  where
+    rest : Option Refusal
+    rest = refusal_of (drop (i + 1) row)

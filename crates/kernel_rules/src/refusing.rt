@@ -13,23 +13,6 @@ fn lesser_of(refusal: Refusal, other: Option<Refusal>) -> Refusal
     }
 }
 
-/// Of the conditions that hold, the one with the least number gives the refusal.
-pub fn least(row: &[(Refusal, bool)]) -> Option<Refusal>
-    ensures { result ≡ refusal_of row.now }
-{
-    match row {
-        [] => None,
-        [first, rest @ ..] => {
-            let later = least(rest);
-            if first.1 {
-                Some(lesser_of(first.0, later))
-            } else {
-                later
-            }
-        }
-    }
-}
-
 /// Of two refusals that may not be there, the one with the smaller number.
 pub fn least_of(first: Option<Refusal>, second: Option<Refusal>) -> Option<Refusal>
     ensures { result ≡ least_of first second }
@@ -38,4 +21,24 @@ pub fn least_of(first: Option<Refusal>, second: Option<Refusal>) -> Option<Refus
         None => second,
         Some(refusal) => Some(lesser_of(refusal, second)),
     }
+}
+
+/// Of a refusal that may not be there and of the conditions that hold, the one with the least number.
+pub fn least_with(found: Option<Refusal>, row: &[(Refusal, bool)]) -> Option<Refusal>
+    ensures { result ≡ least_of found (refusal_of row.now) }
+{
+    let mut least = found;
+    for condition in row {
+        if condition.1 {
+            least = least_of(least, Some(condition.0));
+        }
+    }
+    least
+}
+
+/// Of the conditions that hold, the one with the least number gives the refusal.
+pub fn least(row: &[(Refusal, bool)]) -> Option<Refusal>
+    ensures { result ≡ refusal_of row.now }
+{
+    least_with(None, row)
 }

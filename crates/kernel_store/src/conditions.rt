@@ -13,7 +13,7 @@ ghost use Rattle.kernel_store.specs.Sights.{is_of};
 use crate::sights::{Seen, Sight};
 use crate::stores::Store;
 use base::{Kind, Meter, ObjectId, Refusal};
-use kernel_rules::{Entry, Place, Reply, least, least_of};
+use kernel_rules::{Entry, Place, Reply, least_with};
 
 /// A refusal, and whether it is given.
 pub type Condition = (Refusal, bool);
@@ -23,10 +23,11 @@ pub type Condition = (Refusal, bool);
 pub fn refusal_of(row: &[&[Condition]]) -> Option<Refusal>
     ensures { result ≡ refusal_of (joined (map (λ part. part.now) row.now)) }
 {
-    match row {
-        [] => None,
-        [first, rest @ ..] => least_of(least(first), refusal_of(rest)),
+    let mut least = None;
+    for part in row {
+        least = least_with(least, part);
     }
+    least
 }
 
 /// The reply is a refusal. (In a function of its own, since a reply is large: each value that a
