@@ -1,8 +1,10 @@
 //! The same writes and reads of a kernel of its own, under a lock that readers share.
+use crate::rooms::Roomy;
 use crate::samples::{LIMITS, boot_thread, new_segment, read, shows_bytes, write};
 use anyhow::Result;
 use base::Meter;
 use bench_support::nanos_since;
+use kernel_rules::Reply;
 use std::alloc::Global;
 use std::rt::Clock;
 use std::sync::atomic::{AtomicBool, AtomicU64, Ordering};
@@ -17,23 +19,24 @@ use syscall_core::Kernel;
 pub struct Locked {
     kernel: RwLock<Kernel>,
     writer: Mutex<Meter>,
-    meters: Vec<Mutex<Meter>>,
+    meters: Vec<Roomy<Mutex<Meter>>>,
 }
 
 fn read_all<R: Wait>(
     rt: &R,
     kernel: &RwLock<Kernel>,
-    meter: &Mutex<Meter>,
+    meter: &Roomy<Mutex<Meter>>,
     rounds: u64,
     done: &AtomicU64,
 ) {
     let query = read();
-    let mut meter = meter.lock(rt);
+    let mut meter = meter.value.lock(rt);
     let mut found = 0u64;
     for _ in 0..rounds {
-        let reply = kernel
+        let mut reply = Reply::Done;
+        kernel
             .read(rt)
-            .ask_surely(boot_thread(), &query, &mut meter);
+            .ask_into(boot_thread(), &query, &mut reply, &mut meter);
         if shows_bytes(&reply) {
             found = found.wrapping_add(1);
         }
@@ -64,7 +67,7 @@ impl Locked {
         kernel.step_surely(boot_thread(), &write(), &mut meter);
         let mut meters = Vec::new(alloc);
         for _ in 0..readers {
-            meters.push(Mutex::new(Meter::new(alloc)?))?;
+            meters.push(Roomy::new(Mutex::new(Meter::new(alloc)?)))?;
         }
         Ok(Locked {
             kernel: RwLock::new(kernel),

@@ -8,21 +8,23 @@ ghost use Rattle.std.specs.Prelude.{◌≡◌};
 mod files;
 mod kernels;
 mod locks;
+mod rooms;
 mod samples;
 mod seats;
 
 use crate::kernels::Locked;
 use crate::samples::LIMITS;
+use crate::seats::Desk;
 use anyhow::Result;
 use bench_support::print_ratio;
-use published_copy::{Blank, Naming, Seat, Shared};
+use published_copy::{Blank, Naming, Shared};
 use std::alloc::Global;
 use std::env;
 use std::fs::File;
 use std::marker::Brand;
 use std::rt::Clock;
 use std::sync::atomic::{AtomicU64, Ordering};
-use std::sync::{Mutex, Wait};
+use std::sync::Wait;
 use std::thread::Threads;
 
 const USAGE: &str = "bench_seats ROUNDS FILE
@@ -34,8 +36,9 @@ const THREADS: [usize; 3] = [1, 2, 4];
 /// How many seats read while one writes.
 const CROWDS: [usize; 8] = [0, 1, 2, 4, 8, 16, 32, 63];
 
-/// How many seats there are beside the boot thread's.
-const WORKERS: u64 = 63;
+/// How many seats there are beside the boot thread's, at a boot for few and at a boot for all.
+const FEW: u64 = 4;
+const ALL: u64 = 63;
 
 /// So many of the seats, or all where there are fewer.
 fn first<T>(seats: &[T], count: usize) -> &[T] {
@@ -50,7 +53,7 @@ fn rest<T>(seats: &[T]) -> &[T] {
 /// What so many threads do at once, beside others.
 fn compare_at<'s, B: Naming + Send, R: Threads + Wait + Clock + Print + Sync>(
     rt: &R,
-    seats: &[Mutex<Seat<'s, B>>],
+    seats: &[Desk<'s, B>],
     locked: &Locked,
     file: &File,
     threads: usize,
@@ -93,7 +96,7 @@ fn print_growth(rt: &impl Print, what: &str, one: u64, four: u64) -> Result<()> 
 /// How reads grow with their threads while one more thread writes.
 fn grow<'s, B: Naming + Send, R: Threads + Wait + Clock + Print + Sync>(
     rt: &R,
-    seats: &[Mutex<Seat<'s, B>>],
+    seats: &[Desk<'s, B>],
     locked: &Locked,
     rounds: u64,
 ) -> Result<()> {
@@ -110,7 +113,7 @@ fn grow<'s, B: Naming + Send, R: Threads + Wait + Clock + Print + Sync>(
 /// What a submit takes while more and more seats read, beside one while none does.
 fn crowd<'s, B: Naming + Send, R: Threads + Wait + Clock + Print + Sync>(
     rt: &R,
-    seats: &[Mutex<Seat<'s, B>>],
+    seats: &[Desk<'s, B>],
     rounds: u64,
 ) -> Result<()> {
     let (writer, workers) = (first(seats, 1), rest(seats));
@@ -126,19 +129,21 @@ fn crowd<'s, B: Naming + Send, R: Threads + Wait + Clock + Print + Sync>(
     Ok(())
 }
 
-fn compare_seated<'s, B: Naming + Send, R: Threads + Wait + Clock + Print + Sync>(
+fn compare_few<B: Naming + Send, R: Threads + Wait + Clock + Print + Sync>(
     rt: &R,
-    seats: &[Mutex<Seat<'s, B>>],
-    locked: &Locked,
+    alloc: Global,
+    shared: &Shared<B>,
     file: &File,
     rounds: u64,
 ) -> Result<()> {
+    let locked = Locked::new(alloc, 4)?;
+    let seats = seats::seats(rt, alloc, shared, FEW)?;
+    let seats = seats.as_slice();
     for threads in THREADS {
         let each = rounds / (threads as u64).max(1);
-        compare_at(rt, seats, locked, file, threads, each)?;
+        compare_at(rt, seats, &locked, file, threads, each)?;
     }
-    grow(rt, seats, locked, rounds)?;
-    crowd(rt, seats, rounds / 400)
+    grow(rt, seats, &locked, rounds)
 }
 
 fn compare_all<B: Naming + Send, R: Threads + Wait + Clock + Print + Sync>(
@@ -148,12 +153,15 @@ fn compare_all<B: Naming + Send, R: Threads + Wait + Clock + Print + Sync>(
     file: &File,
     rounds: u64,
 ) -> Result<()> {
-    let locked = Locked::new(alloc, 4)?;
-    let seats = seats::seats(rt, alloc, shared, WORKERS)?;
-    compare_seated(rt, seats.as_slice(), &locked, file, rounds)
+    let locked = Locked::new(alloc, 1)?;
+    let seats = seats::seats(rt, alloc, shared, ALL)?;
+    let seats = seats.as_slice();
+    compare_at(rt, seats, &locked, file, 1, rounds)?;
+    crowd(rt, seats, rounds / 400)
 }
 
-fn compare<B: Naming + Send, R: Threads + Wait + Clock + Print + Sync>(
+/// At a boot for few seats.
+fn compare_at_few<B: Naming + Send, R: Threads + Wait + Clock + Print + Sync>(
     rt: &R,
     alloc: Global,
     blank: Blank,
@@ -162,6 +170,22 @@ fn compare<B: Naming + Send, R: Threads + Wait + Clock + Print + Sync>(
 ) -> Result<()>
     requires { blank ≡ B.boot }
 {
+    println!(rt; "a boot for 5 seats")?;
+    let shared = blank.open::<B>();
+    compare_few(rt, alloc, &shared, file, rounds)
+}
+
+/// At a boot for all seats.
+fn compare_at_all<B: Naming + Send, R: Threads + Wait + Clock + Print + Sync>(
+    rt: &R,
+    alloc: Global,
+    blank: Blank,
+    file: &File,
+    rounds: u64,
+) -> Result<()>
+    requires { blank ≡ B.boot }
+{
+    println!(rt; "a boot for 64 seats")?;
     let shared = blank.open::<B>();
     compare_all(rt, alloc, &shared, file, rounds)
 }
@@ -182,6 +206,8 @@ fn main(rt: HostRuntime) -> Result<()> {
         .write(true)
         .create(true)
         .open(&rt, path.as_str())?;
-    let blank = Blank::boot(rt.alloc(), &LIMITS)?;
-    compare::<Brand, HostRuntime>(&rt, rt.alloc(), blank, &file, rounds)
+    let few = Blank::boot_for(rt.alloc(), &LIMITS, 5)?;
+    compare_at_few::<Brand, HostRuntime>(&rt, rt.alloc(), few, &file, rounds)?;
+    let all = Blank::boot(rt.alloc(), &LIMITS)?;
+    compare_at_all::<Brand, HostRuntime>(&rt, rt.alloc(), all, &file, rounds)
 }

@@ -1,4 +1,5 @@
 //! Writes and reads of 64 bytes of a segment, each through its thread's seat.
+use crate::rooms::Roomy;
 use crate::samples::{boot_thread, new_segment, new_thread, read, shows_bytes, write};
 use anyhow::{Result, bail};
 use base::ObjectId;
@@ -13,6 +14,9 @@ use std::thread;
 use std::thread::Threads;
 use std::time::Instant;
 
+/// A thread's seat, apart from others'.
+pub type Desk<'s, B> = Roomy<Mutex<Seat<'s, B>>>;
+
 fn object_in(reply: Reply) -> Option<ObjectId> {
     match reply {
         Reply::Object(id) => Some(id),
@@ -22,28 +26,24 @@ fn object_in(reply: Reply) -> Option<ObjectId> {
 
 // Whether a write was done.
 fn is_written<B: Naming, R: Wait>(rt: &R, seat: &mut Seat<'_, B>, call: &Call) -> bool {
-    match seat.submit(rt, call) {
-        Ok(receipt) => matches!(receipt.reply, Reply::Done),
-        Err(_) => false,
-    }
+    let mut reply = Reply::Done;
+    seat.submit_into(rt, call, &mut reply).is_ok() && matches!(reply, Reply::Done)
 }
 
 // Whether the bytes that were written were read.
 fn is_read<B: Naming>(seat: &mut Seat<'_, B>, query: &Query) -> bool {
-    match seat.read(query) {
-        Ok(reply) => shows_bytes(&reply),
-        Err(_) => false,
-    }
+    let mut reply = Reply::Done;
+    seat.read_into(query, &mut reply).is_ok() && shows_bytes(&reply)
 }
 
 fn submit_all<B: Naming, R: Wait>(
     rt: &R,
-    worker: &Mutex<Seat<'_, B>>,
+    worker: &Desk<'_, B>,
     rounds: u64,
     done: &AtomicU64,
 ) {
     let call = write();
-    let mut seat = worker.lock(rt);
+    let mut seat = worker.value.lock(rt);
     let mut written = 0u64;
     for _ in 0..rounds {
         if is_written(rt, &mut seat, &call) {
@@ -55,12 +55,12 @@ fn submit_all<B: Naming, R: Wait>(
 
 fn read_all<B: Naming, R: Wait>(
     rt: &R,
-    worker: &Mutex<Seat<'_, B>>,
+    worker: &Desk<'_, B>,
     rounds: u64,
     done: &AtomicU64,
 ) {
     let query = read();
-    let mut seat = worker.lock(rt);
+    let mut seat = worker.value.lock(rt);
     let mut found = 0u64;
     for _ in 0..rounds {
         if is_read(&mut seat, &query) {
@@ -70,9 +70,9 @@ fn read_all<B: Naming, R: Wait>(
     done.fetch_add(found, Ordering::SeqCst);
 }
 
-fn submit_until<B: Naming, R: Wait>(rt: &R, writer: &Mutex<Seat<'_, B>>, stop: &AtomicBool) {
+fn submit_until<B: Naming, R: Wait>(rt: &R, writer: &Desk<'_, B>, stop: &AtomicBool) {
     let call = write();
-    let mut seat = writer.lock(rt);
+    let mut seat = writer.value.lock(rt);
     for _ in rt.forever() {
         if stop.load(Ordering::SeqCst) {
             return;
@@ -81,9 +81,9 @@ fn submit_until<B: Naming, R: Wait>(rt: &R, writer: &Mutex<Seat<'_, B>>, stop: &
     }
 }
 
-fn read_until<B: Naming, R: Wait>(rt: &R, worker: &Mutex<Seat<'_, B>>, stop: &AtomicBool) {
+fn read_until<B: Naming, R: Wait>(rt: &R, worker: &Desk<'_, B>, stop: &AtomicBool) {
     let query = read();
-    let mut seat = worker.lock(rt);
+    let mut seat = worker.value.lock(rt);
     for _ in rt.forever() {
         if stop.load(Ordering::SeqCst) {
             return;
@@ -105,9 +105,9 @@ fn add_seat<'s, B: Naming, R: Wait>(
     rt: &R,
     shared: &'s Shared<B>,
     thread: ObjectId,
-    seats: &mut Vec<Mutex<Seat<'s, B>>>,
+    seats: &mut Vec<Desk<'s, B>>,
 ) -> Result<()> {
-    seats.push(Mutex::new(shared.open_seat(rt, thread)?))?;
+    seats.push(Roomy::new(Mutex::new(shared.open_seat(rt, thread)?)))?;
     Ok(())
 }
 
@@ -117,7 +117,7 @@ fn fill<'s, B: Naming, R: Wait>(
     shared: &'s Shared<B>,
     boot: &mut Seat<'_, B>,
     threads: u64,
-    seats: &mut Vec<Mutex<Seat<'s, B>>>,
+    seats: &mut Vec<Desk<'s, B>>,
 ) -> Result<()> {
     boot.submit(rt, &new_segment())?;
     boot.submit(rt, &write())?;
@@ -135,11 +135,11 @@ pub fn seats<'s, B: Naming, R: Wait>(
     alloc: Global,
     shared: &'s Shared<B>,
     threads: u64,
-) -> Result<Vec<Mutex<Seat<'s, B>>>> {
+) -> Result<Vec<Desk<'s, B>>> {
     let mut boot = shared.open_seat(rt, boot_thread())?;
     let mut others = Vec::new(alloc);
     fill(rt, shared, &mut boot, threads, &mut others)?;
-    others.insert(0, Mutex::new(boot))?;
+    others.insert(0, Roomy::new(Mutex::new(boot)))?;
     Ok(others)
 }
 
@@ -147,7 +147,7 @@ pub fn seats<'s, B: Naming, R: Wait>(
 /// done.
 pub fn time_submits<'s, B: Naming + Send, R: Threads + Wait + Clock + Sync>(
     rt: &R,
-    workers: &[Mutex<Seat<'s, B>>],
+    workers: &[Desk<'s, B>],
     rounds: u64,
     done: &AtomicU64,
 ) -> Result<u64> {
@@ -164,7 +164,7 @@ pub fn time_submits<'s, B: Naming + Send, R: Threads + Wait + Clock + Sync>(
 /// done.
 pub fn time_reads<'s, B: Naming + Send, R: Threads + Wait + Clock + Sync>(
     rt: &R,
-    workers: &[Mutex<Seat<'s, B>>],
+    workers: &[Desk<'s, B>],
     rounds: u64,
     done: &AtomicU64,
 ) -> Result<u64> {
@@ -180,8 +180,8 @@ pub fn time_reads<'s, B: Naming + Send, R: Threads + Wait + Clock + Sync>(
 /// The same while the writers write on and on.
 pub fn time_reads_beside<'s, B: Naming + Send, R: Threads + Wait + Clock + Sync>(
     rt: &R,
-    writers: &[Mutex<Seat<'s, B>>],
-    workers: &[Mutex<Seat<'s, B>>],
+    writers: &[Desk<'s, B>],
+    workers: &[Desk<'s, B>],
     rounds: u64,
     done: &AtomicU64,
 ) -> Result<u64> {
@@ -201,8 +201,8 @@ pub fn time_reads_beside<'s, B: Naming + Send, R: Threads + Wait + Clock + Sync>
 /// on.
 pub fn time_submits_beside<'s, B: Naming + Send, R: Threads + Wait + Clock + Sync>(
     rt: &R,
-    writers: &[Mutex<Seat<'s, B>>],
-    workers: &[Mutex<Seat<'s, B>>],
+    writers: &[Desk<'s, B>],
+    workers: &[Desk<'s, B>],
     rounds: u64,
     done: &AtomicU64,
 ) -> Result<u64> {

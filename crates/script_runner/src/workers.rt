@@ -6,7 +6,7 @@ use crate::answers::{Answer, Answers};
 use crate::gates::{Gate, Turn};
 use crate::names::{BoundNames, WorkerNames};
 use base::{NoMemory, Refusal};
-use call_text::{Asked, Line, Named, Phase, Value, resolve};
+use call_text::{Line, Named, Phase, Value, resolve_into};
 use kernel_rules::{Call, Query, Reply};
 use published_copy::{Naming, Seat, SeatRefusal, SubmitRefusal};
 use std::alloc::{AllocError, Global};
@@ -34,6 +34,8 @@ pub struct Worker<'s, B: Naming> {
     pub own: BoundNames,
     /// What its lines answered.
     pub answers: Answers,
+    /// Where the call of a line is written. (A call is large.)
+    pub call: Call,
     /// How its lines ended.
     pub ended: LinesEnd,
 }
@@ -87,6 +89,7 @@ impl<'s, B: Naming> Worker<'s, B> {
             refusal: None,
             own: BoundNames::none(alloc),
             answers: Answers::none(alloc),
+            call: Call::CatCreate,
             ended: LinesEnd::Played,
         }
     }
@@ -114,11 +117,10 @@ impl<'s, B: Naming> Worker<'s, B> {
             own: &self.own,
             earlier,
         };
-        // (a call is large, and what a match is worth is moved once more: so each arm returns)
-        match resolve(&line.call, &names) {
-            Err(name) => return Ok(Answer::Unbound(name)),
-            Ok(Asked::Write(call)) => return submitted(rt, seat, &call, made),
-            Ok(Asked::Read(query)) => return read(seat, &query, &mut self.answers, &names),
+        match resolve_into(&line.call, &names, &mut self.call) {
+            Err(name) => Ok(Answer::Unbound(name)),
+            Ok(Some(query)) => read(seat, &query, &mut self.answers, &names),
+            Ok(None) => submitted(rt, seat, &self.call, made),
         }
     }
 
