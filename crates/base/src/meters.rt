@@ -58,6 +58,13 @@ impl Meter {
         self.scans = self.scans.saturating_add(1);
     }
 
+    /// Counts so many probes.
+    pub fn probe_many(&mut self, count: u64)
+        ensures { self.new ≡ probed count self.old }
+    {
+        self.probes = self.probes.saturating_add(count);
+    }
+
     /// Counts one probe.
     pub fn probe(&mut self)
         ensures { self.new ≡ probed 1 self.old }

@@ -1,106 +1,15 @@
 -- The steps of a search by halves.
-use Rattle.std.proofs.Common.{◌≡◌, ◌≢◌, ℕ, ◌+◌, ◌-◌, ◌*◌, ◌/◌, ◌^◌, ◌<◌, ◌≤◌, ◌⊎◌, inl, inr, List, length, get_or, sym, ap, ◌∙◌, subst, arith}
-use Rattle.std.proofs.Math.Nat.{mul-le-mul_left}
+use Rattle.std.proofs.Common.{◌≡◌, ◌≢◌, ℕ, zero, suc, ◌+◌, ◌-◌, ◌*◌, ◌/◌, ◌^◌, ◌<◌, ◌≤◌, ◌⊎◌, inl, inr, min, List, length, get_or, sym, ap, subst, arith}
 use Rattle.std.proofs.Math.Pow.{pow_mono}
 use Rattle.std.proofs.lemmas.Grind.{pow_more}
 use Rattle.std.proofs.lemmas.Bool.{cases_lt}
+use Rattle.std.proofs.lemmas.Nat.{leading_length}
 use Rattle.std.proofs.lemmas.Int.Digits.{number_lt, number_digits_of, all_below_base_digits_of}
+use Rattle.std.specs.Int.Count.{count_leading_zeros}
 use Rattle.std.specs.Int.Digits.{digits_of}
 use Rattle.base.specs.Counts.{Counts, probed, ProbesAtMost}
 use Rattle.object_arena.specs.Objects.{Rises, binary_digits}
-use Rattle.object_arena.specs.Search.{IsSearched}
-
--- one read more
-pub probed_more : (m : Counts) (n : ℕ) → probed 1 (probed n m) ≡ probed (n + 1) m
-probed_more m n = let put : ℕ → Counts = λ p. record m { probes = p } in ap put (omega arith)
-
--- what a search from m on has found, after some reads
-pub record IsHalved (ids : List ℕ) (id : ℕ) (start now : Counts) (low high : ℕ) : Type 0 where
-  pub ordered : low ≤ high
-  pub in_range : high ≤ length ids
-  pub before : (k : ℕ) → k < low → get_or ids k 0 < id
-  pub after : (k : ℕ) → high ≤ k → k < length ids → id < get_or ids k 0
-  pub reads : ℕ
-  pub counted : now ≡ probed reads start
-  pub halved : 2 ^ reads * (high - low) ≤ length ids
-  pub few : 2 ^ reads ≤ 2 * length ids + 1
-
--- a part that is at most half as wide, after one read more
-pub halved_more : (n r wide narrow : ℕ) → 2 ^ r * wide ≤ n → narrow + narrow ≤ wide → 2 ^ (r + 1) * narrow ≤ n
-halved_more n r wide narrow h le =
-    let double = pow_more 2 r in
-    let grows = mul-le-mul_left (2 ^ r) le in
-    omega (arith, double, grows, ap (λ (x : ℕ). x * narrow) double)
-
--- and the reads stay few
-pub few_more : (n r wide : ℕ) → 2 ^ r * wide ≤ n → 0 < wide → 2 ^ (r + 1) ≤ 2 * n
-few_more n r wide h pos =
-    let double = pow_more 2 r in
-    let grows = mul-le-mul_left (2 ^ r) pos in
-    omega (arith, double, grows)
-
-pub probed_none : (m : Counts) → m ≡ probed 0 m
-probed_none m = let put : ℕ → Counts = λ p. record m { probes = p } in ap put (omega arith)
-
--- no number comes before the start or after the end
-pub IsHalved-start : (ids : List ℕ) (id : ℕ) (m : Counts) → IsHalved ids id m m 0 (length ids)
-IsHalved-start ids id m = record {
-  ordered = omega arith;
-  in_range = omega arith;
-  before = λ k lt. absurd (omega arith);
-  after = λ k le lt. absurd (omega arith);
-  reads = 0;
-  counted = probed_none m;
-  halved = omega arith;
-  few = omega arith;
-}
-
-module _ (ids : List ℕ) (id : ℕ) (start now more : Counts) (low high middle : ℕ) (at : middle ≡ low + (high - low) / 2) (open' : low < high) (rises : Rises ids) (here : IsHalved ids id start now low high) (read : more ≡ probed 1 now) where
-  count_more : more ≡ probed (here.reads + 1) start
-  count_more = read ∙ ap (λ (m : Counts). probed 1 m) here.counted ∙ probed_more start here.reads
-
-  pub IsSearched-found : IsSearched start more (2 * length ids)
-  IsSearched-found = record { reads = here.reads + 1; counted = count_more; few = few_more (length ids) here.reads (high - low) here.halved (omega arith) }
-
-  pub IsHalved-above : get_or ids middle 0 < id → IsHalved ids id start more (middle + 1) high
-  IsHalved-above less = record {
-    ordered = omega (arith, here.ordered);
-    in_range = here.in_range;
-    before = λ k lt. below_from k (cases_lt k middle) lt less;
-    after = here.after;
-    reads = here.reads + 1;
-    counted = count_more;
-    halved = halved_more (length ids) here.reads (high - low) (high - (middle + 1)) here.halved (omega arith);
-    few = omega (arith, few_more (length ids) here.reads (high - low) here.halved (omega arith));
-  }
-    where
-      below_from : (k : ℕ) → (k < middle) ⊎ (middle ≤ k) → k < middle + 1 → get_or ids middle 0 < id → get_or ids k 0 < id
-      below_from k (inl lt) _ less' = omega (arith, rises k middle lt (omega (arith, here.in_range)))
-      below_from k (inr le) lt' less' = let same : k ≡ middle = omega arith in subst (λ (i : ℕ). get_or ids i 0 < id) (sym same) less'
-
-  pub IsHalved-below : get_or ids middle 0 ≢ id → id ≤ get_or ids middle 0 → IsHalved ids id start more low middle
-  IsHalved-below differs le = record {
-    ordered = omega arith;
-    in_range = omega (arith, here.in_range);
-    before = here.before;
-    after = λ k from lt. above_from k (cases_lt middle k) from lt differs le;
-    reads = here.reads + 1;
-    counted = count_more;
-    halved = halved_more (length ids) here.reads (high - low) (middle - low) here.halved (omega arith);
-    few = omega (arith, few_more (length ids) here.reads (high - low) here.halved (omega arith));
-  }
-    where
-      above_from : (k : ℕ) → (middle < k) ⊎ (k ≤ middle) → middle ≤ k → k < length ids → get_or ids middle 0 ≢ id → id ≤ get_or ids middle 0 → id < get_or ids k 0
-      above_from k (inl more') _ lt ne le' = omega (arith, rises middle k more' lt)
-      above_from k (inr less') from lt ne le' = let same : k ≡ middle = omega arith in subst (λ (i : ℕ). id < get_or ids i 0) (sym same) (omega arith)
-
--- one read more after an id was found
-pub IsSearched-more : (old now more : Counts) (count size : ℕ) → IsSearched old now (2 * count) → more ≡ probed 1 now → count ≤ size → IsSearched old more (4 * size + 1)
-IsSearched-more old now more count size found read le = record {
-  reads = found.reads + 1;
-  counted = read ∙ ap (λ (m : Counts). probed 1 m) found.counted ∙ probed_more old found.reads;
-  few = omega (arith, found.few, pow_more 2 found.reads);
-}
+use Rattle.object_arena.specs.Search.{Parts}
 
 -- a number is below 2 to the number of its binary digits
 below_digits : (n : ℕ) → n < 2 ^ binary_digits n
@@ -108,27 +17,166 @@ below_digits n =
     let small = number_lt 2 (digits_of 2 n) (all_below_base_digits_of 2 n (omega arith)) in
     omega (arith, small, number_digits_of 2 n (omega arith))
 
--- and an exponent whose power of 2 is at most four times it, plus one, is at most their number, plus one
-few_digits : (reads n : ℕ) → 2 ^ reads ≤ 4 * n + 1 → reads ≤ binary_digits n + 1
-few_digits reads n few = elim (cases_lt (binary_digits n + 1) reads) [
+-- and below no smaller power
+few_digits : (m n : ℕ) → 2 ^ m ≤ 2 * n + 1 → m ≤ binary_digits n
+few_digits m n few = elim (cases_lt (binary_digits n) m) [
   | inr le ↦ le
   | inl more ↦
-      let le : binary_digits n + 1 + 1 ≤ reads = omega arith in
-      let grows : 2 ^ (binary_digits n + 1 + 1) ≤ 2 ^ reads = pow_mono le in
-      absurd (omega (arith, grows, few, below_digits n, pow_more 2 (binary_digits n), pow_more 2 (binary_digits n + 1)))
+      let le : binary_digits n + 1 ≤ m = omega arith in
+      let grows : 2 ^ (binary_digits n + 1) ≤ 2 ^ m = pow_mono le in
+      absurd (omega (arith, grows, few, below_digits n, pow_more 2 (binary_digits n)))
 ]
 
--- so a search adds few probes
-pub searched_digits : (old new : Counts) (size : ℕ) → IsSearched old new (4 * size + 1) → ProbesAtMost (binary_digits size + 1) old new
-searched_digits old new size s =
-    let le = few_digits s.reads size s.few in
-    let probes : new.probes ≡ (probed s.reads old).probes = ap (λ (m : Counts). m.probes) s.counted in
+-- the middle parts a range
+pub halves : (low high reads : ℕ) → low < high → high - low < 2 ^ reads → Parts low (low + (high - low) / 2) high reads
+halves low high zero lt wide = absurd (omega arith)
+halves low high (suc reads) lt wide =
+    let left : 2 ^ (suc reads - 1) ≡ 2 ^ reads = ap (λ (n : ℕ). 2 ^ n) (omega arith) in
     record {
-      no_fewer = omega (arith, probes);
-      no_more = omega (arith, probes, le);
-      scans = ap (λ (m : Counts). m.scans) s.counted;
+      from = omega arith;
+      to = omega arith;
+      some = omega arith;
+      before = omega (arith, wide, left, pow_more 2 reads);
+      after = omega (arith, wide, left, pow_more 2 reads);
     }
 
--- a search among some of so many
-pub searched_weaker : (old new : Counts) (count size : ℕ) → IsSearched old new (2 * count + 1) → count ≤ size → IsSearched old new (4 * size + 1)
-searched_weaker old new count size s le = record { reads = s.reads; counted = s.counted; few = omega (arith, s.few) }
+pub halved_first : (end size : ℕ) → 0 < end → end ≤ size → Parts 0 (end / 2) end (binary_digits size)
+halved_first end size lt fits =
+    let middle : 0 + (end - 0) / 2 ≡ end / 2 = omega arith in
+    subst (λ (m : ℕ). Parts 0 m end (binary_digits size)) middle
+    (halves 0 end (binary_digits size) lt (omega (arith, fits, below_digits size)))
+
+-- a range of two has more than one read left
+two_digits : (size : ℕ) → 2 ≤ size → 2 ^ 1 ≤ 2 ^ (binary_digits size - 1)
+two_digits size le = elim (cases_lt 1 (binary_digits size)) [
+  | inl more ↦ let le' : 1 ≤ binary_digits size - 1 = omega arith in pow_mono le'
+  | inr few ↦
+      let small : 2 ^ binary_digits size ≤ 2 ^ 1 = pow_mono few in
+      absurd (omega (arith, small, below_digits size, le))
+]
+
+-- so does a place with more leading zeros than the size, where at most one comes after it
+pub guessed : (guess end size : ℕ) → guess < end → end ≤ guess + 2 → end ≤ size → size < 2 ^ 64
+    → count_leading_zeros 64 size < count_leading_zeros 64 guess → Parts 0 guess end (binary_digits size)
+guessed guess end size lt le fits small zeros =
+    let short = leading_length 64 guess (omega arith) in
+    let long = leading_length 64 size small in
+    let few : long.0 ≤ binary_digits size = few_digits long.0 size long.3 in
+    let less : short.0 ≤ binary_digits size - 1 = omega (arith, zeros, few, short.1, long.1) in
+    let grows : 2 ^ short.0 ≤ 2 ^ (binary_digits size - 1) = pow_mono less in
+    record {
+      from = omega arith;
+      to = lt;
+      some = omega (arith, zeros, few, short.1, long.1);
+      before = omega (arith, short.2, grows);
+      after = elim (cases_lt (guess + 1) end) [
+        | inl more ↦ omega (arith, le, two_digits size (omega (arith, fits)))
+        | inr one ↦ omega (arith, short.2, grows)
+      ];
+    }
+
+-- numbers that rise are no less than their places
+no_less : (ids : List ℕ) → Rises ids → (k : ℕ) → k < length ids → k ≤ get_or ids k 0
+no_less ids rises zero lt = omega arith
+no_less ids rises (suc k) lt =
+    omega (arith, no_less ids rises k (omega arith), rises k (suc k) (omega arith) lt)
+
+-- what a search has found, after some reads, where so many are left
+pub record IsHalved (ids : List ℕ) (id size low middle high reads : ℕ) : Type 0 where
+  pub ordered : low ≤ high
+  pub in_range : high ≤ length ids
+  pub before : (k : ℕ) → k < low → get_or ids k 0 < id
+  pub after : (k : ℕ) → high ≤ k → k < length ids → id < get_or ids k 0
+  pub few : reads ≤ binary_digits size
+  pub short : reads + (high - low) ≤ length ids
+  pub parts : low < high → Parts low middle high (binary_digits size - reads)
+
+-- no number comes before the start, and one after the end is above the id
+pub IsHalved-start : (ids : List ℕ) (id size middle high : ℕ) → Rises ids → high ≡ min (length ids) (id + 1)
+    → (0 < high → Parts 0 middle high (binary_digits size)) → IsHalved ids id size 0 middle high 0
+IsHalved-start ids id size middle high rises end begun = record {
+  ordered = omega arith;
+  in_range = omega (arith, end);
+  before = λ k lt. absurd (omega arith);
+  after = λ k le lt. omega (arith, end, no_less ids rises k lt);
+  few = omega arith;
+  short = omega (arith, end);
+  parts = λ lt. subst (λ (n : ℕ). Parts 0 middle high n) (omega arith) (begun lt);
+}
+
+module _ (ids : List ℕ) (id size low middle high reads : ℕ) (open' : low < high) (rises : Rises ids) (here : IsHalved ids id size low middle high reads) where
+  parts : Parts low middle high (binary_digits size - reads)
+  parts = here.parts open'
+
+  pub middle_in : middle < length ids
+  middle_in = omega (arith, parts.to, here.in_range)
+
+  pub one_left : reads < binary_digits size
+  one_left = omega (arith, parts.some)
+
+  left : (binary_digits size - reads) - 1 ≡ binary_digits size - (reads + 1)
+  left = omega (arith, parts.some)
+
+  pub IsHalved-above : get_or ids middle 0 < id → IsHalved ids id size (middle + 1) (middle + 1 + (high - (middle + 1)) / 2) high (reads + 1)
+  IsHalved-above less = record {
+    ordered = omega (arith, parts.to);
+    in_range = here.in_range;
+    before = λ k lt. below_from k (cases_lt k middle) lt less;
+    after = here.after;
+    few = omega (arith, one_left);
+    short = omega (arith, here.short, parts.from, parts.to);
+    parts = λ more. halves (middle + 1) high (binary_digits size - (reads + 1)) more
+        (subst (λ (n : ℕ). high - (middle + 1) < 2 ^ n) left (omega (arith, parts.after)));
+  }
+    where
+      below_from : (k : ℕ) → (k < middle) ⊎ (middle ≤ k) → k < middle + 1 → get_or ids middle 0 < id → get_or ids k 0 < id
+      below_from k (inl lt) _ less' = omega (arith, rises k middle lt middle_in)
+      below_from k (inr le) lt' less' = let same : k ≡ middle = omega arith in subst (λ (i : ℕ). get_or ids i 0 < id) (sym same) less'
+
+  pub IsHalved-below : get_or ids middle 0 ≢ id → id ≤ get_or ids middle 0 → IsHalved ids id size low (low + (middle - low) / 2) middle (reads + 1)
+  IsHalved-below differs le = record {
+    ordered = parts.from;
+    in_range = omega (arith, middle_in);
+    before = here.before;
+    after = λ k from lt. above_from k (cases_lt middle k) from lt differs le;
+    few = omega (arith, one_left);
+    short = omega (arith, here.short, parts.from, parts.to);
+    parts = λ more. halves low middle (binary_digits size - (reads + 1)) more
+        (subst (λ (n : ℕ). middle - low < 2 ^ n) left parts.before);
+  }
+    where
+      above_from : (k : ℕ) → (middle < k) ⊎ (k ≤ middle) → middle ≤ k → k < length ids → get_or ids middle 0 ≢ id → id ≤ get_or ids middle 0 → id < get_or ids k 0
+      above_from k (inl more') _ lt ne le' = omega (arith, rises middle k more' lt)
+      above_from k (inr less') from lt ne le' = let same : k ≡ middle = omega arith in subst (λ (i : ℕ). id < get_or ids i 0) (sym same) (omega arith)
+
+-- a range that is another one's
+pub halved_as : (ids : List ℕ) (id size low high l h reads : ℕ) → l ≡ low → h ≡ high
+    → IsHalved ids id size low (low + (high - low) / 2) high reads → IsHalved ids id size l (l + (h - l) / 2) h reads
+halved_as ids id size low high l h reads lows highs halved =
+    subst (λ (b : ℕ). IsHalved ids id size l (l + (b - l) / 2) b reads) (sym highs)
+    (subst (λ (a : ℕ). IsHalved ids id size a (a + (high - a) / 2) high reads) (sym lows) halved)
+
+-- so many probes more
+pub probes_few : (old new : Counts) (reads most : ℕ) → new ≡ probed reads old → reads ≤ most → ProbesAtMost most old new
+probes_few old new reads most is few =
+    let probes : new.probes ≡ (probed reads old).probes = λ i. (is i).probes in
+    record {
+      no_fewer = omega (arith, probes);
+      no_more = omega (arith, probes, few);
+      scans = λ i. (is i).scans;
+    }
+
+-- and one probe more
+pub one_more : (old now more : Counts) (most : ℕ) → ProbesAtMost most old now → more ≡ probed 1 now → ProbesAtMost (most + 1) old more
+one_more old now more most few is =
+    let probes : more.probes ≡ (probed 1 now).probes = λ i. (is i).probes in
+    let scans : more.scans ≡ now.scans = λ i. (is i).scans in
+    record {
+      no_fewer = omega (arith, probes, few.no_fewer);
+      no_more = omega (arith, probes, few.no_more);
+      scans = omega (arith, few.scans, scans);
+    }
+
+pub none_more : (old new : Counts) (most : ℕ) → ProbesAtMost most old new → ProbesAtMost (most + 1) old new
+none_more old new most few =
+    record { no_fewer = few.no_fewer; no_more = omega (arith, few.no_more); scans = few.scans }

@@ -1,9 +1,11 @@
--- What a search adds to a meter. No public clause cites this module.
-use Rattle.std.specs.Prelude.{◌≡◌, ℕ, ◌^◌, ◌≤◌}
-use Rattle.base.specs.Counts.{Counts, probed}
+-- What a search reads. No public clause cites this module.
+use Rattle.std.specs.Prelude.{ℕ, ◌-◌, ◌<◌, ◌≤◌, ◌^◌}
 
--- so many reads were added that 2 to their number is at most the bound
-pub record IsSearched (old new : Counts) (bound : ℕ) : Type 0 where
-  pub reads : ℕ
-  pub counted : new ≡ probed reads old
-  pub few : 2 ^ reads ≤ bound
+-- a place parts a range, so that so many reads find anything in it: one here, and the others in the
+-- part before it or in the part after it
+pub record Parts (low middle high reads : ℕ) : Type 0 where
+  pub from : low ≤ middle
+  pub to : middle < high
+  pub some : 1 ≤ reads
+  pub before : middle - low < 2 ^ (reads - 1)
+  pub after : (high - middle) - 1 < 2 ^ (reads - 1)

@@ -109,7 +109,7 @@ impl<T: Drop> Arena<T> {
         ensures cost { ProbesAtMost (binary_digits
             (length self.now.cells) + 1) meter.old meter.new }
     {
-        match place_of(&self.ids, id.number(), meter) {
+        match place_of(&self.ids, id.number(), self.cells.len(), meter) {
             Some(place) => {
                 meter.probe();
                 Some(Slot(self.slots[place]))
@@ -170,7 +170,7 @@ impl<T: Drop> Arena<T> {
         ensures cost { ProbesAtMost (binary_digits
             (length self.old.cells) + 1) meter.old meter.new }
     {
-        match place_of(&self.ids, id.number(), meter) {
+        match place_of(&self.ids, id.number(), self.cells.len(), meter) {
             Some(place) => {
                 meter.probe();
                 let slot = self.slots.remove(place);

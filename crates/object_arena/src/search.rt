@@ -1,34 +1,90 @@
 //! The search for an id by halves.
-ghost use Rattle.std.specs.Prelude.{◌≡◌, ◌≢◌, ℕ, ◌+◌, ◌*◌, ◌<◌, length, IfSome, IfNone};
+ghost use Rattle.std.specs.Prelude.{◌≡◌, ◌≢◌, ℕ, ◌+◌, ◌<◌, ◌≤◌, length, min, IfSome, IfNone};
 ghost use Rattle.std.specs.Prelude.{slice_index};
-ghost use Rattle.object_arena.specs.Objects.{Rises};
-ghost use Rattle.object_arena.specs.Search.{IsSearched};
+ghost use Rattle.base.specs.Counts.{ProbesAtMost};
+ghost use Rattle.object_arena.specs.Objects.{Rises, binary_digits};
+ghost use Rattle.object_arena.specs.Search.{Parts};
 
 use base::Meter;
 
-/// The place of an id in a rising list. Each read is counted.
-pub fn place_of(ids: &[u64], id: u64, meter: &mut Meter) -> Option<usize>
-    requires { Rises ids.now }
-    ensures found { IfSome result (λ place. (place < length ids.now)
+// What a search found, and how many numbers it read.
+#[derive(Clone, Copy)]
+struct Searched {
+    place: Option<usize>,
+    reads: u64,
+}
+
+// The place after the last one where an id can be: numbers that rise are no less than their places.
+fn end_of(ids: &[u64], id: u64) -> usize
+    ensures { result ≡ min (length ids.now) (id + 1) }
+{
+    if id < ids.len() as u64 {
+        id as usize + 1
+    } else {
+        ids.len()
+    }
+}
+
+// Where a search begins: where the id is if none below it has gone, for ids count up from 1, and else
+// in the middle. The first is left out where it could cost a read more than halves do.
+fn start_of(id: u64, end: usize, size: usize) -> usize
+    requires end { end ≤ id + 1 }
+    requires size { end ≤ size }
+    ensures { 0 < end → Parts 0 result end (binary_digits size) }
+{
+    if id < 1 || end as u64 <= id - 1 {
+        return end / 2;
+    }
+    let guess = id as usize - 1;
+    if guess.leading_zeros() <= size.leading_zeros() {
+        return end / 2;
+    }
+    guess
+}
+
+// Looks for an id in a rising list of up to so many numbers.
+fn search(ids: &[u64], id: u64, size: usize) -> Searched
+    requires rises { Rises ids.now }
+    requires size { length ids.now ≤ size }
+    ensures found { IfSome result.place (λ place. (place < length ids.now)
         × (slice_index ids.now place ≡ id)) }
-    ensures absent { IfNone result ((k : ℕ) → k < length ids.now → slice_index ids.now k ≢ id) }
-    ensures cost { IsSearched meter.old meter.new (2 * length ids.now + 1) }
-    ensures cost_found { IfSome result (λ _. IsSearched meter.old meter.new (2 * length ids.now)) }
+    ensures absent { IfNone result.place
+        ((k : ℕ) → k < length ids.now → slice_index ids.now k ≢ id) }
+    ensures few { result.reads ≤ binary_digits size }
 {
     let mut low = 0;
-    let mut high = ids.len();
+    let mut high = end_of(ids, id);
+    let mut middle = start_of(id, high, size);
+    let mut reads = 0u64;
     while low < high {
-        let middle = low + (high - low) / 2;
-        meter.probe();
+        reads += 1;
         let here = ids[middle];
         if here == id {
-            return Some(middle);
+            return Searched {
+                place: Some(middle),
+                reads,
+            };
         }
         if here < id {
             low = middle + 1;
         } else {
             high = middle;
         }
+        middle = low + (high - low) / 2;
     }
-    None
+    Searched { place: None, reads }
+}
+
+/// The place of an id in a rising list of up to so many numbers. Each read is counted.
+pub fn place_of(ids: &[u64], id: u64, size: usize, meter: &mut Meter) -> Option<usize>
+    requires rises { Rises ids.now }
+    requires size { length ids.now ≤ size }
+    ensures found { IfSome result (λ place. (place < length ids.now)
+        × (slice_index ids.now place ≡ id)) }
+    ensures absent { IfNone result ((k : ℕ) → k < length ids.now → slice_index ids.now k ≢ id) }
+    ensures cost { ProbesAtMost (binary_digits size) meter.old meter.new }
+{
+    let searched = search(ids, id, size);
+    meter.probe_many(searched.reads);
+    searched.place
 }

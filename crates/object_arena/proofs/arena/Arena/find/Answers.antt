@@ -1,18 +1,17 @@
-use Rattle.std.proofs.Common.{◌≤◌, length, ap, arith}
-use Rattle.object_arena.specs.Objects.{Objects}
-use Rattle.object_arena.proofs.SearchSteps.{IsSearched-more, searched_digits, searched_weaker}
+use Rattle.std.proofs.Common.{◌≡◌, ◌+◌, ℕ, length, ap, subst, arith}
+use Rattle.base.specs.Counts.{ProbesAtMost}
+use Rattle.object_arena.specs.Objects.{Objects, binary_digits}
+use Rattle.object_arena.proofs.SearchSteps.{one_more, none_more}
 use Rattle.object_arena.proofs.arena.Arena.find.Goals as goal
 
 pub returns-in-Some-clause-cost : goal.returns-in-Some-clause-cost
 returns-in-Some-clause-cost g c =
-    let kept = c.self.invariant.0 in
-    let size = ap (λ (a : Objects g.row.T.Denot). length a.cells) c.self.view_is in
-    let fewer : length c.deref.result.now ≤ length c.args.self.now.cells = omega (arith, size, kept.beside, kept.total, ap length c.deref.ensures.value) in
-    searched_digits _ _ _ (IsSearched-more _ _ _ _ _ c.in-Some.ensures.cost_found c.probe.ensures fewer)
+    let size : c.len.result ≡ length c.args.self.now.cells = omega (arith, c.len.ensures, ap (λ (a : Objects g.row.T.Denot). length a.cells) c.self.view_is) in
+    subst (λ (n : ℕ). ProbesAtMost (binary_digits n + 1) c.args.meter.now c.probe.new.self) size
+    (one_more _ _ _ _ c.place_of.ensures.cost c.probe.ensures)
 
 pub returns-in-None-clause-cost : goal.returns-in-None-clause-cost
 returns-in-None-clause-cost g c =
-    let kept = c.self.invariant.0 in
-    let size = ap (λ (a : Objects g.row.T.Denot). length a.cells) c.self.view_is in
-    let fewer : length c.deref.result.now ≤ length c.args.self.now.cells = omega (arith, size, kept.beside, kept.total, ap length c.deref.ensures.value) in
-    searched_digits _ _ _ (searched_weaker _ _ _ _ c.in-None.ensures.cost fewer)
+    let size : c.len.result ≡ length c.args.self.now.cells = omega (arith, c.len.ensures, ap (λ (a : Objects g.row.T.Denot). length a.cells) c.self.view_is) in
+    subst (λ (n : ℕ). ProbesAtMost (binary_digits n + 1) c.args.meter.now c.place_of.new.meter) size
+    (none_more _ _ _ c.place_of.ensures.cost)

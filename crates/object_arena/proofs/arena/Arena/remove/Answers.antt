@@ -1,17 +1,17 @@
-use Rattle.std.proofs.Common.{◌≡◌, ◌<◌, ◌≤◌, ℕ, List, length, get_or, set, Option, None, ap, sym, ◌∙◌, subst, arith, length-set}
+use Rattle.std.proofs.Common.{◌≡◌, ◌+◌, ◌<◌, ◌≤◌, ℕ, List, length, get_or, set, Option, None, ap, sym, ◌∙◌, subst, arith, length-set}
 use Rattle.std.specs.Prelude.{remove}
-use Rattle.object_arena.specs.Objects.{Objects, object_at, IsEntry, without}
-use Rattle.object_arena.proofs.SearchSteps.{IsSearched-more, searched_digits}
+use Rattle.base.specs.Counts.{ProbesAtMost}
+use Rattle.object_arena.specs.Objects.{Objects, object_at, IsEntry, without, binary_digits}
+use Rattle.object_arena.proofs.SearchSteps.{one_more}
 use Rattle.object_arena.proofs.Kept.{kept_remove, kept_as, one_place}
 use Rattle.std.proofs.lemmas.List.{get_or_read}
 use Rattle.object_arena.proofs.arena.Arena.remove.Goals as goal
 
 pub returns-clause-cost : goal.returns-clause-cost
 returns-clause-cost g c =
-    let kept = c.self.invariant.0 in
-    let size = ap (λ (a : Objects g.row.T.Denot). length a.cells) c.self.view_is in
-    let fewer : length c.deref.result.now ≤ length c.args.self.now.cells = omega (arith, size, kept.beside, kept.total, ap length c.deref.ensures.value) in
-    searched_digits _ _ _ (IsSearched-more _ _ _ _ _ c.in-Some.ensures.cost_found c.probe.ensures fewer)
+    let size : c.len.result ≡ length c.args.self.now.cells = omega (arith, c.len.ensures, ap (λ (a : Objects g.row.T.Denot). length a.cells) c.self.view_is) in
+    subst (λ (n : ℕ). ProbesAtMost (binary_digits n + 1) c.args.meter.now c.probe.new.self) size
+    (one_more _ _ _ _ c.place_of.ensures.cost c.probe.ensures)
 
 pub invariant_of-self : goal.invariant_of-self
 invariant_of-self g c =

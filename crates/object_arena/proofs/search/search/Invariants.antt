@@ -1,9 +1,9 @@
 use Rattle.std.proofs.Common.{◌-◌}
 use Rattle.object_arena.proofs.SearchSteps.{IsHalved}
-use Rattle.object_arena.proofs.search.place_of.Given as goal
+use Rattle.object_arena.proofs.search.search.Given as goal
 
 abbrev pub invariant-loop-low : goal.invariant-loop-low
-invariant-loop-low l = IsHalved l.ids l.id l.initial.meter l.meter l.low l.high
+invariant-loop-low l = IsHalved l.ids l.id l.size l.low l.middle l.high l.reads
 
 abbrev pub decreases-loop-low : goal.decreases-loop-low
 decreases-loop-low l = l.high - l.low
