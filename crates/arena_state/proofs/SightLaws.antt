@@ -1,16 +1,21 @@
 -- What is seen of objects that were looked up.
-use Rattle.std.proofs.Common.{◌≡◌, ℕ, List, Option, Some, None, Bor, IfSome, IfNone, sym, ap, ◌∙◌}
+use Rattle.std.proofs.Common.{◌≡◌, ℕ, List, Option, Some, None, Bor, IfSome, IfNone, sym, ap, ◌∙◌, arith}
 use Rattle.std.specs.Prelude.{option_copied}
 use Rattle.std.specs.Option.{option_map}
 use Rattle.base.specs.declared.kinds.Kind as kind
 use Rattle.label_intern.specs.declared.held.Held.{Held}
 use Rattle.kernel_rules.specs.State.{object_at, of_object, kind_of, label_at, is_immutable, is_fixed}
-use Rattle.kernel_store.specs.Sights.{kind_at}
+use Rattle.kernel_rules.specs.State.{is_live_kind, page_count}
+use Rattle.kernel_rules.proofs.WellFormedLaws.{live_kind}
+use Rattle.kernel_store.specs.Sights.{kind_at, is_of}
+use Rattle.kernel_store.proofs.SightLaws.{kind_seen}
 use Rattle.arena_state.specs.declared.records.Record.{Record}
 use Rattle.arena_state.specs.declared.states.ArenaState.{ArenaState}
 use Rattle.arena_state.specs.Assembled.{body_of}
 use Rattle.arena_state.specs.Filled.{Content, filled_body}
 use Rattle.arena_state.specs.States.{state_of, Shows, Finds, IsLabelled, label_found}
+use Rattle.arena_state.specs.Stocked.{kept_pages}
+use Rattle.arena_state.proofs.StockLaws.{whole_formed}
 
 module _ (a : ArenaState) (id : ℕ) where
   -- what a look-up tells
@@ -55,3 +60,15 @@ module _ (a : ArenaState) (id : ℕ) where
   pub kind_none : object_at (state_of a) id ≡ None → None ≡ kind_at (state_of a) id
   unfolding kind_at
   kind_none none = sym (ap (option_map (λ y. kind_of y.body)) none)
+
+  -- nor pages, of which what is there has as many as its record says
+  pub pages_some : (x : Record) → Shows a id x → kept_pages x.body ≡ page_count (state_of a) id
+  pages_some x shows = grind arith
+
+  pub pages_none : object_at (state_of a) id ≡ None → 0 ≡ page_count (state_of a) id
+  pages_none none = grind arith
+
+  -- the kind that was seen is that of a live object
+  pub live_seen : (k : kind.Kind) → is_of k (kind_at (state_of a) id) ≡ is_live_kind (state_of a) k id
+  live_seen k =
+      kind_seen (state_of a) k id ∙ live_kind (state_of a) k id (whole_formed a.pieces a.sound a.stocked)

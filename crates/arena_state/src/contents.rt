@@ -1,6 +1,6 @@
 //! What is read of the contents of objects: a segment's bytes, the slots of an address space, a device's packets. No
 //! label is scanned.
-ghost use Rattle.std.specs.Prelude.{◌≡◌, ◌≤◌, ◌+◌, ◌*◌, length, nat_lt, slice_range};
+ghost use Rattle.std.specs.Prelude.{◌≡◌, ◌≤◌, ◌+◌, length, slice_range};
 ghost use Rattle.kernel_rules.specs.State.{bytes_at, packets_at, page_count, slots_at};
 ghost use Rattle.kernel_rules.specs.Translate.{slot_at};
 ghost use Rattle.arena_state.specs.Contents.{keeps_device};
@@ -42,7 +42,7 @@ impl Kept {
     }
 
     // How many pages of bytes it has.
-    fn pages(&self) -> u32
+    pub(crate) fn pages(&self) -> u32
         ensures { result ≡ kept_pages self.now }
     {
         match self {
@@ -67,14 +67,6 @@ impl ArenaState {
             Some(row) => row.body.pages(),
             None => 0,
         }
-    }
-
-    /// Whether so many bytes from `offset` on go past the whole pages of a segment.
-    pub fn is_past(&self, id: ObjectId, offset: u32, count: u32, meter: &mut Meter) -> bool
-        ensures value { result ≡ nat_lt (256 * page_count (state_of self.now) id) (offset + count) }
-        ensures scans { meter.new.scans ≡ meter.old.scans }
-    {
-        256 * u64::from(self.page_count(id, meter)) < u64::from(offset) + u64::from(count)
     }
 
     /// So many bytes of a segment, from one on, up to 64.

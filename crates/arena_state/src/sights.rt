@@ -1,7 +1,7 @@
 //! What a thread sees of an object and of an entry: each id that is named is looked up once.
 ghost use Rattle.std.specs.Prelude.{◌≡◌, None, IfSome, IfNone, option_copied};
 ghost use Rattle.base.specs.Live.{has};
-ghost use Rattle.kernel_rules.specs.State.{object_at, list_at};
+ghost use Rattle.kernel_rules.specs.State.{object_at, list_at, is_live_kind};
 ghost use Rattle.kernel_store.specs.Sights.{seen_of, sight_of};
 ghost use Rattle.arena_state.specs.States.{state_of, HasRow, Finds};
 
@@ -35,6 +35,7 @@ impl ArenaState {
                 flowing: below,
                 immutable: row.immutable,
                 fixed: row.fixed,
+                pages: row.body.pages(),
             },
             None => Seen {
                 kind: None,
@@ -42,7 +43,20 @@ impl ArenaState {
                 flowing: below,
                 immutable: false,
                 fixed: false,
+                pages: 0,
             },
+        }
+    }
+
+    // Whether what was looked up has this kind: each object that is recorded is live.
+    fn is_found(&self, kind: Kind, id: ObjectId, found: Option<&Record>) -> bool
+        requires { Finds self.now id (option_copied found) }
+        ensures { result ≡ is_live_kind (state_of self.now) kind id }
+    {
+        let _id = id;
+        match found {
+            Some(row) => row.body.kind() == kind,
+            None => false,
         }
     }
 
@@ -108,6 +122,7 @@ impl ArenaState {
         let around = self.seen(thread, own, entry.container, container);
         let holds = around.is(Kind::Container);
         Sight {
+            runs: self.is_found(Kind::Thread, thread, own),
             accessible: holds && around.observed,
             held: holds && (listed || entry.object == entry.container),
             listed,

@@ -114,10 +114,6 @@ impl Store for Counting {
         Store::parent(&self.state, container, meter)
     }
 
-    fn is_past(&self, id: ObjectId, offset: u32, count: u32, meter: &mut Meter) -> bool {
-        Store::is_past(&self.state, id, offset, count, meter)
-    }
-
     fn bytes_from(&self, id: ObjectId, from: usize, count: u32, meter: &mut Meter) -> Data {
         meter.probe();
         Store::bytes_from(&self.state, id, from, count, meter)

@@ -1,6 +1,7 @@
-//! How many looks each call takes: one at the caller, one at each entry or container that its row
-//! names, and one at bytes that are read. An address is looked up once, and who has it mapped need not
-//! be looked at. What is asked for is answered as by the plain state itself.
+//! How many looks each call takes: one at each entry or container that its row names, which shows the
+//! caller too, and one at bytes that are read; a call that makes an object looks at the caller beside.
+//! An address is looked up once, and who has it mapped need not be looked at. What is asked for is
+//! answered as by the plain state itself.
 use crate::Counting;
 use base::{Data, Meter, NoMemory, ObjectId, Refusal, Rights, TypeSet};
 use kernel_calls::{ask, step};
@@ -91,13 +92,13 @@ fn each_entry_is_looked_at_once(rt: HostRuntime) -> Result<(), Fail> {
     };
     let data = Data::from_slice(&[7]);
     let calls = [
-        (Call::SetFixed { entry: segment }, 2),
+        (Call::SetFixed { entry: segment }, 1),
         (
             Call::Link {
                 target,
                 entry: segment,
             },
-            4,
+            3,
         ),
         (
             Call::SegmentWrite {
@@ -105,7 +106,7 @@ fn each_entry_is_looked_at_once(rt: HostRuntime) -> Result<(), Fail> {
                 offset: 0,
                 data,
             },
-            2,
+            1,
         ),
         (
             Call::AsMap {
@@ -113,16 +114,16 @@ fn each_entry_is_looked_at_once(rt: HostRuntime) -> Result<(), Fail> {
                 slot: 0,
                 mapping,
             },
-            3,
+            2,
         ),
-        (Call::SelfSetAs { space }, 2),
+        (Call::SelfSetAs { space }, 1),
         (Call::Store { address: 768, data }, 1),
         (
             Call::QuotaMove {
                 entry: in_root(4),
                 change: 1,
             },
-            3,
+            2,
         ),
     ];
     for (call, looks) in calls {
@@ -135,7 +136,7 @@ fn each_entry_is_looked_at_once(rt: HostRuntime) -> Result<(), Fail> {
     let unref = Call::Unref { entry: segment };
     assert_eq!(rt;
         looks_of(&mut store, &mut twin, &unref, &mut meter)?,
-        (None, 3)
+        (None, 2)
     );
     Ok(())
 }
@@ -155,14 +156,14 @@ fn a_refused_call_takes_as_many(rt: HostRuntime) -> Result<(), Fail> {
         &Call::Unref { entry: root },
         &mut meter,
     )?;
-    assert_eq!(rt; kept, (Some(Refusal::RootKept), 3));
+    assert_eq!(rt; kept, (Some(Refusal::RootKept), 2));
     let read = Query::SegmentRead {
         entry: in_root(3),
         offset: 0,
         count: 1,
     };
     let device = looks_at(&store, &read, &mut meter);
-    assert_eq!(rt; device, (Some(Refusal::WrongType), 2));
+    assert_eq!(rt; device, (Some(Refusal::WrongType), 1));
     assert_eq!(rt;
         looks_at(&store, &load_of_a_byte(), &mut meter),
         (Some(Refusal::NotMapped), 2)

@@ -3,8 +3,10 @@ use Rattle.std.specs.Prelude.{ℕ, Bool, false, ◌==◌, Option, Some, None}
 use Rattle.std.specs.Option.{option_map}
 use Rattle.base.specs.Live.{has}
 use Rattle.base.specs.declared.kinds.Kind as kind
+use Rattle.base.specs.declared.kinds.Kind.TheVariants as kinds
 use Rattle.kernel_rules.specs.State.{State, object_at, kind_of, kind_number, is_accessible, holds}
 use Rattle.kernel_rules.specs.State.{list_at, observes, flows_to, is_immutable, is_fixed}
+use Rattle.kernel_rules.specs.State.{is_live_kind, page_count}
 use Rattle.kernel_rules.specs.declared.calls.Entry.{Entry}
 use Rattle.kernel_store.specs.declared.sights.Seen.{Seen}
 use Rattle.kernel_store.specs.declared.sights.Sight.{Sight}
@@ -26,11 +28,13 @@ seen_of s t o = record {
   flowing = flows_to s t o;
   immutable = is_immutable s o;
   fixed = is_fixed s o;
+  pages = page_count s o;
 }
 
 -- what thread t sees of an entry
 abbrev pub sight_of : State → ℕ → Entry → Sight
 sight_of s t e = record {
+  runs = is_live_kind s kinds.Thread t;
   accessible = is_accessible s t e.container;
   held = holds s e;
   listed = has (list_at s e.container) e.object;

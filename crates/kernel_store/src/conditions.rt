@@ -4,7 +4,7 @@ ghost use Rattle.base.specs.Sets.{may_read, may_write};
 ghost use Rattle.base.specs.declared.kinds.Kind.TheVariants as kinds;
 ghost use Rattle.base.specs.declared.refusals.Refusal.TheVariants as refusal;
 ghost use Rattle.kernel_rules.specs.Rows.{refusal_of, halted, is_shape, allows};
-ghost use Rattle.kernel_rules.specs.State.{quota_at, use_of, page_count};
+ghost use Rattle.kernel_rules.specs.State.{quota_at, use_of};
 ghost use Rattle.kernel_rules.specs.Translate.{names_none};
 ghost use Rattle.kernel_rules.specs.declared.replies.Reply.TheVariants as told;
 ghost use Rattle.kernel_store.specs.Parts.{joined};
@@ -46,6 +46,13 @@ pub fn halted<S: Store>(state: &S, thread: ObjectId, meter: &mut Meter) -> [Cond
 {
     let runs = state.is_live_kind(Kind::Thread, thread, meter);
     [(Refusal::Halted, !runs)]
+}
+
+/// The caller, who looked at an entry, is no live thread.
+pub fn halted_at(seen: &Sight) -> [Condition; 1]
+    ensures { result ≡ (refusal.Halted, not seen.now.runs) ∷ [] }
+{
+    [(Refusal::Halted, !seen.runs)]
 }
 
 /// The container is a live container that the thread observes.
@@ -149,20 +156,11 @@ pub fn shaped(at: u64, count: u64) -> [Condition; 1]
 }
 
 /// So many bytes from `offset` on lie in the segment.
-pub fn within<S: Store>(
-    state: &S,
-    id: ObjectId,
-    offset: u32,
-    count: u32,
-    meter: &mut Meter,
-) -> [Condition; 1]
-    ensures value { result ≡ (
-      refusal.Bounds,
-      nat_lt (256 * page_count (S.state state.now) id) (offset + count),
-    ) ∷ [] }
-    ensures meter { S.kept meter.new ≡ S.kept meter.old }
+pub fn within(seen: &Seen, offset: u32, count: u32) -> [Condition; 1]
+    ensures { result ≡ (refusal.Bounds, nat_lt (256 * seen.now.pages) (offset + count)) ∷ [] }
 {
-    [(Refusal::Bounds, state.is_past(id, offset, count, meter))]
+    let past = 256 * u64::from(seen.pages) < u64::from(offset) + u64::from(count);
+    [(Refusal::Bounds, past)]
 }
 
 /// The entry names an address space, or none.

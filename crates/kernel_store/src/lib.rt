@@ -10,7 +10,7 @@ mod sights;
 mod stores;
 
 pub use conditions::{
-    Condition, at_container, flowing, halted, in_container, listed_in, mapped_to_read,
+    Condition, at_container, flowing, halted, halted_at, in_container, listed_in, mapped_to_read,
     mapped_to_write, modified, not_immutable, not_of_kind, observed, of_kind, refusal_of, refuse,
     shaped, space_entry, with_room, within,
 };

@@ -18,11 +18,15 @@ pub struct Seen {
     pub immutable: bool,
     /// Whether its quota never changes again.
     pub fixed: bool,
+    /// The whole pages of a segment, of 256 bytes: 0 for any other object.
+    pub pages: u32,
 }
 
 /// What a thread sees of an entry.
 #[derive(Clone, Copy)]
 pub struct Sight {
+    /// Whether the caller is a live thread.
+    pub runs: bool,
     /// Whether the container is a live container that the thread observes.
     pub accessible: bool,
     /// Whether the entry stands: the container lists the object, or is the object.

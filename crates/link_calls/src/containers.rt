@@ -9,10 +9,13 @@ ghost use Rattle.kernel_store.specs.Storing.{storing};
 
 use base::{Kind, Meter, ObjectId, Refusal};
 use kernel_rules::{NewContainer, Reply};
-use kernel_store::{NewObject, Store, at_container, halted, itself, new_object, refusal_of};
+use kernel_store::{
+    NewObject, Store, at_container, halted, halted_at, itself, new_object, refusal_of,
+};
 use label_rules::stored_of;
 
 /// What refuses to make a container.
+#[inline(never)]
 pub fn refused_container_create<S: Store>(
     state: &S,
     thread: ObjectId,
@@ -35,6 +38,7 @@ pub fn refused_container_create<S: Store>(
 }
 
 /// Makes a container without entries. The error is want of memory, and nothing is changed then.
+#[inline(never)]
 pub fn container_create<S: Store>(
     state: &mut S,
     thread: ObjectId,
@@ -57,6 +61,7 @@ pub fn container_create<S: Store>(
 }
 
 /// What refuses to read a container's list.
+#[inline(never)]
 pub fn refused_container_list<S: Store>(
     state: &S,
     thread: ObjectId,
@@ -68,14 +73,18 @@ pub fn refused_container_list<S: Store>(
         (query.ContainerList container from) }
     ensures meter { S.kept meter.new ≡ S.kept meter.old }
 {
-    let halted = halted(state, thread, meter);
     let seen = state.sight(thread, &itself(container), meter);
     let past = state.list_len(container, meter) < from as usize;
-    refusal_of(&[&halted, &at_container(&seen), &[(Refusal::Bounds, past)]])
+    refusal_of(&[
+        &halted_at(&seen),
+        &at_container(&seen),
+        &[(Refusal::Bounds, past)],
+    ])
 }
 
 /// The length of a container's list, and up to 16 of its ids.
 #[tactic(auto, using(crate::proofs::ContainerLaws::list_reaches))]
+#[inline(never)]
 pub fn container_list<S: Store>(
     state: &S,
     thread: ObjectId,
@@ -97,6 +106,7 @@ pub fn container_list<S: Store>(
 }
 
 /// What refuses to ask for a container's own container.
+#[inline(never)]
 pub fn refused_container_parent<S: Store>(
     state: &S,
     thread: ObjectId,
@@ -107,13 +117,13 @@ pub fn refused_container_parent<S: Store>(
         (query.ContainerParent container) }
     ensures meter { S.kept meter.new ≡ S.kept meter.old }
 {
-    let halted = halted(state, thread, meter);
     let seen = state.sight(thread, &itself(container), meter);
-    refusal_of(&[&halted, &at_container(&seen)])
+    refusal_of(&[&halted_at(&seen), &at_container(&seen)])
 }
 
 /// The container that lists a container; the root's is the root.
 #[tactic(auto, using(crate::proofs::ContainerLaws::parent_asked))]
+#[inline(never)]
 pub fn container_parent<S: Store>(
     state: &S,
     thread: ObjectId,

@@ -31,6 +31,7 @@ impl PlainState {
             flowing: self.flows_to(thread, id, meter),
             immutable: self.is_immutable(id),
             fixed: self.is_fixed(id),
+            pages: self.page_count(id),
         }
     }
 
@@ -39,6 +40,7 @@ impl PlainState {
         ensures { result ≡ sight_of (state_of self.now) thread entry.now }
     {
         Sight {
+            runs: self.is_live_kind(Kind::Thread, thread),
             accessible: self.is_accessible(thread, entry.container, meter),
             held: self.holds(entry),
             listed: self.lists(entry.container, entry.object),

@@ -100,10 +100,6 @@ impl Store for Kernel {
         self.state.parent(container, meter)
     }
 
-    fn is_past(&self, id: ObjectId, offset: u32, count: u32, meter: &mut Meter) -> bool {
-        self.state.is_past(id, offset, count, meter)
-    }
-
     fn bytes_from(&self, id: ObjectId, from: usize, count: u32, meter: &mut Meter) -> Data {
         self.rows.few();
         self.state.bytes_from(id, from, count, meter)

@@ -48,6 +48,7 @@ fn is_full<S: Store>(state: &S, thread: ObjectId, meter: &mut Meter) -> bool
 }
 
 /// What refuses to make a category.
+#[inline(never)]
 pub fn refused_cat_create<S: Store>(
     state: &S,
     thread: ObjectId,
@@ -65,6 +66,7 @@ pub fn refused_cat_create<S: Store>(
 }
 
 /// Makes a category, which the thread owns.
+#[inline(never)]
 pub fn cat_create<S: Store>(state: &mut S, thread: ObjectId, meter: &mut Meter) -> Category
     requires { refused (S.state state.old) thread call.CatCreate ≡ None }
     ensures category { told.Category result ≡ accepted (S.state state.old) thread call.CatCreate }

@@ -19,13 +19,14 @@ ghost use Rattle.kernel_store.specs.Storing.{storing};
 use base::{Kind, Meter, ObjectId, Refusal};
 use kernel_rules::{Entry, Gate, NewGate, Reply};
 use kernel_store::{
-    Condition, NewObject, Store, good_label, halted, in_container, new_bearer, of_kind, refusal_of,
-    space_entry,
+    Condition, NewObject, Store, good_label, halted_at, in_container, new_bearer, of_kind,
+    refusal_of, space_entry,
 };
 use label_lattice::RawLabel;
 use label_rules::{Asked, Bearer, may_enter, stored_of};
 
 /// What refuses to make a gate.
+#[inline(never)]
 pub fn refused_gate_create<S: Store>(
     state: &S,
     thread: ObjectId,
@@ -35,7 +36,6 @@ pub fn refused_gate_create<S: Store>(
     ensures value { result ≡ refused (S.state state.now) thread (call.GateCreate made.now) }
     ensures meter { S.kept meter.new ≤ S.kept meter.old + 5 }
 {
-    let halted = halted(state, thread, meter);
     let space = state.sight(thread, &made.space, meter);
     let object = NewObject {
         kind: Kind::Gate,
@@ -44,13 +44,14 @@ pub fn refused_gate_create<S: Store>(
         label: made.label,
     };
     refusal_of(&[
-        &halted,
+        &halted_at(&space),
         &space_entry(&made.space, &space),
         &new_bearer(state, thread, &object, &made.clearance, meter),
     ])
 }
 
 /// Makes a gate. The error is want of memory, and nothing is changed then.
+#[inline(never)]
 pub fn gate_create<S: Store>(
     state: &mut S,
     thread: ObjectId,
@@ -161,6 +162,7 @@ fn good_raw_label<S: Store>(state: &S, raw: &RawLabel, meter: &mut Meter) -> [Co
 }
 
 /// What refuses to enter a gate.
+#[inline(never)]
 pub fn refused_gate_enter<S: Store>(
     state: &S,
     thread: ObjectId,
@@ -173,12 +175,11 @@ pub fn refused_gate_enter<S: Store>(
         entering.now.clearance.now entering.now.verify.now) }
     ensures meter { S.kept meter.new ≤ S.kept meter.old + 11 }
 {
-    let halted = halted(state, thread, meter);
     let seen = state.sight(thread, gate, meter);
     let asked = asked_of(entering, meter);
     let open = is_open(state, thread, gate.object, &asked, meter);
     refusal_of(&[
-        &halted,
+        &halted_at(&seen),
         &in_container(&seen),
         &of_kind(Kind::Gate, &seen.object),
         &good_raw_label(state, entering.label, meter),
@@ -231,6 +232,7 @@ fn tell(gate: &Option<Gate>, reply: &mut Reply)
 
 /// The thread enters a gate: it has the asked labels, and the gate's address space, entry point and
 /// closure, of which the reply tells.
+#[inline(never)]
 pub fn gate_enter<S: Store>(
     state: &mut S,
     thread: ObjectId,

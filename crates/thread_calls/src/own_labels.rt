@@ -13,6 +13,7 @@ use label_lattice::{Label, RawLabel};
 use label_rules::{may_clear, stored_of};
 
 /// What refuses a new own label.
+#[inline(never)]
 pub fn refused_self_set_label<S: Store>(
     state: &S,
     thread: ObjectId,
@@ -33,6 +34,7 @@ pub fn refused_self_set_label<S: Store>(
 }
 
 /// The thread has another label.
+#[inline(never)]
 pub fn self_set_label<S: Store>(state: &mut S, thread: ObjectId, raw: &RawLabel, meter: &mut Meter)
     requires { refused (S.state state.old) thread (call.SelfSetLabel raw.now) ≡ None }
     ensures state { S.state state.new
@@ -60,6 +62,7 @@ fn may_clear_to<S: Store>(
 }
 
 /// What refuses a new own clearance.
+#[inline(never)]
 pub fn refused_self_set_clearance<S: Store>(
     state: &S,
     thread: ObjectId,
@@ -80,6 +83,7 @@ pub fn refused_self_set_clearance<S: Store>(
 }
 
 /// The thread has another clearance.
+#[inline(never)]
 pub fn self_set_clearance<S: Store>(
     state: &mut S,
     thread: ObjectId,

@@ -9,10 +9,13 @@ ghost use Rattle.kernel_store.specs.Storing.{storing};
 
 use base::{Kind, Meter, ObjectId, Refusal};
 use kernel_rules::{Entry, NewThread, Reply};
-use kernel_store::{NewObject, Store, halted, in_container, new_bearer, refusal_of, space_entry};
+use kernel_store::{
+    NewObject, Store, halted, halted_at, in_container, new_bearer, refusal_of, space_entry,
+};
 use label_rules::stored_of;
 
 /// What refuses another address space.
+#[inline(never)]
 pub fn refused_self_set_as<S: Store>(
     state: &S,
     thread: ObjectId,
@@ -22,12 +25,12 @@ pub fn refused_self_set_as<S: Store>(
     ensures value { result ≡ refused (S.state state.now) thread (call.SelfSetAs space.now) }
     ensures meter { S.kept meter.new ≡ S.kept meter.old }
 {
-    let halted = halted(state, thread, meter);
     let seen = state.sight(thread, space, meter);
-    refusal_of(&[&halted, &space_entry(space, &seen)])
+    refusal_of(&[&halted_at(&seen), &space_entry(space, &seen)])
 }
 
 /// The thread has another address space.
+#[inline(never)]
 pub fn self_set_as<S: Store>(state: &mut S, thread: ObjectId, space: &Entry, meter: &mut Meter)
     requires { refused (S.state state.old) thread (call.SelfSetAs space.now) ≡ None }
     ensures state { S.state state.new
@@ -38,6 +41,7 @@ pub fn self_set_as<S: Store>(state: &mut S, thread: ObjectId, space: &Entry, met
 }
 
 /// What refuses to make a thread.
+#[inline(never)]
 pub fn refused_thread_create<S: Store>(
     state: &S,
     thread: ObjectId,
@@ -60,6 +64,7 @@ pub fn refused_thread_create<S: Store>(
 }
 
 /// Makes a thread. The error is want of memory, and nothing is changed then.
+#[inline(never)]
 pub fn thread_create<S: Store>(
     state: &mut S,
     thread: ObjectId,
@@ -91,6 +96,7 @@ pub fn thread_create<S: Store>(
 }
 
 /// What refuses to tell what the caller is.
+#[inline(never)]
 pub fn refused_self_get<S: Store>(state: &S, thread: ObjectId, meter: &mut Meter) -> Option<Refusal>
     ensures value { result ≡ query_refused (S.state state.now) thread query.SelfGet }
     ensures meter { S.kept meter.new ≡ S.kept meter.old }
@@ -99,6 +105,7 @@ pub fn refused_self_get<S: Store>(state: &S, thread: ObjectId, meter: &mut Meter
 }
 
 /// What the caller is.
+#[inline(never)]
 pub fn self_get<S: Store>(state: &S, thread: ObjectId, reply: &mut Reply, meter: &mut Meter)
     requires { reply.old ≡ told.Done }
     ensures value { reply.new ≡ found (S.state state.now) thread query.SelfGet }
@@ -120,6 +127,7 @@ pub fn self_get<S: Store>(state: &S, thread: ObjectId, reply: &mut Reply, meter:
 }
 
 /// What refuses to tell the label of an object.
+#[inline(never)]
 pub fn refused_obj_label<S: Store>(
     state: &S,
     thread: ObjectId,
@@ -129,17 +137,17 @@ pub fn refused_obj_label<S: Store>(
     ensures value { result ≡ query_refused (S.state state.now) thread (query.ObjLabel entry.now) }
     ensures meter { S.kept meter.new ≡ S.kept meter.old }
 {
-    let halted = halted(state, thread, meter);
     let seen = state.sight(thread, entry, meter);
     let hidden = seen.object.is(Kind::Thread) && !state.is_shown(thread, entry.object, meter);
     refusal_of(&[
-        &halted,
+        &halted_at(&seen),
         &in_container(&seen),
         &[(Refusal::CannotObserve, hidden)],
     ])
 }
 
 /// The label of an object.
+#[inline(never)]
 pub fn obj_label<S: Store>(
     state: &S,
     thread: ObjectId,

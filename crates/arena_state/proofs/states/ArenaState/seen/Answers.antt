@@ -4,6 +4,7 @@ use Rattle.label_rules.specs.LabelRules.{both, visible, below}
 use Rattle.arena_state.specs.declared.records.Record.{Record}
 use Rattle.arena_state.specs.States.{state_of, Shows}
 use Rattle.arena_state.proofs.SightLaws.{found_some, found_none, labelled, label_is, kind_some, kind_none, immutable_some, fixed_some}
+use Rattle.arena_state.proofs.SightLaws.{pages_some, pages_none}
 use Rattle.arena_state.proofs.states.ArenaState.seen.Goals as goal
 
 pub observed-visible-requires-clause-own : goal.observed-visible-requires-clause-own
@@ -32,6 +33,7 @@ returns-in-Some c =
       flowing = (c.flowing-below.ensures ∙ (λ j. both below (own j) (other j))) i;
       immutable = immutable_some a c.args.id c.in-Some.row.now shows i;
       fixed = fixed_some a c.args.id c.in-Some.row.now shows i;
+      pages = (c.pages.ensures ∙ pages_some a c.args.id c.in-Some.row.now shows) i;
     })
 
 pub returns-in-None : goal.returns-in-None
@@ -48,4 +50,5 @@ returns-in-None c =
       flowing = (c.flowing-below.ensures ∙ (λ j. both below (own j) (other j))) i;
       immutable = sym (ap (of_object false (λ y. y.immutable)) none) i;
       fixed = sym (ap (of_object false (λ y. y.fixed)) none) i;
+      pages = pages_none a c.args.id none i;
     })

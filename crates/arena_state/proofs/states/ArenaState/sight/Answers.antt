@@ -37,6 +37,7 @@ returns-clause-value c =
           ∙ sym (ap (λ (v : Bool). v && (has (list_at s e.container) e.object || e.object == e.container)) (sym kind ∙ w.if-holds-2.false))
     ] in
     (λ i. record {
+      runs = c.is_found.ensures i;
       accessible = accessible i;
       held = held i;
       listed = c.lists_found-listed.ensures.value i;
