@@ -37,6 +37,7 @@ fn tell_object(reply: &mut Reply, made: ObjectId)
 
 // What a call that nothing refuses changes, and what the reply then is. Without memory, which is the
 // only error, nothing is changed but the reply.
+#[inline(never)]
 fn accept<S: Store>(
     state: &mut S,
     thread: ObjectId,

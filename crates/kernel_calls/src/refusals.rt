@@ -20,6 +20,7 @@ use thread_calls::{
 };
 
 /// What refuses a call, if anything: of the conditions of its row that hold, the least.
+#[inline(never)]
 pub fn refused<S: Store>(
     state: &S,
     thread: ObjectId,

@@ -84,7 +84,6 @@ pub fn refused_container_list<S: Store>(
 
 /// The length of a container's list, and up to 16 of its ids.
 #[tactic(auto, using(crate::proofs::ContainerLaws::list_reaches))]
-#[inline(never)]
 pub fn container_list<S: Store>(
     state: &S,
     thread: ObjectId,
@@ -123,7 +122,6 @@ pub fn refused_container_parent<S: Store>(
 
 /// The container that lists a container; the root's is the root.
 #[tactic(auto, using(crate::proofs::ContainerLaws::parent_asked))]
-#[inline(never)]
 pub fn container_parent<S: Store>(
     state: &S,
     thread: ObjectId,

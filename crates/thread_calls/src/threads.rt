@@ -105,7 +105,6 @@ pub fn refused_self_get<S: Store>(state: &S, thread: ObjectId, meter: &mut Meter
 }
 
 /// What the caller is.
-#[inline(never)]
 pub fn self_get<S: Store>(state: &S, thread: ObjectId, reply: &mut Reply, meter: &mut Meter)
     requires { reply.old ≡ told.Done }
     ensures value { reply.new ≡ found (S.state state.now) thread query.SelfGet }
@@ -147,7 +146,6 @@ pub fn refused_obj_label<S: Store>(
 }
 
 /// The label of an object.
-#[inline(never)]
 pub fn obj_label<S: Store>(
     state: &S,
     thread: ObjectId,
