@@ -1,4 +1,4 @@
-use Rattle.std.proofs.Common.{sym, ◌∙◌}
+use Rattle.std.proofs.Common.{sym}
 use Rattle.memory_calls.proofs.AccessLaws.{load_fits}
 use Rattle.memory_calls.proofs.accesses.bytes_there.Goals as goal
 

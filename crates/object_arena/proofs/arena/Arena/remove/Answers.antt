@@ -1,4 +1,4 @@
-use Rattle.std.proofs.Common.{◌≡◌, ◌+◌, ◌<◌, ◌≤◌, ℕ, List, length, get_or, set, Option, None, ap, sym, ◌∙◌, subst, arith, length-set}
+use Rattle.std.proofs.Common.{◌≡◌, ◌+◌, ◌<◌, ℕ, List, length, get_or, set, Option, None, ap, sym, ◌∙◌, subst, arith, length-set}
 use Rattle.std.specs.Prelude.{remove}
 use Rattle.base.specs.Counts.{ProbesAtMost}
 use Rattle.object_arena.specs.Objects.{Objects, object_at, IsEntry, without, binary_digits}
