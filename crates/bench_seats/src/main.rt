@@ -23,8 +23,8 @@ use std::env;
 use std::fs::File;
 use std::marker::Brand;
 use std::rt::Clock;
-use std::sync::atomic::{AtomicU64, Ordering};
 use std::sync::Wait;
+use std::sync::atomic::{AtomicU64, Ordering};
 use std::thread::Threads;
 
 const USAGE: &str = "bench_seats ROUNDS FILE
@@ -36,8 +36,10 @@ const THREADS: [usize; 3] = [1, 2, 4];
 /// How many seats read while one writes.
 const CROWDS: [usize; 8] = [0, 1, 2, 4, 8, 16, 32, 63];
 
-/// How many seats there are beside the boot thread's, at a boot for few and at a boot for all.
+/// How many seats there are beside the boot thread's at a boot for few.
 const FEW: u64 = 4;
+
+/// How many there are beside it at a boot for all.
 const ALL: u64 = 63;
 
 /// So many of the seats, or all where there are fewer.

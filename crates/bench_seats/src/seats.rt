@@ -36,12 +36,7 @@ fn is_read<B: Naming>(seat: &mut Seat<'_, B>, query: &Query) -> bool {
     seat.read_into(query, &mut reply).is_ok() && shows_bytes(&reply)
 }
 
-fn submit_all<B: Naming, R: Wait>(
-    rt: &R,
-    worker: &Desk<'_, B>,
-    rounds: u64,
-    done: &AtomicU64,
-) {
+fn submit_all<B: Naming, R: Wait>(rt: &R, worker: &Desk<'_, B>, rounds: u64, done: &AtomicU64) {
     let call = write();
     let mut seat = worker.value.lock(rt);
     let mut written = 0u64;
@@ -53,12 +48,7 @@ fn submit_all<B: Naming, R: Wait>(
     done.fetch_add(written, Ordering::SeqCst);
 }
 
-fn read_all<B: Naming, R: Wait>(
-    rt: &R,
-    worker: &Desk<'_, B>,
-    rounds: u64,
-    done: &AtomicU64,
-) {
+fn read_all<B: Naming, R: Wait>(rt: &R, worker: &Desk<'_, B>, rounds: u64, done: &AtomicU64) {
     let query = read();
     let mut seat = worker.value.lock(rt);
     let mut found = 0u64;
