@@ -1,7 +1,7 @@
 //! The merge walks over lists of exceptions, which decide each order test: over two lists for the
 //! three orders of two labels at once, and over three lists for the rules on three labels.
-ghost use Rattle.std.specs.Prelude.{◌≡◌, ◌<◌, ◌≤◌, ◌+◌, ◌↔◌, ◌&&◌, IsTrue, if◌then◌else◌};
-ghost use Rattle.std.specs.Prelude.{length, drop};
+ghost use Rattle.std.specs.Prelude.{◌≡◌, ◌<◌, ◌≤◌, ◌+◌, ◌↔◌, ◌&&◌, ◌||◌, IsTrue};
+ghost use Rattle.std.specs.Prelude.{if◌then◌else◌, length, drop};
 ghost use Rattle.label_lattice.specs.Levels.{next_of, IsRising};
 ghost use Rattle.label_lattice.specs.Rule.{rule_test, up_rank, down_rank};
 ghost use Rattle.label_lattice.specs.declared.walk.Rule.TheVariants.{Leq, LeqUp, LeqUpUp};
@@ -136,6 +136,13 @@ impl Orders {
         one + two + four
     }
 
+    /// Whether one of the rules holds.
+    fn any(self) -> bool
+        ensures { result ≡ (self.plain || (self.second_raised || self.both_raised)) }
+    {
+        self.plain || self.second_raised || self.both_raised
+    }
+
     /// The rules that hold in both.
     fn and(self, other: Orders) -> Orders
         ensures plain { result.plain ≡ (self.plain && other.plain) }
@@ -152,7 +159,7 @@ impl Orders {
 
 /// Which rules hold at each category of two labels, each a default and its exceptions. Each turn
 /// compares the levels of the least category that is left in a list, and the defaults stand for all
-/// that are in none.
+/// that are in none. Once no rule holds any more, that is the answer.
 pub fn compare_everywhere(
     a_default: Level,
     a: &Pairs<16>,
@@ -172,6 +179,9 @@ pub fn compare_everywhere(
     let mut i = 0;
     let mut j = 0;
     while i < a.len() || j < b.len() {
+        if !orders.any() {
+            return orders;
+        }
         let category = next(a, i).min(next(b, j));
         let of_a = take_at(a_default, a, i, category);
         let of_b = take_at(b_default, b, j, category);
