@@ -4,12 +4,14 @@ use Rattle.std.proofs.Common.{[], ◌∷◌, length, drop, get_or, refl, ◌∙�
 use Rattle.std.proofs.Common.{true, false, ◌&&◌, ◌↔◌, sym}
 use Rattle.std.proofs.Math.ListN.{drop_of_length-le}
 use Rattle.std.proofs.lemmas.Bool.Decides.{nat_tests}
-use Rattle.std.proofs.Common.{min, ◌-◌, ◌^◌, ◌⊎◌}
-use Rattle.std.proofs.lemmas.Bool.{cases_eq, cases_order}
+use Rattle.std.proofs.Common.{◌⊎◌}
+use Rattle.std.proofs.lemmas.Bool.{cases_eq}
 use Rattle.base.specs.declared.levels.Level.{Level}
 use Rattle.label_lattice.specs.declared.pairings.Pair.{Pair}
+use Rattle.label_lattice.specs.Columns.{filler}
 use Rattle.label_lattice.specs.Levels.{level_at, next_of, IsRising, IsAbove}
-use Rattle.label_lattice.specs.Walk.{Takes, HoldsEverywhere}
+use Rattle.label_lattice.specs.Walk.{Takes, TakesBoth, comes_first, category_at, HoldsEverywhere}
+use Rattle.std.proofs.Common.{slice_index_or}
 
 -- both parts of a conjunction
 pub and_parts : (x y : Bool) → IsTrue (x && y) → IsTrue x × IsTrue y
@@ -196,50 +198,70 @@ compare_all t da db a b i j r on past_a past_b = (
   λ whole. on.so_far whole,
 )
 
-past_end : (ps : List Pair) (i : ℕ) → length ps ≤ i → next_of (drop i ps) ≡ 2 ^ 64 - 1
-past_end ps i past = rw (drop_of_length-le ps past) refl
+-- a number below the place's category is below all that is left
+IsAbove-left : (ps : List Pair) (i m : ℕ) → IsRising ps → (i < length ps → m < category_at ps i)
+    → IsAbove m (drop i ps)
+IsAbove-left [] zero m rising below = tt
+IsAbove-left [] (suc i) m rising below = tt
+IsAbove-left (q ∷ qs) zero m rising below =
+    let lt : m < q.category.0 = below (omega arith) in
+    (lt, IsAbove-lower qs m q.category.0 (omega (arith, lt)) rising.0)
+IsAbove-left (q ∷ qs) (suc i) m rising below =
+    IsAbove-left qs i m rising.1 (λ h. below (omega (arith, h)))
 
--- each turn moves on in a list
-pub walk_moves : (a b : List Pair) (i j i' j' m : ℕ)
-    → next_of (drop i a) < 2 ^ 64 → next_of (drop j b) < 2 ^ 64
-    → m ≡ min (next_of (drop i a)) (next_of (drop j b))
-    → i ≤ i' → i' ≤ length a → j ≤ j' → j' ≤ length b
-    → (i < length a → next_of (drop i a) ≡ m → i < i')
-    → (j < length b → next_of (drop j b) ≡ m → j < j')
-    → (i < length a) ⊎ (j < length b)
-    → (length a - i') + (length b - j') < (length a - i) + (length b - j)
-walk_moves a b i j i' j' m fa fb least oa wa ob wb ma mb some =
-    elim (cases_order i (length a)) [
-      | inl end_a ↦
-          let top : next_of (drop i a) ≡ 2 ^ 64 - 1 = past_end a i (omega (arith, end_a)) in
-          let in_b : j < length b =
-          elim some [ inl in_a ↦ absurd (omega (arith, in_a, end_a)) | inr in_b ↦ in_b ] in
-          let is_b : next_of (drop j b) ≡ m = omega (arith, top, fb, least) in
-          let moves : j < j' = mb in_b is_b in
-          omega (arith, oa, moves, in_b)
-      | inr apart ↦ elim apart [
-        | inl in_a ↦ elim (cases_order (next_of (drop i a)) (next_of (drop j b))) [
-          | inl same ↦
-              let moves : i < i' = ma in_a (omega (arith, same, least)) in
-              omega (arith, ob, moves, in_a)
-          | inr either ↦ elim either [
-            | inl low ↦
-                let moves : i < i' = ma in_a (omega (arith, low, least)) in
-                omega (arith, ob, moves, in_a)
-            | inr high ↦ elim (cases_order j (length b)) [
-              | inl end_b ↦
-                  let top : next_of (drop j b) ≡ 2 ^ 64 - 1 =
-                  past_end b j (omega (arith, end_b)) in
-                  absurd (omega (arith, top, fa, high))
-              | inr near ↦ elim near [
-                | inl in_b ↦
-                    let moves : j < j' = mb in_b (omega (arith, high, least)) in
-                    omega (arith, oa, moves, in_b)
-                | inr past_b ↦ absurd (omega (arith, past_b, ob, wb))
-              ]
-            ]
-          ]
-        ]
-        | inr past_a ↦ absurd (omega (arith, past_a, oa, wa))
-      ]
-    ]
+-- what it says that a list's category comes first
+pub first_yes : (a : List Pair) (i : ℕ) (b : List Pair) (j : ℕ) → IsTrue (comes_first a i b j)
+    → (i < length a) × (j < length b → category_at a i < category_at b j)
+first_yes a i b j h =
+    let within : i < length a = grind (arith, nat_tests) in
+    (within, λ in_b. grind (arith, nat_tests))
+
+-- and that neither's does
+pub first_no : (a : List Pair) (i : ℕ) (b : List Pair) (j : ℕ) → comes_first a i b j ≡ false
+    → comes_first b j a i ≡ false → (i < length a) ⊎ (j < length b)
+    → (i < length a) × (j < length b) × (category_at a i ≡ category_at b j)
+first_no a i b j one other some = (
+  grind (arith, nat_tests),
+  grind (arith, nat_tests),
+  grind (arith, nat_tests),
+)
+
+module _ (da db : Level) (a b : List Pair) (i j : ℕ) where
+  -- the first list's category is taken
+  pub takes_first : IsRising a → IsRising b → IsTrue (comes_first a i b j)
+      → TakesBoth da (drop i a) db (drop j b) (slice_index_or a i filler).level db
+      (drop (suc i) a) (drop j b)
+  takes_first rising_a rising_b first =
+      let yes = first_yes a i b j first in
+      record {
+        category = category_at a i;
+        first = Takes-at da a i (category_at a i) filler rising_a yes.0 refl;
+        second =
+            Takes-none db (drop j b) (category_at a i)
+            (IsAbove-left b j (category_at a i) rising_b yes.1);
+      }
+
+  -- the second's is
+  pub takes_second : IsRising a → IsRising b → IsTrue (comes_first b j a i)
+      → TakesBoth da (drop i a) db (drop j b) da (slice_index_or b j filler).level
+      (drop i a) (drop (suc j) b)
+  takes_second rising_a rising_b first =
+      let yes = first_yes b j a i first in
+      record {
+        category = category_at b j;
+        first =
+            Takes-none da (drop i a) (category_at b j)
+            (IsAbove-left a i (category_at b j) rising_a yes.1);
+        second = Takes-at db b j (category_at b j) filler rising_b yes.0 refl;
+      }
+
+  -- one that both have is
+  pub takes_both : IsRising a → IsRising b → i < length a → j < length b
+      → category_at a i ≡ category_at b j
+      → TakesBoth da (drop i a) db (drop j b) (slice_index_or a i filler).level
+      (slice_index_or b j filler).level (drop (suc i) a) (drop (suc j) b)
+  takes_both rising_a rising_b in_a in_b same = record {
+    category = category_at b j;
+    first = Takes-at da a i (category_at b j) filler rising_a in_a same;
+    second = Takes-at db b j (category_at b j) filler rising_b in_b refl;
+  }

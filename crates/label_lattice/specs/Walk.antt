@@ -1,7 +1,9 @@
 -- What the walk over exceptions answers, and what one step of it takes.
-use Rattle.std.specs.Prelude.{◌≡◌, ◌≢◌, ℕ, Bool, List, IsTrue}
+use Rattle.std.specs.Prelude.{◌≡◌, ◌≢◌, ◌&&◌, ◌||◌, ℕ, Bool, List, IsTrue, length, nat_lt, nat_le}
+use Rattle.std.specs.Prelude.{slice_index_or}
 use Rattle.base.specs.declared.levels.Level.{Level}
 use Rattle.label_lattice.specs.declared.pairings.Pair.{Pair}
+use Rattle.label_lattice.specs.Columns.{filler}
 use Rattle.label_lattice.specs.Levels.{level_at}
 
 -- a test holds of the three levels of each category
@@ -20,3 +22,24 @@ pub record Takes
   pub here : level_at default old category ≡ level
   pub gone : level_at default new category ≡ default
   pub others : (k : ℕ) → k ≢ category → level_at default old k ≡ level_at default new k
+
+-- the category at a place
+abbrev pub category_at : List Pair → ℕ → ℕ
+category_at ps i = (slice_index_or ps i filler).category.0
+
+-- a list has a category at a place, which is below that at the other's place or the other has none
+abbrev pub comes_first : List Pair → ℕ → List Pair → ℕ → Bool
+comes_first a i b j =
+    nat_lt i (length a) && (nat_le (length b) j || nat_lt (category_at a i) (category_at b j))
+
+-- one category is taken off two lists, at its levels
+pub record TakesBoth
+    (a_default : Level)
+    (a : List Pair)
+    (b_default : Level)
+    (b : List Pair)
+    (a_level b_level : Level)
+    (a_new b_new : List Pair) : Type 0 where
+  pub category : ℕ
+  pub first : Takes a_default a category a_level a_new
+  pub second : Takes b_default b category b_level b_new

@@ -12,13 +12,14 @@ ghost use Rattle.label_lattice.specs.Listing.{label_cmp};
 ghost use Rattle.label_lattice.specs.Placed.{with_level};
 ghost use Rattle.label_lattice.specs.Raw.{is_bad, is_bad_below, stored_of, raw_of};
 ghost use Rattle.label_lattice.specs.Rule.{rule_test};
-ghost use Rattle.label_lattice.specs.declared.walk.Rule.TheVariants.{Leq, LeqUp, LeqUpUp};
+ghost use Rattle.label_lattice.specs.Bits.{bits_of};
 
 use crate::exceptions::{collect, has_star_in, level_of, place};
 use crate::listing::compare_pairs;
 use crate::pairings::{Pair, Pairs};
 use crate::raw_labels::RawLabel;
-use crate::walk::{Orders, Rule, compare_everywhere, holds_everywhere};
+use crate::walk::{Rule, compare_everywhere, holds_everywhere};
+use crate::ways::BothWays;
 use base::{Category, Level, Meter, Refusal};
 use std::cmp::Ordering;
 use std::marker::Model;
@@ -188,24 +189,21 @@ impl Label {
         })
     }
 
-    /// Which of the three rules on two labels hold at each category.
-    pub(crate) fn compare(&self, other: &Label) -> Orders
-        ensures plain { IsTrue result.plain ↔
-            ((k : ℕ) → IsTrue (rule_test Leq
-            (level self.now k) (level other.now k) (level other.now k))) }
-        ensures second_raised { IsTrue result.second_raised ↔
-            ((k : ℕ) → IsTrue (rule_test LeqUp
-            (level self.now k) (level other.now k) (level other.now k))) }
-        ensures both_raised { IsTrue result.both_raised ↔
-            ((k : ℕ) → IsTrue (rule_test LeqUpUp
-            (level self.now k) (level other.now k) (level other.now k))) }
+    /// How the labels compare, each way.
+    pub(crate) fn compare(&self, other: &Label) -> BothWays
+        ensures forth { result.forth ≡ bits_of self.now other.now }
+        ensures back { result.back ≡ bits_of other.now self.now }
     {
-        compare_everywhere(
+        let held = compare_everywhere(
             self.default,
             &self.exceptions,
             other.default,
             &other.exceptions,
-        )
+        );
+        BothWays {
+            forth: held % 8,
+            back: held / 8,
+        }
     }
 
     /// Whether a rule holds of three labels at each category.

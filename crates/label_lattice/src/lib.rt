@@ -15,7 +15,9 @@ mod orders;
 mod pairings;
 mod raw_labels;
 mod walk;
+mod ways;
 
 pub use labels::Label;
 pub use pairings::{Pair, Pairs};
 pub use raw_labels::RawLabel;
+pub use ways::BothWays;

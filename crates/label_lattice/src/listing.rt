@@ -7,6 +7,7 @@ ghost use Rattle.label_lattice.specs.Listing.{pair_cmp, label_cmp};
 
 use crate::labels::Label;
 use crate::pairings::{Pair, Pairs};
+use crate::ways::BothWays;
 use base::Meter;
 use std::cmp::Ordering;
 
@@ -43,6 +44,22 @@ impl Label {
         meter.scan();
         meter.scan();
         meter.scan();
-        self.compare(other).bits()
+        self.compare(other).forth
+    }
+
+    /// How two labels compare each way, by the bits of `order_bits`: at `forth` this label against
+    /// the other, at `back` the other against this one. It adds six scans, as two calls of that.
+    pub fn order_bits_both_ways(&self, other: &Label, meter: &mut Meter) -> BothWays
+        ensures scans { meter.new ≡ scanned 6 meter.old }
+        ensures forth { result.forth ≡ bits_of self.now other.now }
+        ensures back { result.back ≡ bits_of other.now self.now }
+    {
+        meter.scan();
+        meter.scan();
+        meter.scan();
+        meter.scan();
+        meter.scan();
+        meter.scan();
+        Label::compare(self, other)
     }
 }

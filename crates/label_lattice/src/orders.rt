@@ -20,7 +20,7 @@ impl Label {
         ensures test { result ≡ leq_test (levels self.now) (levels other.now) }
     {
         meter.scan();
-        self.compare(other).plain
+        self.compare(other).forth & 1 == 1
     }
 
     /// Whether the label is at most the other with star raised to J, as of an object's label and
@@ -31,7 +31,7 @@ impl Label {
         ensures test { result ≡ leq_test (levels self.now) (up (levels other.now)) }
     {
         meter.scan();
-        self.compare(other).second_raised
+        self.compare(other).forth & 2 == 2
     }
 
     /// Whether the label is at most the other, both with star raised to J, as of a thread's label
@@ -42,7 +42,7 @@ impl Label {
         ensures test { result ≡ leq_test (up (levels self.now)) (up (levels other.now)) }
     {
         meter.scan();
-        self.compare(other).both_raised
+        self.compare(other).forth & 4 == 4
     }
 
     /// Whether the label is at most the maximum of two, as of a clearance that is asked of a gate,

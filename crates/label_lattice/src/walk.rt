@@ -1,22 +1,21 @@
 //! The merge walks over lists of exceptions, which decide each order test: over two lists for the
-//! three orders of two labels at once, and over three lists for the rules on three labels.
-ghost use Rattle.std.specs.Prelude.{◌≡◌, ◌<◌, ◌≤◌, ◌+◌, ◌↔◌, ◌&&◌, ◌||◌, IsTrue};
-ghost use Rattle.std.specs.Prelude.{if◌then◌else◌, length, drop};
+//! orders of two labels, each way at once, and over three lists for the rules on three labels.
+ghost use Rattle.std.specs.Prelude.{◌≡◌, ◌<◌, ◌≤◌, ◌+◌, ◌^◌, ◌==◌, ◌⊎◌, ◌↔◌, ℕ, IsTrue};
+ghost use Rattle.std.specs.Prelude.{length, drop};
+ghost use Rattle.std.specs.Int.{bit_at};
 ghost use Rattle.label_lattice.specs.Levels.{next_of, IsRising};
 ghost use Rattle.label_lattice.specs.Rule.{rule_test, up_rank, down_rank};
-ghost use Rattle.label_lattice.specs.declared.walk.Rule.TheVariants.{Leq, LeqUp, LeqUpUp};
-ghost use Rattle.label_lattice.specs.Walk.{Takes, HoldsEverywhere};
+ghost use Rattle.label_lattice.specs.Walk.{Takes, TakesBoth, comes_first, HoldsEverywhere};
+ghost use Rattle.label_lattice.specs.Ways.{both_test};
 
 use crate::pairings::Pairs;
+use crate::ways::compare_levels;
 use base::Level;
 
 /// What is asked of three levels at each category. A rule on two labels passes the second one
 /// twice.
 #[derive(Clone, Copy)]
 pub enum Rule {
-    Leq,
-    LeqUp,
-    LeqUpUp,
     LeqJoin,
     LeqJoinUp,
     Floor,
@@ -45,9 +44,6 @@ impl Rule {
     {
         let (a, b, c) = (a.rank(), b.rank(), c.rank());
         match self {
-            Rule::Leq => a <= b,
-            Rule::LeqUp => a <= up(b),
-            Rule::LeqUpUp => up(a) <= up(b),
             Rule::LeqJoin => a <= b.max(c),
             Rule::LeqJoinUp => a <= b.max(up(c)),
             Rule::Same => a == b,
@@ -100,96 +96,92 @@ fn take_at(default: Level, pairs: &Pairs<16>, place: usize, category: u64) -> Ta
     }
 }
 
-/// How two labels compare: which of three rules on the first and the second hold.
+/// The levels of one category in two lists, and the places after it.
 #[derive(Clone, Copy)]
-pub struct Orders {
-    /// `Rule::Leq` holds.
-    pub plain: bool,
-    /// `Rule::LeqUp` holds.
-    pub second_raised: bool,
-    /// `Rule::LeqUpUp` holds.
-    pub both_raised: bool,
+struct Turn {
+    a: Level,
+    b: Level,
+    i: usize,
+    j: usize,
 }
 
-impl Orders {
-    /// Which rules hold of one category's levels.
-    fn of_levels(a: Level, b: Level) -> Orders
-        ensures plain { result.plain ≡ rule_test Leq a b b }
-        ensures second_raised { result.second_raised ≡ rule_test LeqUp a b b }
-        ensures both_raised { result.both_raised ≡ rule_test LeqUpUp a b b }
-    {
-        Orders {
-            plain: Rule::Leq.holds(a, b, b),
-            second_raised: Rule::LeqUp.holds(a, b, b),
-            both_raised: Rule::LeqUpUp.holds(a, b, b),
-        }
-    }
-
-    /// The sum of 1 for the first rule, 2 for the second and 4 for the third, of those that hold.
-    pub fn bits(self) -> u8
-        ensures { result ≡ (if self.plain then 1 else 0) + (if self.second_raised then 2 else 0)
-            + (if self.both_raised then 4 else 0) }
-    {
-        let one = if self.plain { 1 } else { 0 };
-        let two = if self.second_raised { 2 } else { 0 };
-        let four = if self.both_raised { 4 } else { 0 };
-        one + two + four
-    }
-
-    /// Whether one of the rules holds.
-    fn any(self) -> bool
-        ensures { result ≡ (self.plain || (self.second_raised || self.both_raised)) }
-    {
-        self.plain || self.second_raised || self.both_raised
-    }
-
-    /// The rules that hold in both.
-    fn and(self, other: Orders) -> Orders
-        ensures plain { result.plain ≡ (self.plain && other.plain) }
-        ensures second_raised { result.second_raised ≡ (self.second_raised && other.second_raised) }
-        ensures both_raised { result.both_raised ≡ (self.both_raised && other.both_raised) }
-    {
-        Orders {
-            plain: self.plain && other.plain,
-            second_raised: self.second_raised && other.second_raised,
-            both_raised: self.both_raised && other.both_raised,
-        }
-    }
+/// Whether a list has a pair at a place whose category comes before all that are left in the other.
+fn comes_first(a: &Pairs<16>, i: usize, b: &Pairs<16>, j: usize) -> bool
+    ensures first { result ≡ comes_first a.now i b.now j }
+    ensures few { length a.now ≤ 16 }
+{
+    i < a.len() && (j >= b.len() || a.pair_at(i).category.0 < b.pair_at(j).category.0)
 }
 
-/// Which rules hold at each category of two labels, each a default and its exceptions. Each turn
-/// compares the levels of the least category that is left in a list, and the defaults stand for all
-/// that are in none. Once no rule holds any more, that is the answer.
-pub fn compare_everywhere(
+/// The levels of the least category that is left in a list, and the places after it. The other list
+/// has it, or its default stands for it.
+fn take_least(
     a_default: Level,
     a: &Pairs<16>,
+    i: usize,
     b_default: Level,
     b: &Pairs<16>,
-) -> Orders
+    j: usize,
+) -> Turn
     requires a_rising { IsRising a.now }
     requires b_rising { IsRising b.now }
-    ensures plain { IsTrue result.plain ↔
-        HoldsEverywhere (rule_test Leq) a_default a.now b_default b.now b_default b.now }
-    ensures second_raised { IsTrue result.second_raised ↔
-        HoldsEverywhere (rule_test LeqUp) a_default a.now b_default b.now b_default b.now }
-    ensures both_raised { IsTrue result.both_raised ↔
-        HoldsEverywhere (rule_test LeqUpUp) a_default a.now b_default b.now b_default b.now }
+    requires a_within { i ≤ length a.now }
+    requires b_within { j ≤ length b.now }
+    requires some { (i < length a.now) ⊎ (j < length b.now) }
+    ensures takes { TakesBoth a_default (drop i a.now) b_default (drop j b.now)
+        result.a result.b (drop result.i a.now) (drop result.j b.now) }
+    ensures a_within { result.i ≤ length a.now }
+    ensures b_within { result.j ≤ length b.now }
+    ensures onward { i + j < result.i + result.j }
 {
-    let mut orders = Orders::of_levels(a_default, b_default);
+    if comes_first(a, i, b, j) {
+        Turn {
+            a: a.pair_at(i).level,
+            b: b_default,
+            i: i + 1,
+            j,
+        }
+    } else if comes_first(b, j, a, i) {
+        Turn {
+            a: a_default,
+            b: b.pair_at(j).level,
+            i,
+            j: j + 1,
+        }
+    } else {
+        Turn {
+            a: a.pair_at(i).level,
+            b: b.pair_at(j).level,
+            i: i + 1,
+            j: j + 1,
+        }
+    }
+}
+
+/// How two labels compare each way, each a default and its exceptions, as the sum of bits that
+/// `compare_levels` gives where it is the same at each category, and else of the bits that are there
+/// at each. Each turn compares the levels of the least category that is left in a list, and the
+/// defaults stand for all that are in none. Once no bit is left, that is the answer.
+pub fn compare_everywhere(a_default: Level, a: &Pairs<16>, b_default: Level, b: &Pairs<16>) -> u8
+    requires a_rising { IsRising a.now }
+    requires b_rising { IsRising b.now }
+    ensures few { result < 2 ^ 6 }
+    ensures bits { (k : ℕ) → IsTrue (bit_at result k == 1) ↔
+        HoldsEverywhere (both_test k) a_default a.now b_default b.now b_default b.now }
+{
+    let mut held = compare_levels(a_default, b_default);
     let mut i = 0;
     let mut j = 0;
     while i < a.len() || j < b.len() {
-        if !orders.any() {
-            return orders;
+        if held == 0 {
+            return 0;
         }
-        let category = next(a, i).min(next(b, j));
-        let of_a = take_at(a_default, a, i, category);
-        let of_b = take_at(b_default, b, j, category);
-        orders = orders.and(Orders::of_levels(of_a.level, of_b.level));
-        i = of_a.place;
-        j = of_b.place;
+        let turn = take_least(a_default, a, i, b_default, b, j);
+        held &= compare_levels(turn.a, turn.b);
+        i = turn.i;
+        j = turn.j;
     }
-    orders
+    held
 }
 
 /// Whether a rule holds at each category of three labels, each a default and its exceptions. Each

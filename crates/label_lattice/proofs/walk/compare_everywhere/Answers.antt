@@ -1,75 +1,34 @@
-use Rattle.std.proofs.Common.{arith, ◌<◌, ◌⊎◌, inl, inr, length}
-use Rattle.label_lattice.specs.Rule.{rule_test}
-use Rattle.label_lattice.specs.declared.walk.Rule.TheVariants.{Leq, LeqUp, LeqUpUp}
-use Rattle.label_lattice.proofs.WalkLemmas.{compare_none, compare_more, compare_all, walk_moves}
+use Rattle.std.proofs.Common.{arith, refl}
+use Rattle.std.specs.Int.Bits.{and_lt}
+use Rattle.label_lattice.specs.Ways.{both_test}
+use Rattle.label_lattice.proofs.WalkLemmas.{compare_none, compare_more}
+use Rattle.label_lattice.proofs.WaysLemmas.{both_few, and_bit}
 use Rattle.label_lattice.proofs.walk.compare_everywhere.Goals as goal
-use Rattle.label_lattice.proofs.walk.compare_everywhere.Goals.{then-i-len, else-i-len+then-j-len}
 
 pub loop-i-init : goal.loop-i-init
 loop-i-init c = record {
   a_within = omega arith;
   b_within = omega arith;
-  plain =
-      compare_none (rule_test Leq) c.args.a_default c.args.b_default c.args.a.now c.args.b.now
-      c.of_levels-orders.result.plain c.of_levels-orders.ensures.plain;
-  second_raised =
-      compare_none (rule_test LeqUp) c.args.a_default c.args.b_default c.args.a.now c.args.b.now
-      c.of_levels-orders.result.second_raised c.of_levels-orders.ensures.second_raised;
-  both_raised =
-      compare_none (rule_test LeqUpUp) c.args.a_default c.args.b_default c.args.a.now c.args.b.now
-      c.of_levels-orders.result.both_raised c.of_levels-orders.ensures.both_raised;
+  few = rw c.compare_levels-held.ensures (both_few c.args.a_default c.args.b_default);
+  bits =
+      λ k. compare_none (both_test k) c.args.a_default c.args.b_default c.args.a.now c.args.b.now _
+      (rw c.compare_levels-held.ensures refl);
 }
-
-pub loop-i-smaller : goal.loop-i-smaller
-loop-i-smaller c =
-    let some : (c.loop-i.i < length c.args.a.now) ⊎ (c.loop-i.j < length c.args.b.now) =
-    elim c.if-i-len.branch [
-      | then-i-len w ↦ inl (rw c.len.ensures.value at w.if-i-len.true)
-      | else-i-len+then-j-len w ↦ inr (rw w.len-else-i-len.ensures.value at w.if-j-len.true)
-    ] in
-    walk_moves c.args.a.now c.args.b.now c.loop-i.i c.loop-i.j c.take_at-of_a.result.place
-    c.take_at-of_b.result.place c.min-category.result
-    (rw c.next.ensures at c.next.type_inv)
-    (rw c.next-in-loop-i.ensures at c.next-in-loop-i.type_inv)
-    (rw (c.next.ensures, c.next-in-loop-i.ensures) at c.min-category.ensures)
-    c.take_at-of_a.ensures.onward c.take_at-of_a.ensures.within
-    c.take_at-of_b.ensures.onward c.take_at-of_b.ensures.within
-    c.take_at-of_a.ensures.moved c.take_at-of_b.ensures.moved some
 
 pub loop-i-preserved : goal.loop-i-preserved
-loop-i-preserved c = record {
-  a_within = c.take_at-of_a.ensures.within;
-  b_within = c.take_at-of_b.ensures.within;
-  plain =
-      compare_more (rule_test Leq) c.args.a_default c.args.b_default c.args.a.now c.args.b.now
-      c.loop-i.i c.loop-i.j c.loop-i.orders.plain c.min-category.result c.take_at-of_a.result.place
-      c.take_at-of_b.result.place c.take_at-of_a.result.level c.take_at-of_b.result.level
-      c.and-orders.result.plain c.loop-i.invariant.plain c.take_at-of_a.ensures.takes
-      c.take_at-of_b.ensures.takes (rw c.of_levels.ensures.plain at c.and-orders.ensures.plain);
-  second_raised =
-      compare_more (rule_test LeqUp) c.args.a_default c.args.b_default c.args.a.now c.args.b.now
-      c.loop-i.i c.loop-i.j c.loop-i.orders.second_raised c.min-category.result c.take_at-of_a.result.place
-      c.take_at-of_b.result.place c.take_at-of_a.result.level c.take_at-of_b.result.level
-      c.and-orders.result.second_raised c.loop-i.invariant.second_raised c.take_at-of_a.ensures.takes
-      c.take_at-of_b.ensures.takes (rw c.of_levels.ensures.second_raised at c.and-orders.ensures.second_raised);
-  both_raised =
-      compare_more (rule_test LeqUpUp) c.args.a_default c.args.b_default c.args.a.now c.args.b.now
-      c.loop-i.i c.loop-i.j c.loop-i.orders.both_raised c.min-category.result c.take_at-of_a.result.place
-      c.take_at-of_b.result.place c.take_at-of_a.result.level c.take_at-of_b.result.level
-      c.and-orders.result.both_raised c.loop-i.invariant.both_raised c.take_at-of_a.ensures.takes
-      c.take_at-of_b.ensures.takes (rw c.of_levels.ensures.both_raised at c.and-orders.ensures.both_raised);
-}
-
-pub returns-clause-plain : goal.returns-clause-plain
-returns-clause-plain c =
-    compare_all (rule_test Leq) c.args.a_default c.args.b_default c.args.a.now c.args.b.now
-    c.loop-i.i c.loop-i.j c.loop-i.orders.plain c.loop-i.invariant.plain
-    (rw c.len.ensures.value at c.if-i-len.false)
-    (rw c.len-else-i-len.ensures.value at c.if-j-len.false)
-
-pub returns-clause-second_raised : goal.returns-clause-second_raised
-returns-clause-second_raised c =
-    compare_all (rule_test LeqUp) c.args.a_default c.args.b_default c.args.a.now c.args.b.now
-    c.loop-i.i c.loop-i.j c.loop-i.orders.second_raised c.loop-i.invariant.second_raised
-    (rw c.len.ensures.value at c.if-i-len.false)
-    (rw c.len-else-i-len.ensures.value at c.if-j-len.false)
+loop-i-preserved c =
+    let turn = c.take_least-turn in
+    let x = turn.result.a in
+    let y = turn.result.b in
+    record {
+      a_within = turn.ensures.a_within;
+      b_within = turn.ensures.b_within;
+      few =
+          rw c.compare_levels-held-in-loop-i.ensures
+          (and_lt 6 c.loop-i.held _ c.loop-i.invariant.few (both_few x y));
+      bits =
+          λ k. compare_more (both_test k) c.args.a_default c.args.b_default c.args.a.now c.args.b.now
+          c.loop-i.i c.loop-i.j _ turn.ensures.takes.category turn.result.i turn.result.j x y _
+          (c.loop-i.invariant.bits k) turn.ensures.takes.first turn.ensures.takes.second
+          (rw c.compare_levels-held-in-loop-i.ensures (and_bit c.loop-i.held _ k));
+    }

@@ -1,13 +1,14 @@
+use Rattle.label_lattice.proofs.WaysLemmas.{both_ways}
 use Rattle.label_lattice.proofs.labels.Label.compare.Goals as goal
 
-pub returns-clause-plain : goal.returns-clause-plain
-returns-clause-plain c =
-    rw (← c.self.view_is, ← c.other.view_is) c.compare_everywhere.ensures.plain
+pub returns-clause-forth : goal.returns-clause-forth
+returns-clause-forth c =
+    (both_ways c.args.self.now c.args.other.now _
+    (rw (← c.self.view_is, ← c.other.view_is) c.compare_everywhere-held.ensures.bits)
+    c.compare_everywhere-held.ensures.few).0
 
-pub returns-clause-second_raised : goal.returns-clause-second_raised
-returns-clause-second_raised c =
-    rw (← c.self.view_is, ← c.other.view_is) c.compare_everywhere.ensures.second_raised
-
-pub returns-clause-both_raised : goal.returns-clause-both_raised
-returns-clause-both_raised c =
-    rw (← c.self.view_is, ← c.other.view_is) c.compare_everywhere.ensures.both_raised
+pub returns-clause-back : goal.returns-clause-back
+returns-clause-back c =
+    (both_ways c.args.self.now c.args.other.now _
+    (rw (← c.self.view_is, ← c.other.view_is) c.compare_everywhere-held.ensures.bits)
+    c.compare_everywhere-held.ensures.few).1

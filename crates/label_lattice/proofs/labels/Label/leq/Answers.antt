@@ -1,10 +1,10 @@
-use Rattle.label_lattice.specs.Order.{levels}
-use Rattle.label_lattice.proofs.OrderLemmas.{leq_test-from_tests, IsDescribed-levels}
+use Rattle.label_lattice.proofs.WaysLemmas.{leq_bit, leq_order}
 use Rattle.label_lattice.proofs.labels.Label.leq.Goals as goal
+
+pub returns-clause-order : goal.returns-clause-order
+returns-clause-order c =
+    leq_order c.args.self.now c.args.other.now _ c.compare.ensures.forth
 
 pub returns-clause-test : goal.returns-clause-test
 returns-clause-test c =
-    leq_test-from_tests (levels c.args.self.now) (levels c.args.other.now) _
-    (IsDescribed-levels _)
-    (IsDescribed-levels _)
-    c.compare.ensures.plain
+    leq_bit c.args.self.now c.args.other.now _ c.compare.ensures.forth

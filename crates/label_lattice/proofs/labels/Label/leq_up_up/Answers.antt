@@ -1,11 +1,10 @@
-use Rattle.label_lattice.specs.Order.{levels, up}
-use Rattle.label_lattice.proofs.OrderLemmas.{leq_test-from_tests, IsDescribed-levels}
-use Rattle.label_lattice.proofs.OrderLemmas.{IsDescribed-up}
+use Rattle.label_lattice.proofs.WaysLemmas.{leq_up_up_bit, leq_up_up_order}
 use Rattle.label_lattice.proofs.labels.Label.leq_up_up.Goals as goal
+
+pub returns-clause-order : goal.returns-clause-order
+returns-clause-order c =
+    leq_up_up_order c.args.self.now c.args.other.now _ c.compare.ensures.forth
 
 pub returns-clause-test : goal.returns-clause-test
 returns-clause-test c =
-    leq_test-from_tests (up (levels c.args.self.now)) (up (levels c.args.other.now)) _
-    (IsDescribed-up (levels c.args.self.now) (IsDescribed-levels _))
-    (IsDescribed-up (levels c.args.other.now) (IsDescribed-levels _))
-    c.compare.ensures.both_raised
+    leq_up_up_bit c.args.self.now c.args.other.now _ c.compare.ensures.forth
