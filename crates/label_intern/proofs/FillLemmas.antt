@@ -70,15 +70,15 @@ filled_free slots at l n old t filled e = record {
 }
 
 -- one more label was met
-pub fills_more : (slots : List (Option Held)) (at : ℕ) (l : LabelValue) (n : ℕ) (old mid t : Table) (before m one two : Counts) (g : Held)
+pub fills_more : (slots : List (Option Held)) (at : ℕ) (l : LabelValue) (n : ℕ) (old mid t : Table) (before m after : Counts) (g : Held)
     → Fills slots at l n old mid before m → old.width ≡ length slots → at < length slots → n < length slots
     → held_at slots at ≡ None → held_at slots n ≡ Some g
-    → ChangesPair mid t at n (bits_of l g.label) (bits_of g.label l) → one ≡ scanned 3 m → two ≡ scanned 3 one
-    → Fills slots at l (n + 1) old t before two
-fills_more slots at l n old mid t before m one two g fills width at_in n_in free e change scan_one scan_two =
-    let six = scans_both 3 3 6 m one two (scans_some 3 m one scan_one) (scans_some 3 one two scan_two) (omega arith) in
+    → ChangesPair mid t at n (bits_of l g.label) (bits_of g.label l) → after ≡ scanned 6 m
+    → Fills slots at l (n + 1) old t before after
+fills_more slots at l n old mid t before m after g fills width at_in n_in free e change scans =
+    let six = scans_some 6 m after scans in
     record {
-      scans = scans_both _ 6 _ before m two fills.scans six (omega (arith, stored_more slots n g n_in e));
+      scans = scans_both _ 6 _ before m after fills.scans six (omega (arith, stored_more slots n g n_in e));
       filled = filled_more slots at l n old mid t g fills.filled width at_in n_in (λ same. none-some g (sym free ∙ (rw (← same) at e))) e change;
     }
 

@@ -36,9 +36,8 @@ pub fn fill(table: &mut Table, slots: &[Option<Held>], at: usize, label: &Label,
     table.put(at, at, own);
     for j in 0..slots.len() {
         if let Some(held) = &slots[j] {
-            let forth = label.order_bits(&held.label, meter);
-            let back = held.label.order_bits(label, meter);
-            table.put_both(at, j, forth, back);
+            let ways = label.order_bits_both_ways(&held.label, meter);
+            table.put_both(at, j, ways.forth, ways.back);
         }
     }
 }

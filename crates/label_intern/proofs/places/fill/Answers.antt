@@ -9,9 +9,9 @@ loop-j-preserved c =
     elim c.match-slots-j.branch [
       | in-Some w ↦
           let here = held_read _ _ _ _ c.loop-j-test.true c.index-slots-j.is w.in-Some.is in
-          let change = rw (w.order_bits-forth.ensures.bits, w.order_bits-back.ensures.bits, ← w.table-is) at w.put_both.ensures in
-          fills_more _ _ _ _ _ _ _ _ _ _ _ _ c.loop-j.invariant c.requires.width c.requires.within c.loop-j-test.true c.requires.free here change
-          w.order_bits-forth.ensures.scans (w.meter-is ∙ w.order_bits-back.ensures.scans)
+          let change = rw (w.order_bits_both_ways-ways.ensures.forth, w.order_bits_both_ways-ways.ensures.back, ← w.table-is) at w.put_both.ensures in
+          fills_more _ _ _ _ _ _ _ _ _ _ _ c.loop-j.invariant c.requires.width c.requires.within c.loop-j-test.true c.requires.free here change
+          (w.meter-is ∙ w.order_bits_both_ways-ways.ensures.scans)
       | in_default w ↦
           let here = held_read _ _ _ _ c.loop-j-test.true c.index-slots-j.is w.in_default.is in
           rw (w.table-is, w.meter-is) (fills_free _ _ _ _ _ _ _ _ c.loop-j.invariant c.loop-j-test.true here)
