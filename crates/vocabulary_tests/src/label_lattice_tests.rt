@@ -65,6 +65,9 @@ fn how_two_labels_are_listed(rt: HostRuntime) -> Result<(), Fail> {
     let plain = plain(&mut meter)?;
     assert_eq!(rt; owner.order_bits(&plain, &mut meter), 3);
     assert_eq!(rt; plain.order_bits(&owner, &mut meter), 6);
+    let ways = owner.order_bits_both_ways(&plain, &mut meter);
+    assert_eq!(rt; ways.forth, 3);
+    assert_eq!(rt; ways.back, 6);
     assert!(rt; plain.listing_cmp(&owner, &mut meter).is_lt());
     assert!(rt; owner.listing_cmp(&plain, &mut meter).is_gt());
     assert!(rt; owner.listing_cmp(&owner, &mut meter).is_eq());
