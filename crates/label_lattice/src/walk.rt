@@ -158,10 +158,10 @@ fn take_least(
     }
 }
 
-/// How two labels compare each way, each a default and its exceptions, as the sum of bits that
-/// `compare_levels` gives where it is the same at each category, and else of the bits that are there
-/// at each. Each turn compares the levels of the least category that is left in a list, and the
-/// defaults stand for all that are in none. Once no bit is left, that is the answer.
+/// How two labels compare each way, each a default and its exceptions: the sum of those bits of
+/// `compare_levels` that are there at each category. Each turn compares the levels of the least
+/// category that is left in a list, and the defaults stand for all that are in none. Once no bit is
+/// left, that is the answer.
 pub fn compare_everywhere(a_default: Level, a: &Pairs<16>, b_default: Level, b: &Pairs<16>) -> u8
     requires a_rising { IsRising a.now }
     requires b_rising { IsRising b.now }
