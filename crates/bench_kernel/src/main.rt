@@ -13,7 +13,8 @@ use crate::kernels::{Bench, Timed};
 use anyhow::Result;
 use base::ObjectId;
 use bench_support::{nanos_since, print_ratio};
-use kernel_rules::{Call, Event, Query};
+use kept_events::KeptEvent;
+use kernel_rules::{Call, Query};
 use std::alloc::Global;
 use std::env;
 use std::fs::File;
@@ -193,9 +194,9 @@ fn time_links(rt: &(impl Clock + Print), alloc: Global, size: Size) -> Result<()
     outcome
 }
 
-/// Prints how many bytes an event of a journal and a call take.
+/// Prints how many bytes an event in a journal and a call take.
 fn tell_sizes(rt: &impl Print) -> Result<()> {
-    let (event, call) = (size_of::<Event>(), size_of::<Call>());
+    let (event, call) = (size_of::<KeptEvent>(), size_of::<Call>());
     println!(rt; "event: {event} bytes, call: {call} bytes")?;
     Ok(())
 }

@@ -23,7 +23,8 @@ use crate::receipts::Placed;
 use crate::refusals::{SeatRefusal, SubmitRefusal};
 use crate::tallies::{Tally, count_events, events_of};
 use base::{Limits, Meter, NoMemory, ObjectId};
-use kernel_rules::{Call, Event, Reply};
+use kept_events::{KeptEvent, call_answers};
+use kernel_rules::{Call, Reply};
 use std::marker::Model;
 use std::sync::Wait;
 use syscall_core::Kernel;
@@ -36,7 +37,7 @@ pub struct Book<B: Naming> {
     limits: Limits,
     kernel: Kernel,
     meter: Meter,
-    journal: Vec<Event>,
+    journal: Vec<KeptEvent>,
     tallies: Vec<Tally>,
     places: Places,
     pair: Pair<B>,
@@ -60,7 +61,7 @@ impl<B: Naming> Model for Book<B> {
 }
 
 /// Whether a pass's number is its thread's next, and the journal has all that the pass has seen.
-fn is_turn<B: Naming>(journal: &[Event], tallies: &[Tally], pass: &Pass<B>) -> bool
+fn is_turn<B: Naming>(journal: &[KeptEvent], tallies: &[Tally], pass: &Pass<B>) -> bool
     requires { IsTallied tallies.now journal.now }
     ensures turn { result ≡ is_turn journal.now pass.now }
     ensures number { IsTrue result → pass.now.number ≡ count pass.now.thread journal.now + 1 }
@@ -71,7 +72,7 @@ fn is_turn<B: Naming>(journal: &[Event], tallies: &[Tally], pass: &Pass<B>) -> b
 }
 
 /// There is room for one event and one tally more. Nothing else changes, also without memory.
-fn make_room(journal: &mut Vec<Event>, tallies: &mut Vec<Tally>) -> Result<(), NoMemory>
+fn make_room(journal: &mut Vec<KeptEvent>, tallies: &mut Vec<Tally>) -> Result<(), NoMemory>
     ensures journal_room { OnOk result (vec_len journal.new < vec_capacity journal.new) }
     ensures tallies_room { OnOk result (vec_len tallies.new < vec_capacity tallies.new) }
     ensures journal { journal.new.items ≡ journal.old.items }
@@ -88,7 +89,7 @@ impl<B: Naming> Book<B> {
         limits: Limits,
         kernel: Kernel,
         meter: Meter,
-        journal: Vec<Event>,
+        journal: Vec<KeptEvent>,
         tallies: Vec<Tally>,
         places: Places,
         pair: Pair<B>,
@@ -122,7 +123,7 @@ impl<B: Naming> Book<B> {
     /// The journal: every event since the boot, the oldest first. Each event's reply is the answer
     /// of the rules in the state of the events before it, and each thread's events are numbered
     /// from 1.
-    pub fn events(&self) -> &[Event]
+    pub fn events(&self) -> &[KeptEvent]
         ensures journal { result.now ≡ self.now.journal }
         ensures legal { IsLegal B.boot.limits self.now.journal }
     {
@@ -138,7 +139,7 @@ impl<B: Naming> Book<B> {
 
     /// The journal, of a book that is used no more. The copies' memory is given back, once no
     /// reader has one; a book that is dropped keeps it.
-    pub fn into_events<R: Wait>(self, rt: &R) -> Vec<Event>
+    pub fn into_events<R: Wait>(self, rt: &R) -> Vec<KeptEvent>
         ensures journal { result.items ≡ self.journal }
         ensures legal { IsLegal B.boot.limits self.journal }
     {
@@ -185,6 +186,7 @@ impl<B: Naming> Book<B> {
         let events = self.journal.len() as u64;
         let _begins = self.pair.front(events).has(pass.front());
         make_room(&mut self.journal, &mut self.tallies)?;
+        let kept = self.pair.keep(call)?;
         let (kernel, meter) = (&mut self.kernel, &mut self.meter);
         let made = self
             .pair
@@ -192,7 +194,8 @@ impl<B: Naming> Book<B> {
         let Ok(()) = made else {
             return Err(SubmitRefusal::Memory);
         };
-        self.journal.push_reserved(pass.event(call, reply));
+        call_answers();
+        self.journal.push_reserved(pass.event(kept, reply));
         count_events(&mut self.tallies, pass.thread(), pass.number());
         let front = self.pair.front(events + 1);
         Ok(pass.pass_on(self.journal.len(), front))

@@ -17,7 +17,7 @@ use crate::seats::Seat;
 use crate::tallies::Tally;
 use crate::writers::{Writer, first_copies};
 use base::{Limits, Meter, NoMemory, ObjectId};
-use kernel_rules::Event;
+use kept_events::KeptEvent;
 use std::alloc::Global;
 use std::marker::Model;
 use std::mem::ManuallyDrop;
@@ -28,10 +28,11 @@ use syscall_core::{BootRefusal, Kernel};
 /// limits and its seats. One that is dropped keeps the copies' memory.
 #[derive(Drop)]
 pub struct Blank {
+    alloc: Global,
     limits: Limits,
     kernel: Kernel,
     meter: Meter,
-    journal: Vec<Event>,
+    journal: Vec<KeptEvent>,
     tallies: Vec<Tally>,
     places: Places,
     seen: Told,
@@ -80,6 +81,7 @@ fn blank_over(
     let (head, seen) = empty_log(alloc)?;
     let writer = first_copies(alloc, limits, &seen, seats)?;
     Ok(Blank {
+        alloc,
         limits: *limits,
         kernel,
         meter,
@@ -124,6 +126,7 @@ impl Blank {
         requires { self ≡ B.boot }
     {
         let Blank {
+            alloc,
             limits,
             kernel,
             meter,
@@ -134,7 +137,7 @@ impl Blank {
             head,
             writer,
         } = self;
-        let pair = Pair::new(seen, head, writer);
+        let pair = Pair::new(alloc, seen, head, writer);
         Shared {
             book: Mutex::new(Book::new(limits, kernel, meter, journal, tallies, places, pair)),
         }

@@ -1,6 +1,7 @@
 //! The copies of the kernel that readers take, and how they take in calls.
 ghost use Rattle.std.specs.Prelude.{◌≡◌, ℕ, [], IfOk, true};
 ghost use Rattle.kernel_rules.specs.Runs.{booted};
+ghost use Rattle.kernel_rules.specs.Step.{next};
 ghost use Rattle.published_copy.specs.Boots.{boot_of};
 ghost use Rattle.published_copy.specs.Shares.{IsShown};
 ghost use Rattle.syscall_core.specs.Kernel.{kernel_state};
@@ -55,6 +56,18 @@ pub(crate) struct Shown {
     pub(crate) list: [Event; 0],
 }
 
+/// A kernel makes the call of an operation. (The call stands here as long as it is made, and no
+/// longer: it is large.)
+#[inline(never)]
+fn make(kernel: &mut Kernel, meter: &mut Meter, operation: &Op)
+    ensures { kernel_state kernel.new
+        ≡ next (kernel_state kernel.old) operation.now.thread operation.now.call }
+{
+    let call = operation.call.call();
+    let mut reply = Reply::Done;
+    kernel.step_into(operation.thread, &call, &mut reply, meter);
+}
+
 impl Absorb<Op> for Copied {
     ghost use Rattle.published_copy.specs.Absorbed.{shown_of, absorbed};
 
@@ -67,10 +80,7 @@ impl Absorb<Op> for Copied {
     ghost never_fails = { Unit {0} };
 
     fn absorb_first(&mut self, operation: &Op, _other: &Copied) -> Result<(), AllocError> {
-        let mut reply = Reply::Done;
-        let meter = &mut self.meter;
-        self.kernel
-            .step_into(operation.thread, &operation.call, &mut reply, meter);
+        make(&mut self.kernel, &mut self.meter, operation);
         self.length = operation.length;
         let (weight, seen) = weighed(&operation.head, &operation.seen);
         if weight > operation.weight && weight - 1 == operation.weight {

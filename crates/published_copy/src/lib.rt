@@ -31,7 +31,7 @@ mod writers;
 
 pub use books::Book;
 pub use boots::{Blank, Shared};
-pub use kernel_rules::Event;
+pub use kept_events::{KeptCall, KeptEvent, KeptReply};
 pub use lending::Lent;
 pub use naming::Naming;
 pub use notes::Note;

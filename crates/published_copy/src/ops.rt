@@ -6,7 +6,7 @@ ghost use Rattle.published_copy.specs.Rules.{head_of};
 
 use crate::logs::{Head, Told};
 use base::ObjectId;
-use kernel_rules::Call;
+use kept_events::KeptCall;
 use std::sync::Arc;
 
 /// A call for the copies, with the log in which it was tried.
@@ -15,7 +15,7 @@ pub(crate) struct Op {
     /// The thread that calls.
     pub(crate) thread: ObjectId,
     /// The call.
-    pub(crate) call: Call,
+    pub(crate) call: KeptCall,
     /// How many events there are with it.
     pub(crate) length: u64,
     /// What the log weighs in which it was tried last.

@@ -1,7 +1,7 @@
 //! The log of a boot's events, and the two copies of their state.
 ghost use Rattle.core.specs.Mem.{manually_drop_value};
 ghost use Rattle.std.specs.Prelude.{◌≡◌, ◌+◌, ◌<◌, ◌^◌, ◌++◌, ◌∷◌, [], false, drop, length};
-ghost use Rattle.std.specs.Prelude.{OnOk, OnErr, IfSome, OnSome};
+ghost use Rattle.std.specs.Prelude.{OnOk, OnErr, IfOk, IfSome, OnSome};
 ghost use Rattle.std.specs.Arc.{arc_value};
 ghost use Rattle.kernel_rules.specs.History.{state_of, count};
 ghost use Rattle.kernel_rules.specs.Step.{answer, next};
@@ -22,7 +22,9 @@ use crate::passes::Pass;
 use crate::tips::Tip;
 use crate::writers::{Copies, Writer};
 use base::{Meter, NoMemory, ObjectId};
+use kept_events::KeptCall;
 use kernel_rules::{Call, Reply};
+use std::alloc::Global;
 use std::marker::Model;
 use std::mem::ManuallyDrop;
 use std::sync::{Arc, Wait};
@@ -32,6 +34,7 @@ use syscall_core::Kernel;
 /// the events lead to. Contracts see the events.
 #[derive(Drop)]
 pub(crate) struct Pair<B: Naming> {
+    alloc: Global,
     tip: Tip<B>,
     head: Arc<Head>,
     copies: Copies<B>,
@@ -88,19 +91,19 @@ fn operation<B: Naming>(
     tip: &Tip<B>,
     head: Arc<Head>,
     pass: &Pass<B>,
-    call: &Call,
+    call: KeptCall,
     events: u64,
 ) -> Op
     requires { arc_value head ≡ head_of B.boot.log }
     ensures thread { result.thread ≡ pass.now.thread }
-    ensures call { result.call ≡ call.now }
+    ensures call { result.call ≡ call }
     ensures length { result.length ≡ events }
     ensures book { result.seen.book ≡ B.boot.log }
     ensures log { result.seen.log ≡ tip.now }
 {
     Op {
         thread: pass.thread(),
-        call: *call,
+        call,
         length: events,
         weight: tip.weight(),
         seen: tip.seen(),
@@ -119,7 +122,12 @@ fn make(kernel: &mut Kernel, meter: &mut Meter, thread: ObjectId, call: &Call, r
 
 impl<B: Naming> Pair<B> {
     /// The log and the copies of a boot, with no event.
-    pub(crate) fn new(seen: Told, head: Arc<Head>, writer: ManuallyDrop<Writer>) -> Pair<B>
+    pub(crate) fn new(
+        alloc: Global,
+        seen: Told,
+        head: Arc<Head>,
+        writer: ManuallyDrop<Writer>,
+    ) -> Pair<B>
         requires empty { seen.log ≡ [] }
         requires log { seen.book ≡ B.boot.log }
         requires head { arc_value head ≡ head_of B.boot.log }
@@ -129,10 +137,18 @@ impl<B: Naming> Pair<B> {
         ensures { result ≡ [] }
     {
         Pair {
+            alloc,
             tip: Tip::new(seen),
             head,
             copies: Copies::new(writer),
         }
+    }
+
+    /// Keeps a call.
+    pub(crate) fn keep(&self, call: &Call) -> Result<KeptCall, NoMemory>
+        ensures { IfOk result (λ kept. kept ≡ call.now) }
+    {
+        KeptCall::new(self.alloc, call)
     }
 
     /// All events, which are so many, as they were seen.
@@ -168,11 +184,12 @@ impl<B: Naming> Pair<B> {
             (kernel_state kernel.new ≡ next (kernel_state kernel.old) pass.now.thread call.now) }
         ensures kept { OnErr result ((self.new ≡ self.old) × (kernel.new ≡ kernel.old)) }
     {
+        let kept = self.keep(call)?;
         let tried = attempt(rt, &mut self.tip, &self.head, kernel, pass, call);
         let Some(head) = tried else {
             return Err(NoMemory);
         };
-        let op = operation(&self.tip, head, pass, call, events);
+        let op = operation(&self.tip, head, pass, kept, events);
         self.copies.queue(op)?;
         make(kernel, meter, pass.thread(), call, reply);
         self.tip.settle(rt, &self.head);
@@ -190,6 +207,7 @@ impl<B: Naming> Pair<B> {
     /// Gives back the copies' memory, once no reader has one.
     pub(crate) fn close<R: Wait>(self, rt: &R) {
         let Pair {
+            alloc: _,
             tip: _,
             head: _,
             copies,

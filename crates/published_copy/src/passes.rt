@@ -1,5 +1,6 @@
 //! What a thread carries from call to call.
-ghost use Rattle.std.specs.Prelude.{◌≡◌, ◌+◌, ◌<◌, ◌^◌, length};
+ghost use Rattle.std.specs.Prelude.{◌≡◌, ◌+◌, ◌<◌, ◌^◌, IsTrue, length};
+ghost use Rattle.kept_events.specs.Replies.{is_of_call};
 ghost use Rattle.kernel_rules.specs.History.{IsLegal};
 ghost use Rattle.published_copy.specs.Turns.{turn};
 
@@ -7,7 +8,8 @@ use crate::fronts::Front;
 use crate::naming::Naming;
 use crate::receipts::Placed;
 use base::ObjectId;
-use kernel_rules::{Call, Event, Reply};
+use kept_events::{KeptCall, KeptEvent, KeptReply};
+use kernel_rules::Reply;
 use std::marker::Model;
 
 /// What a thread carries from call to call: the number of its next event, and the events that it
@@ -76,17 +78,18 @@ impl<B: Naming> Pass<B> {
     }
 
     /// The event that its thread's call is.
-    pub(crate) fn event(&self, call: &Call, reply: &Reply) -> Event
+    pub(crate) fn event(&self, call: KeptCall, reply: &Reply) -> KeptEvent
+        requires { IsTrue (is_of_call reply.now) }
         ensures thread { result.thread ≡ self.now.thread }
         ensures number { result.number ≡ self.now.number }
-        ensures call { result.call ≡ call.now }
+        ensures call { result.call ≡ call }
         ensures reply { result.reply ≡ reply.now }
     {
-        Event {
+        KeptEvent {
             thread: self.thread(),
             number: self.number(),
-            call: *call,
-            reply: *reply,
+            call,
+            reply: KeptReply::new(reply),
         }
     }
 

@@ -6,7 +6,8 @@ use auditor::{Verdict, audit};
 use base::{NoMemory, ObjectId};
 use call_text::{NameList, put_reply, read_script};
 use histar_args::{DEFAULTS, Options};
-use kernel_rules::{Call, Event, Reply};
+use kept_events::KeptEvent;
+use kernel_rules::{Call, Reply};
 use plain_core::{PlainKernel, run};
 use script_runner::{Always, histar_on, play_all};
 use std::alloc::Global;
@@ -73,10 +74,10 @@ fn text_of(alloc: Global, reply: &Reply) -> Result<Vec<u8>, NoMemory> {
     Ok(text)
 }
 
-fn calls_of(alloc: Global, events: &[Event]) -> Result<Vec<(ObjectId, Call)>, NoMemory> {
+fn calls_of(alloc: Global, events: &[KeptEvent]) -> Result<Vec<(ObjectId, Call)>, NoMemory> {
     let mut calls = Vec::new(alloc);
     for event in events {
-        calls.push((event.thread, event.call))?;
+        calls.push((event.thread, event.call.call()))?;
     }
     Ok(calls)
 }
@@ -97,7 +98,7 @@ fn check_run<R: Abort + AllocGlobal + Threads + Wait + Sync>(
     for (event, reply) in played.events.iter().zip(&replies) {
         assert_eq!(rt;
             text_of(alloc, reply)?.as_slice(),
-            text_of(alloc, &event.reply)?.as_slice()
+            text_of(alloc, &event.reply.reply())?.as_slice()
         );
     }
     Ok(replies.len())

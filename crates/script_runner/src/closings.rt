@@ -3,7 +3,8 @@ ghost use Rattle.std.specs.Prelude.{◌≡◌, IfOk};
 ghost use Rattle.script_runner.specs.Dumps.{IsClosing};
 
 use base::{Meter, NoMemory};
-use kernel_rules::{Event, Tables};
+use kept_events::KeptEvent;
+use kernel_rules::Tables;
 use published_copy::{Book, Naming};
 use std::alloc::Global;
 use std::sync::Wait;
@@ -12,7 +13,7 @@ use std::sync::Wait;
 #[derive(Drop)]
 pub struct Closing {
     /// The journal.
-    pub events: Vec<Event>,
+    pub events: Vec<KeptEvent>,
     /// The tables.
     pub tables: Tables,
 }

@@ -13,7 +13,8 @@ use crate::workers::{LinesEnd, Worker};
 use base::{Limits, ObjectId};
 use call_text::{Known, Phase, Script, Value};
 use indexmap::IndexSet;
-use kernel_rules::{Event, Tables};
+use kept_events::KeptEvent;
+use kernel_rules::Tables;
 use published_copy::{Blank, Naming, Note, Shared};
 use std::alloc::{AllocError, Global};
 use std::marker::Brand;
@@ -29,7 +30,7 @@ pub struct Played {
     /// for each its lines in order.
     pub output: Vec<u8>,
     /// The journal: each write call that was made, in the order in which the kernel took them.
-    pub events: Vec<Event>,
+    pub events: Vec<KeptEvent>,
     /// The tables of the state that the journal leads to.
     pub tables: Tables,
 }

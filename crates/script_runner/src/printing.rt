@@ -4,7 +4,8 @@ use crate::names::BoundNames;
 use base::NoMemory;
 use call_text::put_reply;
 use indexmap::IndexSet;
-use kernel_rules::{Event, Reply};
+use kept_events::KeptEvent;
+use kernel_rules::Reply;
 use std::alloc::Global;
 use text_words::{Name, put_name, put_number};
 
@@ -25,12 +26,12 @@ fn put_answer(
     out: &mut Vec<u8>,
     answer: &Answer,
     answers: &Answers,
-    events: &[Event],
+    events: &[KeptEvent],
     names: &BoundNames,
 ) -> Result<(), NoMemory> {
     match answer {
         Answer::Event(length) => match events.get(length.wrapping_sub(1)) {
-            Some(event) => put_reply(out, &event.reply, names),
+            Some(event) => put_reply(out, &event.reply.reply(), names),
             None => Ok(()),
         },
         Answer::Replied(place) => match answers.replies.get(*place) {
@@ -53,7 +54,7 @@ fn put_worker(
     out: &mut Vec<u8>,
     worker: &Name,
     answers: &Answers,
-    events: &[Event],
+    events: &[KeptEvent],
     names: &BoundNames,
 ) -> Result<(), NoMemory> {
     for (number, answer) in &answers.lines {
@@ -72,7 +73,7 @@ fn put_worker(
 pub fn output_of(
     alloc: Global,
     answered: &Answered<'_>,
-    events: &[Event],
+    events: &[KeptEvent],
 ) -> Result<Vec<u8>, NoMemory> {
     let mut out = Vec::new(alloc);
     for (index, answers) in answered.answers.iter().enumerate() {

@@ -9,7 +9,8 @@ use base::NoMemory;
 use call_text::{Script, ScriptError, read_script};
 use dump_text::legal_is_dump;
 use histar_args::Options;
-use kernel_rules::{Event, Tables};
+use kept_events::{KeptEvent, events_of};
+use kernel_rules::Tables;
 use program_io::{Fault, bytes_of};
 use std::alloc::Global;
 use std::io::{Read, Write};
@@ -70,17 +71,17 @@ fn script_of(alloc: Global, bytes: &[u8]) -> Result<Script, RunFault> {
 fn file_of(
     alloc: Global,
     options: &Options,
-    events: Vec<Event>,
+    events: &[KeptEvent],
     tables: Tables,
 ) -> Result<Vec<u8>, NoMemory>
-    requires { IsPlayed options.now.limits events.items tables }
+    requires { IsPlayed options.now.limits events.now tables }
     ensures { IfOk result (λ file. IsFile options.now.dump options.now.limits file.items) }
 {
     if !options.dump {
         return Ok(Vec::new(alloc));
     }
     legal_is_dump();
-    dump_of(alloc, &options.limits, events, tables)
+    dump_of(alloc, &options.limits, events_of(alloc, events)?, tables)
 }
 
 /// Plays a script, and makes all that the run writes.
@@ -101,7 +102,7 @@ fn texts_of<R: Threads + Wait + Sync>(
         events,
         tables,
     } = played;
-    let file = file_of(alloc, options, events, tables)?;
+    let file = file_of(alloc, options, events.as_slice(), tables)?;
     Ok(Texts { output, file })
 }
 

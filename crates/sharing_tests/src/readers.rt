@@ -6,8 +6,8 @@ use crate::samples::{
     submitted, write,
 };
 use base::{Data, Meter, ObjectId};
-use kernel_rules::{Event, Reply};
-use published_copy::{Blank, Naming, Seat, Shared};
+use kernel_rules::Reply;
+use published_copy::{Blank, KeptEvent, Naming, Seat, Shared};
 use std::alloc::Global;
 use std::marker::Brand;
 use std::process::Abort;
@@ -90,7 +90,7 @@ fn read_while_writing<'s, B: Naming + Send, R: Threads + Wait + Sync>(
 fn byte_after(
     kernel: &mut PlainKernel,
     meter: &mut Meter,
-    events: &[Event],
+    events: &[KeptEvent],
     length: u64,
     thread: ObjectId,
 ) -> Option<u8> {
@@ -100,7 +100,7 @@ fn byte_after(
             break;
         }
         left = left.saturating_sub(1);
-        if kernel.step(event.thread, &event.call, meter).is_err() {
+        if kernel.step(event.thread, &event.call.call(), meter).is_err() {
             return None;
         }
     }

@@ -6,10 +6,8 @@ use crate::samples::{
     seated, submitted, write,
 };
 use base::{Data, Meter, ObjectId, Refusal};
-use kernel_rules::{Call, Event, Reply};
-use published_copy::{
-    Blank, BootRefusal, Naming, Pass, Receipt, Seat, SeatRefusal, Shared, SubmitRefusal, Unread,
-};
+use kernel_rules::{Call, Reply};
+use published_copy::{Blank, BootRefusal, KeptEvent, Naming, Pass, Receipt, Seat, SeatRefusal, Shared, SubmitRefusal, Unread};
 use std::marker::Brand;
 use std::process::Abort;
 use std::sync::Wait;
@@ -43,7 +41,7 @@ fn has_no_entry(receipt: &Receipt, number: u64, length: usize) -> bool {
 }
 
 /// Whether the last event is the boot thread's third.
-fn ends_with_third(events: &[Event]) -> bool {
+fn ends_with_third(events: &[KeptEvent]) -> bool {
     match events.last() {
         Some(event) => event.thread == boot_thread() && event.number == 3,
         None => false,
@@ -79,7 +77,7 @@ fn use_boot<B: Naming, R: Wait + Abort>(rt: &R, blank: Blank, meter: &mut Meter)
 }
 
 /// Whether they are two events of one thread and then the first one of the thread that it made.
-fn are_three(events: &[Event]) -> bool {
+fn are_three(events: &[KeptEvent]) -> bool {
     match events {
         [one, other, last] => {
             one.number == 1

@@ -3,8 +3,8 @@ ghost use Rattle.std.specs.Prelude.{◌≡◌};
 
 use crate::samples::{is_refused, is_shown_own, seated, submitted};
 use base::{Limits, Meter, ObjectId};
-use kernel_rules::{Call, Event, Reply};
-use published_copy::{Blank, Naming, Seat, Shared};
+use kernel_rules::{Call, Reply};
+use published_copy::{Blank, KeptEvent, Naming, Seat, Shared};
 use std::alloc::Global;
 use std::marker::Brand;
 use std::process::Abort;
@@ -82,10 +82,10 @@ fn is_same(one: &Reply, other: &Reply) -> bool {
 }
 
 /// Whether a newly booted plain kernel makes or does what the events' replies say, in their order.
-fn is_replayed(kernel: &mut PlainKernel, meter: &mut Meter, events: &[Event]) -> bool {
+fn is_replayed(kernel: &mut PlainKernel, meter: &mut Meter, events: &[KeptEvent]) -> bool {
     for event in events {
-        let same = match kernel.step(event.thread, &event.call, meter) {
-            Ok(reply) => is_same(&reply, &event.reply),
+        let same = match kernel.step(event.thread, &event.call.call(), meter) {
+            Ok(reply) => is_same(&reply, &event.reply.reply()),
             Err(_) => false,
         };
         if !same {
@@ -96,7 +96,7 @@ fn is_replayed(kernel: &mut PlainKernel, meter: &mut Meter, events: &[Event]) ->
 }
 
 /// Whether a thread has so many events, numbered from 1.
-fn is_numbered(events: &[Event], thread: ObjectId, count: u64) -> bool {
+fn is_numbered(events: &[KeptEvent], thread: ObjectId, count: u64) -> bool {
     let mut number = 0u64;
     for event in events {
         if event.thread == thread {
@@ -155,7 +155,7 @@ fn hire<'s, B: Naming, R: Wait>(
 }
 
 /// Whether the events are those of all workers, each one's numbered from 1.
-fn are_numbered(events: &[Event]) -> bool {
+fn are_numbered(events: &[KeptEvent]) -> bool {
     let mut all = events.len() as u64 == THREADS + THREADS * CALLS
         && is_numbered(events, boot_thread(), THREADS + CALLS);
     for id in 4..THREADS + 3 {

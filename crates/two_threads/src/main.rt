@@ -6,12 +6,12 @@ ghost use Rattle.std.specs.Prelude.{◌≡◌};
 
 use base::{Level, Limits, ObjectId};
 use label_lattice::RawLabel;
-use published_copy::{Blank, Naming, Seat, SeatRefusal, Shared, SubmitRefusal};
+use published_copy::{Blank, KeptEvent, Naming, Seat, SeatRefusal, Shared, SubmitRefusal};
 use std::io;
 use std::marker::Brand;
 use std::sync::Wait;
 use std::thread::{Threads, join};
-use syscall_core::{Call, Event, NewThread, Reply};
+use syscall_core::{Call, NewThread, Reply};
 use thiserror::Error;
 
 /// Why the kernel is not shared.
@@ -49,7 +49,7 @@ fn object_in(reply: &Reply) -> ObjectId {
     }
 }
 
-fn count_of(events: &[Event], thread: ObjectId) -> usize {
+fn count_of(events: &[KeptEvent], thread: ObjectId) -> usize {
     events.iter().filter(|event| event.thread == thread).count()
 }
 

@@ -12,7 +12,7 @@ returns-then-weight-operation-2-clause-absorbed c =
     let more : weight saw.result.1.log ≡ weight op.seen.log + 1 = omega (arith, saw.ensures.weight, op.weighs, c.if-weight-operation.true, c.if-weight-operation-2.true) in
     let log : saw.result.1.log ≡ op.seen.log ++ Made ∷ [] = settled op.seen.log saw.result.1.log saw.ensures.begins more in
     λ i. record {
-      state = c.step_into.ensures.state i;
+      state = c.make.ensures i;
       limits = c.args.self.now.limits;
       length = op.length;
       number = (saw.ensures.book i).number;
