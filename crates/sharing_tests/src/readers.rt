@@ -100,7 +100,10 @@ fn byte_after(
             break;
         }
         left = left.saturating_sub(1);
-        if kernel.step(event.thread, &event.call.call(), meter).is_err() {
+        if kernel
+            .step(event.thread, &event.call.call(), meter)
+            .is_err()
+        {
             return None;
         }
     }

@@ -7,7 +7,10 @@ use crate::samples::{
 };
 use base::{Data, Meter, ObjectId, Refusal};
 use kernel_rules::{Call, Reply};
-use published_copy::{Blank, BootRefusal, KeptEvent, Naming, Pass, Receipt, Seat, SeatRefusal, Shared, SubmitRefusal, Unread};
+use published_copy::{
+    Blank, BootRefusal, KeptEvent, Naming, Pass, Receipt, Seat, SeatRefusal, Shared, SubmitRefusal,
+    Unread,
+};
 use std::marker::Brand;
 use std::process::Abort;
 use std::sync::Wait;
