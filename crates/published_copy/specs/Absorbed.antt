@@ -34,7 +34,7 @@ shown_of c = record {
 -- and what becomes of it: the next state, and the list with the call's event
 abbrev pub absorbed : Shown → Op → Shown
 absorbed s op = record {
-  state = next s.state op.thread op.call;
+  state = next s.state op.thread op.call.value;
   limits = s.limits;
   length = op.length;
   number = op.seen.book.number;

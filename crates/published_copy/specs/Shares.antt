@@ -78,7 +78,7 @@ copies_with list pending = record { list = list; pending = pending }
 pub record IsNext (boot : Boot) (list : List Event) (op : Op) : Type 0 where
   pub event : Event
   pub thread_is : op.thread ≡ event.thread
-  pub call_is : op.call ≡ event.call
+  pub call_is : op.call.value ≡ event.call
   pub length_is : op.length ≡ length list + 1
   pub log_is : op.seen.book ≡ boot.log
   pub list_is : listed op ≡ list ++ event ∷ []

@@ -56,16 +56,13 @@ pub(crate) struct Shown {
     pub(crate) list: [Event; 0],
 }
 
-/// A kernel makes the call of an operation. (The call stands here as long as it is made, and no
-/// longer: it is large.)
-#[inline(never)]
+/// A kernel makes the call of an operation.
 fn make(kernel: &mut Kernel, meter: &mut Meter, operation: &Op)
     ensures { kernel_state kernel.new
-        ≡ next (kernel_state kernel.old) operation.now.thread operation.now.call }
+        ≡ next (kernel_state kernel.old) operation.now.thread operation.now.call.value }
 {
-    let call = operation.call.call();
     let mut reply = Reply::Done;
-    kernel.step_into(operation.thread, &call, &mut reply, meter);
+    kernel.step_into(operation.thread, &operation.call, &mut reply, meter);
 }
 
 impl Absorb<Op> for Copied {

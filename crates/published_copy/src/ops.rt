@@ -6,7 +6,7 @@ ghost use Rattle.published_copy.specs.Rules.{head_of};
 
 use crate::logs::{Head, Told};
 use base::ObjectId;
-use kept_events::KeptCall;
+use kernel_rules::Call;
 use std::sync::Arc;
 
 /// A call for the copies, with the log in which it was tried.
@@ -14,8 +14,8 @@ use std::sync::Arc;
 pub(crate) struct Op {
     /// The thread that calls.
     pub(crate) thread: ObjectId,
-    /// The call.
-    pub(crate) call: KeptCall,
+    /// The call, in memory of its own: operations are moved, and a call is large.
+    pub(crate) call: Box<Call>,
     /// How many events there are with it.
     pub(crate) length: u64,
     /// What the log weighs in which it was tried last.

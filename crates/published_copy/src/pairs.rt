@@ -91,12 +91,12 @@ fn operation<B: Naming>(
     tip: &Tip<B>,
     head: Arc<Head>,
     pass: &Pass<B>,
-    call: KeptCall,
+    call: Box<Call>,
     events: u64,
 ) -> Op
     requires { arc_value head ≡ head_of B.boot.log }
     ensures thread { result.thread ≡ pass.now.thread }
-    ensures call { result.call ≡ call }
+    ensures call { result.call.value ≡ call.value }
     ensures length { result.length ≡ events }
     ensures book { result.seen.book ≡ B.boot.log }
     ensures log { result.seen.log ≡ tip.now }
@@ -184,7 +184,7 @@ impl<B: Naming> Pair<B> {
             (kernel_state kernel.new ≡ next (kernel_state kernel.old) pass.now.thread call.now) }
         ensures kept { OnErr result ((self.new ≡ self.old) × (kernel.new ≡ kernel.old)) }
     {
-        let kept = self.keep(call)?;
+        let kept = Box::new(self.alloc, *call)?;
         let tried = attempt(rt, &mut self.tip, &self.head, kernel, pass, call);
         let Some(head) = tried else {
             return Err(NoMemory);
