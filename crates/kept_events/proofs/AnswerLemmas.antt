@@ -6,7 +6,6 @@ use Rattle.kernel_rules.specs.Step.{accepted, first_packet, or_refused, told_by}
 use Rattle.kernel_rules.specs.declared.calls.Call.{Call}
 use Rattle.kernel_rules.specs.declared.calls.Call.TheVariants as call
 use Rattle.kernel_rules.specs.declared.objects.Gate.{Gate}
-use Rattle.kernel_rules.specs.declared.replies.Reply.{Reply}
 use Rattle.kept_events.specs.Replies.{is_of_call}
 
 gate_kept : (gate : Option Gate) → is_of_call (told_by gate) ≡ true
