@@ -3,3 +3,4 @@ pub mod TextLemmas
 pub mod Faults
 pub mod ScriptLemmas
 pub mod Progress
+pub mod Unbound

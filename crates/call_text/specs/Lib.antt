@@ -10,3 +10,4 @@ pub mod Reply
 pub mod Place
 pub mod Asked
 pub mod Resolve
+pub mod Unbound

@@ -12,6 +12,7 @@ use Rattle.call_text.specs.declared.known_names.Named.{Named}
 use Rattle.call_text.specs.declared.known_names.Value.{Value}
 use Rattle.call_text.specs.declared.known_names.Value.TheVariants.{Object, Category}
 use Rattle.call_text.specs.declared.asking.Asked.{Asked}
+use Rattle.call_text.specs.declared.asking.Asked.TheVariants.{Read, Write}
 use Rattle.call_text.specs.Asked.{asked_of, asked_by}
 use Rattle.call_text.specs.Known.{value_of}
 
@@ -76,3 +77,8 @@ resolved call names = or_unbound (first_unbound call.args names) (asked_of call.
 abbrev pub resolved_by : Result (Option Query) (List ℕ) → Call → Result Asked (List ℕ)
 resolved_by (Err name) call = Err name
 resolved_by (Ok query) call = Ok (asked_by query call)
+
+-- what stands where the call is to be written: what stood there, after a query
+abbrev pub written : Asked → Call → Call
+written (Read query) call = call
+written (Write new) call = new

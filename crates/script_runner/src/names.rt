@@ -88,6 +88,10 @@ impl Known for BoundNames {
     ghost names = { λ names. names };
 
     fn value_of(&self, name: &Name) -> Option<Value> {
+        // A look-up hashes the name even where there is none to find.
+        if self.values.is_empty() {
+            return None;
+        }
         self.values.get(name).copied()
     }
 
