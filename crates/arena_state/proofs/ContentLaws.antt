@@ -1,5 +1,5 @@
 -- Pieces whose slot of one object holds something else.
-use Rattle.std.proofs.Common.{◌≡◌, ◌≢◌, ℕ, Bool, true, false, cond, ◌==◌, List, [], ◌∷◌, get_or, Some, None, refl, sym, ◌∙◌, ap, subst, arith, inl, inr}
+use Rattle.std.proofs.Common.{◌≡◌, ◌≢◌, ℕ, Bool, true, false, cond, ◌==◌, List, [], ◌∷◌, Some, None, refl, sym, ◌∙◌, ap, subst, inl, inr}
 use Rattle.std.specs.Ordering.{nat_cmp}
 use Rattle.std.specs.Map.{lookup, set_value}
 use Rattle.std.specs.BTreeMap.{is_at}
@@ -17,7 +17,7 @@ use Rattle.arena_state.specs.Assembled.{pieces_state}
 use Rattle.arena_state.specs.Sound.{IsSound}
 use Rattle.arena_state.specs.Stocked.{slot_of, content_in, content_at, whole_state}
 use Rattle.arena_state.proofs.FilledLaws.{same_filled, changed_filled}
-use Rattle.arena_state.proofs.SoundLaws.{apart_at, object_none}
+use Rattle.arena_state.proofs.SoundLaws.{object_none}
 use Rattle.arena_state.proofs.ShapeLaws.{one_id}
 use Rattle.arena_state.proofs.StockLaws.{slot_is, slot_there}
 

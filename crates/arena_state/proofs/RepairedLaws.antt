@@ -29,6 +29,18 @@ rest_own s t there =
       | false ↦ λ gone. absurd (there gone)
     ] (restricted_at s t))
 
+-- and who has one then is live
+pub rest_live : (s : State) (t : ℕ) (space : Entry) → own_space (restricted s) t ≡ Some space → is_live (lists_of s.objects) t ≡ true
+rest_live s t space own =
+    elim (is_live (lists_of s.objects) t) as (λ v. object_at (restricted s) t ≡ cond v (object_at s t) None → v ≡ true) [
+      | true ↦ λ is. refl
+      | false ↦ λ gone.
+          let none : own_space (restricted s) t ≡ None =
+          ap (λ (v : Option Object). option_map (λ r. r.space) (option_and_then (λ x. thread_of x.body) v)) gone in
+          let both : None ≡ Some space = sym none ∙ own in
+          absurd (cc)
+    ] (restricted_at s t)
+
 -- after a change that touches what it may touch
 pub rows_left : (a b : ArenaState) (c : Change) (rows : BySlot) → AreKept a rows → KeepsAllSlots a b
     → (state_of b).limits ≡ (state_of a).limits

@@ -1,16 +1,16 @@
 -- A segment of another length: its record, its bytes, and that there are frames for them.
-use Rattle.std.proofs.Common.{◌≡◌, ◌≢◌, ℕ, zero, suc, ◌+◌, ◌-◌, ◌*◌, ◌/◌, ◌<◌, ◌≤◌, ◌==◌, ◌&&◌, Bool, true, false, cond, List, [], ◌∷◌, ◌++◌, length, take, replicate, get_or, set, Option, Some, refl, sym, ◌∙◌, ap, subst, arith, inl, inr, sum_by}
+use Rattle.std.proofs.Common.{◌≡◌, ◌≢◌, ℕ, zero, suc, ◌+◌, ◌-◌, ◌*◌, ◌/◌, ◌<◌, ◌≤◌, ◌==◌, ◌&&◌, true, false, cond, List, [], ◌∷◌, ◌++◌, length, take, replicate, set, Option, Some, refl, sym, ◌∙◌, ap, subst, arith, inl, inr, sum_by}
 use Rattle.std.proofs.Common.{get_or-set_same, get_or-set_other, length-set, length-append}
 use Rattle.std.proofs.lemmas.List.{length-take, length-replicate}
 use Rattle.std.proofs.lemmas.Bool.{cases_eq, ne_eqb}
-use Rattle.base.specs.Live.{has, links}
+use Rattle.base.specs.Live.{has}
 use Rattle.base.specs.declared.kinds.Kind.TheVariants as kinds
 use Rattle.containers.specs.Tree.{HasSlot}
 use Rattle.label_intern.specs.declared.held.Held.{Held}
 use Rattle.kernel_rules.specs.declared.objects.Object.{Object}
 use Rattle.kernel_rules.specs.declared.objects.Body.TheVariants as is
 use Rattle.kernel_rules.specs.declared.objects.Body as body
-use Rattle.kernel_rules.specs.State.{State, kind_number, kind_of, object_at, of_object, own_cost, listed, use_of, quota_at, list_at, is_kind_at, is_kind, lists_of}
+use Rattle.kernel_rules.specs.State.{State, kind_number, kind_of, object_at, of_object, own_cost, listed, use_of, quota_at, is_kind_at, is_kind, lists_of}
 use Rattle.kernel_rules.specs.Changes.{put, changed, with_body, rebyte}
 use Rattle.kernel_rules.specs.WellFormed.{is_well_formed}
 use Rattle.kernel_rules.specs.Written.{resized}
@@ -19,15 +19,15 @@ use Rattle.kernel_rules.proofs.LookupLaws.{at_is, at_self, lookup_put}
 use Rattle.kernel_rules.proofs.RecordLaws.{lists_of-set_value}
 use Rattle.kernel_rules.proofs.ResizeLaws.{resized_well_formed}
 use Rattle.kernel_rules.proofs.WellFormedLaws.{soundness_of}
-use Rattle.segments.specs.Segments.{bytes_in, all_pages, pages_in, HasRoom}
+use Rattle.segments.specs.Segments.{bytes_in, pages_in, HasRoom}
 use Rattle.arena_state.specs.declared.records.Record.{Record}
 use Rattle.arena_state.specs.declared.records.Kept as kept
 use Rattle.arena_state.specs.declared.records.Kept.TheVariants as keeps
 use Rattle.arena_state.specs.declared.pieces.Pieces.{Pieces}
 use Rattle.arena_state.specs.Assembled.{pieces_state, record_in, assembled, body_of, blank, claims, body_use}
-use Rattle.arena_state.specs.Filled.{Content, filled, filled_body, filled_state}
+use Rattle.arena_state.specs.Filled.{Content, filled_body, filled_state}
 use Rattle.arena_state.specs.Sound.{IsSound}
-use Rattle.arena_state.specs.Stocked.{content_in, content_at, whole_state, kept_pages, keeps_space, pages_at, is_space_at, IsStocked}
+use Rattle.arena_state.specs.Stocked.{content_at, whole_state, kept_pages, keeps_space, pages_at, is_space_at, IsStocked}
 use Rattle.arena_state.proofs.ContentLaws.{unchanged}
 use Rattle.arena_state.proofs.EditLaws.{kept_use_is}
 use Rattle.arena_state.proofs.FilledLaws.{changed_filled}
@@ -35,7 +35,7 @@ use Rattle.arena_state.proofs.HeldLaws.{read_set}
 use Rattle.arena_state.proofs.PageLaws.{pages_fit, pages_total, pages_is}
 use Rattle.arena_state.proofs.RebindLaws.{sum_changed}
 use Rattle.arena_state.proofs.RowLaws.{row_place}
-use Rattle.arena_state.proofs.RefillLaws.{with_segments, segments_sound, rebyted_at, bytes_are, bytes_off}
+use Rattle.arena_state.proofs.RefillLaws.{with_segments, rebyted_at, bytes_are, bytes_off}
 use Rattle.arena_state.proofs.ShapeLaws.{one_id, slot_of, slot_is}
 use Rattle.arena_state.proofs.SoundLaws.{object_here, slot_within, with_record, put_state, changed_state}
 use Rattle.arena_state.proofs.StayLaws.{IsRekept, rekept_sound}

@@ -1,8 +1,8 @@
 -- Which threads' rows of translation a change may touch.
-use Rattle.std.specs.Prelude.{ℕ, ◌==◌, Bool, true, false, ◌&&◌, ◌||◌, Option, Some, None}
+use Rattle.std.specs.Prelude.{ℕ, ◌==◌, Bool, true, false, not, ◌&&◌, ◌||◌, Option, Some, None}
 use Rattle.std.specs.List.{list_any}
 use Rattle.kernel_rules.specs.State.{State, slots_at}
-use Rattle.kernel_rules.specs.Translate.{own_space}
+use Rattle.kernel_rules.specs.Translate.{names_none, own_space}
 use Rattle.kernel_rules.specs.declared.calls.Entry.{Entry}
 use Rattle.kernel_rules.specs.declared.objects.Mapping.{Mapping}
 use Rattle.arena_state.specs.declared.repairs.Change as change
@@ -29,10 +29,10 @@ reaches s (by.Space a) space = space.object == a
 reaches s (by.Object o) space = list_any (maps o) (slots_at s space.object)
 reaches s by.All space = true
 
--- so it does where there is one
+-- so it does where there is one, and it names an address space
 abbrev pub reaches_by : State → change.Change → Option Entry → Bool
 reaches_by s c None = false
-reaches_by s c (Some space) = reaches s c space
+reaches_by s c (Some space) = not (names_none space) && reaches s c space
 
 -- the change may touch rows of the thread
 abbrev pub touches : State → change.Change → ℕ → Bool

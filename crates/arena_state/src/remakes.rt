@@ -25,6 +25,13 @@ fn mapping_in(slots: &[Option<Mapping>], place: usize) -> Option<Mapping>
     }
 }
 
+// Whether an entry names an address space.
+pub(crate) fn is_named(space: &Entry) -> bool
+    ensures { result ≡ not (names_none space.now) }
+{
+    space.container.number() != 0 || space.object.number() != 0
+}
+
 impl ArenaState {
     // The entry of a thread's address space, none for any other object.
     pub(crate) fn space_of(&self, thread: ObjectId, meter: &mut Meter) -> Option<Entry>
@@ -69,9 +76,8 @@ impl ArenaState {
             ≡ (not (names_none space.now) && opens (state_of self.now) thread space.now) }
         ensures scans { meter.new.scans ≡ meter.old.scans }
     {
-        let named = space.container.number() != 0 || space.object.number() != 0;
         let sight = self.sight(thread, space, meter);
-        named && sight.accessible && sight.listed && sight.object.observed
+        is_named(space) && sight.accessible && sight.listed && sight.object.observed
     }
 
     // What the sixteen slots show of an address space whose entry stands open to a thread.

@@ -1,5 +1,6 @@
 //! Rows of translation that are repaired after a change: those of the threads that it may touch
-//! are remade, and all others stay. No label is scanned.
+//! are remade, and all others stay. It touches no thread whose entry names no address space. No
+//! label is scanned.
 ghost use Rattle.std.specs.Prelude.{◌≡◌, ◌+◌, ◌<◌};
 ghost use Rattle.std.specs.List.{list_any};
 ghost use Rattle.translation_rows.specs.Rows.{slot_count};
@@ -7,6 +8,7 @@ ghost use Rattle.arena_state.specs.Shown.{AreKept, AreKeptBut};
 ghost use Rattle.arena_state.specs.States.{state_of};
 ghost use Rattle.arena_state.specs.Touched.{goes_by, is_same, maps, reaches, touches};
 
+use crate::remakes::is_named;
 use crate::states::ArenaState;
 use base::{Meter, ObjectId, Slot};
 use kernel_rules::{Entry, Mapping};
@@ -15,14 +17,14 @@ use translation_rows::Rows;
 /// A change of the state, as far as it may touch rows of translation.
 #[derive(Clone, Copy)]
 pub enum Change {
-    /// A container lists one object more, by this entry. It touches the threads whose address
-    /// space has the entry, or maps something by it.
+    /// A container lists one object more, by this entry, or one less, that is no container. It
+    /// touches the threads whose address space has the entry, or maps something by it.
     Entry(Entry),
     /// A slot of this address space is set. It touches the threads in that space.
     Space(ObjectId),
     /// This object is immutable. It touches the threads whose address space maps it.
     Object(ObjectId),
-    /// Objects are gone. It touches all threads.
+    /// A container is gone, with what it listed. It touches all threads.
     All,
 }
 
@@ -90,7 +92,7 @@ impl ArenaState {
     {
         match self.space_of(thread, meter) {
             None => false,
-            Some(space) => self.reaches(change, &space, meter),
+            Some(space) => is_named(&space) && self.reaches(change, &space, meter),
         }
     }
 

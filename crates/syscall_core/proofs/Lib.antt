@@ -1,3 +1,4 @@
 pub mod RowLaws
 pub mod RepairLaws
 pub mod NamedLaws
+pub mod UnrefLaws

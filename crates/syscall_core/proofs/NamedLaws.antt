@@ -1,5 +1,5 @@
 -- Entries name rightly after each change of a state in which they do.
-use Rattle.std.proofs.Common.{◌≡◌, ℕ, true, false, Option, Some, None, refl, sym, subst, ap, inl, inr, IfSome, ◌&&◌, ◌||◌}
+use Rattle.std.proofs.Common.{◌≡◌, ℕ, true, Option, Some, refl, subst, inl, inr, IfSome}
 use Rattle.std.proofs.lemmas.Bool.{and_parts, both_ways, or_cases}
 use Rattle.label_lattice.specs.Label.{LabelValue}
 use Rattle.base.specs.declared.kinds.Kind as kind
@@ -12,7 +12,6 @@ use Rattle.kernel_rules.specs.WellFormed.{is_well_formed}
 use Rattle.kernel_rules.specs.declared.calls.Entry.{Entry}
 use Rattle.kernel_rules.specs.declared.objects.Gate.{Gate}
 use Rattle.kernel_rules.specs.declared.objects.Mapping.{Mapping}
-use Rattle.kernel_rules.specs.declared.objects.Body as body
 use Rattle.kernel_rules.specs.declared.objects.Body.TheVariants as is
 use Rattle.kernel_store.specs.Named.{names, names_space}
 use Rattle.translation_laws.specs.Names.{NamesKind, NamesSpace, NamesRightly, IsNamedRightly}

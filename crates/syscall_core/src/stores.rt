@@ -1,6 +1,7 @@
 //! The arena kernel as what calls keep objects in: it takes no memory after its boot, and a call that compares only
 //! labels which are kept scans none.
 ghost use Rattle.std.specs.Prelude.{◌≡◌};
+ghost use Rattle.syscall_core.specs.Kernel.{cut_touches};
 
 use crate::kernel::Kernel;
 use arena_state::Change;
@@ -9,6 +10,17 @@ use kernel_rules::{Entry, Gate, Ids, Mapping, Place, Thread};
 use kernel_store::{Seen, Sight, Store};
 use label_lattice::Label;
 use std::convert::Infallible;
+
+// What may be touched once an entry is taken out: what goes by it, and all where it names a container.
+fn cut_touches(is_container: bool, entry: &Entry) -> Change
+    ensures { result ≡ cut_touches is_container entry.now }
+{
+    if is_container {
+        Change::All
+    } else {
+        Change::Entry(*entry)
+    }
+}
 
 impl Store for Kernel {
     ghost use Rattle.syscall_core.specs.Kernel.{kernel_state};
@@ -180,8 +192,10 @@ impl Store for Kernel {
     }
 
     fn unref(&mut self, entry: &Entry, meter: &mut Meter) -> Result<(), Infallible> {
+        let is_container = self.state.is_kind(Kind::Container, entry.object, meter);
         self.state.unref(entry, meter);
-        self.state.repair(&Change::All, &mut self.rows, meter);
+        let cut = cut_touches(is_container, entry);
+        self.state.repair(&cut, &mut self.rows, meter);
         Ok(())
     }
 

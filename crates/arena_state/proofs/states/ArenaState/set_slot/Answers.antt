@@ -1,4 +1,4 @@
-use Rattle.std.proofs.Common.{sym, ◌∙◌, ap, set, arith}
+use Rattle.std.proofs.Common.{sym, ◌∙◌, ap, set}
 use Rattle.std.proofs.lemmas.List.{length-set}
 use Rattle.arena_state.specs.Stocked.{keeps_space}
 use Rattle.arena_state.proofs.EditLaws.{read_is}
