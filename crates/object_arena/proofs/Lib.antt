@@ -1,3 +1,4 @@
 pub mod SearchSteps
 pub mod Kept
 pub mod GapSteps
+pub mod HintSteps

@@ -1,10 +1,10 @@
 -- The steps of a search by halves.
-use Rattle.std.proofs.Common.{◌≡◌, ◌≢◌, ℕ, zero, suc, ◌+◌, ◌-◌, ◌*◌, ◌/◌, ◌^◌, ◌<◌, ◌≤◌, ◌⊎◌, inl, inr, min, List, length, get_or, sym, ap, subst, arith}
+use Rattle.std.proofs.Common.{◌≡◌, ◌≢◌, ℕ, zero, suc, ◌+◌, ◌-◌, ◌*◌, ◌/◌, ◌^◌, ◌<◌, ◌≤◌, ◌⊎◌, inl, inr, min, List, length, get_or, sym, ap, ◌∙◌, subst, arith}
 use Rattle.std.proofs.Math.Pow.{pow_mono}
 use Rattle.std.proofs.lemmas.Grind.{pow_more}
 use Rattle.std.proofs.lemmas.Bool.{cases_lt}
 use Rattle.std.proofs.lemmas.Nat.{leading_length}
-use Rattle.std.proofs.lemmas.Int.Digits.{number_lt, number_digits_of, all_below_base_digits_of}
+use Rattle.std.proofs.lemmas.Int.Digits.{number_lt, number_digits_of, all_below_base_digits_of, length-digits_of-le}
 use Rattle.std.specs.Int.Count.{count_leading_zeros}
 use Rattle.std.specs.Int.Digits.{digits_of}
 use Rattle.base.specs.Counts.{Counts, probed, ProbesAtMost}
@@ -46,34 +46,19 @@ halved_first end size lt fits =
     subst (λ (m : ℕ). Parts 0 m end (binary_digits size)) middle
     (halves 0 end (binary_digits size) lt (omega (arith, fits, below_digits size)))
 
--- a range of two has more than one read left
-two_digits : (size : ℕ) → 2 ≤ size → 2 ^ 1 ≤ 2 ^ (binary_digits size - 1)
-two_digits size le = elim (cases_lt 1 (binary_digits size)) [
-  | inl more ↦ let le' : 1 ≤ binary_digits size - 1 = omega arith in pow_mono le'
-  | inr few ↦
-      let small : 2 ^ binary_digits size ≤ 2 ^ 1 = pow_mono few in
-      absurd (omega (arith, small, below_digits size, le))
-]
-
--- so does a place with more leading zeros than the size, where at most one comes after it
-pub guessed : (guess end size : ℕ) → guess < end → end ≤ guess + 2 → end ≤ size → size < 2 ^ 64
-    → count_leading_zeros 64 size < count_leading_zeros 64 guess → Parts 0 guess end (binary_digits size)
-guessed guess end size lt le fits small zeros =
-    let short = leading_length 64 guess (omega arith) in
-    let long = leading_length 64 size small in
+-- a number with more leading zeros has a binary digit less
+pub digit_less : (ids size : ℕ) → ids < 2 ^ 64 → size < 2 ^ 64 → count_leading_zeros 64 size < count_leading_zeros 64 ids
+    → binary_digits ids + 1 ≤ binary_digits size
+digit_less ids size small big zeros =
+    let short = leading_length 64 ids small in
+    let long = leading_length 64 size big in
     let few : long.0 ≤ binary_digits size = few_digits long.0 size long.3 in
-    let less : short.0 ≤ binary_digits size - 1 = omega (arith, zeros, few, short.1, long.1) in
-    let grows : 2 ^ short.0 ≤ 2 ^ (binary_digits size - 1) = pow_mono less in
-    record {
-      from = omega arith;
-      to = lt;
-      some = omega (arith, zeros, few, short.1, long.1);
-      before = omega (arith, short.2, grows);
-      after = elim (cases_lt (guess + 1) end) [
-        | inl more ↦ omega (arith, le, two_digits size (omega (arith, fits)))
-        | inr one ↦ omega (arith, short.2, grows)
-      ];
-    }
+    let fits : binary_digits ids ≤ short.0 = length-digits_of-le 2 short.0 ids (omega arith) short.2 in
+    omega (arith, zeros, few, fits, short.1, long.1)
+
+-- and a smaller one has no more
+pub digits_fewer : (ids size : ℕ) → ids ≤ size → binary_digits ids ≤ binary_digits size
+digits_fewer ids size le = length-digits_of-le 2 (binary_digits size) ids (omega arith) (omega (arith, le, below_digits size))
 
 -- numbers that rise are no less than their places
 no_less : (ids : List ℕ) → Rises ids → (k : ℕ) → k < length ids → k ≤ get_or ids k 0
@@ -180,3 +165,16 @@ one_more old now more most few is =
 pub none_more : (old new : Counts) (most : ℕ) → ProbesAtMost most old new → ProbesAtMost (most + 1) old new
 none_more old new most few =
     record { no_fewer = few.no_fewer; no_more = omega (arith, few.no_more); scans = few.scans }
+
+-- probes, and then others
+pub probes_then : (old now new : Counts) (m n : ℕ) → ProbesAtMost m old now → ProbesAtMost n now new → ProbesAtMost (m + n) old new
+probes_then old now new m n before after = record {
+  no_fewer = omega (arith, before.no_fewer, after.no_fewer);
+  no_more = omega (arith, before.no_more, after.no_more);
+  scans = after.scans ∙ before.scans;
+}
+
+-- no more than a larger number
+pub probes_within : (old new : Counts) (m n : ℕ) → m ≤ n → ProbesAtMost m old new → ProbesAtMost n old new
+probes_within old new m n le few =
+    record { no_fewer = few.no_fewer; no_more = omega (arith, le, few.no_more); scans = few.scans }

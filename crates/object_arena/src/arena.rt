@@ -1,5 +1,5 @@
-//! The arena: a sorted directory from id to slot, and the slots.
-ghost use Rattle.std.specs.Prelude.{◌≡◌, ◌≢◌, ℕ, ◌+◌, ◌<◌, ◌≤◌, [], ◌∷◌, ◌++◌, length, All, Some};
+//! The arena: a sorted directory from id to slot, hints beside it, and the slots.
+ghost use Rattle.std.specs.Prelude.{◌≡◌, ◌≢◌, ℕ, ◌+◌, ◌-◌, ◌<◌, ◌≤◌, [], ◌∷◌, ◌++◌, length, All, Some};
 ghost use Rattle.std.specs.Prelude.{None};
 ghost use Rattle.std.specs.Prelude.{IfOk, IfSome, IfNone, IsSome, slice_index, slice_set, remove};
 ghost use Rattle.base.specs.Counts.{probed, ProbesAtMost};
@@ -8,7 +8,8 @@ ghost use Rattle.std.specs.Borrow.{Lends, sem};
 ghost use Rattle.std.specs.contracts.option.Option.{the_row as option_row};
 
 use crate::gaps::{close_gaps, vacate};
-use crate::search::place_of;
+use crate::hints::{Hint, blank, forget, forget_all, hinted, keep};
+use crate::search::{leaves_a_probe, place_of};
 use base::{Meter, NoMemory, ObjectId, Slot};
 use std::alloc::Global;
 use std::marker::Model;
@@ -21,6 +22,7 @@ pub struct Arena<T> {
     slots: Vec<usize>,
     spare: Vec<usize>,
     cells: Vec<Option<T>>,
+    hints: Vec<Hint>,
 }
 
 impl<T> Model for Arena<T> {
@@ -32,6 +34,7 @@ impl<T> Model for Arena<T> {
 
     ghost use Rattle.std.specs.Prelude.{◌≤◌, length, vec_capacity};
     ghost use Rattle.object_arena.specs.Slots.{IsKept};
+    ghost use Rattle.object_arena.specs.Hints.{AreHints};
 
     ghost view = { λ a. record {
       ids = a.ids.items;
@@ -42,7 +45,8 @@ impl<T> Model for Arena<T> {
     ghost invariant = { λ a. IsKept a.ids.items a.slots.items a.spare.items a.cells.items
         × (length a.cells.items ≤ vec_capacity a.ids)
         × (length a.cells.items ≤ vec_capacity a.slots)
-        × (length a.cells.items ≤ vec_capacity a.spare) };
+        × (length a.cells.items ≤ vec_capacity a.spare)
+        × AreHints a.ids.items a.slots.items a.hints.items };
 }
 
 // The value of a slot that has one, for writing.
@@ -70,6 +74,8 @@ impl<T: Drop> Arena<T> {
         let slots = Vec::with_capacity(alloc, size)?;
         let mut spare = Vec::with_capacity(alloc, size)?;
         let mut cells = Vec::with_capacity(alloc, size)?;
+        let places = size.checked_next_power_of_two().ok_or(NoMemory)?;
+        let hints = vec![in alloc; blank(); places]?;
         for slot in 0..size {
             spare.push_reserved(slot);
             cells.push_reserved(None);
@@ -79,6 +85,7 @@ impl<T: Drop> Arena<T> {
             slots,
             spare,
             cells,
+            hints,
         })
     }
 
@@ -100,6 +107,22 @@ impl<T: Drop> Arena<T> {
         ObjectId::new(self.ids[place])
     }
 
+    // The slot that is hinted of an id, which is one probe. It is left out where a search might then take one too many.
+    fn hint_of(&self, id: u64, meter: &mut Meter) -> Option<usize>
+        ensures found { IfSome result (λ slot. (place : ℕ) × IsEntry self.now place id slot) }
+        ensures there { IfSome result (λ slot. IsSome (object_at self.now slot)) }
+        ensures cost { ProbesAtMost (binary_digits (length self.now.cells)
+            - binary_digits (length self.now.ids)) meter.old meter.new }
+        ensures fewer { binary_digits (length self.now.ids)
+            ≤ binary_digits (length self.now.cells) }
+    {
+        if !leaves_a_probe(self.ids.len(), self.cells.len()) {
+            return None;
+        }
+        meter.probe();
+        hinted(&self.hints, id)
+    }
+
     /// The slot of an id, none where no object has it. Adds at most as many probes as the number of slots has binary
     /// digits, plus one.
     pub fn find(&self, id: ObjectId, meter: &mut Meter) -> Option<Slot>
@@ -109,7 +132,10 @@ impl<T: Drop> Arena<T> {
         ensures cost { ProbesAtMost (binary_digits
             (length self.now.cells) + 1) meter.old meter.new }
     {
-        match place_of(&self.ids, id.number(), self.cells.len(), meter) {
+        if let Some(slot) = self.hint_of(id.number(), meter) {
+            return Some(Slot(slot));
+        }
+        match place_of(&self.ids, id.number(), meter) {
             Some(place) => {
                 meter.probe();
                 Some(Slot(self.slots[place]))
@@ -154,6 +180,8 @@ impl<T: Drop> Arena<T> {
                 self.ids.push_reserved(id.number());
                 self.slots.push_reserved(slot);
                 self.cells[slot] = Some(value);
+                let id = id.number();
+                keep(&mut self.hints, Hint { id, slot });
                 Slot(slot)
             }
             None => unreachable!(),
@@ -170,12 +198,13 @@ impl<T: Drop> Arena<T> {
         ensures cost { ProbesAtMost (binary_digits
             (length self.old.cells) + 1) meter.old meter.new }
     {
-        match place_of(&self.ids, id.number(), self.cells.len(), meter) {
+        match place_of(&self.ids, id.number(), meter) {
             Some(place) => {
                 meter.probe();
                 let slot = self.slots.remove(place);
                 let _id = self.ids.remove(place);
                 self.spare.push_reserved(slot);
+                forget(&mut self.hints, id.number());
                 match self.cells[slot].take() {
                     Some(value) => value,
                     None => unreachable!(),
@@ -200,5 +229,6 @@ impl<T: Drop> Arena<T> {
             first,
             meter,
         );
+        forget_all(&mut self.hints, gone);
     }
 }

@@ -26,7 +26,7 @@ pub fn vacate<T: Drop>(
 {
     let mut first = ids.len();
     for id in gone {
-        if let Some(place) = place_of(ids, id.number(), ids.len(), meter) {
+        if let Some(place) = place_of(ids, id.number(), meter) {
             meter.probe();
             cells[slots[place]] = None;
             first = first.min(place);

@@ -1,9 +1,8 @@
 //! The search for an id by halves.
-ghost use Rattle.std.specs.Prelude.{◌≡◌, ◌≢◌, ℕ, ◌+◌, ◌<◌, ◌≤◌, length, min, IfSome, IfNone};
+ghost use Rattle.std.specs.Prelude.{◌≡◌, ◌≢◌, ℕ, ◌+◌, ◌<◌, ◌≤◌, length, min, IfSome, IfNone, true};
 ghost use Rattle.std.specs.Prelude.{slice_index};
 ghost use Rattle.base.specs.Counts.{ProbesAtMost};
 ghost use Rattle.object_arena.specs.Objects.{Rises, binary_digits};
-ghost use Rattle.object_arena.specs.Search.{Parts};
 
 use base::Meter;
 
@@ -25,36 +24,18 @@ fn end_of(ids: &[u64], id: u64) -> usize
     }
 }
 
-// Where a search begins: where the id is if none below it has gone, for ids count up from 1, and else
-// in the middle. The first is left out where it could cost a read more than halves do.
-fn start_of(id: u64, end: usize, size: usize) -> usize
-    requires end { end ≤ id + 1 }
-    requires size { end ≤ size }
-    ensures { 0 < end → Parts 0 result end (binary_digits size) }
-{
-    if id < 1 || end as u64 <= id - 1 {
-        return end / 2;
-    }
-    let guess = id as usize - 1;
-    if guess.leading_zeros() <= size.leading_zeros() {
-        return end / 2;
-    }
-    guess
-}
-
-// Looks for an id in a rising list of up to so many numbers.
-fn search(ids: &[u64], id: u64, size: usize) -> Searched
-    requires rises { Rises ids.now }
-    requires size { length ids.now ≤ size }
+// Looks for an id in a rising list.
+fn search(ids: &[u64], id: u64) -> Searched
+    requires { Rises ids.now }
     ensures found { IfSome result.place (λ place. (place < length ids.now)
         × (slice_index ids.now place ≡ id)) }
     ensures absent { IfNone result.place
         ((k : ℕ) → k < length ids.now → slice_index ids.now k ≢ id) }
-    ensures few { result.reads ≤ binary_digits size }
+    ensures few { result.reads ≤ binary_digits (length ids.now) }
 {
     let mut low = 0;
     let mut high = end_of(ids, id);
-    let mut middle = start_of(id, high, size);
+    let mut middle = high / 2;
     let mut reads = 0u64;
     while low < high {
         reads += 1;
@@ -75,16 +56,22 @@ fn search(ids: &[u64], id: u64, size: usize) -> Searched
     Searched { place: None, reads }
 }
 
-/// The place of an id in a rising list of up to so many numbers. Each read is counted.
-pub fn place_of(ids: &[u64], id: u64, size: usize, meter: &mut Meter) -> Option<usize>
-    requires rises { Rises ids.now }
-    requires size { length ids.now ≤ size }
+/// Whether so many ids have a binary digit less than the size of their arena, so that a search among them leaves a probe.
+pub fn leaves_a_probe(ids: usize, size: usize) -> bool
+    ensures { result ≡ true → binary_digits ids + 1 ≤ binary_digits size }
+{
+    ids.leading_zeros() > size.leading_zeros()
+}
+
+/// The place of an id in a rising list. Each read is counted.
+pub fn place_of(ids: &[u64], id: u64, meter: &mut Meter) -> Option<usize>
+    requires { Rises ids.now }
     ensures found { IfSome result (λ place. (place < length ids.now)
         × (slice_index ids.now place ≡ id)) }
     ensures absent { IfNone result ((k : ℕ) → k < length ids.now → slice_index ids.now k ≢ id) }
-    ensures cost { ProbesAtMost (binary_digits size) meter.old meter.new }
+    ensures cost { ProbesAtMost (binary_digits (length ids.now)) meter.old meter.new }
 {
-    let searched = search(ids, id, size);
+    let searched = search(ids, id);
     meter.probe_many(searched.reads);
     searched.place
 }

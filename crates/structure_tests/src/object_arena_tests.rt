@@ -45,6 +45,26 @@ fn objects_are_found_by_their_ids(rt: HostRuntime) -> Result<(), Fail> {
     Ok(())
 }
 
+// Four slots have four places for hints: of 5, 9 and 13, which end alike, the first to come has the place.
+#[test]
+fn an_id_is_found_by_its_hint_or_by_halves(rt: HostRuntime) -> Result<(), Fail> {
+    let mut meter = Meter::new(rt.alloc())?;
+    let mut arena = Arena::boot(rt.alloc(), 4)?;
+    let first = arena.insert(ObjectId::new(5), 'a');
+    let second = arena.insert(ObjectId::new(9), 'b');
+    assert!(rt; agree(arena.find(ObjectId::new(5), &mut meter), Some(first)));
+    // A hint is one read.
+    assert!(rt; agree(meter.probes(), 1));
+    assert!(rt; agree(arena.find(ObjectId::new(9), &mut meter), Some(second)));
+
+    assert!(rt; agree(arena.remove(ObjectId::new(5), &mut meter), 'a'));
+    let third = arena.insert(ObjectId::new(13), 'c');
+    assert!(rt; agree(arena.find(ObjectId::new(5), &mut meter), None));
+    assert!(rt; agree(arena.find(ObjectId::new(9), &mut meter), Some(second)));
+    assert!(rt; agree(arena.find(ObjectId::new(13), &mut meter), Some(third)));
+    Ok(())
+}
+
 #[test]
 fn objects_go_together(rt: HostRuntime) -> Result<(), Fail> {
     let mut meter = Meter::new(rt.alloc())?;

@@ -10,4 +10,4 @@ invariant_of-self-lent g c = λ w.
     let rooms = c.self.invariant in
     let long = length-set c.self.inside.cells.items c.args.slot.0 (Some w) in
     let some = subst (λ (a : Objects g.row.T.Denot). IsSome (object_at a c.args.slot.0)) (sym c.self.view_is) c.requires in
-    (kept_put _ _ _ _ c.args.slot.0 w kept some, omega (arith, long, rooms.1), omega (arith, long, rooms.2), omega (arith, long, rooms.3))
+    (kept_put _ _ _ _ c.args.slot.0 w kept some, omega (arith, long, rooms.1), omega (arith, long, rooms.2), omega (arith, long, rooms.3), rooms.4)

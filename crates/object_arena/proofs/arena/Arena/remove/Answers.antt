@@ -1,17 +1,23 @@
-use Rattle.std.proofs.Common.{◌≡◌, ◌+◌, ◌<◌, ℕ, List, length, get_or, set, Option, None, ap, sym, ◌∙◌, subst, arith, length-set}
+use Rattle.std.proofs.Common.{◌≡◌, ◌+◌, ◌<◌, ◌≤◌, ℕ, List, [], ◌∷◌, length, get_or, set, Option, None, ap, sym, ◌∙◌, subst, arith, length-set}
 use Rattle.std.specs.Prelude.{remove}
 use Rattle.base.specs.Counts.{ProbesAtMost}
 use Rattle.object_arena.specs.Objects.{Objects, object_at, IsEntry, without, binary_digits}
-use Rattle.object_arena.proofs.SearchSteps.{one_more}
+use Rattle.object_arena.proofs.SearchSteps.{one_more, probes_within, digits_fewer}
+use Rattle.object_arena.specs.Hints.{AreHints, IsForgotten}
+use Rattle.object_arena.specs.declared.hints.Hint.{Hint}
+use Rattle.object_arena.proofs.HintSteps.{hints_remove, hints_as}
 use Rattle.object_arena.proofs.Kept.{kept_remove, kept_as, one_place}
-use Rattle.std.proofs.lemmas.List.{get_or_read}
+use Rattle.std.proofs.lemmas.List.{get_or_read, with_items_is}
 use Rattle.object_arena.proofs.arena.Arena.remove.Goals as goal
 
 pub returns-clause-cost : goal.returns-clause-cost
 returns-clause-cost g c =
-    let size : c.len.result ≡ length c.args.self.now.cells = omega (arith, c.len.ensures, ap (λ (a : Objects g.row.T.Denot). length a.cells) c.self.view_is) in
-    subst (λ (n : ℕ). ProbesAtMost (binary_digits n + 1) c.args.meter.now c.probe.new.self) size
-    (one_more _ _ _ _ c.place_of.ensures.cost c.probe.ensures)
+    let kept = c.self.invariant.0 in
+    let fewer : length c.self.inside.ids.items ≤ length c.self.inside.cells.items = omega (arith, kept.beside, kept.total) in
+    let searched = subst (λ (xs : List ℕ). ProbesAtMost (binary_digits (length xs)) c.args.meter.now c.place_of.new.meter) c.deref.ensures.value c.place_of.ensures.cost in
+    let within = probes_within c.args.meter.now c.place_of.new.meter _ _ (digits_fewer (length c.self.inside.ids.items) (length c.self.inside.cells.items) fewer) searched in
+    subst (λ (a : Objects g.row.T.Denot). ProbesAtMost (binary_digits (length a.cells) + 1) c.args.meter.now c.probe.new.self) c.self.view_is
+    (one_more _ _ _ _ within c.probe.ensures)
 
 pub invariant_of-self : goal.invariant_of-self
 invariant_of-self g c =
@@ -26,7 +32,14 @@ invariant_of-self g c =
     let long = length-set c.self.inside.cells.items c.remove-slot.result None in
     let cells = ap (λ (o : Option g.row.T.Denot). set c.self.inside.cells.items c.remove-slot.result o) c.take.ensures.after in
     let same = ap (λ (os : List (Option g.row.T.Denot)). length os) cells in
-    (kept_as _ _ _ _ _ _ _ _ lay c.remove-id.ensures.items c.remove-slot.ensures.items c.push_reserved.ensures.items cells, omega (arith, same, long, rooms.1, c.remove-id.ensures.capacity), omega (arith, same, long, rooms.2, c.remove-slot.ensures.capacity), omega (arith, same, long, rooms.3, c.push_reserved.ensures.capacity))
+    let here : get_or ids c.in-Some.place 0 ≡ c.args.id = ap (λ (xs : List ℕ). get_or xs c.in-Some.place 0) (sym c.deref.ensures.value) ∙ c.in-Some.ensures.found.1 ∙ c.number.ensures in
+    let stood = subst (λ (hs : List Hint). AreHints ids slots hs) (sym c.deref_mut.ensures.value) rooms.4 in
+    let forgot = subst (λ (id : ℕ). IsForgotten c.deref_mut.result.now c.forget.new.hints (id ∷ []) 1) (c.number-in-Some.ensures ∙ sym here) c.forget.ensures in
+    let stand = hints_as _ _ _ _ c.forget.new.hints (hints_remove ids slots c.deref_mut.result.now c.forget.new.hints c.in-Some.place kept.beside within stood forgot)
+    c.remove-id.ensures.items c.remove-slot.ensures.items in
+    let unwritten = with_items_is c.self.inside.hints c.forget.new.hints (omega (arith, c.forget.ensures.count, c.deref_mut.ensures.len)) in
+    let hints = subst (λ (hs : List Hint). AreHints c.remove-id.new.self.items c.remove-slot.new.self.items hs) (sym unwritten) stand in
+    (kept_as _ _ _ _ _ _ _ _ lay c.remove-id.ensures.items c.remove-slot.ensures.items c.push_reserved.ensures.items cells, omega (arith, same, long, rooms.1, c.remove-id.ensures.capacity), omega (arith, same, long, rooms.2, c.remove-slot.ensures.capacity), omega (arith, same, long, rooms.3, c.push_reserved.ensures.capacity), hints)
 
 pub returns-clause-value : goal.returns-clause-value
 returns-clause-value g c = λ place slot e.
