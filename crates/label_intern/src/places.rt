@@ -1,5 +1,5 @@
 //! What walks the places of a pool, by index from 0.
-ghost use Rattle.std.specs.Prelude.{◌≡◌, ◌<◌, ◌+◌, ◌*◌, ◌^◌, None, length};
+ghost use Rattle.std.specs.Prelude.{◌≡◌, ◌<◌, ◌+◌, ◌*◌, ◌^◌, None, IfSome, is_some, not, length};
 ghost use Rattle.label_intern.specs.Held.{held_at, stored, fewer, raised, owners_in};
 ghost use Rattle.label_intern.specs.Fill.{IsFilled};
 ghost use Rattle.base.specs.Counts.{ScansAtMost};
@@ -42,30 +42,42 @@ pub fn fill(table: &mut Table, slots: &[Option<Held>], at: usize, label: &Label,
     }
 }
 
-/// A place with one owner less, free where it was the last.
-pub fn with_fewer(place: Option<Held>) -> Option<Held>
-    ensures { result ≡ fewer place }
+/// Whether no owner is left of a place once one is taken.
+pub fn is_last(place: &Option<Held>) -> bool
+    ensures { is_some (fewer place.now) ≡ not result }
 {
     match place {
-        Some(held) if held.owners > 1 => Some(Held {
-            label: held.label,
-            owners: held.owners - 1,
-        }),
-        _ => None,
+        Some(held) => held.owners <= 1,
+        None => true,
     }
 }
 
-/// A place with a label, whose owners are one more.
-pub fn with_more(place: Option<Held>, label: &Label) -> Option<Held>
-    requires { owners_in place + 1 < 2 ^ 32 }
-    ensures { result ≡ raised place label.now }
+/// Takes an owner from a place, which is free where it was the last.
+pub fn lower(place: &mut Option<Held>)
+    ensures { place.new ≡ fewer place.old }
 {
-    let owners = match place {
-        Some(held) => held.owners,
-        None => 0,
-    };
-    Some(Held {
-        label: *label,
-        owners: owners + 1,
-    })
+    if let Some(held) = place {
+        if held.owners > 1 {
+            held.owners -= 1;
+            return;
+        }
+    }
+    *place = None;
+}
+
+/// Gives a place one owner more, and the label where it is free.
+pub fn raise(place: &mut Option<Held>, label: &Label)
+    requires label { IfSome place.old (λ held. held.label ≡ label.now) }
+    requires room { owners_in place.old + 1 < 2 ^ 32 }
+    ensures { place.new ≡ raised place.old label.now }
+{
+    match place {
+        Some(held) => held.owners += 1,
+        None => {
+            *place = Some(Held {
+                label: *label,
+                owners: 1,
+            });
+        }
+    }
 }

@@ -4,7 +4,7 @@ ghost use Rattle.std.specs.Prelude.{IfOk, IfSome, length, replicate, slice_set};
 
 use crate::held::Held;
 use crate::order::OrderBits;
-use crate::places::{fill, free_place, with_fewer, with_more};
+use crate::places::{fill, free_place, lower, raise};
 use crate::search::{put_at, seek, unlist};
 use crate::table::Table;
 use base::{Meter, NoMemory};
@@ -138,7 +138,7 @@ impl Labels {
                 at
             }
         };
-        self.slots[at] = with_more(self.slots[at], label);
+        raise(&mut self.slots[at], label);
         LabelIx(at as u16)
     }
 
@@ -153,9 +153,8 @@ impl Labels {
         ensures interned { IsInterned self.new }
     {
         let slot = usize::from(at.0);
-        let left = with_fewer(self.slots[slot]);
-        unlist(&self.slots, &mut self.listed, at.0, &left);
-        self.slots[slot] = left;
+        unlist(&self.slots, &mut self.listed, at.0);
+        lower(&mut self.slots[slot]);
     }
     /// Takes an owner from the label of an index, where it has one. All other indexes stay.
     pub fn let_go(&mut self, at: LabelIx)

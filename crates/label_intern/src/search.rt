@@ -9,6 +9,7 @@ ghost use Rattle.label_intern.specs.Halves.{ScansByHalves};
 ghost use Rattle.label_intern.specs.Listed.{Stands, IsListed, IsGap};
 
 use crate::held::Held;
+use crate::places::is_last;
 use base::Meter;
 use label_lattice::Label;
 use std::cmp::Ordering;
@@ -80,15 +81,14 @@ pub fn put_at(listed: &mut Vec<u16>, place: usize, at: u16)
     }
 }
 
-/// An index that has a label is to have what is left of it: where that is nothing, it is listed no more.
-pub fn unlist(slots: &[Option<Held>], listed: &mut Vec<u16>, at: u16, left: &Option<Held>)
+/// An index that has a label is to have an owner less: with its last one, it is listed no more.
+pub fn unlist(slots: &[Option<Held>], listed: &mut Vec<u16>, at: u16)
     requires listed { IsListed slots.now listed.old.items }
     requires held { IsSome (held_at slots.now at) }
-    requires fewer { left.now ≡ fewer (held_at slots.now at) }
-    ensures listed { IsListed (slice_set slots.now at left.now) listed.new.items }
+    ensures listed { IsListed (slice_set slots.now at (fewer (held_at slots.now at))) listed.new.items }
     ensures capacity { vec_capacity listed.new ≡ vec_capacity listed.old }
 {
-    if left.is_none() {
+    if is_last(&slots[usize::from(at)]) {
         let place = place_in(listed, at);
         listed.remove(place);
     }

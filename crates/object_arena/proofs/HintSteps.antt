@@ -6,7 +6,7 @@ use Rattle.std.proofs.lemmas.List.{get_or_append_left, get_or_push, get_or_past,
 use Rattle.std.proofs.lemmas.List.Edits.{get_or-remove_below, get_or-remove_above, length-remove}
 use Rattle.object_arena.specs.Objects.{Objects, object_at, IsEntry, IsWithoutAll}
 use Rattle.object_arena.specs.Slots.{IsKept}
-use Rattle.object_arena.specs.Hints.{blank, hint_at, hint_place, IsHint, AreHints, IsKeptHint, IsForgotten}
+use Rattle.object_arena.specs.Hints.{blank, hint_at, hint_place, IsHint, AreHints, IsKeptHint, IsForgotten, IsHintCount}
 use Rattle.object_arena.specs.declared.hints.Hint.{Hint}
 
 -- a blank is no hint
@@ -134,6 +134,11 @@ module _ {T : Type 0} where
             id_is = left.1.id_is;
             slot_is = left.1.slot_is;
           }
+
+-- as many, of as many slots
+pub count_as : (count size count' size' : ℕ) → IsHintCount count size → count' ≡ count → size' ≡ size → IsHintCount count' size'
+count_as count size count' size' is a b =
+    subst (λ (c : ℕ). IsHintCount c size') (sym a) (subst (λ (n : ℕ). IsHintCount count n) (sym b) is)
 
 -- the same under other names
 pub hints_as : (ids slots ids' slots' : List ℕ) (hints : List Hint) → AreHints ids slots hints → ids' ≡ ids → slots' ≡ slots → AreHints ids' slots' hints

@@ -3,13 +3,12 @@ use Rattle.std.proofs.Common.{◌≡◌, ◌≢◌, ℕ, zero, suc, ◌+◌, ◌
 use Rattle.std.proofs.Math.Pow.{pow_mono}
 use Rattle.std.proofs.lemmas.Grind.{pow_more}
 use Rattle.std.proofs.lemmas.Bool.{cases_lt}
-use Rattle.std.proofs.lemmas.Nat.{leading_length}
 use Rattle.std.proofs.lemmas.Int.Digits.{number_lt, number_digits_of, all_below_base_digits_of, length-digits_of-le}
-use Rattle.std.specs.Int.Count.{count_leading_zeros}
 use Rattle.std.specs.Int.Digits.{digits_of}
 use Rattle.base.specs.Counts.{Counts, probed, ProbesAtMost}
 use Rattle.object_arena.specs.Objects.{Rises, binary_digits}
 use Rattle.object_arena.specs.Search.{Parts}
+use Rattle.object_arena.specs.Hints.{IsHintCount}
 
 -- a number is below 2 to the number of its binary digits
 below_digits : (n : ℕ) → n < 2 ^ binary_digits n
@@ -46,15 +45,13 @@ halved_first end size lt fits =
     subst (λ (m : ℕ). Parts 0 m end (binary_digits size)) middle
     (halves 0 end (binary_digits size) lt (omega (arith, fits, below_digits size)))
 
--- a number with more leading zeros has a binary digit less
-pub digit_less : (ids size : ℕ) → ids < 2 ^ 64 → size < 2 ^ 64 → count_leading_zeros 64 size < count_leading_zeros 64 ids
-    → binary_digits ids + 1 ≤ binary_digits size
-digit_less ids size small big zeros =
-    let short = leading_length 64 ids small in
-    let long = leading_length 64 size big in
-    let few : long.0 ≤ binary_digits size = few_digits long.0 size long.3 in
-    let fits : binary_digits ids ≤ short.0 = length-digits_of-le 2 short.0 ids (omega arith) short.2 in
-    omega (arith, zeros, few, fits, short.1, long.1)
+-- a number below the count of hints has a binary digit less than the size
+pub digit_less : (ids count size : ℕ) → IsHintCount count size → ids < count → binary_digits ids + 1 ≤ binary_digits size
+digit_less ids count size is lt =
+    let top = is (omega (arith, lt)) in
+    let fits : binary_digits ids ≤ top.0 = length-digits_of-le 2 top.0 ids (omega arith) (omega (arith, lt, top.1)) in
+    let few : top.0 + 1 ≤ binary_digits size = few_digits (top.0 + 1) size (omega (arith, top.2, pow_more 2 top.0)) in
+    omega (arith, fits, few)
 
 -- and a smaller one has no more
 pub digits_fewer : (ids size : ℕ) → ids ≤ size → binary_digits ids ≤ binary_digits size

@@ -8,8 +8,8 @@ ghost use Rattle.std.specs.Borrow.{Lends, sem};
 ghost use Rattle.std.specs.contracts.option.Option.{the_row as option_row};
 
 use crate::gaps::{close_gaps, vacate};
-use crate::hints::{Hint, blank, forget, forget_all, hinted, keep};
-use crate::search::{leaves_a_probe, place_of};
+use crate::hints::{Hint, blank, forget, forget_all, hint_count, hinted, keep};
+use crate::search::place_of;
 use base::{Meter, NoMemory, ObjectId, Slot};
 use std::alloc::Global;
 use std::marker::Model;
@@ -34,7 +34,7 @@ impl<T> Model for Arena<T> {
 
     ghost use Rattle.std.specs.Prelude.{◌≤◌, length, vec_capacity};
     ghost use Rattle.object_arena.specs.Slots.{IsKept};
-    ghost use Rattle.object_arena.specs.Hints.{AreHints};
+    ghost use Rattle.object_arena.specs.Hints.{AreHints, IsHintCount};
 
     ghost view = { λ a. record {
       ids = a.ids.items;
@@ -46,7 +46,8 @@ impl<T> Model for Arena<T> {
         × (length a.cells.items ≤ vec_capacity a.ids)
         × (length a.cells.items ≤ vec_capacity a.slots)
         × (length a.cells.items ≤ vec_capacity a.spare)
-        × AreHints a.ids.items a.slots.items a.hints.items };
+        × AreHints a.ids.items a.slots.items a.hints.items
+        × IsHintCount (length a.hints.items) (length a.cells.items) };
 }
 
 // The value of a slot that has one, for writing.
@@ -74,8 +75,7 @@ impl<T: Drop> Arena<T> {
         let slots = Vec::with_capacity(alloc, size)?;
         let mut spare = Vec::with_capacity(alloc, size)?;
         let mut cells = Vec::with_capacity(alloc, size)?;
-        let places = size.checked_next_power_of_two().ok_or(NoMemory)?;
-        let hints = vec![in alloc; blank(); places]?;
+        let hints = vec![in alloc; blank(); hint_count(size)]?;
         for slot in 0..size {
             spare.push_reserved(slot);
             cells.push_reserved(None);
@@ -107,7 +107,7 @@ impl<T: Drop> Arena<T> {
         ObjectId::new(self.ids[place])
     }
 
-    // The slot that is hinted of an id, which is one probe. It is left out where a search might then take one too many.
+    // The slot that is hinted of an id, which is one probe. It is left out where a search could then take one too many.
     fn hint_of(&self, id: u64, meter: &mut Meter) -> Option<usize>
         ensures found { IfSome result (λ slot. (place : ℕ) × IsEntry self.now place id slot) }
         ensures there { IfSome result (λ slot. IsSome (object_at self.now slot)) }
@@ -116,7 +116,7 @@ impl<T: Drop> Arena<T> {
         ensures fewer { binary_digits (length self.now.ids)
             ≤ binary_digits (length self.now.cells) }
     {
-        if !leaves_a_probe(self.ids.len(), self.cells.len()) {
+        if self.ids.len() >= self.hints.len() {
             return None;
         }
         meter.probe();

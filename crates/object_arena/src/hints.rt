@@ -2,6 +2,7 @@
 //! that one read tests it.
 ghost use Rattle.std.specs.Prelude.{◌≡◌, ℕ, ◌<◌, [], ◌∷◌, length, IfSome};
 ghost use Rattle.object_arena.specs.Hints.{blank, hint_at, hint_place, IsKeptHint, IsForgotten};
+ghost use Rattle.object_arena.specs.Hints.{IsHintCount};
 
 use base::ObjectId;
 
@@ -21,7 +22,17 @@ pub fn blank() -> Hint
     Hint { id: 0, slot: 0 }
 }
 
-// Where the hint of an id stands among so many. A power of two has a place for each end of an id.
+/// How many hints an arena of so many slots has: a power of two, so that each end of an id has a place.
+pub fn hint_count(size: usize) -> usize
+    ensures { IsHintCount result size }
+{
+    match size.checked_ilog2() {
+        Some(digits) => 1 << digits,
+        None => 0,
+    }
+}
+
+// Where the hint of an id stands among so many.
 fn hint_place(id: u64, count: usize) -> usize
     ensures { result ≡ hint_place id count }
 {

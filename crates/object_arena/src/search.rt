@@ -1,5 +1,5 @@
 //! The search for an id by halves.
-ghost use Rattle.std.specs.Prelude.{◌≡◌, ◌≢◌, ℕ, ◌+◌, ◌<◌, ◌≤◌, length, min, IfSome, IfNone, true};
+ghost use Rattle.std.specs.Prelude.{◌≡◌, ◌≢◌, ℕ, ◌+◌, ◌<◌, ◌≤◌, length, min, IfSome, IfNone};
 ghost use Rattle.std.specs.Prelude.{slice_index};
 ghost use Rattle.base.specs.Counts.{ProbesAtMost};
 ghost use Rattle.object_arena.specs.Objects.{Rises, binary_digits};
@@ -54,13 +54,6 @@ fn search(ids: &[u64], id: u64) -> Searched
         middle = low + (high - low) / 2;
     }
     Searched { place: None, reads }
-}
-
-/// Whether so many ids have a binary digit less than the size of their arena, so that a search among them leaves a probe.
-pub fn leaves_a_probe(ids: usize, size: usize) -> bool
-    ensures { result ≡ true → binary_digits ids + 1 ≤ binary_digits size }
-{
-    ids.leading_zeros() > size.leading_zeros()
 }
 
 /// The place of an id in a rising list. Each read is counted.

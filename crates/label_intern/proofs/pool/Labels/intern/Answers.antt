@@ -29,12 +29,12 @@ invariant_of-self c =
       | in-Ok w ↦
           let slots = ap (λ (s : Inside). s.slots.items) w.self-inside-is in (
             after_found _ _ _ _ _ _ _ _ _ _ slots (ap (λ (s : Inside). s.table) w.self-inside-is)
-                w.at-is c.deref.ensures.value w.in-Ok.ensures.found c.index.ensures c.with_more.ensures c.self.invariant.0,
+                w.at-is c.deref.ensures.value w.in-Ok.ensures.found c.index_mut.ensures.value c.raise.ensures c.self.invariant.0,
             listed_found _ _ _ _ _ _ _ _ _ _ slots (ap (λ (s : Inside). s.listed.items) w.self-inside-is)
-                w.at-is c.deref.ensures.value w.in-Ok.ensures.found c.index.ensures c.with_more.ensures c.self.invariant.1,
+                w.at-is c.deref.ensures.value w.in-Ok.ensures.found c.index_mut.ensures.value c.raise.ensures c.self.invariant.1,
             omega (
               arith,
-              length-set c.match-seek.self-inside.slots.items c.match-seek.at c.with_more.result,
+              length-set c.match-seek.self-inside.slots.items c.match-seek.at c.raise.new.place,
               ap (λ (xs : List (Option Held)). length xs) slots,
               ap (λ (s : Inside). vec_capacity s.listed) w.self-inside-is,
               c.self.invariant.2,
@@ -46,13 +46,13 @@ invariant_of-self c =
                 w.at-is c.deref.ensures.value w.deref-in-Err.ensures.value w.deref-in-Err-2.ensures.value
                 (lacks_gap _ _ _ _ (rw (← c.deref.ensures.value, ← c.deref-2.ensures.value) at c.self.invariant.1) w.in-Err.ensures.gap)
                 w.free_place-at.ensures.within w.free_place-at.ensures.free w.fill.ensures.filled
-                c.index.ensures c.with_more.ensures c.self.invariant.0,
+                c.index_mut.ensures.value c.raise.ensures c.self.invariant.0,
             listed_more _ _ _ _ _ _ _ _ _ _ _ _ _ slots (ap (λ (s : Inside). s.listed.items) w.self-inside-is ∙ w.put_at.ensures.items)
                 w.at-is c.deref.ensures.value c.deref-2.ensures.value w.deref-in-Err.ensures.value w.in-Err.ensures.gap
-                w.free_place-at.ensures.within w.free_place-at.ensures.free c.index.ensures c.with_more.ensures c.self.invariant.1,
+                w.free_place-at.ensures.within w.free_place-at.ensures.free c.index_mut.ensures.value c.raise.ensures c.self.invariant.1,
             omega (
               arith,
-              length-set c.match-seek.self-inside.slots.items c.match-seek.at c.with_more.result,
+              length-set c.match-seek.self-inside.slots.items c.match-seek.at c.raise.new.place,
               ap (λ (xs : List (Option Held)). length xs) slots,
               ap (λ (s : Inside). vec_capacity s.listed) w.self-inside-is,
               c.self.invariant.2,
@@ -79,7 +79,7 @@ returns-clause-owners c =
     let within = rw (← c.self.view_is) at (returns-clause-within c) in
     elim c.match-seek.branch [
       | in-Ok w ↦
-          owned_raised _ _ _ _ _ _ _ (ap (λ (s : Inside). s.slots.items) w.self-inside-is) c.self.view_is within c.index.ensures c.with_more.ensures
+          owned_raised _ _ _ _ _ _ _ (ap (λ (s : Inside). s.slots.items) w.self-inside-is) c.self.view_is within c.index_mut.ensures.value c.raise.ensures
       | in-Err w ↦
-          owned_raised _ _ _ _ _ _ _ (ap (λ (s : Inside). s.slots.items) w.self-inside-is) c.self.view_is within c.index.ensures c.with_more.ensures
+          owned_raised _ _ _ _ _ _ _ (ap (λ (s : Inside). s.slots.items) w.self-inside-is) c.self.view_is within c.index_mut.ensures.value c.raise.ensures
     ]

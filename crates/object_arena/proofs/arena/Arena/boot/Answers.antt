@@ -3,7 +3,7 @@ use Rattle.std.specs.List.{range_with_len}
 use Rattle.std.proofs.lemmas.List.{replicate_more, length-replicate}
 use Rattle.object_arena.specs.Hints.{blank, AreHints}
 use Rattle.object_arena.specs.declared.hints.Hint.{Hint}
-use Rattle.object_arena.proofs.HintSteps.{hints_empty, hints_as}
+use Rattle.object_arena.proofs.HintSteps.{hints_empty, hints_as, count_as}
 use Rattle.object_arena.proofs.Kept.{kept_empty, kept_as, range_push}
 use Rattle.object_arena.proofs.arena.Arena.boot.Goals as goal
 
@@ -28,5 +28,5 @@ invariant_of-result g c =
     let cells : at.cells.items ≡ replicate c.args.size None = at.invariant.empty ∙ ap (λ (n : ℕ). replicate n None) done in
     let spare = at.invariant.given ∙ ap (λ (n : ℕ). range_with_len 0 n) done in
     let long : length at.cells.items ≡ c.args.size = ap (λ (os : List (Option g.row.T.Denot)). length os) cells ∙ length-replicate c.args.size None in
-    let blanks : c.in_ok-hints.hints.items ≡ replicate c.in_ok-places.places blank = c.in_ok-hints.ensures.items_if_clones_equal (λ y e. e) ∙ ap (replicate c.in_ok-places.places) c.blank.ensures in
-    (kept_as _ _ _ _ _ _ _ _ (kept_empty c.args.size) c.in_ok-ids.ensures.items c.in_ok-slots.ensures.items spare cells, omega (arith, long, c.in_ok-ids.ensures.capacity), omega (arith, long, c.in_ok-slots.ensures.capacity), omega (arith, long, at.invariant.room_given), hints_as _ _ _ _ _ (subst (λ (hs : List Hint). AreHints [] [] hs) (sym blanks) (hints_empty c.in_ok-places.places)) c.in_ok-ids.ensures.items c.in_ok-slots.ensures.items)
+    let blanks : c.in_ok-hints.hints.items ≡ replicate c.hint_count.result blank = c.in_ok-hints.ensures.items_if_clones_equal (λ y e. e) ∙ ap (replicate c.hint_count.result) c.blank.ensures in
+    (kept_as _ _ _ _ _ _ _ _ (kept_empty c.args.size) c.in_ok-ids.ensures.items c.in_ok-slots.ensures.items spare cells, omega (arith, long, c.in_ok-ids.ensures.capacity), omega (arith, long, c.in_ok-slots.ensures.capacity), omega (arith, long, at.invariant.room_given), hints_as _ _ _ _ _ (subst (λ (hs : List Hint). AreHints [] [] hs) (sym blanks) (hints_empty c.hint_count.result)) c.in_ok-ids.ensures.items c.in_ok-slots.ensures.items, count_as _ _ _ _ c.hint_count.ensures (ap (λ (hs : List Hint). length hs) blanks ∙ length-replicate {A = Hint} c.hint_count.result blank) long)

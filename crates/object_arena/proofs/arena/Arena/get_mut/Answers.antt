@@ -1,6 +1,7 @@
-use Rattle.std.proofs.Common.{Some, sym, subst, arith, length-set}
+use Rattle.std.proofs.Common.{Some, refl, sym, subst, arith, length-set}
 use Rattle.std.specs.Prelude.{IsSome}
 use Rattle.object_arena.specs.Objects.{Objects, object_at}
+use Rattle.object_arena.proofs.HintSteps.{count_as}
 use Rattle.object_arena.proofs.Kept.{kept_put}
 use Rattle.object_arena.proofs.arena.Arena.get_mut.Goals as goal
 
@@ -10,4 +11,4 @@ invariant_of-self-lent g c = λ w.
     let rooms = c.self.invariant in
     let long = length-set c.self.inside.cells.items c.args.slot.0 (Some w) in
     let some = subst (λ (a : Objects g.row.T.Denot). IsSome (object_at a c.args.slot.0)) (sym c.self.view_is) c.requires in
-    (kept_put _ _ _ _ c.args.slot.0 w kept some, omega (arith, long, rooms.1), omega (arith, long, rooms.2), omega (arith, long, rooms.3), rooms.4)
+    (kept_put _ _ _ _ c.args.slot.0 w kept some, omega (arith, long, rooms.1), omega (arith, long, rooms.2), omega (arith, long, rooms.3), rooms.4, count_as _ _ _ _ rooms.5 refl long)

@@ -4,7 +4,7 @@ use Rattle.std.proofs.lemmas.List.{with_items_is}
 use Rattle.object_arena.specs.Objects.{Objects, object_at}
 use Rattle.object_arena.specs.Hints.{AreHints}
 use Rattle.object_arena.specs.declared.hints.Hint.{Hint}
-use Rattle.object_arena.proofs.HintSteps.{hints_insert, hints_as}
+use Rattle.object_arena.proofs.HintSteps.{hints_insert, hints_as, count_as}
 use Rattle.object_arena.proofs.Kept.{kept_insert, popped_is, kept_as, slots_apart_from}
 use Rattle.object_arena.proofs.arena.Arena.insert.Goals as goal
 
@@ -24,7 +24,7 @@ invariant_of-self g c =
     let count : length c.keep.new.hints ≡ vec_len c.self.inside.hints = omega (arith, c.keep.ensures.count, c.deref_mut.ensures.len) in
     let same = with_items_is c.self.inside.hints c.keep.new.hints count in
     let hints = subst (λ (hs : List Hint). AreHints c.push_reserved.new.self.items c.push_reserved-in-Some.new.self.items hs) (sym same) stand in
-    (kept_as _ _ _ _ _ _ _ _ lay (c.push_reserved.ensures.items ∙ ap (λ (n : ℕ). c.self.inside.ids.items ++ n ∷ []) c.number.ensures) c.push_reserved-in-Some.ensures.items (λ i. c.pop.new.self.items) (λ i. set c.self.inside.cells.items c.in-Some.slot (Some c.args.value)), omega (arith, long, rooms.1, c.push_reserved.ensures.capacity), omega (arith, long, rooms.2, c.push_reserved-in-Some.ensures.capacity), omega (arith, long, rooms.3, c.in-Some.ensures.capacity), hints)
+    (kept_as _ _ _ _ _ _ _ _ lay (c.push_reserved.ensures.items ∙ ap (λ (n : ℕ). c.self.inside.ids.items ++ n ∷ []) c.number.ensures) c.push_reserved-in-Some.ensures.items (λ i. c.pop.new.self.items) (λ i. set c.self.inside.cells.items c.in-Some.slot (Some c.args.value)), omega (arith, long, rooms.1, c.push_reserved.ensures.capacity), omega (arith, long, rooms.2, c.push_reserved-in-Some.ensures.capacity), omega (arith, long, rooms.3, c.in-Some.ensures.capacity), hints, count_as _ _ _ _ rooms.5 (ap (λ (hs : List Hint). length hs) same ∙ c.keep.ensures.count ∙ ap (λ (hs : List Hint). length hs) c.deref_mut.ensures.value) long)
 
 pub returns-clause-within : goal.returns-clause-within
 returns-clause-within g c =

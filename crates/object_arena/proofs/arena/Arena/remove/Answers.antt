@@ -5,7 +5,7 @@ use Rattle.object_arena.specs.Objects.{Objects, object_at, IsEntry, without, bin
 use Rattle.object_arena.proofs.SearchSteps.{one_more, probes_within, digits_fewer}
 use Rattle.object_arena.specs.Hints.{AreHints, IsForgotten}
 use Rattle.object_arena.specs.declared.hints.Hint.{Hint}
-use Rattle.object_arena.proofs.HintSteps.{hints_remove, hints_as}
+use Rattle.object_arena.proofs.HintSteps.{hints_remove, hints_as, count_as}
 use Rattle.object_arena.proofs.Kept.{kept_remove, kept_as, one_place}
 use Rattle.std.proofs.lemmas.List.{get_or_read, with_items_is}
 use Rattle.object_arena.proofs.arena.Arena.remove.Goals as goal
@@ -37,9 +37,10 @@ invariant_of-self g c =
     let forgot = subst (λ (id : ℕ). IsForgotten c.deref_mut.result.now c.forget.new.hints (id ∷ []) 1) (c.number-in-Some.ensures ∙ sym here) c.forget.ensures in
     let stand = hints_as _ _ _ _ c.forget.new.hints (hints_remove ids slots c.deref_mut.result.now c.forget.new.hints c.in-Some.place kept.beside within stood forgot)
     c.remove-id.ensures.items c.remove-slot.ensures.items in
+    let count : length c.forget.new.hints ≡ length c.self.inside.hints.items = c.forget.ensures.count ∙ ap (λ (hs : List Hint). length hs) c.deref_mut.ensures.value in
     let unwritten = with_items_is c.self.inside.hints c.forget.new.hints (omega (arith, c.forget.ensures.count, c.deref_mut.ensures.len)) in
     let hints = subst (λ (hs : List Hint). AreHints c.remove-id.new.self.items c.remove-slot.new.self.items hs) (sym unwritten) stand in
-    (kept_as _ _ _ _ _ _ _ _ lay c.remove-id.ensures.items c.remove-slot.ensures.items c.push_reserved.ensures.items cells, omega (arith, same, long, rooms.1, c.remove-id.ensures.capacity), omega (arith, same, long, rooms.2, c.remove-slot.ensures.capacity), omega (arith, same, long, rooms.3, c.push_reserved.ensures.capacity), hints)
+    (kept_as _ _ _ _ _ _ _ _ lay c.remove-id.ensures.items c.remove-slot.ensures.items c.push_reserved.ensures.items cells, omega (arith, same, long, rooms.1, c.remove-id.ensures.capacity), omega (arith, same, long, rooms.2, c.remove-slot.ensures.capacity), omega (arith, same, long, rooms.3, c.push_reserved.ensures.capacity), hints, count_as _ _ _ _ rooms.5 (ap (λ (hs : List Hint). length hs) unwritten ∙ count) (same ∙ long))
 
 pub returns-clause-value : goal.returns-clause-value
 returns-clause-value g c = λ place slot e.

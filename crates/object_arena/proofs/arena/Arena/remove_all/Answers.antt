@@ -1,4 +1,4 @@
-use Rattle.std.proofs.Common.{◌≡◌, ◌≤◌, List, length, vec_len, vec_capacity, Option, sym, ◌∙◌, subst, arith}
+use Rattle.std.proofs.Common.{◌≡◌, ◌≤◌, List, length, vec_len, vec_capacity, Option, ap, sym, ◌∙◌, subst, arith}
 use Rattle.std.specs.Vec.{with_items}
 use Rattle.std.proofs.lemmas.List.{with_items_is}
 use Rattle.object_arena.specs.Objects.{Objects, IsWithoutAll}
@@ -6,7 +6,7 @@ use Rattle.object_arena.specs.Gaps.{IsVacated, IsClosed}
 use Rattle.object_arena.specs.Slots.{IsKept}
 use Rattle.object_arena.specs.Hints.{AreHints}
 use Rattle.object_arena.specs.declared.hints.Hint.{Hint}
-use Rattle.object_arena.proofs.HintSteps.{hints_remove_all}
+use Rattle.object_arena.proofs.HintSteps.{hints_remove_all, count_as}
 use Rattle.object_arena.proofs.GapSteps.{without_all, vacated_from}
 use Rattle.object_arena.proofs.arena.Arena.remove_all.Given as given
 use Rattle.object_arena.proofs.arena.Arena.remove_all.Goals as goal
@@ -55,7 +55,9 @@ invariant_of-self g c =
     × (length os ≤ vec_capacity c.close_gaps.new.slots)
     × (length os ≤ vec_capacity c.close_gaps.new.spare) in
     let kept = subst P (sym here) (r.kept, omega (arith, r.vacated.pool, rooms.1, c.close_gaps.ensures.ids_room), omega (arith, r.vacated.pool, rooms.2, c.close_gaps.ensures.slots_room), omega (arith, r.vacated.pool, rooms.3, c.close_gaps.ensures.spare_room)) in
-    (kept.0, kept.1, kept.2, kept.3, hints)
+    let count = ap (λ (hs : List Hint). length hs) same ∙ c.forget_all.ensures.count ∙ ap (λ (hs : List Hint). length hs) c.deref_mut-2.ensures.value in
+    let long = ap (λ (os : List (Option g.row.T.Denot)). length os) here ∙ r.vacated.pool in
+    (kept.0, kept.1, kept.2, kept.3, hints, count_as _ _ _ _ rooms.5 count long)
 
 pub returns-clause-removed : goal.returns-clause-removed
 returns-clause-removed g c =
