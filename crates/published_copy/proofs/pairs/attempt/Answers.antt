@@ -1,6 +1,5 @@
-use Rattle.std.proofs.Common.{◌≡◌, ◌++◌, ◌∷◌, [], List, ap, ◌∙◌, refl, arith, rules}
+use Rattle.std.proofs.Common.{◌≡◌, ◌++◌, ◌∷◌, [], List, ap, ◌∙◌, arith, rules}
 use Rattle.kernel_rules.specs.declared.events.Event.{Event}
-use Rattle.kernel_rules.specs.History.{state_of}
 use Rattle.published_copy.specs.declared.entries.Entry.{Entry}
 use Rattle.published_copy.specs.declared.entries.Entry.TheVariants.{Made}
 use Rattle.syscall_core.specs.Kernel.{kernel_state}

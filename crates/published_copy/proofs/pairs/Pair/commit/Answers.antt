@@ -7,7 +7,7 @@ use Rattle.published_copy.specs.declared.entries.Entry.TheVariants.{Made}
 use Rattle.published_copy.specs.Absorbed.{list_of}
 use Rattle.published_copy.specs.Entries.{made}
 use Rattle.published_copy.specs.Shares.{IsNext, copies_with}
-use Rattle.published_copy.specs.Turns.{event_at, with_event}
+use Rattle.published_copy.specs.Turns.{event_at}
 use Rattle.published_copy.proofs.Commits.{awaits, makes}
 use Rattle.published_copy.proofs.pairs.Pair.commit.Goals as goal
 
