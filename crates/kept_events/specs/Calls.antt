@@ -1,4 +1,5 @@
 -- The call that is kept in a form.
+use Rattle.std.specs.Arc.{arc_value}
 use Rattle.kernel_rules.specs.declared.calls.Call.{Call}
 use Rattle.kernel_rules.specs.declared.calls.Call.TheVariants as call
 use Rattle.kept_events.specs.declared.calls.Form.{Form}
@@ -26,4 +27,4 @@ call_of (kept.DevRecv entry) = call.DevRecv entry
 
 abbrev pub formed : Form → Call
 formed (Here unlabelled) = call_of unlabelled
-formed (Apart room) = room.value
+formed (Apart shared) = arc_value shared

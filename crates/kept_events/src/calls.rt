@@ -1,11 +1,12 @@
 //! Calls.
 ghost use Rattle.std.specs.Prelude.{◌≡◌, IfOk, IfSome};
+ghost use Rattle.std.specs.Arc.{arc_value};
 ghost use Rattle.kept_events.specs.Calls.{call_of};
 
 use base::{Data, NoMemory, ObjectId};
 use kernel_rules::{Call, Entry, Mapping};
-use std::alloc::Global;
 use std::marker::Model;
+use std::sync::Arc;
 
 /// A call that carries no label: the calls of these names.
 #[derive(Clone, Copy)]
@@ -152,10 +153,10 @@ impl Unlabelled {
 #[derive(Drop)]
 pub(crate) enum Form {
     Here(Unlabelled),
-    Apart(Box<Call>),
+    Apart(Arc<Call>),
 }
 
-/// A call that is kept. One without a label stands in it, and one with a label in memory of its own.
+/// A call that is kept. One without a label stands in it, and one with a label in memory that others may own too.
 #[derive(Drop)]
 pub struct KeptCall {
     form: Form,
@@ -171,13 +172,14 @@ impl Model for KeptCall {
 }
 
 impl KeptCall {
-    /// Keeps a call. The error is want of memory.
-    pub fn new(alloc: Global, call: &Call) -> Result<KeptCall, NoMemory>
-        ensures { IfOk result (λ kept. kept ≡ call.now) }
+    /// Keeps a call: without a label it is written out, and with one it has an owner more. The error is want of room to
+    /// count the owners.
+    pub fn new(call: &Arc<Call>) -> Result<KeptCall, NoMemory>
+        ensures { IfOk result (λ kept. kept ≡ arc_value call.now) }
     {
         let form = match Unlabelled::of(call) {
             Some(unlabelled) => Form::Here(unlabelled),
-            None => Form::Apart(Box::new(alloc, *call)?),
+            None => Form::Apart(Arc::try_clone(call)?),
         };
         Ok(KeptCall { form })
     }

@@ -1,7 +1,8 @@
 //! Events as a journal keeps them: an event of the rules is as large as three labels and more, and most carry none. A
-//! call without a label and its reply are kept in a tenth of that, and a call with one as it is, in memory of its own.
+//! call without a label and its reply are kept in a tenth of that, and of a call with one its shared memory has an owner
+//! more.
 //!
-//! A contract sees what is kept as the call, the reply and the event of the rules. Only keeping a call takes memory.
+//! A contract sees what is kept as the call, the reply and the event of the rules. Nothing here takes memory.
 #![tactic(auto)]
 
 mod calls;

@@ -1,5 +1,6 @@
 -- What a copy shows, and what it becomes when it takes in a call.
 use Rattle.std.specs.Prelude.{Bool, true, false, List, [], ◌∷◌, ◌++◌}
+use Rattle.std.specs.Arc.{arc_value}
 use Rattle.kernel_rules.specs.Step.{next}
 use Rattle.kernel_rules.specs.declared.events.Event.{Event}
 use Rattle.syscall_core.specs.Kernel.{kernel_state}
@@ -34,7 +35,7 @@ shown_of c = record {
 -- and what becomes of it: the next state, and the list with the call's event
 abbrev pub absorbed : Shown → Op → Shown
 absorbed s op = record {
-  state = next s.state op.thread op.call.value;
+  state = next s.state op.thread (arc_value op.call);
   limits = s.limits;
   length = op.length;
   number = op.seen.book.number;

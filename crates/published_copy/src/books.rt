@@ -186,12 +186,11 @@ impl<B: Naming> Book<B> {
         let events = self.journal.len() as u64;
         let _begins = self.pair.front(events).has(pass.front());
         make_room(&mut self.journal, &mut self.tallies)?;
-        let kept = self.pair.keep(call)?;
         let (kernel, meter) = (&mut self.kernel, &mut self.meter);
         let made = self
             .pair
             .commit(rt, kernel, meter, pass, call, events + 1, reply);
-        let Ok(()) = made else {
+        let Ok(kept) = made else {
             return Err(SubmitRefusal::Memory);
         };
         call_answers();

@@ -1,5 +1,6 @@
 //! The copies of the kernel that readers take, and how they take in calls.
 ghost use Rattle.std.specs.Prelude.{◌≡◌, ℕ, [], IfOk, true};
+ghost use Rattle.std.specs.Arc.{arc_value};
 ghost use Rattle.kernel_rules.specs.Runs.{booted};
 ghost use Rattle.kernel_rules.specs.Step.{next};
 ghost use Rattle.published_copy.specs.Boots.{boot_of};
@@ -59,7 +60,7 @@ pub(crate) struct Shown {
 /// A kernel makes the call of an operation.
 fn make(kernel: &mut Kernel, meter: &mut Meter, operation: &Op)
     ensures { kernel_state kernel.new
-        ≡ next (kernel_state kernel.old) operation.now.thread operation.now.call.value }
+        ≡ next (kernel_state kernel.old) operation.now.thread (arc_value operation.now.call) }
 {
     let mut reply = Reply::Done;
     kernel.step_into(operation.thread, &operation.call, &mut reply, meter);

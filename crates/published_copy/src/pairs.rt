@@ -91,12 +91,12 @@ fn operation<B: Naming>(
     tip: &Tip<B>,
     head: Arc<Head>,
     pass: &Pass<B>,
-    call: Box<Call>,
+    call: Arc<Call>,
     events: u64,
 ) -> Op
     requires { arc_value head ≡ head_of B.boot.log }
     ensures thread { result.thread ≡ pass.now.thread }
-    ensures call { result.call.value ≡ call.value }
+    ensures call { arc_value result.call ≡ arc_value call }
     ensures length { result.length ≡ events }
     ensures book { result.seen.book ≡ B.boot.log }
     ensures log { result.seen.log ≡ tip.now }
@@ -144,13 +144,6 @@ impl<B: Naming> Pair<B> {
         }
     }
 
-    /// Keeps a call.
-    pub(crate) fn keep(&self, call: &Call) -> Result<KeptCall, NoMemory>
-        ensures { IfOk result (λ kept. kept ≡ call.now) }
-    {
-        KeptCall::new(self.alloc, call)
-    }
-
     /// All events, which are so many, as they were seen.
     pub(crate) fn front(&self, events: u64) -> Front<B>
         requires { events ≡ length self.now }
@@ -161,7 +154,8 @@ impl<B: Naming> Pair<B> {
 
     /// Makes a pass's call, as the event that comes next: the log tries it, the master makes it,
     /// the log has made it, and then readers are shown the copy that has it. The reply, which is
-    /// `Done`, becomes its answer. Without memory nothing changes.
+    /// `Done`, becomes its answer. The call is written out once, for the copies, and given back as it
+    /// is kept. Without memory nothing changes.
     pub(crate) fn commit<R: Wait>(
         &mut self,
         rt: &R,
@@ -171,11 +165,12 @@ impl<B: Naming> Pair<B> {
         call: &Call,
         events: u64,
         reply: &mut Reply,
-    ) -> Result<(), NoMemory>
+    ) -> Result<KeptCall, NoMemory>
         requires done { reply.old ≡ told.Done }
         requires state { kernel_state kernel.old ≡ state_of B.boot.limits self.old }
         requires number { pass.now.number ≡ count pass.now.thread self.old + 1 }
         requires events { events ≡ length self.old + 1 }
+        ensures call { IfOk result (λ kept. kept ≡ call.now) }
         ensures event { OnOk result
             (self.new ≡ with_event B.boot.limits self.old pass.now call.now) }
         ensures reply { OnOk result
@@ -184,17 +179,18 @@ impl<B: Naming> Pair<B> {
             (kernel_state kernel.new ≡ next (kernel_state kernel.old) pass.now.thread call.now) }
         ensures kept { OnErr result ((self.new ≡ self.old) × (kernel.new ≡ kernel.old)) }
     {
-        let kept = Box::new(self.alloc, *call)?;
+        let shared = Arc::new(self.alloc, *call)?;
+        let kept = KeptCall::new(&shared)?;
         let tried = attempt(rt, &mut self.tip, &self.head, kernel, pass, call);
         let Some(head) = tried else {
             return Err(NoMemory);
         };
-        let op = operation(&self.tip, head, pass, kept, events);
+        let op = operation(&self.tip, head, pass, shared, events);
         self.copies.queue(op)?;
         make(kernel, meter, pass.thread(), call, reply);
         self.tip.settle(rt, &self.head);
         self.copies.publish(rt, &self.tip, kernel);
-        Ok(())
+        Ok(kept)
     }
 
     /// A reader of the copies, which knows their boot.
