@@ -1,5 +1,5 @@
 //! Other labels of a thread: the new ones are stored first, and the old ones let go then.
-ghost use Rattle.std.specs.Prelude.{◌≡◌, ◌≤◌, ◌+◌, ◌<◌, ◌^◌, IfSome};
+ghost use Rattle.std.specs.Prelude.{◌≡◌, ◌≤◌, ◌+◌, ◌<◌, ◌^◌, IfSome, option_copied};
 ghost use Rattle.label_lattice.specs.Label.{IsStored};
 ghost use Rattle.kernel_rules.specs.Changes.{changed, cleared, labelled, owning};
 ghost use Rattle.kernel_rules.specs.Step.{owned};
@@ -74,21 +74,21 @@ impl ArenaState {
     pub fn own_category(
         &mut self,
         thread: ObjectId,
-        label: Option<Label>,
-        clearance: Option<Label>,
+        label: Option<&Label>,
+        clearance: Option<&Label>,
         meter: &mut Meter,
     )
         requires left { (state_of self.old).next_category < 2 ^ 61 }
-        requires label { IfSome label IsStored }
-        requires clearance { IfSome clearance IsStored }
-        ensures state { state_of self.new ≡ owned (state_of self.old) thread label clearance }
+        requires label { IfSome (option_copied label) IsStored }
+        requires clearance { IfSome (option_copied clearance) IsStored }
+        ensures state { state_of self.new ≡ owned (state_of self.old) thread (option_copied label.entry) (option_copied clearance.entry) }
         ensures scans { meter.new.scans
             ≤ meter.old.scans + storing 2 (labels_stored self.old) }
         ensures places { self.new.pieces.places ≡ self.old.pieces.places }
     {
         if let Some(label) = label {
             if let Some(clearance) = clearance {
-                self.own(thread, &label, &clearance, meter);
+                self.own(thread, label, clearance, meter);
                 self.pieces.next_category += 1;
             }
         }

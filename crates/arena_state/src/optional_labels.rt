@@ -1,6 +1,6 @@
 //! Creations and changes of labels that may be none, as a call that stores a label gives it: where there is no label
 //! nothing changes.
-ghost use Rattle.std.specs.Prelude.{◌≡◌, ◌≤◌, ◌+◌, ◌*◌, [], replicate, None, IfSome};
+ghost use Rattle.std.specs.Prelude.{◌≡◌, ◌≤◌, ◌+◌, ◌*◌, [], replicate, None, IfSome, option_copied};
 ghost use Rattle.label_lattice.specs.Label.{IsStored};
 ghost use Rattle.kernel_rules.specs.Changes.{changed, cleared, labelled};
 ghost use Rattle.kernel_rules.specs.Fitting.{IsFitting};
@@ -21,22 +21,22 @@ impl ArenaState {
     pub fn make_container(
         &mut self,
         container: ObjectId,
-        label: Option<Label>,
+        label: Option<&Label>,
         quota: u32,
         avoid: TypeSet,
         meter: &mut Meter,
     ) -> ObjectId
         requires fitting { IsFitting (state_of self.old) container quota (is.Container avoid []) }
-        requires label { IfSome label IsStored }
+        requires label { IfSome (option_copied label) IsStored }
         ensures id { result ≡ (state_of self.old).next_id }
-        ensures state { state_of self.new ≡ made_of (state_of self.old) container label quota
+        ensures state { state_of self.new ≡ made_of (state_of self.old) container (option_copied label.entry) quota
             (is.Container avoid []) }
         ensures scans { meter.new.scans
             ≤ meter.old.scans + storing 1 (labels_stored self.old) }
         ensures slots { KeepsSlots self.old self.new (state_of self.old).next_id }
     {
         match label {
-            Some(label) => self.create_container(container, &label, quota, avoid, meter),
+            Some(label) => self.create_container(container, label, quota, avoid, meter),
             None => self.next_id(),
         }
     }
@@ -45,23 +45,23 @@ impl ArenaState {
     pub fn make_segment(
         &mut self,
         container: ObjectId,
-        label: Option<Label>,
+        label: Option<&Label>,
         quota: u32,
         pages: u32,
         meter: &mut Meter,
     ) -> ObjectId
         requires fitting { IsFitting (state_of self.old) container quota
             (is.Segment (replicate (256 * pages) 0)) }
-        requires label { IfSome label IsStored }
+        requires label { IfSome (option_copied label) IsStored }
         ensures id { result ≡ (state_of self.old).next_id }
-        ensures state { state_of self.new ≡ made_of (state_of self.old) container label quota
+        ensures state { state_of self.new ≡ made_of (state_of self.old) container (option_copied label.entry) quota
             (is.Segment (replicate (256 * pages) 0)) }
         ensures scans { meter.new.scans
             ≤ meter.old.scans + storing 1 (labels_stored self.old) }
         ensures slots { KeepsSlots self.old self.new (state_of self.old).next_id }
     {
         match label {
-            Some(label) => self.create_segment(container, &label, quota, pages, meter),
+            Some(label) => self.create_segment(container, label, quota, pages, meter),
             None => self.next_id(),
         }
     }
@@ -70,23 +70,23 @@ impl ArenaState {
     pub fn make_copy(
         &mut self,
         container: ObjectId,
-        label: Option<Label>,
+        label: Option<&Label>,
         quota: u32,
         source: ObjectId,
         meter: &mut Meter,
     ) -> ObjectId
         requires fitting { IsFitting (state_of self.old) container quota
             (is.Segment (bytes_at (state_of self.old) source)) }
-        requires label { IfSome label IsStored }
+        requires label { IfSome (option_copied label) IsStored }
         ensures id { result ≡ (state_of self.old).next_id }
-        ensures state { state_of self.new ≡ made_of (state_of self.old) container label quota
+        ensures state { state_of self.new ≡ made_of (state_of self.old) container (option_copied label.entry) quota
             (is.Segment (bytes_at (state_of self.old) source)) }
         ensures scans { meter.new.scans
             ≤ meter.old.scans + storing 1 (labels_stored self.old) }
         ensures slots { KeepsSlots self.old self.new (state_of self.old).next_id }
     {
         match label {
-            Some(label) => self.create_copy(container, &label, quota, source, meter),
+            Some(label) => self.create_copy(container, label, quota, source, meter),
             None => self.next_id(),
         }
     }
@@ -96,22 +96,22 @@ impl ArenaState {
     pub fn make_space(
         &mut self,
         container: ObjectId,
-        label: Option<Label>,
+        label: Option<&Label>,
         quota: u32,
         meter: &mut Meter,
     ) -> ObjectId
         requires fitting { IsFitting (state_of self.old) container quota
             (is.AddressSpace (record { slots = replicate 16 None })) }
-        requires label { IfSome label IsStored }
+        requires label { IfSome (option_copied label) IsStored }
         ensures id { result ≡ (state_of self.old).next_id }
-        ensures state { state_of self.new ≡ made_of (state_of self.old) container label quota
+        ensures state { state_of self.new ≡ made_of (state_of self.old) container (option_copied label.entry) quota
             (is.AddressSpace (record { slots = replicate 16 None })) }
         ensures scans { meter.new.scans
             ≤ meter.old.scans + storing 1 (labels_stored self.old) }
         ensures slots { KeepsSlots self.old self.new (state_of self.old).next_id }
     {
         match label {
-            Some(label) => self.create_space(container, &label, quota, meter),
+            Some(label) => self.create_space(container, label, quota, meter),
             None => self.next_id(),
         }
     }
@@ -120,25 +120,25 @@ impl ArenaState {
     pub fn make_thread(
         &mut self,
         container: ObjectId,
-        label: Option<Label>,
+        label: Option<&Label>,
         quota: u32,
-        clearance: Label,
+        clearance: &Label,
         entry_point: u64,
         meter: &mut Meter,
     ) -> ObjectId
         requires fitting { IsFitting (state_of self.old) container quota
-            (new_thread clearance entry_point) }
-        requires label { IfSome label IsStored }
+            (new_thread clearance.now entry_point) }
+        requires label { IfSome (option_copied label) IsStored }
         ensures id { result ≡ (state_of self.old).next_id }
-        ensures state { state_of self.new ≡ made_of (state_of self.old) container label quota
-            (new_thread clearance entry_point) }
+        ensures state { state_of self.new ≡ made_of (state_of self.old) container (option_copied label.entry) quota
+            (new_thread clearance.now entry_point) }
         ensures scans { meter.new.scans
             ≤ meter.old.scans + storing 3 (labels_stored self.old) }
         ensures slots { KeepsSlots self.old self.new (state_of self.old).next_id }
     {
         match label {
             Some(label) => {
-                self.create_thread(container, &label, quota, &clearance, entry_point, meter)
+                self.create_thread(container, label, quota, clearance, entry_point, meter)
             }
             None => self.next_id(),
         }
@@ -148,51 +148,51 @@ impl ArenaState {
     pub fn make_gate(
         &mut self,
         container: ObjectId,
-        label: Option<Label>,
+        label: Option<&Label>,
         quota: u32,
-        gate: Gate,
+        gate: &Gate,
         meter: &mut Meter,
     ) -> ObjectId
-        requires fitting { IsFitting (state_of self.old) container quota (is.Gate gate) }
-        requires label { IfSome label IsStored }
+        requires fitting { IsFitting (state_of self.old) container quota (is.Gate gate.now) }
+        requires label { IfSome (option_copied label) IsStored }
         ensures id { result ≡ (state_of self.old).next_id }
-        ensures state { state_of self.new ≡ made_of (state_of self.old) container label quota
-            (is.Gate gate) }
+        ensures state { state_of self.new ≡ made_of (state_of self.old) container (option_copied label.entry) quota
+            (is.Gate gate.now) }
         ensures scans { meter.new.scans
             ≤ meter.old.scans + storing 2 (labels_stored self.old) }
         ensures slots { KeepsSlots self.old self.new (state_of self.old).next_id }
     {
         match label {
-            Some(label) => self.create_gate(container, &label, quota, &gate, meter),
+            Some(label) => self.create_gate(container, label, quota, gate, meter),
             None => self.next_id(),
         }
     }
 
     /// A thread gets this label, where it is there; else nothing changes.
-    pub fn give_label(&mut self, thread: ObjectId, label: Option<Label>, meter: &mut Meter)
-        requires { IfSome label IsStored }
-        ensures state { state_of self.new ≡ with_value (state_of self.old) label
+    pub fn give_label(&mut self, thread: ObjectId, label: Option<&Label>, meter: &mut Meter)
+        requires { IfSome (option_copied label) IsStored }
+        ensures state { state_of self.new ≡ with_value (state_of self.old) (option_copied label.entry)
             (λ l. changed (state_of self.old) thread (labelled l)) }
         ensures scans { meter.new.scans
             ≤ meter.old.scans + storing 1 (labels_stored self.old) }
         ensures places { self.new.pieces.places ≡ self.old.pieces.places }
     {
         if let Some(label) = label {
-            self.set_label(thread, &label, meter);
+            self.set_label(thread, label, meter);
         }
     }
 
     /// A thread gets this clearance, where it is there; else nothing changes.
-    pub fn give_clearance(&mut self, thread: ObjectId, clearance: Option<Label>, meter: &mut Meter)
-        requires { IfSome clearance IsStored }
-        ensures state { state_of self.new ≡ with_value (state_of self.old) clearance
+    pub fn give_clearance(&mut self, thread: ObjectId, clearance: Option<&Label>, meter: &mut Meter)
+        requires { IfSome (option_copied clearance) IsStored }
+        ensures state { state_of self.new ≡ with_value (state_of self.old) (option_copied clearance.entry)
             (λ c. changed (state_of self.old) thread (cleared c)) }
         ensures scans { meter.new.scans
             ≤ meter.old.scans + storing 1 (labels_stored self.old) }
         ensures places { self.new.pieces.places ≡ self.old.pieces.places }
     {
         if let Some(clearance) = clearance {
-            self.set_clearance(thread, &clearance, meter);
+            self.set_clearance(thread, clearance, meter);
         }
     }
 }

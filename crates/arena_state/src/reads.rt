@@ -9,6 +9,7 @@ ghost use Rattle.arena_state.specs.States.{state_of, find_cost, HasRow, Shows, F
 
 use crate::records::{Kept, Record};
 use crate::states::ArenaState;
+use crate::uses::pages_of;
 use base::{Data, Kind, Meter, ObjectId, Slot, TypeSet};
 
 impl Kept {
@@ -138,8 +139,13 @@ impl ArenaState {
             (use_of (state_of self.now) container + pages) }
         ensures scans { meter.new.scans ≡ meter.old.scans }
     {
-        let used = u64::from(self.used_pages(container, meter));
-        u64::from(self.quota(container, meter)) < used + u64::from(pages)
+        match self.row(container, meter) {
+            Some(row) => {
+                let used = pages_of(&row.body, row.quota);
+                u64::from(row.quota) < u64::from(used) + u64::from(pages)
+            }
+            None => 0 < pages,
+        }
     }
 
     /// Whether a container won't hold this kind.

@@ -97,16 +97,6 @@ impl ArenaState {
         }
     }
 
-    /// What a thread sees of an object.
-    pub fn look(&self, thread: ObjectId, id: ObjectId, meter: &mut Meter) -> Seen
-        ensures value { result ≡ seen_of (state_of self.now) thread id }
-        ensures scans { meter.new.scans ≡ meter.old.scans }
-    {
-        let own = self.slot(thread, meter);
-        let other = self.slot(id, meter);
-        self.seen(thread, self.record(thread, own), id, self.record(id, other))
-    }
-
     /// What a thread sees of an entry, at three look-ups.
     pub fn sight(&self, thread: ObjectId, entry: &Entry, meter: &mut Meter) -> Sight
         ensures value { result ≡ sight_of (state_of self.now) thread entry.now }
@@ -126,6 +116,7 @@ impl ArenaState {
             accessible: holds && around.observed,
             held: holds && (listed || entry.object == entry.container),
             listed,
+            container: around,
             object: self.seen(thread, own, entry.object, object),
         }
     }

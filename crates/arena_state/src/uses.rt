@@ -9,7 +9,7 @@ use crate::states::ArenaState;
 use base::{Meter, ObjectId};
 
 // What is kept of the use of a body. A segment has at most 16 pages.
-fn pages_of(body: &Kept, most: u32) -> u32
+pub(crate) fn pages_of(body: &Kept, most: u32) -> u32
     requires { body_use body.now ≤ most }
     ensures { result ≡ body_use body.now }
 {
@@ -30,11 +30,8 @@ impl ArenaState {
         ensures scans { meter.new.scans ≡ meter.old.scans }
         ensures probes { meter.new.probes ≤ meter.old.probes + find_cost self.now }
     {
-        match self.slot(id, meter) {
-            Some(slot) => {
-                let most = self.pieces.holdings.records[slot.0].quota;
-                Some(pages_of(&self.pieces.holdings.records[slot.0].body, most))
-            }
+        match self.row(id, meter) {
+            Some(row) => Some(pages_of(&row.body, row.quota)),
             None => None,
         }
     }

@@ -3,7 +3,7 @@ ghost use Rattle.std.specs.Prelude.{◌≡◌};
 
 use base::{Data, Kind, Meter, NoMemory, ObjectId, Rights, TypeSet};
 use kernel_rules::{Entry, Gate, Ids, Mapping, Place, Thread};
-use kernel_store::{Seen, Sight, Store};
+use kernel_store::{Sight, Store};
 use label_lattice::Label;
 use plain_state::PlainState;
 
@@ -42,11 +42,6 @@ impl Store for Counting {
     fn is_live_kind(&self, kind: Kind, id: ObjectId, meter: &mut Meter) -> bool {
         meter.probe();
         Store::is_live_kind(&self.state, kind, id, meter)
-    }
-
-    fn look(&self, thread: ObjectId, id: ObjectId, meter: &mut Meter) -> Seen {
-        meter.probe();
-        Store::look(&self.state, thread, id, meter)
     }
 
     fn sight(&self, thread: ObjectId, entry: &Entry, meter: &mut Meter) -> Sight {
@@ -205,7 +200,7 @@ impl Store for Counting {
     fn create_container(
         &mut self,
         container: ObjectId,
-        label: Option<Label>,
+        label: Option<&Label>,
         quota: u32,
         kinds: TypeSet,
         meter: &mut Meter,
@@ -216,7 +211,7 @@ impl Store for Counting {
     fn create_segment(
         &mut self,
         container: ObjectId,
-        label: Option<Label>,
+        label: Option<&Label>,
         quota: u32,
         pages: u32,
         meter: &mut Meter,
@@ -248,11 +243,11 @@ impl Store for Counting {
         Store::meta_set(&mut self.state, id, given, meter);
     }
 
-    fn set_label(&mut self, thread: ObjectId, label: Option<Label>, meter: &mut Meter) {
+    fn set_label(&mut self, thread: ObjectId, label: Option<&Label>, meter: &mut Meter) {
         Store::set_label(&mut self.state, thread, label, meter);
     }
 
-    fn set_clearance(&mut self, thread: ObjectId, clearance: Option<Label>, meter: &mut Meter) {
+    fn set_clearance(&mut self, thread: ObjectId, clearance: Option<&Label>, meter: &mut Meter) {
         Store::set_clearance(&mut self.state, thread, clearance, meter);
     }
 
@@ -263,9 +258,9 @@ impl Store for Counting {
     fn enter(
         &mut self,
         thread: ObjectId,
-        label: Label,
-        clearance: Label,
-        verify: Label,
+        label: &Label,
+        clearance: &Label,
+        verify: &Label,
         gate: &Gate,
         meter: &mut Meter,
     ) {
@@ -283,8 +278,8 @@ impl Store for Counting {
     fn own_category(
         &mut self,
         thread: ObjectId,
-        label: Option<Label>,
-        clearance: Option<Label>,
+        label: Option<&Label>,
+        clearance: Option<&Label>,
         meter: &mut Meter,
     ) {
         Store::own_category(&mut self.state, thread, label, clearance, meter);
@@ -293,7 +288,7 @@ impl Store for Counting {
     fn create_copy(
         &mut self,
         container: ObjectId,
-        label: Option<Label>,
+        label: Option<&Label>,
         quota: u32,
         source: ObjectId,
         meter: &mut Meter,
@@ -304,7 +299,7 @@ impl Store for Counting {
     fn create_space(
         &mut self,
         container: ObjectId,
-        label: Option<Label>,
+        label: Option<&Label>,
         quota: u32,
         meter: &mut Meter,
     ) -> Result<ObjectId, NoMemory> {
@@ -314,9 +309,9 @@ impl Store for Counting {
     fn create_thread(
         &mut self,
         container: ObjectId,
-        label: Option<Label>,
+        label: Option<&Label>,
         quota: u32,
-        clearance: Label,
+        clearance: &Label,
         entry_point: u64,
         meter: &mut Meter,
     ) -> Result<ObjectId, NoMemory> {
@@ -334,9 +329,9 @@ impl Store for Counting {
     fn create_gate(
         &mut self,
         container: ObjectId,
-        label: Option<Label>,
+        label: Option<&Label>,
         quota: u32,
-        gate: Gate,
+        gate: &Gate,
         meter: &mut Meter,
     ) -> Result<ObjectId, NoMemory> {
         Store::create_gate(&mut self.state, container, label, quota, gate, meter)

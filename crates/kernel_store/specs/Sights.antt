@@ -38,5 +38,6 @@ sight_of s t e = record {
   accessible = is_accessible s t e.container;
   held = holds s e;
   listed = has (list_at s e.container) e.object;
+  container = seen_of s t e.container;
   object = seen_of s t e.object;
 }

@@ -15,7 +15,7 @@ use label_rules::{is_below, is_between, stored_of};
 
 /// A new object, as what refuses one looks at it.
 #[derive(Clone, Copy)]
-pub struct NewObject {
+pub struct NewObject<'a> {
     /// What it will be.
     pub kind: Kind,
     /// Where it is to be listed.
@@ -23,7 +23,7 @@ pub struct NewObject {
     /// What it may use, in pages of 256 bytes.
     pub quota: u32,
     /// Its label, as it is given.
-    pub label: RawLabel,
+    pub label: &'a RawLabel,
 }
 
 /// The new object, which uses so many pages itself, fits into its container.
@@ -122,10 +122,10 @@ pub fn new_object<S: Store>(
     meter: &mut Meter,
 ) -> [Condition; 10]
     ensures value { result ≡ new_object (S.state state.now) thread
-        made.now.kind made.now.container made.now.label made.now.quota pages }
+        made.now.kind made.now.container made.now.label.now made.now.quota pages }
     ensures meter { S.kept meter.new ≤ S.kept meter.old + 3 }
 {
-    let stored = stored_of(&made.label, meter);
+    let stored = stored_of(made.label, meter);
     let label = stored.as_ref();
     let [
         access,
@@ -137,7 +137,7 @@ pub fn new_object<S: Store>(
         immutable,
         spent,
     ] = fitting(state, thread, made, pages, meter);
-    let [unfit] = starless_label(state, &made.label, label);
+    let [unfit] = starless_label(state, made.label, label);
     let in_range = is_in_range(state, thread, label, meter);
     [
         access,
@@ -186,10 +186,10 @@ pub fn new_bearer<S: Store>(
     meter: &mut Meter,
 ) -> [Condition; 12]
     ensures value { result ≡ new_bearer (S.state state.now) thread
-        made.now.kind made.now.container made.now.label made.now.quota raw_clearance.now }
+        made.now.kind made.now.container made.now.label.now made.now.quota raw_clearance.now }
     ensures meter { S.kept meter.new ≤ S.kept meter.old + 5 }
 {
-    let stored = stored_of(&made.label, meter);
+    let stored = stored_of(made.label, meter);
     let label = stored.as_ref();
     let stored_clearance = stored_of(raw_clearance, meter);
     let clearance = stored_clearance.as_ref();
@@ -203,7 +203,7 @@ pub fn new_bearer<S: Store>(
         immutable,
         spent,
     ] = fitting(state, thread, made, 1, meter);
-    let [unfit] = good_label(state, &made.label, label);
+    let [unfit] = good_label(state, made.label, label);
     let [unfit_clearance] = good_label(state, raw_clearance, clearance);
     let above = is_above(state, thread, label, meter);
     let bounded = is_bounded(state, thread, label, clearance, meter);

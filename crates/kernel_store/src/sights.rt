@@ -33,6 +33,8 @@ pub struct Sight {
     pub held: bool,
     /// Whether the container lists the object.
     pub listed: bool,
+    /// What the thread sees of the container.
+    pub container: Seen,
     /// What the thread sees of the object.
     pub object: Seen,
 }

@@ -29,7 +29,7 @@ pub fn refused_container_create<S: Store>(
         kind: Kind::Container,
         container: made.container,
         quota: made.quota,
-        label: made.label,
+        label: &made.label,
     };
     refusal_of(&[
         &halted(state, thread, meter),
@@ -56,7 +56,7 @@ pub fn container_create<S: Store>(
 {
     let kinds = state.joined(made.container, made.avoid, meter);
     let label = stored_of(&made.label, meter);
-    let id = state.create_container(made.container, label, made.quota, kinds, meter)?;
+    let id = state.create_container(made.container, label.as_ref(), made.quota, kinds, meter)?;
     Ok(id)
 }
 

@@ -43,7 +43,6 @@ fn close_up<T>(
     spare: &mut Vec<usize>,
     cells: &[Option<T>],
     from: usize,
-    meter: &mut Meter,
 ) -> usize
     requires gaps { HasGaps ids.old slots.old spare.old.items cells.now }
     requires in_range { from ≤ length ids.old }
@@ -53,11 +52,9 @@ fn close_up<T>(
     ensures closing { IsClosing ids.old slots.old spare.old.items ids.new slots.new spare.new.items
         cells.now result (length ids.old) }
     ensures room { vec_capacity spare.new ≡ vec_capacity spare.old }
-    ensures scans { meter.new.scans ≡ meter.old.scans }
 {
     let mut end = from;
     for place in from..ids.len() {
-        meter.probe();
         let slot = slots[place];
         if cells[slot].is_some() {
             ids[end] = ids[place];
@@ -71,7 +68,7 @@ fn close_up<T>(
 }
 
 /// Takes each id whose slot is empty out of the directory, from a place on before which none is, in one pass. Its slot
-/// is spare then.
+/// is spare then. The places that are read are counted at once.
 pub fn close_gaps<T>(
     ids: &mut Vec<u64>,
     slots: &mut Vec<usize>,
@@ -93,7 +90,8 @@ pub fn close_gaps<T>(
     ensures spare_room { vec_capacity spare.new ≡ vec_capacity spare.old }
     ensures scans { meter.new.scans ≡ meter.old.scans }
 {
-    let end = close_up(ids, slots, spare, cells, from, meter);
+    meter.probe_many((ids.len() - from) as u64);
+    let end = close_up(ids, slots, spare, cells, from);
     ids.truncate(end);
     slots.truncate(end);
 }

@@ -21,8 +21,8 @@ impl PlainState {
         }
     }
 
-    /// What a thread sees of an object.
-    pub fn look(&self, thread: ObjectId, id: ObjectId, meter: &mut Meter) -> Seen
+    // What a thread sees of an object.
+    fn look(&self, thread: ObjectId, id: ObjectId, meter: &mut Meter) -> Seen
         ensures { result ≡ seen_of (state_of self.now) thread id }
     {
         Seen {
@@ -44,6 +44,7 @@ impl PlainState {
             accessible: self.is_accessible(thread, entry.container, meter),
             held: self.holds(entry),
             listed: self.lists(entry.container, entry.object),
+            container: self.look(thread, entry.container, meter),
             object: self.look(thread, entry.object, meter),
         }
     }

@@ -7,7 +7,7 @@ use crate::kernel::Kernel;
 use arena_state::Change;
 use base::{Data, Kind, Meter, ObjectId, Rights, TypeSet};
 use kernel_rules::{Entry, Gate, Ids, Mapping, Place, Thread};
-use kernel_store::{Seen, Sight, Store};
+use kernel_store::{Sight, Store};
 use label_lattice::Label;
 use std::convert::Infallible;
 
@@ -42,10 +42,6 @@ impl Store for Kernel {
     fn is_live_kind(&self, kind: Kind, id: ObjectId, meter: &mut Meter) -> bool {
         self.rows.few();
         self.state.is_live_kind(kind, id, meter)
-    }
-
-    fn look(&self, thread: ObjectId, id: ObjectId, meter: &mut Meter) -> Seen {
-        self.state.look(thread, id, meter)
     }
 
     fn sight(&self, thread: ObjectId, entry: &Entry, meter: &mut Meter) -> Sight {
@@ -245,12 +241,12 @@ impl Store for Kernel {
         self.state.meta_set(id, given, meter);
     }
 
-    fn set_label(&mut self, thread: ObjectId, label: Option<Label>, meter: &mut Meter) {
+    fn set_label(&mut self, thread: ObjectId, label: Option<&Label>, meter: &mut Meter) {
         self.state.give_label(thread, label, meter);
         self.state.remake_row(thread, &mut self.rows, meter);
     }
 
-    fn set_clearance(&mut self, thread: ObjectId, clearance: Option<Label>, meter: &mut Meter) {
+    fn set_clearance(&mut self, thread: ObjectId, clearance: Option<&Label>, meter: &mut Meter) {
         self.state.give_clearance(thread, clearance, meter);
     }
 
@@ -262,8 +258,8 @@ impl Store for Kernel {
     fn own_category(
         &mut self,
         thread: ObjectId,
-        label: Option<Label>,
-        clearance: Option<Label>,
+        label: Option<&Label>,
+        clearance: Option<&Label>,
         meter: &mut Meter,
     ) {
         self.state.own_category(thread, label, clearance, meter);
@@ -273,21 +269,21 @@ impl Store for Kernel {
     fn enter(
         &mut self,
         thread: ObjectId,
-        label: Label,
-        clearance: Label,
-        verify: Label,
+        label: &Label,
+        clearance: &Label,
+        verify: &Label,
         gate: &Gate,
         meter: &mut Meter,
     ) {
         self.state
-            .enter(thread, &label, &clearance, &verify, gate, meter);
+            .enter(thread, label, clearance, verify, gate, meter);
         self.state.remake_row(thread, &mut self.rows, meter);
     }
 
     fn create_container(
         &mut self,
         container: ObjectId,
-        label: Option<Label>,
+        label: Option<&Label>,
         quota: u32,
         kinds: TypeSet,
         meter: &mut Meter,
@@ -302,7 +298,7 @@ impl Store for Kernel {
     fn create_segment(
         &mut self,
         container: ObjectId,
-        label: Option<Label>,
+        label: Option<&Label>,
         quota: u32,
         pages: u32,
         meter: &mut Meter,
@@ -317,7 +313,7 @@ impl Store for Kernel {
     fn create_copy(
         &mut self,
         container: ObjectId,
-        label: Option<Label>,
+        label: Option<&Label>,
         quota: u32,
         source: ObjectId,
         meter: &mut Meter,
@@ -330,7 +326,7 @@ impl Store for Kernel {
     fn create_space(
         &mut self,
         container: ObjectId,
-        label: Option<Label>,
+        label: Option<&Label>,
         quota: u32,
         meter: &mut Meter,
     ) -> Result<ObjectId, Infallible> {
@@ -342,9 +338,9 @@ impl Store for Kernel {
     fn create_thread(
         &mut self,
         container: ObjectId,
-        label: Option<Label>,
+        label: Option<&Label>,
         quota: u32,
-        clearance: Label,
+        clearance: &Label,
         entry_point: u64,
         meter: &mut Meter,
     ) -> Result<ObjectId, Infallible> {
@@ -358,9 +354,9 @@ impl Store for Kernel {
     fn create_gate(
         &mut self,
         container: ObjectId,
-        label: Option<Label>,
+        label: Option<&Label>,
         quota: u32,
-        gate: Gate,
+        gate: &Gate,
         meter: &mut Meter,
     ) -> Result<ObjectId, Infallible> {
         let id = self.state.make_gate(container, label, quota, gate, meter);

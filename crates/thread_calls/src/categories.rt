@@ -77,6 +77,6 @@ pub fn cat_create<S: Store>(state: &mut S, thread: ObjectId, meter: &mut Meter) 
     let category = Category(state.next_category());
     let label = own_label(state, thread, meter);
     let clearance = own_clearance(state, thread, meter);
-    state.own_category(thread, label, clearance, meter);
+    state.own_category(thread, label.as_ref(), clearance.as_ref(), meter);
     category
 }

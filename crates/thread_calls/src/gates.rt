@@ -1,15 +1,13 @@
 //! The calls that make and enter gates.
-ghost use Rattle.std.specs.Prelude.{◌≡◌, ◌≤◌, ◌+◌, ◌∷◌, [], ℕ, true, None};
+ghost use Rattle.std.specs.Prelude.{◌≡◌, ◌≤◌, ◌+◌, ℕ, true, None};
 ghost use Rattle.std.specs.Prelude.{IfOk, OnOk, OnErr, IfSome};
 ghost use Rattle.base.specs.Counts.{ScansAtMost};
-ghost use Rattle.base.specs.declared.refusals.Refusal.TheVariants as refusal;
 ghost use Rattle.label_lattice.specs.Label.{IsStored};
 ghost use Rattle.label_rules.specs.LabelRules.{may_enter, stored};
 ghost use Rattle.label_rules.specs.declared.gates.Asked.{Asked};
 ghost use Rattle.label_rules.specs.declared.gates.Bearer.{Bearer};
 ghost use Rattle.base.specs.declared.kinds.Kind.TheVariants as kinds;
 ghost use Rattle.kernel_rules.specs.State.{gate_at, is_kind_at};
-ghost use Rattle.label_lattice.specs.Raw.{is_bad_below};
 ghost use Rattle.kernel_rules.specs.Step.{accepted, edit, through_gate, told_by};
 ghost use Rattle.kernel_rules.specs.Table.{refused, own_bearer, gate_bearer};
 ghost use Rattle.kernel_rules.specs.declared.calls.Call.TheVariants as call;
@@ -19,8 +17,8 @@ ghost use Rattle.kernel_store.specs.Storing.{storing};
 use base::{Kind, Meter, ObjectId, Refusal};
 use kernel_rules::{Entry, Gate, NewGate, Reply};
 use kernel_store::{
-    Condition, NewObject, Store, good_label, halted_at, in_container, new_bearer, of_kind,
-    refusal_of, space_entry,
+    NewObject, Store, good_label, halted_at, in_container, new_bearer, of_kind, refusal_of,
+    space_entry,
 };
 use label_lattice::RawLabel;
 use label_rules::{Asked, Bearer, may_enter, stored_of};
@@ -41,7 +39,7 @@ pub fn refused_gate_create<S: Store>(
         kind: Kind::Gate,
         container: made.container,
         quota: made.quota,
-        label: made.label,
+        label: &made.label,
     };
     refusal_of(&[
         &halted_at(&space),
@@ -77,7 +75,7 @@ pub fn gate_create<S: Store>(
         entry_point: made.entry_point,
         closure: made.closure,
     };
-    let id = state.create_gate(made.container, label, made.quota, gate, meter)?;
+    let id = state.create_gate(made.container, label.as_ref(), made.quota, &gate, meter)?;
     Ok(id)
 }
 
@@ -151,16 +149,6 @@ fn asked_of(entering: &Entering, meter: &mut Meter) -> Asked
     }
 }
 
-/// The raw label can be that of a thread, a clearance or a verify label.
-fn good_raw_label<S: Store>(state: &S, raw: &RawLabel, meter: &mut Meter) -> [Condition; 1]
-    ensures value { result ≡ (refusal.BadLabel, is_bad_below (S.state state.now).next_category raw.now)
-        ∷ [] }
-    ensures meter { S.kept meter.new ≤ S.kept meter.old + 1 }
-{
-    let label = stored_of(raw, meter);
-    good_label(state, raw, label.as_ref())
-}
-
 /// What refuses to enter a gate.
 #[inline(never)]
 pub fn refused_gate_enter<S: Store>(
@@ -173,7 +161,7 @@ pub fn refused_gate_enter<S: Store>(
     ensures value { result ≡ refused (S.state state.now) thread
         (call.GateEnter gate.now entering.now.label.now
         entering.now.clearance.now entering.now.verify.now) }
-    ensures meter { S.kept meter.new ≤ S.kept meter.old + 11 }
+    ensures meter { S.kept meter.new ≤ S.kept meter.old + 8 }
 {
     let seen = state.sight(thread, gate, meter);
     let asked = asked_of(entering, meter);
@@ -182,9 +170,9 @@ pub fn refused_gate_enter<S: Store>(
         &halted_at(&seen),
         &in_container(&seen),
         &of_kind(Kind::Gate, &seen.object),
-        &good_raw_label(state, entering.label, meter),
-        &good_raw_label(state, entering.clearance, meter),
-        &good_raw_label(state, entering.verify, meter),
+        &good_label(state, entering.label, asked.label.as_ref()),
+        &good_label(state, entering.clearance, asked.clearance.as_ref()),
+        &good_label(state, entering.verify, asked.verify.as_ref()),
         &[(Refusal::GateDenied, !open)],
     ])
 }
@@ -206,9 +194,9 @@ fn enter<S: Store>(
     ensures meter { S.kept meter.new
         ≤ S.kept meter.old + storing 3 (S.stored state.old) }
 {
-    if let Some(label) = asked.label {
-        if let Some(clearance) = asked.clearance {
-            if let Some(verify) = asked.verify {
+    if let Some(label) = &asked.label {
+        if let Some(clearance) = &asked.clearance {
+            if let Some(verify) = &asked.verify {
                 if let Some(gate) = gate {
                     state.enter(thread, label, clearance, verify, gate, meter);
                 }

@@ -43,7 +43,7 @@ pub fn self_set_label<S: Store>(state: &mut S, thread: ObjectId, raw: &RawLabel,
         ≤ S.kept meter.old + 1 + storing 1 (S.stored state.old) }
 {
     let label = stored_of(raw, meter);
-    state.set_label(thread, label, meter);
+    state.set_label(thread, label.as_ref(), meter);
 }
 
 fn may_clear_to<S: Store>(
@@ -96,5 +96,5 @@ pub fn self_set_clearance<S: Store>(
         ≤ S.kept meter.old + 1 + storing 1 (S.stored state.old) }
 {
     let clearance = stored_of(raw, meter);
-    state.set_clearance(thread, clearance, meter);
+    state.set_clearance(thread, clearance.as_ref(), meter);
 }

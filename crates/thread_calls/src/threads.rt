@@ -55,7 +55,7 @@ pub fn refused_thread_create<S: Store>(
         kind: Kind::Thread,
         container: made.container,
         quota: made.quota,
-        label: made.label,
+        label: &made.label,
     };
     refusal_of(&[
         &halted(state, thread, meter),
@@ -86,9 +86,9 @@ pub fn thread_create<S: Store>(
     };
     let id = state.create_thread(
         made.container,
-        label,
+        label.as_ref(),
         made.quota,
-        clearance,
+        &clearance,
         made.entry_point,
         meter,
     )?;

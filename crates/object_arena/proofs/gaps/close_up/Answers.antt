@@ -10,7 +10,6 @@ pub loop-place-init : goal.loop-place-init
 loop-place-init g c = record {
   closing = closing_start c.args.ids.now c.args.slots.now c.args.spare.now.items c.args.cells.now c.requires.gaps c.args.from c.requires.in_range c.requires.there;
   room = search rules;
-  scans = search rules;
 }
 
 pub loop-place-preserved : goal.loop-place-preserved
@@ -30,12 +29,10 @@ loop-place-preserved g c =
         closing = closing_as ids slots c.args.spare.now.items _ _ _ _ _ _ c.args.cells.now _ _ (place + 1) w.ids-is w.slots-is (ap (λ (v : Vec ℕ). v.items) w.spare-is) w.end-is
             (closing_keep ids slots c.args.spare.now.items c.args.cells.now gaps c.loop-place.ids c.loop-place.slots c.loop-place.spare.items c.loop-place.end place s within (subst (λ (o : Option g.row.T.Denot). IsSome o) object (sym c.is_some.ensures ∙ w.if-is_some.true)) (get_or c.loop-place.ids place 0) (get_or c.loop-place.slots place 0) ahead.0 ahead.1);
         room = search rules;
-        scans = search rules;
       }
       | else-is_some w ↦ record {
         closing = closing_as ids slots c.args.spare.now.items _ _ _ _ _ _ c.args.cells.now _ _ (place + 1) w.ids-is w.slots-is (ap (λ (v : Vec ℕ). v.items) w.spare-is ∙ w.push_reserved.ensures.items) w.end-is
             (closing_drop ids slots c.args.spare.now.items c.args.cells.now gaps c.loop-place.ids c.loop-place.slots c.loop-place.spare.items c.loop-place.end place s within (sym object ∙ none_of c.index-cells-slot.result (sym c.is_some.ensures ∙ w.if-is_some.false)) (get_or c.loop-place.slots place 0) ahead.1);
         room = search rules;
-        scans = search rules;
       }
     ]

@@ -6,5 +6,4 @@ abbrev pub invariant-loop-place : goal.invariant-loop-place
 invariant-loop-place g l = record {
   closing : IsClosing l.initial.ids l.initial.slots l.initial.spare.items l.ids l.slots l.spare.items l.cells l.end l.place;
   room : vec_capacity l.spare ≡ vec_capacity l.initial.spare;
-  scans : l.meter.scans ≡ l.initial.meter.scans;
 }

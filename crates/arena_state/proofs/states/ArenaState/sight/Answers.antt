@@ -41,5 +41,6 @@ returns-clause-value c =
       accessible = accessible i;
       held = held i;
       listed = c.lists_found-listed.ensures.value i;
+      container = c.seen-around.ensures i;
       object = c.seen.ensures i;
     })
