@@ -152,20 +152,22 @@ pub fn find_link(
     ensures scans { meter.new.scans ≡ meter.old.scans }
 {
     let len = rings.len(1, object, meter);
-    let mut next = rings.first(1, object, meter);
+    let mut next = rings.peek_first(1, object);
     for place in 0..len {
-        // For the proof alone: the invariant counts the places that were passed.
-        let _place = place;
         match next {
             Some(cell) => {
-                if rings.head_of(0, cell, meter) == container {
+                if rings.peek_head_of(0, cell) == container {
+                    // The first link, two reads for each that was passed, and the holder of this one.
+                    meter.probe_many((place as u64).saturating_mul(2).saturating_add(2));
                     return Some(cell);
                 }
-                next = rings.next(1, cell, meter);
+                next = rings.peek_next(1, cell);
             }
             None => unreachable!(),
         }
     }
+    // The first link, and two reads for each that was passed.
+    meter.probe_many((len as u64).saturating_mul(2).saturating_add(1));
     None
 }
 

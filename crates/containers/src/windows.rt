@@ -17,15 +17,15 @@ fn cell_at(rings: &Rings<2>, slot: usize, from: usize, meter: &mut Meter) -> Opt
     if rings.len(0, slot, meter) <= from {
         return None;
     }
-    let mut next = rings.first(0, slot, meter);
-    for place in 0..from {
-        // For the proof alone: the invariant counts the places that were passed.
-        let _place = place;
+    let mut next = rings.peek_first(0, slot);
+    for _ in 0..from {
         match next {
-            Some(cell) => next = rings.next(0, cell, meter),
+            Some(cell) => next = rings.peek_next(0, cell),
             None => unreachable!(),
         }
     }
+    // The first cell, and one read for each that was passed.
+    meter.probe_many(from as u64 + 1);
     next
 }
 
@@ -57,12 +57,14 @@ pub fn fill_window(
     for place in 0..count {
         match next {
             Some(cell) => {
-                let object = rings.head_of(1, cell, meter);
+                let object = rings.peek_head_of(1, cell);
                 window[place] = ObjectId::new(names[object]);
-                next = rings.next(0, cell, meter);
+                next = rings.peek_next(0, cell);
             }
             None => unreachable!(),
         }
     }
+    // Two reads for each cell.
+    meter.probe_many(2 * count as u64);
     count
 }

@@ -1,6 +1,6 @@
 //! One family of lists: each cell stands in at most one of them.
 ghost use Rattle.std.specs.Prelude.{◌≡◌, ℕ, ◌+◌, ◌-◌, ◌^◌, ◌<◌, ◌≤◌, [], ◌∷◌, ◌++◌, length};
-ghost use Rattle.std.specs.Prelude.{IfOk, slice_index, slice_get, remove, replicate, vec_len};
+ghost use Rattle.std.specs.Prelude.{IfOk, slice_get, remove, replicate, vec_len};
 ghost use Rattle.std.specs.Prelude.{option_copied, Some, None};
 ghost use Rattle.std.specs.List.{range_with_len};
 ghost use Rattle.base.specs.Counts.{probed};
@@ -39,16 +39,6 @@ impl Model for Chains {
     ghost invariant = { λ a. IsSound a.cells a.next.items a.prev.items a.heads.items a.lens.items };
 }
 
-// Reads one cell, and counts it.
-fn read(cells: &[usize], at: usize, meter: &mut Meter) -> usize
-    requires { at < length cells.now }
-    ensures value { result ≡ slice_index cells.now at }
-    ensures counted { meter.new ≡ probed 1 meter.old }
-{
-    meter.probe();
-    cells[at]
-}
-
 // Each number below `len`, in order: in nodes, each leads to itself.
 fn each_below(alloc: Global, len: usize) -> Result<Vec<usize>, NoMemory>
     ensures { IfOk result (λ v. v.items ≡ range_with_len 0 len) }
@@ -82,13 +72,34 @@ impl Chains {
         })
     }
 
+    /// The first cell of a head's list, none where the list is empty. Counts nothing: whoever walks adds up what it
+    /// reads at once.
+    pub fn peek_first(&self, head: usize) -> Option<usize>
+        requires { head < length self.now.lists }
+        ensures value { result ≡ slice_get (list_at self.now head) 0 }
+    {
+        let node = self.next[self.cells + head];
+        if node < self.cells { Some(node) } else { None }
+    }
+
     /// The first cell of a head's list, none where the list is empty.
     pub fn first(&self, head: usize, meter: &mut Meter) -> Option<usize>
         requires { head < length self.now.lists }
         ensures value { result ≡ slice_get (list_at self.now head) 0 }
         ensures counted { meter.new ≡ probed 1 meter.old }
     {
-        let node = read(&self.next, self.cells + head, meter);
+        meter.probe();
+        self.peek_first(head)
+    }
+
+    /// The cell after a cell that stands in a list, none where it is the last. Counts nothing: whoever walks adds up
+    /// what it reads at once.
+    pub fn peek_next(&self, cell: usize) -> Option<usize>
+        requires { IsLinked self.now cell }
+        ensures value { (head place : ℕ) → StandsAt (list_at self.now head) place cell
+            → result ≡ slice_get (list_at self.now head) (place + 1) }
+    {
+        let node = self.next[cell];
         if node < self.cells { Some(node) } else { None }
     }
 
@@ -99,8 +110,8 @@ impl Chains {
             → result ≡ slice_get (list_at self.now head) (place + 1) }
         ensures counted { meter.new ≡ probed 1 meter.old }
     {
-        let node = read(&self.next, cell, meter);
-        if node < self.cells { Some(node) } else { None }
+        meter.probe();
+        self.peek_next(cell)
     }
 
     /// The length of a head's list.
@@ -110,7 +121,18 @@ impl Chains {
         ensures counted { meter.new ≡ probed 1 meter.old }
         ensures well_formed { IsWellFormed self.now }
     {
-        read(&self.lens, head, meter)
+        meter.probe();
+        self.lens[head]
+    }
+
+    /// The head in whose list a cell stands. Counts nothing: whoever walks adds up what it reads at once.
+    pub fn peek_head_of(&self, cell: usize) -> usize
+        requires { IsLinked self.now cell }
+        ensures value { (head place : ℕ) → StandsAt (list_at self.now head) place cell
+            → result ≡ head }
+        ensures within { result < length self.now.lists }
+    {
+        self.heads[cell]
     }
 
     /// The head in whose list a cell stands.
@@ -121,7 +143,8 @@ impl Chains {
         ensures within { result < length self.now.lists }
         ensures counted { meter.new ≡ probed 1 meter.old }
     {
-        read(&self.heads, cell, meter)
+        meter.probe();
+        self.peek_head_of(cell)
     }
 
     /// Puts a cell that stands in no list at the end of a head's list.
@@ -134,9 +157,10 @@ impl Chains {
         ensures well_formed { IsWellFormed self.new }
         ensures counted { meter.new ≡ probed 2 meter.old }
     {
+        meter.probe_many(2);
         let sentinel = self.cells + head;
-        let last = read(&self.prev, sentinel, meter);
-        let len = read(&self.lens, head, meter);
+        let last = self.prev[sentinel];
+        let len = self.lens[head];
         self.next[last] = cell;
         self.next[cell] = sentinel;
         self.prev[sentinel] = cell;
@@ -155,10 +179,11 @@ impl Chains {
         ensures well_formed { IsWellFormed self.new }
         ensures counted { meter.new ≡ probed 4 meter.old }
     {
-        let before = read(&self.prev, cell, meter);
-        let after = read(&self.next, cell, meter);
-        let head = read(&self.heads, cell, meter);
-        let len = read(&self.lens, head, meter);
+        meter.probe_many(4);
+        let before = self.prev[cell];
+        let after = self.next[cell];
+        let head = self.heads[cell];
+        let len = self.lens[head];
         self.next[before] = after;
         self.prev[after] = before;
         self.lens[head] = len - 1;

@@ -49,6 +49,16 @@ impl<const FAMILIES: usize> Rings<FAMILIES> {
         Ok(Rings { families })
     }
 
+    /// The first cell of a head's list, none where the list is empty. Counts nothing: whoever walks adds up what it
+    /// reads at once.
+    pub fn peek_first(&self, family: usize, head: usize) -> Option<usize>
+        requires family { family < FAMILIES }
+        requires head { head < length (family_at self.now family).lists }
+        ensures value { result ≡ slice_get (cells_at self.now family head) 0 }
+    {
+        self.families[family].peek_first(head)
+    }
+
     /// The first cell of a head's list, none where the list is empty. One probe.
     pub fn first(&self, family: usize, head: usize, meter: &mut Meter) -> Option<usize>
         requires family { family < FAMILIES }
@@ -57,6 +67,17 @@ impl<const FAMILIES: usize> Rings<FAMILIES> {
         ensures counted { meter.new ≡ probed 1 meter.old }
     {
         self.families[family].first(head, meter)
+    }
+
+    /// The cell after a cell that stands in a list of the family, none where it is the last. Counts nothing: whoever
+    /// walks adds up what it reads at once.
+    pub fn peek_next(&self, family: usize, cell: usize) -> Option<usize>
+        requires family { family < FAMILIES }
+        requires linked { IsLinked (family_at self.now family) cell }
+        ensures value { (head place : ℕ) → StandsAt (cells_at self.now family head) place cell
+            → result ≡ slice_get (cells_at self.now family head) (place + 1) }
+    {
+        self.families[family].peek_next(cell)
     }
 
     /// The cell after a cell that stands in a list of the family, none where it is the last. One probe.
@@ -80,6 +101,17 @@ impl<const FAMILIES: usize> Rings<FAMILIES> {
         ensures well_formed { IsWellFormed (family_at self.now family) }
     {
         self.families[family].len(head, meter)
+    }
+
+    /// The head in whose list of the family a cell stands. Counts nothing: whoever walks adds up what it reads at once.
+    pub fn peek_head_of(&self, family: usize, cell: usize) -> usize
+        requires family { family < FAMILIES }
+        requires linked { IsLinked (family_at self.now family) cell }
+        ensures value { (head place : ℕ) → StandsAt (cells_at self.now family head) place cell
+            → result ≡ head }
+        ensures within { result < length (family_at self.now family).lists }
+    {
+        self.families[family].peek_head_of(cell)
     }
 
     /// The head in whose list of the family a cell stands. One probe.

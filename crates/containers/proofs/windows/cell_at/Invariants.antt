@@ -3,8 +3,5 @@ use Rattle.std.specs.Prelude.{slice_get}
 use Rattle.entry_lists.specs.Lists.{cells_at}
 use Rattle.containers.proofs.windows.cell_at.Given as goal
 
-abbrev pub invariant-loop-place : goal.invariant-loop-place
-invariant-loop-place l = record {
-  next : l.next ≡ slice_get (cells_at l.rings 0 l.slot) l.place;
-  scans : l.meter.scans ≡ l.initial.meter.scans;
-}
+abbrev pub invariant-loop : goal.invariant-loop
+invariant-loop l = l.next ≡ slice_get (cells_at l.rings 0 l.slot) l.counter

@@ -9,5 +9,4 @@ invariant-loop-place l = record {
   next : l.next ≡ slice_get (cells_at l.rings 0 l.slot) (l.from + l.place);
   listed : (k : ℕ) → k < l.place → slice_index l.window k ≡ slice_index (ids_of l.rings l.names l.slot) (l.from + k);
   rest : (k : ℕ) → l.place ≤ k → slice_index l.window k ≡ slice_index l.fn.window k;
-  scans : l.meter.scans ≡ l.initial.meter.scans;
 }
