@@ -94,6 +94,14 @@ pub fn unref(container: ObjectId, object: ObjectId) -> Call {
     }
 }
 
+/// The object of a call that takes a container's link to it out is another one. (So that the call, which is large, is made
+/// once.)
+pub fn name_object(unlinking: &mut Call, object: ObjectId) {
+    if let Call::Unref { entry } = unlinking {
+        entry.object = object;
+    }
+}
+
 /// 64 bytes at the start of a segment.
 pub fn write(segment: ObjectId) -> Call {
     Call::SegmentWrite {

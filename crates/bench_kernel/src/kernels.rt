@@ -1,7 +1,7 @@
 //! A kernel that is asked the same again and again.
 use crate::asked::{
-    asker, category_in, fix, is_done, link, map, new_container, new_segment, new_space, object_in,
-    unref, use_space,
+    asker, category_in, fix, is_done, link, map, name_object, new_container, new_segment,
+    new_space, object_in, unref, use_space,
 };
 use anyhow::{Result, bail};
 use base::{Category, Level, Limits, Meter, ObjectId};
@@ -167,22 +167,27 @@ impl Bench {
         Ok(Timed { nanos, done })
     }
 
-    /// Makes an object in the root container, and takes it out again: whether both were done.
-    fn make_and_unref(&mut self, call: &Call) -> bool {
-        let reply = self.kernel.step_surely(asker(), call, &mut self.meter);
+    /// Makes an object in the root container, and takes it out again by a call that is told its id: whether both were
+    /// done.
+    fn make_and_unref(&mut self, making: &Call, unlinking: &mut Call) -> bool {
+        let reply = self.kernel.step_surely(asker(), making, &mut self.meter);
         match object_in(&reply) {
-            Some(id) => self.ask(&unref(ObjectId::root(), id)),
+            Some(id) => {
+                name_object(unlinking, id);
+                self.ask(unlinking)
+            }
             None => false,
         }
     }
 
     /// A segment without pages that is made and goes so often.
     pub fn time_segments(&mut self, rt: &impl Clock, rounds: u64) -> Result<Timed> {
-        let call = new_segment(&self.label, 0);
+        let making = new_segment(&self.label, 0);
+        let mut unlinking = unref(ObjectId::root(), ObjectId::root());
         let mut done = 0u64;
         let start = Instant::now(rt)?;
         for _ in 0..rounds {
-            if self.make_and_unref(&call) {
+            if self.make_and_unref(&making, &mut unlinking) {
                 done = done.wrapping_add(1);
             }
         }

@@ -4,6 +4,10 @@ ghost use Rattle.kernel_rules.specs.Rows.{lesser_of, least_of, refusal_of};
 
 use base::Refusal;
 
+// (Most calls are refused by nothing, so what compares two refusals is kept out of the walk over a row, which then comes
+// without a loop where the row is written out.)
+#[cold]
+#[inline(never)]
 fn lesser_of(refusal: Refusal, other: Option<Refusal>) -> Refusal
     ensures { result ≡ lesser_of refusal other }
 {
@@ -14,6 +18,8 @@ fn lesser_of(refusal: Refusal, other: Option<Refusal>) -> Refusal
 }
 
 /// Of two refusals that may not be there, the one with the smaller number.
+#[cold]
+#[inline(never)]
 pub fn least_of(first: Option<Refusal>, second: Option<Refusal>) -> Option<Refusal>
     ensures { result ≡ least_of first second }
 {
@@ -24,6 +30,7 @@ pub fn least_of(first: Option<Refusal>, second: Option<Refusal>) -> Option<Refus
 }
 
 /// Of a refusal that may not be there and of the conditions that hold, the one with the least number.
+#[inline(always)]
 pub fn least_with(found: Option<Refusal>, row: &[(Refusal, bool)]) -> Option<Refusal>
     ensures { result ≡ least_of found (refusal_of row.now) }
 {

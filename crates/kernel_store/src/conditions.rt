@@ -19,7 +19,8 @@ use kernel_rules::{Entry, Place, Reply, least_with};
 pub type Condition = (Refusal, bool);
 
 /// Of the conditions that hold in these parts of a row, the one with the least number gives the
-/// refusal.
+/// refusal. (It is put into its callers, where the parts are known, so that no row is walked.)
+#[inline(always)]
 pub fn refusal_of(row: &[&[Condition]]) -> Option<Refusal>
     ensures { result ≡ refusal_of (joined (map (λ part. part.now) row.now)) }
 {
