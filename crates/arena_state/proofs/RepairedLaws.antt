@@ -1,7 +1,7 @@
 -- Rows that are repaired after a change.
 use Rattle.std.proofs.Common.{◌≡◌, ◌≢◌, ◌⊎◌, ℕ, ◌+◌, ◌<◌, ◌≤◌, true, false, cond, List, Option, Some, None, refl, sym, ◌∙◌, ap, subst, length, inl, inr, arith}
 use Rattle.std.specs.Option.{option_map, option_and_then}
-use Rattle.std.proofs.lemmas.Bool.{cases_eq}
+use Rattle.std.proofs.lemmas.Bool.{cases_eq, cases_lt}
 use Rattle.base.specs.Live.{is_live}
 use Rattle.base.specs.declared.ranges.Limits.{Limits}
 use Rattle.containers.specs.Tree.{HasSlot}
@@ -67,7 +67,7 @@ named_none : (id : ℕ) (v : Option Entry) → named_by id v ≡ None → v ≡ 
 named_none id None h = refl
 named_none id (Some space) h = absurd (cc)
 
--- a slot whose row was not touched, or is no thread's
+-- a slot whose row was not touched
 slot_passed : (a : ArenaState) (c : Change) (n : ℕ) (rows : BySlot) → AreKeptBut a c n rows
     → ((id : ℕ) → HasSlot a.pieces.places id n → touches (state_of a) c id ≡ false) → AreKeptBut a c (n + 1) rows
 slot_passed a c n rows k off = record {
@@ -81,12 +81,6 @@ slot_passed a c n rows k off = record {
   ]);
   named = k.named;
 }
-
-pub no_thread_passed : (a : ArenaState) (c : Change) (n : ℕ) (rows : BySlot) → AreKeptBut a c n rows
-    → None ≡ thread_at rows n → AreKeptBut a c (n + 1) rows
-no_thread_passed a c n rows k none =
-    slot_passed a c n rows k (λ id h.
-    ap (reaches_by (state_of a) c) (named_none id (own_space (state_of a) id) (sym (k.named id n h) ∙ sym none)))
 
 pub untouched_passed : (a : ArenaState) (c : Change) (n t : ℕ) (rows : BySlot) → AreKeptBut a c n rows
     → Some t ≡ thread_at rows n → touches (state_of a) c t ≡ false → AreKeptBut a c (n + 1) rows
@@ -138,14 +132,17 @@ all_passed a c n rows le k = record {
   named = k.named;
 }
 
--- slots that are no thread's need not be passed
-pub none_before : (a : ArenaState) (c : Change) (n : ℕ) (rows : BySlot)
-    → ((slot : ℕ) → slot < n → thread_at rows slot ≡ None) → AreKeptBut a c 0 rows → AreKeptBut a c n rows
-none_before a c n rows none k = record {
+-- slots that are no thread's are passed
+pub none_passed : (a : ArenaState) (c : Change) (from to : ℕ) (rows : BySlot)
+    → ((slot : ℕ) → from ≤ slot → slot < to → thread_at rows slot ≡ None) → AreKeptBut a c from rows → AreKeptBut a c to rows
+none_passed a c from to rows none k = record {
   size = k.size;
   kept = λ id slot h when. elim when [
-    | inl lt ↦ k.kept id slot h (inr
-        (ap (reaches_by (state_of a) c) (named_none id (own_space (state_of a) id) (sym (k.named id slot h) ∙ none slot lt))))
+    | inl lt ↦ elim (cases_lt slot from) [
+      | inl before ↦ k.kept id slot h (inl before)
+      | inr past ↦ k.kept id slot h (inr
+          (ap (reaches_by (state_of a) c) (named_none id (own_space (state_of a) id) (sym (k.named id slot h) ∙ none slot past lt))))
+    ]
     | inr untouched ↦ k.kept id slot h (inr untouched)
   ];
   named = k.named;

@@ -1,8 +1,8 @@
 -- Rows that say what slots show.
-use Rattle.std.proofs.Common.{◌≡◌, ◌≢◌, ℕ, ◌+◌, ◌<◌, ◌≤◌, Bool, true, false, cond, not, ◌&&◌, ◌==◌, List, [], ◌∷◌, ◌++◌, get_or, set, Option, Some, None, refl, sym, ◌∙◌, ap, subst, length, length-append, inl, inr, arith}
+use Rattle.std.proofs.Common.{◌≡◌, ◌≢◌, ℕ, ◌+◌, ◌<◌, ◌≤◌, Bool, true, false, cond, not, ◌&&◌, ◌==◌, List, [], ◌∷◌, ◌++◌, get_or, set, replicate, Option, Some, None, refl, sym, ◌∙◌, ap, subst, length, length-append, inl, inr, arith}
 use Rattle.std.specs.Option.{option_map, option_and_then}
 use Rattle.std.proofs.lemmas.Bool.{cases_eq, cases_lt, cases_order, and_parts, eqb-true}
-use Rattle.std.proofs.lemmas.List.{get_or-set_same, get_or-set_other, get_or_append_left}
+use Rattle.std.proofs.lemmas.List.{get_or-replicate, get_or-set_same, get_or-set_other, get_or_append_left}
 use Rattle.std.proofs.Math.Seq.{get_or-append_seam}
 use Rattle.std.proofs.lemmas.Option.{slice_get_past, none-some}
 use Rattle.base.specs.declared.kinds.Kind.TheVariants as kinds
@@ -43,6 +43,10 @@ by_own_space s t i v is = ap (through_space s t i) is
 
 pub shut_shows_none : (s : State) (t i : ℕ) (e : Entry) → (not (names_none e) && opens s t e) ≡ false → None ≡ through_space s t i (Some e)
 shut_shows_none s t i e shut = sym (ap (λ (b : Bool). cond b (through s t (slot_at s e.object i)) None) shut)
+
+-- what has no address space shows nothing
+pub blank_row : (s : State) (t : ℕ) → None ≡ own_space s t → IsRow s t (replicate 16 None)
+blank_row s t none i lt = get_or-replicate {A = Shows} 16 i None None lt ∙ by_own_space s t i None none
 
 -- one more place of a row
 pub more_shown : (row : List Shows) (n : ℕ) (v : Shows) (f : ℕ → Shows) → n < length row → v ≡ f n
@@ -164,7 +168,7 @@ pub told_of : (a : ArenaState) (rows : BySlot) → AreKept a rows → (id slot :
     → Tells (state_of a) id rows slot
 told_of a rows k id slot h = record { row = k.kept id slot h; thread = k.named id slot h }
 
--- a slot that is set, and the others
+-- a slot that is set
 pub set_tells : (s : State) (id slot other : ℕ) (old : BySlot) (thread : Option ℕ) (row : List Shows) → slot ≡ other
     → slot < slot_count old → thread_at (with_row old slot thread row) slot ≡ thread → thread ≡ thread_named s id
     → IsRow s id row → Tells s id (with_row old slot thread row) other
@@ -172,13 +176,6 @@ set_tells s id slot other old thread row on within named is shows = record {
   row = subst (λ (r : List Shows). IsRow s id r)
       (sym (ap (λ (k : ℕ). get_or (set old.rows slot row) k []) (sym on) ∙ get_or-set_same old.rows slot row [] within)) shows;
   thread = ap (λ (k : ℕ). get_or (set old.threads slot thread) k None) (sym on) ∙ named ∙ is;
-}
-
-pub set_others : (slot other : ℕ) (old : BySlot) (thread : Option ℕ) (row : List Shows) → other ≢ slot
-    → SameAt old (with_row old slot thread row) other
-set_others slot other old thread row off = record {
-  row = get_or-set_other old.rows slot other row [] off;
-  thread = get_or-set_other old.threads slot other thread None off;
 }
 
 -- the slots of the objects at the first places tell what they are to tell

@@ -6,8 +6,8 @@ ghost use Rattle.containers.specs.Tree.{HasSlot};
 ghost use Rattle.kernel_rules.specs.Translate.{names_none, opens, own_space, slot_in};
 ghost use Rattle.kernel_rules.specs.Translate.{through, through_space};
 ghost use Rattle.translation_rows.specs.Rows.{slot_count};
-ghost use Rattle.arena_state.specs.Shown.{AreKept, IsRow, SameAt, Tells, thread_named};
-ghost use Rattle.arena_state.specs.States.{state_of, HasRow};
+ghost use Rattle.arena_state.specs.Shown.{AreKept, IsRow, SameAt, Tells};
+ghost use Rattle.arena_state.specs.States.{state_of};
 
 use crate::states::ArenaState;
 use base::{Meter, NoMemory, ObjectId, Rights, Slot};
@@ -101,31 +101,21 @@ impl ArenaState {
         row
     }
 
-    // What the sixteen slots of an object's address space show to it.
-    fn row_of(&self, thread: ObjectId, meter: &mut Meter) -> [Option<(ObjectId, Rights)>; 16]
+    // What the sixteen slots of a thread's address space, which has this entry, show to the thread.
+    fn row_of(
+        &self,
+        thread: ObjectId,
+        space: &Entry,
+        meter: &mut Meter,
+    ) -> [Option<(ObjectId, Rights)>; 16]
+        requires { Some space.now ≡ own_space (state_of self.now) thread }
         ensures row { IsRow (state_of self.now) thread result }
         ensures scans { meter.new.scans ≡ meter.old.scans }
     {
-        match self.space_of(thread, meter) {
-            Some(space) => {
-                if self.is_open(thread, &space, meter) {
-                    self.row_through(thread, &space, meter)
-                } else {
-                    [None; 16]
-                }
-            }
-            None => [None; 16],
-        }
-    }
-
-    // The id of an object, if it is a thread, by its slot.
-    fn named(&self, id: ObjectId, slot: Slot) -> Option<ObjectId>
-        requires { HasRow self.now id slot.0 }
-        ensures { result ≡ thread_named (state_of self.now) id }
-    {
-        match self.space_in(id, self.record(id, Some(slot))) {
-            Some(_) => Some(id),
-            None => None,
+        if self.is_open(thread, space, meter) {
+            self.row_through(thread, space, meter)
+        } else {
+            [None; 16]
         }
     }
 
@@ -141,10 +131,13 @@ impl ArenaState {
         ensures scans { meter.new.scans ≡ meter.old.scans }
     {
         match self.slot(thread, meter) {
-            Some(slot) => {
-                let named = self.named(thread, slot);
-                rows.set(slot, named, self.row_of(thread, meter));
-            }
+            Some(slot) => match self.space_in(thread, self.record(thread, Some(slot))) {
+                Some(space) => {
+                    let row = self.row_of(thread, &space, meter);
+                    rows.set(slot, thread, row);
+                }
+                None => rows.clear(slot),
+            },
             None => {}
         }
     }

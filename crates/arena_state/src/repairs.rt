@@ -1,16 +1,15 @@
 //! Rows of translation that are repaired after a change: those of the threads that it may touch
 //! are remade, and all others stay. It touches no thread whose entry names no address space. No
 //! label is scanned.
-ghost use Rattle.std.specs.Prelude.{◌≡◌, ◌+◌, ◌<◌};
+ghost use Rattle.std.specs.Prelude.{◌≡◌};
 ghost use Rattle.std.specs.List.{list_any};
-ghost use Rattle.translation_rows.specs.Rows.{slot_count};
 ghost use Rattle.arena_state.specs.Shown.{AreKept, AreKeptBut};
 ghost use Rattle.arena_state.specs.States.{state_of};
 ghost use Rattle.arena_state.specs.Touched.{goes_by, is_same, maps, reaches, touches};
 
 use crate::remakes::is_named;
 use crate::states::ArenaState;
-use base::{Meter, ObjectId, Slot};
+use base::{Meter, ObjectId};
 use kernel_rules::{Entry, Mapping};
 use translation_rows::Rows;
 
@@ -96,23 +95,6 @@ impl ArenaState {
         }
     }
 
-    // The row of a slot is remade, if it is a thread's that a change touches.
-    fn repair_slot(&self, slot: Slot, change: &Change, rows: &mut Rows, meter: &mut Meter)
-        requires within { slot.0 < slot_count rows.old }
-        requires rows { AreKeptBut self.now change.now slot.0 rows.old }
-        ensures rows { AreKeptBut self.now change.now (slot.0 + 1) rows.new }
-        ensures scans { meter.new.scans ≡ meter.old.scans }
-    {
-        match rows.thread(slot, meter) {
-            None => {}
-            Some(thread) => {
-                if self.is_touched(thread, change, meter) {
-                    self.remake_row(thread, rows, meter);
-                }
-            }
-        }
-    }
-
     /// Where the rows of all threads but those that a change touches say what is shown after it,
     /// those are remade, and no other: so each row does. The walk leaves out the slots before the
     /// first thread's: a pool gives its last slots first, so threads that are made early have those.
@@ -121,8 +103,12 @@ impl ArenaState {
         ensures kept { AreKept self.now rows.new }
         ensures scans { meter.new.scans ≡ meter.old.scans }
     {
-        for place in rows.first()..self.pieces.limits.pages as usize {
-            self.repair_slot(Slot(place), change, rows, meter);
+        let mut from = rows.first();
+        while let Some(found) = rows.next_thread(from, meter) {
+            if self.is_touched(found.thread, change, meter) {
+                self.remake_row(found.thread, rows, meter);
+            }
+            from = found.slot.0 + 1;
         }
     }
 }

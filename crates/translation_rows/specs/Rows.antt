@@ -1,6 +1,8 @@
 -- Rows of translation by slot, each of sixteen places, and which slots are threads'.
-use Rattle.std.specs.Prelude.{ℕ, List, [], Option, None, length, replicate, slice_index_or, slice_set}
+use Rattle.std.specs.Prelude.{◌≡◌, ◌+◌, ◌-◌, ◌<◌, ◌≤◌, ℕ, List, [], Option, Some, None}
+use Rattle.std.specs.Prelude.{length, replicate, slice_index_or, slice_set}
 use Rattle.base.specs.declared.sets.Rights.{Rights}
+use Rattle.translation_rows.specs.declared.rows.ThreadSlot.{ThreadSlot}
 
 -- what one slot of an address space shows: a segment with the rights to it, or nothing
 abbrev pub Shows : Type 0
@@ -26,6 +28,18 @@ row_at a slot = slice_index_or a.rows slot []
 -- what a place of a slot's row shows
 abbrev pub shown_at : BySlot → ℕ → ℕ → Shows
 shown_at a slot place = slice_index_or (row_at a slot) place None
+
+-- the first slot from one on that names a thread, and the thread that it names
+pub record IsNext (a : BySlot) (from slot thread : ℕ) : Type 0 where
+  pub behind : from ≤ slot
+  pub within : slot < slot_count a
+  pub names : thread_at a slot ≡ Some thread
+  pub first : (passed : ℕ) → from ≤ passed → passed < slot → thread_at a passed ≡ None
+
+-- how many slots a walk reads from one on: up to the one that it finds, and else all of them
+abbrev pub walked : BySlot → ℕ → Option ThreadSlot → ℕ
+walked a from None = slot_count a - from
+walked a from (Some found) = found.slot.0 + 1 - from
 
 -- the same but for one slot
 abbrev pub with_row : BySlot → ℕ → Option ℕ → List Shows → BySlot

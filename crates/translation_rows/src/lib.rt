@@ -9,4 +9,4 @@
 
 mod rows;
 
-pub use rows::Rows;
+pub use rows::{Rows, ThreadSlot};

@@ -1,28 +1,35 @@
-use Rattle.std.proofs.Common.{sym, ◌∙◌, ap, subst, arith, ◌<◌, length}
+use Rattle.std.proofs.Common.{◌≡◌, ℕ, ◌<◌, List, Option, None, Some, sym, ◌∙◌, ap, subst, arith, length, replicate}
 use Rattle.containers.specs.Tree.{HasSlot}
-use Rattle.translation_rows.specs.Rows.{BySlot, thread_at}
-use Rattle.arena_state.specs.Shown.{SameAt, Tells}
+use Rattle.translation_rows.specs.Rows.{BySlot, Shows, slot_count, thread_at, with_row}
+use Rattle.arena_state.specs.Shown.{IsRow, Tells, named_by, thread_named}
 use Rattle.arena_state.specs.States.{state_of}
-use Rattle.arena_state.proofs.ShownLaws.{one_slot, set_others, set_tells, slot_in_pool, slot_is_there}
+use Rattle.arena_state.specs.declared.states.ArenaState.{ArenaState}
+use Rattle.arena_state.proofs.ShownLaws.{blank_row, one_slot, set_tells, slot_in_pool, slot_is_there}
 use Rattle.arena_state.proofs.states.ArenaState.remake_row.Goals as goal
 
-pub returns-in-Some-clause-row : goal.returns-in-Some-clause-row
-returns-in-Some-clause-row c = λ slot h.
-    let a = c.args.self.now in
-    let has = c.in-Some.ensures.found.has in
-    let within : c.in-Some.slot.0 < length a.pieces.places.cells = slot_in_pool a.pieces a.sound c.args.thread c.in-Some.slot.0 has in
-    subst (λ (rows : BySlot). Tells (state_of a) c.args.thread rows slot) (sym c.set.ensures.all)
-    (set_tells (state_of a) c.args.thread c.in-Some.slot.0 slot c.args.rows.now c.named-named.result c.row_of.result
-    (one_slot a.pieces a.sound c.args.thread c.in-Some.slot.0 slot has h) (omega (arith, within, c.requires, a.sound.cells))
-    (ap (λ (rows : BySlot). thread_at rows c.in-Some.slot.0) (sym c.set.ensures.all) ∙ c.set.ensures.named)
-    c.named-named.ensures c.row_of.ensures.row)
+-- the slot of an object that is set tells of the object
+tells_once_set : (a : ArenaState) (id slot other : ℕ) (old new : BySlot) (thread : Option ℕ) (row : List Shows)
+    → HasSlot a.pieces.places id slot → HasSlot a.pieces.places id other → slot_count old ≡ (state_of a).limits.pages
+    → new ≡ with_row old slot thread row → thread_at new slot ≡ thread → thread ≡ thread_named (state_of a) id
+    → IsRow (state_of a) id row → Tells (state_of a) id new other
+tells_once_set a id slot other old new thread row has h size is named_new named shows =
+    let within : slot < length a.pieces.places.cells = slot_in_pool a.pieces a.sound id slot has in
+    subst (λ (rows : BySlot). Tells (state_of a) id rows other) (sym is)
+    (set_tells (state_of a) id slot other old thread row (one_slot a.pieces a.sound id slot other has h)
+    (omega (arith, within, size, a.sound.cells)) (ap (λ (rows : BySlot). thread_at rows slot) (sym is) ∙ named_new) named shows)
 
-pub returns-in-Some-clause-others : goal.returns-in-Some-clause-others
-returns-in-Some-clause-others c = λ slot off.
-    let a = c.args.self.now in
-    subst (λ (rows : BySlot). SameAt c.args.rows.now rows slot) (sym c.set.ensures.all)
-    (set_others c.in-Some.slot.0 slot c.args.rows.now c.named-named.result c.row_of.result
-    (λ on. off (subst (λ k. HasSlot a.pieces.places c.args.thread k) (sym on) c.in-Some.ensures.found.has)))
+pub returns-in-Some-space_in-clause-row : goal.returns-in-Some-space_in-clause-row
+returns-in-Some-space_in-clause-row c = λ slot h.
+    tells_once_set c.args.self.now c.args.thread c.in-Some.slot.0 slot c.args.rows.now c.set.new.self (Some c.args.thread) c.row_of-row.result
+    c.in-Some.ensures.found.has h c.requires c.set.ensures.all c.set.ensures.named
+    (ap (named_by c.args.thread) c.in-Some-space_in.ensures) c.row_of-row.ensures.row
+
+pub returns-in-None-space_in-clause-row : goal.returns-in-None-space_in-clause-row
+returns-in-None-space_in-clause-row c = λ slot h.
+    tells_once_set c.args.self.now c.args.thread c.in-Some.slot.0 slot c.args.rows.now c.clear.new.self None (replicate 16 None)
+    c.in-Some.ensures.found.has h c.requires c.clear.ensures.all c.clear.ensures.named
+    (ap (named_by c.args.thread) c.in-None-space_in.ensures)
+    (blank_row (state_of c.args.self.now) c.args.thread c.in-None-space_in.ensures)
 
 pub returns-in-None-clause-row : goal.returns-in-None-clause-row
 returns-in-None-clause-row c = λ slot h.

@@ -1,9 +1,13 @@
-use Rattle.std.proofs.Common.{◌≡◌}
+use Rattle.std.proofs.Common.{◌≡◌, ◌-◌}
+use Rattle.translation_rows.specs.Rows.{slot_count}
 use Rattle.arena_state.specs.Shown.{AreKeptBut}
 use Rattle.arena_state.proofs.states.ArenaState.repair.Given as goal
 
-abbrev pub invariant-loop-place : goal.invariant-loop-place
-invariant-loop-place l = record {
-  rows : AreKeptBut l.self l.change l.place l.rows;
+abbrev pub invariant-loop-found : goal.invariant-loop-found
+invariant-loop-found l = record {
+  rows : AreKeptBut l.self l.change l.from l.rows;
   scans : l.meter.scans ≡ l.initial.meter.scans;
 }
+
+abbrev pub decreases-loop-found : goal.decreases-loop-found
+decreases-loop-found l = slot_count l.rows - l.from
