@@ -48,6 +48,19 @@ fn cells_stand_in_one_list_of_each_family(rt: HostRuntime) -> Result<(), Fail> {
 }
 
 #[test]
+fn a_peek_counts_nothing(rt: HostRuntime) -> Result<(), Fail> {
+    let mut meter = Meter::new(rt.alloc())?;
+    let mut rings = Rings::<2>::new(rt.alloc(), &[2, 3], 4)?;
+    link_three(&mut rings, &mut meter);
+    assert!(rt; agree(rings.peek_first(0, 1), Some(3)));
+    assert!(rt; agree(rings.peek_first(0, 0), None));
+    assert!(rt; agree(rings.peek_next(0, 3), Some(0)));
+    assert!(rt; agree(rings.peek_head_of(1, 3), 2));
+    assert!(rt; agree(meter.probes(), 6));
+    Ok(())
+}
+
+#[test]
 fn a_cell_leaves_one_family(rt: HostRuntime) -> Result<(), Fail> {
     let mut meter = Meter::new(rt.alloc())?;
     let mut rings = Rings::<2>::new(rt.alloc(), &[2, 3], 4)?;

@@ -15,3 +15,5 @@ mod label_intern_tests;
 mod object_arena_tests;
 #[cfg(test)]
 mod segments_tests;
+#[cfg(test)]
+mod translation_rows_tests;
