@@ -5,7 +5,7 @@ ghost use Rattle.std.specs.Prelude.{slice_get, slice_index_or, IfOk};
 ghost use Rattle.containers.specs.Tree.{HasSlot};
 ghost use Rattle.kernel_rules.specs.Translate.{names_none, opens, own_space, slot_in};
 ghost use Rattle.kernel_rules.specs.Translate.{through, through_space};
-ghost use Rattle.translation_rows.specs.Rows.{slot_count};
+ghost use Rattle.translation_rows.specs.Rows.{slot_count, thread_at, with_row};
 ghost use Rattle.arena_state.specs.Shown.{AreKept, IsRow, SameAt, Tells};
 ghost use Rattle.arena_state.specs.States.{state_of};
 
@@ -119,6 +119,22 @@ impl ArenaState {
         }
     }
 
+    // The slot of a thread whose address space has this entry is the thread's, and its row says what its slots show. All
+    // other slots stay. (In a function of its own, since a row is large: each value that a function makes is set to zero
+    // where the function begins, be it needed or not.)
+    #[inline(never)]
+    fn show(&self, slot: Slot, thread: ObjectId, space: &Entry, rows: &mut Rows, meter: &mut Meter)
+        requires within { slot.0 < slot_count rows.old }
+        requires space { Some space.now ≡ own_space (state_of self.now) thread }
+        ensures shown { (row : _) × IsRow (state_of self.now) thread row
+            × (rows.new ≡ with_row rows.old slot.0 (Some thread) row) }
+        ensures named { thread_at rows.new slot.0 ≡ Some thread }
+        ensures scans { meter.new.scans ≡ meter.old.scans }
+    {
+        let row = self.row_of(thread, space, meter);
+        rows.set(slot, thread, row);
+    }
+
     /// The row of an object, if there is such an object, says what its slots show, and its slot
     /// names it if it is a thread. All other slots stay.
     pub fn remake_row(&self, thread: ObjectId, rows: &mut Rows, meter: &mut Meter)
@@ -132,10 +148,7 @@ impl ArenaState {
     {
         match self.slot(thread, meter) {
             Some(slot) => match self.space_in(thread, self.record(thread, Some(slot))) {
-                Some(space) => {
-                    let row = self.row_of(thread, &space, meter);
-                    rows.set(slot, thread, row);
-                }
+                Some(space) => self.show(slot, thread, &space, rows, meter),
                 None => rows.clear(slot),
             },
             None => {}

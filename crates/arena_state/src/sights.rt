@@ -2,7 +2,7 @@
 ghost use Rattle.std.specs.Prelude.{◌≡◌, None, IfSome, IfNone, option_copied};
 ghost use Rattle.base.specs.Live.{has};
 ghost use Rattle.kernel_rules.specs.State.{object_at, list_at, is_live_kind};
-ghost use Rattle.kernel_store.specs.Sights.{seen_of, sight_of};
+ghost use Rattle.kernel_store.specs.Sights.{seen_of, sight_of, wide_sight_of};
 ghost use Rattle.arena_state.specs.States.{state_of, HasRow, Finds};
 
 use crate::records::Record;
@@ -10,7 +10,7 @@ use crate::states::ArenaState;
 use base::{Kind, Meter, ObjectId, Slot};
 use containers::Located;
 use kernel_rules::Entry;
-use kernel_store::{Seen, Sight};
+use kernel_store::{Seen, Sight, WideSight};
 
 impl ArenaState {
     // What who has the one record sees of what has the other.
@@ -97,9 +97,11 @@ impl ArenaState {
         }
     }
 
-    /// What a thread sees of an entry, at three look-ups.
-    pub fn sight(&self, thread: ObjectId, entry: &Entry, meter: &mut Meter) -> Sight
-        ensures value { result ≡ sight_of (state_of self.now) thread entry.now }
+    // What a thread sees of an entry and of its container, at three look-ups. (It is put into the two functions that
+    // tell it, so that what one doesn't tell is not looked at there.)
+    #[inline(always)]
+    fn see(&self, thread: ObjectId, entry: &Entry, meter: &mut Meter) -> WideSight
+        ensures value { result ≡ wide_sight_of (state_of self.now) thread entry.now }
         ensures scans { meter.new.scans ≡ meter.old.scans }
     {
         let thread_slot = self.slot(thread, meter);
@@ -111,13 +113,33 @@ impl ArenaState {
         let listed = self.lists_found(entry, container_slot, object_slot, meter);
         let around = self.seen(thread, own, entry.container, container);
         let holds = around.is(Kind::Container);
-        Sight {
-            runs: self.is_found(Kind::Thread, thread, own),
-            accessible: holds && around.observed,
-            held: holds && (listed || entry.object == entry.container),
-            listed,
+        WideSight {
+            entry: Sight {
+                runs: self.is_found(Kind::Thread, thread, own),
+                accessible: holds && around.observed,
+                held: holds && (listed || entry.object == entry.container),
+                listed,
+                object: self.seen(thread, own, entry.object, object),
+            },
             container: around,
-            object: self.seen(thread, own, entry.object, object),
         }
+    }
+
+    /// What a thread sees of an entry, at three look-ups.
+    #[inline(never)]
+    pub fn sight(&self, thread: ObjectId, entry: &Entry, meter: &mut Meter) -> Sight
+        ensures value { result ≡ sight_of (state_of self.now) thread entry.now }
+        ensures scans { meter.new.scans ≡ meter.old.scans }
+    {
+        self.see(thread, entry, meter).entry
+    }
+
+    /// What a thread sees of an entry and of its container, at three look-ups.
+    #[inline(never)]
+    pub fn wide_sight(&self, thread: ObjectId, entry: &Entry, meter: &mut Meter) -> WideSight
+        ensures value { result ≡ wide_sight_of (state_of self.now) thread entry.now }
+        ensures scans { meter.new.scans ≡ meter.old.scans }
+    {
+        self.see(thread, entry, meter)
     }
 }

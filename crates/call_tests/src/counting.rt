@@ -3,7 +3,7 @@ ghost use Rattle.std.specs.Prelude.{◌≡◌};
 
 use base::{Data, Kind, Meter, NoMemory, ObjectId, Rights, TypeSet};
 use kernel_rules::{Entry, Gate, Ids, Mapping, Place, Thread};
-use kernel_store::{Sight, Store};
+use kernel_store::{Sight, Store, WideSight};
 use label_lattice::Label;
 use plain_state::PlainState;
 
@@ -47,6 +47,11 @@ impl Store for Counting {
     fn sight(&self, thread: ObjectId, entry: &Entry, meter: &mut Meter) -> Sight {
         meter.probe();
         Store::sight(&self.state, thread, entry, meter)
+    }
+
+    fn wide_sight(&self, thread: ObjectId, entry: &Entry, meter: &mut Meter) -> WideSight {
+        meter.probe();
+        Store::wide_sight(&self.state, thread, entry, meter)
     }
 
     fn is_there(&self, id: ObjectId, meter: &mut Meter) -> bool {

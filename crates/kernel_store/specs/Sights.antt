@@ -10,6 +10,7 @@ use Rattle.kernel_rules.specs.State.{is_live_kind, page_count}
 use Rattle.kernel_rules.specs.declared.calls.Entry.{Entry}
 use Rattle.kernel_store.specs.declared.sights.Seen.{Seen}
 use Rattle.kernel_store.specs.declared.sights.Sight.{Sight}
+use Rattle.kernel_store.specs.declared.sights.WideSight.{WideSight}
 
 -- the kind of o, where it is recorded
 unfoldable pub kind_at : State → ℕ → Option kind.Kind
@@ -38,6 +39,9 @@ sight_of s t e = record {
   accessible = is_accessible s t e.container;
   held = holds s e;
   listed = has (list_at s e.container) e.object;
-  container = seen_of s t e.container;
   object = seen_of s t e.object;
 }
+
+-- and of its container
+abbrev pub wide_sight_of : State → ℕ → Entry → WideSight
+wide_sight_of s t e = record { entry = sight_of s t e; container = seen_of s t e.container }

@@ -15,5 +15,5 @@ pub use conditions::{
     shaped, space_entry, with_room, within,
 };
 pub use new_objects::{NewObject, good_label, is_in_range, new_bearer, new_object};
-pub use sights::{Seen, Sight, itself};
+pub use sights::{Seen, Sight, WideSight, itself};
 pub use stores::Store;

@@ -33,10 +33,17 @@ pub struct Sight {
     pub held: bool,
     /// Whether the container lists the object.
     pub listed: bool,
-    /// What the thread sees of the container.
-    pub container: Seen,
     /// What the thread sees of the object.
     pub object: Seen,
+}
+
+/// What a thread sees of an entry, and of its container as an object.
+#[derive(Clone, Copy)]
+pub struct WideSight {
+    /// What it sees of the entry.
+    pub entry: Sight,
+    /// What it sees of the container.
+    pub container: Seen,
 }
 
 impl Seen {

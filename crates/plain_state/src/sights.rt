@@ -1,13 +1,13 @@
 //! What a thread sees of an object and of an entry.
 ghost use Rattle.std.specs.Prelude.{◌≡◌};
-ghost use Rattle.kernel_store.specs.Sights.{kind_at, seen_of, sight_of};
+ghost use Rattle.kernel_store.specs.Sights.{kind_at, seen_of, sight_of, wide_sight_of};
 ghost use Rattle.plain_state.specs.StateOf.{state_of};
 
 use crate::link_reads::kind_of;
 use crate::states::PlainState;
 use base::{Kind, Meter, ObjectId};
 use kernel_rules::Entry;
-use kernel_store::{Seen, Sight};
+use kernel_store::{Seen, Sight, WideSight};
 
 impl PlainState {
     /// What an object is, where it is recorded.
@@ -35,6 +35,16 @@ impl PlainState {
         }
     }
 
+    /// What a thread sees of an entry and of its container.
+    pub fn wide_sight(&self, thread: ObjectId, entry: &Entry, meter: &mut Meter) -> WideSight
+        ensures { result ≡ wide_sight_of (state_of self.now) thread entry.now }
+    {
+        WideSight {
+            entry: self.sight(thread, entry, meter),
+            container: self.look(thread, entry.container, meter),
+        }
+    }
+
     /// What a thread sees of an entry.
     pub fn sight(&self, thread: ObjectId, entry: &Entry, meter: &mut Meter) -> Sight
         ensures { result ≡ sight_of (state_of self.now) thread entry.now }
@@ -44,7 +54,6 @@ impl PlainState {
             accessible: self.is_accessible(thread, entry.container, meter),
             held: self.holds(entry),
             listed: self.lists(entry.container, entry.object),
-            container: self.look(thread, entry.container, meter),
             object: self.look(thread, entry.object, meter),
         }
     }

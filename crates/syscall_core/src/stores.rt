@@ -7,7 +7,7 @@ use crate::kernel::Kernel;
 use arena_state::Change;
 use base::{Data, Kind, Meter, ObjectId, Rights, TypeSet};
 use kernel_rules::{Entry, Gate, Ids, Mapping, Place, Thread};
-use kernel_store::{Sight, Store};
+use kernel_store::{Sight, Store, WideSight};
 use label_lattice::Label;
 use std::convert::Infallible;
 
@@ -46,6 +46,10 @@ impl Store for Kernel {
 
     fn sight(&self, thread: ObjectId, entry: &Entry, meter: &mut Meter) -> Sight {
         self.state.sight(thread, entry, meter)
+    }
+
+    fn wide_sight(&self, thread: ObjectId, entry: &Entry, meter: &mut Meter) -> WideSight {
+        self.state.wide_sight(thread, entry, meter)
     }
 
     fn is_there(&self, id: ObjectId, meter: &mut Meter) -> bool {

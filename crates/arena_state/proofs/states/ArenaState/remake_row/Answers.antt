@@ -20,9 +20,9 @@ tells_once_set a id slot other old new thread row has h size is named_new named 
 
 pub returns-in-Some-space_in-clause-row : goal.returns-in-Some-space_in-clause-row
 returns-in-Some-space_in-clause-row c = λ slot h.
-    tells_once_set c.args.self.now c.args.thread c.in-Some.slot.0 slot c.args.rows.now c.set.new.self (Some c.args.thread) c.row_of-row.result
-    c.in-Some.ensures.found.has h c.requires c.set.ensures.all c.set.ensures.named
-    (ap (named_by c.args.thread) c.in-Some-space_in.ensures) c.row_of-row.ensures.row
+    tells_once_set c.args.self.now c.args.thread c.in-Some.slot.0 slot c.args.rows.now c.show.new.rows (Some c.args.thread) c.show.ensures.shown.0
+    c.in-Some.ensures.found.has h c.requires c.show.ensures.shown.2 c.show.ensures.named
+    (ap (named_by c.args.thread) c.in-Some-space_in.ensures) c.show.ensures.shown.1
 
 pub returns-in-None-space_in-clause-row : goal.returns-in-None-space_in-clause-row
 returns-in-None-space_in-clause-row c = λ slot h.

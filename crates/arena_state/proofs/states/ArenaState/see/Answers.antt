@@ -8,8 +8,8 @@ use Rattle.kernel_store.specs.declared.sights.Seen.{Seen}
 use Rattle.kernel_store.proofs.SightLaws.{kind_seen}
 use Rattle.arena_state.specs.States.{state_of}
 use Rattle.arena_state.proofs.StockLaws.{whole_formed}
-use Rattle.arena_state.proofs.states.ArenaState.sight.Goals as goal
-use Rattle.arena_state.proofs.states.ArenaState.sight.Goals.{then-holds, else-holds, then-holds-2+then-listed, then-holds-2+else-listed, else-holds-2}
+use Rattle.arena_state.proofs.states.ArenaState.see.Goals as goal
+use Rattle.arena_state.proofs.states.ArenaState.see.Goals.{then-holds, else-holds, then-holds-2+then-listed, then-holds-2+else-listed, else-holds-2}
 
 pub returns-clause-value : goal.returns-clause-value
 returns-clause-value c =
@@ -37,10 +37,12 @@ returns-clause-value c =
           ∙ sym (ap (λ (v : Bool). v && (has (list_at s e.container) e.object || e.object == e.container)) (sym kind ∙ w.if-holds-2.false))
     ] in
     (λ i. record {
-      runs = c.is_found.ensures i;
-      accessible = accessible i;
-      held = held i;
-      listed = c.lists_found-listed.ensures.value i;
+      entry = record {
+        runs = c.is_found.ensures i;
+        accessible = accessible i;
+        held = held i;
+        listed = c.lists_found-listed.ensures.value i;
+        object = c.seen.ensures i;
+      };
       container = c.seen-around.ensures i;
-      object = c.seen.ensures i;
     })
