@@ -30,12 +30,19 @@ fn a_walk_over_threads_counts_each_slot_once(rt: HostRuntime) -> Result<(), Fail
     assert!(rt; is_true(rows.next_thread(0, &mut meter).is_none()));
     assert!(rt; agree(meter.probes(), 3));
 
-    let row = [Some((ObjectId::new(9), READING)); 16];
-    rows.set(Slot(1), ObjectId::new(7), row);
-    let found = rows.next_thread(rows.first(), &mut meter);
-    assert!(rt; agree(found.map(|found| found.thread), Some(ObjectId::new(7))));
-    assert!(rt; agree(found.map(|found| found.slot), Some(Slot(1))));
+    rows.set(
+        Slot(1),
+        ObjectId::new(7),
+        [Some((ObjectId::new(9), READING)); 16],
+    );
+    let first = rows.first();
+    let found = rows.next_thread(first, &mut meter);
     assert!(rt; agree(meter.probes(), 4));
+    assert!(rt; is_true(found.is_some()));
+    if let Some(found) = found {
+        assert!(rt; agree(found.thread, ObjectId::new(7)));
+        assert!(rt; agree(found.slot, Slot(1)));
+    }
     let shown = rows.shown(Slot(1), 5, &mut meter);
     assert!(rt; agree(shown, Some((ObjectId::new(9), READING))));
     Ok(())
