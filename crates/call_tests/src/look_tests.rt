@@ -98,7 +98,7 @@ fn each_entry_is_looked_at_once(rt: HostRuntime) -> Result<(), Fail> {
                 target,
                 entry: segment,
             },
-            3,
+            2,
         ),
         (
             Call::SegmentWrite {
@@ -123,7 +123,7 @@ fn each_entry_is_looked_at_once(rt: HostRuntime) -> Result<(), Fail> {
                 entry: in_root(4),
                 change: 1,
             },
-            2,
+            1,
         ),
     ];
     for (call, looks) in calls {
@@ -136,7 +136,7 @@ fn each_entry_is_looked_at_once(rt: HostRuntime) -> Result<(), Fail> {
     let unref = Call::Unref { entry: segment };
     assert_eq!(rt;
         looks_of(&mut store, &mut twin, &unref, &mut meter)?,
-        (None, 2)
+        (None, 1)
     );
     Ok(())
 }
@@ -156,7 +156,7 @@ fn a_refused_call_takes_as_many(rt: HostRuntime) -> Result<(), Fail> {
         &Call::Unref { entry: root },
         &mut meter,
     )?;
-    assert_eq!(rt; kept, (Some(Refusal::RootKept), 2));
+    assert_eq!(rt; kept, (Some(Refusal::RootKept), 1));
     let read = Query::SegmentRead {
         entry: in_root(3),
         offset: 0,
