@@ -5,7 +5,7 @@ use base::{Meter, NoMemory, ObjectId};
 use containers::{Containers, Located, Visitor};
 use std::alloc::Global;
 use std::test::Fail;
-use test_support::meter_again;
+use test_support::{agree, is_true, meter_again};
 
 // Remembers the numbers of the first eight objects that it is handed, and how many links.
 #[derive(Drop)]
@@ -80,6 +80,23 @@ fn links_are_kept_in_order(rt: HostRuntime) -> Result<(), Fail> {
         *tree.get_mut(slot) = 'x';
         assert_eq!(rt; *tree.get(slot), 'x');
     }
+    Ok(())
+}
+
+// Each of two ids is found by halves with three probes here. A walk reads the number of links and the first one, then each
+// link's container, and the next link where that is another: three probes for the first link, and two for each one passed.
+#[test]
+fn a_walk_counts_what_it_reads(rt: HostRuntime) -> Result<(), Fail> {
+    let mut meter = Meter::new(rt.alloc())?;
+    let tree = family(rt.alloc(), &mut meter)?;
+    let [root, four, six] = [1, 4, 6].map(ObjectId::new);
+    let before = meter.probes();
+    assert!(rt; is_true(tree.is_listed(root, six, &mut meter)));
+    let one = meter.probes();
+    assert!(rt; is_true(tree.is_listed(four, six, &mut meter)));
+    let two = meter.probes();
+    assert!(rt; agree(one.saturating_sub(before), 9));
+    assert!(rt; agree(two.saturating_sub(one), 11));
     Ok(())
 }
 
