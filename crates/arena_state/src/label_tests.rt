@@ -6,7 +6,7 @@ ghost use Rattle.label_rules.specs.LabelRules.{both, below, visible, shown};
 ghost use Rattle.label_intern.specs.Held.{held_at, label_of};
 ghost use Rattle.kernel_rules.specs.State.{label_at, clearance_at, observes, flows_to};
 ghost use Rattle.kernel_rules.specs.State.{is_live_kind, is_accessible};
-ghost use Rattle.arena_state.specs.States.{state_of, find_cost, label_found, IsLabelled};
+ghost use Rattle.arena_state.specs.States.{state_of, find_cost, label_found, Finds, IsLabelled};
 
 use crate::records::{Kept, Record};
 use crate::states::ArenaState;
@@ -117,14 +117,22 @@ impl ArenaState {
         self.flowing(own, other)
     }
 
-    /// Whether an object's label is at most a thread's clearance.
-    pub fn is_cleared(&self, thread: ObjectId, id: ObjectId, meter: &mut Meter) -> bool
-        ensures value { result
+    // Whether the label of an object is at most the clearance of a thread, where both were looked up.
+    pub(crate) fn is_cleared_found(
+        &self,
+        thread: ObjectId,
+        own: Option<&Record>,
+        id: ObjectId,
+        other: Option<&Record>,
+    ) -> bool
+        requires own { Finds self.now thread (option_copied own) }
+        requires other { Finds self.now id (option_copied other) }
+        ensures { result
             ≡ both below (label_at (state_of self.now) id) (clearance_at (state_of self.now) thread) }
-        ensures scans { meter.new.scans ≡ meter.old.scans }
     {
-        match self.row(id, meter) {
-            Some(other) => match self.row(thread, meter) {
+        let _ids = (thread, id);
+        match other {
+            Some(other) => match own {
                 Some(own) => match &own.body {
                     Kept::Thread(kept) => self.order(other.label, kept.clearance) & 1 == 1,
                     _ => false,
@@ -133,6 +141,19 @@ impl ArenaState {
             },
             None => false,
         }
+    }
+
+    /// Whether an object's label is at most a thread's clearance.
+    pub fn is_cleared(&self, thread: ObjectId, id: ObjectId, meter: &mut Meter) -> bool
+        ensures value { result
+            ≡ both below (label_at (state_of self.now) id) (clearance_at (state_of self.now) thread) }
+        ensures scans { meter.new.scans ≡ meter.old.scans }
+    {
+        let slot = self.slot(id, meter);
+        let thread_slot = self.slot(thread, meter);
+        let other = self.record(id, slot);
+        let own = self.record(thread, thread_slot);
+        self.is_cleared_found(thread, own, id, other)
     }
 
     /// Whether an object's label with star raised is at most a thread's with star raised.

@@ -30,6 +30,7 @@ mod records;
 mod remakes;
 mod repairs;
 mod sights;
+mod sites;
 mod states;
 mod translations;
 mod uniform;

@@ -139,39 +139,8 @@ impl ArenaState {
             (use_of (state_of self.now) container + pages) }
         ensures scans { meter.new.scans ≡ meter.old.scans }
     {
-        match self.row(container, meter) {
-            Some(row) => {
-                let used = pages_of(&row.body, row.quota);
-                u64::from(row.quota) < u64::from(used) + u64::from(pages)
-            }
-            None => 0 < pages,
-        }
-    }
-
-    /// Whether a container won't hold this kind.
-    pub fn avoids(&self, kind: Kind, id: ObjectId, meter: &mut Meter) -> bool
-        ensures value { result ≡ avoids_at (state_of self.now) kind id }
-        ensures scans { meter.new.scans ≡ meter.old.scans }
-    {
-        match self.row(id, meter) {
-            Some(row) => match &row.body {
-                Kept::Container(avoid, _) => avoid.has(kind),
-                _ => false,
-            },
-            None => false,
-        }
-    }
-
-    /// Whether a container won't hold an object, which it won't where the object is not recorded.
-    pub fn avoids_kind_of(&self, container: ObjectId, id: ObjectId, meter: &mut Meter) -> bool
-        ensures value { result ≡ of_object true (λ x. avoids_at (state_of self.now)
-            (kind_of x.body) container) (object_at (state_of self.now) id) }
-        ensures scans { meter.new.scans ≡ meter.old.scans }
-    {
-        match self.row(id, meter) {
-            Some(row) => self.avoids(row.body.kind(), container, meter),
-            None => true,
-        }
+        let slot = self.slot(container, meter);
+        self.is_full(container, self.record(container, slot), pages)
     }
 
     /// What a new container in this one avoids, which is asked to avoid these kinds.

@@ -1,7 +1,7 @@
 //! What a thread sees of an object and of an entry: each id that is named is looked up once.
 ghost use Rattle.std.specs.Prelude.{◌≡◌, None, IfSome, IfNone, option_copied};
 ghost use Rattle.base.specs.Live.{has};
-ghost use Rattle.kernel_rules.specs.State.{object_at, list_at, is_live_kind};
+ghost use Rattle.kernel_rules.specs.State.{object_at, list_at, is_live_kind, is_accessible};
 ghost use Rattle.kernel_store.specs.Sights.{seen_of, sight_of, wide_sight_of};
 ghost use Rattle.arena_state.specs.States.{state_of, HasRow, Finds};
 
@@ -14,7 +14,7 @@ use kernel_store::{Seen, Sight, WideSight};
 
 impl ArenaState {
     // What who has the one record sees of what has the other.
-    fn seen(
+    pub(crate) fn seen(
         &self,
         thread: ObjectId,
         own: Option<&Record>,
@@ -49,7 +49,7 @@ impl ArenaState {
     }
 
     // Whether what was looked up has this kind: each object that is recorded is live.
-    fn is_found(&self, kind: Kind, id: ObjectId, found: Option<&Record>) -> bool
+    pub(crate) fn is_found(&self, kind: Kind, id: ObjectId, found: Option<&Record>) -> bool
         requires { Finds self.now id (option_copied found) }
         ensures { result ≡ is_live_kind (state_of self.now) kind id }
     {
@@ -97,8 +97,55 @@ impl ArenaState {
         }
     }
 
-    // What a thread sees of an entry and of its container, at three look-ups. (It is put into the two functions that
+    // Whether what a thread sees of an object is a live container that it observes.
+    pub(crate) fn is_reached(&self, thread: ObjectId, container: ObjectId, seen: &Seen) -> bool
+        requires { seen.now ≡ seen_of (state_of self.now) thread container }
+        ensures { result ≡ is_accessible (state_of self.now) thread container }
+    {
+        let (_, _, _) = (&self.pieces, thread, container);
+        seen.is(Kind::Container) && seen.observed
+    }
+
+    // What a thread sees of an entry and of its container, where all three were looked up. (It is put into those who
     // tell it, so that what one doesn't tell is not looked at there.)
+    #[inline(always)]
+    pub(crate) fn see_found(
+        &self,
+        thread: ObjectId,
+        own: Option<&Record>,
+        entry: &Entry,
+        container_slot: Option<Slot>,
+        object_slot: Option<Slot>,
+        meter: &mut Meter,
+    ) -> WideSight
+        requires own { Finds self.now thread (option_copied own) }
+        requires container { IfSome container_slot (λ slot. HasRow self.now entry.now.container slot.0) }
+        requires no_container { IfNone container_slot
+            (object_at (state_of self.now) entry.now.container ≡ None) }
+        requires object { IfSome object_slot (λ slot. HasRow self.now entry.now.object slot.0) }
+        requires no_object { IfNone object_slot
+            (object_at (state_of self.now) entry.now.object ≡ None) }
+        ensures value { result ≡ wide_sight_of (state_of self.now) thread entry.now }
+        ensures scans { meter.new.scans ≡ meter.old.scans }
+    {
+        let container = self.record(entry.container, container_slot);
+        let object = self.record(entry.object, object_slot);
+        let listed = self.lists_found(entry, container_slot, object_slot, meter);
+        let around = self.seen(thread, own, entry.container, container);
+        let holds = around.is(Kind::Container);
+        WideSight {
+            entry: Sight {
+                runs: self.is_found(Kind::Thread, thread, own),
+                accessible: self.is_reached(thread, entry.container, &around),
+                held: holds && (listed || entry.object == entry.container),
+                listed,
+                object: self.seen(thread, own, entry.object, object),
+            },
+            container: around,
+        }
+    }
+
+    // What a thread sees of an entry and of its container, at three look-ups.
     #[inline(always)]
     fn see(&self, thread: ObjectId, entry: &Entry, meter: &mut Meter) -> WideSight
         ensures value { result ≡ wide_sight_of (state_of self.now) thread entry.now }
@@ -108,21 +155,7 @@ impl ArenaState {
         let container_slot = self.slot(entry.container, meter);
         let object_slot = self.slot(entry.object, meter);
         let own = self.record(thread, thread_slot);
-        let container = self.record(entry.container, container_slot);
-        let object = self.record(entry.object, object_slot);
-        let listed = self.lists_found(entry, container_slot, object_slot, meter);
-        let around = self.seen(thread, own, entry.container, container);
-        let holds = around.is(Kind::Container);
-        WideSight {
-            entry: Sight {
-                runs: self.is_found(Kind::Thread, thread, own),
-                accessible: holds && around.observed,
-                held: holds && (listed || entry.object == entry.container),
-                listed,
-                object: self.seen(thread, own, entry.object, object),
-            },
-            container: around,
-        }
+        self.see_found(thread, own, entry, container_slot, object_slot, meter)
     }
 
     /// What a thread sees of an entry, at three look-ups.

@@ -3,7 +3,7 @@ ghost use Rattle.std.specs.Prelude.{◌≡◌};
 
 use base::{Data, Kind, Meter, NoMemory, ObjectId, Rights, TypeSet};
 use kernel_rules::{Entry, Gate, Ids, Mapping, Place, Thread};
-use kernel_store::{Sight, Store, WideSight};
+use kernel_store::{LinkSite, Sight, Site, Store, WideSight};
 use label_lattice::Label;
 use plain_state::PlainState;
 
@@ -54,6 +54,29 @@ impl Store for Counting {
         Store::wide_sight(&self.state, thread, entry, meter)
     }
 
+    fn site(
+        &self,
+        thread: ObjectId,
+        kind: Kind,
+        container: ObjectId,
+        quota: u32,
+        meter: &mut Meter,
+    ) -> Site {
+        meter.probe();
+        Store::site(&self.state, thread, kind, container, quota, meter)
+    }
+
+    fn link_site(
+        &self,
+        thread: ObjectId,
+        container: ObjectId,
+        entry: &Entry,
+        meter: &mut Meter,
+    ) -> LinkSite {
+        meter.probe();
+        Store::link_site(&self.state, thread, container, entry, meter)
+    }
+
     fn is_there(&self, id: ObjectId, meter: &mut Meter) -> bool {
         Store::is_there(&self.state, id, meter)
     }
@@ -88,14 +111,6 @@ impl Store for Counting {
 
     fn is_over(&self, container: ObjectId, pages: u32, meter: &mut Meter) -> bool {
         Store::is_over(&self.state, container, pages, meter)
-    }
-
-    fn avoids(&self, kind: Kind, id: ObjectId, meter: &mut Meter) -> bool {
-        Store::avoids(&self.state, kind, id, meter)
-    }
-
-    fn avoids_kind_of(&self, container: ObjectId, id: ObjectId, meter: &mut Meter) -> bool {
-        Store::avoids_kind_of(&self.state, container, id, meter)
     }
 
     fn joined(&self, container: ObjectId, kinds: TypeSet, meter: &mut Meter) -> TypeSet {

@@ -27,15 +27,16 @@ few_scans (suc (suc zero)) m few = omega arith
 few_scans (suc (suc (suc zero))) m few = omega arith
 few_scans (suc (suc (suc (suc n)))) m few = absurd (omega arith)
 
--- a call that is looked at, and then made
-pub scans_within : (c : Call) (m before between after : ℕ) → between ≤ before + 11
-    → after ≤ between + stores c + storing (stores c) m → after ≤ before + most_scans (stores c) m
+-- a call that is looked at, and then made: three scans are left
+pub scans_within : (c : Call) (m before between after : ℕ) → between ≤ before + 5
+    → after ≤ between + stores c + storing (stores c) m
+    → after + 3 ≤ before + most_scans (stores c) m
 scans_within c m before between after looked made =
     omega (arith, few_scans (stores c) m (stores_few c), looked, made)
 
 -- a call that is looked at, and refused
-pub looked_within : (c : Call) (m before after : ℕ) → after ≤ before + 11
-    → after ≤ before + most_scans (stores c) m
+pub looked_within : (c : Call) (m before after : ℕ) → after ≤ before + 5
+    → after + 3 ≤ before + most_scans (stores c) m
 looked_within c m before after looked = omega arith
 
 -- more labels that stand are no less to scan

@@ -8,6 +8,7 @@
 mod acceptances;
 mod queries;
 mod refusals;
+mod saying;
 mod sure;
 
 pub use acceptances::step;

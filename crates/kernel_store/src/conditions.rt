@@ -4,13 +4,12 @@ ghost use Rattle.base.specs.Sets.{may_read, may_write};
 ghost use Rattle.base.specs.declared.kinds.Kind.TheVariants as kinds;
 ghost use Rattle.base.specs.declared.refusals.Refusal.TheVariants as refusal;
 ghost use Rattle.kernel_rules.specs.Rows.{refusal_of, halted, is_shape, allows};
-ghost use Rattle.kernel_rules.specs.State.{quota_at, use_of};
 ghost use Rattle.kernel_rules.specs.Translate.{names_none};
 ghost use Rattle.kernel_rules.specs.declared.replies.Reply.TheVariants as told;
 ghost use Rattle.kernel_store.specs.Parts.{joined};
 ghost use Rattle.kernel_store.specs.Sights.{is_of};
 
-use crate::sights::{Seen, Sight};
+use crate::sights::{Seen, Sight, Site};
 use crate::stores::Store;
 use base::{Kind, Meter, ObjectId, Refusal};
 use kernel_rules::{Entry, Place, Reply, least_with};
@@ -61,6 +60,20 @@ pub fn at_container(seen: &Sight) -> [Condition; 1]
     ensures { result ≡ (refusal.NoAccess, not seen.now.accessible) ∷ [] }
 {
     [(Refusal::NoAccess, !seen.accessible)]
+}
+
+/// The caller, who looked at a container, is no live thread.
+pub fn halted_by(site: &Site) -> [Condition; 1]
+    ensures { result ≡ (refusal.Halted, not site.now.runs) ∷ [] }
+{
+    [(Refusal::Halted, !site.runs)]
+}
+
+/// The container that was looked at is a live container that the thread observes.
+pub fn at_site(site: &Site) -> [Condition; 1]
+    ensures { result ≡ (refusal.NoAccess, not site.now.accessible) ∷ [] }
+{
+    [(Refusal::NoAccess, !site.accessible)]
 }
 
 /// The container is such a container, and the entry stands.
@@ -129,23 +142,6 @@ pub fn not_immutable(seen: &Seen) -> [Condition; 1]
     ensures { result ≡ (refusal.Immutable, seen.now.immutable) ∷ [] }
 {
     [(Refusal::Immutable, seen.immutable)]
-}
-
-/// So many pages more are within the container's quota.
-pub fn with_room<S: Store>(
-    state: &S,
-    container: ObjectId,
-    pages: u32,
-    meter: &mut Meter,
-) -> [Condition; 1]
-    ensures value { result ≡ (
-      refusal.NoQuota,
-      nat_lt (quota_at (S.state state.now) container)
-          (use_of (S.state state.now) container + pages),
-    ) ∷ [] }
-    ensures meter { S.kept meter.new ≡ S.kept meter.old }
-{
-    [(Refusal::NoQuota, state.is_over(container, pages, meter))]
 }
 
 /// From `at` on, `count` is 1 to 64 bytes of one page.

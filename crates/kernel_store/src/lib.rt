@@ -6,14 +6,16 @@
 
 mod conditions;
 mod new_objects;
+mod said;
 mod sights;
 mod stores;
 
 pub use conditions::{
-    Condition, at_container, flowing, halted, halted_at, in_container, listed_in, mapped_to_read,
-    mapped_to_write, modified, not_immutable, not_of_kind, observed, of_kind, refusal_of, refuse,
-    shaped, space_entry, with_room, within,
+    Condition, at_container, at_site, flowing, halted, halted_at, halted_by, in_container,
+    listed_in, mapped_to_read, mapped_to_write, modified, not_immutable, not_of_kind, observed,
+    of_kind, refusal_of, refuse, shaped, space_entry, within,
 };
 pub use new_objects::{NewObject, good_label, is_in_range, new_bearer, new_object};
-pub use sights::{Seen, Sight, WideSight, itself};
+pub use said::Said;
+pub use sights::{LinkSite, Seen, Sight, Site, WideSight, itself};
 pub use stores::Store;

@@ -5,13 +5,14 @@ ghost use Rattle.label_lattice.specs.Raw.{all_made, is_bad_below, raw_has_star};
 ghost use Rattle.label_rules.specs.LabelRules.{both, below, between, stored};
 ghost use Rattle.kernel_rules.specs.Rows.{fitting, new_object, new_bearer, in_range_of};
 ghost use Rattle.kernel_rules.specs.State.{label_at, clearance_at};
+ghost use Rattle.kernel_store.specs.Sights.{site_of};
 
-use crate::conditions::{Condition, at_container, modified, not_immutable, with_room};
-use crate::sights::itself;
+use crate::conditions::{Condition, at_site, modified, not_immutable};
+use crate::sights::Site;
 use crate::stores::Store;
 use base::{Kind, Meter, ObjectId, Refusal};
 use label_lattice::{Label, RawLabel};
-use label_rules::{is_below, is_between, stored_of};
+use label_rules::{is_below, is_between};
 
 /// A new object, as what refuses one looks at it.
 #[derive(Clone, Copy)]
@@ -26,33 +27,32 @@ pub struct NewObject<'a> {
     pub label: &'a RawLabel,
 }
 
-/// The new object, which uses so many pages itself, fits into its container.
+/// The new object, which uses so many pages itself, fits into its container, which was looked at.
 fn fitting<S: Store>(
     state: &S,
     thread: ObjectId,
+    site: &Site,
     made: &NewObject,
     pages: u64,
-    meter: &mut Meter,
 ) -> [Condition; 8]
-    ensures value { result ≡ fitting (S.state state.now) thread
+    requires { site.now ≡ site_of (S.state state.now) thread
+        made.now.kind made.now.container made.now.quota }
+    ensures { result ≡ fitting (S.state state.now) thread
         made.now.kind made.now.container made.now.quota pages }
-    ensures meter { S.kept meter.new ≡ S.kept meter.old }
 {
-    let seen = state.sight(thread, &itself(made.container), meter);
-    let [access] = at_container(&seen);
-    let [observed, flowing] = modified(&seen.object);
-    let avoided = state.avoids(made.kind, made.container, meter);
+    let _thread = thread;
+    let [access] = at_site(site);
+    let [observed, flowing] = modified(&site.container);
     let small = u64::from(made.quota) < pages;
-    let [room] = with_room(state, made.container, made.quota, meter);
-    let [immutable] = not_immutable(&seen.object);
+    let [immutable] = not_immutable(&site.container);
     let spent = 1 << 61 <= state.next_id().number();
     [
         access,
         observed,
         flowing,
-        (Refusal::AvoidType, avoided),
+        (Refusal::AvoidType, site.avoided),
         (Refusal::NoQuota, small),
-        room,
+        (Refusal::NoQuota, site.full),
         immutable,
         (Refusal::Spent, spent),
     ]
@@ -113,20 +113,24 @@ pub fn is_in_range<S: Store>(
     is_between(own, label, clearance, meter)
 }
 
-/// What refuses a new container, segment or address space, which uses so many pages itself.
+/// What refuses a new container, segment or address space, which uses so many pages itself. Its
+/// container was looked at, and its label is the stored one, where there is one.
 pub fn new_object<S: Store>(
     state: &S,
     thread: ObjectId,
+    site: &Site,
     made: &NewObject,
+    label: Option<&Label>,
     pages: u64,
     meter: &mut Meter,
 ) -> [Condition; 10]
+    requires site { site.now ≡ site_of (S.state state.now) thread
+        made.now.kind made.now.container made.now.quota }
+    requires label { option_copied label ≡ stored made.now.label.now }
     ensures value { result ≡ new_object (S.state state.now) thread
         made.now.kind made.now.container made.now.label.now made.now.quota pages }
-    ensures meter { S.kept meter.new ≤ S.kept meter.old + 3 }
+    ensures meter { S.kept meter.new ≤ S.kept meter.old + 2 }
 {
-    let stored = stored_of(made.label, meter);
-    let label = stored.as_ref();
     let [
         access,
         observed,
@@ -136,7 +140,7 @@ pub fn new_object<S: Store>(
         room,
         immutable,
         spent,
-    ] = fitting(state, thread, made, pages, meter);
+    ] = fitting(state, thread, site, made, pages);
     let [unfit] = starless_label(state, made.label, label);
     let in_range = is_in_range(state, thread, label, meter);
     [
@@ -177,22 +181,26 @@ fn is_bounded<S: Store>(
     is_between(label, clearance, own, meter)
 }
 
-/// What refuses a new thread or gate of a raw clearance.
+/// What refuses a new thread or gate of a raw clearance. Its container was looked at, and its label
+/// and clearance are the stored ones, where there are any.
 pub fn new_bearer<S: Store>(
     state: &S,
     thread: ObjectId,
+    site: &Site,
     made: &NewObject,
+    label: Option<&Label>,
     raw_clearance: &RawLabel,
+    clearance: Option<&Label>,
     meter: &mut Meter,
 ) -> [Condition; 12]
+    requires site { site.now ≡ site_of (S.state state.now) thread
+        made.now.kind made.now.container made.now.quota }
+    requires label { option_copied label ≡ stored made.now.label.now }
+    requires clearance { option_copied clearance ≡ stored raw_clearance.now }
     ensures value { result ≡ new_bearer (S.state state.now) thread
         made.now.kind made.now.container made.now.label.now made.now.quota raw_clearance.now }
-    ensures meter { S.kept meter.new ≤ S.kept meter.old + 5 }
+    ensures meter { S.kept meter.new ≤ S.kept meter.old + 3 }
 {
-    let stored = stored_of(made.label, meter);
-    let label = stored.as_ref();
-    let stored_clearance = stored_of(raw_clearance, meter);
-    let clearance = stored_clearance.as_ref();
     let [
         access,
         observed,
@@ -202,7 +210,7 @@ pub fn new_bearer<S: Store>(
         room,
         immutable,
         spent,
-    ] = fitting(state, thread, made, 1, meter);
+    ] = fitting(state, thread, site, made, 1);
     let [unfit] = good_label(state, made.label, label);
     let [unfit_clearance] = good_label(state, raw_clearance, clearance);
     let above = is_above(state, thread, label, meter);

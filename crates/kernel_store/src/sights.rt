@@ -46,6 +46,35 @@ pub struct WideSight {
     pub container: Seen,
 }
 
+/// What a thread sees of a container in which an object of some kind and quota is to be listed.
+#[derive(Clone, Copy)]
+pub struct Site {
+    /// Whether the caller is a live thread.
+    pub runs: bool,
+    /// Whether the container is a live container that the thread observes.
+    pub accessible: bool,
+    /// What the thread sees of the container.
+    pub container: Seen,
+    /// Whether the container won't hold the kind.
+    pub avoided: bool,
+    /// Whether so many pages more are above the container's quota.
+    pub full: bool,
+}
+
+/// What a thread sees of a container in which the object of an entry is to be listed too, and of the
+/// entry.
+#[derive(Clone, Copy)]
+pub struct LinkSite {
+    /// What it sees of the container, which avoids an object that is not recorded.
+    pub site: Site,
+    /// What it sees of the entry.
+    pub entry: Sight,
+    /// Whether the container lists the object already.
+    pub listed: bool,
+    /// Whether the object's label is at most the thread's clearance.
+    pub cleared: bool,
+}
+
 impl Seen {
     /// Whether it is of this kind.
     #[tactic(auto, unfolding(crate::specs::Sights::is_of))]

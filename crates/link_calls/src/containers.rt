@@ -1,5 +1,9 @@
 //! The calls that make containers and read their lists.
-ghost use Rattle.std.specs.Prelude.{◌≡◌, ◌≤◌, ◌+◌, None, IfOk, OnOk, OnErr};
+#![tactic(auto, unfolding(kernel_rules::specs::Table::refused, kernel_rules::specs::Table::query_refused), using(kernel_store::proofs::SightLaws::kind_seen))]
+ghost use Rattle.std.specs.Prelude.{◌≡◌, ◌≤◌, ◌+◌, None, IfOk, IfSome, OnOk, OnErr};
+ghost use Rattle.std.specs.Prelude.{option_copied};
+ghost use Rattle.label_lattice.specs.Label.{IsStored};
+ghost use Rattle.label_rules.specs.LabelRules.{stored};
 ghost use Rattle.kernel_rules.specs.Step.{accepted, edit, found};
 ghost use Rattle.kernel_rules.specs.Table.{refused, query_refused};
 ghost use Rattle.kernel_rules.specs.declared.calls.Call.TheVariants as call;
@@ -10,20 +14,22 @@ ghost use Rattle.kernel_store.specs.Storing.{storing};
 use base::{Kind, Meter, ObjectId, Refusal};
 use kernel_rules::{NewContainer, Reply};
 use kernel_store::{
-    NewObject, Store, at_container, halted, halted_at, itself, new_object, refusal_of,
+    NewObject, Store, at_container, halted_at, halted_by, itself, new_object, refusal_of,
 };
-use label_rules::stored_of;
+use label_lattice::Label;
 
-/// What refuses to make a container.
+/// What refuses to make a container, whose label is the stored one, where there is one.
 #[inline(never)]
 pub fn refused_container_create<S: Store>(
     state: &S,
     thread: ObjectId,
     made: &NewContainer,
+    label: Option<&Label>,
     meter: &mut Meter,
 ) -> Option<Refusal>
+    requires { option_copied label ≡ stored made.now.label }
     ensures value { result ≡ refused (S.state state.now) thread (call.ContainerCreate made.now) }
-    ensures meter { S.kept meter.new ≤ S.kept meter.old + 3 }
+    ensures meter { S.kept meter.new ≤ S.kept meter.old + 2 }
 {
     let object = NewObject {
         kind: Kind::Container,
@@ -31,32 +37,36 @@ pub fn refused_container_create<S: Store>(
         quota: made.quota,
         label: &made.label,
     };
+    let site = state.site(thread, object.kind, made.container, made.quota, meter);
     refusal_of(&[
-        &halted(state, thread, meter),
-        &new_object(state, thread, &object, 1, meter),
+        &halted_by(&site),
+        &new_object(state, thread, &site, &object, label, 1, meter),
     ])
 }
 
-/// Makes a container without entries. The error is want of memory, and nothing is changed then.
+/// Makes a container without entries, of this label. The error is want of memory, and nothing is
+/// changed then.
 #[inline(never)]
 pub fn container_create<S: Store>(
     state: &mut S,
     thread: ObjectId,
     made: &NewContainer,
+    label: Option<&Label>,
     meter: &mut Meter,
 ) -> Result<ObjectId, S::Want>
-    requires { refused (S.state state.old) thread (call.ContainerCreate made.now) ≡ None }
+    requires free { refused (S.state state.old) thread (call.ContainerCreate made.now) ≡ None }
+    requires label { option_copied label ≡ stored made.now.label }
+    requires fit { IfSome (option_copied label) IsStored }
     ensures object { IfOk result (λ id. told.Object id ≡ accepted (S.state state.old) thread
         (call.ContainerCreate made.now)) }
     ensures ok { OnOk result (S.state state.new ≡ edit (S.state state.old) thread
         (call.ContainerCreate made.now)) }
     ensures err { OnErr result (S.state state.new ≡ S.state state.old) }
     ensures meter { S.kept meter.new
-        ≤ S.kept meter.old + 1 + storing 1 (S.stored state.old) }
+        ≤ S.kept meter.old + storing 1 (S.stored state.old) }
 {
     let kinds = state.joined(made.container, made.avoid, meter);
-    let label = stored_of(&made.label, meter);
-    let id = state.create_container(made.container, label.as_ref(), made.quota, kinds, meter)?;
+    let id = state.create_container(made.container, label, made.quota, kinds, meter)?;
     Ok(id)
 }
 

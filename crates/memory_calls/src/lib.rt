@@ -3,7 +3,7 @@
 //! Each row and each change is a function of its own in the program too (`inline(never)`): what a function
 //! makes is set to zero where it begins, be it needed or not, so what one call needs is left out of all the
 //! others. What a query finds is put straight into its reply, and may be inlined.
-#![tactic(auto, unfolding(kernel_rules::specs::Table::refused, kernel_rules::specs::Table::query_refused), using(kernel_store::proofs::SightLaws::kind_seen))]
+#![tactic(auto)]
 
 mod accesses;
 mod devices;

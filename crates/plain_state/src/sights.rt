@@ -1,13 +1,15 @@
 //! What a thread sees of an object and of an entry.
 ghost use Rattle.std.specs.Prelude.{◌≡◌};
 ghost use Rattle.kernel_store.specs.Sights.{kind_at, seen_of, sight_of, wide_sight_of};
+ghost use Rattle.kernel_store.specs.Sights.{site_of, link_site_of};
 ghost use Rattle.plain_state.specs.StateOf.{state_of};
 
 use crate::link_reads::kind_of;
 use crate::states::PlainState;
 use base::{Kind, Meter, ObjectId};
 use kernel_rules::Entry;
-use kernel_store::{Seen, Sight, WideSight};
+use kernel_store::{LinkSite, Seen, Sight, Site, WideSight};
+use label_rules::is_below;
 
 impl PlainState {
     /// What an object is, where it is recorded.
@@ -55,6 +57,51 @@ impl PlainState {
             held: self.holds(entry),
             listed: self.lists(entry.container, entry.object),
             object: self.look(thread, entry.object, meter),
+        }
+    }
+
+    /// What a thread sees of a container in which an object of a kind and of this quota is to be listed.
+    pub fn site(
+        &self,
+        thread: ObjectId,
+        kind: Kind,
+        container: ObjectId,
+        quota: u32,
+        meter: &mut Meter,
+    ) -> Site
+        ensures { result ≡ site_of (state_of self.now) thread kind container quota }
+    {
+        Site {
+            runs: self.is_live_kind(Kind::Thread, thread),
+            accessible: self.is_accessible(thread, container, meter),
+            container: self.look(thread, container, meter),
+            avoided: self.avoids(kind, container),
+            full: self.is_over(container, quota),
+        }
+    }
+
+    /// What a thread sees of a container in which the object of an entry is to be listed too, and of the
+    /// entry.
+    pub fn link_site(
+        &self,
+        thread: ObjectId,
+        container: ObjectId,
+        entry: &Entry,
+        meter: &mut Meter,
+    ) -> LinkSite
+        ensures { result ≡ link_site_of (state_of self.now) thread container entry.now }
+    {
+        LinkSite {
+            site: Site {
+                runs: self.is_live_kind(Kind::Thread, thread),
+                accessible: self.is_accessible(thread, container, meter),
+                container: self.look(thread, container, meter),
+                avoided: self.avoids_kind_of(container, entry.object),
+                full: self.is_over(container, self.quota(entry.object)),
+            },
+            entry: self.sight(thread, entry, meter),
+            listed: self.lists(container, entry.object),
+            cleared: is_below(self.label(entry.object), self.clearance(thread), meter),
         }
     }
 }

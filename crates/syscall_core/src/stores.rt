@@ -7,7 +7,7 @@ use crate::kernel::Kernel;
 use arena_state::Change;
 use base::{Data, Kind, Meter, ObjectId, Rights, TypeSet};
 use kernel_rules::{Entry, Gate, Ids, Mapping, Place, Thread};
-use kernel_store::{Sight, Store, WideSight};
+use kernel_store::{LinkSite, Sight, Site, Store, WideSight};
 use label_lattice::Label;
 use std::convert::Infallible;
 
@@ -52,6 +52,27 @@ impl Store for Kernel {
         self.state.wide_sight(thread, entry, meter)
     }
 
+    fn site(
+        &self,
+        thread: ObjectId,
+        kind: Kind,
+        container: ObjectId,
+        quota: u32,
+        meter: &mut Meter,
+    ) -> Site {
+        self.state.site(thread, kind, container, quota, meter)
+    }
+
+    fn link_site(
+        &self,
+        thread: ObjectId,
+        container: ObjectId,
+        entry: &Entry,
+        meter: &mut Meter,
+    ) -> LinkSite {
+        self.state.link_site(thread, container, entry, meter)
+    }
+
     fn is_there(&self, id: ObjectId, meter: &mut Meter) -> bool {
         self.state.is_there(id, meter)
     }
@@ -86,14 +107,6 @@ impl Store for Kernel {
 
     fn is_over(&self, container: ObjectId, pages: u32, meter: &mut Meter) -> bool {
         self.state.is_over(container, pages, meter)
-    }
-
-    fn avoids(&self, kind: Kind, id: ObjectId, meter: &mut Meter) -> bool {
-        self.state.avoids(kind, id, meter)
-    }
-
-    fn avoids_kind_of(&self, container: ObjectId, id: ObjectId, meter: &mut Meter) -> bool {
-        self.state.avoids_kind_of(container, id, meter)
     }
 
     fn joined(&self, container: ObjectId, kinds: TypeSet, meter: &mut Meter) -> TypeSet {

@@ -1,11 +1,9 @@
 //! The calls that make and enter gates.
+#![tactic(auto, unfolding(kernel_rules::specs::Table::refused, kernel_rules::specs::Table::query_refused), using(kernel_store::proofs::SightLaws::kind_seen))]
 ghost use Rattle.std.specs.Prelude.{◌≡◌, ◌≤◌, ◌+◌, ℕ, true, None};
-ghost use Rattle.std.specs.Prelude.{IfOk, OnOk, OnErr, IfSome};
-ghost use Rattle.base.specs.Counts.{ScansAtMost};
+ghost use Rattle.std.specs.Prelude.{IfOk, OnOk, OnErr, IfSome, option_copied};
 ghost use Rattle.label_lattice.specs.Label.{IsStored};
 ghost use Rattle.label_rules.specs.LabelRules.{may_enter, stored};
-ghost use Rattle.label_rules.specs.declared.gates.Asked.{Asked};
-ghost use Rattle.label_rules.specs.declared.gates.Bearer.{Bearer};
 ghost use Rattle.base.specs.declared.kinds.Kind.TheVariants as kinds;
 ghost use Rattle.kernel_rules.specs.State.{gate_at, is_kind_at};
 ghost use Rattle.kernel_rules.specs.Step.{accepted, edit, through_gate, told_by};
@@ -17,22 +15,26 @@ ghost use Rattle.kernel_store.specs.Storing.{storing};
 use base::{Kind, Meter, ObjectId, Refusal};
 use kernel_rules::{Entry, Gate, NewGate, Reply};
 use kernel_store::{
-    NewObject, Store, good_label, halted_at, in_container, new_bearer, of_kind, refusal_of,
+    NewObject, Said, Store, good_label, halted_at, in_container, new_bearer, of_kind, refusal_of,
     space_entry,
 };
-use label_lattice::RawLabel;
-use label_rules::{Asked, Bearer, may_enter, stored_of};
+use label_lattice::{Label, RawLabel};
+use label_rules::{Asked, Bearer, may_enter};
 
-/// What refuses to make a gate.
+/// What refuses to make a gate, whose label and clearance are the stored ones, where there are any.
 #[inline(never)]
 pub fn refused_gate_create<S: Store>(
     state: &S,
     thread: ObjectId,
     made: &NewGate,
+    label: Option<&Label>,
+    clearance: Option<&Label>,
     meter: &mut Meter,
 ) -> Option<Refusal>
+    requires label { option_copied label ≡ stored made.now.label }
+    requires clearance { option_copied clearance ≡ stored made.now.clearance }
     ensures value { result ≡ refused (S.state state.now) thread (call.GateCreate made.now) }
-    ensures meter { S.kept meter.new ≤ S.kept meter.old + 5 }
+    ensures meter { S.kept meter.new ≤ S.kept meter.old + 3 }
 {
     let space = state.sight(thread, &made.space, meter);
     let object = NewObject {
@@ -41,41 +43,50 @@ pub fn refused_gate_create<S: Store>(
         quota: made.quota,
         label: &made.label,
     };
+    let site = state.site(thread, object.kind, made.container, made.quota, meter);
+    let raw = &made.clearance;
     refusal_of(&[
         &halted_at(&space),
         &space_entry(&made.space, &space),
-        &new_bearer(state, thread, &object, &made.clearance, meter),
+        &new_bearer(
+            state, thread, &site, &object, label, raw, clearance, meter,
+        ),
     ])
 }
 
-/// Makes a gate. The error is want of memory, and nothing is changed then.
+/// Makes a gate of this label and clearance. The error is want of memory, and nothing is changed then.
 #[inline(never)]
 pub fn gate_create<S: Store>(
     state: &mut S,
     thread: ObjectId,
     made: &NewGate,
+    label: Option<&Label>,
+    clearance: Option<&Label>,
     meter: &mut Meter,
 ) -> Result<ObjectId, S::Want>
-    requires { refused (S.state state.old) thread (call.GateCreate made.now) ≡ None }
+    requires free { refused (S.state state.old) thread (call.GateCreate made.now) ≡ None }
+    requires label { option_copied label ≡ stored made.now.label }
+    requires clearance { option_copied clearance ≡ stored made.now.clearance }
+    requires label_fit { IfSome (option_copied label) IsStored }
+    requires clearance_fit { IfSome (option_copied clearance) IsStored }
     ensures object { IfOk result (λ id. told.Object id ≡ accepted (S.state state.old) thread
         (call.GateCreate made.now)) }
     ensures ok { OnOk result (S.state state.new ≡ edit (S.state state.old) thread
         (call.GateCreate made.now)) }
     ensures err { OnErr result (S.state state.new ≡ S.state state.old) }
     ensures meter { S.kept meter.new
-        ≤ S.kept meter.old + 2 + storing 2 (S.stored state.old) }
+        ≤ S.kept meter.old + storing 2 (S.stored state.old) }
 {
-    let label = stored_of(&made.label, meter);
-    let Some(clearance) = stored_of(&made.clearance, meter) else {
+    let Some(clearance) = clearance else {
         return Ok(state.next_id());
     };
     let gate = Gate {
-        clearance,
+        clearance: *clearance,
         space: made.space,
         entry_point: made.entry_point,
         closure: made.closure,
     };
-    let id = state.create_gate(made.container, label.as_ref(), made.quota, &gate, meter)?;
+    let id = state.create_gate(made.container, label, made.quota, &gate, meter)?;
     Ok(id)
 }
 
@@ -107,16 +118,25 @@ fn is_open<S: Store>(
     state: &S,
     thread: ObjectId,
     gate: ObjectId,
-    asked: &Asked,
+    said: &Said,
     meter: &mut Meter,
 ) -> bool
     ensures value { result ≡ may_enter (own_bearer (S.state state.now) thread)
-        (gate_bearer (S.state state.now) gate) asked.now }
+        (gate_bearer (S.state state.now) gate) (record {
+          label = option_copied said.now.first;
+          clearance = option_copied said.now.second;
+          verify = option_copied said.now.third;
+        }) }
     ensures meter { S.kept meter.new ≤ S.kept meter.old + 5 }
 {
     let own = own_bearer(state, thread, meter);
     let gate = gate_bearer(state, gate, meter);
-    may_enter(&own, &gate, asked, meter)
+    let asked = Asked {
+        label: said.first.copied(),
+        clearance: said.second.copied(),
+        verify: said.third.copied(),
+    };
+    may_enter(&own, &gate, &asked, meter)
 }
 
 /// The three labels that a thread asks of a gate, as they are given.
@@ -130,25 +150,6 @@ pub struct Entering<'a> {
     pub verify: &'a RawLabel,
 }
 
-/// The three labels, where they can be stored.
-fn asked_of(entering: &Entering, meter: &mut Meter) -> Asked
-    ensures value { result ≡ record {
-      label = stored entering.now.label.now;
-      clearance = stored entering.now.clearance.now;
-      verify = stored entering.now.verify.now;
-    } }
-    ensures label { IfSome result.label IsStored }
-    ensures clearance { IfSome result.clearance IsStored }
-    ensures verify { IfSome result.verify IsStored }
-    ensures scans { ScansAtMost 3 meter.old meter.new }
-{
-    Asked {
-        label: stored_of(entering.label, meter),
-        clearance: stored_of(entering.clearance, meter),
-        verify: stored_of(entering.verify, meter),
-    }
-}
-
 /// What refuses to enter a gate.
 #[inline(never)]
 pub fn refused_gate_enter<S: Store>(
@@ -156,23 +157,26 @@ pub fn refused_gate_enter<S: Store>(
     thread: ObjectId,
     gate: &Entry,
     entering: &Entering,
+    said: &Said,
     meter: &mut Meter,
 ) -> Option<Refusal>
+    requires label { option_copied said.now.first ≡ stored entering.now.label.now }
+    requires clearance { option_copied said.now.second ≡ stored entering.now.clearance.now }
+    requires verify { option_copied said.now.third ≡ stored entering.now.verify.now }
     ensures value { result ≡ refused (S.state state.now) thread
         (call.GateEnter gate.now entering.now.label.now
         entering.now.clearance.now entering.now.verify.now) }
-    ensures meter { S.kept meter.new ≤ S.kept meter.old + 8 }
+    ensures meter { S.kept meter.new ≤ S.kept meter.old + 5 }
 {
     let seen = state.sight(thread, gate, meter);
-    let asked = asked_of(entering, meter);
-    let open = is_open(state, thread, gate.object, &asked, meter);
+    let open = is_open(state, thread, gate.object, said, meter);
     refusal_of(&[
         &halted_at(&seen),
         &in_container(&seen),
         &of_kind(Kind::Gate, &seen.object),
-        &good_label(state, entering.label, asked.label.as_ref()),
-        &good_label(state, entering.clearance, asked.clearance.as_ref()),
-        &good_label(state, entering.verify, asked.verify.as_ref()),
+        &good_label(state, entering.label, said.first),
+        &good_label(state, entering.clearance, said.second),
+        &good_label(state, entering.verify, said.third),
         &[(Refusal::GateDenied, !open)],
     ])
 }
@@ -180,23 +184,24 @@ pub fn refused_gate_enter<S: Store>(
 fn enter<S: Store>(
     state: &mut S,
     thread: ObjectId,
-    asked: &Asked,
+    said: &Said,
     gate: &Option<Gate>,
     meter: &mut Meter,
 )
     requires thread { is_kind_at (S.state state.old) kinds.Thread thread ≡ true }
     requires gate { (id : ℕ) × (gate.now ≡ gate_at (S.state state.old) id) }
-    requires label { IfSome asked.now.label IsStored }
-    requires clearance { IfSome asked.now.clearance IsStored }
-    requires verify { IfSome asked.now.verify IsStored }
+    requires label { IfSome (option_copied said.now.first) IsStored }
+    requires clearance { IfSome (option_copied said.now.second) IsStored }
+    requires verify { IfSome (option_copied said.now.third) IsStored }
     ensures state { S.state state.new ≡ through_gate (S.state state.old) thread
-        asked.now.label asked.now.clearance asked.now.verify gate.now }
+        (option_copied said.now.first) (option_copied said.now.second)
+        (option_copied said.now.third) gate.now }
     ensures meter { S.kept meter.new
         ≤ S.kept meter.old + storing 3 (S.stored state.old) }
 {
-    if let Some(label) = &asked.label {
-        if let Some(clearance) = &asked.clearance {
-            if let Some(verify) = &asked.verify {
+    if let Some(label) = said.first {
+        if let Some(clearance) = said.second {
+            if let Some(verify) = said.third {
                 if let Some(gate) = gate {
                     state.enter(thread, label, clearance, verify, gate, meter);
                 }
@@ -226,12 +231,19 @@ pub fn gate_enter<S: Store>(
     thread: ObjectId,
     gate: &Entry,
     entering: &Entering,
+    said: &Said,
     reply: &mut Reply,
     meter: &mut Meter,
 )
     requires done { reply.old ≡ told.Done }
     requires free { refused (S.state state.old) thread (call.GateEnter gate.now entering.now.label.now
         entering.now.clearance.now entering.now.verify.now) ≡ None }
+    requires label { option_copied said.now.first ≡ stored entering.now.label.now }
+    requires clearance { option_copied said.now.second ≡ stored entering.now.clearance.now }
+    requires verify { option_copied said.now.third ≡ stored entering.now.verify.now }
+    requires label_fit { IfSome (option_copied said.now.first) IsStored }
+    requires clearance_fit { IfSome (option_copied said.now.second) IsStored }
+    requires verify_fit { IfSome (option_copied said.now.third) IsStored }
     ensures reply { reply.new ≡ accepted (S.state state.old) thread
         (call.GateEnter gate.now entering.now.label.now
         entering.now.clearance.now entering.now.verify.now) }
@@ -239,10 +251,10 @@ pub fn gate_enter<S: Store>(
         (call.GateEnter gate.now entering.now.label.now
         entering.now.clearance.now entering.now.verify.now) }
     ensures meter { S.kept meter.new
-        ≤ S.kept meter.old + 3 + storing 3 (S.stored state.old) }
+        ≤ S.kept meter.old + storing 3 (S.stored state.old) }
 {
-    let asked = asked_of(entering, meter);
+    let _entering = entering;
     let entered = state.gate(gate.object, meter);
-    enter(state, thread, &asked, &entered, meter);
+    enter(state, thread, said, &entered, meter);
     tell(&entered, reply);
 }

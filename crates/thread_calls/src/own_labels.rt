@@ -1,6 +1,8 @@
 //! The calls by which a thread changes its label and its clearance.
-ghost use Rattle.std.specs.Prelude.{◌≡◌, ◌≤◌, ◌+◌, None, option_copied};
-ghost use Rattle.label_rules.specs.LabelRules.{may_clear};
+#![tactic(auto, unfolding(kernel_rules::specs::Table::refused, kernel_rules::specs::Table::query_refused), using(kernel_store::proofs::SightLaws::kind_seen))]
+ghost use Rattle.std.specs.Prelude.{◌≡◌, ◌≤◌, ◌+◌, None, IfSome, option_copied};
+ghost use Rattle.label_lattice.specs.Label.{IsStored};
+ghost use Rattle.label_rules.specs.LabelRules.{may_clear, stored};
 ghost use Rattle.kernel_rules.specs.State.{label_at, clearance_at};
 ghost use Rattle.kernel_rules.specs.Step.{edit};
 ghost use Rattle.kernel_rules.specs.Table.{refused};
@@ -10,21 +12,21 @@ ghost use Rattle.kernel_store.specs.Storing.{storing};
 use base::{Meter, ObjectId, Refusal};
 use kernel_store::{Store, good_label, halted, is_in_range, refusal_of};
 use label_lattice::{Label, RawLabel};
-use label_rules::{may_clear, stored_of};
+use label_rules::may_clear;
 
-/// What refuses a new own label.
+/// What refuses a new own label, which is the stored one, where there is one.
 #[inline(never)]
 pub fn refused_self_set_label<S: Store>(
     state: &S,
     thread: ObjectId,
     raw: &RawLabel,
+    label: Option<&Label>,
     meter: &mut Meter,
 ) -> Option<Refusal>
+    requires { option_copied label ≡ stored raw.now }
     ensures value { result ≡ refused (S.state state.now) thread (call.SelfSetLabel raw.now) }
-    ensures meter { S.kept meter.new ≤ S.kept meter.old + 3 }
+    ensures meter { S.kept meter.new ≤ S.kept meter.old + 2 }
 {
-    let label = stored_of(raw, meter);
-    let label = label.as_ref();
     let in_range = is_in_range(state, thread, label, meter);
     refusal_of(&[
         &halted(state, thread, meter),
@@ -33,17 +35,25 @@ pub fn refused_self_set_label<S: Store>(
     ])
 }
 
-/// The thread has another label.
+/// The thread has another label, the stored one.
 #[inline(never)]
-pub fn self_set_label<S: Store>(state: &mut S, thread: ObjectId, raw: &RawLabel, meter: &mut Meter)
-    requires { refused (S.state state.old) thread (call.SelfSetLabel raw.now) ≡ None }
+pub fn self_set_label<S: Store>(
+    state: &mut S,
+    thread: ObjectId,
+    raw: &RawLabel,
+    label: Option<&Label>,
+    meter: &mut Meter,
+)
+    requires free { refused (S.state state.old) thread (call.SelfSetLabel raw.now) ≡ None }
+    requires label { option_copied label ≡ stored raw.now }
+    requires fit { IfSome (option_copied label) IsStored }
     ensures state { S.state state.new
         ≡ edit (S.state state.old) thread (call.SelfSetLabel raw.now) }
     ensures meter { S.kept meter.new
-        ≤ S.kept meter.old + 1 + storing 1 (S.stored state.old) }
+        ≤ S.kept meter.old + storing 1 (S.stored state.old) }
 {
-    let label = stored_of(raw, meter);
-    state.set_label(thread, label.as_ref(), meter);
+    let _raw = raw;
+    state.set_label(thread, label, meter);
 }
 
 fn may_clear_to<S: Store>(
@@ -61,19 +71,19 @@ fn may_clear_to<S: Store>(
     may_clear(label, clearance, asked, meter)
 }
 
-/// What refuses a new own clearance.
+/// What refuses a new own clearance, which is the stored one, where there is one.
 #[inline(never)]
 pub fn refused_self_set_clearance<S: Store>(
     state: &S,
     thread: ObjectId,
     raw: &RawLabel,
+    clearance: Option<&Label>,
     meter: &mut Meter,
 ) -> Option<Refusal>
+    requires { option_copied clearance ≡ stored raw.now }
     ensures value { result ≡ refused (S.state state.now) thread (call.SelfSetClearance raw.now) }
-    ensures meter { S.kept meter.new ≤ S.kept meter.old + 3 }
+    ensures meter { S.kept meter.new ≤ S.kept meter.old + 2 }
 {
-    let clearance = stored_of(raw, meter);
-    let clearance = clearance.as_ref();
     let in_range = may_clear_to(state, thread, clearance, meter);
     refusal_of(&[
         &halted(state, thread, meter),
@@ -82,19 +92,22 @@ pub fn refused_self_set_clearance<S: Store>(
     ])
 }
 
-/// The thread has another clearance.
+/// The thread has another clearance, the stored one.
 #[inline(never)]
 pub fn self_set_clearance<S: Store>(
     state: &mut S,
     thread: ObjectId,
     raw: &RawLabel,
+    clearance: Option<&Label>,
     meter: &mut Meter,
 )
+    requires clearance { option_copied clearance ≡ stored raw.now }
+    requires fit { IfSome (option_copied clearance) IsStored }
     ensures state { S.state state.new
         ≡ edit (S.state state.old) thread (call.SelfSetClearance raw.now) }
     ensures meter { S.kept meter.new
-        ≤ S.kept meter.old + 1 + storing 1 (S.stored state.old) }
+        ≤ S.kept meter.old + storing 1 (S.stored state.old) }
 {
-    let clearance = stored_of(raw, meter);
-    state.set_clearance(thread, clearance.as_ref(), meter);
+    let _raw = raw;
+    state.set_clearance(thread, clearance, meter);
 }

@@ -1,5 +1,9 @@
 //! The calls that make threads, give them an address space, and tell what they are.
-ghost use Rattle.std.specs.Prelude.{◌≡◌, ◌≤◌, ◌+◌, None, IfOk, OnOk, OnErr};
+#![tactic(auto, unfolding(kernel_rules::specs::Table::refused, kernel_rules::specs::Table::query_refused), using(kernel_store::proofs::SightLaws::kind_seen))]
+ghost use Rattle.std.specs.Prelude.{◌≡◌, ◌≤◌, ◌+◌, None, IfOk, IfSome, OnOk, OnErr};
+ghost use Rattle.std.specs.Prelude.{option_copied};
+ghost use Rattle.label_lattice.specs.Label.{IsStored};
+ghost use Rattle.label_rules.specs.LabelRules.{stored};
 ghost use Rattle.kernel_rules.specs.Step.{accepted, edit, found};
 ghost use Rattle.kernel_rules.specs.Table.{refused, query_refused};
 ghost use Rattle.kernel_rules.specs.declared.calls.Call.TheVariants as call;
@@ -10,9 +14,10 @@ ghost use Rattle.kernel_store.specs.Storing.{storing};
 use base::{Kind, Meter, ObjectId, Refusal};
 use kernel_rules::{Entry, NewThread, Reply};
 use kernel_store::{
-    NewObject, Store, halted, halted_at, in_container, new_bearer, refusal_of, space_entry,
+    NewObject, Store, halted, halted_at, halted_by, in_container, new_bearer, refusal_of,
+    space_entry,
 };
-use label_rules::stored_of;
+use label_lattice::Label;
 
 /// What refuses another address space.
 #[inline(never)]
@@ -40,16 +45,20 @@ pub fn self_set_as<S: Store>(state: &mut S, thread: ObjectId, space: &Entry, met
     state.set_space(thread, *space, meter);
 }
 
-/// What refuses to make a thread.
+/// What refuses to make a thread, whose label and clearance are the stored ones, where there are any.
 #[inline(never)]
 pub fn refused_thread_create<S: Store>(
     state: &S,
     thread: ObjectId,
     made: &NewThread,
+    label: Option<&Label>,
+    clearance: Option<&Label>,
     meter: &mut Meter,
 ) -> Option<Refusal>
+    requires label { option_copied label ≡ stored made.now.label }
+    requires clearance { option_copied clearance ≡ stored made.now.clearance }
     ensures value { result ≡ refused (S.state state.now) thread (call.ThreadCreate made.now) }
-    ensures meter { S.kept meter.new ≤ S.kept meter.old + 5 }
+    ensures meter { S.kept meter.new ≤ S.kept meter.old + 3 }
 {
     let object = NewObject {
         kind: Kind::Thread,
@@ -57,38 +66,47 @@ pub fn refused_thread_create<S: Store>(
         quota: made.quota,
         label: &made.label,
     };
+    let site = state.site(thread, object.kind, made.container, made.quota, meter);
+    let raw = &made.clearance;
     refusal_of(&[
-        &halted(state, thread, meter),
-        &new_bearer(state, thread, &object, &made.clearance, meter),
+        &halted_by(&site),
+        &new_bearer(
+            state, thread, &site, &object, label, raw, clearance, meter,
+        ),
     ])
 }
 
-/// Makes a thread. The error is want of memory, and nothing is changed then.
+/// Makes a thread of this label and clearance. The error is want of memory, and nothing is changed then.
 #[inline(never)]
 pub fn thread_create<S: Store>(
     state: &mut S,
     thread: ObjectId,
     made: &NewThread,
+    label: Option<&Label>,
+    clearance: Option<&Label>,
     meter: &mut Meter,
 ) -> Result<ObjectId, S::Want>
-    requires { refused (S.state state.old) thread (call.ThreadCreate made.now) ≡ None }
+    requires free { refused (S.state state.old) thread (call.ThreadCreate made.now) ≡ None }
+    requires label { option_copied label ≡ stored made.now.label }
+    requires clearance { option_copied clearance ≡ stored made.now.clearance }
+    requires label_fit { IfSome (option_copied label) IsStored }
+    requires clearance_fit { IfSome (option_copied clearance) IsStored }
     ensures object { IfOk result (λ id. told.Object id ≡ accepted (S.state state.old) thread
         (call.ThreadCreate made.now)) }
     ensures ok { OnOk result (S.state state.new ≡ edit (S.state state.old) thread
         (call.ThreadCreate made.now)) }
     ensures err { OnErr result (S.state state.new ≡ S.state state.old) }
     ensures meter { S.kept meter.new
-        ≤ S.kept meter.old + 2 + storing 3 (S.stored state.old) }
+        ≤ S.kept meter.old + storing 3 (S.stored state.old) }
 {
-    let label = stored_of(&made.label, meter);
-    let Some(clearance) = stored_of(&made.clearance, meter) else {
+    let Some(clearance) = clearance else {
         return Ok(state.next_id());
     };
     let id = state.create_thread(
         made.container,
-        label.as_ref(),
+        label,
         made.quota,
-        &clearance,
+        clearance,
         made.entry_point,
         meter,
     )?;

@@ -1,0 +1,146 @@
+//! What a thread sees of a container in which an object is to be listed: each id that is named is looked up once. No
+//! label is scanned.
+ghost use Rattle.std.specs.Prelude.{◌≡◌, ◌+◌, true, nat_lt, option_copied};
+ghost use Rattle.kernel_rules.specs.State.{object_at, of_object, kind_of, avoids_at, quota_at, use_of};
+ghost use Rattle.kernel_store.specs.Sights.{site_of, link_site_of};
+ghost use Rattle.arena_state.specs.States.{state_of, Finds};
+
+use crate::records::{Kept, Record};
+use crate::states::ArenaState;
+use crate::uses::pages_of;
+use base::{Kind, Meter, ObjectId};
+use kernel_rules::Entry;
+use kernel_store::{LinkSite, Site};
+
+impl ArenaState {
+    // Whether so many pages more are above the quota of what was looked up.
+    pub(crate) fn is_full(&self, id: ObjectId, found: Option<&Record>, pages: u32) -> bool
+        requires { Finds self.now id (option_copied found) }
+        ensures { result ≡ nat_lt (quota_at (state_of self.now) id)
+            (use_of (state_of self.now) id + pages) }
+    {
+        let _id = id;
+        match found {
+            Some(row) => {
+                let used = pages_of(&row.body, row.quota);
+                u64::from(row.quota) < u64::from(used) + u64::from(pages)
+            }
+            None => 0 < pages,
+        }
+    }
+
+    // The quota of what was looked up.
+    fn quota_found(&self, id: ObjectId, found: Option<&Record>) -> u32
+        requires { Finds self.now id (option_copied found) }
+        ensures { result ≡ quota_at (state_of self.now) id }
+    {
+        let _id = id;
+        match found {
+            Some(row) => row.quota,
+            None => 0,
+        }
+    }
+
+    // Whether a container that was looked up won't hold this kind.
+    fn is_avoided(&self, kind: Kind, id: ObjectId, found: Option<&Record>) -> bool
+        requires { Finds self.now id (option_copied found) }
+        ensures { result ≡ avoids_at (state_of self.now) kind id }
+    {
+        let _id = id;
+        match found {
+            Some(row) => match &row.body {
+                Kept::Container(avoid, _) => avoid.has(kind),
+                _ => false,
+            },
+            None => false,
+        }
+    }
+
+    // Whether a container won't hold an object, where both were looked up. It won't where the object is not recorded.
+    fn is_object_avoided(
+        &self,
+        container: ObjectId,
+        there: Option<&Record>,
+        id: ObjectId,
+        found: Option<&Record>,
+    ) -> bool
+        requires container { Finds self.now container (option_copied there) }
+        requires object { Finds self.now id (option_copied found) }
+        ensures { result ≡ of_object true (λ x. avoids_at (state_of self.now)
+            (kind_of x.body) container) (object_at (state_of self.now) id) }
+    {
+        let _id = id;
+        match found {
+            Some(row) => self.is_avoided(row.body.kind(), container, there),
+            None => true,
+        }
+    }
+
+    /// What a thread sees of a container in which an object of a kind and of this quota is to be listed, at two look-ups.
+    #[inline(never)]
+    pub fn site(
+        &self,
+        thread: ObjectId,
+        kind: Kind,
+        container: ObjectId,
+        quota: u32,
+        meter: &mut Meter,
+    ) -> Site
+        ensures value { result ≡ site_of (state_of self.now) thread kind container quota }
+        ensures scans { meter.new.scans ≡ meter.old.scans }
+    {
+        let thread_slot = self.slot(thread, meter);
+        let slot = self.slot(container, meter);
+        let own = self.record(thread, thread_slot);
+        let there = self.record(container, slot);
+        let seen = self.seen(thread, own, container, there);
+        Site {
+            runs: self.is_found(Kind::Thread, thread, own),
+            accessible: self.is_reached(thread, container, &seen),
+            container: seen,
+            avoided: self.is_avoided(kind, container, there),
+            full: self.is_full(container, there, quota),
+        }
+    }
+
+    /// What a thread sees of a container in which the object of an entry is to be listed too, and of the entry, at four
+    /// look-ups.
+    #[inline(never)]
+    pub fn link_site(
+        &self,
+        thread: ObjectId,
+        container: ObjectId,
+        entry: &Entry,
+        meter: &mut Meter,
+    ) -> LinkSite
+        ensures value { result ≡ link_site_of (state_of self.now) thread container entry.now }
+        ensures scans { meter.new.scans ≡ meter.old.scans }
+    {
+        let new = Entry {
+            container,
+            object: entry.object,
+        };
+        let thread_slot = self.slot(thread, meter);
+        let new_slot = self.slot(container, meter);
+        let container_slot = self.slot(entry.container, meter);
+        let object_slot = self.slot(entry.object, meter);
+        let own = self.record(thread, thread_slot);
+        let there = self.record(container, new_slot);
+        let object = self.record(entry.object, object_slot);
+        let around = self.see_found(thread, own, &new, new_slot, object_slot, meter);
+        let seen = self.see_found(thread, own, entry, container_slot, object_slot, meter);
+        let quota = self.quota_found(entry.object, object);
+        LinkSite {
+            site: Site {
+                runs: around.entry.runs,
+                accessible: around.entry.accessible,
+                container: around.container,
+                avoided: self.is_object_avoided(container, there, entry.object, object),
+                full: self.is_full(container, there, quota),
+            },
+            entry: seen.entry,
+            listed: around.entry.listed,
+            cleared: self.is_cleared_found(thread, own, entry.object, object),
+        }
+    }
+}

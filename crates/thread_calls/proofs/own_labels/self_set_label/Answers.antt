@@ -1,6 +1,0 @@
-use Rattle.std.proofs.Common.{arith}
-use Rattle.thread_calls.proofs.own_labels.self_set_label.Goals as goal
-
-pub returns-clause-meter : goal.returns-clause-meter
-returns-clause-meter g c =
-    omega (arith, g.met.S.Store.kept_scans 1 _ _ c.stored_of-label.ensures.scans)
