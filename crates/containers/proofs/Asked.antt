@@ -65,6 +65,17 @@ module _ {T : Type 0} (size root : ℕ) (r : List Lists) (names : List ℕ) (a :
     pub entry_name : get_or names slot 0 ≡ id
     entry_name = ap (λ (s : ℕ). get_or names s 0) (sym e.slot_is) ∙ kept.directory.name place e.within ∙ e.id_is
 
+  -- a slot that was found, by the view
+  module _ (t : Tree T) (is : view ≡ t) (id slot : ℕ) (h : HasSlot t id slot) where
+    pub found_entry : IsEntry a h.place id slot
+    found_entry = slot_entry id slot (subst (λ (v : Tree T). HasSlot v id slot) (sym is) h)
+
+    pub found_recorded : IsRecorded size root r slot
+    found_recorded = entry_recorded h.place id slot found_entry
+
+    pub found_name : get_or names slot 0 ≡ id
+    found_name = entry_name h.place id slot found_entry
+
   -- a link between two entries
   module _ (place id slot place' id' slot' : ℕ) (d : IsEntry a place id slot) (o : IsEntry a place' id' slot') where
     pub link_true : Lists' size r slot slot' → links (lists_of r names a.ids a.slots) id id' ≡ true

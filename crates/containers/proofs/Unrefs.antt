@@ -220,10 +220,10 @@ module _ (size root : ℕ) (r : List Lists) (names ids slots : List ℕ) (kept :
       (p.0, p.1, sym (kept.directory.name p.0 p.1) ∙ ap (λ (i : ℕ). get_or names i 0) p.2 ∙ n.o_is)
 
   module _ (j k d o : ℕ) (j_in : j < length ids) (k_in : k < length ids) (j_id : get_or ids j 0 ≡ a) (k_id : get_or ids k 0 ≡ b) (j_slot : get_or slots j 0 ≡ d) (k_slot : get_or slots k 0 ≡ o) where
-    pub d_named : get_or names d 0 ≡ a
+    d_named : get_or names d 0 ≡ a
     d_named = ap (λ (i : ℕ). get_or names i 0) (sym j_slot) ∙ kept.directory.name j j_in ∙ j_id
 
-    pub o_named : get_or names o 0 ≡ b
+    o_named : get_or names o 0 ≡ b
     o_named = ap (λ (i : ℕ). get_or names i 0) (sym k_slot) ∙ kept.directory.name k k_in ∙ k_id
 
     pub slots_listed : Lists' size r d o

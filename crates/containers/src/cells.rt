@@ -195,7 +195,7 @@ pub fn add_link(
     }
 }
 
-/// Takes a link out of its container, and then all that no path leads to any more, whose ids it lists.
+/// Takes a link out of its container, by its cell, and then all that no path leads to any more, whose ids it lists.
 pub fn cut_link<V: Visitor>(
     rings: &mut Rings<2>,
     size: usize,
@@ -203,6 +203,7 @@ pub fn cut_link<V: Visitor>(
     names: &[u64],
     container: usize,
     object: usize,
+    cell: usize,
     dead: &mut Vec<ObjectId>,
     visitor: &mut V,
     meter: &mut Meter,
@@ -215,7 +216,7 @@ pub fn cut_link<V: Visitor>(
     requires tree { IsTree size rings.old rank }
     requires simple { IsSimple size rings.old }
     requires full { sum_by length (family_at rings.old 0).lists ≡ size }
-    requires listed { Lists' size rings.old container object }
+    requires link { IsLink size rings.old container object cell }
     requires none { dead.old.items ≡ [] }
     requires room { size ≤ vec_capacity dead.old }
     ensures cut { (links : _) × (objects : _)
@@ -226,12 +227,7 @@ pub fn cut_link<V: Visitor>(
     ensures room { vec_capacity dead.new ≡ vec_capacity dead.old }
     ensures scans { meter.new.scans ≡ meter.old.scans }
 {
-    match find_link(rings, size, container, object, meter) {
-        Some(cell) => {
-            drop_link(rings, size, object, cell, meter);
-            hand_link(visitor, names, container, object);
-            sweep(rings, size, root, names, dead, visitor, meter);
-        }
-        None => unreachable!(),
-    }
+    drop_link(rings, size, object, cell, meter);
+    hand_link(visitor, names, container, object);
+    sweep(rings, size, root, names, dead, visitor, meter);
 }

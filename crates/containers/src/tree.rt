@@ -238,15 +238,42 @@ impl<T: Drop> Containers<T> {
         ensures cells { self.new.cells ≡ slice_set self.old.cells result.0 (Some value) }
         ensures scans { meter.new.scans ≡ meter.old.scans }
     {
-        match self.arena.find(container, meter) {
-            Some(d) => {
-                let slot = self.arena.insert(id, value);
-                self.names[slot.0] = id.number();
-                add_link(&mut self.rings, self.size, d.0, slot.0, meter);
-                slot
+        match self.find(container, meter) {
+            Some(slot) => {
+                let found = Located {
+                    id: container,
+                    slot,
+                };
+                self.create_in(found, id, value, meter)
             }
             None => unreachable!(),
         }
+    }
+
+    /// As `create`, in a container that was found: no id is looked up.
+    pub fn create_in(
+        &mut self,
+        container: Located,
+        id: ObjectId,
+        value: T,
+        meter: &mut Meter,
+    ) -> Slot
+        requires container { HasSlot self.old container.id container.slot.0 }
+        requires rises { All (λ i. i < id) (ids_in self.old.lists) }
+        requires slots { length (ids_in self.old.lists) < length self.old.cells }
+        requires room { link_count self.old.lists < length self.old.cells }
+        ensures lists { self.new.lists
+            ≡ add_lists self.old.lists container.id id ++ (id, []) ∷ [] }
+        ensures slots { self.new.slots ≡ self.old.slots ++ result.0 ∷ [] }
+        ensures within { result.0 < length self.old.cells }
+        ensures vacant { record_at self.old result.0 ≡ None }
+        ensures cells { self.new.cells ≡ slice_set self.old.cells result.0 (Some value) }
+        ensures scans { meter.new.scans ≡ meter.old.scans }
+    {
+        let slot = self.arena.insert(id, value);
+        self.names[slot.0] = id.number();
+        add_link(&mut self.rings, self.size, container.slot.0, slot.0, meter);
+        slot
     }
 
     /// Adds a link at the end of a container's list. That it is a container, and an older one where the object is a
@@ -261,13 +288,38 @@ impl<T: Drop> Containers<T> {
             ≡ record self.old { lists = add_lists self.old.lists container object } }
         ensures scans { meter.new.scans ≡ meter.old.scans }
     {
-        match self.arena.find(container, meter) {
-            Some(d) => match self.arena.find(object, meter) {
-                Some(o) => add_link(&mut self.rings, self.size, d.0, o.0, meter),
+        match self.find(container, meter) {
+            Some(d) => match self.find(object, meter) {
+                Some(o) => {
+                    let container = Located {
+                        id: container,
+                        slot: d,
+                    };
+                    let object = Located {
+                        id: object,
+                        slot: o,
+                    };
+                    self.link_found(container, object, meter)
+                }
                 None => unreachable!(),
             },
             None => unreachable!(),
         }
+    }
+
+    /// As `link`, where both were found: no id is looked up.
+    pub fn link_found(&mut self, container: Located, object: Located, meter: &mut Meter)
+        requires container { HasSlot self.old container.id container.slot.0 }
+        requires object { HasSlot self.old object.id object.slot.0 }
+        requires not_root { object.id ≢ 1 }
+        requires fresh { links self.old.lists container.id object.id ≡ false }
+        requires room { link_count self.old.lists < length self.old.cells }
+        ensures linked { self.new
+            ≡ record self.old { lists = add_lists self.old.lists container.id object.id } }
+        ensures scans { meter.new.scans ≡ meter.old.scans }
+    {
+        let (d, o) = (container.slot.0, object.slot.0);
+        add_link(&mut self.rings, self.size, d, o, meter);
     }
 
     /// Takes a link out of a container's list, and then all objects to which no path of entries leads any more from the
@@ -293,26 +345,75 @@ impl<T: Drop> Containers<T> {
             × IsLost self.old self.new dead }
         ensures scans { meter.new.scans ≡ meter.old.scans }
     {
-        match self.arena.find(container, meter) {
-            Some(d) => match self.arena.find(object, meter) {
+        // For the proof alone: what is listed is there.
+        self.well_formed();
+        match self.find(container, meter) {
+            Some(d) => match self.find(object, meter) {
                 Some(o) => {
-                    cut_link(
-                        &mut self.rings,
-                        self.size,
-                        self.root,
-                        &self.names,
-                        d.0,
-                        o.0,
-                        &mut self.dead,
-                        visitor,
-                        meter,
-                    );
-                    self.arena.remove_all(&self.dead, meter);
-                    self.dead.clear();
+                    let container = Located {
+                        id: container,
+                        slot: d,
+                    };
+                    let object = Located {
+                        id: object,
+                        slot: o,
+                    };
+                    let _was_listed = self.unref_found(container, object, visitor, meter);
                 }
                 None => unreachable!(),
             },
             None => unreachable!(),
+        }
+    }
+
+    /// As `unref`, where both were found and the container may list the object or not: tells whether it did. Where it did
+    /// not, nothing changes and the visitor is handed nothing. No id is looked up, and the link is looked for once.
+    pub fn unref_found<V: Visitor>(
+        &mut self,
+        container: Located,
+        object: Located,
+        visitor: &mut V,
+        meter: &mut Meter,
+    ) -> bool
+        requires container { HasSlot self.old container.id container.slot.0 }
+        requires object { HasSlot self.old object.id object.slot.0 }
+        requires tree { (a b c : ℕ) → links self.old.lists a b ≡ true
+            → links self.old.lists b c ≡ true
+            → a < b }
+        ensures told { result ≡ links self.old.lists container.id object.id }
+        ensures none { result ≡ false → self.new ≡ self.old }
+        ensures unseen { result ≡ false → visitor.new ≡ visitor.old }
+        ensures lists { result ≡ true
+            → self.new.lists ≡ live_part (cut_lists self.old.lists container.id object.id) }
+        ensures kept { result ≡ true → (id slot : ℕ) → HasSlot self.new id slot
+            → HasSlot self.old id slot × (record_at self.new slot ≡ record_at self.old slot) }
+        ensures pool { length self.new.cells ≡ length self.old.cells }
+        ensures handed { result ≡ true
+            → (went : _) × (dead : _) × IsHanded self.old self.new went dead
+            × IsTold V.link_gives V.object_gives visitor.old visitor.new went dead
+            × IsLost self.old self.new dead }
+        ensures scans { meter.new.scans ≡ meter.old.scans }
+    {
+        let (d, o) = (container.slot.0, object.slot.0);
+        match find_link(&self.rings, self.size, d, o, meter) {
+            Some(cell) => {
+                cut_link(
+                    &mut self.rings,
+                    self.size,
+                    self.root,
+                    &self.names,
+                    d,
+                    o,
+                    cell,
+                    &mut self.dead,
+                    visitor,
+                    meter,
+                );
+                self.arena.remove_all(&self.dead, meter);
+                self.dead.clear();
+                true
+            }
+            None => false,
         }
     }
 }

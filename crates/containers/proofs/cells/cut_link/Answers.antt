@@ -7,20 +7,20 @@ pub sweep-requires : goal.sweep-requires
 sweep-requires g c κs within =
     let sound = c.requires.1.1.1.0 in
     let dropped = c.drop_link.ensures.dropped in
-    let link = c.in-Some.ensures.found in (
+    let link = c.requires.1.1.1.1.1.1.1.1.0 in (
       search rules,
       (
         c.requires.1.0,
         (
           c.requires.1.1.0,
           (
-            start_cut c.args.size c.args.root c.args.rings.now c.drop_link.new.rings c.args.container c.args.object c.in-Some.cell sound link dropped,
+            start_cut c.args.size c.args.root c.args.rings.now c.drop_link.new.rings c.args.container c.args.object c.args.cell sound link dropped,
             (
-              tree_cut c.args.size c.args.root c.args.rings.now c.drop_link.new.rings c.args.container c.args.object c.in-Some.cell sound link dropped g.rank c.requires.1.1.1.1.1.0,
+              tree_cut c.args.size c.args.root c.args.rings.now c.drop_link.new.rings c.args.container c.args.object c.args.cell sound link dropped g.rank c.requires.1.1.1.1.1.0,
               (
-                simple_cut c.args.size c.args.root c.args.rings.now c.drop_link.new.rings c.args.container c.args.object c.in-Some.cell sound link dropped c.requires.1.1.1.1.1.1.0,
+                simple_cut c.args.size c.args.root c.args.rings.now c.drop_link.new.rings c.args.container c.args.object c.args.cell sound link dropped c.requires.1.1.1.1.1.1.0,
                 (
-                  total_cut c.args.size c.args.root c.args.rings.now c.drop_link.new.rings c.args.container c.args.object c.in-Some.cell sound link dropped ∙ c.requires.1.1.1.1.1.1.1.0,
+                  total_cut c.args.size c.args.root c.args.rings.now c.drop_link.new.rings c.args.container c.args.object c.args.cell sound link dropped ∙ c.requires.1.1.1.1.1.1.1.0,
                   (
                     c.requires.1.1.1.1.1.1.1.1.1.0,
                     c.requires.1.1.1.1.1.1.1.1.1.1,
@@ -39,7 +39,7 @@ returns-clause-cut g c =
     let swept = c.sweep.ensures.swept in (
       swept.0,
       swept.1,
-      cut_of c.args.size c.args.root c.args.rings.now c.drop_link.new.rings c.args.container c.args.object c.in-Some.cell sound c.in-Some.ensures.found c.drop_link.ensures.dropped c.sweep.new.rings swept.0 swept.1 c.requires.1.1.1.1.1.1.0 swept.2,
+      cut_of c.args.size c.args.root c.args.rings.now c.drop_link.new.rings c.args.container c.args.object c.args.cell sound c.requires.1.1.1.1.1.1.1.1.0 c.drop_link.ensures.dropped c.sweep.new.rings swept.0 swept.1 c.requires.1.1.1.1.1.1.0 swept.2,
       told_first g.V.Visitor.link_gives g.V.Visitor.object_gives c.args.names.now swept.0 swept.1 _ _ _ c.args.container c.args.object _ _ refl refl c.hand_link.ensures swept.3,
       swept.4,
     )
