@@ -67,7 +67,7 @@ module _ {T : Type 0} (size root : ℕ) (r : List Lists) (names : List ℕ) (a :
 
   -- a slot that was found, by the view
   module _ (t : Tree T) (is : view ≡ t) (id slot : ℕ) (h : HasSlot t id slot) where
-    pub found_entry : IsEntry a h.place id slot
+    found_entry : IsEntry a h.place id slot
     found_entry = slot_entry id slot (subst (λ (v : Tree T). HasSlot v id slot) (sym is) h)
 
     pub found_recorded : IsRecorded size root r slot
@@ -87,6 +87,20 @@ module _ {T : Type 0} (size root : ℕ) (r : List Lists) (names : List ℕ) (a :
     pub link_false : (Lists' size r slot slot' → ⊥) → links (lists_of r names a.ids a.slots) id id' ≡ false
     link_false none = never (links (lists_of r names a.ids a.slots) id id') (λ h.
         none (slots_listed size root r names a.ids a.slots kept id id' h place place' slot slot' d.within o.within d.id_is o.id_is d.slot_is o.slot_is))
+
+  -- a link between two slots that were found
+  module _ (t : Tree T) (is : view ≡ t) (id slot id' slot' : ℕ) (h : HasSlot t id slot) (h' : HasSlot t id' slot') where
+    d : IsEntry a h.place id slot
+    d = found_entry t is id slot h
+
+    o : IsEntry a h'.place id' slot'
+    o = found_entry t is id' slot' h'
+
+    pub found_true : Lists' size r slot slot' → links t.lists id id' ≡ true
+    found_true l = ap (λ (v : Tree T). links v.lists id id') (sym is) ∙ link_true h.place id slot h'.place id' slot' d o l
+
+    pub found_false : (Lists' size r slot slot' → ⊥) → links t.lists id id' ≡ false
+    found_false none = ap (λ (v : Tree T). links v.lists id id') (sym is) ∙ link_false h.place id slot h'.place id' slot' d o none
 
   -- the first link to an entry
   module _ (place id slot : ℕ) (e : IsEntry a place id slot) where

@@ -250,7 +250,7 @@ impl<T: Drop> Containers<T> {
         }
     }
 
-    /// As `create`, in a container that was found: no id is looked up.
+    /// Adds an object as `create` does, in a container that was found: no id is looked up. All else stays.
     pub fn create_in(
         &mut self,
         container: Located,
@@ -307,7 +307,7 @@ impl<T: Drop> Containers<T> {
         }
     }
 
-    /// As `link`, where both were found: no id is looked up.
+    /// Adds a link as `link` does, where both were found: no id is looked up. All else stays.
     pub fn link_found(&mut self, container: Located, object: Located, meter: &mut Meter)
         requires container { HasSlot self.old container.id container.slot.0 }
         requires object { HasSlot self.old object.id object.slot.0 }
@@ -366,8 +366,9 @@ impl<T: Drop> Containers<T> {
         }
     }
 
-    /// As `unref`, where both were found and the container may list the object or not: tells whether it did. Where it did
-    /// not, nothing changes and the visitor is handed nothing. No id is looked up, and the link is looked for once.
+    /// Takes a link out as `unref` does, where both were found and the container may list the object or not, and tells
+    /// whether it did: where it did not, all stays and the visitor is handed nothing. No id is looked up, and the link is
+    /// looked for once.
     pub fn unref_found<V: Visitor>(
         &mut self,
         container: Located,

@@ -12,7 +12,7 @@ use Rattle.containers.proofs.Removals.{directory_left, object_left}
 use Rattle.containers.proofs.Lives.{lists_live}
 use Rattle.containers.proofs.Losses.{IsShown, lost}
 use Rattle.containers.proofs.Views.{ids_are}
-use Rattle.containers.proofs.Asked.{found_name, found_entry, link_true, link_false}
+use Rattle.containers.proofs.Asked.{found_name, found_true, found_false}
 use Rattle.containers.proofs.Unrefs.{handed, slot_kept, kept_then, tree_slots}
 use Rattle.containers.proofs.tree.Containers.unref_found.Given as given
 use Rattle.containers.proofs.tree.Containers.unref_found.Goals as goal
@@ -112,19 +112,9 @@ returns-in-Some-clause-handed g c _ =
 pub returns-in-Some-clause-told : goal.returns-in-Some-clause-told
 returns-in-Some-clause-told g c =
     let a = c.self.inside in
-    let k = c.self.invariant.0 in
-    sym (link_true a.size a.root a.rings a.names.items a.arena k c.requires.container.place c.args.container.id c.args.container.slot.0 c.requires.object.place c.args.object.id c.args.object.slot.0
-    (found_entry a.size a.root a.rings a.names.items a.arena c.self.invariant.0 c.args.self.now c.self.view_is c.args.container.id c.args.container.slot.0 c.requires.container)
-    (found_entry a.size a.root a.rings a.names.items a.arena c.self.invariant.0 c.args.self.now c.self.view_is c.args.object.id c.args.object.slot.0 c.requires.object)
-    (record { cell = c.in-Some.cell; link = c.in-Some.ensures.found }))
-    ∙ ap (λ (t : Tree g.row.T.Denot). links t.lists c.args.container.id c.args.object.id) c.self.view_is
+    sym (found_true a.size a.root a.rings a.names.items a.arena c.self.invariant.0 c.args.self.now c.self.view_is c.args.container.id c.args.container.slot.0 c.args.object.id c.args.object.slot.0 c.requires.container c.requires.object (record { cell = c.in-Some.cell; link = c.in-Some.ensures.found }))
 
 pub returns-in-None-clause-told : goal.returns-in-None-clause-told
 returns-in-None-clause-told g c =
     let a = c.self.inside in
-    let k = c.self.invariant.0 in
-    sym (link_false a.size a.root a.rings a.names.items a.arena k c.requires.container.place c.args.container.id c.args.container.slot.0 c.requires.object.place c.args.object.id c.args.object.slot.0
-    (found_entry a.size a.root a.rings a.names.items a.arena c.self.invariant.0 c.args.self.now c.self.view_is c.args.container.id c.args.container.slot.0 c.requires.container)
-    (found_entry a.size a.root a.rings a.names.items a.arena c.self.invariant.0 c.args.self.now c.self.view_is c.args.object.id c.args.object.slot.0 c.requires.object)
-    c.in-None.ensures.absent)
-    ∙ ap (λ (t : Tree g.row.T.Denot). links t.lists c.args.container.id c.args.object.id) c.self.view_is
+    sym (found_false a.size a.root a.rings a.names.items a.arena c.self.invariant.0 c.args.self.now c.self.view_is c.args.container.id c.args.container.slot.0 c.args.object.id c.args.object.slot.0 c.requires.container c.requires.object c.in-None.ensures.absent)
