@@ -1,5 +1,7 @@
 //! Links between containers and objects, and without memory.
-ghost use Rattle.std.specs.Prelude.{◌≡◌, ℕ, [], ◌∷◌, IfOk, length};
+ghost use Rattle.std.specs.Prelude.{◌≡◌, ℕ, [], ◌∷◌, true, IfOk, length};
+ghost use Rattle.base.specs.Live.{has};
+ghost use Rattle.containers.specs.Tree.{ids_in, HasSlot};
 
 use base::{Meter, NoMemory, ObjectId};
 use containers::{Containers, Located, Visitor};
@@ -54,6 +56,18 @@ fn family(alloc: Global, meter: &mut Meter) -> Result<Containers<char>, NoMemory
     tree.create(root, ObjectId::new(6), 'c', meter);
     tree.link(ObjectId::new(4), ObjectId::new(6), meter);
     Ok(tree)
+}
+
+// Where an object lies that is there.
+fn found(tree: &Containers<char>, id: ObjectId, meter: &mut Meter) -> Located
+    requires there { has (ids_in tree.now.lists) id ≡ true }
+    ensures id { result.id ≡ id }
+    ensures slot { HasSlot tree.now id result.slot.0 }
+{
+    match tree.find(id, meter) {
+        Some(slot) => Located { id, slot },
+        None => unreachable!(),
+    }
 }
 
 #[test]
@@ -115,6 +129,63 @@ fn what_no_path_leads_to_goes(rt: HostRuntime) -> Result<(), Fail> {
     assert_eq!(rt; tree.find(four, &mut meter), None);
     assert_eq!(rt; tree.find(five, &mut meter), None);
     assert!(rt; tree.find(six, &mut meter).is_some());
+    Ok(())
+}
+
+#[test]
+fn a_container_that_was_found_gets_an_object(rt: HostRuntime) -> Result<(), Fail> {
+    let mut meter = Meter::new(rt.alloc())?;
+    let mut tree = Containers::boot(rt.alloc(), 2, 'r')?;
+    let root = found(&tree, ObjectId::root(), &mut meter);
+    let slot = tree.create_in(root, ObjectId::new(6), 'c', &mut meter);
+    assert!(rt; agree(tree.find(ObjectId::new(6), &mut meter), Some(slot)));
+    assert!(rt; is_true(tree.is_listed(ObjectId::root(), ObjectId::new(6), &mut meter)));
+    Ok(())
+}
+
+#[test]
+fn a_link_is_made_where_both_were_found(rt: HostRuntime) -> Result<(), Fail> {
+    let mut meter = Meter::new(rt.alloc())?;
+    let mut tree = Containers::boot(rt.alloc(), 3, 'r')?;
+    let [root, four, five] = [1, 4, 5].map(ObjectId::new);
+    tree.create(root, four, 'a', &mut meter);
+    tree.create(root, five, 'b', &mut meter);
+    let container = found(&tree, four, &mut meter);
+    let object = found(&tree, five, &mut meter);
+    tree.link_found(container, object, &mut meter);
+    assert!(rt; is_true(tree.is_listed(four, five, &mut meter)));
+    assert!(rt; is_true(!tree.is_listed(five, four, &mut meter)));
+    Ok(())
+}
+
+#[test]
+fn a_link_that_was_found_goes(rt: HostRuntime) -> Result<(), Fail> {
+    let mut meter = Meter::new(rt.alloc())?;
+    let mut tree = family(rt.alloc(), &mut meter)?;
+    let mut seen = nothing_seen();
+    let root = found(&tree, ObjectId::root(), &mut meter);
+    let four = found(&tree, ObjectId::new(4), &mut meter);
+    assert!(rt; is_true(tree.unref_found(root, four, &mut seen, &mut meter)));
+    assert!(rt; agree(seen.links, 3));
+    assert!(rt; agree(seen.len, 2));
+    assert!(rt; agree(tree.len(), 2));
+    Ok(())
+}
+
+// The walk reads the number of links to the object, its one link, that link's container, and that there is no next one.
+#[test]
+fn where_there_is_no_link_nothing_goes(rt: HostRuntime) -> Result<(), Fail> {
+    let mut meter = Meter::new(rt.alloc())?;
+    let mut tree = family(rt.alloc(), &mut meter)?;
+    let mut seen = nothing_seen();
+    let root = found(&tree, ObjectId::root(), &mut meter);
+    let five = found(&tree, ObjectId::new(5), &mut meter);
+    let before = meter.probes();
+    assert!(rt; is_true(!tree.unref_found(root, five, &mut seen, &mut meter)));
+    assert!(rt; agree(meter.probes().saturating_sub(before), 4));
+    assert!(rt; agree(seen.links, 0));
+    assert!(rt; agree(seen.len, 0));
+    assert!(rt; agree(tree.len(), 4));
     Ok(())
 }
 
