@@ -1,5 +1,5 @@
 -- The place of a category in exceptions, and what is made there.
-use Rattle.std.proofs.Common.{◌≡◌, ◌≢◌, ℕ, zero, suc, ◌<◌, ◌≤◌, Bool, true, false, List, [], ◌∷◌}
+use Rattle.std.proofs.Common.{◌≡◌, ◌≢◌, ℕ, zero, suc, ◌<◌, ◌≤◌, Bool, true, false, List, [], ◌∷◌, inl, inr, ◌-◌}
 use Rattle.std.proofs.Common.{◌++◌, length, take, drop, get_or, refl, sym, ap, ◌∙◌, arith, ◌==◌, nat_lt, nat_le}
 use Rattle.std.specs.List.{insert, remove}
 use Rattle.std.proofs.lemmas.List.{take-append-drop, length-set}
@@ -13,6 +13,7 @@ use Rattle.label_lattice.specs.Columns.{filler, has_at}
 use Rattle.label_lattice.proofs.PlacedLemmas.{placed-found, placed-not_found, lt_true, lt_false}
 use Rattle.label_lattice.proofs.PlacedLemmas.{eq_false}
 use Rattle.std.proofs.Common.{eq-eqb, ◌&&◌}
+use Rattle.label_lattice.proofs.LabelLemmas.{bool_cases}
 use Rattle.std.proofs.lemmas.Bool.{eqb-true}
 use Rattle.std.proofs.lemmas.Bool.Decides.{nat_tests}
 use Rattle.std.proofs.lemmas.List.Edits.{length-insert, length-remove}
@@ -63,6 +64,26 @@ and_right false y e = absurd (let f : false ≡ true = e in cc)
 
 lt_means : (m n : ℕ) → nat_lt m n ≡ true → m < n
 lt_means m n e = grind (arith, nat_tests)
+
+lt_fails : (m n : ℕ) → nat_lt m n ≡ false → n ≤ m
+lt_fails m n e = grind (arith, nat_tests)
+
+-- a category comes after those of all pairs where it is above the last one
+pub past_last : (c : ℕ) (ps : List Pair) → IsRising ps → (length ps ≡ 0 → ⊥)
+    → nat_lt (get_or ps (length ps - 1) filler).category.0 c ≡ (place_in c ps == length ps)
+past_last c ps rising some =
+    let within : length ps - 1 < length ps = omega (arith, some) in
+    let few : place_in c ps ≤ length ps = place_in-length c ps in
+    elim (bool_cases (nat_lt (get_or ps (length ps - 1) filler).category.0 c)) [
+      | inl low ↦
+          let behind : length ps - 1 < place_in c ps =
+          place_in-gt c (length ps - 1) ps filler rising within (lt_means _ _ low) in
+          rw low (sym (eq-eqb (place_in c ps) (length ps) (omega arith)))
+      | inr high ↦
+          let before : place_in c ps ≤ length ps - 1 =
+          place_in-le c (length ps - 1) ps filler within (lt_fails _ _ high) in
+          rw high (sym (eq_false (place_in c ps) (length ps) (omega arith)))
+    ]
 
 -- what the test of a place says
 pub has_at-true : (ps : List Pair) (i c : ℕ) → true ≡ has_at ps i c
@@ -141,3 +162,39 @@ module _ (d : Level) (p : Pair) (ps : List Pair) (i : ℕ) (at : i ≡ place_in 
 
   pub room-stays : rank_of p.level ≡ rank_of d → true ≡ nat_le (length (placed d p ps)) 16
   room-stays same = rw (← placed-stays same) (fits (length ps) few)
+
+insert_last : (ps : List Pair) (p : Pair) → insert ps (length ps) p ≡ ps ++ p ∷ []
+insert_last [] p = refl
+insert_last (q ∷ qs) p = ap (λ (r : List Pair). q ∷ r) (insert_last qs p)
+
+-- and one that comes after those of all pairs
+module _ (d : Level) (p : Pair) (ps : List Pair) (at : place_in p.category.0 ps ≡ length ps)
+    (few : length ps ≤ 16) where
+  nowhere : false ≡ has_at ps (length ps) p.category.0
+  nowhere = rw (lt_false (length ps) (length ps) (omega arith)) refl
+
+  within_all : length ps ≤ length ps
+  within_all = omega arith
+
+  pub last-placed : (rank_of p.level ≡ rank_of d → ⊥) → ps ++ p ∷ [] ≡ placed d p ps
+  last-placed differs =
+      sym (insert_last ps p)
+      ∙ placed-insert d p ps (length ps) (sym at) few within_all nowhere differs
+
+  pub last-stays : rank_of p.level ≡ rank_of d → ps ≡ placed d p ps
+  last-stays same = placed-stays d p ps (length ps) (sym at) few within_all nowhere same
+
+  pub last-room : (rank_of p.level ≡ rank_of d → ⊥) → (length ps ≡ 16 → ⊥)
+      → true ≡ nat_le (length (placed d p ps)) 16
+  last-room differs room =
+      room-insert d p ps (length ps) (sym at) few within_all nowhere differs room
+
+  pub last-full : (rank_of p.level ≡ rank_of d → ⊥) → length ps ≡ 16
+      → false ≡ nat_le (length (placed d p ps)) 16
+  last-full differs full =
+      room-full d p ps (length ps) (sym at) few within_all nowhere differs full
+
+  pub last-room-stays : rank_of p.level ≡ rank_of d
+      → true ≡ nat_le (length (placed d p ps)) 16
+  last-room-stays same =
+      room-stays d p ps (length ps) (sym at) few within_all nowhere same

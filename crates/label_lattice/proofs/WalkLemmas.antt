@@ -10,7 +10,8 @@ use Rattle.base.specs.declared.levels.Level.{Level}
 use Rattle.label_lattice.specs.declared.pairings.Pair.{Pair}
 use Rattle.label_lattice.specs.Columns.{filler}
 use Rattle.label_lattice.specs.Levels.{level_at, next_of, IsRising, IsAbove}
-use Rattle.label_lattice.specs.Walk.{Takes, TakesBoth, comes_first, category_at, HoldsEverywhere}
+use Rattle.label_lattice.specs.Walk.{Takes, TakesBoth, meets, comes_first, category_at}
+use Rattle.label_lattice.specs.Walk.{HoldsEverywhere}
 use Rattle.std.proofs.Common.{slice_index_or}
 
 -- both parts of a conjunction
@@ -198,6 +199,15 @@ compare_all t da db a b i j r on past_a past_b = (
   λ whole. on.so_far whole,
 )
 
+-- the end where it did not hold so far
+pub compare_never : (t : Level → Level → Level → Bool) (da db : Level) (a b : List Pair)
+    (i j : ℕ) (r : Bool) → ComparesOn t da db a b i j r → r ≡ false
+    → IsTrue r ↔ HoldsEverywhere t da a db b db b
+compare_never t da db a b i j r on none = (
+  λ h. absurd (let e : false ≡ true = sym none ∙ h in cc),
+  λ whole. on.so_far whole,
+)
+
 -- a number below the place's category is below all that is left
 IsAbove-left : (ps : List Pair) (i m : ℕ) → IsRising ps → (i < length ps → m < category_at ps i)
     → IsAbove m (drop i ps)
@@ -216,15 +226,22 @@ first_yes a i b j h =
     let within : i < length a = grind (arith, nat_tests) in
     (within, λ in_b. grind (arith, nat_tests))
 
--- and that neither's does
-pub first_no : (a : List Pair) (i : ℕ) (b : List Pair) (j : ℕ) → comes_first a i b j ≡ false
-    → comes_first b j a i ≡ false → (i < length a) ⊎ (j < length b)
+-- what it says that both have one
+pub meets_yes : (a : List Pair) (i : ℕ) (b : List Pair) (j : ℕ) → IsTrue (meets a i b j)
     → (i < length a) × (j < length b) × (category_at a i ≡ category_at b j)
-first_no a i b j one other some = (
+meets_yes a i b j h = (
   grind (arith, nat_tests),
   grind (arith, nat_tests),
   grind (arith, nat_tests),
 )
+
+-- and that neither that nor the first's does
+pub first_no : (a : List Pair) (i : ℕ) (b : List Pair) (j : ℕ) → meets a i b j ≡ false
+    → comes_first a i b j ≡ false → (i < length a) ⊎ (j < length b)
+    → (j < length b) × (i < length a → category_at b j < category_at a i)
+first_no a i b j one other some =
+    let within : j < length b = grind (arith, nat_tests) in
+    (within, λ in_a. grind (arith, nat_tests))
 
 module _ (da db : Level) (a b : List Pair) (i j : ℕ) where
   -- the first list's category is taken
@@ -242,18 +259,17 @@ module _ (da db : Level) (a b : List Pair) (i j : ℕ) where
       }
 
   -- the second's is
-  pub takes_second : IsRising a → IsRising b → IsTrue (comes_first b j a i)
+  pub takes_second : IsRising a → IsRising b → j < length b
+      → (i < length a → category_at b j < category_at a i)
       → TakesBoth da (drop i a) db (drop j b) da (slice_index_or b j filler).level
       (drop i a) (drop (suc j) b)
-  takes_second rising_a rising_b first =
-      let yes = first_yes b j a i first in
-      record {
-        category = category_at b j;
-        first =
-            Takes-none da (drop i a) (category_at b j)
-            (IsAbove-left a i (category_at b j) rising_a yes.1);
-        second = Takes-at db b j (category_at b j) filler rising_b yes.0 refl;
-      }
+  takes_second rising_a rising_b within first = record {
+    category = category_at b j;
+    first =
+        Takes-none da (drop i a) (category_at b j)
+        (IsAbove-left a i (category_at b j) rising_a first);
+    second = Takes-at db b j (category_at b j) filler rising_b within refl;
+  }
 
   -- one that both have is
   pub takes_both : IsRising a → IsRising b → i < length a → j < length b

@@ -34,6 +34,7 @@ pub fn has_star_in(levels: &[Level]) -> bool
 }
 
 /// Whether a category stands in the list.
+#[inline(never)]
 fn has_category(category: u64, categories: &[Category]) -> bool
     ensures { result ≡ list_any (λ c. c.0 == category) categories.now }
 {
@@ -69,9 +70,39 @@ fn place_of(pairs: &Pairs<16>, category: u64) -> usize
     place
 }
 
-/// Gives a category of the exceptions a level, where there is room. Otherwise they stay as they
-/// are, and the answer is no.
-pub fn place(exceptions: &mut Pairs<16>, default: Level, pair: Pair) -> bool
+/// Whether a category comes after those of all pairs.
+#[inline(always)]
+fn is_past(pairs: &Pairs<16>, category: u64) -> bool
+    requires { IsRising pairs.now }
+    ensures { result ≡ (place_in category pairs.now == length pairs.now) }
+{
+    let many = pairs.len();
+    many == 0 || pairs.pair_at(many - 1).category.0 < category
+}
+
+/// What `place` does with a category that comes after all exceptions: no other moves.
+#[inline(always)]
+fn place_last(exceptions: &mut Pairs<16>, default: Level, pair: Pair) -> bool
+    requires { place_in pair.category.0 exceptions.old ≡ length exceptions.old }
+    ensures room { result ≡ nat_le (length (placed default pair exceptions.old)) 16 }
+    ensures placed { exceptions.new
+        ≡ (if result then placed default pair exceptions.old else exceptions.old) }
+{
+    let many = exceptions.len();
+    if pair.level.rank() == default.rank() {
+        return true;
+    }
+    if many == MOST {
+        return false;
+    }
+    exceptions.push(pair);
+    true
+}
+
+/// What `place` does with any other: it is looked for, and those behind it move.
+#[cold]
+#[inline(never)]
+fn place_among(exceptions: &mut Pairs<16>, default: Level, pair: Pair) -> bool
     requires { IsRising exceptions.old }
     ensures room { result ≡ nat_le (length (placed default pair exceptions.old)) 16 }
     ensures placed { exceptions.new
@@ -97,8 +128,25 @@ pub fn place(exceptions: &mut Pairs<16>, default: Level, pair: Pair) -> bool
     true
 }
 
+/// Gives a category of the exceptions a level, where there is room. Otherwise they stay as they
+/// are, and the answer is no.
+#[inline(always)]
+pub fn place(exceptions: &mut Pairs<16>, default: Level, pair: Pair) -> bool
+    requires { IsRising exceptions.old }
+    ensures room { result ≡ nat_le (length (placed default pair exceptions.old)) 16 }
+    ensures placed { exceptions.new
+        ≡ (if result then placed default pair exceptions.old else exceptions.old) }
+{
+    if is_past(exceptions, pair.category.0) {
+        place_last(exceptions, default, pair)
+    } else {
+        place_among(exceptions, default, pair)
+    }
+}
+
 /// The exceptions of pairs in any order, put into an empty list, unless a category stands there
 /// twice or too many differ from the default. Then the answer is no.
+#[inline(always)]
 pub fn collect(exceptions: &mut Pairs<16>, default: Level, pairs: &Pairs<24>) -> bool
     requires { exceptions.old ≡ [] }
     ensures value { (if result then Some exceptions.new else None) ≡ collected_all default pairs.now }

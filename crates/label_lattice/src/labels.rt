@@ -29,8 +29,8 @@ use std::marker::Model;
 /// list of the exceptions.
 #[derive(Clone, Copy)]
 pub struct Label {
-    default: Level,
     exceptions: Pairs<16>,
+    default: Level,
 }
 
 impl Model for Label {
@@ -50,6 +50,7 @@ impl Label {
     /// The label that a raw label says, where that is good: its default is 0 to 3, no category
     /// stands in it twice, and at most 16 pairs differ from the default (this profile's rule).
     /// Otherwise the refusal is `BadLabel`. It adds one scan.
+    #[inline(always)]
     pub fn from_raw(raw: &RawLabel, meter: &mut Meter) -> Result<Label, Refusal>
         ensures scan { meter.new ≡ scanned 1 meter.old }
         ensures value { result ≡ (if is_bad raw.now then Err BadLabel else Ok (stored_of raw.now)) }

@@ -61,6 +61,7 @@ impl<const N: usize> Pairs<N> {
     }
 
     /// How many stand in it: 0 to N.
+    #[inline(always)]
     pub fn len(&self) -> usize
         ensures value { result ≡ length self.now }
         ensures few { result ≤ N }
@@ -70,6 +71,7 @@ impl<const N: usize> Pairs<N> {
     }
 
     /// The pair at a place, from 0 and below the length.
+    #[inline(always)]
     pub fn pair_at(&self, place: usize) -> Pair
         requires { place < length self.now }
         ensures { result ≡ slice_index_or self.now place filler }
@@ -81,6 +83,7 @@ impl<const N: usize> Pairs<N> {
     }
 
     /// Whether a pair stands at a place and has a category.
+    #[inline(always)]
     pub(crate) fn has_at(&self, place: usize, category: u64) -> bool
         ensures value { result ≡ has_at self.now place category }
         ensures within { IsTrue result → place < N }
@@ -89,6 +92,7 @@ impl<const N: usize> Pairs<N> {
     }
 
     /// The categories of the pairs, in their order.
+    #[inline(always)]
     pub(crate) fn categories(&self) -> &[Category]
         ensures { result.now ≡ map (λ p. p.category) self.now }
     {
@@ -96,6 +100,7 @@ impl<const N: usize> Pairs<N> {
     }
 
     /// The levels of the pairs, in their order.
+    #[inline(always)]
     pub(crate) fn levels(&self) -> &[Level]
         ensures { result.now ≡ map (λ p. p.level) self.now }
     {
@@ -104,6 +109,7 @@ impl<const N: usize> Pairs<N> {
 
     /// Puts a pair at the end, where fewer than N stand. Whether there is room is told by the
     /// length.
+    #[inline(always)]
     pub fn push(&mut self, pair: Pair)
         requires { length self.old < N }
         ensures { self.new ≡ self.old ++ pair ∷ [] }

@@ -5,7 +5,7 @@ ghost use Rattle.std.specs.Prelude.{length, drop};
 ghost use Rattle.std.specs.Int.{bit_at};
 ghost use Rattle.label_lattice.specs.Levels.{next_of, IsRising};
 ghost use Rattle.label_lattice.specs.Rule.{rule_test, up_rank, down_rank};
-ghost use Rattle.label_lattice.specs.Walk.{Takes, TakesBoth, comes_first, HoldsEverywhere};
+ghost use Rattle.label_lattice.specs.Walk.{Takes, TakesBoth, meets, comes_first, HoldsEverywhere};
 ghost use Rattle.label_lattice.specs.Ways.{both_test};
 
 use crate::pairings::Pairs;
@@ -105,16 +105,25 @@ struct Turn {
     j: usize,
 }
 
+/// Whether two lists have pairs at places whose category is one.
+#[inline(always)]
+fn meets(a: &Pairs<16>, i: usize, b: &Pairs<16>, j: usize) -> bool
+    ensures { result ≡ meets a.now i b.now j }
+{
+    i < a.len() && j < b.len() && a.pair_at(i).category.0 == b.pair_at(j).category.0
+}
+
 /// Whether a list has a pair at a place whose category comes before all that are left in the other.
+#[inline(always)]
 fn comes_first(a: &Pairs<16>, i: usize, b: &Pairs<16>, j: usize) -> bool
-    ensures first { result ≡ comes_first a.now i b.now j }
-    ensures few { length a.now ≤ 16 }
+    ensures { result ≡ comes_first a.now i b.now j }
 {
     i < a.len() && (j >= b.len() || a.pair_at(i).category.0 < b.pair_at(j).category.0)
 }
 
 /// The levels of the least category that is left in a list, and the places after it. The other list
 /// has it, or its default stands for it.
+#[inline(always)]
 fn take_least(
     a_default: Level,
     a: &Pairs<16>,
@@ -134,25 +143,27 @@ fn take_least(
     ensures b_within { result.j ≤ length b.now }
     ensures onward { i + j < result.i + result.j }
 {
-    if comes_first(a, i, b, j) {
+    // For the proof alone: that the lists are short is known once their lengths are read.
+    let (_, _) = (a.len(), b.len());
+    if meets(a, i, b, j) {
+        Turn {
+            a: a.pair_at(i).level,
+            b: b.pair_at(j).level,
+            i: i + 1,
+            j: j + 1,
+        }
+    } else if comes_first(a, i, b, j) {
         Turn {
             a: a.pair_at(i).level,
             b: b_default,
             i: i + 1,
             j,
         }
-    } else if comes_first(b, j, a, i) {
+    } else {
         Turn {
             a: a_default,
             b: b.pair_at(j).level,
             i,
-            j: j + 1,
-        }
-    } else {
-        Turn {
-            a: a.pair_at(i).level,
-            b: b.pair_at(j).level,
-            i: i + 1,
             j: j + 1,
         }
     }
@@ -173,11 +184,11 @@ pub fn compare_everywhere(a_default: Level, a: &Pairs<16>, b_default: Level, b: 
     let mut i = 0;
     let mut j = 0;
     while i < a.len() || j < b.len() {
+        let turn = take_least(a_default, a, i, b_default, b, j);
+        held &= compare_levels(turn.a, turn.b);
         if held == 0 {
             return 0;
         }
-        let turn = take_least(a_default, a, i, b_default, b, j);
-        held &= compare_levels(turn.a, turn.b);
         i = turn.i;
         j = turn.j;
     }

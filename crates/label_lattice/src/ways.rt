@@ -26,6 +26,7 @@ static HELD: [u8; 25] = [
 ];
 
 /// How the levels of one category compare, as one sum: the bits forth, and eight times those back.
+#[inline(always)]
 pub fn compare_levels(a: Level, b: Level) -> u8
     ensures { result ≡ both_bits a b }
 {

@@ -9,6 +9,7 @@ use label_lattice::{Label, RawLabel};
 
 /// The stored label of a raw label, where it has one.
 #[tactic(auto, unfolding(crate::specs::LabelRules::stored))]
+#[inline(always)]
 pub fn stored_of(raw: &RawLabel, meter: &mut Meter) -> Option<Label>
     ensures stored { result ≡ stored raw.now }
     ensures fit { IfSome result IsStored }

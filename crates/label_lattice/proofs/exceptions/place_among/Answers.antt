@@ -2,7 +2,7 @@ use Rattle.label_lattice.proofs.PlaceLemmas.{placed-set, placed-remove, room-set
 use Rattle.label_lattice.proofs.PlaceLemmas.{placed-insert, placed-stays, room-insert, room-full}
 use Rattle.label_lattice.proofs.PlaceLemmas.{room-stays}
 use Rattle.std.proofs.Common.{◌∙◌}
-use Rattle.label_lattice.proofs.exceptions.place.Goals as goal
+use Rattle.label_lattice.proofs.exceptions.place_among.Goals as goal
 
 pub returns-then-differs-clause-room : goal.returns-then-differs-clause-room
 returns-then-differs-clause-room c =
