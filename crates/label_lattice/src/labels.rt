@@ -50,7 +50,6 @@ impl Label {
     /// The label that a raw label says, where that is good: its default is 0 to 3, no category
     /// stands in it twice, and at most 16 pairs differ from the default (this profile's rule).
     /// Otherwise the refusal is `BadLabel`. It adds one scan.
-    #[inline(always)]
     pub fn from_raw(raw: &RawLabel, meter: &mut Meter) -> Result<Label, Refusal>
         ensures scan { meter.new ≡ scanned 1 meter.old }
         ensures value { result ≡ (if is_bad raw.now then Err BadLabel else Ok (stored_of raw.now)) }
@@ -58,17 +57,32 @@ impl Label {
         ensures levels { IfOk result
             (λ l. (c : ℕ) → level_of l c ≡ level_at raw.now.default raw.now.pairs c) }
     {
+        match Label::if_good(raw, meter) {
+            Some(label) => Ok(label),
+            None => Err(Refusal::BadLabel),
+        }
+    }
+
+    /// The label that a raw label says, where that is good, as `from_raw` has it, and `None` where
+    /// that refuses it. It adds one scan.
+    pub fn if_good(raw: &RawLabel, meter: &mut Meter) -> Option<Label>
+        ensures scan { meter.new ≡ scanned 1 meter.old }
+        ensures value { result ≡ (if is_bad raw.now then None else Some (stored_of raw.now)) }
+        ensures stored { IfSome result IsStored }
+        ensures levels { IfSome result
+            (λ l. (c : ℕ) → level_of l c ≡ level_at raw.now.default raw.now.pairs c) }
+    {
         meter.scan();
         if raw.default.rank() == 0 {
-            return Err(Refusal::BadLabel);
+            return None;
         }
         let mut exceptions = Pairs::new();
         if !collect(&mut exceptions, raw.default, &raw.pairs) {
-            return Err(Refusal::BadLabel);
+            return None;
         }
-        Ok(Label {
-            default: raw.default,
+        Some(Label {
             exceptions,
+            default: raw.default,
         })
     }
 

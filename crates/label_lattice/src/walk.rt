@@ -5,7 +5,8 @@ ghost use Rattle.std.specs.Prelude.{length, drop};
 ghost use Rattle.std.specs.Int.{bit_at};
 ghost use Rattle.label_lattice.specs.Levels.{next_of, IsRising};
 ghost use Rattle.label_lattice.specs.Rule.{rule_test, up_rank, down_rank};
-ghost use Rattle.label_lattice.specs.Walk.{Takes, TakesBoth, meets, comes_first, HoldsEverywhere};
+ghost use Rattle.label_lattice.specs.Walk.{Takes, TakesBoth, meets, comes_first, category_at};
+ghost use Rattle.label_lattice.specs.Walk.{HoldsEverywhere};
 ghost use Rattle.label_lattice.specs.Ways.{both_test};
 
 use crate::pairings::Pairs;
@@ -113,6 +114,16 @@ fn meets(a: &Pairs<16>, i: usize, b: &Pairs<16>, j: usize) -> bool
     i < a.len() && j < b.len() && a.pair_at(i).category.0 == b.pair_at(j).category.0
 }
 
+/// Whether two lists have one category at a place.
+#[inline(always)]
+fn has_same(a: &Pairs<16>, b: &Pairs<16>, i: usize) -> bool
+    requires a_within { i < length a.now }
+    requires b_within { i < length b.now }
+    ensures { result ≡ (category_at a.now i == category_at b.now i) }
+{
+    a.pair_at(i).category.0 == b.pair_at(i).category.0
+}
+
 /// Whether a list has a pair at a place whose category comes before all that are left in the other.
 #[inline(always)]
 fn comes_first(a: &Pairs<16>, i: usize, b: &Pairs<16>, j: usize) -> bool
@@ -171,8 +182,9 @@ fn take_least(
 
 /// How two labels compare each way, each a default and its exceptions: the sum of those bits of
 /// `compare_levels` that are there at each category. Each turn compares the levels of the least
-/// category that is left in a list, and the defaults stand for all that are in none. Once no bit is
-/// left, that is the answer.
+/// category that is left in a list, and the defaults stand for all that are in none. As long as both
+/// lists have the same categories, one place stands for both. Once no bit is left, that is the
+/// answer.
 pub fn compare_everywhere(a_default: Level, a: &Pairs<16>, b_default: Level, b: &Pairs<16>) -> u8
     requires a_rising { IsRising a.now }
     requires b_rising { IsRising b.now }
@@ -181,8 +193,13 @@ pub fn compare_everywhere(a_default: Level, a: &Pairs<16>, b_default: Level, b: 
         HoldsEverywhere (both_test k) a_default a.now b_default b.now b_default b.now }
 {
     let mut held = compare_levels(a_default, b_default);
+    let least = a.len().min(b.len());
     let mut i = 0;
-    let mut j = 0;
+    while held != 0 && i < least && has_same(a, b, i) {
+        held &= compare_levels(a.pair_at(i).level, b.pair_at(i).level);
+        i += 1;
+    }
+    let mut j = i;
     while i < a.len() || j < b.len() {
         let turn = take_least(a_default, a, i, b_default, b, j);
         held &= compare_levels(turn.a, turn.b);

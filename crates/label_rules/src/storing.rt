@@ -15,10 +15,7 @@ pub fn stored_of(raw: &RawLabel, meter: &mut Meter) -> Option<Label>
     ensures fit { IfSome result IsStored }
     ensures scans { ScansAtMost 1 meter.old meter.new }
 {
-    match Label::from_raw(raw, meter) {
-        Ok(label) => Some(label),
-        Err(_) => None,
-    }
+    Label::if_good(raw, meter)
 }
 
 /// The label with a category at a level, where it has room for it.

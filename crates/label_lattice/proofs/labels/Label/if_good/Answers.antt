@@ -2,7 +2,7 @@ use Rattle.std.proofs.Common.{ap, ◌∙◌, refl}
 use Rattle.base.specs.Level.{rank_of}
 use Rattle.label_lattice.proofs.CollectLemmas.{collected_from, collected-levels}
 use Rattle.label_lattice.proofs.CollectLemmas.{stored_from_collected}
-use Rattle.label_lattice.proofs.labels.Label.from_raw.Goals as goal
+use Rattle.label_lattice.proofs.labels.Label.if_good.Goals as goal
 
 pub invariant_of-result : goal.invariant_of-result
 invariant_of-result c =
