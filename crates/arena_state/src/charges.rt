@@ -10,6 +10,7 @@ ghost use Rattle.arena_state.specs.States.{state_of};
 use crate::records::{charge, discharge, requote};
 use crate::states::ArenaState;
 use base::{Meter, ObjectId};
+use containers::Located;
 use kernel_rules::Entry;
 
 impl ArenaState {
@@ -33,7 +34,15 @@ impl ArenaState {
             Some(parent) => match self.slot(entry.object, meter) {
                 Some(object) => {
                     let pages = self.pieces.holdings.records[object.0].quota;
-                    self.pieces.places.link(container, entry.object, meter);
+                    let target = Located {
+                        id: container,
+                        slot: parent,
+                    };
+                    let linked = Located {
+                        id: entry.object,
+                        slot: object,
+                    };
+                    self.pieces.places.link_found(target, linked, meter);
                     let _count = self.pieces.places.len();
                     let charged = &mut self.pieces.holdings.records[parent.0];
                     let most = charged.quota;

@@ -1,11 +1,9 @@
 //! Tests of the labels of stored objects, by the order bits that are kept. No label is scanned.
-ghost use Rattle.std.specs.Prelude.{◌≡◌, ◌==◌, ◌≤◌, ◌+◌, ◌<◌, IsSome, IfSome, option_copied, true};
+ghost use Rattle.std.specs.Prelude.{◌≡◌, ◌==◌, ◌≤◌, ◌+◌, ◌<◌, IsSome, option_copied};
 ghost use Rattle.std.specs.Int.RustNames.{bit_and};
-ghost use Rattle.base.specs.declared.kinds.Kind.TheVariants as kinds;
 ghost use Rattle.label_rules.specs.LabelRules.{both, below, visible, shown};
 ghost use Rattle.label_intern.specs.Held.{held_at, label_of};
-ghost use Rattle.kernel_rules.specs.State.{label_at, clearance_at, observes, flows_to};
-ghost use Rattle.kernel_rules.specs.State.{is_live_kind, is_accessible};
+ghost use Rattle.kernel_rules.specs.State.{label_at, clearance_at, is_live_kind};
 ghost use Rattle.arena_state.specs.States.{state_of, find_cost, label_found, Finds, IsLabelled};
 
 use crate::records::{Kept, Record};
@@ -97,26 +95,6 @@ impl ArenaState {
         }
     }
 
-    /// Whether a thread observes an object.
-    pub fn observes(&self, thread: ObjectId, id: ObjectId, meter: &mut Meter) -> bool
-        ensures value { result ≡ observes (state_of self.now) thread id }
-        ensures scans { meter.new.scans ≡ meter.old.scans }
-    {
-        let own = self.row(thread, meter);
-        let other = self.row(id, meter);
-        self.observed(own, other)
-    }
-
-    /// Whether a thread's label is at most an object's.
-    pub fn flows_to(&self, thread: ObjectId, id: ObjectId, meter: &mut Meter) -> bool
-        ensures value { result ≡ flows_to (state_of self.now) thread id }
-        ensures scans { meter.new.scans ≡ meter.old.scans }
-    {
-        let own = self.row(thread, meter);
-        let other = self.row(id, meter);
-        self.flowing(own, other)
-    }
-
     // Whether the label of an object is at most the clearance of a thread, where both were looked up.
     pub(crate) fn is_cleared_found(
         &self,
@@ -178,14 +156,5 @@ impl ArenaState {
         ensures probes { meter.new.probes ≤ meter.old.probes + find_cost self.now }
     {
         self.is_kind(kind, id, meter)
-    }
-
-    /// Whether an id is that of a live container that the thread observes.
-    pub fn is_accessible(&self, thread: ObjectId, container: ObjectId, meter: &mut Meter) -> bool
-        ensures value { result ≡ is_accessible (state_of self.now) thread container }
-        ensures scans { meter.new.scans ≡ meter.old.scans }
-    {
-        self.is_live_kind(Kind::Container, container, meter)
-            && self.observes(thread, container, meter)
     }
 }

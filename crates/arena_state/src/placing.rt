@@ -1,7 +1,6 @@
 //! A slot, an id and a first link for a new record.
-ghost use Rattle.std.specs.Prelude.{◌≡◌, [], ◌∷◌, ◌++◌, ◌+◌, ◌<◌, ◌≤◌, ◌^◌, true, length, All, IsSome};
-ghost use Rattle.base.specs.Live.{has};
-ghost use Rattle.containers.specs.Tree.{ids_in, link_count, record_at};
+ghost use Rattle.std.specs.Prelude.{◌≡◌, [], ◌∷◌, ◌++◌, ◌+◌, ◌<◌, ◌≤◌, ◌^◌, length, All, IsSome};
+ghost use Rattle.containers.specs.Tree.{ids_in, link_count, record_at, HasSlot};
 ghost use Rattle.arena_state.specs.Assembled.{record_in, body_use};
 ghost use Rattle.arena_state.specs.Creations.{IsPlaced};
 
@@ -20,7 +19,7 @@ pub fn place(
     given: Record,
     meter: &mut Meter,
 ) -> Located
-    requires container { has (ids_in pieces.old.places.lists) container ≡ true }
+    requires container { HasSlot pieces.old.places container parent.0 }
     requires rises { All (λ i. i < pieces.old.next_id) (ids_in pieces.old.places.lists) }
     requires left { pieces.old.next_id < 2 ^ 61 }
     requires slots { length (ids_in pieces.old.places.lists) < length pieces.old.places.cells }
@@ -38,7 +37,11 @@ pub fn place(
     let next = pieces.next_id;
     let pages = given.quota;
     let id = ObjectId::new(next);
-    let slot = pieces.places.create(container, id, (), meter);
+    let listing = Located {
+        id: container,
+        slot: parent,
+    };
+    let slot = pieces.places.create_in(listing, id, (), meter);
     let _count = pieces.places.len();
     pieces.holdings.records[slot.0] = given;
     let charged = &mut pieces.holdings.records[parent.0];

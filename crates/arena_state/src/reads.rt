@@ -1,15 +1,14 @@
 //! What is read of one object. No label is scanned.
 ghost use Rattle.std.specs.Prelude.{◌≡◌, ◌≤◌, ◌+◌, IfSome, IfNone, None, is_some, nat_lt};
-ghost use Rattle.std.specs.Prelude.{option_copied, option_map, true};
-ghost use Rattle.kernel_rules.specs.State.{object_at, of_object, is_fixed, is_immutable, quota_at};
-ghost use Rattle.kernel_rules.specs.State.{use_of, is_kind_at, avoids_at, kind_of};
+ghost use Rattle.std.specs.Prelude.{option_copied, option_map};
+ghost use Rattle.kernel_rules.specs.State.{object_at, is_fixed, is_immutable, quota_at};
+ghost use Rattle.kernel_rules.specs.State.{use_of, is_kind_at, kind_of};
 ghost use Rattle.kernel_rules.specs.Changes.{joined_at};
 ghost use Rattle.arena_state.specs.Assembled.{body_use};
 ghost use Rattle.arena_state.specs.States.{state_of, find_cost, HasRow, Shows, Finds};
 
 use crate::records::{Kept, Record};
 use crate::states::ArenaState;
-use crate::uses::pages_of;
 use base::{Data, Kind, Meter, ObjectId, Slot, TypeSet};
 
 impl Kept {

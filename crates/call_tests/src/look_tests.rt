@@ -1,11 +1,11 @@
 //! How many looks each call takes: one at each entry or container that its row names, which shows the
-//! caller too, and one at bytes that are read; a call that makes an object looks at the caller beside.
+//! caller too, and one at bytes that are read; a link looks at its entry and its container at once.
 //! An address is looked up once, and who has it mapped need not be looked at. What is asked for is
 //! answered as by the plain state itself.
 use crate::Counting;
 use base::{Data, Meter, NoMemory, ObjectId, Refusal, Rights, TypeSet};
 use kernel_calls::{ask, step};
-use kernel_rules::{Call, Entry, Mapping, NewAddressSpace, NewContainer, NewSegment, Query, Reply};
+use kernel_rules::{Call, Entry, Mapping, NewAddressSpace, NewContainer, NewSegment, Query};
 use plain_state::PlainState;
 use std::test::Fail;
 use test_support::{LIMITS, answered, boot_thread, in_root, plain, refusal_in};
@@ -75,7 +75,7 @@ fn each_entry_is_looked_at_once(rt: HostRuntime) -> Result<(), Fail> {
     for call in makings() {
         assert_eq!(rt;
             looks_of(&mut store, &mut twin, &call, &mut meter)?,
-            (None, 2)
+            (None, 1)
         );
     }
     let target = ObjectId::new(4);
@@ -98,7 +98,7 @@ fn each_entry_is_looked_at_once(rt: HostRuntime) -> Result<(), Fail> {
                 target,
                 entry: segment,
             },
-            2,
+            1,
         ),
         (
             Call::SegmentWrite {

@@ -23,6 +23,6 @@ pub use lists::{Bytes, IdList, Ids, Packets, Slots};
 pub use metadata::padded_data;
 pub use objects::{Body, Gate, Mapping, Object, Thread, fresh_object};
 pub use places::Place;
-pub use refusing::{least, least_of, least_with};
+pub use refusing::{least_of, least_with};
 pub use replies::Reply;
 pub use tables::{Compared, Shown, Tables, Used};

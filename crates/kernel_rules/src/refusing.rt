@@ -42,10 +42,3 @@ pub fn least_with(found: Option<Refusal>, row: &[(Refusal, bool)]) -> Option<Ref
     }
     least
 }
-
-/// Of the conditions that hold, the one with the least number gives the refusal.
-pub fn least(row: &[(Refusal, bool)]) -> Option<Refusal>
-    ensures { result ≡ refusal_of row.now }
-{
-    least_with(None, row)
-}

@@ -1,5 +1,7 @@
 //! What a thread sees of an object and of an entry.
 ghost use Rattle.std.specs.Prelude.{◌≡◌};
+ghost use Rattle.base.specs.declared.kinds.Kind.TheVariants as kinds;
+ghost use Rattle.kernel_rules.specs.State.{is_accessible, is_live_kind};
 ghost use Rattle.kernel_store.specs.Sights.{kind_at, seen_of, sight_of, wide_sight_of};
 ghost use Rattle.kernel_store.specs.Sights.{site_of, link_site_of};
 ghost use Rattle.plain_state.specs.StateOf.{state_of};
@@ -60,6 +62,33 @@ impl PlainState {
         }
     }
 
+    // What a thread sees of a container that won't hold something, or whose quota it is above, as is told.
+    fn site_seen(
+        &self,
+        thread: ObjectId,
+        container: ObjectId,
+        avoided: bool,
+        full: bool,
+        meter: &mut Meter,
+    ) -> Site
+        ensures { result ≡ record {
+          runs = is_live_kind (state_of self.now) kinds.Thread thread;
+          accessible = is_accessible (state_of self.now) thread container;
+          container = seen_of (state_of self.now) thread container;
+          avoided = avoided;
+          full = full;
+        } }
+    {
+        let runs = self.is_live_kind(Kind::Thread, thread);
+        Site {
+            runs,
+            accessible: self.is_accessible(thread, container, meter),
+            container: self.look(thread, container, meter),
+            avoided,
+            full,
+        }
+    }
+
     /// What a thread sees of a container in which an object of a kind and of this quota is to be listed.
     pub fn site(
         &self,
@@ -71,13 +100,9 @@ impl PlainState {
     ) -> Site
         ensures { result ≡ site_of (state_of self.now) thread kind container quota }
     {
-        Site {
-            runs: self.is_live_kind(Kind::Thread, thread),
-            accessible: self.is_accessible(thread, container, meter),
-            container: self.look(thread, container, meter),
-            avoided: self.avoids(kind, container),
-            full: self.is_over(container, quota),
-        }
+        let avoided = self.avoids(kind, container);
+        let full = self.is_over(container, quota);
+        self.site_seen(thread, container, avoided, full, meter)
     }
 
     /// What a thread sees of a container in which the object of an entry is to be listed too, and of the
@@ -91,14 +116,10 @@ impl PlainState {
     ) -> LinkSite
         ensures { result ≡ link_site_of (state_of self.now) thread container entry.now }
     {
+        let avoided = self.avoids_kind_of(container, entry.object);
+        let full = self.is_over(container, self.quota(entry.object));
         LinkSite {
-            site: Site {
-                runs: self.is_live_kind(Kind::Thread, thread),
-                accessible: self.is_accessible(thread, container, meter),
-                container: self.look(thread, container, meter),
-                avoided: self.avoids_kind_of(container, entry.object),
-                full: self.is_over(container, self.quota(entry.object)),
-            },
+            site: self.site_seen(thread, container, avoided, full, meter),
             entry: self.sight(thread, entry, meter),
             listed: self.lists(container, entry.object),
             cleared: is_below(self.label(entry.object), self.clearance(thread), meter),

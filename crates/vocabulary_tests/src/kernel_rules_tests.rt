@@ -1,7 +1,7 @@
 //! What objects hold, and the refusal of a row.
 use base::{Data, Meter, ObjectId, Refusal, Rights};
 use kernel_rules::{
-    Body, Bytes, IdList, Ids, Mapping, Packets, Slots, fresh_object, least, least_of,
+    Body, Bytes, IdList, Ids, Mapping, Packets, Slots, fresh_object, least_of, least_with,
 };
 use label_lattice::Label;
 use std::test::Fail;
@@ -74,8 +74,8 @@ fn the_least_number_wins(rt: HostRuntime) {
         (Refusal::NoEntry, true),
         (Refusal::Halted, false),
     ];
-    assert_eq!(rt; least(&row), Some(Refusal::NoEntry));
-    assert_eq!(rt; least(&[(Refusal::Halted, false)]), None);
+    assert_eq!(rt; least_with(None, &row), Some(Refusal::NoEntry));
+    assert_eq!(rt; least_with(None, &[(Refusal::Halted, false)]), None);
     let immutable = Some(Refusal::Immutable);
     assert_eq!(rt;
         least_of(immutable, Some(Refusal::NoQuota)),

@@ -21,22 +21,20 @@ use Rattle.arena_state.proofs.WholeEditLaws.{relisting_apart, reuse_pages, reuse
 use Rattle.arena_state.proofs.WholeLaws.{kind_bare, holds_bare, fixed_bare, listed_bare, linked_bare, none_bare}
 use Rattle.arena_state.proofs.states.ArenaState.link.Goals as goal
 
-pub link-requires-clause-container : goal.link-requires-clause-container
-link-requires-clause-container c = container_listed c.args.self.now.pieces c.args.self.now.sound c.args.container c.args.entry.now (kind_bare c.args.self.now.pieces kinds.Container c.args.container true c.requires.container) (holds_bare c.args.self.now.pieces c.args.entry.now c.requires.held) (kind_bare c.args.self.now.pieces kinds.Container c.args.entry.now.object false c.requires.plain) (fixed_bare c.args.self.now.pieces c.args.entry.now.object true c.requires.fixed) (listed_bare c.args.self.now.pieces c.args.container c.args.entry.now.object false c.requires.unlisted) (linked_bare c.args.self.now.pieces c.args.self.now.sound c.args.self.now.stocked c.args.container c.args.entry.now.object c.requires.room)
-    c.in-Some.parent.0 c.in-Some-slot.object.0 c.in-Some.ensures.found.has c.in-Some-slot.ensures.found.has
+pub link_found-requires-clause-container : goal.link_found-requires-clause-container
+link_found-requires-clause-container c = c.in-Some.ensures.found.has
 
-pub link-requires-clause-object : goal.link-requires-clause-object
-link-requires-clause-object c = object_listed c.args.self.now.pieces c.args.self.now.sound c.args.container c.args.entry.now (kind_bare c.args.self.now.pieces kinds.Container c.args.container true c.requires.container) (holds_bare c.args.self.now.pieces c.args.entry.now c.requires.held) (kind_bare c.args.self.now.pieces kinds.Container c.args.entry.now.object false c.requires.plain) (fixed_bare c.args.self.now.pieces c.args.entry.now.object true c.requires.fixed) (listed_bare c.args.self.now.pieces c.args.container c.args.entry.now.object false c.requires.unlisted) (linked_bare c.args.self.now.pieces c.args.self.now.sound c.args.self.now.stocked c.args.container c.args.entry.now.object c.requires.room)
-    c.in-Some.parent.0 c.in-Some-slot.object.0 c.in-Some.ensures.found.has c.in-Some-slot.ensures.found.has
+pub link_found-requires-clause-object : goal.link_found-requires-clause-object
+link_found-requires-clause-object c = c.in-Some-slot.ensures.found.has
 
-pub link-requires-clause-not_root : goal.link-requires-clause-not_root
-link-requires-clause-not_root c = not_root c.args.self.now.pieces c.args.self.now.sound c.args.container c.args.entry.now (kind_bare c.args.self.now.pieces kinds.Container c.args.container true c.requires.container) (holds_bare c.args.self.now.pieces c.args.entry.now c.requires.held) (kind_bare c.args.self.now.pieces kinds.Container c.args.entry.now.object false c.requires.plain) (fixed_bare c.args.self.now.pieces c.args.entry.now.object true c.requires.fixed) (listed_bare c.args.self.now.pieces c.args.container c.args.entry.now.object false c.requires.unlisted) (linked_bare c.args.self.now.pieces c.args.self.now.sound c.args.self.now.stocked c.args.container c.args.entry.now.object c.requires.room)
+pub link_found-requires-clause-not_root : goal.link_found-requires-clause-not_root
+link_found-requires-clause-not_root c = not_root c.args.self.now.pieces c.args.self.now.sound c.args.container c.args.entry.now (kind_bare c.args.self.now.pieces kinds.Container c.args.container true c.requires.container) (holds_bare c.args.self.now.pieces c.args.entry.now c.requires.held) (kind_bare c.args.self.now.pieces kinds.Container c.args.entry.now.object false c.requires.plain) (fixed_bare c.args.self.now.pieces c.args.entry.now.object true c.requires.fixed) (listed_bare c.args.self.now.pieces c.args.container c.args.entry.now.object false c.requires.unlisted) (linked_bare c.args.self.now.pieces c.args.self.now.sound c.args.self.now.stocked c.args.container c.args.entry.now.object c.requires.room)
 
-pub link-requires-clause-fresh : goal.link-requires-clause-fresh
-link-requires-clause-fresh c = not_linked c.args.self.now.pieces c.args.self.now.sound c.args.container c.args.entry.now (kind_bare c.args.self.now.pieces kinds.Container c.args.container true c.requires.container) (holds_bare c.args.self.now.pieces c.args.entry.now c.requires.held) (kind_bare c.args.self.now.pieces kinds.Container c.args.entry.now.object false c.requires.plain) (fixed_bare c.args.self.now.pieces c.args.entry.now.object true c.requires.fixed) (listed_bare c.args.self.now.pieces c.args.container c.args.entry.now.object false c.requires.unlisted) (linked_bare c.args.self.now.pieces c.args.self.now.sound c.args.self.now.stocked c.args.container c.args.entry.now.object c.requires.room)
+pub link_found-requires-clause-fresh : goal.link_found-requires-clause-fresh
+link_found-requires-clause-fresh c = not_linked c.args.self.now.pieces c.args.self.now.sound c.args.container c.args.entry.now (kind_bare c.args.self.now.pieces kinds.Container c.args.container true c.requires.container) (holds_bare c.args.self.now.pieces c.args.entry.now c.requires.held) (kind_bare c.args.self.now.pieces kinds.Container c.args.entry.now.object false c.requires.plain) (fixed_bare c.args.self.now.pieces c.args.entry.now.object true c.requires.fixed) (listed_bare c.args.self.now.pieces c.args.container c.args.entry.now.object false c.requires.unlisted) (linked_bare c.args.self.now.pieces c.args.self.now.sound c.args.self.now.stocked c.args.container c.args.entry.now.object c.requires.room)
 
-pub link-requires-clause-room : goal.link-requires-clause-room
-link-requires-clause-room c = link_left c.args.self.now.pieces c.args.self.now.sound c.args.container c.args.entry.now (kind_bare c.args.self.now.pieces kinds.Container c.args.container true c.requires.container) (holds_bare c.args.self.now.pieces c.args.entry.now c.requires.held) (kind_bare c.args.self.now.pieces kinds.Container c.args.entry.now.object false c.requires.plain) (fixed_bare c.args.self.now.pieces c.args.entry.now.object true c.requires.fixed) (listed_bare c.args.self.now.pieces c.args.container c.args.entry.now.object false c.requires.unlisted) (linked_bare c.args.self.now.pieces c.args.self.now.sound c.args.self.now.stocked c.args.container c.args.entry.now.object c.requires.room)
+pub link_found-requires-clause-room : goal.link_found-requires-clause-room
+link_found-requires-clause-room c = link_left c.args.self.now.pieces c.args.self.now.sound c.args.container c.args.entry.now (kind_bare c.args.self.now.pieces kinds.Container c.args.container true c.requires.container) (holds_bare c.args.self.now.pieces c.args.entry.now c.requires.held) (kind_bare c.args.self.now.pieces kinds.Container c.args.entry.now.object false c.requires.plain) (fixed_bare c.args.self.now.pieces c.args.entry.now.object true c.requires.fixed) (listed_bare c.args.self.now.pieces c.args.container c.args.entry.now.object false c.requires.unlisted) (linked_bare c.args.self.now.pieces c.args.self.now.sound c.args.self.now.stocked c.args.container c.args.entry.now.object c.requires.room)
 
 pub charge-requires : goal.charge-requires
 charge-requires c = enough c.args.self.now.pieces c.args.self.now.sound c.args.container c.args.entry.now (kind_bare c.args.self.now.pieces kinds.Container c.args.container true c.requires.container) (holds_bare c.args.self.now.pieces c.args.entry.now c.requires.held) (kind_bare c.args.self.now.pieces kinds.Container c.args.entry.now.object false c.requires.plain) (fixed_bare c.args.self.now.pieces c.args.entry.now.object true c.requires.fixed) (listed_bare c.args.self.now.pieces c.args.container c.args.entry.now.object false c.requires.unlisted) (linked_bare c.args.self.now.pieces c.args.self.now.sound c.args.self.now.stocked c.args.container c.args.entry.now.object c.requires.room)
@@ -54,10 +52,10 @@ invariant_of-self c = record {
   sound = sound_then c.args.self.now.pieces c.args.self.now.sound c.args.container c.args.entry.now (kind_bare c.args.self.now.pieces kinds.Container c.args.container true c.requires.container) (holds_bare c.args.self.now.pieces c.args.entry.now c.requires.held) (kind_bare c.args.self.now.pieces kinds.Container c.args.entry.now.object false c.requires.plain) (fixed_bare c.args.self.now.pieces c.args.entry.now.object true c.requires.fixed) (listed_bare c.args.self.now.pieces c.args.container c.args.entry.now.object false c.requires.unlisted) (linked_bare c.args.self.now.pieces c.args.self.now.sound c.args.self.now.stocked c.args.container c.args.entry.now.object c.requires.room)
       c.in-Some.parent.0 c.in-Some-slot.object.0 c.in-Some.ensures.found.has c.in-Some-slot.ensures.found.has
       c.index.result.now c.index_mut-charged.result.now c.index.ensures c.index_mut-charged.ensures.value
-      _ refl refl refl (λ i. (c.link.ensures.linked i).lists) (λ i. (c.link.ensures.linked i).slots) (ap (λ t. length t.cells) c.link.ensures.linked) c.len-count.ensures.well_formed refl c.charge.new.given c.charge.ensures refl;
+      _ refl refl refl (λ i. (c.link_found.ensures.linked i).lists) (λ i. (c.link_found.ensures.linked i).slots) (ap (λ t. length t.cells) c.link_found.ensures.linked) c.len-count.ensures.well_formed refl c.charge.new.given c.charge.ensures refl;
   stocked =
       let q : Pieces = record c.args.self.now.pieces {
-        places = c.link.new.self;
+        places = c.link_found.new.self;
         holdings = record c.args.self.now.pieces.holdings {
           records = with_item c.args.self.now.pieces.holdings.records c.in-Some.parent.0 c.charge.new.given;
         };
@@ -67,8 +65,8 @@ invariant_of-self c = record {
         segments = refl;
         queues = refl;
         spaces = refl;
-        slots = λ i. (c.link.ensures.linked i).slots;
-        ids = λ id. (λ i. row_slot (lookup (is_at (nat_cmp id)) (rows_of (c.link.ensures.linked i).lists (c.link.ensures.linked i).slots)))
+        slots = λ i. (c.link_found.ensures.linked i).slots;
+        ids = λ id. (λ i. row_slot (lookup (is_at (nat_cmp id)) (rows_of (c.link_found.ensures.linked i).lists (c.link_found.ensures.linked i).slots)))
             ∙ slots_by_ids c.args.self.now.pieces.places.lists (add_lists c.args.self.now.pieces.places.lists c.args.container c.args.entry.now.object) c.args.self.now.pieces.places.slots
             (ids_added c.args.self.now.pieces.places.lists c.args.container c.args.entry.now.object) id;
         pages = read_set kept_pages c.args.self.now.pieces.holdings.records.items c.in-Some.parent.0 c.charge.new.given
@@ -84,12 +82,12 @@ invariant_of-self c = record {
 
 pub returns-clause-slots : goal.returns-clause-slots
 returns-clause-slots c = λ id slot h.
-    linked_slots c.args.self.now.pieces.places c.link.new.self c.args.container c.args.entry.now.object c.link.ensures.linked id slot h
+    linked_slots c.args.self.now.pieces.places c.link_found.new.self c.args.container c.args.entry.now.object c.link_found.ensures.linked id slot h
 
 pub returns-clause-state : goal.returns-clause-state
 returns-clause-state c =
     let q : Pieces = record c.args.self.now.pieces {
-      places = c.link.new.self;
+      places = c.link_found.new.self;
       holdings = record c.args.self.now.pieces.holdings {
         records = with_item c.args.self.now.pieces.holdings.records c.in-Some.parent.0 c.charge.new.given;
       };
@@ -99,8 +97,8 @@ returns-clause-state c =
       segments = refl;
       queues = refl;
       spaces = refl;
-      slots = λ i. (c.link.ensures.linked i).slots;
-      ids = λ id. (λ i. row_slot (lookup (is_at (nat_cmp id)) (rows_of (c.link.ensures.linked i).lists (c.link.ensures.linked i).slots)))
+      slots = λ i. (c.link_found.ensures.linked i).slots;
+      ids = λ id. (λ i. row_slot (lookup (is_at (nat_cmp id)) (rows_of (c.link_found.ensures.linked i).lists (c.link_found.ensures.linked i).slots)))
           ∙ slots_by_ids c.args.self.now.pieces.places.lists (add_lists c.args.self.now.pieces.places.lists c.args.container c.args.entry.now.object) c.args.self.now.pieces.places.slots
           (ids_added c.args.self.now.pieces.places.lists c.args.container c.args.entry.now.object) id;
       pages = read_set kept_pages c.args.self.now.pieces.holdings.records.items c.in-Some.parent.0 c.charge.new.given
@@ -116,4 +114,4 @@ returns-clause-state c =
     (state_then c.args.self.now.pieces c.args.self.now.sound c.args.container c.args.entry.now (kind_bare c.args.self.now.pieces kinds.Container c.args.container true c.requires.container) (holds_bare c.args.self.now.pieces c.args.entry.now c.requires.held) (kind_bare c.args.self.now.pieces kinds.Container c.args.entry.now.object false c.requires.plain) (fixed_bare c.args.self.now.pieces c.args.entry.now.object true c.requires.fixed) (listed_bare c.args.self.now.pieces c.args.container c.args.entry.now.object false c.requires.unlisted) (linked_bare c.args.self.now.pieces c.args.self.now.sound c.args.self.now.stocked c.args.container c.args.entry.now.object c.requires.room)
     c.in-Some.parent.0 c.in-Some-slot.object.0 c.in-Some.ensures.found.has c.in-Some-slot.ensures.found.has
     c.index.result.now c.index_mut-charged.result.now c.index.ensures c.index_mut-charged.ensures.value
-    q refl refl refl (λ i. (c.link.ensures.linked i).lists) (λ i. (c.link.ensures.linked i).slots) (ap (λ t. length t.cells) c.link.ensures.linked) c.len-count.ensures.well_formed refl c.charge.new.given c.charge.ensures refl)
+    q refl refl refl (λ i. (c.link_found.ensures.linked i).lists) (λ i. (c.link_found.ensures.linked i).slots) (ap (λ t. length t.cells) c.link_found.ensures.linked) c.len-count.ensures.well_formed refl c.charge.new.given c.charge.ensures refl)
