@@ -1,4 +1,4 @@
-use Rattle.std.proofs.Common.{◌∙◌, length, ◌≤◌}
+use Rattle.std.proofs.Common.{◌∙◌}
 use Rattle.label_lattice.proofs.PlaceLemmas.{last-placed, last-stays, last-room, last-full}
 use Rattle.label_lattice.proofs.PlaceLemmas.{last-room-stays}
 use Rattle.label_lattice.proofs.exceptions.place_last.Goals as goal
