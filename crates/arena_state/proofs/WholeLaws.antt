@@ -1,13 +1,14 @@
 -- What the state with what slots hold shares with the one without.
-use Rattle.std.proofs.Common.{◌≡◌, ℕ, ◌+◌, ◌<◌, ◌≤◌, Bool, true, false, cond, ◌&&◌, ◌||◌, ◌==◌, List, [], ◌∷◌, length, get_or, Option, Some, None, refl, sym, ◌∙◌, ap, arith}
+use Rattle.std.proofs.Common.{◌≡◌, ℕ, ◌+◌, ◌<◌, ◌≤◌, Bool, true, false, cond, ◌&&◌, ◌||◌, ◌==◌, List, [], ◌∷◌, length, get_or, Option, Some, None, inl, inr, refl, sym, ◌∙◌, ap, arith}
 use Rattle.std.specs.Prelude.{slice_get}
 use Rattle.std.specs.Option.{option_map}
+use Rattle.std.proofs.lemmas.Bool.{cases_Bool}
 use Rattle.base.specs.Live.{has, links}
 use Rattle.base.specs.declared.kinds.Kind as kind
 use Rattle.base.specs.declared.kinds.Kind.TheVariants as kinds
 use Rattle.containers.specs.Tree.{ids_in, list_of, HasSlot}
 use Rattle.kernel_rules.specs.Scratch.{ids_of}
-use Rattle.kernel_rules.specs.State.{object_at, is_kind, is_kind_at, is_fixed, list_at, quota_at, use_of, holds, own_cost, listed}
+use Rattle.kernel_rules.specs.State.{object_at, of_object, is_kind, is_kind_at, is_fixed, list_at, quota_at, use_of, holds, own_cost, listed}
 use Rattle.kernel_rules.specs.Fitting.{IsFitting}
 use Rattle.kernel_rules.specs.Step.{lister_of}
 use Rattle.kernel_rules.specs.WellFormed.{is_whole_body}
@@ -128,6 +129,21 @@ module _ (p : Pieces) where
 
     pub object_there : (d o : ℕ) → has (list_at (whole_state p) d) o ≡ true → object_at (whole_state p) o ≡ None → ⊥
     object_there d o h none = steps.object_there p s d o (listed_bare d o true h) (none_bare o none)
+
+    -- what is not there lists nothing, and nothing lists it
+    pub none_lists : (d o : ℕ) → object_at (whole_state p) d ≡ None → has (list_at (whole_state p) d) o ≡ false
+    none_lists d o none = ap (λ v. has (of_object [] (λ x. listed x.body) v) o) none
+
+    pub none_listed : (d o : ℕ) → object_at (whole_state p) o ≡ None → has (list_at (whole_state p) d) o ≡ false
+    none_listed d o none = elim (cases_Bool (has (list_at (whole_state p) d) o)) [
+      | inl is ↦ absurd (object_there d o is none)
+      | inr off ↦ off
+    ]
+
+    -- the container lists the object, where that was told
+    pub told_listed : (d o : ℕ) (told v : Bool) → told ≡ links p.places.lists d o → told ≡ v
+        → has (list_at (whole_state p) d) o ≡ v
+    told_listed d o told v h is = sym (links_is d o) ∙ sym h ∙ is
 
     module _ (d : ℕ) (kind' : is_kind_at (whole_state p) kinds.Container d ≡ true) where
       pub container_there : has (ids_in p.places.lists) d ≡ true

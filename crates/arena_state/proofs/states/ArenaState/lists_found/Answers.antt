@@ -1,11 +1,8 @@
-use Rattle.std.proofs.Common.{◌≡◌, ◌∙◌, Option, None, [], sym, ap, subst, inl, inr, IfSome, IfNone}
-use Rattle.std.proofs.lemmas.Bool.{cases_Bool}
-use Rattle.base.specs.Live.{has}
+use Rattle.std.proofs.Common.{◌≡◌, ◌∙◌, Option, None, sym, subst, IfSome, IfNone}
 use Rattle.base.specs.declared.ids.Slot.{Slot}
-use Rattle.kernel_rules.specs.State.{object_at, of_object, list_at, listed}
+use Rattle.kernel_rules.specs.State.{object_at}
 use Rattle.arena_state.specs.States.{state_of, HasRow}
-use Rattle.arena_state.proofs.WholeLaws.{links_is}
-use Rattle.arena_state.proofs.WholeLaws.{object_there}
+use Rattle.arena_state.proofs.WholeLaws.{links_is, none_lists, none_listed}
 use Rattle.arena_state.proofs.states.ArenaState.lists_found.Goals as goal
 
 pub is_linked-requires-clause-container : goal.is_linked-requires-clause-container
@@ -23,17 +20,12 @@ returns-in-Some-object-clause-value c =
 
 pub returns-in-None-object-clause-value : goal.returns-in-None-object-clause-value
 returns-in-None-object-clause-value c =
-    let d = c.args.entry.now.container in
-    let o = c.args.entry.now.object in
-    let none : object_at (state_of c.args.self.now) o ≡ None
-    = subst (λ (v : Option Slot). IfNone v (object_at (state_of c.args.self.now) o ≡ None)) c.in-None-object.is c.requires.no_object in
-    elim (cases_Bool (has (list_at (state_of c.args.self.now) d) o)) [
-      | inl is ↦ absurd (object_there c.args.self.now.pieces c.args.self.now.sound d o is none)
-      | inr off ↦ sym off
-    ]
+    let none : object_at (state_of c.args.self.now) c.args.entry.now.object ≡ None
+    = subst (λ (v : Option Slot). IfNone v (object_at (state_of c.args.self.now) c.args.entry.now.object ≡ None)) c.in-None-object.is c.requires.no_object in
+    sym (none_listed c.args.self.now.pieces c.args.self.now.sound c.args.entry.now.container c.args.entry.now.object none)
 
 pub returns-in-None-clause-value : goal.returns-in-None-clause-value
 returns-in-None-clause-value c =
     let none : object_at (state_of c.args.self.now) c.args.entry.now.container ≡ None
     = subst (λ (v : Option Slot). IfNone v (object_at (state_of c.args.self.now) c.args.entry.now.container ≡ None)) c.in-None.is c.requires.no_container in
-    sym (ap (λ v. has (of_object [] (λ x. listed x.body) v) c.args.entry.now.object) none)
+    sym (none_lists c.args.self.now.pieces c.args.self.now.sound c.args.entry.now.container c.args.entry.now.object none)
