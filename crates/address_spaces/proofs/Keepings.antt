@@ -1,7 +1,7 @@
 -- What holds of the parts of address spaces after each change.
-use Rattle.std.proofs.Common.{◌≡◌, ◌≢◌, ℕ, ◌*◌, ◌/◌, ◌%◌, ◌<◌, ◌^◌, Option, Some, None, List, [], length, get_or, set, replicate, IsSome, refl, sym, ap, ◌∙◌, subst, arith, inl, inr, length-set}
+use Rattle.std.proofs.Common.{◌≡◌, ◌≢◌, ℕ, ◌*◌, ◌/◌, ◌%◌, ◌<◌, ◌^◌, Option, Some, None, Bool, List, [], length, set, replicate, IsSome, refl, sym, ap, ◌∙◌, subst, arith, inl, inr, length-set}
 use Rattle.std.proofs.lemmas.Bool.{cases_eq}
-use Rattle.std.proofs.lemmas.List.{get_or-set_same, get_or-set_other, get_or-replicate, length-replicate, length-map}
+use Rattle.std.proofs.lemmas.List.{get_or-replicate, length-replicate, length-map}
 use Rattle.std.proofs.lemmas.List.Elements.{All-set, All-replicate}
 use Rattle.entry_lists.specs.Lists.{Lists, empty_lists}
 use Rattle.entry_lists.proofs.Views.{head_below}
@@ -9,7 +9,16 @@ use Rattle.kernel_rules.specs.declared.objects.Mapping.{Mapping}
 use Rattle.address_spaces.specs.Hooked.{list_at, IsHooked, with_last, without}
 use Rattle.address_spaces.specs.Kept.{IsKept}
 use Rattle.address_spaces.specs.Mappings.{cell_of, mapping_at, places_at, with_mapping}
+use Rattle.address_spaces.specs.Marks.{AreMarked, with_mark}
 use Rattle.address_spaces.proofs.Hookings.{hooked_last, in_without}
+use Rattle.address_spaces.proofs.Markings.{emptied_marked, mapped_marked, none_marked}
+use Rattle.address_spaces.proofs.Placings.{mapping_here, mapping_other}
+
+-- of the same mappings and marks
+pub kept_as : (ms ms' : List (List (Option Mapping))) (segments threads : Lists) (marks marks' : List Bool) → ms' ≡ ms → marks' ≡ marks → IsKept ms segments threads marks → IsKept ms' segments threads marks'
+kept_as ms ms' segments threads marks marks' same on kept =
+    subst (λ (rows : List (List (Option Mapping))). IsKept rows segments threads marks') (sym same)
+    (subst (IsKept ms segments threads) (sym on) kept)
 
 -- nothing is hooked in empty lists
 pub none_hooked : (n c : ℕ) → IsHooked (replicate n []) c → ⊥
@@ -18,8 +27,8 @@ none_hooked n c h =
     let empty : list_at (replicate n []) h.0 ≡ [] = get_or-replicate n h.0 [] [] (omega (arith, lt, length-replicate {A = List ℕ} n [])) in
     omega (arith, h.2.within, ap length empty)
 
-pub boot_kept : (n : ℕ) → 17 * n < 2 ^ 64 → IsKept (replicate n (replicate 16 None)) (empty_lists (16 * n) n) (empty_lists n n)
-boot_kept n fits =
+pub boot_kept : (n : ℕ) (marks : List Bool) → 17 * n < 2 ^ 64 → IsKept (replicate n (replicate 16 None)) (empty_lists (16 * n) n) (empty_lists n n) marks
+boot_kept n marks fits =
     let long : length {A = List (Option Mapping)} (replicate n (replicate 16 None)) ≡ n = length-replicate n (replicate 16 None) in
     let count : length {A = List ℕ} (replicate n []) ≡ n = length-replicate n [] in
     record {
@@ -30,27 +39,8 @@ boot_kept n fits =
       mapping_cells = ap (λ (k : ℕ). 16 * k) (sym long);
       thread_cells = sym long;
       mapped = λ c h. absurd (none_hooked n c h);
+      marked = none_marked n marks;
     }
-
-module _ (ms : List (List (Option Mapping))) (space place : ℕ) (m : Option Mapping) where
-  -- the mapping of a place after a write
-  pub mapping_here : space < length ms → place < length (places_at ms space) → mapping_at (with_mapping ms space place m) space place ≡ m
-  mapping_here below within =
-      let row = set (places_at ms space) place m in
-      ap (λ (xs : List (Option Mapping)). get_or xs place None) (get_or-set_same ms space row [] below)
-      ∙ get_or-set_same (places_at ms space) place m None within
-
-  pub mapping_other : (a b : ℕ) → space < length ms → (a ≡ space → b ≡ place → ⊥) → mapping_at (with_mapping ms space place m) a b ≡ mapping_at ms a b
-  mapping_other a b below apart =
-      let row = set (places_at ms space) place m in
-      elim (cases_eq a space) [
-        | inl same ↦
-            ap (λ (i : ℕ). mapping_at (with_mapping ms space place m) i b) same
-            ∙ ap (λ (xs : List (Option Mapping)). get_or xs b None) (get_or-set_same ms space row [] below)
-            ∙ get_or-set_other (places_at ms space) place b m None (apart same)
-            ∙ ap (λ (i : ℕ). mapping_at ms i b) (sym same)
-        | inr differs ↦ ap (λ (xs : List (Option Mapping)). get_or xs b None) (get_or-set_other ms space a row [] differs)
-      ]
 
 -- a cell is that of its space and place
 pub cell_parts : (c space place : ℕ) → place < 16 → c ≡ cell_of space place → (c / 16 ≡ space) × (c % 16 ≡ place)
@@ -59,12 +49,12 @@ cell_parts c space place within e = (omega arith, omega arith)
 pub cell_from_parts : (c space place : ℕ) → c / 16 ≡ space → c % 16 ≡ place → c ≡ cell_of space place
 cell_from_parts c space place a b = omega arith
 
-module _ (ms : List (List (Option Mapping))) (segments threads : Lists) (s : IsKept ms segments threads) where
+module _ (ms : List (List (Option Mapping))) (segments threads : Lists) (marks : List Bool) (s : IsKept ms segments threads marks) where
   pub row_long : (space : ℕ) → space < length ms → length (places_at ms space) ≡ 16
   row_long space below = s.places space [] below
 
   -- another list of threads
-  pub threads_kept : (threads' : Lists) → length threads'.lists ≡ length threads.lists → threads'.cells ≡ threads.cells → IsKept ms segments threads'
+  pub threads_kept : (threads' : Lists) → length threads'.lists ≡ length threads.lists → threads'.cells ≡ threads.cells → IsKept ms segments threads' marks
   threads_kept threads' count cells = record {
     places = s.places;
     fits = s.fits;
@@ -73,10 +63,11 @@ module _ (ms : List (List (Option Mapping))) (segments threads : Lists) (s : IsK
     mapping_cells = s.mapping_cells;
     thread_cells = cells ∙ s.thread_cells;
     mapped = s.mapped;
+    marked = s.marked;
   }
 
   -- fewer cells are hooked
-  pub fewer_kept : (segments' : Lists) → length segments'.lists ≡ length segments.lists → segments'.cells ≡ segments.cells → ((c : ℕ) → IsHooked segments'.lists c → IsHooked segments.lists c) → IsKept ms segments' threads
+  pub fewer_kept : (segments' : Lists) → length segments'.lists ≡ length segments.lists → segments'.cells ≡ segments.cells → ((c : ℕ) → IsHooked segments'.lists c → IsHooked segments.lists c) → IsKept ms segments' threads marks
   fewer_kept segments' count cells were = record {
     places = s.places;
     fits = s.fits;
@@ -85,12 +76,13 @@ module _ (ms : List (List (Option Mapping))) (segments threads : Lists) (s : IsK
     mapping_cells = cells ∙ s.mapping_cells;
     thread_cells = s.thread_cells;
     mapped = λ c h. s.mapped c (were c h);
+    marked = s.marked;
   }
 
   -- another mapping at a place
-  module _ (space place : ℕ) (m : Option Mapping) (segments' : Lists) (below : space < length ms) (within : place < 16) (count : length segments'.lists ≡ length segments.lists) (cells : segments'.cells ≡ segments.cells) where
-    pub mapping_kept : ((c : ℕ) → IsHooked segments'.lists c → IsSome (mapping_at (with_mapping ms space place m) (c / 16) (c % 16))) → IsKept (with_mapping ms space place m) segments' threads
-    mapping_kept mapped =
+  module _ (space place : ℕ) (m : Option Mapping) (segments' : Lists) (marks' : List Bool) (below : space < length ms) (within : place < 16) (count : length segments'.lists ≡ length segments.lists) (cells : segments'.cells ≡ segments.cells) where
+    pub mapping_kept : ((c : ℕ) → IsHooked segments'.lists c → IsSome (mapping_at (with_mapping ms space place m) (c / 16) (c % 16))) → AreMarked (with_mapping ms space place m) marks' → IsKept (with_mapping ms space place m) segments' threads marks'
+    mapping_kept mapped marked =
         let row = set (places_at ms space) place m in
         let long = length-set ms space row in
         record {
@@ -101,6 +93,7 @@ module _ (ms : List (List (Option Mapping))) (segments threads : Lists) (s : IsK
           mapping_cells = cells ∙ s.mapping_cells ∙ ap (λ (k : ℕ). 16 * k) (sym long);
           thread_cells = s.thread_cells ∙ sym long;
           mapped = mapped;
+          marked = marked;
         }
 
     -- the mapping of any other cell
@@ -108,12 +101,13 @@ module _ (ms : List (List (Option Mapping))) (segments threads : Lists) (s : IsK
     other_mapped c differs h =
         subst IsSome (sym (mapping_other ms space place m (c / 16) (c % 16) below (λ a b. differs (cell_from_parts c space place a b)))) (s.mapped c h)
 
-  pub map_kept : (space place head : ℕ) (m : Mapping) (segments' : Lists) → space < length ms → place < 16 → (let now : Lists = record segments { lists = with_last segments.lists head (cell_of space place) } in segments' ≡ now) → IsKept (with_mapping ms space place (Some m)) segments' threads
+  pub map_kept : (space place head : ℕ) (m : Mapping) (segments' : Lists) → space < length ms → place < 16 → (let now : Lists = record segments { lists = with_last segments.lists head (cell_of space place) } in segments' ≡ now) → IsKept (with_mapping ms space place (Some m)) segments' threads (with_mark marks m.entry.object)
   map_kept space place head m segments' below within e =
       let cell = cell_of space place in
       let count = ap (λ (l : Lists). length l.lists) e ∙ length-set segments.lists head _ in
       let cells = ap (λ (l : Lists). l.cells) e in
-      mapping_kept space place (Some m) segments' below within count cells (λ c h. elim (cases_eq c cell) [
+      let row = row_long space below in
+      mapping_kept space place (Some m) segments' (with_mark marks m.entry.object) below within count cells (λ c h. elim (cases_eq c cell) [
         | inl same ↦
             let parts = cell_parts c space place within same in
             let long = row_long space below in
@@ -125,14 +119,17 @@ module _ (ms : List (List (Option Mapping))) (segments threads : Lists) (s : IsK
         | inr differs ↦
             elim (hooked_last segments.lists head cell c (subst (λ (l : Lists). IsHooked l.lists c) e h)) [
               | inl same ↦ absurd (differs same)
-              | inr there ↦ other_mapped space place (Some m) segments' below within count cells c differs there
+              | inr there ↦ other_mapped space place (Some m) segments' (with_mark marks m.entry.object) below within count cells c differs there
             ]
       ])
+      (mapped_marked ms space place (Some m) below (omega (arith, row, within)) marks m refl s.marked)
 
-  pub unmap_kept : (space place : ℕ) (segments' : Lists) → space < length ms → place < 16 → (let now : Lists = record segments { lists = without segments.lists (cell_of space place) } in segments' ≡ now) → IsKept (with_mapping ms space place None) segments' threads
+  pub unmap_kept : (space place : ℕ) (segments' : Lists) → space < length ms → place < 16 → (let now : Lists = record segments { lists = without segments.lists (cell_of space place) } in segments' ≡ now) → IsKept (with_mapping ms space place None) segments' threads marks
   unmap_kept space place segments' below within e =
       let count = ap (λ (l : Lists). length l.lists) e ∙ length-map segments.lists _ in
       let cells = ap (λ (l : Lists). l.cells) e in
-      mapping_kept space place None segments' below within count cells (λ c h.
+      let row = row_long space below in
+      mapping_kept space place None segments' marks below within count cells (λ c h.
       let was = in_without segments.lists (cell_of space place) c (subst (λ (l : Lists). IsHooked l.lists c) e h) in
-      other_mapped space place None segments' below within count cells c was.1 was.0)
+      other_mapped space place None segments' marks below within count cells c was.1 was.0)
+      (emptied_marked ms space place None below (omega (arith, row, within)) marks refl s.marked)

@@ -9,6 +9,7 @@
 
 mod cells;
 mod hooks;
+mod marks;
 mod spaces;
 
 pub use cells::MappingIx;

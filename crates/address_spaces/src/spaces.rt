@@ -1,5 +1,5 @@
 //! Address spaces by slot.
-ghost use Rattle.std.specs.Prelude.{◌≡◌, ℕ, ◌+◌, ◌*◌, ◌^◌, ◌<◌, [], None, Some, length, IfOk};
+ghost use Rattle.std.specs.Prelude.{◌≡◌, ◌≢◌, ℕ, ◌+◌, ◌*◌, ◌^◌, ◌<◌, [], None, Some, false, length, IfOk};
 ghost use Rattle.std.specs.Prelude.{slice_get, slice_set, replicate};
 ghost use Rattle.std.specs.Option.{option_map};
 ghost use Rattle.base.specs.Counts.{probed};
@@ -7,7 +7,8 @@ ghost use Rattle.entry_lists.specs.Lists.{StandsAt};
 
 use crate::cells::MappingIx;
 use crate::hooks::Hooks;
-use base::{Meter, NoMemory, Slot};
+use crate::marks::{is_marked, mark_count, set_mark};
+use base::{Meter, NoMemory, ObjectId, Slot};
 use kernel_rules::Mapping;
 use std::alloc::Global;
 use std::marker::Model;
@@ -21,6 +22,8 @@ pub struct Spaces {
     segments: Hooks,
     // Of each address space, the threads that use it.
     threads: Hooks,
+    // Of each end of an id, whether a mapping was of an object whose id has it. A mark outlives its mapping.
+    marks: Vec<bool>,
 }
 
 impl Model for Spaces {
@@ -36,7 +39,7 @@ impl Model for Spaces {
       users = a.threads.lists;
     } };
 
-    ghost invariant = { λ a. IsKept a.places.items a.segments a.threads };
+    ghost invariant = { λ a. IsKept a.places.items a.segments a.threads a.marks.items };
 }
 
 impl Spaces {
@@ -54,10 +57,12 @@ impl Spaces {
         places.resize(slots, [None; MappingIx::PLACES])?;
         let segments = Hooks::new(alloc, slots, MappingIx::PLACES * slots)?;
         let threads = Hooks::new(alloc, slots, slots)?;
+        let marks = vec![in alloc; false; mark_count(slots)]?;
         Ok(Spaces {
             places,
             segments,
             threads,
+            marks,
         })
     }
 
@@ -97,6 +102,15 @@ impl Spaces {
         &self.places[space.0]
     }
 
+    /// Whether a mapping may be of an object: where the answer is no, none is. It may be yes though none is: ids whose
+    /// last binary digits are equal answer as one, and a mapping that is gone counts on.
+    pub fn may_map(&self, object: ObjectId) -> bool
+        ensures { result ≡ false → (space place : ℕ) (m : Mapping)
+            → mapping_at self.now.mappings space place ≡ Some m → m.entry.object ≢ object }
+    {
+        is_marked(&self.marks, object)
+    }
+
     /// Sets the mapping of a place, 0 to 15, whose cell is hooked to no segment, and hooks the cell to a segment, after
     /// all others. All else stays.
     pub fn map(
@@ -117,6 +131,7 @@ impl Spaces {
         } }
         ensures scans { meter.new.scans ≡ meter.old.scans }
     {
+        set_mark(&mut self.marks, &mapping);
         self.places[space.0][place] = Some(mapping);
         let cell = MappingIx::new(space, place);
         self.segments.hook(segment.0, cell.number(), meter);

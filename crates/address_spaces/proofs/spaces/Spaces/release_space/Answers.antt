@@ -12,7 +12,7 @@ loop-place-init c =
     let ms = c.self.inside.places.items in
     let below : c.args.space.0 < length ms = omega (arith, c.requires, ap (λ (x : SpaceLists). length x.mappings) c.self.view_is) in
     record {
-      emptied = none_emptied _ c.args.space.0 (row_long ms c.self.inside.segments c.self.inside.threads c.self.invariant c.args.space.0 below);
+      emptied = none_emptied _ c.args.space.0 (row_long ms c.self.inside.segments c.self.inside.threads c.self.inside.marks.items c.self.invariant c.args.space.0 below);
       scans = refl;
     }
 

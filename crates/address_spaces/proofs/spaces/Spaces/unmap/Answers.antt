@@ -19,6 +19,6 @@ invariant_of-self c =
     let below : space < length ms = omega (arith, c.requires.space, ap (λ (x : SpaceLists). length x.mappings) c.self.view_is) in
     let is : row ≡ places_at ms space = c.index_mut.ensures.value ∙ get_or_default ms space row [] below in
     let change : ℕ → Lists = λ i. record seg { lists = without seg.lists i } in
-    subst (λ (r : List (Option Mapping)). IsKept (set ms space (set r c.args.place None)) c.unhook.new.self thr) (sym is)
-    (unmap_kept ms seg thr c.self.invariant space c.args.place c.unhook.new.self below c.requires.place
+    subst (λ (r : List (Option Mapping)). IsKept (set ms space (set r c.args.place None)) c.unhook.new.self thr c.self.inside.marks.items) (sym is)
+    (unmap_kept ms seg thr c.self.inside.marks.items c.self.invariant space c.args.place c.unhook.new.self below c.requires.place
     (c.unhook.ensures.unhooked ∙ ap change (c.number.ensures ∙ c.new-cell.ensures)))
