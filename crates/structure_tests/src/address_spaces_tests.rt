@@ -121,6 +121,17 @@ fn a_mapping_outlives_its_segment(rt: HostRuntime) -> Result<(), Fail> {
     Ok(())
 }
 
+#[test]
+fn what_was_mapped_is_told_from_what_was_not(rt: HostRuntime) -> Result<(), Fail> {
+    let mut meter = Meter::new(rt.alloc())?;
+    let mut spaces = Spaces::boot(rt.alloc(), 3)?;
+    assert!(rt; is_true(!spaces.may_map(ObjectId::new(9))));
+    map_two(&mut spaces, &mut meter);
+    assert!(rt; is_true(spaces.may_map(ObjectId::new(9))));
+    assert!(rt; is_true(!spaces.may_map(ObjectId::new(8))));
+    Ok(())
+}
+
 // Threads 2 and 1 use the first space, and thread 0, which used it, the last.
 fn enter_two(spaces: &mut Spaces, meter: &mut Meter)
     requires { spaces.old ≡ no_spaces 3 }
