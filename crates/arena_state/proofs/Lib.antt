@@ -41,6 +41,7 @@ pub mod PageRoomLaws
 pub mod WholeUnlinkLaws
 pub mod WholeBootLaws
 pub mod BodyLaws
+pub mod MappedLaws
 pub mod ContentLaws
 pub mod RefillLaws
 pub mod CopyLaws

@@ -1,11 +1,11 @@
 -- Rows that are repaired after a change.
-use Rattle.std.proofs.Common.{◌≡◌, ◌≢◌, ◌⊎◌, ℕ, ◌+◌, ◌<◌, ◌≤◌, true, false, cond, List, Option, Some, None, refl, sym, ◌∙◌, ap, subst, length, inl, inr, arith}
+use Rattle.std.proofs.Common.{◌≡◌, ◌≢◌, ◌⊎◌, ℕ, ◌+◌, ◌<◌, ◌≤◌, true, false, cond, List, [], Option, Some, None, refl, sym, ◌∙◌, ap, subst, length, inl, inr, arith}
 use Rattle.std.specs.Option.{option_map, option_and_then}
 use Rattle.std.proofs.lemmas.Bool.{cases_eq, cases_lt}
 use Rattle.base.specs.Live.{is_live}
 use Rattle.base.specs.declared.ranges.Limits.{Limits}
 use Rattle.containers.specs.Tree.{HasSlot}
-use Rattle.kernel_rules.specs.State.{State, lists_of, object_at, thread_of}
+use Rattle.kernel_rules.specs.State.{State, lists_of, object_at, of_object, slots_at, slots_of, thread_of}
 use Rattle.kernel_rules.specs.Step.{restricted}
 use Rattle.kernel_rules.specs.Translate.{own_space, translate}
 use Rattle.kernel_rules.specs.declared.calls.Entry.{Entry}
@@ -40,6 +40,16 @@ rest_live s t space own =
           let both : None ≡ Some space = sym none ∙ own in
           absurd (cc)
     ] (restricted_at s t)
+
+-- an address space has the slots that it had, or is gone
+pub rest_slots : (s : State) (q : ℕ) → (slots_at (restricted s) q ≡ slots_at s q) ⊎ (slots_at (restricted s) q ≡ [])
+rest_slots s q =
+    elim (is_live (lists_of s.objects) q)
+    as (λ v. object_at (restricted s) q ≡ cond v (object_at s q) None
+    → (slots_at (restricted s) q ≡ slots_at s q) ⊎ (slots_at (restricted s) q ≡ [])) [
+      | true ↦ λ stays. inl (ap (of_object [] (λ x. slots_of x.body)) stays)
+      | false ↦ λ gone. inr (ap (of_object [] (λ x. slots_of x.body)) gone)
+    ] (restricted_at s q)
 
 -- after a change that touches what it may touch
 pub rows_left : (a b : ArenaState) (c : Change) (rows : BySlot) → AreKept a rows → KeepsAllSlots a b

@@ -1,5 +1,5 @@
 -- Which threads' rows of translation a change may touch.
-use Rattle.std.specs.Prelude.{ℕ, ◌==◌, Bool, true, false, not, ◌&&◌, ◌||◌, Option, Some, None}
+use Rattle.std.specs.Prelude.{◌≡◌, ℕ, ◌==◌, Bool, true, false, not, ◌&&◌, ◌||◌, Option, Some, None}
 use Rattle.std.specs.List.{list_any}
 use Rattle.kernel_rules.specs.State.{State, slots_at}
 use Rattle.kernel_rules.specs.Translate.{names_none, own_space}
@@ -21,6 +21,10 @@ goes_by e (Some m) = is_same m.entry e
 abbrev pub maps : ℕ → Option Mapping → Bool
 maps o None = false
 maps o (Some m) = m.entry.object == o
+
+-- no address space maps the object
+abbrev pub IsUnmapped : State → ℕ → Type 0
+IsUnmapped s o = (space : ℕ) → list_any (maps o) (slots_at s space) ≡ false
 
 -- the change reaches those whose address space has this entry, whether it stands or not
 abbrev pub reaches : State → change.Change → Entry → Bool

@@ -1,11 +1,12 @@
 //! What is read of the contents of objects: a segment's bytes, the slots of an address space, a device's packets. No
 //! label is scanned.
-ghost use Rattle.std.specs.Prelude.{◌≡◌, ◌≤◌, ◌+◌, length, slice_range};
+ghost use Rattle.std.specs.Prelude.{◌≡◌, ◌≤◌, ◌+◌, false, length, slice_range};
 ghost use Rattle.kernel_rules.specs.State.{bytes_at, packets_at, page_count, slots_at};
 ghost use Rattle.kernel_rules.specs.Translate.{slot_at};
 ghost use Rattle.arena_state.specs.Contents.{keeps_device};
 ghost use Rattle.arena_state.specs.States.{state_of, find_cost};
 ghost use Rattle.arena_state.specs.Stocked.{kept_pages, keeps_space};
+ghost use Rattle.arena_state.specs.Touched.{IsUnmapped};
 
 use crate::records::Kept;
 use crate::states::ArenaState;
@@ -114,6 +115,15 @@ impl ArenaState {
             None => None,
             Some(mapping) => *mapping,
         }
+    }
+
+    /// Whether an address space may map an object: where the answer is no, none does. It may be yes though none does:
+    /// ids whose last binary digits are equal answer as one, and a mapping that is gone counts on. No object is looked
+    /// up.
+    pub fn may_map(&self, object: ObjectId) -> bool
+        ensures { result ≡ false → IsUnmapped (state_of self.now) object }
+    {
+        self.pieces.holdings.spaces.may_map(object)
     }
 
     /// A device's packets, the first one first, and none for any other object.

@@ -109,6 +109,18 @@ impl ArenaState {
         }
     }
 
+    /// The kind of an object, none where it is not recorded.
+    pub fn kind(&self, id: ObjectId, meter: &mut Meter) -> Option<Kind>
+        ensures value { result ≡ option_map (λ x. kind_of x.body)
+            (object_at (state_of self.now) id) }
+        ensures scans { meter.new.scans ≡ meter.old.scans }
+    {
+        match self.row(id, meter) {
+            Some(row) => Some(row.body.kind()),
+            None => None,
+        }
+    }
+
     /// Whether an id is that of an object of this kind.
     pub fn is_kind(&self, kind: Kind, id: ObjectId, meter: &mut Meter) -> bool
         ensures value { result ≡ is_kind_at (state_of self.now) kind id }
