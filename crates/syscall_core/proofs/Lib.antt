@@ -2,3 +2,4 @@ pub mod RowLaws
 pub mod RepairLaws
 pub mod NamedLaws
 pub mod UnrefLaws
+pub mod UntouchedLaws

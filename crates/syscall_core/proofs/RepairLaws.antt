@@ -37,7 +37,7 @@ use Rattle.syscall_core.proofs.RowLaws.{changed_limits, same_space}
 use Rattle.syscall_core.proofs.UnrefLaws.{row_rest}
 
 -- what none of the slots is, no slot is
-or_off : (a b : Bool) → (a || b) ≡ false → (a ≡ false) × (b ≡ false)
+pub or_off : (a b : Bool) → (a || b) ≡ false → (a ≡ false) × (b ≡ false)
 or_off true b h = absurd (cc)
 or_off false b h = (refl, h)
 
@@ -88,7 +88,7 @@ object_untouched s o t i space own off f is =
         both_ways (m.entry.object == o) h (eq-eqb m.entry.object o (ap (λ (z : Entry). z.object) same ∙ on))
 
 -- what a change touches is the same before and after one that leaves address spaces
-same_slots_at : (s : State) (o : ℕ) (f : Object → Object) → ((x : Object) → slots_of (f x).body ≡ slots_of x.body) → (a : ℕ)
+pub same_slots_at : (s : State) (o : ℕ) (f : Object → Object) → ((x : Object) → slots_of (f x).body ≡ slots_of x.body) → (a : ℕ)
     → slots_at (changed s o f) a ≡ slots_at s a
 same_slots_at s o f same a =
     elim (object_at s o)
@@ -157,7 +157,7 @@ link_left a b rows d o k slots is =
 -- after an unreference
 module _ (a b : ArenaState) (rows : BySlot) (d o : ℕ) (k : AreKept a rows) (slots : KeepsAllSlots a b)
     (is : state_of b ≡ restricted (changed (state_of a) d (delisting o))) where
-  cut_own : (t : ℕ) → (object_at (restricted (changed (state_of a) d (delisting o))) t ≡ None → ⊥)
+  pub cut_own : (t : ℕ) → (object_at (restricted (changed (state_of a) d (delisting o))) t ≡ None → ⊥)
       → own_space (restricted (changed (state_of a) d (delisting o))) t ≡ own_space (state_of a) t
   cut_own t there =
       rest_own (changed (state_of a) d (delisting o)) t there

@@ -1,7 +1,9 @@
 //! The arena kernel as what calls keep objects in: it takes no memory after its boot, and a call that compares only
 //! labels which are kept scans none.
-ghost use Rattle.std.specs.Prelude.{◌≡◌};
-ghost use Rattle.syscall_core.specs.Kernel.{cut_touches};
+ghost use Rattle.std.specs.Prelude.{◌≡◌, false};
+ghost use Rattle.base.specs.declared.kinds.Kind.TheVariants as kinds;
+ghost use Rattle.arena_state.specs.declared.repairs.Change.TheVariants as by;
+ghost use Rattle.syscall_core.specs.Kernel.{cut_touches, is_of_kind, kind_at, may_be_of_kind, IsUntouched};
 
 use crate::kernel::Kernel;
 use arena_state::Change;
@@ -19,6 +21,49 @@ fn cut_touches(is_container: bool, entry: &Entry) -> Change
         Change::All
     } else {
         Change::Entry(*entry)
+    }
+}
+
+// Whether this is a container's kind.
+fn is_container(kind: Option<Kind>) -> bool
+    ensures { result ≡ is_of_kind kinds.Container kind }
+{
+    match kind {
+        Some(Kind::Container) => true,
+        Some(Kind::Segment | Kind::AddressSpace | Kind::Thread | Kind::Gate | Kind::Device)
+        | None => false,
+    }
+}
+
+// Whether what is of this kind may be an address space: so may be what is not recorded.
+fn may_be_space(kind: Option<Kind>) -> bool
+    ensures { result ≡ may_be_of_kind kinds.AddressSpace kind }
+{
+    match kind {
+        None | Some(Kind::AddressSpace) => true,
+        Some(Kind::Container | Kind::Segment | Kind::Thread | Kind::Gate | Kind::Device) => false,
+    }
+}
+
+impl Kernel {
+    ghost use Rattle.syscall_core.specs.Kernel.{kernel_state};
+
+    // Whether an entry may touch a thread as it comes or goes, by the kind of its object: it touches none where the
+    // object is recorded, is no address space, and none maps it.
+    fn may_touch(&self, kind: Option<Kind>, entry: &Entry) -> bool
+        requires { kind ≡ kind_at (kernel_state self.now) entry.now.object }
+        ensures { result ≡ false → IsUntouched (kernel_state self.now) (by.Entry entry.now) }
+    {
+        may_be_space(kind) || self.state.may_map(entry.object)
+    }
+
+    // Whether a thread may be touched once an entry is taken out, by the kind of its object.
+    fn cut_may_touch(&self, kind: Option<Kind>, entry: &Entry) -> bool
+        requires { kind ≡ kind_at (kernel_state self.now) entry.now.object }
+        ensures { result ≡ false → IsUntouched (kernel_state self.now)
+            (cut_touches (is_of_kind kinds.Container kind) entry.now) }
+    {
+        is_container(kind) || self.may_touch(kind, entry)
     }
 }
 
@@ -194,21 +239,28 @@ impl Store for Kernel {
         entry: &Entry,
         meter: &mut Meter,
     ) -> Result<(), Infallible> {
-        self.state.link(container, entry, meter);
         let linked = Entry {
             container,
             object: entry.object,
         };
-        self.state
-            .repair(&Change::Entry(linked), &mut self.rows, meter);
+        let kind = self.state.kind(entry.object, meter);
+        let is_touching = self.may_touch(kind, &linked);
+        self.state.link(container, entry, meter);
+        if is_touching {
+            self.state
+                .repair(&Change::Entry(linked), &mut self.rows, meter);
+        }
         Ok(())
     }
 
     fn unref(&mut self, entry: &Entry, meter: &mut Meter) -> Result<(), Infallible> {
-        let is_container = self.state.is_kind(Kind::Container, entry.object, meter);
+        let kind = self.state.kind(entry.object, meter);
+        let is_touching = self.cut_may_touch(kind, entry);
         self.state.unref(entry, meter);
-        let cut = cut_touches(is_container, entry);
-        self.state.repair(&cut, &mut self.rows, meter);
+        if is_touching {
+            let cut = cut_touches(is_container(kind), entry);
+            self.state.repair(&cut, &mut self.rows, meter);
+        }
         Ok(())
     }
 
@@ -250,8 +302,10 @@ impl Store for Kernel {
 
     fn set_immutable(&mut self, id: ObjectId, meter: &mut Meter) {
         self.state.set_immutable(id, meter);
-        self.state
-            .repair(&Change::Object(id), &mut self.rows, meter);
+        if self.state.may_map(id) {
+            self.state
+                .repair(&Change::Object(id), &mut self.rows, meter);
+        }
     }
 
     fn meta_set(&mut self, id: ObjectId, given: &Data, meter: &mut Meter) {
