@@ -11,7 +11,7 @@ use Rattle.label_lattice.specs.declared.pairings.Pair.{Pair}
 use Rattle.label_lattice.specs.Columns.{filler}
 use Rattle.label_lattice.specs.Levels.{level_at, next_of, IsRising, IsAbove}
 use Rattle.label_lattice.specs.Walk.{Takes, TakesBoth, meets, comes_first, category_at}
-use Rattle.label_lattice.specs.Walk.{HoldsEverywhere}
+use Rattle.label_lattice.specs.Walk.{HoldsEverywhere, ComparesOn}
 use Rattle.std.proofs.Common.{slice_index_or}
 
 -- both parts of a conjunction
@@ -147,17 +147,6 @@ pub record WalkGoesOn (t : Level → Level → Level → Bool) (da db dc : Level
       → HoldsEverywhere t da a db b dc c
   pub back : HoldsEverywhere t da a db b dc c
       → HoldsEverywhere t da (drop i a) db (drop j b) dc (drop k c)
-
--- what the walk over two lists keeps for a rule: whether it held so far, and what is left of the
--- lists, decide the answer
-pub record ComparesOn (t : Level → Level → Level → Bool) (da db : Level) (a b : List Pair)
-    (i j : ℕ) (r : Bool) : Type 0 where
-  pub defaults : IsTrue r → IsTrue (t da db db)
-  pub forth : IsTrue r → HoldsEverywhere t da (drop i a) db (drop j b) db (drop j b)
-      → HoldsEverywhere t da a db b db b
-  pub so_far : HoldsEverywhere t da a db b db b → IsTrue r
-  pub back : HoldsEverywhere t da a db b db b
-      → HoldsEverywhere t da (drop i a) db (drop j b) db (drop j b)
 
 -- the beginning
 pub compare_none : (t : Level → Level → Level → Bool) (da db : Level) (a b : List Pair) (r : Bool)

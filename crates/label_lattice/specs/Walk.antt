@@ -1,6 +1,6 @@
 -- What the walk over exceptions answers, and what one step of it takes.
 use Rattle.std.specs.Prelude.{◌≡◌, ◌≢◌, ◌==◌, ◌&&◌, ◌||◌, ℕ, Bool, List, IsTrue, length, nat_lt, nat_le}
-use Rattle.std.specs.Prelude.{slice_index_or}
+use Rattle.std.specs.Prelude.{slice_index_or, drop}
 use Rattle.base.specs.declared.levels.Level.{Level}
 use Rattle.label_lattice.specs.declared.pairings.Pair.{Pair}
 use Rattle.label_lattice.specs.Columns.{filler}
@@ -48,3 +48,14 @@ pub record TakesBoth
   pub category : ℕ
   pub first : Takes a_default a category a_level a_new
   pub second : Takes b_default b category b_level b_new
+
+-- what the walk over two lists keeps for a rule: whether it held so far, and what is left of the
+-- lists, decide the answer
+pub record ComparesOn (t : Level → Level → Level → Bool) (da db : Level) (a b : List Pair)
+    (i j : ℕ) (r : Bool) : Type 0 where
+  pub defaults : IsTrue r → IsTrue (t da db db)
+  pub forth : IsTrue r → HoldsEverywhere t da (drop i a) db (drop j b) db (drop j b)
+      → HoldsEverywhere t da a db b db b
+  pub so_far : HoldsEverywhere t da a db b db b → IsTrue r
+  pub back : HoldsEverywhere t da a db b db b
+      → HoldsEverywhere t da (drop i a) db (drop j b) db (drop j b)

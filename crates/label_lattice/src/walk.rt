@@ -6,7 +6,7 @@ ghost use Rattle.std.specs.Int.{bit_at};
 ghost use Rattle.label_lattice.specs.Levels.{next_of, IsRising};
 ghost use Rattle.label_lattice.specs.Rule.{rule_test, up_rank, down_rank};
 ghost use Rattle.label_lattice.specs.Walk.{Takes, TakesBoth, meets, comes_first, category_at};
-ghost use Rattle.label_lattice.specs.Walk.{HoldsEverywhere};
+ghost use Rattle.label_lattice.specs.Walk.{HoldsEverywhere, ComparesOn};
 ghost use Rattle.label_lattice.specs.Ways.{both_test};
 
 use crate::pairings::Pairs;
@@ -180,11 +180,41 @@ fn take_least(
     }
 }
 
+/// How two labels compare so far, and the place in both lists from which they are still to be
+/// compared.
+#[derive(Clone, Copy)]
+struct Together {
+    held: u8,
+    place: usize,
+}
+
+/// How two labels compare over the defaults and over the places where both lists have the same
+/// category, from the first on, as long as a bit is left.
+#[inline(always)]
+fn compare_together(a_default: Level, a: &Pairs<16>, b_default: Level, b: &Pairs<16>) -> Together
+    requires a_rising { IsRising a.now }
+    requires b_rising { IsRising b.now }
+    ensures a_within { result.place ≤ length a.now }
+    ensures b_within { result.place ≤ length b.now }
+    ensures few { result.held < 2 ^ 6 }
+    ensures bits { (k : ℕ) → ComparesOn (both_test k) a_default b_default a.now b.now
+        result.place result.place (bit_at result.held k == 1) }
+{
+    let mut held = compare_levels(a_default, b_default);
+    let least = a.len().min(b.len());
+    let mut place = 0;
+    while held != 0 && place < least && has_same(a, b, place) {
+        held &= compare_levels(a.pair_at(place).level, b.pair_at(place).level);
+        place += 1;
+    }
+    Together { held, place }
+}
+
 /// How two labels compare each way, each a default and its exceptions: the sum of those bits of
-/// `compare_levels` that are there at each category. Each turn compares the levels of the least
-/// category that is left in a list, and the defaults stand for all that are in none. As long as both
-/// lists have the same categories, one place stands for both. Once no bit is left, that is the
-/// answer.
+/// `compare_levels` that are there at each category. As long as both lists have the same categories,
+/// one place stands for both. From there on each turn compares the levels of the least category that
+/// is left in a list, and the defaults stand for all that are in none. Once no bit is left, that is
+/// the answer.
 pub fn compare_everywhere(a_default: Level, a: &Pairs<16>, b_default: Level, b: &Pairs<16>) -> u8
     requires a_rising { IsRising a.now }
     requires b_rising { IsRising b.now }
@@ -192,14 +222,10 @@ pub fn compare_everywhere(a_default: Level, a: &Pairs<16>, b_default: Level, b: 
     ensures bits { (k : ℕ) → IsTrue (bit_at result k == 1) ↔
         HoldsEverywhere (both_test k) a_default a.now b_default b.now b_default b.now }
 {
-    let mut held = compare_levels(a_default, b_default);
-    let least = a.len().min(b.len());
-    let mut i = 0;
-    while held != 0 && i < least && has_same(a, b, i) {
-        held &= compare_levels(a.pair_at(i).level, b.pair_at(i).level);
-        i += 1;
-    }
-    let mut j = i;
+    let together = compare_together(a_default, a, b_default, b);
+    let mut held = together.held;
+    let mut i = together.place;
+    let mut j = together.place;
     while i < a.len() || j < b.len() {
         let turn = take_least(a_default, a, i, b_default, b, j);
         held &= compare_levels(turn.a, turn.b);
