@@ -12,7 +12,7 @@ use Rattle.label_lattice.specs.Columns.{filler}
 use Rattle.label_lattice.specs.Levels.{level_at, next_of, IsRising, IsAbove}
 use Rattle.label_lattice.specs.Walk.{Takes, TakesBoth, meets, comes_first, category_at}
 use Rattle.label_lattice.specs.Walk.{HoldsEverywhere, ComparesOn}
-use Rattle.std.proofs.Common.{slice_index_or}
+use Rattle.std.proofs.Common.{slice_index_or, add-one}
 
 -- both parts of a conjunction
 pub and_parts : (x y : Bool) → IsTrue (x && y) → IsTrue x × IsTrue y
@@ -270,3 +270,15 @@ module _ (da db : Level) (a b : List Pair) (i j : ℕ) where
     first = Takes-at da a i (category_at b j) filler rising_a in_a same;
     second = Takes-at db b j (category_at b j) filler rising_b in_b refl;
   }
+
+-- a turn in which both lists have one category at one place
+pub compare_both : (t : Level → Level → Level → Bool) (da db : Level) (a b : List Pair) (i : ℕ)
+    (r r' : Bool) (x y : Level) → IsRising a → IsRising b → i < length a → i < length b
+    → category_at a i ≡ category_at b i
+    → x ≡ (slice_index_or a i filler).level → y ≡ (slice_index_or b i filler).level
+    → ComparesOn t da db a b i i r → r' ≡ (r && t x y y)
+    → ComparesOn t da db a b (i + 1) (i + 1) r'
+compare_both t da db a b i r r' x y rising_a rising_b in_a in_b same ex ey on e =
+    let taken : TakesBoth da (drop i a) db (drop i b) x y (drop (i + 1) a) (drop (i + 1) b) =
+    rw (add-one i, ex, ey) (takes_both da db a b i i rising_a rising_b in_a in_b same) in
+    compare_more t da db a b i i r taken.category (i + 1) (i + 1) x y r' on taken.first taken.second e

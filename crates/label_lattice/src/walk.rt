@@ -203,9 +203,12 @@ fn compare_together(a_default: Level, a: &Pairs<16>, b_default: Level, b: &Pairs
     let mut held = compare_levels(a_default, b_default);
     let least = a.len().min(b.len());
     let mut place = 0;
-    while held != 0 && place < least && has_same(a, b, place) {
+    while place < least && has_same(a, b, place) {
         held &= compare_levels(a.pair_at(place).level, b.pair_at(place).level);
         place += 1;
+        if held == 0 {
+            break;
+        }
     }
     Together { held, place }
 }
@@ -222,6 +225,9 @@ pub fn compare_everywhere(a_default: Level, a: &Pairs<16>, b_default: Level, b: 
     ensures bits { (k : ℕ) → IsTrue (bit_at result k == 1) ↔
         HoldsEverywhere (both_test k) a_default a.now b_default b.now b_default b.now }
 {
+    if a.len() == 0 && b.len() == 0 {
+        return compare_levels(a_default, b_default);
+    }
     let together = compare_together(a_default, a, b_default, b);
     let mut held = together.held;
     let mut i = together.place;

@@ -1,11 +1,20 @@
-use Rattle.std.proofs.Common.{◌==◌, refl, bit_and}
+use Rattle.std.proofs.Common.{◌≤◌, ◌==◌, length, arith, refl, bit_and}
 use Rattle.std.specs.Int.{bit_at}
 use Rattle.std.specs.Int.Bits.{and_lt}
 use Rattle.label_lattice.specs.Ways.{both_test}
-use Rattle.label_lattice.proofs.WalkLemmas.{compare_more, compare_never}
+use Rattle.label_lattice.proofs.WalkLemmas.{compare_none, compare_more, compare_all, compare_never}
 use Rattle.std.proofs.lemmas.Nat.Bits.{bit_at-zero}
 use Rattle.label_lattice.proofs.WaysLemmas.{both_few, and_bit}
 use Rattle.label_lattice.proofs.walk.compare_everywhere.Goals as goal
+
+pub returns-then-len-eq0-2-clause-bits : goal.returns-then-len-eq0-2-clause-bits
+returns-then-len-eq0-2-clause-bits c =
+    let no_a : length c.args.a.now ≤ 0 = omega (arith, c.if-len-eq0.true, c.len.ensures.value) in
+    let no_b : length c.args.b.now ≤ 0 =
+    omega (arith, c.if-len-eq0-2.true, c.len-then-len-eq0.ensures.value) in
+    λ k. compare_all (both_test k) c.args.a_default c.args.b_default c.args.a.now c.args.b.now 0 0 _
+    (compare_none (both_test k) c.args.a_default c.args.b_default c.args.a.now c.args.b.now _
+    (rw c.compare_levels.ensures refl)) no_a no_b
 
 pub loop-i-preserved : goal.loop-i-preserved
 loop-i-preserved c =

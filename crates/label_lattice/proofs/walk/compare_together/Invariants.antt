@@ -4,8 +4,8 @@ use Rattle.label_lattice.specs.Ways.{both_test}
 use Rattle.label_lattice.specs.Walk.{ComparesOn}
 use Rattle.label_lattice.proofs.walk.compare_together.Given as goal
 
-abbrev pub invariant-loop-held : goal.invariant-loop-held
-invariant-loop-held l = record {
+abbrev pub invariant-loop-place : goal.invariant-loop-place
+invariant-loop-place l = record {
   a_within : l.place ≤ length l.a;
   b_within : l.place ≤ length l.b;
   few : l.held < 2 ^ 6;
@@ -14,5 +14,5 @@ invariant-loop-held l = record {
       (bit_at l.held k == 1);
 }
 
-abbrev pub decreases-loop-held : goal.decreases-loop-held
-decreases-loop-held l = length l.a - l.place
+abbrev pub decreases-loop-place : goal.decreases-loop-place
+decreases-loop-place l = length l.a - l.place
