@@ -4,6 +4,7 @@ ghost use Rattle.std.specs.Prelude.{option_copied, option_map};
 ghost use Rattle.kernel_rules.specs.State.{object_at, is_fixed, is_immutable, quota_at};
 ghost use Rattle.kernel_rules.specs.State.{use_of, is_kind_at, kind_of};
 ghost use Rattle.kernel_rules.specs.Changes.{joined_at};
+ghost use Rattle.kernel_store.specs.Sights.{kind_at};
 ghost use Rattle.arena_state.specs.Assembled.{body_use};
 ghost use Rattle.arena_state.specs.States.{state_of, find_cost, HasRow, Shows, Finds};
 
@@ -110,9 +111,9 @@ impl ArenaState {
     }
 
     /// The kind of an object, none where it is not recorded.
+    #[tactic(auto, unfolding(kernel_store::specs::Sights::kind_at))]
     pub fn kind(&self, id: ObjectId, meter: &mut Meter) -> Option<Kind>
-        ensures value { result ≡ option_map (λ x. kind_of x.body)
-            (object_at (state_of self.now) id) }
+        ensures value { result ≡ kind_at (state_of self.now) id }
         ensures scans { meter.new.scans ≡ meter.old.scans }
     {
         match self.row(id, meter) {

@@ -26,20 +26,15 @@ use Rattle.arena_state.specs.declared.repairs.Change.{Change}
 use Rattle.arena_state.specs.declared.repairs.Change.TheVariants as change
 use Rattle.arena_state.specs.declared.states.ArenaState.{ArenaState}
 use Rattle.arena_state.proofs.RepairedLaws.{rest_slots}
-use Rattle.syscall_core.specs.Kernel.{IsUntouched, cut_touches, is_of_kind, kind_at, may_be_of_kind}
+use Rattle.kernel_store.specs.Sights.{kind_at}
+use Rattle.syscall_core.specs.Kernel.{IsUntouched, cut_touches, may_be_of_kind}
 use Rattle.syscall_core.proofs.RepairLaws.{cut_own, immutable_left, link_left, or_off, same_slots_at, unref_left}
 use Rattle.syscall_core.proofs.RowLaws.{same_space}
 
--- the kind that was found
-pub kind_found : (k : kind.Kind) (s : State) (o : ℕ) → is_of_kind k (kind_at s o) ≡ is_kind_at s k o
-kind_found k s o = by (object_at s o)
-  where
-    by : (v : Option Object) → is_of_kind k (option_map (λ x. kind_of x.body) v) ≡ of_object false (is_kind k) v
-    by None = refl
-    by (Some x) = refl
-
+-- the kind that was found, or none
 pub kind_not_other : (k : kind.Kind) (s : State) (o : ℕ)
     → may_be_of_kind k (kind_at s o) ≡ of_object true (is_kind k) (object_at s o)
+unfolding kind_at
 kind_not_other k s o = by (object_at s o)
   where
     by : (v : Option Object) → may_be_of_kind k (option_map (λ x. kind_of x.body) v) ≡ of_object true (is_kind k) v

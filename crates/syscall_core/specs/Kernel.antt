@@ -1,7 +1,7 @@
 -- What contracts see of an arena kernel.
-use Rattle.std.specs.Prelude.{◌≡◌, ℕ, ◌==◌, Bool, true, false, Option, Some, None, option_map}
+use Rattle.std.specs.Prelude.{◌≡◌, ℕ, ◌==◌, Bool, true, false, Option, Some, None}
 use Rattle.base.specs.declared.kinds.Kind as kind
-use Rattle.kernel_rules.specs.State.{State, kind_of, kind_number, object_at}
+use Rattle.kernel_rules.specs.State.{State, kind_number}
 use Rattle.kernel_rules.specs.declared.calls.Entry.{Entry}
 use Rattle.arena_state.specs.States.{state_of}
 use Rattle.arena_state.specs.Touched.{touches}
@@ -18,16 +18,7 @@ abbrev pub cut_touches : Bool → Entry → change.Change
 cut_touches true e = by.All
 cut_touches false e = by.Entry e
 
--- the kind of what the id names, none where it is not recorded
-abbrev pub kind_at : State → ℕ → Option kind.Kind
-kind_at s o = option_map (λ x. kind_of x.body) (object_at s o)
-
--- what was found is of kind k
-abbrev pub is_of_kind : kind.Kind → Option kind.Kind → Bool
-is_of_kind k None = false
-is_of_kind k (Some found) = kind_number found == kind_number k
-
--- so may what was not found be
+-- what was found is of kind k, or nothing was
 abbrev pub may_be_of_kind : kind.Kind → Option kind.Kind → Bool
 may_be_of_kind k None = true
 may_be_of_kind k (Some found) = kind_number found == kind_number k

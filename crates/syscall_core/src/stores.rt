@@ -3,7 +3,8 @@
 ghost use Rattle.std.specs.Prelude.{◌≡◌, false};
 ghost use Rattle.base.specs.declared.kinds.Kind.TheVariants as kinds;
 ghost use Rattle.arena_state.specs.declared.repairs.Change.TheVariants as by;
-ghost use Rattle.syscall_core.specs.Kernel.{cut_touches, is_of_kind, kind_at, may_be_of_kind, IsUntouched};
+ghost use Rattle.kernel_store.specs.Sights.{kind_at, is_of};
+ghost use Rattle.syscall_core.specs.Kernel.{cut_touches, may_be_of_kind, IsUntouched};
 
 use crate::kernel::Kernel;
 use arena_state::Change;
@@ -25,8 +26,9 @@ fn cut_touches(is_container: bool, entry: &Entry) -> Change
 }
 
 // Whether this is a container's kind.
+#[tactic(auto, unfolding(kernel_store::specs::Sights::is_of))]
 fn is_container(kind: Option<Kind>) -> bool
-    ensures { result ≡ is_of_kind kinds.Container kind }
+    ensures { result ≡ is_of kinds.Container kind }
 {
     match kind {
         Some(Kind::Container) => true,
@@ -61,7 +63,7 @@ impl Kernel {
     fn cut_may_touch(&self, kind: Option<Kind>, entry: &Entry) -> bool
         requires { kind ≡ kind_at (kernel_state self.now) entry.now.object }
         ensures { result ≡ false → IsUntouched (kernel_state self.now)
-            (cut_touches (is_of_kind kinds.Container kind) entry.now) }
+            (cut_touches (is_of kinds.Container kind) entry.now) }
     {
         is_container(kind) || self.may_touch(kind, entry)
     }
