@@ -48,7 +48,11 @@ impl ArenaState {
             slot: object,
         };
         let holdings = &mut self.pieces.holdings;
-        if self.pieces.places.unref_found(lister, listed, holdings, meter) {
+        if self
+            .pieces
+            .places
+            .unref_found(lister, listed, holdings, meter)
+        {
             let _count = self.pieces.places.len();
             discharge(&mut self.pieces.holdings.records[container.0], pages);
         }

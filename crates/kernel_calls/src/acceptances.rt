@@ -125,9 +125,7 @@ fn accept<S: Store>(
                 clearance,
                 verify,
             };
-            Ok(gate_enter(
-                state, thread, gate, &entering, said, reply, meter,
-            ))
+            Ok(gate_enter(state, thread, gate, &entering, said, reply, meter))
         }
         Call::DevSend { entry, data } => dev_send(state, thread, entry, data, meter),
         Call::DevRecv { entry } => Ok(dev_recv(state, thread, entry, reply, meter)),

@@ -37,17 +37,35 @@ pub fn refused<S: Store>(
 {
     match call {
         Call::CatCreate => refused_cat_create(state, thread, meter),
-        Call::SelfSetLabel { label } => refused_self_set_label(state, thread, label, said.first, meter),
+        Call::SelfSetLabel { label } => refused_self_set_label(
+            state, thread, label, said.first, meter,
+        ),
         Call::SelfSetClearance { clearance } => {
             refused_self_set_clearance(state, thread, clearance, said.first, meter)
         }
         Call::SelfSetAs { space } => refused_self_set_as(state, thread, space, meter),
-        Call::ContainerCreate(made) => refused_container_create(state, thread, made, said.first, meter),
+        Call::ContainerCreate(made) => refused_container_create(
+            state, thread, made, said.first, meter,
+        ),
         Call::SegmentCreate(made) => refused_segment_create(state, thread, made, said.first, meter),
         Call::SegmentCopy(made) => refused_segment_copy(state, thread, made, said.first, meter),
         Call::AsCreate(made) => refused_as_create(state, thread, made, said.first, meter),
-        Call::ThreadCreate(made) => refused_thread_create(state, thread, made, said.first, said.second, meter),
-        Call::GateCreate(made) => refused_gate_create(state, thread, made, said.first, said.second, meter),
+        Call::ThreadCreate(made) => refused_thread_create(
+            state,
+            thread,
+            made,
+            said.first,
+            said.second,
+            meter,
+        ),
+        Call::GateCreate(made) => refused_gate_create(
+            state,
+            thread,
+            made,
+            said.first,
+            said.second,
+            meter,
+        ),
         Call::Link { target, entry } => refused_link(state, thread, *target, entry, meter),
         Call::Unref { entry } => refused_unref(state, thread, entry, meter),
         Call::QuotaMove { entry, change } => {

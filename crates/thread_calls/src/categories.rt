@@ -1,5 +1,6 @@
 //! The call that makes a category.
 #![tactic(auto, unfolding(kernel_rules::specs::Table::refused, kernel_rules::specs::Table::query_refused), using(kernel_store::proofs::SightLaws::kind_seen))]
+
 ghost use Rattle.std.specs.Prelude.{◌≡◌, ◌≤◌, ◌+◌, ◌||◌, is_none, None, IfSome};
 ghost use Rattle.label_lattice.specs.Label.{IsStored};
 ghost use Rattle.kernel_rules.specs.Rows.{own_label, own_clearance};

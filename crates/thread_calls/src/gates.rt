@@ -1,5 +1,6 @@
 //! The calls that make and enter gates.
 #![tactic(auto, unfolding(kernel_rules::specs::Table::refused, kernel_rules::specs::Table::query_refused), using(kernel_store::proofs::SightLaws::kind_seen))]
+
 ghost use Rattle.std.specs.Prelude.{◌≡◌, ◌≤◌, ◌+◌, ℕ, true, None};
 ghost use Rattle.std.specs.Prelude.{IfOk, OnOk, OnErr, IfSome, option_copied};
 ghost use Rattle.label_lattice.specs.Label.{IsStored};
@@ -48,9 +49,7 @@ pub fn refused_gate_create<S: Store>(
     refusal_of(&[
         &halted_at(&space),
         &space_entry(&made.space, &space),
-        &new_bearer(
-            state, thread, &site, &object, label, raw, clearance, meter,
-        ),
+        &new_bearer(state, thread, &site, &object, label, raw, clearance, meter),
     ])
 }
 

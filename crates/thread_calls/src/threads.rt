@@ -1,5 +1,6 @@
 //! The calls that make threads, give them an address space, and tell what they are.
 #![tactic(auto, unfolding(kernel_rules::specs::Table::refused, kernel_rules::specs::Table::query_refused), using(kernel_store::proofs::SightLaws::kind_seen))]
+
 ghost use Rattle.std.specs.Prelude.{◌≡◌, ◌≤◌, ◌+◌, None, IfOk, IfSome, OnOk, OnErr};
 ghost use Rattle.std.specs.Prelude.{option_copied};
 ghost use Rattle.label_lattice.specs.Label.{IsStored};
@@ -70,9 +71,7 @@ pub fn refused_thread_create<S: Store>(
     let raw = &made.clearance;
     refusal_of(&[
         &halted_by(&site),
-        &new_bearer(
-            state, thread, &site, &object, label, raw, clearance, meter,
-        ),
+        &new_bearer(state, thread, &site, &object, label, raw, clearance, meter),
     ])
 }
 

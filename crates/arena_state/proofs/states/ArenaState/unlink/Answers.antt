@@ -62,7 +62,7 @@ invariant_of-self c =
     record {
       sound = sound_then c.args.self.now.pieces c.args.self.now.sound c.args.entry.now.container c.args.entry.now.object
           (is_listed c.args.self.now.pieces c.args.self.now.sound c.args.entry.now.container c.args.entry.now.object
-    c.unref_found.result c.unref_found.ensures.told c.if-unref_found.true) c.args.container.0 c.args.object.0 c.requires.container.has
+          c.unref_found.result c.unref_found.ensures.told c.if-unref_found.true) c.args.container.0 c.args.object.0 c.requires.container.has
           c.requires.object.has c.unref_found.new.visitor h.0 h.1 h.3
           c.index.result.now c.index_mut.result.now c.index.ensures c.index_mut.ensures.value
           _ refl refl refl (c.unref_found.ensures.lists c.if-unref_found.true) (λ id slot at. (c.unref_found.ensures.kept c.if-unref_found.true id slot at).0) c.unref_found.ensures.pool
@@ -70,7 +70,7 @@ invariant_of-self c =
       stocked = unlinked_stocked c.args.self.now.pieces c.args.self.now.sound c.args.self.now.stocked q
           (sound_then c.args.self.now.pieces c.args.self.now.sound c.args.entry.now.container c.args.entry.now.object
           (is_listed c.args.self.now.pieces c.args.self.now.sound c.args.entry.now.container c.args.entry.now.object
-    c.unref_found.result c.unref_found.ensures.told c.if-unref_found.true) c.args.container.0 c.args.object.0 c.requires.container.has
+          c.unref_found.result c.unref_found.ensures.told c.if-unref_found.true) c.args.container.0 c.args.object.0 c.requires.container.has
           c.requires.object.has c.unref_found.new.visitor h.0 h.1 h.3
           c.index.result.now c.index_mut.result.now c.index.ensures c.index_mut.ensures.value
           _ refl refl refl (c.unref_found.ensures.lists c.if-unref_found.true) (λ id slot at. (c.unref_found.ensures.kept c.if-unref_found.true id slot at).0) c.unref_found.ensures.pool
