@@ -1,9 +1,10 @@
 #!/usr/bin/env bash
 # Times calls of the arena kernel by one thread, beside positional reads and writes of a file in memory and beside a file
-# that is made and goes, and beside a simple kernel in plain Rust (benches/simple), and prints ratios, each of one run, how
-# long a boot takes, and the bytes of an event and of a call: at 8, 64 and 512 pages as full as they get, with plain labels,
-# and at 64 pages with 4, 8 and 16 categories in each label, which is as many as a label has room for. Not a test: it ends
-# zero whatever the times are. It needs cargo and python3 beside the toolchain.
+# that is made and goes, beside a simple kernel in plain Rust (benches/simple) and beside the tuned one of the twin
+# (benches/twin), and prints ratios, each of one run, how long a boot takes, and the bytes of an event and of a call: at 8, 64
+# and 512 pages as full as they get, with plain labels, and at 64 pages with 4, 8 and 16 categories in each label, which is as
+# many as a label has room for. The twin's bench has plain labels at 64 and 512 pages. Not a test: it ends zero whatever the
+# times are. It needs cargo and python3 beside the toolchain.
 #
 # kernel.sh   ROUNDS=100000 may be set
 set -eu
@@ -11,7 +12,10 @@ top=$(cd "$(dirname "$0")/.." && pwd)
 bench=$top/crates/bench_kernel/out/bench_kernel
 simple=$top/benches/simple/target/release/simple
 command -v cargo >/dev/null || { echo "kernel.sh: cargo is not on the path, and the simple kernel is built with it" >&2; exit 2; }
-cargo build --quiet --release --offline --manifest-path "$top/benches/simple/Cargo.toml"
+twin=$top/benches/twin/target/release/twin-bench
+for yardstick in simple twin; do
+    cargo build --quiet --release --offline --manifest-path "$top/benches/$yardstick/Cargo.toml"
+done
 built=$(cd "$top/crates/bench_kernel" && rt run --jobs 1 2>&1) || { echo "$built" >&2; exit 1; }
 folder=$(mktemp -d -p /dev/shm)
 trap 'rm -rf "$folder"' EXIT
@@ -33,13 +37,30 @@ for name, (time, unit) in ours.items():
 PYTHON
 }
 
+# prints the twin's rows, each with the ratio of ours to it
+compare_twin() {
+    python3 - "$1" "$2" <<'PYTHON'
+import re, sys
+
+for line in open(sys.argv[1]):
+    row = re.match(r"(.+?) +(64|512) +[\d.]+ +[\d.]+ +([\d.]+)$", line)
+    if row:
+        name = row[1].removesuffix(" 64").replace("+", " with ")
+        ours = re.search(rf"^{name}: (\d+) ns", open(f"{sys.argv[2]}/ours-{row[2]}-0").read(), re.M)
+        print(f"{name}, {row[2]} pages: {ours[1]} ns, twin {row[3]} ns, ratio {int(ours[1]) / float(row[3]):.2f}")
+PYTHON
+}
+
 # (seven pages are the boot's, the segment's and the space's, and one is left for what is made and goes)
 for size in "8 0" "64 0" "512 0" "64 4" "64 8" "64 16"; do
     read -r pages categories <<<"$size"
     words=("$pages" $((pages - 8)) "$categories" "${ROUNDS:-100000}")
     echo "== $pages pages, $categories categories"
-    "$bench" "${words[@]}" "$folder/file" | tee "$folder/ours"
+    "$bench" "${words[@]}" "$folder/file" | tee "$folder/ours-$pages-$categories"
     "$simple" "${words[@]}" >"$folder/simple"
     echo "-- beside the simple kernel"
-    compare "$folder/ours" "$folder/simple"
+    compare "$folder/ours-$pages-$categories" "$folder/simple"
 done
+echo "== beside the twin's kernel, its median times, no category"
+"$twin" >"$folder/twin"
+compare_twin "$folder/twin" "$folder"

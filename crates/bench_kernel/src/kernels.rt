@@ -6,7 +6,7 @@ use crate::asked::{
 use anyhow::{Result, bail};
 use base::{Category, Level, Limits, Meter, ObjectId};
 use bench_support::nanos_since;
-use kernel_rules::{Call, Query};
+use kernel_rules::{Call, Query, Reply};
 use label_lattice::{Pair, Pairs, RawLabel};
 use std::alloc::Global;
 use std::rt::Clock;
@@ -55,9 +55,12 @@ impl Bench {
     /// The kernel and its memory go. (Here alone: what drops a kernel is long to prove.)
     pub fn free(self) {}
 
-    /// Whether a call was done.
+    /// Whether a call was done. Its reply is put where it is looked at: one that is returned is moved.
     fn ask(&mut self, call: &Call) -> bool {
-        is_done(&self.kernel.step_surely(asker(), call, &mut self.meter))
+        let mut reply = Reply::Done;
+        self.kernel
+            .step_into(asker(), call, &mut reply, &mut self.meter);
+        is_done(&reply)
     }
 
     /// A new category of the asker's.
@@ -159,7 +162,10 @@ impl Bench {
         let mut done = 0u64;
         let start = Instant::now(rt)?;
         for _ in 0..rounds {
-            if is_done(&self.kernel.ask_surely(asker(), query, &mut self.meter)) {
+            let mut reply = Reply::Done;
+            self.kernel
+                .ask_into(asker(), query, &mut reply, &mut self.meter);
+            if is_done(&reply) {
                 done = done.wrapping_add(1);
             }
         }
@@ -170,7 +176,9 @@ impl Bench {
     /// Makes an object in the root container, and takes it out again by a call that is told its id: whether both were
     /// done.
     fn make_and_unref(&mut self, making: &Call, unlinking: &mut Call) -> bool {
-        let reply = self.kernel.step_surely(asker(), making, &mut self.meter);
+        let mut reply = Reply::Done;
+        self.kernel
+            .step_into(asker(), making, &mut reply, &mut self.meter);
         match object_in(&reply) {
             Some(id) => {
                 name_object(unlinking, id);
