@@ -138,6 +138,7 @@ fn enter_two(spaces: &mut Spaces, meter: &mut Meter)
     ensures slots { length spaces.new.mappings ≡ 3 }
     ensures hooked { spaces.new.dependents ≡ [] ∷ [] ∷ [] ∷ [] }
     ensures users { spaces.new.users ≡ (2 ∷ 1 ∷ []) ∷ [] ∷ (0 ∷ []) ∷ [] }
+    ensures last { IsHooked spaces.new.users 1 }
 {
     spaces.enter(Slot(2), ONE, meter);
     spaces.enter(Slot(0), ONE, meter);
