@@ -170,3 +170,16 @@ fn a_refused_call_takes_as_many(rt: HostRuntime) -> Result<(), Fail> {
     );
     Ok(())
 }
+
+// Of an accepted create the plain machine scans the labels of the thread and the container three times, once for
+// access and twice for what it sees; the new label is gathered once, and compared with the thread's and its clearance.
+#[test]
+fn a_said_label_is_gathered_once(rt: HostRuntime) -> Result<(), Fail> {
+    let mut meter = Meter::new(rt.alloc())?;
+    let mut state = PlainState::boot(rt.alloc(), &LIMITS)?;
+    let [container, _, _] = makings();
+    let refused = answered(step(&mut state, boot_thread(), &container, &mut meter))?;
+    assert_eq!(rt; refused, None);
+    assert_eq!(rt; meter.scans(), 6);
+    Ok(())
+}
