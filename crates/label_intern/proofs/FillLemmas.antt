@@ -1,91 +1,89 @@
-use Rattle.std.proofs.Common.{◌≡◌, ◌≢◌, ℕ, ◌+◌, ◌*◌, ◌<◌, List, Option, Some, None, length, take, sym, ◌∙◌, inl, inr, arith}
-use Rattle.base.specs.Counts.{Counts, scanned}
+use Rattle.std.proofs.Common.{◌≡◌, ◌≢◌, ℕ, ◌+◌, ◌*◌, ◌<◌, List, Option, Some, None, length, get_or, is_some, IsSome, IfSome, refl, sym, ◌∙◌, ap, inl, inr, arith}
+use Rattle.base.specs.Counts.{Counts, scanned, ScansAtMost}
 use Rattle.label_lattice.specs.Label.{LabelValue}
+use Rattle.label_lattice.specs.Bits.{bits_of}
 use Rattle.label_intern.specs.declared.held.Held.{Held}
 use Rattle.label_intern.specs.declared.table.Table.{Table}
-use Rattle.label_lattice.specs.Bits.{bits_of}
-use Rattle.label_intern.specs.Held.{held_at, stored}
+use Rattle.label_intern.specs.Held.{held_at}
 use Rattle.label_intern.specs.Fill.{IsFilled}
+use Rattle.label_intern.specs.Listed.{IsListed}
 use Rattle.label_intern.specs.Table.{cell, ChangesPair}
-use Rattle.base.specs.Counts.{ScansAtMost}
 use Rattle.label_intern.proofs.CountsLemmas.{scans_some, scans_both}
-use Rattle.label_intern.proofs.WalkLemmas.{stored_more, stored_same}
+use Rattle.label_intern.proofs.HeldLemmas.{held_within}
 use Rattle.std.proofs.lemmas.Option.{none-some, same_Some}
-use Rattle.std.proofs.lemmas.Bool.{cases_eq}
+use Rattle.std.proofs.lemmas.Bool.{cases_eq, false≢true}
 
--- the order was written against the labels below n
-pub record Fills (slots : List (Option Held)) (at : ℕ) (l : LabelValue) (n : ℕ) (old new : Table) (before after : Counts) : Type 0 where
-  pub scans : ScansAtMost (3 + 6 * stored (take n slots)) before after
-  pub filled : IsFilled slots at l n old new
+module _ (slots : List (Option Held)) (listed : List ℕ) (at : ℕ) (l : LabelValue) (old : Table) where
+  -- the order was written against the labels of the first n indexes that are listed
+  pub record Fills (n : ℕ) (new : Table) (before after : Counts) : Type 0 where
+    pub scans : ScansAtMost (3 + 6 * n) before after
+    pub width : new.width ≡ old.width
+    pub own : cell new at at ≡ bits_of l l
+    pub forth : (k : ℕ) (h : Held) → k < n → held_at slots (get_or listed k 0) ≡ Some h
+        → cell new at (get_or listed k 0) ≡ bits_of l h.label
+    pub back : (k : ℕ) (h : Held) → k < n → held_at slots (get_or listed k 0) ≡ Some h
+        → cell new (get_or listed k 0) at ≡ bits_of h.label l
+    pub others : (i j : ℕ) → i ≢ at → j ≢ at → j < old.width → cell new i j ≡ cell old i j
 
--- the label's own order was written
-pub filled_own : (slots : List (Option Held)) (at : ℕ) (l : LabelValue) (old t : Table) → t.width ≡ old.width → cell t at at ≡ bits_of l l
-    → ((i j : ℕ) → j < old.width → (((i ≡ at) × (j ≡ at)) → ⊥) → cell t i j ≡ cell old i j) → IsFilled slots at l 0 old t
-filled_own slots at l old t width own others = record {
-  width = width;
-  own = own;
-  forth = λ j h j_in _. absurd (omega arith);
-  back = λ j h j_in _. absurd (omega arith);
-  others = λ i j i_apart j_apart j_in. others i j j_in (λ p. i_apart p.0);
-}
+  -- the order against one more label was written
+  fills_one : (n : ℕ) (mid t : Table) (before m after : Counts) (g : Held) → Fills n mid before m
+      → old.width ≡ length slots → at < length slots → held_at slots at ≡ None → held_at slots (get_or listed n 0) ≡ Some g
+      → ChangesPair mid t at (get_or listed n 0) (bits_of l g.label) (bits_of g.label l) → after ≡ scanned 6 m
+      → Fills (n + 1) t before after
+  fills_one n mid t before m after g filled width at_in free e change scans =
+      let other : ℕ = get_or listed n 0 in
+      let apart : at ≢ other = λ same. none-some g (sym free ∙ (ap (held_at slots) same ∙ e)) in
+      let other_in : other < length slots = held_within slots other g e in
+      let mid_width : mid.width ≡ length slots = filled.width ∙ width in
+      record {
+        scans = scans_both _ 6 _ before m after filled.scans (scans_some 6 m after scans) (omega arith);
+        width = change.width ∙ filled.width;
+        own = change.others at at (omega arith) (λ p. apart p.1) (λ p. apart p.0) ∙ filled.own;
+        forth = λ k h k_in at_k. elim (cases_eq (get_or listed k 0) other) as (λ _. cell t at (get_or listed k 0) ≡ bits_of l h.label) [
+          | inl here ↦ rw (here, ← same_Some g h (sym e ∙ (rw here at at_k))) change.forth
+          | inr before ↦
+              change.others at (get_or listed k 0) (omega (arith, held_within slots (get_or listed k 0) h at_k)) (λ p. before p.1) (λ p. apart p.0)
+              ∙ filled.forth k h (below k k_in before) at_k
+        ];
+        back = λ k h k_in at_k. elim (cases_eq (get_or listed k 0) other) as (λ _. cell t (get_or listed k 0) at ≡ bits_of h.label l) [
+          | inl here ↦ rw (here, ← same_Some g h (sym e ∙ (rw here at at_k))) change.back
+          | inr before ↦
+              change.others (get_or listed k 0) at (omega arith) (λ p. apart p.1) (λ p. before p.0)
+              ∙ filled.back k h (below k k_in before) at_k
+        ];
+        others = λ i j i_apart j_apart j_in.
+            change.others i j (omega (arith, filled.width)) (λ p. i_apart p.0) (λ p. j_apart p.1) ∙ filled.others i j i_apart j_apart j_in;
+      }
+    where
+      below : (k : ℕ) → k < n + 1 → get_or listed k 0 ≢ get_or listed n 0 → k < n
+      below k k_in apart = elim (cases_eq k n) as (λ _. k < n) [
+        | inl same ↦ absurd (apart (ap (λ (i : ℕ). get_or listed i 0) same))
+        | inr other ↦ omega arith
+      ]
 
--- the order against one more label was written
-pub filled_more : (slots : List (Option Held)) (at : ℕ) (l : LabelValue) (n : ℕ) (old mid t : Table) (g : Held) → IsFilled slots at l n old mid
-    → old.width ≡ length slots → at < length slots → n < length slots → at ≢ n → held_at slots n ≡ Some g
-    → ChangesPair mid t at n (bits_of l g.label) (bits_of g.label l) → IsFilled slots at l (n + 1) old t
-filled_more slots at l n old mid t g filled width at_in n_in apart e change =
-    let mid_width : mid.width ≡ length slots = filled.width ∙ width in
-    record {
-      width = change.width ∙ filled.width;
-      own = change.others at at (omega arith) (λ p. apart p.1) (λ p. apart p.0) ∙ filled.own;
-      forth = λ j h j_in at_j. elim (cases_eq j n) as (λ _. cell t at j ≡ bits_of l h.label) [
-        | inl here ↦ rw (here, ← same_Some g h (sym e ∙ (rw here at at_j))) change.forth
-        | inr before ↦
-            change.others at j (omega arith) (λ p. before p.1) (λ p. apart p.0) ∙ filled.forth j h (omega arith) at_j
-      ];
-      back = λ j h j_in at_j. elim (cases_eq j n) as (λ _. cell t j at ≡ bits_of h.label l) [
-        | inl here ↦ rw (here, ← same_Some g h (sym e ∙ (rw here at at_j))) change.back
-        | inr before ↦
-            change.others j at (omega arith) (λ p. apart p.1) (λ p. before p.0) ∙ filled.back j h (omega arith) at_j
-      ];
-      others = λ i j i_apart j_apart j_in.
-          change.others i j (omega (arith, filled.width)) (λ p. i_apart p.0) (λ p. j_apart p.1) ∙ filled.others i j i_apart j_apart j_in;
-    }
+  -- the order against the label of the next index was written
+  pub fills_more : (n : ℕ) (mid t : Table) (before m after : Counts) (read : LabelValue) → Fills n mid before m
+      → old.width ≡ length slots → at < length slots → held_at slots at ≡ None → IsSome (held_at slots (get_or listed n 0))
+      → IfSome (held_at slots (get_or listed n 0)) (λ held. read ≡ held.label)
+      → ChangesPair mid t at (get_or listed n 0) (bits_of l read) (bits_of read l) → after ≡ scanned 6 m
+      → Fills (n + 1) t before after
+  fills_more n mid t before m after read filled width at_in free some is change scans = of (held_at slots (get_or listed n 0)) refl some is
+    where
+      of : (v : Option Held) → held_at slots (get_or listed n 0) ≡ v → IsSome v → IfSome v (λ held. read ≡ held.label)
+          → Fills (n + 1) t before after
+      of None e some is = absurd (false≢true some)
+      of (Some g) e some is = fills_one n mid t before m after g filled width at_in free e (rw is at change) scans
 
--- no label is at the index
-pub filled_free : (slots : List (Option Held)) (at : ℕ) (l : LabelValue) (n : ℕ) (old t : Table) → IsFilled slots at l n old t
-    → held_at slots n ≡ None → IsFilled slots at l (n + 1) old t
-filled_free slots at l n old t filled e = record {
-  width = filled.width;
-  own = filled.own;
-  forth = λ j h j_in at_j. elim (cases_eq j n) as (λ _. cell t at j ≡ bits_of l h.label) [
-    | inl here ↦ absurd (none-some h (sym e ∙ (rw here at at_j)))
-    | inr before ↦ filled.forth j h (omega arith) at_j
-  ];
-  back = λ j h j_in at_j. elim (cases_eq j n) as (λ _. cell t j at ≡ bits_of h.label l) [
-    | inl here ↦ absurd (none-some h (sym e ∙ (rw here at at_j)))
-    | inr before ↦ filled.back j h (omega arith) at_j
-  ];
-  others = filled.others;
-}
-
--- one more label was met
-pub fills_more : (slots : List (Option Held)) (at : ℕ) (l : LabelValue) (n : ℕ) (old mid t : Table) (before m after : Counts) (g : Held)
-    → Fills slots at l n old mid before m → old.width ≡ length slots → at < length slots → n < length slots
-    → held_at slots at ≡ None → held_at slots n ≡ Some g
-    → ChangesPair mid t at n (bits_of l g.label) (bits_of g.label l) → after ≡ scanned 6 m
-    → Fills slots at l (n + 1) old t before after
-fills_more slots at l n old mid t before m after g fills width at_in n_in free e change scans =
-    let six = scans_some 6 m after scans in
-    record {
-      scans = scans_both _ 6 _ before m after fills.scans six (omega (arith, stored_more slots n g n_in e));
-      filled = filled_more slots at l n old mid t g fills.filled width at_in n_in (λ same. none-some g (sym free ∙ (rw (← same) at e))) e change;
-    }
-
--- no label was met
-pub fills_free : (slots : List (Option Held)) (at : ℕ) (l : LabelValue) (n : ℕ) (old t : Table) (before m : Counts)
-    → Fills slots at l n old t before m → n < length slots → held_at slots n ≡ None → Fills slots at l (n + 1) old t before m
-fills_free slots at l n old t before m fills n_in e = record {
-  scans = rw (stored_same slots n n_in e) fills.scans;
-  filled = filled_free slots at l n old t fills.filled e;
-}
+  -- the order against all labels was written
+  pub fills_all : (t : Table) (before after : Counts) → IsListed slots listed → Fills (length listed) t before after → IsFilled slots at l old t
+  fills_all t before after s filled = record {
+    width = filled.width;
+    own = filled.own;
+    forth = λ j h at_j.
+        let p = s.all j (ap is_some at_j) in
+        rw (← p.2) (filled.forth p.0 h p.1 (rw (← p.2) at at_j));
+    back = λ j h at_j.
+        let p = s.all j (ap is_some at_j) in
+        rw (← p.2) (filled.back p.0 h p.1 (rw (← p.2) at at_j));
+    others = filled.others;
+  }

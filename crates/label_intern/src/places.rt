@@ -1,7 +1,8 @@
 //! What walks the places of a pool, by index from 0.
-ghost use Rattle.std.specs.Prelude.{◌≡◌, ◌<◌, ◌+◌, ◌*◌, ◌^◌, None, IfSome, is_some, not, length};
+ghost use Rattle.std.specs.Prelude.{◌≡◌, ◌<◌, ◌+◌, ◌*◌, ◌^◌, None, IfSome, IsSome, is_some, not, length};
 ghost use Rattle.label_intern.specs.Held.{held_at, stored, fewer, raised, owners_in};
 ghost use Rattle.label_intern.specs.Fill.{IsFilled};
+ghost use Rattle.label_intern.specs.Listed.{IsListed};
 ghost use Rattle.base.specs.Counts.{ScansAtMost};
 
 use crate::held::Held;
@@ -23,22 +24,40 @@ pub fn free_place(slots: &[Option<Held>]) -> usize
     unreachable!()
 }
 
-/// Writes the order of a label against itself and every stored label, and of these against it. All other cells of the
-/// table stay. At most three scans, and six for each stored label.
-pub fn fill(table: &mut Table, slots: &[Option<Held>], at: usize, label: &Label, meter: &mut Meter)
+/// The label of an index that has one.
+pub fn label_at(slots: &[Option<Held>], at: usize) -> &Label
+    requires { IsSome (held_at slots.now at) }
+    ensures { IfSome (held_at slots.now at) (λ held. result.now ≡ held.label) }
+{
+    match &slots[at] {
+        Some(held) => &held.label,
+        None => unreachable!(),
+    }
+}
+
+/// Writes the order of a label against itself and every stored label, whose indexes are listed, and of these against it.
+/// All other cells of the table stay. At most three scans, and six for each stored label.
+pub fn fill(
+    table: &mut Table,
+    slots: &[Option<Held>],
+    listed: &[u16],
+    at: usize,
+    label: &Label,
+    meter: &mut Meter,
+)
     requires width { table.old.width ≡ length slots.now }
+    requires listed { IsListed slots.now listed.now }
     requires within { at < length slots.now }
     requires free { held_at slots.now at ≡ None }
     ensures scans { ScansAtMost (3 + 6 * stored slots.now) meter.old meter.new }
-    ensures filled { IsFilled slots.now at label.now (length slots.now) table.old table.new }
+    ensures filled { IsFilled slots.now at label.now table.old table.new }
 {
     let own = label.order_bits(label, meter);
     table.put(at, at, own);
-    for j in 0..slots.len() {
-        if let Some(held) = &slots[j] {
-            let ways = label.order_bits_both_ways(&held.label, meter);
-            table.put_both(at, j, ways.forth, ways.back);
-        }
+    for i in 0..listed.len() {
+        let other = usize::from(listed[i]);
+        let ways = label.order_bits_both_ways(label_at(slots, other), meter);
+        table.put_both(at, other, ways.forth, ways.back);
     }
 }
 

@@ -4,7 +4,7 @@ ghost use Rattle.std.specs.Prelude.{IfOk, IfSome, length, replicate, slice_set};
 
 use crate::held::Held;
 use crate::order::OrderBits;
-use crate::places::{fill, free_place, lower, raise};
+use crate::places::{fill, free_place, label_at, lower, raise};
 use crate::search::{put_at, seek, unlist};
 use crate::table::Table;
 use base::{Meter, NoMemory};
@@ -95,10 +95,7 @@ impl Labels {
         requires { IsSome (held_at self.now at.0) }
         ensures { IfSome (held_at self.now at.0) (λ held. result.now ≡ held.label) }
     {
-        match &self.slots[usize::from(at.0)] {
-            Some(held) => &held.label,
-            None => unreachable!(),
-        }
+        label_at(&self.slots, usize::from(at.0))
     }
 
     /// How the label of an index compares with that of another, both having one. It scans nothing.
@@ -133,7 +130,7 @@ impl Labels {
             Ok(at) => at,
             Err(place) => {
                 let at = free_place(&self.slots);
-                fill(&mut self.table, &self.slots, at, label, meter);
+                fill(&mut self.table, &self.slots, &self.listed, at, label, meter);
                 put_at(&mut self.listed, place, at as u16);
                 at
             }

@@ -9,7 +9,7 @@ ghost use Rattle.label_intern.specs.Halves.{ScansByHalves};
 ghost use Rattle.label_intern.specs.Listed.{Stands, IsListed, IsGap};
 
 use crate::held::Held;
-use crate::places::is_last;
+use crate::places::{is_last, label_at};
 use base::Meter;
 use label_lattice::Label;
 use std::cmp::Ordering;
@@ -21,10 +21,7 @@ fn compare_at(slots: &[Option<Held>], at: u16, label: &Label, meter: &mut Meter)
     ensures order { result ≡ label_cmp (label_of slots.now at) label.now }
     ensures equal { result ≡ Equal → HasLabel slots.now at label.now }
 {
-    match &slots[usize::from(at)] {
-        Some(held) => held.label.listing_cmp(label, meter),
-        None => unreachable!(),
-    }
+    label_at(slots, usize::from(at)).listing_cmp(label, meter)
 }
 
 /// The index of an equal label; the place where it would stand among the indexes of the stored labels by rising labels,
