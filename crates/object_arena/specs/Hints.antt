@@ -1,5 +1,5 @@
 -- Hints of where objects are. No public clause cites this module.
-use Rattle.std.specs.Prelude.{◌≡◌, ◌≢◌, ℕ, ◌-◌, ◌^◌, ◌<◌, ◌≤◌, ◌⊎◌, List, length, slice_index, slice_index_or, bit_and}
+use Rattle.std.specs.Prelude.{◌≡◌, ◌≢◌, ℕ, ◌-◌, ◌*◌, ◌^◌, ◌<◌, ◌≤◌, ◌⊎◌, List, length, slice_index, slice_index_or, bit_and}
 use Rattle.object_arena.specs.declared.hints.Hint.{Hint}
 
 -- a hint of no id
@@ -39,6 +39,6 @@ pub record IsForgotten (old new : List Hint) (gone : List ℕ) (many : ℕ) : Ty
   pub none : (i : ℕ) → i < many → 0 < slice_index gone i
       → (hint_at new (hint_place (slice_index gone i) (length old))).id ≢ slice_index gone i
 
--- there are as many as a power of two up to the size, or none
+-- there are four times as many as a power of two up to the size, or none
 abbrev pub IsHintCount : ℕ → ℕ → Type 0
-IsHintCount count size = 0 < count → (k : ℕ) × (count ≡ 2 ^ k) × (2 ^ k ≤ size)
+IsHintCount count size = 0 < count → (k : ℕ) × (count ≡ 4 * 2 ^ k) × (2 ^ k ≤ size)

@@ -116,7 +116,7 @@ impl<T: Drop> Arena<T> {
         ensures fewer { binary_digits (length self.now.ids)
             ≤ binary_digits (length self.now.cells) }
     {
-        if self.ids.len() >= self.hints.len() {
+        if self.ids.len() >= self.hints.len() / 4 {
             return None;
         }
         meter.probe();

@@ -1,4 +1,4 @@
-use Rattle.std.proofs.Common.{◌+◌, ◌<◌, ◌≤◌, ℕ, length, subst, arith}
+use Rattle.std.proofs.Common.{◌+◌, ◌/◌, ◌<◌, ◌≤◌, ℕ, length, subst, arith}
 use Rattle.std.specs.Prelude.{IfSome}
 use Rattle.object_arena.specs.Objects.{Objects, IsEntry, binary_digits}
 use Rattle.object_arena.specs.Slots.{IsKept}
@@ -20,7 +20,7 @@ less : (g : given.Over) (c : goal.After-hinted g) → binary_digits (length c.ar
 less g c =
     let ids = c.self.inside.ids.items in
     let hints = c.self.inside.hints.items in
-    let below : length ids < length hints = omega (arith, c.if-len.false, c.len.ensures, c.len-2.ensures) in
+    let below : length ids < length hints / 4 = omega (arith, c.if-len.false, c.len.ensures, c.len-2.ensures) in
     subst (λ (a : Objects g.row.T.Denot). binary_digits (length a.ids) + 1 ≤ binary_digits (length a.cells)) c.self.view_is
     (digit_less (length ids) (length hints) (length c.self.inside.cells.items) c.self.invariant.5 below)
 
