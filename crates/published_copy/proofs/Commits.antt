@@ -2,8 +2,7 @@
 use Rattle.std.proofs.Common.{◌≡◌, ◌+◌, ℕ, List, [], ◌∷◌, ◌++◌, length, fold, refl, sym, ap, ◌∙◌, subst, arith, length-append}
 use Rattle.logbook.specs.Pages.{Book as Log}
 use Rattle.base.specs.declared.ranges.Limits.{Limits}
-use Rattle.kernel_rules.specs.State.{State}
-use Rattle.kernel_rules.specs.Step.{next}
+use Rattle.kernel_rules.specs.Step.{answer, next}
 use Rattle.kernel_rules.specs.Runs.{booted}
 use Rattle.kernel_rules.specs.History.{IsLegal, state_of}
 use Rattle.kernel_rules.specs.declared.events.Event.{Event}
@@ -16,10 +15,14 @@ use Rattle.published_copy.specs.Entries.{made}
 use Rattle.published_copy.specs.Absorbed.{shown_of, absorbed, list_of, listed}
 use Rattle.syscall_core.specs.Kernel.{kernel_state}
 use Rattle.published_copy.specs.Boots.{Boot}
-use Rattle.published_copy.specs.Shares.{CopiesView, IsAwaited, IsNext, IsShown, Names, Succeeds, copies_with, tag_of}
+use Rattle.published_copy.specs.Shares.{CopiesView, EndsWithReply, IsAwaited, IsNext, IsShown, Names, Succeeds, copies_with, tag_of}
 
 abbrev log_from : ℕ × (ℕ × ℕ) → Log
 log_from t = record { number = t.0; log_name = t.1.0; cells_name = t.1.1 }
+
+-- a copy is in the state of its list
+pub shown_state : (boot : Boot) (x : Copied) (list : List Event) → IsShown boot x list → kernel_state x.kernel ≡ state_of boot.limits list
+shown_state boot x list was = was.good.kernel_is ∙ (λ i. state_of (was.limits_are i) (was.list_is i))
 
 -- a copy that took in the next event is of the list with it
 pub shows_next : (boot : Boot) (x y : Copied) (list : List Event) (op : Op)
@@ -32,7 +35,7 @@ shows_next boot x y list op was nx is =
     let list_is : list_of y.sealed y.seen.log ≡ list ++ e ∷ [] = listed_is ∙ nx.list_is in
     let kernel : kernel_state y.kernel ≡ state_of limits (list ++ e ∷ []) =
     ap (λ s. s.state) is
-    ∙ ((λ i. next ((was.good.kernel_is ∙ (λ j. state_of (was.limits_are j) (was.list_is j))) i) (nx.thread_is i) (nx.call_is i))
+    ∙ ((λ i. next (shown_state boot x list was i) (nx.thread_is i) (nx.call_is i))
     ∙ sym (state_of-snoc limits list e)) in
     let legal : IsLegal limits (list ++ e ∷ []) =
     legal-snoc limits list e
@@ -49,17 +52,31 @@ shows_next boot x y list op was nx is =
       list_is = listed_is;
     }
 
--- what is shown once the awaited operation was taken in
+-- and it has that event's reply
+pub replies_next : (boot : Boot) (x y : Copied) (list : List Event) (op : Op)
+    → IsShown boot x list → IsNext boot list op → shown_of y ≡ absorbed (shown_of x) op → EndsWithReply (listed op) y.reply
+replies_next boot x y list op was nx is = record {
+  before = list;
+  event = nx.event;
+  list_is = nx.list_is;
+  reply_is =
+      nx.may.reply
+      ∙ sym (ap (λ s. s.reply) is ∙ (λ i. answer (shown_state boot x list was i) (nx.thread_is i) (nx.call_is i)));
+}
+
+-- what is shown once the awaited operation was taken in, and its reply
 pub shows_awaited : (boot : Boot) (v : CopiesView) (x y : Copied) (pending : List Op) (list : List Event)
     → copies_with (list_of x.sealed x.seen.log) pending ≡ v
     → IsShown boot x (list_of x.sealed x.seen.log) → IsAwaited boot v list
-    → shown_of y ≡ fold absorbed (shown_of x) pending → IsShown boot y list
+    → shown_of y ≡ fold absorbed (shown_of x) pending → IsShown boot y list × EndsWithReply list y.reply
 shows_awaited boot v x y pending list view was now is =
     let awaited : IsAwaited boot (copies_with (list_of x.sealed x.seen.log) pending) list =
     subst (λ (c : CopiesView). IsAwaited boot c list) (sym view) now in
     let took : shown_of y ≡ absorbed (shown_of x) awaited.op = is ∙ ap (fold absorbed (shown_of x)) awaited.pending_is in
-    subst (λ (l : List Event). IsShown boot y l) awaited.list_is
-    (shows_next boot x y (list_of x.sealed x.seen.log) awaited.op was awaited.next took)
+    subst (λ (l : List Event). IsShown boot y l × EndsWithReply l y.reply) awaited.list_is (
+      shows_next boot x y (list_of x.sealed x.seen.log) awaited.op was awaited.next took,
+      replies_next boot x y (list_of x.sealed x.seen.log) awaited.op was awaited.next took,
+    )
 
 -- a copy shows its own list
 pub shows_own : (boot : Boot) (x : Copied) (list : List Event)
@@ -87,11 +104,6 @@ awaits boot copies list op log settled is nx saw settles = record {
   next = subst (λ (l : List Event). IsNext boot l op) (sym (ap (λ c. c.list) is)) nx;
   list_is = ap (λ (l : List Entry). made (l ++ Made ∷ [])) saw ∙ ap made (sym settles);
 }
-
--- a kernel that made the next event is in the state of the list with it
-pub makes : (limits : Limits) (list : List Event) (e : Event) (s t : State)
-    → s ≡ state_of limits list → t ≡ next s e.thread e.call → t ≡ state_of limits (list ++ e ∷ [])
-makes limits list e s t was is = is ∙ (ap (λ z. next z e.thread e.call) was ∙ sym (state_of-snoc limits list e))
 
 -- a copy that shows the same is of the same list
 pub shows_same : (boot : Boot) (x y : Copied) (journal : List Event)

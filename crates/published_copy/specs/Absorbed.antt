@@ -1,7 +1,7 @@
 -- What a copy shows, and what it becomes when it takes in a call.
 use Rattle.std.specs.Prelude.{Bool, true, false, List, [], ◌∷◌, ◌++◌}
 use Rattle.std.specs.Arc.{arc_value}
-use Rattle.kernel_rules.specs.Step.{next}
+use Rattle.kernel_rules.specs.Step.{answer, next}
 use Rattle.kernel_rules.specs.declared.events.Event.{Event}
 use Rattle.syscall_core.specs.Kernel.{kernel_state}
 use Rattle.published_copy.specs.declared.entries.Entry.{Entry}
@@ -30,9 +30,10 @@ shown_of c = record {
   log_name = c.seen.book.log_name;
   cells_name = c.seen.book.cells_name;
   list = list_of c.sealed c.seen.log;
+  reply = c.reply;
 }
 
--- and what becomes of it: the next state, and the list with the call's event
+-- and what becomes of it: the next state, the list with the call's event, and the answer
 abbrev pub absorbed : Shown → Op → Shown
 absorbed s op = record {
   state = next s.state op.thread (arc_value op.call);
@@ -42,4 +43,5 @@ absorbed s op = record {
   log_name = op.seen.book.log_name;
   cells_name = op.seen.book.cells_name;
   list = listed op;
+  reply = answer s.state op.thread (arc_value op.call);
 }

@@ -7,6 +7,7 @@ use Rattle.base.specs.declared.levels.Level.TheVariants.{L1}
 use Rattle.std.specs.Arc.{arc_value}
 use Rattle.kernel_rules.specs.History.{IsLegal, Follows, state_of}
 use Rattle.kernel_rules.specs.declared.events.Event.{Event}
+use Rattle.kernel_rules.specs.declared.replies.Reply.{Reply}
 use Rattle.syscall_core.specs.Kernel.{kernel_state}
 use Rattle.published_copy.specs.Boots.{Boot}
 use Rattle.published_copy.specs.Absorbed.{list_of, listed}
@@ -91,6 +92,13 @@ pub record IsAwaited (boot : Boot) (copies : CopiesView) (list : List Event) : T
   pub pending_is : copies.pending ≡ op ∷ []
   pub next : IsNext boot copies.list op
   pub list_is : listed op ≡ list
+
+-- the last event of the list has this reply
+pub record EndsWithReply (list : List Event) (reply : Reply) : Type 0 where
+  pub before : List Event
+  pub event : Event
+  pub list_is : list ≡ before ++ event ∷ []
+  pub reply_is : event.reply ≡ reply
 
 -- the second copy is the state of its list, and of the boot of the first
 abbrev pub Succeeds : Copied → Copied → Type 0

@@ -3,7 +3,6 @@ ghost use Rattle.std.specs.Prelude.{◌≡◌, ◌≤◌, ◌<◌, ◌+◌, ◌�
 ghost use Rattle.std.specs.Prelude.{IfOk, IfErr, OnOk, OnErr, IsErrOf, Some, None};
 ghost use Rattle.std.specs.Prelude.{◌^◌, IsTrue, IfNone, vec_len, vec_capacity};
 ghost use Rattle.base.specs.declared.kinds.Kind.TheVariants as kinds;
-ghost use Rattle.kernel_rules.specs.declared.replies.Reply.TheVariants as told;
 ghost use Rattle.kernel_rules.specs.History.{IsLegal, state_of, count};
 ghost use Rattle.kernel_rules.specs.State.{is_live_kind};
 ghost use Rattle.syscall_core.specs.Kernel.{kernel_state};
@@ -29,13 +28,12 @@ use std::marker::Model;
 use std::sync::Wait;
 use syscall_core::Kernel;
 
-/// A kernel with its two copies, the journal of all calls that were made to it, and the threads
+/// A kernel in its two copies, the journal of all calls that were made to it, and the threads
 /// that were given seats. A contract sees it as the journal, which is legal, and in whose state the
-/// kernel and the published copy are, at all times, and those threads.
+/// published copy is, at all times, and those threads.
 #[derive(Drop)]
 pub struct Book<B: Naming> {
     limits: Limits,
-    kernel: Kernel,
     meter: Meter,
     journal: Vec<KeptEvent>,
     tallies: Vec<Tally>,
@@ -45,8 +43,7 @@ pub struct Book<B: Naming> {
 
 impl<B: Naming> Model for Book<B> {
     ghost use Rattle.std.specs.Prelude.{◌≡◌};
-    ghost use Rattle.kernel_rules.specs.History.{IsLegal, state_of};
-    ghost use Rattle.syscall_core.specs.Kernel.{kernel_state};
+    ghost use Rattle.kernel_rules.specs.History.{IsLegal};
     ghost use Rattle.published_copy.specs.Books.{BookView};
     ghost use Rattle.published_copy.specs.Tallies.{IsTallied};
 
@@ -55,7 +52,6 @@ impl<B: Naming> Model for Book<B> {
     ghost view = { λ b. record { journal = b.journal.items; seated = b.places.seated } };
 
     ghost invariant = { λ b. (b.limits ≡ B.boot.limits) × IsLegal B.boot.limits b.journal.items
-        × (kernel_state b.kernel ≡ state_of B.boot.limits b.journal.items)
         × IsTallied b.tallies.items b.journal.items
         × (b.pair ≡ b.journal.items) × (b.places.seats ≡ B.boot.seats) };
 }
@@ -87,7 +83,6 @@ impl<B: Naming> Book<B> {
     /// The book of a boot, with no event and no seat given.
     pub(crate) fn new(
         limits: Limits,
-        kernel: Kernel,
         meter: Meter,
         journal: Vec<KeptEvent>,
         tallies: Vec<Tally>,
@@ -95,7 +90,6 @@ impl<B: Naming> Book<B> {
         pair: Pair<B>,
     ) -> Book<B>
         requires limits { limits ≡ B.boot.limits }
-        requires booted { kernel_state kernel ≡ state_of B.boot.limits [] }
         requires empty { (journal.items ≡ []) × (tallies.items ≡ []) }
         requires free { places ≡ places_with [] B.boot.seats }
         requires pair { pair ≡ [] }
@@ -104,7 +98,6 @@ impl<B: Naming> Book<B> {
     {
         Book {
             limits,
-            kernel,
             meter,
             journal,
             tallies,
@@ -134,7 +127,7 @@ impl<B: Naming> Book<B> {
     pub fn kernel(&self) -> &Kernel
         ensures { kernel_state result.now ≡ state_of B.boot.limits self.now.journal }
     {
-        &self.kernel
+        self.pair.kernel()
     }
 
     /// The journal, of a book that is used no more. The copies' memory is given back, once no
@@ -145,7 +138,6 @@ impl<B: Naming> Book<B> {
     {
         let Book {
             limits: _,
-            kernel: _,
             meter: _,
             journal,
             tallies: _,
@@ -156,8 +148,8 @@ impl<B: Naming> Book<B> {
         journal
     }
 
-    /// Makes a call as the pass's thread, as `Lent::commit` says. The reply, which is `Done`, becomes
-    /// the event's, and without one stays. Which threads were given seats stays as it is.
+    /// Makes a call as the pass's thread, as `Lent::commit` says. The reply becomes the event's.
+    /// Which threads were given seats stays as it is.
     pub(crate) fn commit<R: Wait>(
         &mut self,
         rt: &R,
@@ -165,7 +157,6 @@ impl<B: Naming> Book<B> {
         call: &Call,
         reply: &mut Reply,
     ) -> Result<Placed, SubmitRefusal>
-        requires { reply.old ≡ told.Done }
         ensures receipt { IfOk result (λ placed. receipt_with reply.new placed
             ≡ receipt_of B.boot.limits self.old.journal pass.old call.now) }
         ensures journal { OnOk result
@@ -186,10 +177,7 @@ impl<B: Naming> Book<B> {
         let events = self.journal.len() as u64;
         let _begins = self.pair.front(events).has(pass.front());
         make_room(&mut self.journal, &mut self.tallies)?;
-        let (kernel, meter) = (&mut self.kernel, &mut self.meter);
-        let made = self
-            .pair
-            .commit(rt, kernel, meter, pass, call, events + 1, reply);
+        let made = self.pair.commit(rt, pass, call, events + 1, reply);
         let Ok(kept) = made else {
             return Err(SubmitRefusal::Memory);
         };
@@ -214,7 +202,7 @@ impl<B: Naming> Book<B> {
         if self.places.has(thread) || events_of(&self.tallies, thread) > 0 {
             return Some(SeatRefusal::SeatTaken);
         }
-        if !self.kernel.is_thread(thread, &mut self.meter) {
+        if !self.pair.kernel().is_thread(thread, &mut self.meter) {
             return Some(SeatRefusal::NoThread);
         }
         if self.places.are_spent() {

@@ -30,7 +30,6 @@ use syscall_core::{BootRefusal, Kernel};
 pub struct Blank {
     alloc: Global,
     limits: Limits,
-    kernel: Kernel,
     meter: Meter,
     journal: Vec<KeptEvent>,
     tallies: Vec<Tally>,
@@ -44,8 +43,6 @@ impl Model for Blank {
     ghost use Rattle.core.specs.Mem.{manually_drop_value};
     ghost use Rattle.std.specs.Prelude.{◌≡◌, [], drop};
     ghost use Rattle.std.specs.Arc.{arc_value};
-    ghost use Rattle.kernel_rules.specs.Runs.{booted};
-    ghost use Rattle.syscall_core.specs.Kernel.{kernel_state};
     ghost use Rattle.published_copy.specs.Books.{places_with};
     ghost use Rattle.published_copy.specs.Boots.{Boot, boot_of};
     ghost use Rattle.published_copy.specs.Rules.{head_of};
@@ -55,8 +52,7 @@ impl Model for Blank {
 
     ghost view = { λ b. boot_of b.seen.book b.limits b.places.seats };
 
-    ghost invariant = { λ b. (kernel_state b.kernel ≡ booted b.limits)
-        × (b.journal.items ≡ []) × (b.tallies.items ≡ []) × (b.places ≡ places_with [] b.places.seats)
+    ghost invariant = { λ b. (b.journal.items ≡ []) × (b.tallies.items ≡ []) × (b.places ≡ places_with [] b.places.seats)
         × (b.seen.log ≡ []) × (arc_value b.head ≡ head_of b.seen.book)
         × IsShown (boot_of b.seen.book b.limits b.places.seats)
         (manually_drop_value b.writer).desk.shown.value []
@@ -79,11 +75,10 @@ fn blank_over(
     let meter = Meter::new(alloc)?;
     let places = Places::new(alloc, seats)?;
     let (head, seen) = empty_log(alloc)?;
-    let writer = first_copies(alloc, limits, &seen, seats)?;
+    let writer = first_copies(alloc, limits, kernel, &seen, seats)?;
     Ok(Blank {
         alloc,
         limits: *limits,
-        kernel,
         meter,
         journal: Vec::new(alloc),
         tallies: Vec::new(alloc),
@@ -128,7 +123,6 @@ impl Blank {
         let Blank {
             alloc,
             limits,
-            kernel,
             meter,
             journal,
             tallies,
@@ -139,7 +133,7 @@ impl Blank {
         } = self;
         let pair = Pair::new(alloc, seen, head, writer);
         Shared {
-            book: Mutex::new(Book::new(limits, kernel, meter, journal, tallies, places, pair)),
+            book: Mutex::new(Book::new(limits, meter, journal, tallies, places, pair)),
         }
     }
 }

@@ -2,7 +2,8 @@
 ghost use Rattle.std.specs.Prelude.{◌≡◌, ℕ, [], IfOk, true};
 ghost use Rattle.std.specs.Arc.{arc_value};
 ghost use Rattle.kernel_rules.specs.Runs.{booted};
-ghost use Rattle.kernel_rules.specs.Step.{next};
+ghost use Rattle.kernel_rules.specs.Step.{answer, next};
+ghost use Rattle.kernel_rules.specs.declared.replies.Reply.TheVariants as told;
 ghost use Rattle.published_copy.specs.Boots.{boot_of};
 ghost use Rattle.published_copy.specs.Shares.{IsShown};
 ghost use Rattle.syscall_core.specs.Kernel.{kernel_state};
@@ -27,6 +28,8 @@ pub(crate) struct Copied {
     /// published: the event is made before.
     pub(crate) sealed: bool,
     pub(crate) seen: Told,
+    /// What the list's last call was answered; `Done` where there is none.
+    pub(crate) reply: Reply,
     pub(crate) meter: Meter,
 }
 
@@ -45,8 +48,8 @@ impl Model for Stood {
     ghost view = { λ s. kernel_state s.kernel };
 }
 
-/// What the two copies have in common: the state, the limits, the length, the log by its name, and
-/// the list. No value of it is made.
+/// What the two copies have in common: the state, the limits, the length, the log by its name, the
+/// list, and the last reply. No value of it is made.
 pub(crate) struct Shown {
     pub(crate) state: Stood,
     pub(crate) limits: Limits,
@@ -55,15 +58,28 @@ pub(crate) struct Shown {
     pub(crate) log_name: u64,
     pub(crate) cells_name: u64,
     pub(crate) list: [Event; 0],
+    pub(crate) reply: Reply,
 }
 
-/// A kernel makes the call of an operation.
-fn make(kernel: &mut Kernel, meter: &mut Meter, operation: &Op)
-    ensures { kernel_state kernel.new
+/// The reply becomes `Done`. A reply is large, so it is written where it is another alone.
+fn clear(reply: &mut Reply)
+    ensures { reply.new ≡ told.Done }
+{
+    match reply {
+        Reply::Done => {}
+        _ => *reply = Reply::Done,
+    }
+}
+
+/// A kernel makes the call of an operation, and the reply becomes its answer.
+fn make(kernel: &mut Kernel, meter: &mut Meter, operation: &Op, reply: &mut Reply)
+    ensures reply { reply.new
+        ≡ answer (kernel_state kernel.old) operation.now.thread (arc_value operation.now.call) }
+    ensures state { kernel_state kernel.new
         ≡ next (kernel_state kernel.old) operation.now.thread (arc_value operation.now.call) }
 {
-    let mut reply = Reply::Done;
-    kernel.step_into(operation.thread, &operation.call, &mut reply, meter);
+    clear(reply);
+    kernel.step_into(operation.thread, &operation.call, reply, meter);
 }
 
 impl Absorb<Op> for Copied {
@@ -78,7 +94,12 @@ impl Absorb<Op> for Copied {
     ghost never_fails = { Unit {0} };
 
     fn absorb_first(&mut self, operation: &Op, _other: &Copied) -> Result<(), AllocError> {
-        make(&mut self.kernel, &mut self.meter, operation);
+        make(
+            &mut self.kernel,
+            &mut self.meter,
+            operation,
+            &mut self.reply,
+        );
         self.length = operation.length;
         let (weight, seen) = weighed(&operation.head, &operation.seen);
         if weight > operation.weight && weight - 1 == operation.weight {
@@ -92,18 +113,21 @@ impl Absorb<Op> for Copied {
     }
 }
 
-/// A copy of a newly booted kernel, whose log has no entry.
-pub(crate) fn first_copy(alloc: Global, limits: &Limits, seen: &Told) -> Result<Copied, NoMemory>
-    requires { seen.now.log ≡ [] }
+/// A copy with a newly booted kernel, whose log has no entry.
+pub(crate) fn first_copy(
+    alloc: Global,
+    limits: &Limits,
+    kernel: Kernel,
+    seen: &Told,
+) -> Result<Copied, NoMemory>
+    requires booted { kernel_state kernel ≡ booted limits.now }
+    requires empty { seen.now.log ≡ [] }
     ensures shown { IfOk result
         (λ copy. (seats : ℕ) → IsShown (boot_of seen.now.book limits.now seats) copy []) }
     ensures state { IfOk result (λ copy. kernel_state copy.kernel ≡ booted limits.now) }
     ensures rest { IfOk result (λ copy. (copy.limits ≡ limits.now) × (copy.length ≡ 0)
-        × (copy.sealed ≡ true) × (copy.seen ≡ seen.now)) }
+        × (copy.sealed ≡ true) × (copy.seen ≡ seen.now) × (copy.reply ≡ told.Done)) }
 {
-    let Ok(kernel) = Kernel::boot(alloc, limits) else {
-        return Err(NoMemory);
-    };
     let meter = Meter::new(alloc)?;
     Ok(Copied {
         kernel,
@@ -111,6 +135,7 @@ pub(crate) fn first_copy(alloc: Global, limits: &Limits, seen: &Told) -> Result<
         length: 0,
         sealed: true,
         seen: seen.again(),
+        reply: Reply::Done,
         meter,
     })
 }

@@ -4,8 +4,7 @@ ghost use Rattle.std.specs.Prelude.{◌≡◌, ◌+◌, ◌<◌, ◌^◌, ◌++�
 ghost use Rattle.std.specs.Prelude.{OnOk, OnErr, IfOk, IfSome, OnSome};
 ghost use Rattle.std.specs.Arc.{arc_value};
 ghost use Rattle.kernel_rules.specs.History.{state_of, count};
-ghost use Rattle.kernel_rules.specs.Step.{answer, next};
-ghost use Rattle.kernel_rules.specs.declared.replies.Reply.TheVariants as told;
+ghost use Rattle.kernel_rules.specs.Step.{answer};
 ghost use Rattle.syscall_core.specs.Kernel.{kernel_state};
 ghost use Rattle.published_copy.specs.Absorbed.{list_of};
 ghost use Rattle.published_copy.specs.Entries.{made, weight};
@@ -21,7 +20,7 @@ use crate::ops::Op;
 use crate::passes::Pass;
 use crate::tips::Tip;
 use crate::writers::{Copies, Writer};
-use base::{Meter, NoMemory, ObjectId};
+use base::NoMemory;
 use kept_events::KeptCall;
 use kernel_rules::{Call, Reply};
 use std::alloc::Global;
@@ -111,15 +110,6 @@ fn operation<B: Naming>(
     }
 }
 
-/// The master makes a thread's call, and the reply, which is `Done`, becomes its answer.
-fn make(kernel: &mut Kernel, meter: &mut Meter, thread: ObjectId, call: &Call, reply: &mut Reply)
-    requires { reply.old ≡ told.Done }
-    ensures reply { reply.new ≡ answer (kernel_state kernel.old) thread call.now }
-    ensures state { kernel_state kernel.new ≡ next (kernel_state kernel.old) thread call.now }
-{
-    kernel.step_into(thread, call, reply, meter)
-}
-
 impl<B: Naming> Pair<B> {
     /// The log and the copies of a boot, with no event.
     pub(crate) fn new(
@@ -152,44 +142,44 @@ impl<B: Naming> Pair<B> {
         Front::of(events, self.tip.seen())
     }
 
-    /// Makes a pass's call, as the event that comes next: the log tries it, the master makes it,
-    /// the log has made it, and then readers are shown the copy that has it. The reply, which is
-    /// `Done`, becomes its answer. The call is written out once, for the copies, and given back as it
-    /// is kept. Without memory nothing changes.
+    /// The kernel of the published copy, in the state of the events.
+    pub(crate) fn kernel(&self) -> &Kernel
+        ensures { kernel_state result.now ≡ state_of B.boot.limits self.now }
+    {
+        self.copies.kernel()
+    }
+
+    /// Makes a pass's call, as the event that comes next: the log tries it and has made it, and then
+    /// readers are shown the copy that has it. The reply becomes its answer. The call is written out
+    /// once, for the copies, and given back as it is kept. Without memory nothing changes.
     pub(crate) fn commit<R: Wait>(
         &mut self,
         rt: &R,
-        kernel: &mut Kernel,
-        meter: &mut Meter,
         pass: &Pass<B>,
         call: &Call,
         events: u64,
         reply: &mut Reply,
     ) -> Result<KeptCall, NoMemory>
-        requires done { reply.old ≡ told.Done }
-        requires state { kernel_state kernel.old ≡ state_of B.boot.limits self.old }
         requires number { pass.now.number ≡ count pass.now.thread self.old + 1 }
         requires events { events ≡ length self.old + 1 }
         ensures call { IfOk result (λ kept. kept ≡ call.now) }
         ensures event { OnOk result
             (self.new ≡ with_event B.boot.limits self.old pass.now call.now) }
         ensures reply { OnOk result
-            (reply.new ≡ answer (kernel_state kernel.old) pass.now.thread call.now) }
-        ensures state { OnOk result
-            (kernel_state kernel.new ≡ next (kernel_state kernel.old) pass.now.thread call.now) }
-        ensures kept { OnErr result ((self.new ≡ self.old) × (kernel.new ≡ kernel.old)) }
+            (reply.new ≡ answer (state_of B.boot.limits self.old) pass.now.thread call.now) }
+        ensures kept { OnErr result (self.new ≡ self.old) }
     {
         let shared = Arc::new(self.alloc, *call)?;
         let kept = KeptCall::new(&shared)?;
+        let kernel = self.copies.kernel();
         let tried = attempt(rt, &mut self.tip, &self.head, kernel, pass, call);
         let Some(head) = tried else {
             return Err(NoMemory);
         };
         let op = operation(&self.tip, head, pass, shared, events);
         self.copies.queue(op)?;
-        make(kernel, meter, pass.thread(), call, reply);
         self.tip.settle(rt, &self.head);
-        self.copies.publish(rt, &self.tip, kernel);
+        self.copies.publish(rt, &self.tip, reply);
         Ok(kept)
     }
 

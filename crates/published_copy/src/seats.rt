@@ -77,8 +77,8 @@ impl<B: Naming> Seat<'_, B> {
         Ok(placed.receipt(&reply))
     }
 
-    /// Makes a call as `submit` does, with its reply put where `Done` stands: a reply is large, and is
-    /// so made where it is wanted. It tells where the event stands.
+    /// Makes a call as `submit` does, with its reply put where the caller wants it: a reply is large.
+    /// It tells where the event stands.
     #[tactic(auto, using(crate::proofs::Prefixes::prefix_self))]
     pub fn submit_into<R: Wait>(
         &mut self,
@@ -86,7 +86,6 @@ impl<B: Naming> Seat<'_, B> {
         call: &Call,
         reply: &mut Reply,
     ) -> Result<Placed, SubmitRefusal>
-        requires { reply.old ≡ told_reply.Done }
         ensures done { IfOk result (λ placed. IsSubmitted B.boot.limits self.old call.now
             (receipt_with reply.new placed) self.new) }
         ensures refused { IfErr result

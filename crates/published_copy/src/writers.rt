@@ -3,12 +3,13 @@ ghost use Rattle.core.specs.Mem.{manually_drop_value};
 ghost use Rattle.std.specs.Prelude.{◌≡◌, ◌<◌, ◌≤◌, ◌∷◌, [], drop, fold, IfOk, OnErr, IsTrue};
 ghost use Rattle.left_right.specs.Sides.{view};
 ghost use Rattle.kernel_rules.specs.History.{IsLegal, state_of};
+ghost use Rattle.kernel_rules.specs.Runs.{booted};
 ghost use Rattle.syscall_core.specs.Kernel.{kernel_state};
 ghost use Rattle.published_copy.specs.Absorbed.{shown_of, absorbed};
 ghost use Rattle.published_copy.specs.Boots.{boot_of};
 ghost use Rattle.published_copy.specs.Entries.{made};
 ghost use Rattle.published_copy.specs.Shares.{IsShown, IsGood, IsAwaited, Succeeds, copies_with};
-ghost use Rattle.published_copy.specs.Shares.{tag_of};
+ghost use Rattle.published_copy.specs.Shares.{EndsWithReply, tag_of};
 ghost use Rattle.published_copy.specs.declared.copies.Copied.{Copied};
 
 use crate::copies::{Copied, first_copy};
@@ -20,6 +21,7 @@ use crate::rules::{Mark, Published, Tag, Tell};
 use crate::tips::Tip;
 use base::{Limits, NoMemory};
 use core::mem::replace_with;
+use kernel_rules::Reply;
 use left_right::reader::Reader;
 use std::alloc::Global;
 use std::marker::{Model, PhantomData};
@@ -62,21 +64,26 @@ impl<B: Naming> Model for Copies<B> {
         ≡ tag_of (manually_drop_value c.writer).desk.shown.value) };
 }
 
-/// Two copies of a newly booted kernel, with a place for the reader of each seat.
+/// A copy with a newly booted kernel and a second like it, with a place for the reader of each seat.
 pub(crate) fn first_copies(
     alloc: Global,
     limits: &Limits,
+    kernel: Kernel,
     seen: &Told,
     seats: usize,
 ) -> Result<Writer, NoMemory>
+    requires booted { kernel_state kernel ≡ booted limits.now }
     requires empty { seen.now.log ≡ [] }
     requires seats { (0 < seats) × (seats ≤ 64) }
     ensures shown { IfOk result
         (λ w. IsShown (boot_of seen.now.book limits.now seats) w.desk.shown.value []) }
     ensures pending { IfOk result (λ w. drop w.behind w.log.items ≡ []) }
 {
-    let first = first_copy(alloc, limits, seen)?;
-    let second = first_copy(alloc, limits, seen)?;
+    let first = first_copy(alloc, limits, kernel, seen)?;
+    let Ok(other) = Kernel::boot(alloc, limits) else {
+        return Err(NoMemory);
+    };
+    let second = first_copy(alloc, limits, other, seen)?;
     Ok(Writer::new(alloc, first, second, seats)?)
 }
 
@@ -168,16 +175,25 @@ impl<B: Naming> Copies<B> {
         }
     }
 
-    /// Readers are shown what the operation makes: the events that the log has made, in whose state
-    /// the master is.
-    pub(crate) fn publish<R: Wait>(&mut self, rt: &R, tip: &Tip<B>, master: &Kernel)
-        requires made { IsAwaited B.boot self.old (made tip.now) }
-        requires state { kernel_state master.now ≡ state_of B.boot.limits (made tip.now) }
+    /// The kernel of the copy that is shown, in the state of its list.
+    pub(crate) fn kernel(&self) -> &Kernel
+        ensures { kernel_state result.now ≡ state_of B.boot.limits self.now.list }
+    {
+        let writer: &Writer = &self.writer;
+        &writer.published().kernel
+    }
+
+    /// Readers are shown what the operation makes: the events that the log has made. The reply becomes
+    /// that of the last of them.
+    pub(crate) fn publish<R: Wait>(&mut self, rt: &R, tip: &Tip<B>, reply: &mut Reply)
+        requires { IsAwaited B.boot self.old (made tip.now) }
         ensures shown { self.new ≡ copies_with (made tip.now) [] }
         ensures legal { IsLegal B.boot.limits (made tip.now) }
+        ensures reply { EndsWithReply (made tip.now) reply.new }
     {
         let writer: &mut Writer = &mut self.writer;
         publish(writer, rt);
+        *reply = writer.published().reply;
         self.marked = true;
     }
 

@@ -12,11 +12,12 @@ returns-then-weight-operation-2-clause-absorbed c =
     let more : weight saw.result.1.log ≡ weight op.seen.log + 1 = omega (arith, saw.ensures.weight, op.weighs, c.if-weight-operation.true, c.if-weight-operation-2.true) in
     let log : saw.result.1.log ≡ op.seen.log ++ Made ∷ [] = settled op.seen.log saw.result.1.log saw.ensures.begins more in
     λ i. record {
-      state = c.make.ensures i;
+      state = c.make.ensures.state i;
       limits = c.args.self.now.limits;
       length = op.length;
       number = (saw.ensures.book i).number;
       log_name = (saw.ensures.book i).log_name;
       cells_name = (saw.ensures.book i).cells_name;
       list = made (log i);
+      reply = c.make.ensures.reply i;
     }

@@ -1,18 +1,17 @@
 use Rattle.std.proofs.Common.{◌≡◌, ◌∷◌, ◌++◌, [], ◌∙◌, sym, ap, refl, false, rules}
 use Rattle.kernel_rules.specs.History.{state_of}
-use Rattle.kernel_rules.specs.Step.{next}
 use Rattle.kernel_rules.specs.declared.events.Event.{Event}
-use Rattle.syscall_core.specs.Kernel.{kernel_state}
 use Rattle.published_copy.specs.declared.entries.Entry.TheVariants.{Made}
 use Rattle.published_copy.specs.Absorbed.{list_of}
 use Rattle.published_copy.specs.Entries.{made}
 use Rattle.published_copy.specs.Shares.{IsNext, copies_with}
 use Rattle.published_copy.specs.Turns.{event_at}
-use Rattle.published_copy.proofs.Commits.{awaits, makes}
+use Rattle.published_copy.proofs.Commits.{awaits}
+use Rattle.published_copy.proofs.Prefixes.{last_same}
 use Rattle.published_copy.proofs.pairs.Pair.commit.Goals as goal
 
-pub publish-requires-clause-made : goal.publish-requires-clause-made
-publish-requires-clause-made g c =
+pub publish-requires : goal.publish-requires
+publish-requires g c =
     let boot = g.B.Naming.boot in
     let list = made c.self.inside.tip in
     let tip = c.attempt-tried.new.tip in
@@ -35,15 +34,11 @@ publish-requires-clause-made g c =
     let settled : c.settle.new.self ≡ tip ++ Made ∷ [] = search rules in
     awaits boot c.queue.new.self list op tip c.settle.new.self queued nx saw settled
 
-pub publish-requires-clause-state : goal.publish-requires-clause-state
-publish-requires-clause-state g c =
+pub returns-clause-reply : goal.returns-clause-reply
+returns-clause-reply g c =
     let limits = g.B.Naming.boot.limits in
     let list = made c.self.inside.tip in
-    let pass = c.args.pass.now in
-    let call = c.args.call.now in
-    let event : Event = event_at (state_of limits list) pass call in
-    let stepped : kernel_state c.make.new.kernel ≡ next (kernel_state c.args.kernel.now) pass.thread call = search rules in
+    let event : Event = event_at (state_of limits list) c.args.pass.now c.args.call.now in
     let made_is : made c.settle.new.self ≡ list ++ event ∷ [] = search rules in
-    let was : kernel_state c.args.kernel.now ≡ state_of limits list = search rules in
-    makes limits list event (kernel_state c.args.kernel.now) (kernel_state c.make.new.kernel) was stepped
-    ∙ ap (state_of limits) (sym made_is)
+    let last = c.publish.ensures.reply in
+    sym last.reply_is ∙ ap (λ (e : Event). e.reply) (last_same last.before list last.event event (sym last.list_is ∙ made_is))

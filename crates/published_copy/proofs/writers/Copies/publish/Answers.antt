@@ -3,7 +3,7 @@ use Rattle.core.specs.Mem.{manually_drop_value}
 use Rattle.published_copy.specs.declared.copies.Copied.{Copied}
 use Rattle.published_copy.specs.Absorbed.{absorbed, list_of, shown_of}
 use Rattle.published_copy.specs.Entries.{made}
-use Rattle.published_copy.specs.Shares.{IsShown, copies_with}
+use Rattle.published_copy.specs.Shares.{EndsWithReply, IsShown, copies_with}
 use Rattle.published_copy.proofs.Commits.{shows_awaited, shows_own, succeeds, shown_legal}
 use Rattle.published_copy.proofs.writers.Copies.publish.Goals as goal
 
@@ -13,8 +13,8 @@ publish-requires g c y is =
     let list = made c.args.tip.now in
     let same : c.deref_mut-writer.result.now ≡ manually_drop_value c.self.inside.writer = search rules in
     let x : Copied = (manually_drop_value c.self.inside.writer).desk.shown.value in
-    let now : IsShown boot y list = shows_awaited boot c.args.self.now x y _ list c.self.view_is c.self.invariant.0 c.requires.made (is ∙ (λ i. fold absorbed (shown_of (same i).desk.shown.value) (drop (same i).behind (same i).log.items))) in
-    let next = succeeds boot x y (list_of x.sealed x.seen.log) list c.self.invariant.0 now in
+    let now : IsShown boot y list × EndsWithReply list y.reply = shows_awaited boot c.args.self.now x y _ list c.self.view_is c.self.invariant.0 c.requires (is ∙ (λ i. fold absorbed (shown_of (same i).desk.shown.value) (drop (same i).behind (same i).log.items))) in
+    let next = succeeds boot x y (list_of x.sealed x.seen.log) list c.self.invariant.0 now.0 in
     (next.0, next.1 ∙ (λ i. (sym same i).desk.shown.value.seen.book), next.2 ∙ (λ i. (sym same i).desk.shown.value.limits))
 
 pub invariant_of-self : goal.invariant_of-self
@@ -24,9 +24,9 @@ invariant_of-self g c =
     let same : c.deref_mut-writer.result.now ≡ manually_drop_value c.self.inside.writer = search rules in
     let x : Copied = (manually_drop_value c.self.inside.writer).desk.shown.value in
     let y : Copied = c.publish.new.writer.desk.shown.value in
-    let now : IsShown boot y list = shows_awaited boot c.args.self.now x y _ list c.self.view_is c.self.invariant.0 c.requires.made
+    let now : IsShown boot y list × EndsWithReply list y.reply = shows_awaited boot c.args.self.now x y _ list c.self.view_is c.self.invariant.0 c.requires
     (c.publish.ensures.shown ∙ (λ i. fold absorbed (shown_of (same i).desk.shown.value) (drop (same i).behind (same i).log.items))) in
-    (shows_own boot y list now, λ _. c.publish.ensures.tag)
+    (shows_own boot y list now.0, λ _. c.publish.ensures.tag)
 
 pub returns-clause-shown : goal.returns-clause-shown
 returns-clause-shown g c =
@@ -35,9 +35,9 @@ returns-clause-shown g c =
     let same : c.deref_mut-writer.result.now ≡ manually_drop_value c.self.inside.writer = search rules in
     let x : Copied = (manually_drop_value c.self.inside.writer).desk.shown.value in
     let y : Copied = c.publish.new.writer.desk.shown.value in
-    let now : IsShown boot y list = shows_awaited boot c.args.self.now x y _ list c.self.view_is c.self.invariant.0 c.requires.made
+    let now : IsShown boot y list × EndsWithReply list y.reply = shows_awaited boot c.args.self.now x y _ list c.self.view_is c.self.invariant.0 c.requires
     (c.publish.ensures.shown ∙ (λ i. fold absorbed (shown_of (same i).desk.shown.value) (drop (same i).behind (same i).log.items))) in
-    λ i. copies_with (now.list_is i) (c.publish.ensures.pending i)
+    λ i. copies_with (now.0.list_is i) (c.publish.ensures.pending i)
 
 pub returns-clause-legal : goal.returns-clause-legal
 returns-clause-legal g c =
@@ -46,5 +46,15 @@ returns-clause-legal g c =
     let same : c.deref_mut-writer.result.now ≡ manually_drop_value c.self.inside.writer = search rules in
     let x : Copied = (manually_drop_value c.self.inside.writer).desk.shown.value in
     let y : Copied = c.publish.new.writer.desk.shown.value in
-    shown_legal boot y list (shows_awaited boot c.args.self.now x y _ list c.self.view_is c.self.invariant.0 c.requires.made
-    (c.publish.ensures.shown ∙ (λ i. fold absorbed (shown_of (same i).desk.shown.value) (drop (same i).behind (same i).log.items))))
+    shown_legal boot y list (shows_awaited boot c.args.self.now x y _ list c.self.view_is c.self.invariant.0 c.requires
+    (c.publish.ensures.shown ∙ (λ i. fold absorbed (shown_of (same i).desk.shown.value) (drop (same i).behind (same i).log.items)))).0
+
+pub returns-clause-reply : goal.returns-clause-reply
+returns-clause-reply g c =
+    let boot = g.B.Naming.boot in
+    let list = made c.args.tip.now in
+    let same : c.deref_mut-writer.result.now ≡ manually_drop_value c.self.inside.writer = search rules in
+    let x : Copied = (manually_drop_value c.self.inside.writer).desk.shown.value in
+    let y : Copied = c.publish.new.writer.desk.shown.value in
+    (shows_awaited boot c.args.self.now x y _ list c.self.view_is c.self.invariant.0 c.requires
+    (c.publish.ensures.shown ∙ (λ i. fold absorbed (shown_of (same i).desk.shown.value) (drop (same i).behind (same i).log.items)))).1
