@@ -32,6 +32,7 @@ pub fn refusal_of(row: &[&[Condition]]) -> Option<Refusal>
 
 /// The reply is a refusal. (In a function of its own, since a reply is large: each value that a
 /// function makes is set to zero where the function begins, be it needed or not.)
+#[inline(never)]
 pub fn refuse(reply: &mut Reply, refusal: Refusal)
     ensures { reply.new ≡ told.Refused refusal }
 {
