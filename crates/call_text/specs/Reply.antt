@@ -6,6 +6,8 @@ use Rattle.kernel_rules.specs.declared.objects.Mapping.{Mapping}
 use Rattle.kernel_rules.specs.declared.replies.Reply.{Reply}
 use Rattle.kernel_rules.specs.declared.replies.Reply.TheVariants as replies
 use Rattle.call_text.specs.declared.known_names.Named.{Named}
+use Rattle.call_text.specs.declared.known_names.Value.{Value}
+use Rattle.call_text.specs.declared.known_names.Value.TheVariants as values
 use Rattle.call_text.specs.declared.reply_words.Head.TheVariants as heads
 use Rattle.call_text.specs.declared.reply_words.Word.{Word}
 use Rattle.call_text.specs.declared.reply_words.Word.TheVariants as words
@@ -50,3 +52,8 @@ reply_text names (replies.Parent id) = words_text names heads.Parent (words.Obje
 reply_text names (replies.Pages pages) = words_text names heads.Pages (words.Number pages ∷ [])
 reply_text names (replies.Mapping m) = words_text names heads.Mapping (mapping_words m)
 reply_text names (replies.Refused r) = words_text names heads.Refused (words.Refusal r ∷ [])
+
+-- the reply of a call that made this
+abbrev pub making : Value → Reply
+making (values.Object id) = replies.Object id
+making (values.Category c) = replies.Category c

@@ -22,7 +22,7 @@ pub use errors::ScriptError;
 pub use known_names::{Known, NameList, Named, Value, start_names};
 pub use lines::{Written, read_line};
 pub use phases::{Line, Phase, Script};
-pub use replies::{put_reply, write_reply};
+pub use replies::{put_made, put_reply, write_reply};
 pub use resolving::{resolve, resolve_into};
 pub use script_writing::write_script;
 pub use scripts::{one_reading, read_script};

@@ -1,9 +1,9 @@
 //! Replies as text.
 ghost use Rattle.std.specs.Prelude.{◌≡◌, ◌++◌, ◌∷◌, [], map, IfOk, OnOk};
 ghost use Rattle.call_text.specs.ReplyWord.{words_text};
-ghost use Rattle.call_text.specs.Reply.{own_words, quota_words, mapping_words, reply_text};
+ghost use Rattle.call_text.specs.Reply.{own_words, quota_words, mapping_words, reply_text, making};
 
-use crate::known_names::{Known, NameList, Named};
+use crate::known_names::{Known, NameList, Named, Value};
 use crate::reply_words::{Head, Word, put_further, put_words};
 use base::{Category, Data, NoMemory, ObjectId, Refusal};
 use kernel_rules::{Entry, Mapping, Reply};
@@ -220,6 +220,17 @@ pub fn put_reply<K: Known>(out: &mut Vec<u8>, reply: &Reply, names: &K) -> Resul
         Reply::Pages(pages) => put_pages(out, *pages, names),
         Reply::Mapping(mapping) => put_mapping(out, mapping, names),
         Reply::Refused(refusal) => put_refused(out, *refusal, names),
+    }
+}
+
+/// Adds the reply of a call that made this object or category, as `put_reply` does.
+pub fn put_made<K: Known>(out: &mut Vec<u8>, made: &Value, names: &K) -> Result<(), NoMemory>
+    ensures { OnOk result (out.new.items
+        ≡ out.old.items ++ reply_text (K.names names.now) (making made.now)) }
+{
+    match made {
+        Value::Category(category) => put_category(out, *category, names),
+        Value::Object(id) => put_object(out, Head::Id, *id, names),
     }
 }
 

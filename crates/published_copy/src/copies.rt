@@ -62,12 +62,22 @@ pub(crate) struct Shown {
 }
 
 /// The reply becomes `Done`. A reply is large, so it is written where it is another alone.
-fn clear(reply: &mut Reply)
+pub(crate) fn clear(reply: &mut Reply)
     ensures { reply.new ≡ told.Done }
 {
     match reply {
         Reply::Done => {}
         _ => *reply = Reply::Done,
+    }
+}
+
+/// The reply becomes this one. Most are `Done`, and then nothing is written where it is `Done` already.
+pub(crate) fn put_reply(reply: &mut Reply, given: &Reply)
+    ensures { reply.new ≡ given.now }
+{
+    match (&*reply, given) {
+        (Reply::Done, Reply::Done) => {}
+        _ => *reply = *given,
     }
 }
 

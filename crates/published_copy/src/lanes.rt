@@ -3,10 +3,9 @@ ghost use Rattle.std.specs.Prelude.{◌≡◌, IfSome};
 ghost use Rattle.left_right.specs.Sides.{view};
 ghost use Rattle.kernel_rules.specs.History.{state_of};
 ghost use Rattle.kernel_rules.specs.Step.{query_answer};
-ghost use Rattle.kernel_rules.specs.declared.replies.Reply.TheVariants as told;
 ghost use Rattle.published_copy.specs.Shares.{Names};
 
-use crate::copies::Copied;
+use crate::copies::{Copied, clear};
 use crate::fronts::Front;
 use crate::naming::Naming;
 use crate::rules::{Published, See, Tag};
@@ -34,8 +33,8 @@ impl<B: Naming> Lane<B> {
         }
     }
 
-    /// The reply, which is `Done`, becomes what the copy that is published answers; the list is that
-    /// whose state it is. None where the writer is gone.
+    /// The reply becomes what the copy that is published answers; the list is that whose state it is.
+    /// None where the writer is gone.
     pub(crate) fn read(
         self,
         thread: ObjectId,
@@ -43,7 +42,6 @@ impl<B: Naming> Lane<B> {
         reply: &mut Reply,
         meter: &mut Meter,
     ) -> (Lane<B>, Option<Front<B>>)
-        requires { reply.old ≡ told.Done }
         ensures { IfSome result.1
             (λ list. reply.new ≡ query_answer (state_of B.boot.limits list) thread query.now) }
     {
@@ -56,6 +54,7 @@ impl<B: Naming> Lane<B> {
                     let reader = reading.leave();
                     return (Lane { reader, of }, None);
                 }
+                clear(reply);
                 copy.kernel.ask_into(thread, query, reply, meter);
                 let front = Front::of(copy.length, copy.seen.again());
                 let reader = reading.leave();

@@ -1,6 +1,5 @@
 //! A thread's place at a kernel that it shares.
 ghost use Rattle.std.specs.Prelude.{◌≡◌, IfOk, IfErr, OnOk, OnErr};
-ghost use Rattle.kernel_rules.specs.declared.replies.Reply.TheVariants as told_reply;
 ghost use Rattle.published_copy.specs.Turns.{IsSubmitted, IsNotSubmitted, IsRead, IsLearnt};
 ghost use Rattle.published_copy.specs.Turns.{seat_with, receipt_with};
 
@@ -110,10 +109,9 @@ impl<B: Naming> Seat<'_, B> {
         Ok(reply)
     }
 
-    /// Asks as `read` does, with the answer put where `Done` stands.
+    /// Asks as `read` does, with the answer put where the caller wants it.
     #[tactic(auto, using(crate::proofs::Prefixes::prefix_trans))]
     pub fn read_into(&mut self, query: &Query, reply: &mut Reply) -> Result<(), Unread>
-        requires { reply.old ≡ told_reply.Done }
         ensures done { OnOk result
             (IsRead B.boot.limits self.old query.now reply.new self.new) }
         ensures kept { OnErr result (self.new ≡ self.old) }

@@ -1,6 +1,6 @@
 //! What the lines of a worker answered.
 use base::{NoMemory, Refusal};
-use call_text::{Known, put_reply};
+use call_text::{Known, Value, put_reply};
 use kernel_rules::Reply;
 use std::alloc::Global;
 use text_words::Name;
@@ -8,8 +8,8 @@ use text_words::Name;
 /// What a line answered.
 #[derive(Clone, Copy)]
 pub enum Answer {
-    /// The reply of an event, with which the journal has so many.
-    Event(usize),
+    /// The object or the category that a call made, which is printed as it is bound at the end.
+    Made(Value),
     /// The bytes between two places of what is printed already.
     Printed(usize, usize),
     /// The reply at a place among those that are not printed yet.
@@ -20,22 +20,36 @@ pub enum Answer {
     Unbound(Name),
 }
 
-/// What a worker's lines answered. An event's reply stands in the journal, and is not kept a second time.
+/// What a worker's lines answered.
 #[derive(Drop)]
 pub struct Answers {
     /// What each line answered, with the line's number.
     pub lines: Vec<(u32, Answer)>,
-    /// What queries replied in which no name can stand, as it is printed.
+    /// Replies in which no name can stand, as they are printed.
     pub printed: Vec<u8>,
-    /// What other queries replied: a name that stands there is printed as it is bound at the end.
+    /// Replies of queries in which names can stand, which are printed as they are bound at the end.
     pub replies: Vec<Reply>,
 }
 
-/// Whether no name can stand in what the reply of a query prints.
+/// What a reply made, where it made something.
+fn made_by(reply: &Reply) -> Option<Value> {
+    match reply {
+        Reply::Category(category) => Some(Value::Category(*category)),
+        Reply::Object(id) => Some(Value::Object(*id)),
+        _ => None,
+    }
+}
+
+/// Whether no name can stand in what a reply prints.
 fn is_nameless(reply: &Reply) -> bool {
     matches!(
         reply,
-        Reply::Bytes(_) | Reply::Quota { .. } | Reply::Pages(_) | Reply::Refused(_)
+        Reply::Done
+            | Reply::Entered { .. }
+            | Reply::Bytes(_)
+            | Reply::Quota { .. }
+            | Reply::Pages(_)
+            | Reply::Refused(_)
     )
 }
 
@@ -49,8 +63,11 @@ impl Answers {
         }
     }
 
-    /// Keeps what a query replied.
+    /// Keeps a reply.
     pub fn keep<K: Known>(&mut self, reply: &Reply, names: &K) -> Result<Answer, NoMemory> {
+        if let Some(made) = made_by(reply) {
+            return Ok(Answer::Made(made));
+        }
         if is_nameless(reply) {
             let begin = self.printed.len();
             put_reply(&mut self.printed, reply, names)?;

@@ -288,7 +288,7 @@ fn play_booted<B: Naming + Send, R: Threads + Wait + Sync, G: Gate>(
     let shared = blank.open::<B>();
     let answered = play_phases(rt, alloc, &shared, script, workers, gate)?;
     let Closing { events, tables } = closing_of(rt, alloc, shared.close())?;
-    let output = output_of(alloc, &answered, events.as_slice())?;
+    let output = output_of(alloc, &answered)?;
     Ok(Played {
         output,
         events,

@@ -2,9 +2,8 @@
 use crate::answers::{Answer, Answers};
 use crate::names::BoundNames;
 use base::NoMemory;
-use call_text::put_reply;
+use call_text::{put_made, put_reply};
 use indexmap::IndexSet;
-use kept_events::KeptEvent;
 use kernel_rules::Reply;
 use std::alloc::Global;
 use text_words::{Name, put_name, put_number};
@@ -26,14 +25,10 @@ fn put_answer(
     out: &mut Vec<u8>,
     answer: &Answer,
     answers: &Answers,
-    events: &[KeptEvent],
     names: &BoundNames,
 ) -> Result<(), NoMemory> {
     match answer {
-        Answer::Event(length) => match events.get(length.wrapping_sub(1)) {
-            Some(event) => put_reply(out, &event.reply.reply(), names),
-            None => Ok(()),
-        },
+        Answer::Made(made) => put_made(out, made, names),
         Answer::Replied(place) => match answers.replies.get(*place) {
             Some(reply) => put_reply(out, reply, names),
             None => Ok(()),
@@ -54,7 +49,6 @@ fn put_worker(
     out: &mut Vec<u8>,
     worker: &Name,
     answers: &Answers,
-    events: &[KeptEvent],
     names: &BoundNames,
 ) -> Result<(), NoMemory> {
     for (number, answer) in &answers.lines {
@@ -62,23 +56,18 @@ fn put_worker(
         out.push(b' ')?;
         put_number(out, u64::from(*number))?;
         out.extend_from_slice(b": ")?;
-        put_answer(out, answer, answers, events, names)?;
+        put_answer(out, answer, answers, names)?;
         out.push(b'\n')?;
     }
     Ok(())
 }
 
-/// The lines of the workers, in the workers' order: for each its own lines in theirs. The replies of calls are those of
-/// the journal.
-pub fn output_of(
-    alloc: Global,
-    answered: &Answered<'_>,
-    events: &[KeptEvent],
-) -> Result<Vec<u8>, NoMemory> {
+/// The lines of the workers, in the workers' order: for each its own lines in theirs.
+pub fn output_of(alloc: Global, answered: &Answered<'_>) -> Result<Vec<u8>, NoMemory> {
     let mut out = Vec::new(alloc);
     for (index, answers) in answered.answers.iter().enumerate() {
         if let Some(worker) = answered.workers.get_index(index) {
-            put_worker(&mut out, worker, answers, events, &answered.names)?;
+            put_worker(&mut out, worker, answers, &answered.names)?;
         }
     }
     Ok(out)

@@ -1,12 +1,9 @@
 //! A worker, which plays its lines in order.
-ghost use Rattle.kernel_rules.specs.declared.replies.Reply.TheVariants as told;
-ghost use Rattle.std.specs.Prelude.{◌≡◌};
-
 use crate::answers::{Answer, Answers};
 use crate::gates::{Gate, Turn};
 use crate::names::{BoundNames, WorkerNames};
 use base::{NoMemory, Refusal};
-use call_text::{Line, Named, Phase, Value, resolve_into};
+use call_text::{Line, Named, Phase, resolve_into};
 use kernel_rules::{Call, Query, Reply};
 use published_copy::{Naming, Seat, SeatRefusal, SubmitRefusal};
 use std::alloc::{AllocError, Global};
@@ -34,49 +31,40 @@ pub struct Worker<'s, B: Naming> {
     pub own: BoundNames,
     /// What its lines answered.
     pub answers: Answers,
-    /// Where the call of a line is written. (A call is large.)
+    /// Where the call of a line is written. (A call is large, and so is a reply.)
     pub call: Call,
+    /// Where the reply to a line is put.
+    pub reply: Reply,
     /// How its lines ended.
     pub ended: LinesEnd,
 }
 
-/// What a reply made, where it made something.
-fn made_by(reply: &Reply) -> Option<Value> {
-    match reply {
-        Reply::Category(category) => Some(Value::Category(*category)),
-        Reply::Object(id) => Some(Value::Object(*id)),
-        _ => None,
-    }
-}
-
-/// What a call answers, and what it made.
+/// What a call answers, whose reply is put in its place.
 fn submitted<B: Naming, R: Wait>(
     rt: &R,
     seat: &mut Seat<'_, B>,
     call: &Call,
-    made: &mut Option<Value>,
+    reply: &mut Reply,
+    answers: &mut Answers,
+    names: &WorkerNames<'_>,
 ) -> Result<Answer, NoMemory> {
-    let mut reply = Reply::Done;
-    match seat.submit_into(rt, call, &mut reply) {
-        Ok(placed) => {
-            *made = made_by(&reply);
-            Ok(Answer::Event(placed.length))
-        }
+    match seat.submit_into(rt, call, reply) {
+        Ok(_) => answers.keep(reply, names),
         Err(SubmitRefusal::OutOfTurn) => Ok(Answer::Refused(Refusal::OutOfTurn)),
         Err(SubmitRefusal::Memory) => Err(NoMemory),
     }
 }
 
-/// What a query answers.
+/// What a query answers, whose reply is put in its place.
 fn read<B: Naming>(
     seat: &mut Seat<'_, B>,
     query: &Query,
+    reply: &mut Reply,
     answers: &mut Answers,
     names: &WorkerNames<'_>,
 ) -> Result<Answer, NoMemory> {
-    let mut reply = Reply::Done;
-    match seat.read_into(query, &mut reply) {
-        Ok(()) => answers.keep(&reply, names),
+    match seat.read_into(query, reply) {
+        Ok(()) => answers.keep(reply, names),
         Err(unread) => Ok(Answer::Refused(unread.refusal())),
     }
 }
@@ -90,6 +78,7 @@ impl<'s, B: Naming> Worker<'s, B> {
             own: BoundNames::none(alloc),
             answers: Answers::none(alloc),
             call: Call::CatCreate,
+            reply: Reply::Done,
             ended: LinesEnd::Played,
         }
     }
@@ -102,13 +91,12 @@ impl<'s, B: Naming> Worker<'s, B> {
         }
     }
 
-    /// What a line answers, and what its call made.
+    /// What a line answers.
     fn answer<R: Wait>(
         &mut self,
         rt: &R,
         line: &Line,
         earlier: &BoundNames,
-        made: &mut Option<Value>,
     ) -> Result<Answer, NoMemory> {
         let Some(seat) = &mut self.seat else {
             return Ok(self.unseated(line));
@@ -119,15 +107,18 @@ impl<'s, B: Naming> Worker<'s, B> {
         };
         match resolve_into(&line.call, &names, &mut self.call) {
             Err(name) => Ok(Answer::Unbound(name)),
-            Ok(Some(query)) => read(seat, &query, &mut self.answers, &names),
-            Ok(None) => submitted(rt, seat, &self.call, made),
+            Ok(Some(query)) => read(seat, &query, &mut self.reply, &mut self.answers, &names),
+            Ok(None) => {
+                let (call, reply, answers) = (&self.call, &mut self.reply, &mut self.answers);
+                submitted(rt, seat, call, reply, answers, &names)
+            }
         }
     }
 
     /// Binds the line's name to what its call made.
-    fn bind(&mut self, line: &Line, made: Option<Value>) -> Result<(), AllocError> {
-        if let (Some(name), Some(value)) = (line.binds, made) {
-            self.own.bind(&Named { name, value })?;
+    fn bind(&mut self, line: &Line, answer: &Answer) -> Result<(), AllocError> {
+        if let (Some(name), Answer::Made(made)) = (line.binds, answer) {
+            self.own.bind(&Named { name, value: *made })?;
         }
         Ok(())
     }
@@ -144,9 +135,8 @@ impl<'s, B: Naming> Worker<'s, B> {
         if gate.before(index, number) == Turn::Stop {
             return Ok(Turn::Stop);
         }
-        let mut made = None;
-        let answer = self.answer(rt, line, earlier, &mut made)?;
-        self.bind(line, made)?;
+        let answer = self.answer(rt, line, earlier)?;
+        self.bind(line, &answer)?;
         self.answers.lines.push((line.number, answer))?;
         Ok(gate.after(index, number))
     }

@@ -1,4 +1,4 @@
-use Rattle.std.proofs.Common.{◌≡◌, ◌∙◌, refl, ap}
+use Rattle.std.proofs.Common.{◌∙◌, refl, ap}
 use Rattle.published_copy.specs.Boots.{boot_of}
 use Rattle.published_copy.specs.Entries.{made}
 use Rattle.published_copy.proofs.Commits.{starts}

@@ -1,5 +1,6 @@
 use Rattle.std.proofs.Common.{◌≡◌, ◌∷◌, ◌++◌, [], ◌∙◌, sym, ap, refl, false, rules}
 use Rattle.kernel_rules.specs.History.{state_of}
+use Rattle.kernel_rules.specs.Step.{answer}
 use Rattle.kernel_rules.specs.declared.events.Event.{Event}
 use Rattle.published_copy.specs.declared.entries.Entry.TheVariants.{Made}
 use Rattle.published_copy.specs.Absorbed.{list_of}
@@ -41,4 +42,6 @@ returns-clause-reply g c =
     let event : Event = event_at (state_of limits list) c.args.pass.now c.args.call.now in
     let made_is : made c.settle.new.self ≡ list ++ event ∷ [] = search rules in
     let last = c.publish.ensures.reply in
-    sym last.reply_is ∙ ap (λ (e : Event). e.reply) (last_same last.before list last.event event (sym last.list_is ∙ made_is))
+    sym last.reply_is
+    ∙ (ap (λ (e : Event). e.reply) (last_same last.before list last.event event (sym last.list_is ∙ made_is))
+    ∙ ap (λ l. answer (state_of limits l) c.args.pass.now.thread c.args.call.now) c.self.view_is)

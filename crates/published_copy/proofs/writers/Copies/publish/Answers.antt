@@ -1,5 +1,6 @@
-use Rattle.std.proofs.Common.{◌≡◌, ◌∙◌, drop, fold, rules, sym}
+use Rattle.std.proofs.Common.{◌≡◌, ◌∙◌, drop, fold, rules, subst, sym}
 use Rattle.core.specs.Mem.{manually_drop_value}
+use Rattle.kernel_rules.specs.declared.replies.Reply.{Reply}
 use Rattle.published_copy.specs.declared.copies.Copied.{Copied}
 use Rattle.published_copy.specs.Absorbed.{absorbed, list_of, shown_of}
 use Rattle.published_copy.specs.Entries.{made}
@@ -56,5 +57,7 @@ returns-clause-reply g c =
     let same : c.deref_mut-writer.result.now ≡ manually_drop_value c.self.inside.writer = search rules in
     let x : Copied = (manually_drop_value c.self.inside.writer).desk.shown.value in
     let y : Copied = c.publish.new.writer.desk.shown.value in
+    let put : c.put_reply.new.reply ≡ y.reply = search rules in
+    subst (λ (r : Reply). EndsWithReply list r) (sym put)
     (shows_awaited boot c.args.self.now x y _ list c.self.view_is c.self.invariant.0 c.requires
     (c.publish.ensures.shown ∙ (λ i. fold absorbed (shown_of (same i).desk.shown.value) (drop (same i).behind (same i).log.items)))).1
