@@ -14,6 +14,7 @@ use kernel_rules::Tables;
 use program_io::{Fault, bytes_of};
 use std::alloc::Global;
 use std::io::{Read, Write};
+use std::mem::forget;
 use std::sync::Wait;
 use std::thread::Threads;
 
@@ -102,8 +103,12 @@ fn texts_of<R: Threads + Wait + Sync>(
         events,
         tables,
     } = played;
-    let file = file_of(alloc, options, events.as_slice(), tables)?;
-    Ok(Texts { output, file })
+    let file = file_of(alloc, options, events.as_slice(), tables);
+    forget(events);
+    Ok(Texts {
+        output,
+        file: file?,
+    })
 }
 
 fn run<R: Threads + Wait + Sync, I: Read, O: Write>(
@@ -117,7 +122,9 @@ fn run<R: Threads + Wait + Sync, I: Read, O: Write>(
 {
     let bytes = bytes_of(alloc, script)?;
     let script = script_of(alloc, bytes.as_slice())?;
-    let Texts { output, file } = texts_of(rt, alloc, &script, options)?;
+    let texts = texts_of(rt, alloc, &script, options);
+    forget(script);
+    let Texts { output, file } = texts?;
     if out.write_all(output.as_slice()).is_err() || out.flush().is_err() {
         return Err(RunFault::Other(Fault::Output));
     }
@@ -138,7 +145,8 @@ fn told<E: Write>(err: &mut E, fault: RunFault) -> u8
 
 /// Plays the script that a reader gives, and writes its replies. The faults are found in this order, the first one ending
 /// the run with one line on `err`: reading, the script's, want of memory in playing and in making the texts, writing. No
-/// byte goes to `out` before the replies and the dump are whole. It waits for all threads that it starts.
+/// byte goes to `out` before the replies and the dump are whole. It waits for all threads that it starts. The lines of the
+/// script and the events are not given back: that would take as long as to read many of them, and the program ends then.
 pub fn histar_on<R: Threads + Wait + Sync, I: Read, O: Write, E: Write>(
     rt: &R,
     alloc: Global,
