@@ -11,6 +11,7 @@ mod lengths;
 mod metadata;
 mod segments;
 mod spaces;
+mod telling;
 
 pub use accesses::{load, refused_load, refused_store, store};
 pub use devices::{dev_recv, dev_send, refused_dev_recv, refused_dev_send};

@@ -7,7 +7,8 @@ returns-in-Some-clause-value g c = c.refuse.ensures ∙ sym (ask_refused _ _ _ _
 
 pub returns-in-Some-place-clause-value : goal.returns-in-Some-place-clause-value
 returns-in-Some-place-clause-value g c =
-    c.bytes_there.ensures.value ∙ sym (ask_found _ _ _ (sym c.refused_there.ensures.value ∙ c.in_default.is))
+    c.tell_bytes.ensures
+    ∙ (c.bytes_there.ensures.value ∙ sym (ask_found _ _ _ (sym c.refused_there.ensures.value ∙ c.in_default.is)))
 
 pub returns-in-Some-clause-looks : goal.returns-in-Some-clause-looks
 returns-in-Some-clause-looks g c =
