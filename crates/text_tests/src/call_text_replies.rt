@@ -1,7 +1,7 @@
 //! Each kind of reply, as text.
 use crate::names::named;
 use base::{Category, Data, Level, Meter, ObjectId, Refusal};
-use call_text::write_reply;
+use call_text::{NameList, Value, put_made, write_reply};
 use kernel_rules::{Ids, Mapping, Reply};
 use label_lattice::Label;
 use std::alloc::Global;
@@ -32,6 +32,18 @@ fn replies_of_one_value(rt: HostRuntime) -> Result<(), Fail> {
     ] {
         assert!(rt; is_text(rt.alloc(), &reply, text)?, "{text}");
     }
+    Ok(())
+}
+
+#[test]
+fn what_was_made_has_its_name_or_its_number(rt: HostRuntime) -> Result<(), Fail> {
+    let names = named();
+    let list = NameList { named: &names };
+    let mut out = Vec::new(rt.alloc());
+    put_made(&mut out, &Value::Object(ObjectId::new(1)), &list)?;
+    out.push(b'\n')?;
+    put_made(&mut out, &Value::Category(Category(1)), &list)?;
+    assert!(rt; is_same(out.as_slice(), b"id root\ncat #1"));
     Ok(())
 }
 
