@@ -72,7 +72,7 @@ pub(crate) fn clear(reply: &mut Reply)
 }
 
 /// The reply becomes this one. Most are `Done`, and then nothing is written where it is `Done` already.
-pub(crate) fn put_reply(reply: &mut Reply, given: &Reply)
+pub(crate) fn copy_reply(reply: &mut Reply, given: &Reply)
     ensures { reply.new ≡ given.now }
 {
     match (&*reply, given) {

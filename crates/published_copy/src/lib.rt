@@ -1,8 +1,7 @@
-//! One kernel that many threads call and read, in two copies beside the master. A thread calls
-//! through its seat, under one lock, and each call is one event of a journal; it reads the copy
-//! that is published, and waits for nobody. The journal is legal, and the master and the published
-//! copy are in its state; what a seat has seen is a beginning of the journal, which begins each
-//! that it sees later. A read's reply is the answer in the state of what its seat has then seen,
+//! One kernel that many threads call and read, in two copies. A thread calls through its seat, under
+//! one lock, and each call is one event of a journal, which each copy makes; it reads the copy that
+//! is published, and waits for nobody. The journal is legal, and the published copy is in its state;
+//! what a seat has seen is a beginning of the journal, which begins each that it sees later. A read's reply is the answer in the state of what its seat has then seen,
 //! and notes carry what one seat has seen to another. Who gets the lock next, and when a reader
 //! sees another's event that it was not told of, is left open.
 #![tactic(auto)]

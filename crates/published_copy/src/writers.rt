@@ -12,7 +12,7 @@ ghost use Rattle.published_copy.specs.Shares.{IsShown, IsGood, IsAwaited, Succee
 ghost use Rattle.published_copy.specs.Shares.{EndsWithReply, tag_of};
 ghost use Rattle.published_copy.specs.declared.copies.Copied.{Copied};
 
-use crate::copies::{Copied, first_copy, put_reply};
+use crate::copies::{Copied, copy_reply, first_copy};
 use crate::lanes::Lane;
 use crate::logs::Told;
 use crate::naming::Naming;
@@ -193,7 +193,7 @@ impl<B: Naming> Copies<B> {
     {
         let writer: &mut Writer = &mut self.writer;
         publish(writer, rt);
-        put_reply(reply, &writer.published().reply);
+        copy_reply(reply, &writer.published().reply);
         self.marked = true;
     }
 

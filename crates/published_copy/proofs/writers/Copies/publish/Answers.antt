@@ -57,7 +57,7 @@ returns-clause-reply g c =
     let same : c.deref_mut-writer.result.now ≡ manually_drop_value c.self.inside.writer = search rules in
     let x : Copied = (manually_drop_value c.self.inside.writer).desk.shown.value in
     let y : Copied = c.publish.new.writer.desk.shown.value in
-    let put : c.put_reply.new.reply ≡ y.reply = search rules in
-    subst (λ (r : Reply). EndsWithReply list r) (sym put)
+    let copied : c.copy_reply.new.reply ≡ y.reply = search rules in
+    subst (λ (r : Reply). EndsWithReply list r) (sym copied)
     (shows_awaited boot c.args.self.now x y _ list c.self.view_is c.self.invariant.0 c.requires
     (c.publish.ensures.shown ∙ (λ i. fold absorbed (shown_of (same i).desk.shown.value) (drop (same i).behind (same i).log.items)))).1
