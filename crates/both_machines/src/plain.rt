@@ -65,7 +65,7 @@ impl Player {
     }
 
     /// The thread of a line's worker and what it asks, where all its names are bound.
-    fn asked(&self, line: &Line) -> Option<(ObjectId, Asked)> {
+    fn asked(&self, line: &Line<'_>) -> Option<(ObjectId, Asked)> {
         let names = NameList {
             named: self.names.as_slice(),
         };
@@ -87,14 +87,14 @@ impl Player {
     }
 
     /// Binds the line's name to what its call made.
-    fn bind(&mut self, line: &Line, reply: &Reply) -> Result<(), NoMemory> {
+    fn bind(&mut self, line: &Line<'_>, reply: &Reply) -> Result<(), NoMemory> {
         if let (Some(name), Some(value)) = (line.binds, made(reply)) {
             self.names.push(Named { name, value })?;
         }
         Ok(())
     }
 
-    fn play_line(&mut self, line: &Line, steps: &mut Vec<Step>) -> Result<(), NoMemory> {
+    fn play_line(&mut self, line: &Line<'_>, steps: &mut Vec<Step>) -> Result<(), NoMemory> {
         let Some((thread, asked)) = self.asked(line) else {
             return Ok(());
         };
@@ -120,8 +120,10 @@ pub fn play(alloc: Global, script: &Script, limits: &Limits) -> Result<Played, N
     let mut player = Player::start(alloc, limits)?;
     let mut steps = Vec::new(alloc);
     for phase in &script.phases {
-        for line in &phase.lines {
-            player.play_line(line, &mut steps)?;
+        for place in 0..phase.len() {
+            if let Some(line) = phase.line(place) {
+                player.play_line(&line, &mut steps)?;
+            }
         }
     }
     let tables = player.kernel.tables(&mut player.meter)?;

@@ -3,4 +3,6 @@ pub mod TextLemmas
 pub mod Faults
 pub mod ScriptLemmas
 pub mod Progress
+pub mod KeptLines
+pub mod ReadSoFar
 pub mod Unbound

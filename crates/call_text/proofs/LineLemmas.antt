@@ -1,5 +1,5 @@
 -- The parts of a line, and no two lines of one spelling.
-use Rattle.std.proofs.Common.{◌≡◌, ℕ, ◌≤◌, true, leb, List, [], ◌∷◌, ◌++◌, Some, None, refl, ◌∙◌, sym, arith, subst, append_assoc}
+use Rattle.std.proofs.Common.{◌≡◌, ℕ, ◌≤◌, Bool, true, false, leb, List, [], ◌∷◌, ◌++◌, Some, None, refl, ◌∙◌, sym, arith, subst, append_assoc}
 use Rattle.std.specs.List.{list_all}
 use Rattle.std.proofs.lemmas.Bool.{leb-true}
 use Rattle.text_words.specs.Lacks.{lacks}
@@ -13,9 +13,7 @@ use Rattle.spoken_calls.specs.Spoken.{Spoken, spoken_text}
 use Rattle.spoken_calls.proofs.SpokenLemmas.{spoken_is_one, spoken_lacks_end}
 use Rattle.text_words.proofs.PartLemmas.{not_in}
 use Rattle.call_text.proofs.TextLemmas.{IsGrammar}
-use Rattle.call_text.specs.declared.lines.Written.{Written}
-use Rattle.call_text.specs.declared.lines.Written.TheVariants.{Break, Said}
-use Rattle.call_text.specs.Line.{said_text, IsSaid, bound_text, IsBound, written_text, IsWritten, FitsWritten}
+use Rattle.call_text.specs.Line.{Written, Break, Said, said_text, IsSaid, bound_text, IsBound, written_text, IsWritten, FitsWritten}
 
 said_is : (w words : List ℕ) → (w ++ 58 ∷ 32 ∷ []) ++ words ≡ (w ++ 58 ∷ []) ++ 32 ∷ words
 said_is w words = append_assoc w (58 ∷ 32 ∷ []) words ∙ sym (append_assoc w (58 ∷ []) (32 ∷ words))
@@ -49,6 +47,10 @@ pub bound_parts : (text first after : List ℕ) (v : List ℕ × List ℕ × Spo
     → (first ≡ v.0) × (after ≡ 61 ∷ 32 ∷ said_text (v.1, v.2))
 bound_parts text first after v h lack is e =
     first_part 32 first v.0 after (61 ∷ 32 ∷ said_text (v.1, v.2)) lack (name_outside 32 v.0 space_outside is.0) (sym h ∙ bound_first text v e)
+
+-- a call that makes nothing is none that makes something
+pub makes_not : (b c d : Bool) → b ≡ false → b ≡ c → c ≡ d → d ≡ true → ⊥
+makes_not b c d not is same makes = let e : true ≡ false = sym makes ∙ sym same ∙ sym is ∙ not in absurd cc
 
 -- what no reader took for a call, with a name or without, is no line
 pub no_line : (text : List ℕ) → (text ≡ 45 ∷ 45 ∷ [] → ⊥) → ((v : List ℕ × Spoken) → IsSaid v → text ≡ said_text v → ⊥) → ((v : List ℕ × List ℕ × Spoken) → IsBound v → text ≡ bound_text v → ⊥)

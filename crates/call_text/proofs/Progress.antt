@@ -1,15 +1,11 @@
 -- How far a script has been read.
-use Rattle.std.proofs.Common.{◌≡◌, ℕ, ◌+◌, ◌≤◌, Bool, eqb, true, false, List, [], ◌∷◌, ◌++◌, length, Option, None, refl, ap, ◌∙◌, sym, arith, subst, length-append}
+use Rattle.std.proofs.Common.{◌≡◌, ℕ, ◌+◌, ◌≤◌, Bool, eqb, true, false, List, [], ◌∷◌, ◌++◌, length, refl, ap, ◌∙◌, sym, arith, subst, length-append}
 use Rattle.std.proofs.lemmas.Bool.{eqb-true}
 use Rattle.std.proofs.lemmas.List.{append-nil}
 use Rattle.std.specs.BTreeSet.{BTreeSet}
 use Rattle.text_words.specs.Lacks.{lacks}
-use Rattle.text_words.specs.Reading.{Reads}
-use Rattle.text_words.proofs.ReadLemmas.{read_not}
-use Rattle.call_text.specs.declared.lines.Written.{Written}
-use Rattle.call_text.specs.declared.lines.Written.TheVariants.{Break, Said}
 use Rattle.call_text.specs.declared.phases.Line.{Line}
-use Rattle.call_text.specs.Line.{written_text, FitsWritten}
+use Rattle.call_text.specs.Line.{Written, Break, Said, written_text, FitsWritten}
 use Rattle.call_text.specs.Script.{next, ends, start, lines_of, known_names, ArePhasesNumbered, Earlier, binds_of, IsScript, ScriptFaultsAt}
 use Rattle.call_text.specs.Names.{Holds, Admits, names_after}
 use Rattle.call_text.specs.Reading.{added}
@@ -72,11 +68,11 @@ fault_at_end bytes bound phases lines count rest at lack some =
     fault_no_end written_text FitsWritten next ends start bytes (lines_of (phases ++ lines ∷ [])) _ rest (count + 1) at.came (ap (λ n. n + 1) at.counted) lack (λ e. absurd (some e))
 
 -- a line that is none
-pub fault_unread : (bytes : List ℕ) (bound : BTreeSet (List ℕ)) (phases : List (List Line)) (lines : List Line) (count : ℕ) (rest l after : List ℕ) (r : Option Written)
-    → Progress bytes bound phases lines count rest → rest ≡ l ++ 10 ∷ after → lacks 10 l ≡ true → r ≡ None → Reads written_text FitsWritten l r → ScriptFaultsAt bytes (count + 1)
-fault_unread bytes bound phases lines count rest l after r at h lack none read =
+pub fault_unread : (bytes : List ℕ) (bound : BTreeSet (List ℕ)) (phases : List (List Line)) (lines : List Line) (count : ℕ) (rest l after : List ℕ)
+    → Progress bytes bound phases lines count rest → rest ≡ l ++ 10 ∷ after → lacks 10 l ≡ true → ((v : Written) → FitsWritten v → l ≡ written_text v → ⊥) → ScriptFaultsAt bytes (count + 1)
+fault_unread bytes bound phases lines count rest l after at h lack none =
     fault_line written_text FitsWritten next ends start bytes (lines_of (phases ++ lines ∷ [])) _ rest (count + 1) l after script_grammar at.came (ap (λ n. n + 1) at.counted) h lack
-    (λ v f s e. read_not written_text FitsWritten l r none read v f e)
+    (λ v f s e. none v f e)
 
 -- a line that may not stand there
 pub fault_refused : (bytes : List ℕ) (bound later : BTreeSet (List ℕ)) (phases : List (List Line)) (lines : List Line) (count : ℕ) (rest l after : List ℕ) (v : Written)

@@ -1,5 +1,5 @@
 -- The grammar of scripts: lines, names and phases.
-use Rattle.std.proofs.Common.{◌≡◌, ℕ, suc, ◌+◌, ◌<◌, ◌≤◌, Bool, true, false, cond, not, leb, ◌||◌, List, [], ◌∷◌, ◌++◌, length, map, Some, None, refl, ap, ◌∙◌, sym, arith, subst, append_assoc, length-append}
+use Rattle.std.proofs.Common.{◌≡◌, ℕ, zero, suc, ◌+◌, ◌<◌, ◌≤◌, Bool, true, false, cond, not, leb, ◌||◌, List, [], ◌∷◌, ◌++◌, length, map, take, slice_get, Some, None, refl, ap, ◌∙◌, sym, arith, subst, append_assoc, length-append}
 use Rattle.std.specs.List.{list_any}
 use Rattle.std.specs.Str.{bytes_eq}
 use Rattle.std.specs.Cmp.{both_ways}
@@ -13,8 +13,8 @@ use Rattle.std.proofs.lemmas.List.{map_push, append-nil, length-map}
 use Rattle.std.proofs.lemmas.Grind.{flat_map-append}
 use Rattle.text_words.specs.Name.{name_cmp}
 use Rattle.text_words.proofs.NameLemmas.{exact_names, name_cmp_same}
-use Rattle.call_text.specs.declared.lines.Written.{Written}
-use Rattle.call_text.specs.declared.lines.Written.TheVariants.{Break, Said}
+use Rattle.call_text.specs.Line.{Written, Break, Said, written_text}
+use Rattle.call_text.specs.Text.{line, lines_text}
 use Rattle.call_text.specs.declared.phases.Line.{Line}
 use Rattle.call_text.specs.Script.{said_of, lines_of, AreNumbered, ArePhasesNumbered, is_bound, binds_of, next}
 use Rattle.call_text.specs.Names.{Holds, Admits}
@@ -109,6 +109,32 @@ pub lines_of-line : (phases : List (List Line)) (ls : List Line) (l : Line) → 
 lines_of-line [] ls l = rw (map_push said_of ls l, append-nil (map said_of ls), append-nil (map said_of ls ++ said_of l ∷ [])) refl
 lines_of-line (p ∷ phases) ls l =
     rw (flat_map-append (λ q. Break ∷ map said_of q) phases ((ls ++ l ∷ []) ∷ []), flat_map-append (λ q. Break ∷ map said_of q) phases (ls ∷ []), map_push said_of ls l) (simp (append-nil, append_assoc))
+
+-- one more place of a list
+take_some : (ls : List Line) (i : ℕ) (l : Line) → Some l ≡ slice_get ls i → take (suc i) ls ≡ take i ls ++ l ∷ []
+take_some [] i l e = absurd cc
+take_some (x ∷ ls) zero l e = let p : x ≡ l = cc in (λ i. p i ∷ [])
+take_some (x ∷ ls) (suc i) l e = ap (λ (xs : List Line). x ∷ xs) (take_some ls i l e)
+
+take_none : (ls : List Line) (i : ℕ) → None ≡ slice_get ls i → take (suc i) ls ≡ take i ls
+take_none [] zero e = refl
+take_none [] (suc i) e = refl
+take_none (x ∷ ls) zero e = absurd cc
+take_none (x ∷ ls) (suc i) e = ap (λ (xs : List Line). x ∷ xs) (take_none ls i e)
+
+-- one more line was written
+pub written_more : (old out new : List ℕ) (ls : List Line) (i : ℕ) (l : Line) → new ≡ out ++ (written_text (said_of l) ++ 10 ∷ []) → out ≡ old ++ lines_text written_text (map said_of (take i ls)) → Some l ≡ slice_get ls i
+    → new ≡ old ++ lines_text written_text (map said_of (take (i + 1) ls))
+written_more old out new ls i l e before at =
+    let on : i + 1 ≡ suc i = omega arith in
+    e ∙ rw (before, on, take_some ls i l at, map_push said_of (take i ls) l, flat_map-append (line written_text) (map said_of (take i ls)) (said_of l ∷ [])) (simp (append-nil, append_assoc))
+
+-- no line was left to write
+pub written_all : (old out new : List ℕ) (ls : List Line) (i : ℕ) → new ≡ out → out ≡ old ++ lines_text written_text (map said_of (take i ls)) → None ≡ slice_get ls i
+    → new ≡ old ++ lines_text written_text (map said_of (take (i + 1) ls))
+written_all old out new ls i e before at =
+    let on : i + 1 ≡ suc i = omega arith in
+    e ∙ before ∙ rw (on, take_none ls i at) refl
 
 -- one more phase
 pub lines_of-phase : (phases : List (List Line)) (ls : List Line) → lines_of ((phases ++ ls ∷ []) ++ [] ∷ []) ≡ lines_of (phases ++ ls ∷ []) ++ Break ∷ []

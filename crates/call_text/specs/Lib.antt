@@ -1,6 +1,7 @@
 pub mod Line
 pub mod Text
 pub mod Script
+pub mod Phase
 pub mod Names
 pub mod Reading
 pub mod Refused

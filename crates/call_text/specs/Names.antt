@@ -3,7 +3,7 @@ use Rattle.std.specs.Prelude.{◌≡◌, ◌<◌, ◌+◌, ℕ, List, [], ◌∷
 use Rattle.std.specs.Prelude.{false}
 use Rattle.std.specs.BTreeSet.{BTreeSet, contains}
 use Rattle.text_words.specs.Name.{name_cmp}
-use Rattle.call_text.specs.declared.lines.Written.{Written}
+use Rattle.call_text.specs.Line.{Written}
 use Rattle.call_text.specs.Script.{is_bound, binds_of, next}
 
 -- the set has just these names

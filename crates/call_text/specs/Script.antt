@@ -3,10 +3,8 @@ use Rattle.std.specs.Prelude.{◌≡◌, ◌≤◌, ◌+◌, ℕ, List, [], ◌�
 use Rattle.std.specs.Prelude.{None, Bool, true, codes, nat_le, if◌then◌else◌}
 use Rattle.std.specs.List.{list_any, flat_map}
 use Rattle.std.specs.Str.{bytes_eq}
-use Rattle.call_text.specs.declared.lines.Written.{Written}
-use Rattle.call_text.specs.declared.lines.Written.TheVariants.{Break, Said}
 use Rattle.call_text.specs.declared.phases.Line.{Line}
-use Rattle.call_text.specs.Line.{written_text, FitsWritten}
+use Rattle.call_text.specs.Line.{Written, Break, Said, written_text, FitsWritten}
 use Rattle.call_text.specs.Text.{Spells, FaultsAt, lines_text}
 
 -- a line as it stands in the text

@@ -20,7 +20,6 @@ mod scripts;
 pub use asking::Asked;
 pub use errors::ScriptError;
 pub use known_names::{Known, NameList, Named, Value, start_names};
-pub use lines::{Written, read_line};
 pub use phases::{Line, Phase, Script};
 pub use replies::{put_made, put_reply, write_reply};
 pub use resolving::{resolve, resolve_into};

@@ -1,27 +1,26 @@
 //! A line of a script.
 ghost use Rattle.std.specs.Prelude.{◌≡◌, ◌++◌, ◌∷◌, [], ℕ, List, IfOk, IfSome, IfNone};
-ghost use Rattle.text_words.specs.Reading.{Reads};
-ghost use Rattle.spoken_calls.specs.Verb.{makes};
-ghost use Rattle.call_text.specs.Line.{said_text, IsSaid, bound_text, IsBound, written_text};
-ghost use Rattle.call_text.specs.Line.{FitsWritten};
+ghost use Rattle.spoken_calls.specs.Spoken.{ReadsInto};
+ghost use Rattle.call_text.specs.Line.{said_with, said_text, IsSaid, bound_with, bound_text, IsBound};
+ghost use Rattle.call_text.specs.Line.{written_with, written_text, FitsWritten};
 
-use spoken_calls::{SpokenCall, read_spoken};
+use spoken_calls::{Arg, Verb, read_spoken};
 use std::alloc::{AllocError, Global};
 use text_words::{Name, is_same, parted, read_name};
 
 /// The most bytes that stand before a line's end.
 const LONGEST: usize = 4096;
 
-/// A line of a script, without its place.
-#[derive(Drop)]
-pub enum Written {
+/// A line of a script, without its place and without the arguments of its call, which stand in a list.
+#[derive(Clone, Copy)]
+pub enum Outline {
     /// `--`, which parts two phases.
     Break,
     /// A worker's call, and the name that is bound to what it makes.
     Said {
         binds: Option<Name>,
         worker: Name,
-        call: SpokenCall,
+        verb: Verb,
     },
 }
 
@@ -47,9 +46,14 @@ fn after_equals(text: &[u8]) -> Option<&[u8]>
     }
 }
 
-/// A worker and its call, as `WORKER: CALL`.
-fn read_said(alloc: Global, text: &[u8]) -> Result<Option<(Name, SpokenCall)>, AllocError>
-    ensures { IfOk result (λ found. Reads said_text IsSaid text.now found) }
+/// A worker and the verb of its call, as `WORKER: CALL`. The call's arguments are added to the list; where the text is no
+/// such line nothing is added.
+fn read_said(
+    alloc: Global,
+    text: &[u8],
+    args: &mut Vec<Arg>,
+) -> Result<Option<(Name, Verb)>, AllocError>
+    ensures { IfOk result (ReadsInto said_with said_text IsSaid text.now args.old.items args.new.items) }
 {
     let Some((first, words)) = parted(text, b' ') else {
         return Ok(None);
@@ -60,23 +64,22 @@ fn read_said(alloc: Global, text: &[u8]) -> Result<Option<(Name, SpokenCall)>, A
     let Some(worker) = read_name(worker) else {
         return Ok(None);
     };
-    let Some(call) = read_spoken(alloc, words)? else {
+    let Some(verb) = read_spoken(alloc, words, args)? else {
         return Ok(None);
     };
-    Ok(Some((worker, call)))
+    Ok(Some((worker, verb)))
 }
 
-/// Whether the call makes something that a name can be bound to.
-fn makes(call: &SpokenCall) -> bool
-    ensures { result ≡ makes call.now.verb }
+/// A name, a worker and the verb of its call, as `NAME = WORKER: CALL`. The call's arguments are added to the list; where
+/// the text is no such line nothing is added.
+fn read_bound(
+    alloc: Global,
+    text: &[u8],
+    args: &mut Vec<Arg>,
+) -> Result<Option<(Name, Name, Verb)>, AllocError>
+    ensures { IfOk result (ReadsInto bound_with bound_text IsBound text.now args.old.items args.new.items) }
 {
-    call.verb().makes()
-}
-
-/// A name, a worker and its call, as `NAME = WORKER: CALL`.
-fn read_bound(alloc: Global, text: &[u8]) -> Result<Option<(Name, Name, SpokenCall)>, AllocError>
-    ensures { IfOk result (λ found. Reads bound_text IsBound text.now found) }
-{
+    let before = args.as_slice().len();
     let Some((name, after)) = parted(text, b' ') else {
         return Ok(None);
     };
@@ -86,39 +89,45 @@ fn read_bound(alloc: Global, text: &[u8]) -> Result<Option<(Name, Name, SpokenCa
     let Some(name) = read_name(name) else {
         return Ok(None);
     };
-    let Some(said) = read_said(alloc, said)? else {
+    let Some(said) = read_said(alloc, said, args)? else {
         return Ok(None);
     };
-    if !makes(&said.1) {
+    if !said.1.makes() {
+        args.truncate(before);
         return Ok(None);
     }
-    let (worker, call) = said;
-    Ok(Some((name, worker, call)))
+    let (worker, verb) = said;
+    Ok(Some((name, worker, verb)))
 }
 
-/// The line that the bytes before a line's end spell.
-pub fn read_line(alloc: Global, text: &[u8]) -> Result<Option<Written>, AllocError>
-    ensures { IfOk result (λ found. Reads written_text FitsWritten text.now found) }
+/// The line that the bytes before a line's end spell, but for its call's arguments, which are added to the list; where
+/// they spell none nothing is added.
+pub fn read_line(
+    alloc: Global,
+    text: &[u8],
+    args: &mut Vec<Arg>,
+) -> Result<Option<Outline>, AllocError>
+    ensures { IfOk result (ReadsInto written_with written_text FitsWritten text.now args.old.items args.new.items) }
 {
     if text.len() > LONGEST {
         return Ok(None);
     }
     if is_same(text, b"--") {
-        return Ok(Some(Written::Break));
+        return Ok(Some(Outline::Break));
     }
-    if let Some((worker, call)) = read_said(alloc, text)? {
-        return Ok(Some(Written::Said {
+    if let Some((worker, verb)) = read_said(alloc, text, args)? {
+        return Ok(Some(Outline::Said {
             binds: None,
             worker,
-            call,
+            verb,
         }));
     }
-    let Some((name, worker, call)) = read_bound(alloc, text)? else {
+    let Some((name, worker, verb)) = read_bound(alloc, text, args)? else {
         return Ok(None);
     };
-    Ok(Some(Written::Said {
+    Ok(Some(Outline::Said {
         binds: Some(name),
         worker,
-        call,
+        verb,
     }))
 }

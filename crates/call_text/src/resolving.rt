@@ -13,7 +13,7 @@ use text_words::Name;
 /// the words, that is not known or known as the other kind. A number stands for itself. A query is the answer, and a call is
 /// written to `call`, with 0 for each name that is not known, or known as the other kind; a query leaves it as it was.
 pub fn resolve_into<K: Known>(
-    spoken: &SpokenCall,
+    spoken: &SpokenCall<'_>,
     names: &K,
     call: &mut Call,
 ) -> Result<Option<Query>, Name>
@@ -29,7 +29,7 @@ pub fn resolve_into<K: Known>(
 }
 
 /// What the spoken call asks, as `resolve_into` answers it, with a call by value.
-pub fn resolve<K: Known>(call: &SpokenCall, names: &K) -> Result<Asked, Name>
+pub fn resolve<K: Known>(call: &SpokenCall<'_>, names: &K) -> Result<Asked, Name>
     ensures { result ≡ resolved call.now (K.names names.now) }
 {
     let mut asked = Call::CatCreate;

@@ -1,8 +1,7 @@
 //! Writing scripts.
 ghost use Rattle.std.specs.Prelude.{◌≡◌, ◌++◌, ◌∷◌, [], map, IfOk, OnOk};
 ghost use Rattle.std.specs.List.{flat_map};
-ghost use Rattle.call_text.specs.declared.lines.Written.TheVariants.{Break};
-ghost use Rattle.call_text.specs.Line.{written_text};
+ghost use Rattle.call_text.specs.Line.{Break, written_text};
 ghost use Rattle.call_text.specs.Text.{lines_text};
 ghost use Rattle.call_text.specs.Script.{said_of, script_text};
 
@@ -13,7 +12,7 @@ use std::alloc::{AllocError, Global};
 use text_words::put_name;
 
 /// Adds the line and its end.
-fn put_line(out: &mut Vec<u8>, line: &Line) -> Result<(), AllocError>
+fn put_line(out: &mut Vec<u8>, line: &Line<'_>) -> Result<(), AllocError>
     ensures { OnOk result (out.new.items
         ≡ out.old.items ++ (written_text (said_of line.now) ++ 10 ∷ [])) }
 {
@@ -33,8 +32,10 @@ fn put_phase(out: &mut Vec<u8>, phase: &Phase) -> Result<(), AllocError>
     ensures { OnOk result (out.new.items
         ≡ out.old.items ++ lines_text written_text (map said_of phase.now)) }
 {
-    for line in phase.lines.as_slice() {
-        put_line(out, line)?;
+    for place in 0..phase.len() {
+        if let Some(line) = phase.line(place) {
+            put_line(out, &line)?;
+        }
     }
     Ok(())
 }

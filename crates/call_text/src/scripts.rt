@@ -1,13 +1,18 @@
 //! Reading scripts.
-ghost use Rattle.std.specs.Prelude.{◌≡◌, ◌≤◌, ℕ, List, IfOk, OnOk};
+ghost use Rattle.std.specs.Prelude.{◌≡◌, ◌≤◌, ◌++◌, ◌∷◌, [], map, ℕ, List, IfOk, OnOk};
+ghost use Rattle.std.specs.List.{AllByRecursion};
+ghost use Rattle.spoken_calls.specs.declared.args.Arg.{Arg as ArgValue};
 ghost use Rattle.call_text.specs.declared.phases.Line.{Line as LineValue};
 ghost use Rattle.call_text.specs.Script.{IsScript, ScriptFaultsAt, known_names, binds_of};
+ghost use Rattle.call_text.specs.Line.{written_with};
 ghost use Rattle.call_text.specs.Names.{Holds, Admits};
-ghost use Rattle.call_text.specs.Reading.{ReadsScript, added};
+ghost use Rattle.call_text.specs.Phase.{line_in, IsKept};
+ghost use Rattle.call_text.specs.Reading.{ReadsScript, AddsLine};
 
 use crate::errors::ScriptError;
-use crate::lines::{Written, read_line};
-use crate::phases::{Line, Phase, Script};
+use crate::lines::{Outline, read_line};
+use crate::phases::{KeptLine, Phase, Script};
+use spoken_calls::Arg;
 use std::alloc::{AllocError, Global};
 use std::collections::BTreeSet;
 use std::mem;
@@ -28,55 +33,77 @@ fn names_at_start(alloc: Global) -> Result<BTreeSet<Name>, AllocError>
 }
 
 /// The name that the line binds.
-fn binds(written: &Written) -> Option<Name>
-    ensures { result ≡ binds_of written.now }
+fn binds(outline: &Outline) -> Option<Name>
+    ensures { (xs : List ArgValue) → result ≡ binds_of (written_with outline.now xs) }
 {
-    match written {
-        Written::Break => None,
-        Written::Said { binds, .. } => *binds,
+    match outline {
+        Outline::Break => None,
+        Outline::Said { binds, .. } => *binds,
     }
 }
 
 /// Whether the line may stand after so many lines, whose names are bound. Binds the line's.
 #[tactic(auto, unfolding(crate::specs::Script::next))]
-fn admit(lines: u32, bound: &mut BTreeSet<Name>, written: &Written) -> Result<bool, AllocError>
-    ensures { IfOk result (λ yes. Admits lines written.now bound.old bound.new yes) }
+fn admit(lines: u32, bound: &mut BTreeSet<Name>, outline: &Outline) -> Result<bool, AllocError>
+    ensures { IfOk result
+        (λ yes. (xs : List ArgValue) → Admits lines (written_with outline.now xs) bound.old bound.new yes) }
 {
     if lines >= MOST {
         return Ok(false);
     }
-    let Some(name) = binds(written) else {
+    let Some(name) = binds(outline) else {
         return Ok(true);
     };
     let fresh = bound.insert(name)?;
     Ok(fresh)
 }
 
-/// Adds the line to the phases, and to the lines of the last.
+/// Adds the phase of these lines, and takes them and their arguments away.
+fn close(
+    alloc: Global,
+    phases: &mut Vec<Phase>,
+    args: &mut Vec<Arg>,
+    lines: &mut Vec<KeptLine>,
+) -> Result<(), AllocError>
+    requires { AllByRecursion (IsKept args.old.items) lines.old.items }
+    ensures phases { OnOk result
+        (phases.new.items ≡ phases.old.items ++ map (line_in args.old.items) lines.old.items ∷ []) }
+    ensures args { OnOk result (args.new.items ≡ []) }
+    ensures lines { OnOk result (lines.new.items ≡ []) }
+{
+    let args = mem::replace(args, Vec::new(alloc));
+    let lines = mem::replace(lines, Vec::new(alloc));
+    phases.push(Phase::new(args, lines))?;
+    Ok(())
+}
+
+/// Adds the line to the phases, and to the lines of the last, whose arguments the list holds: those of its call stand after
+/// so many others.
 fn add(
     alloc: Global,
     phases: &mut Vec<Phase>,
-    lines: &mut Vec<Line>,
+    args: &mut Vec<Arg>,
+    lines: &mut Vec<KeptLine>,
     number: u32,
-    written: Written,
+    first: usize,
+    outline: Outline,
 ) -> Result<(), AllocError>
-    ensures { OnOk result ((phases.new.items, lines.new.items)
-        ≡ added number written phases.old.items lines.old.items) }
+    requires { AllByRecursion (IsKept args.old.items) lines.old.items }
+    ensures { OnOk result (AddsLine number first outline phases.old.items args.old.items lines.old.items
+        phases.new.items args.new.items lines.new.items) }
 {
-    match written {
-        Written::Break => {
-            let lines = mem::replace(lines, Vec::new(alloc));
-            phases.push(Phase { lines })?;
-        }
-        Written::Said {
+    match outline {
+        Outline::Break => close(alloc, phases, args, lines)?,
+        Outline::Said {
             binds,
             worker,
-            call,
-        } => lines.push(Line {
+            verb,
+        } => lines.push(KeptLine {
             number,
             binds,
             worker,
-            call,
+            verb,
+            first,
         })?,
     }
     Ok(())
@@ -88,6 +115,7 @@ pub fn read_script(alloc: Global, bytes: &[u8]) -> Result<Script, ScriptError>
 {
     let mut bound = names_at_start(alloc)?;
     let mut phases = Vec::new(alloc);
+    let mut args = Vec::new(alloc);
     let mut lines = Vec::new(alloc);
     let mut rest = bytes;
     let mut count = 0u32;
@@ -95,17 +123,26 @@ pub fn read_script(alloc: Global, bytes: &[u8]) -> Result<Script, ScriptError>
         let Some((line, after)) = parted(rest, b'\n') else {
             return Err(ScriptError::Line(count + 1));
         };
-        let Some(written) = read_line(alloc, line)? else {
+        let first = args.as_slice().len();
+        let Some(outline) = read_line(alloc, line, &mut args)? else {
             return Err(ScriptError::Line(count + 1));
         };
-        if !admit(count, &mut bound, &written)? {
+        if !admit(count, &mut bound, &outline)? {
             return Err(ScriptError::Line(count + 1));
         }
         count += 1;
-        add(alloc, &mut phases, &mut lines, count, written)?;
+        add(
+            alloc,
+            &mut phases,
+            &mut args,
+            &mut lines,
+            count,
+            first,
+            outline,
+        )?;
         rest = after;
     }
-    phases.push(Phase { lines })?;
+    phases.push(Phase::new(args, lines))?;
     Ok(Script { phases })
 }
 

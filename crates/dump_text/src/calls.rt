@@ -18,7 +18,7 @@ use spoken_calls::{SpokenCall, Verb, read_spoken};
 use std::alloc::{AllocError, Global};
 
 /// The write call that the call asks where no name is known.
-fn write_call(call: &SpokenCall) -> Option<Call>
+fn write_call(call: &SpokenCall<'_>) -> Option<Call>
     ensures { result ≡ write_of (resolved call.now []) }
 {
     match resolve(call, &NameList { named: &[] }) {
@@ -31,10 +31,11 @@ fn write_call(call: &SpokenCall) -> Option<Call>
 pub fn read_call(alloc: Global, text: &[u8]) -> Result<Option<Call>, AllocError>
     ensures { IfOk result (λ found. Reads call_text IsCall text.now found) }
 {
-    let Some(call) = read_spoken(alloc, text)? else {
+    let mut args = Vec::new(alloc);
+    let Some(verb) = read_spoken(alloc, text, &mut args)? else {
         return Ok(None);
     };
-    Ok(write_call(&call))
+    Ok(write_call(&SpokenCall::new(verb, args.as_slice())))
 }
 
 /// The words of an entry.

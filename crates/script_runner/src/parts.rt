@@ -12,10 +12,13 @@ pub type Parts = BTreeMap<usize, Vec<usize>>;
 /// Adds the workers of a phase. (Lines of one worker often follow each other.)
 fn add_workers(workers: &mut IndexSet<Name>, phase: &Phase) -> Result<(), AllocError> {
     let mut last = None;
-    for line in &phase.lines {
-        if last != Some(line.worker) {
-            workers.insert(line.worker)?;
-            last = Some(line.worker);
+    for place in 0..phase.len() {
+        let worker = phase.worker(place);
+        if let Some(name) = worker {
+            if last != worker {
+                workers.insert(name)?;
+                last = worker;
+            }
         }
     }
     Ok(())
@@ -54,14 +57,17 @@ pub fn parts_of(
 ) -> Result<Parts, AllocError> {
     let mut parts = BTreeMap::new(alloc);
     let mut last = None;
-    let mut worker = None;
-    for (place, line) in phase.lines.iter().enumerate() {
-        if last != Some(line.worker) {
-            worker = workers.get_index_of(&line.worker);
-            last = Some(line.worker);
+    let mut index = None;
+    for place in 0..phase.len() {
+        let worker = phase.worker(place);
+        if let Some(name) = worker {
+            if last != worker {
+                index = workers.get_index_of(&name);
+                last = worker;
+            }
         }
-        if let Some(worker) = worker {
-            add_line(&mut parts, alloc, worker, place)?;
+        if let Some(index) = index {
+            add_line(&mut parts, alloc, index, place)?;
         }
     }
     Ok(parts)

@@ -84,7 +84,7 @@ impl<'s, B: Naming> Worker<'s, B> {
     }
 
     /// What a line answers of a worker that has no seat.
-    fn unseated(&self, line: &Line) -> Answer {
+    fn unseated(&self, line: &Line<'_>) -> Answer {
         match self.refusal {
             Some(refusal) => Answer::Refused(refusal.refusal()),
             None => Answer::Unbound(line.worker),
@@ -95,7 +95,7 @@ impl<'s, B: Naming> Worker<'s, B> {
     fn answer<R: Wait>(
         &mut self,
         rt: &R,
-        line: &Line,
+        line: &Line<'_>,
         earlier: &BoundNames,
     ) -> Result<Answer, NoMemory> {
         let Some(seat) = &mut self.seat else {
@@ -116,7 +116,7 @@ impl<'s, B: Naming> Worker<'s, B> {
     }
 
     /// Binds the line's name to what its call made.
-    fn bind(&mut self, line: &Line, answer: &Answer) -> Result<(), AllocError> {
+    fn bind(&mut self, line: &Line<'_>, answer: &Answer) -> Result<(), AllocError> {
         if let (Some(name), Answer::Made(made)) = (line.binds, answer) {
             self.own.bind(&Named { name, value: *made })?;
         }
@@ -128,7 +128,7 @@ impl<'s, B: Naming> Worker<'s, B> {
         rt: &R,
         gate: &G,
         index: usize,
-        line: &Line,
+        line: &Line<'_>,
         earlier: &BoundNames,
     ) -> Result<Turn, NoMemory> {
         let number = line.number as usize;
@@ -153,10 +153,10 @@ impl<'s, B: Naming> Worker<'s, B> {
         earlier: &BoundNames,
     ) {
         for place in places {
-            let Some(line) = phase.lines.get(*place) else {
+            let Some(line) = phase.line(*place) else {
                 return;
             };
-            match self.play_line(rt, gate, index, line, earlier) {
+            match self.play_line(rt, gate, index, &line, earlier) {
                 Ok(Turn::Go) => {}
                 Ok(Turn::Stop) => {
                     self.ended = LinesEnd::Stopped;

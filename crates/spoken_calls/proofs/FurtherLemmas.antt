@@ -1,6 +1,5 @@
 -- The arguments of a call, one by one.
-use Rattle.std.proofs.Common.{◌≡◌, ℕ, suc, ◌+◌, ◌-◌, ◌<◌, ◌≤◌, Bool, true, false, eqb, List, [], ◌∷◌, ◌++◌, length, map, get_or, take, drop, refl, ap, ◌∙◌, sym, subst, arith, append_assoc}
-use Rattle.std.specs.List.{join_with_byte}
+use Rattle.std.proofs.Common.{◌≡◌, ℕ, suc, ◌+◌, ◌-◌, ◌<◌, ◌≤◌, Bool, true, false, eqb, List, [], ◌∷◌, ◌++◌, length, get_or, take, drop, take_at, Some, refl, ap, ◌∙◌, sym, subst, arith, append_assoc}
 use Rattle.std.proofs.lemmas.List.{take_more, append-nil}
 use Rattle.std.proofs.lemmas.Bool.{eqb-false}
 use Rattle.std.proofs.lemmas.Grind.{flat_map-append}
@@ -11,8 +10,9 @@ use Rattle.text_words.proofs.Outside.{space_outside}
 use Rattle.spoken_calls.specs.declared.args.ArgKind.{ArgKind}
 use Rattle.spoken_calls.specs.declared.args.Arg.{Arg}
 use Rattle.spoken_calls.specs.Arg.{arg_text, IsArg, AddsArg}
-use Rattle.spoken_calls.specs.Verb.{name_of}
-use Rattle.spoken_calls.specs.Spoken.{AreArgs, IsRest, further_text, arguments_text, AddsArgs, Spoken, spoken_text}
+use Rattle.spoken_calls.specs.declared.verbs.Verb.{Verb}
+use Rattle.spoken_calls.specs.Verb.{name_of, kinds_of}
+use Rattle.spoken_calls.specs.Spoken.{AreArgs, IsRest, further_text, arguments_text, AddsArgs, ReadsInto, Spoken, IsSpoken, spoken_text, call_with}
 use Rattle.spoken_calls.proofs.SpokenLemmas.{AreArgs-push, arg_outside, spoken_text_is, name_lacks_space}
 
 further_is_rest : (xs : List Arg) → IsRest (further_text xs)
@@ -114,6 +114,10 @@ pub adds_not : (k : ArgKind) (word : List ℕ) (old new : List Arg) (b : Bool) �
 adds_not k word old new true e h = absurd cc
 adds_not k word old new false e h = h.0
 
+pub adds_same : (k : ArgKind) (word : List ℕ) (old new : List Arg) (b : Bool) → b ≡ false → AddsArg k word old new b → new ≡ old
+adds_same k word old new true e h = absurd cc
+adds_same k word old new false e h = h.1
+
 pub record Added (k : ArgKind) (word : List ℕ) (old new : List Arg) : Type 0 where
   pub arg : Arg
   pub is_arg : IsArg k arg
@@ -126,7 +130,12 @@ adds_one k word old new false e h = absurd cc
 
 pub adds_none : (ks : List ArgKind) (text : List ℕ) (old new : List Arg) (b : Bool) → b ≡ false → AddsArgs ks text old new b → (found : List Arg) → AreArgs ks found → text ≡ further_text found → ⊥
 adds_none ks text old new true e h = absurd cc
-adds_none ks text old new false e h = h
+adds_none ks text old new false e h = h.0
+
+-- where not all were added, the old ones stand before those that were
+pub adds_some : (ks : List ArgKind) (text : List ℕ) (old new : List Arg) (b : Bool) → b ≡ false → AddsArgs ks text old new b → take (length old) new ≡ old
+adds_some ks text old new true e h = absurd cc
+adds_some ks text old new false e h = rw h.2 (take_at old h.1 (length old) refl)
 
 pub record AddedAll (ks : List ArgKind) (text : List ℕ) (old new : List Arg) : Type 0 where
   pub found : List Arg
@@ -165,8 +174,8 @@ pub call_parts : (line word rest : List ℕ) (v : Spoken) → line ≡ word ++ r
 call_parts line word rest v parts lack is e =
     word_is word (name_of v.verb) rest (further_text v.args) lack (name_lacks_space v.verb) is (further_is_rest v.args) (sym parts ∙ e ∙ sym (spoken_text_is (name_of v.verb) v.args))
 
-pub call_whole : (line word rest name : List ℕ) (none all : List Arg) (ks : List ArgKind) → line ≡ word ++ rest → word ≡ name → none ≡ [] → AddedAll ks rest none all → AreArgs ks all × (line ≡ join_with_byte 32 (name ∷ map arg_text all))
-call_whole line word rest name none all ks parts first empty more =
-    let items : more.found ≡ all = sym (more.new_is ∙ ap (λ (xs : List Arg). xs ++ more.found) empty) in
-    let is : line ≡ name ++ further_text more.found = parts ∙ (λ i. first i ++ more.text_is i) in
-    (subst (AreArgs ks) items more.are, is ∙ ap (λ (xs : List Arg). name ++ further_text xs) items ∙ spoken_text_is name all)
+pub call_whole : (line word rest : List ℕ) (verb : Verb) (old new : List Arg) (ks : List ArgKind) → ks ≡ kinds_of verb → line ≡ word ++ rest → word ≡ name_of verb → AddedAll ks rest old new
+    → ReadsInto call_with spoken_text IsSpoken line old new (Some verb)
+call_whole line word rest verb old new ks kinds parts first more =
+    let is : line ≡ name_of verb ++ further_text more.found = parts ∙ (λ i. first i ++ more.text_is i) in
+    (more.found, more.new_is, subst (λ (k : List ArgKind). AreArgs k more.found) kinds more.are, is ∙ spoken_text_is (name_of verb) more.found)

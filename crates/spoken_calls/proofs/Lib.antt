@@ -1,2 +1,3 @@
 pub mod SpokenLemmas
 pub mod FurtherLemmas
+pub mod IntoLemmas

@@ -13,6 +13,10 @@ pub record Spoken : Type 0 where
   pub verb : Verb
   pub args : List Arg
 
+-- a verb's call with these arguments
+abbrev pub call_with : Verb → List Arg → Spoken
+call_with verb args = record { verb = verb; args = args }
+
 -- arguments of these kinds, each in its range
 abbrev pub AreArgs : List ArgKind → List Arg → Type 0
 AreArgs [] [] = Unit {0}
@@ -42,12 +46,23 @@ abbrev pub further_text : List Arg → List ℕ
 further_text xs = flat_map (λ a. 32 ∷ arg_text a) xs
 
 -- Whether the text is arguments of these kinds, each after a space. The new arguments then are the
--- old ones and these.
+-- old ones and these, and otherwise the old ones and some.
 abbrev pub AddsArgs : List ArgKind → List ℕ → List Arg → List Arg → Bool → Type 0
 AddsArgs ks text old new true =
     (found : List Arg) × AreArgs ks found × (text ≡ further_text found) × (new ≡ old ++ found)
 AddsArgs ks text old new false =
-    (found : List Arg) → AreArgs ks found → text ≡ further_text found → ⊥
+    ((found : List Arg) → AreArgs ks found → text ≡ further_text found → ⊥)
+    × (more : List Arg) × (new ≡ old ++ more)
+
+-- What was read of a text, whose arguments were added to a list: with these it is a whole value that
+-- the text spells. Nothing is read only where the text spells none, and then none was added.
+abbrev pub ReadsInto : {H V : Type 0} → (H → List Arg → V) → (V → List ℕ) → (V → Type 0)
+    → List ℕ → List Arg → List Arg → Option H → Type 0
+ReadsInto whole spelling Fits text old new (Some h) =
+    (found : List Arg) × (new ≡ old ++ found) × Fits (whole h found)
+    × (text ≡ spelling (whole h found))
+ReadsInto {H} {V} whole spelling Fits text old new None =
+    (new ≡ old) × ((v : V) → Fits v → text ≡ spelling v → ⊥)
 
 -- arguments, parted by single spaces
 abbrev pub arguments_text : List Arg → List ℕ

@@ -1,9 +1,9 @@
 //! A call as its words.
 ghost use Rattle.std.specs.Prelude.{◌≡◌, ◌<◌, ◌++◌, ◌∷◌, ℕ, List, true, IfOk, IfSome, IfNone, length};
 ghost use Rattle.text_words.specs.Lacks.{lacks};
-ghost use Rattle.text_words.specs.Reading.{Reads};
-ghost use Rattle.spoken_calls.specs.Spoken.{spoken_text, IsSpoken, IsRest, AddsArgs};
-ghost use Rattle.spoken_calls.specs.Spoken.{ReadsArguments};
+ghost use Rattle.spoken_calls.specs.Verb.{kinds_of};
+ghost use Rattle.spoken_calls.specs.Spoken.{call_with, spoken_text, IsSpoken, AreArgs, IsRest};
+ghost use Rattle.spoken_calls.specs.Spoken.{AddsArgs, ReadsInto, ReadsArguments};
 
 use crate::args::{Arg, ArgKind, add_arg};
 use crate::verbs::{Verb, read_verb};
@@ -11,25 +11,33 @@ use memchr::memchr;
 use std::alloc::{AllocError, Global};
 use std::marker::Model;
 
-/// A call and its arguments, which are of the verb's kinds, each in its range. A contract sees the verb and the list of
-/// the arguments.
+/// A call and its arguments, which are of the verb's kinds, each in its range. They stand in a list that holds those of
+/// other calls too. A contract sees the verb and the list of the arguments.
 #[derive(Drop)]
-pub struct SpokenCall {
+pub struct SpokenCall<'a> {
     verb: Verb,
-    args: Vec<Arg>,
+    args: &'a [Arg],
 }
 
-impl Model for SpokenCall {
-    ghost use Rattle.spoken_calls.specs.Spoken.{Spoken, IsSpoken};
+impl<'a> Model for SpokenCall<'a> {
+    ghost use Rattle.spoken_calls.specs.Spoken.{Spoken, IsSpoken, call_with};
 
     ghost Value = { Spoken };
 
-    ghost view = { λ a. record { verb = a.verb; args = a.args.items } };
+    ghost view = { λ a. call_with a.verb a.args.now };
 
-    ghost invariant = { λ a. IsSpoken (record { verb = a.verb; args = a.args.items }) };
+    ghost invariant = { λ a. IsSpoken (call_with a.verb a.args.now) };
 }
 
-impl SpokenCall {
+impl<'a> SpokenCall<'a> {
+    /// The call of a verb and arguments of its kinds, as `read_spoken` reads them.
+    pub fn new(verb: Verb, args: &'a [Arg]) -> SpokenCall<'a>
+        requires { AreArgs (kinds_of verb) args.now }
+        ensures { result ≡ call_with verb args.now }
+    {
+        SpokenCall { verb, args }
+    }
+
     /// The call's first word.
     pub fn verb(&self) -> Verb
         ensures { result ≡ self.now.verb }
@@ -38,11 +46,11 @@ impl SpokenCall {
     }
 
     /// The arguments, in order.
-    pub fn args(&self) -> &[Arg]
+    pub fn args(&self) -> &'a [Arg]
         ensures value { result.now ≡ self.now.args }
         ensures spoken { IsSpoken self.now }
     {
-        self.args.as_slice()
+        self.args
     }
 }
 
@@ -119,18 +127,22 @@ pub fn read_arguments(
     Ok(Some(args))
 }
 
-/// The call that the line spells.
-pub fn read_spoken(alloc: Global, line: &[u8]) -> Result<Option<SpokenCall>, AllocError>
-    ensures { IfOk result (λ found. Reads spoken_text IsSpoken line.now found) }
+/// The verb of the call that the line spells, whose arguments are added to the list; otherwise nothing is added.
+pub fn read_spoken(
+    alloc: Global,
+    line: &[u8],
+    args: &mut Vec<Arg>,
+) -> Result<Option<Verb>, AllocError>
+    ensures { IfOk result (ReadsInto call_with spoken_text IsSpoken line.now args.old.items args.new.items) }
 {
     let (word, rest) = first_word(line);
     let Some(verb) = read_verb(word) else {
         return Ok(None);
     };
-    let kinds = verb.kinds();
-    let mut args = Vec::with_capacity(alloc, kinds.len())?;
-    if !add_args(alloc, &mut args, kinds, rest)? {
+    let before = args.as_slice().len();
+    if !add_args(alloc, args, verb.kinds(), rest)? {
+        args.truncate(before);
         return Ok(None);
     }
-    Ok(Some(SpokenCall { verb, args }))
+    Ok(Some(verb))
 }

@@ -27,7 +27,7 @@ fn put_arg(out: &mut Vec<u8>, arg: &Arg) -> Result<(), AllocError>
 }
 
 /// Adds the spelling of the call.
-pub fn put_spoken(out: &mut Vec<u8>, call: &SpokenCall) -> Result<(), AllocError>
+pub fn put_spoken(out: &mut Vec<u8>, call: &SpokenCall<'_>) -> Result<(), AllocError>
     ensures { OnOk result (out.new.items ≡ out.old.items ++ spoken_text call.now) }
 {
     out.extend_from_slice(call.verb().name().as_bytes())?;

@@ -61,10 +61,9 @@ fn each_call_is_read_and_written(rt: HostRuntime) -> Result<(), Fail> {
     let again = write_script(rt.alloc(), &script)?;
     assert!(rt; again.as_slice() == text.as_slice());
     for phase in &script.phases {
-        assert_eq!(rt; phase.lines.len(), 34);
-        let binding = phase
-            .lines
-            .iter()
+        assert_eq!(rt; phase.len(), 34);
+        let binding = (0..phase.len())
+            .filter_map(|place| phase.line(place))
             .filter(|line| line.binds.is_some())
             .count();
         assert_eq!(rt; binding, 7);
@@ -88,11 +87,11 @@ fn asked<K: Known>(alloc: Global, text: &[u8], names: &K) -> Result<(usize, usiz
     let mut writes = 0usize;
     let mut reads = 0usize;
     for phase in &script.phases {
-        for line in &phase.lines {
-            match resolve(&line.call, names) {
-                Ok(Asked::Write(_)) => writes = writes.saturating_add(1),
-                Ok(Asked::Read(_)) => reads = reads.saturating_add(1),
-                Err(_) => {}
+        for place in 0..phase.len() {
+            match phase.line(place).map(|line| resolve(&line.call, names)) {
+                Some(Ok(Asked::Write(_))) => writes = writes.saturating_add(1),
+                Some(Ok(Asked::Read(_))) => reads = reads.saturating_add(1),
+                _ => {}
             }
         }
     }
@@ -113,7 +112,7 @@ fn asked_by(alloc: Global, text: &[u8]) -> Result<Option<Asked>, Fail> {
     let script = read_script(alloc, text)?;
     let names = named_in_lines();
     for phase in &script.phases {
-        for line in &phase.lines {
+        if let Some(line) = phase.line(0) {
             return Ok(resolve(&line.call, &NameList { named: &names }).ok());
         }
     }

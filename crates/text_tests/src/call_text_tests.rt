@@ -28,8 +28,9 @@ fn a_script_is_read_and_written(rt: HostRuntime) -> Result<(), Fail> {
     let script = read_script(rt.alloc(), TEXT.as_bytes())?;
     assert_eq!(rt; script.phases.len(), 3);
     for phase in &script.phases {
-        for line in &phase.lines {
-            assert!(rt; is_same(line.worker.as_slice(), b"boot"));
+        for place in 0..phase.len() {
+            let worker = phase.worker(place).expect(&rt, "a worker");
+            assert!(rt; is_same(worker.as_slice(), b"boot"));
         }
     }
     let bytes = write_script(rt.alloc(), &script)?;
@@ -44,7 +45,8 @@ fn lines_have_their_numbers(rt: HostRuntime) -> Result<(), Fail> {
     let script = read_script(rt.alloc(), TEXT.as_bytes())?;
     let mut sum = 0u64;
     for phase in &script.phases {
-        for line in &phase.lines {
+        for place in 0..phase.len() {
+            let line = phase.line(place).expect(&rt, "a line");
             sum = sum.wrapping_mul(10).wrapping_add(line.number as u64);
         }
     }
@@ -108,7 +110,7 @@ fn a_script_has_at_most_65536_lines(rt: HostRuntime) -> Result<(), Fail> {
 fn unbound(alloc: Global, line: &[u8], named: &[Named]) -> Result<Option<Name>, Fail> {
     let script = read_script(alloc, line)?;
     for phase in &script.phases {
-        for line in &phase.lines {
+        if let Some(line) = phase.line(0) {
             if let Err(name) = resolve(&line.call, &NameList { named }) {
                 return Ok(Some(name));
             }
@@ -139,7 +141,7 @@ fn names_are_resolved(rt: HostRuntime) -> Result<(), Fail> {
 fn numbers_stand_for_themselves(rt: HostRuntime) -> Result<(), Fail> {
     let script = read_script(rt.alloc(), b"boot: segment_read root #7 8 9\n")?;
     for phase in &script.phases {
-        for line in &phase.lines {
+        if let Some(line) = phase.line(0) {
             match resolve(&line.call, &NameList { named: &named() }) {
                 Ok(
                     Asked::Read(

@@ -1,5 +1,5 @@
 //! Each call, read and written, what is none, and without memory.
-use spoken_calls::{ArgKind, put_spoken, read_arguments, read_spoken};
+use spoken_calls::{ArgKind, SpokenCall, put_spoken, read_arguments, read_spoken};
 use std::alloc::{AllocError, Global};
 use std::test::Fail;
 
@@ -41,16 +41,37 @@ const ROWS: [&str; 34] = [
     "load 18446744073709551615 0",
 ];
 
+/// A call that is read and written, and nothing where the line spells none.
+fn written(alloc: Global, line: &[u8]) -> Result<Option<Vec<u8>>, AllocError> {
+    let mut args = Vec::new(alloc);
+    let Some(verb) = read_spoken(alloc, line, &mut args)? else {
+        return Ok(None);
+    };
+    let mut out = Vec::new(alloc);
+    put_spoken(&mut out, &SpokenCall::new(verb, args.as_slice()))?;
+    Ok(Some(out))
+}
+
 #[test]
 fn each_call_is_read_and_written(rt: HostRuntime) -> Result<(), Fail> {
+    for line in ROWS {
+        let out = written(rt.alloc(), line.as_bytes())?.expect(&rt, "a call");
+        assert!(rt; out.as_slice() == line.as_bytes(), "{line}");
+    }
+    Ok(())
+}
+
+// The arguments of all calls stand in one list.
+#[test]
+fn arguments_are_added_to_a_list(rt: HostRuntime) -> Result<(), Fail> {
+    let mut args = Vec::new(rt.alloc());
+    let mut count = 0usize;
     let mut making = 0u32;
     for line in ROWS {
-        let call = read_spoken(rt.alloc(), line.as_bytes())?.expect(&rt, "a call");
-        let mut out = Vec::new(rt.alloc());
-        put_spoken(&mut out, &call)?;
-        assert!(rt; out.as_slice() == line.as_bytes(), "{line}");
-        assert_eq!(rt; call.args().len(), call.verb().kinds().len());
-        if call.verb().makes() {
+        let verb = read_spoken(rt.alloc(), line.as_bytes(), &mut args)?.expect(&rt, "a call");
+        count = count.saturating_add(verb.kinds().len());
+        assert_eq!(rt; args.len(), count, "{line}");
+        if verb.makes() {
             making = making.saturating_add(1);
         }
     }
@@ -60,6 +81,9 @@ fn each_call_is_read_and_written(rt: HostRuntime) -> Result<(), Fail> {
 
 #[test]
 fn other_lines_are_none(rt: HostRuntime) -> Result<(), Fail> {
+    let mut args = Vec::new(rt.alloc());
+    let first = read_spoken(rt.alloc(), b"unref root s", &mut args)?;
+    assert!(rt; first.is_some());
     for line in [
         "",
         "cat_create ",
@@ -90,10 +114,8 @@ fn other_lines_are_none(rt: HostRuntime) -> Result<(), Fail> {
         "self_get -",
         "Load 0 1",
     ] {
-        assert!(rt;
-            read_spoken(rt.alloc(), line.as_bytes())?.is_none(),
-            "{line}"
-        );
+        let read = read_spoken(rt.alloc(), line.as_bytes(), &mut args)?;
+        assert!(rt; read.is_none() && args.len() == 2, "{line}");
     }
     Ok(())
 }
@@ -110,25 +132,18 @@ fn arguments_are_read_alone(rt: HostRuntime) -> Result<(), Fail> {
     Ok(())
 }
 
-/// Whether a call is read and written as it stands.
-fn is_kept(alloc: Global, line: &[u8]) -> Result<bool, AllocError> {
-    let Some(call) = read_spoken(alloc, line)? else {
-        return Ok(false);
-    };
-    let mut out = Vec::new(alloc);
-    put_spoken(&mut out, &call)?;
-    Ok(out.as_slice() == line)
-}
-
 // Where an allocation is refused, the call that is read again is the same.
 #[test]
 fn want_of_memory_reads_no_other_rows(rt: HostRuntime) -> Result<(), Fail> {
     for line in ROWS {
-        let is_same = match is_kept(rt.alloc(), line.as_bytes()) {
-            Ok(is_same) => is_same,
-            Err(_) => is_kept(rt.alloc(), line.as_bytes())?,
+        let out = match written(rt.alloc(), line.as_bytes()) {
+            Ok(out) => out,
+            Err(_) => written(rt.alloc(), line.as_bytes())?,
         };
-        assert!(rt; is_same, "{line}");
+        assert!(rt;
+            out.expect(&rt, "a call").as_slice() == line.as_bytes(),
+            "{line}"
+        );
     }
     Ok(())
 }

@@ -1,7 +1,6 @@
 use Rattle.std.proofs.Common.{◌≡◌, ◌++◌, ◌∷◌, map, take}
 use Rattle.std.specs.List.{flat_map}
-use Rattle.call_text.specs.declared.lines.Written.TheVariants.{Break}
-use Rattle.call_text.specs.Line.{written_text}
+use Rattle.call_text.specs.Line.{Break, written_text}
 use Rattle.call_text.specs.Text.{lines_text}
 use Rattle.call_text.specs.Script.{said_of}
 use Rattle.call_text.proofs.script_writing.put_more.Given as goal

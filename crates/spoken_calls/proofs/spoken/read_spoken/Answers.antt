@@ -1,26 +1,33 @@
-use Rattle.std.proofs.Common.{◌≡◌, ◌∙◌, sym, ap, subst, List}
+use Rattle.std.proofs.Common.{◌≡◌, ◌∙◌, sym, ap, subst, List, length, take, refl}
+use Rattle.spoken_calls.specs.declared.args.Arg.{Arg}
 use Rattle.spoken_calls.specs.declared.args.ArgKind.{ArgKind}
 use Rattle.spoken_calls.specs.Spoken.{AreArgs}
-use Rattle.spoken_calls.specs.Verb.{kinds_of, name_of}
+use Rattle.spoken_calls.specs.Verb.{kinds_of}
 use Rattle.spoken_calls.proofs.SpokenLemmas.{verb_is}
-use Rattle.spoken_calls.proofs.FurtherLemmas.{call_parts, call_whole, adds_none, adds_all}
+use Rattle.spoken_calls.proofs.FurtherLemmas.{call_parts, call_whole, adds_none, adds_some, adds_all}
 use Rattle.spoken_calls.proofs.spoken.read_spoken.Goals as goal
 
 pub returns-in_default : goal.returns-in_default
-returns-in_default c = λ v is e.
-    let p = call_parts c.args.line.now c.first_word.result.0.now c.first_word.result.1.now v c.first_word.ensures.parts c.first_word.ensures.word c.first_word.ensures.rest e in
-    c.in_default.ensures v.verb tt p.0
+returns-in_default c = (
+  refl,
+  λ v is e.
+      let p = call_parts c.args.line.now c.first_word.result.0.now c.first_word.result.1.now v c.first_word.ensures.parts c.first_word.ensures.word c.first_word.ensures.rest e in
+      c.in_default.ensures v.verb tt p.0,
+)
 
 pub returns-then-not-branch : goal.returns-then-not-branch
-returns-then-not-branch c = λ v is e.
-    let p = call_parts c.args.line.now c.first_word.result.0.now c.first_word.result.1.now v c.first_word.ensures.parts c.first_word.ensures.word c.first_word.ensures.rest e in
-    let same = verb_is v.verb c.in-Some.verb (sym p.0 ∙ c.in-Some.ensures.1) in
-    let kinds : c.kinds-kinds.result.now ≡ kinds_of v.verb = c.kinds-kinds.ensures ∙ ap kinds_of (sym same) in
-    adds_none c.kinds-kinds.result.now c.first_word.result.1.now c.in_ok-args.args.items c.add_args.new.args.items c.in_ok-add_args.field-0 c.if-not-branch.true c.in_ok-add_args.ensures v.args
-    (subst (λ (ks : List ArgKind). AreArgs ks v.args) (sym kinds) is) p.1
+returns-then-not-branch c = (
+  c.truncate.ensures.items ∙ ap (λ (xs : List Arg). take (length xs) c.add_args.new.args.items) c.as_slice-before.ensures.value
+      ∙ adds_some c.kinds.result.now c.first_word.result.1.now c.args.args.now.items c.add_args.new.args.items c.in_ok-add_args.field-0 c.if-not-branch.true c.in_ok-add_args.ensures,
+  λ v is e.
+      let p = call_parts c.args.line.now c.first_word.result.0.now c.first_word.result.1.now v c.first_word.ensures.parts c.first_word.ensures.word c.first_word.ensures.rest e in
+      let same = verb_is v.verb c.in-Some.verb (sym p.0 ∙ c.in-Some.ensures.1) in
+      let kinds : c.kinds.result.now ≡ kinds_of v.verb = c.kinds.ensures ∙ ap kinds_of (sym same) in
+      adds_none c.kinds.result.now c.first_word.result.1.now c.args.args.now.items c.add_args.new.args.items c.in_ok-add_args.field-0 c.if-not-branch.true c.in_ok-add_args.ensures v.args
+      (subst (λ (ks : List ArgKind). AreArgs ks v.args) (sym kinds) is) p.1,
+)
 
 pub returns : goal.returns
 returns c =
-    let h = call_whole c.args.line.now c.first_word.result.0.now c.first_word.result.1.now (name_of c.in-Some.verb) c.in_ok-args.args.items c.add_args.new.args.items c.kinds-kinds.result.now c.first_word.ensures.parts c.in-Some.ensures.1 c.in_ok-args.ensures.items
-    (adds_all c.kinds-kinds.result.now c.first_word.result.1.now c.in_ok-args.args.items c.add_args.new.args.items c.in_ok-add_args.field-0 c.if-not-branch.false c.in_ok-add_args.ensures) in
-    (subst (λ (ks : List ArgKind). AreArgs ks c.add_args.new.args.items) c.kinds-kinds.ensures h.0, h.1)
+    call_whole c.args.line.now c.first_word.result.0.now c.first_word.result.1.now c.in-Some.verb c.args.args.now.items c.add_args.new.args.items c.kinds.result.now c.kinds.ensures c.first_word.ensures.parts c.in-Some.ensures.1
+    (adds_all c.kinds.result.now c.first_word.result.1.now c.args.args.now.items c.add_args.new.args.items c.in_ok-add_args.field-0 c.if-not-branch.false c.in_ok-add_args.ensures)
