@@ -5,12 +5,13 @@ use Rattle.std.proofs.Common.{true, false, ◌&&◌, ◌↔◌, sym}
 use Rattle.std.proofs.Math.ListN.{drop_of_length-le}
 use Rattle.std.proofs.lemmas.Bool.Decides.{nat_tests}
 use Rattle.std.proofs.Common.{◌⊎◌}
-use Rattle.std.proofs.lemmas.Bool.{cases_eq}
+use Rattle.std.proofs.lemmas.Bool.{cases_eq, leb-true, leb-false}
+use Rattle.std.proofs.Common.{cond, leb}
 use Rattle.base.specs.declared.levels.Level.{Level}
 use Rattle.label_lattice.specs.declared.pairings.Pair.{Pair}
 use Rattle.label_lattice.specs.Columns.{filler}
 use Rattle.label_lattice.specs.Levels.{level_at, next_of, IsRising, IsAbove}
-use Rattle.label_lattice.specs.Walk.{Takes, TakesBoth, meets, comes_first, category_at}
+use Rattle.label_lattice.specs.Walk.{Takes, TakesBoth, category_at}
 use Rattle.label_lattice.specs.Walk.{HoldsEverywhere, ComparesOn}
 use Rattle.std.proofs.Common.{slice_index_or, add-one}
 
@@ -208,44 +209,28 @@ IsAbove-left (q ∷ qs) zero m rising below =
 IsAbove-left (q ∷ qs) (suc i) m rising below =
     IsAbove-left qs i m rising.1 (λ h. below (omega (arith, h)))
 
--- what it says that a list's category comes first
-pub first_yes : (a : List Pair) (i : ℕ) (b : List Pair) (j : ℕ) → IsTrue (comes_first a i b j)
-    → (i < length a) × (j < length b → category_at a i < category_at b j)
-first_yes a i b j h =
-    let within : i < length a = grind (arith, nat_tests) in
-    (within, λ in_b. grind (arith, nat_tests))
+-- where a place is past the end, the other is not
+pub other_within : (i m j n : ℕ) → m ≤ i → (i < m) ⊎ (j < n) → j < n
+other_within i m j n past (inl h) = absurd (omega arith)
+other_within i m j n past (inr h) = h
 
--- what it says that both have one
-pub meets_yes : (a : List Pair) (i : ℕ) (b : List Pair) (j : ℕ) → IsTrue (meets a i b j)
-    → (i < length a) × (j < length b) × (category_at a i ≡ category_at b j)
-meets_yes a i b j h = (
-  grind (arith, nat_tests),
-  grind (arith, nat_tests),
-  grind (arith, nat_tests),
-)
-
--- and that neither that nor the first's does
-pub first_no : (a : List Pair) (i : ℕ) (b : List Pair) (j : ℕ) → meets a i b j ≡ false
-    → comes_first a i b j ≡ false → (i < length a) ⊎ (j < length b)
-    → (j < length b) × (i < length a → category_at b j < category_at a i)
-first_no a i b j one other some =
-    let within : j < length b = grind (arith, nat_tests) in
-    (within, λ in_a. grind (arith, nat_tests))
+pub one_within : (i m j n : ℕ) → n ≤ j → (i < m) ⊎ (j < n) → i < m
+one_within i m j n past (inl h) = h
+one_within i m j n past (inr h) = absurd (omega arith)
 
 module _ (da db : Level) (a b : List Pair) (i j : ℕ) where
   -- the first list's category is taken
-  pub takes_first : IsRising a → IsRising b → IsTrue (comes_first a i b j)
+  pub takes_first : IsRising a → IsRising b → i < length a
+      → (j < length b → category_at a i < category_at b j)
       → TakesBoth da (drop i a) db (drop j b) (slice_index_or a i filler).level db
       (drop (suc i) a) (drop j b)
-  takes_first rising_a rising_b first =
-      let yes = first_yes a i b j first in
-      record {
-        category = category_at a i;
-        first = Takes-at da a i (category_at a i) filler rising_a yes.0 refl;
-        second =
-            Takes-none db (drop j b) (category_at a i)
-            (IsAbove-left b j (category_at a i) rising_b yes.1);
-      }
+  takes_first rising_a rising_b within first = record {
+    category = category_at a i;
+    first = Takes-at da a i (category_at a i) filler rising_a within refl;
+    second =
+        Takes-none db (drop j b) (category_at a i)
+        (IsAbove-left b j (category_at a i) rising_b first);
+  }
 
   -- the second's is
   pub takes_second : IsRising a → IsRising b → j < length b
@@ -270,6 +255,47 @@ module _ (da db : Level) (a b : List Pair) (i j : ℕ) where
     first = Takes-at da a i (category_at b j) filler rising_a in_a same;
     second = Takes-at db b j (category_at b j) filler rising_b in_b refl;
   }
+
+-- what the turn takes where both lists have a category left
+pub record TakesLower (da db : Level) (a b : List Pair) (i j : ℕ) (x y : Level) (m n : ℕ) : Type 0 where
+  pub takes : TakesBoth da (drop i a) db (drop j b) x y (drop m a) (drop n b)
+  pub a_within : m ≤ length a
+  pub b_within : n ≤ length b
+  pub onward : i + j < m + n
+
+module _ (da db : Level) (a b : List Pair) (i j : ℕ) (rising_a : IsRising a) (rising_b : IsRising b) (in_a : i < length a) (in_b : j < length b) where
+  pub takes_lower : (p q : Bool) (x y : Level) (m n : ℕ)
+      → p ≡ leb (category_at a i) (category_at b j) → q ≡ leb (category_at b j) (category_at a i)
+      → x ≡ cond p (slice_index_or a i filler).level da → y ≡ cond q (slice_index_or b j filler).level db
+      → m ≡ cond p (i + 1) i → n ≡ cond q (j + 1) j → TakesLower da db a b i j x y m n
+  takes_lower true true x y m n ep eq ex ey em en =
+      let one = leb-true (category_at a i) (category_at b j) (sym ep) in
+      let other = leb-true (category_at b j) (category_at a i) (sym eq) in
+      record {
+        takes = rw (ex, ey, em, en, add-one i, add-one j) (takes_both da db a b i j rising_a rising_b in_a in_b (omega arith));
+        a_within = omega arith;
+        b_within = omega arith;
+        onward = omega arith;
+      }
+  takes_lower true false x y m n ep eq ex ey em en =
+      let other = leb-false (category_at b j) (category_at a i) (sym eq) in
+      record {
+        takes = rw (ex, ey, em, en, add-one i) (takes_first da db a b i j rising_a rising_b in_a (λ h. omega arith));
+        a_within = omega arith;
+        b_within = omega arith;
+        onward = omega arith;
+      }
+  takes_lower false true x y m n ep eq ex ey em en =
+      let one = leb-false (category_at a i) (category_at b j) (sym ep) in
+      record {
+        takes = rw (ex, ey, em, en, add-one j) (takes_second da db a b i j rising_a rising_b in_b (λ h. omega arith));
+        a_within = omega arith;
+        b_within = omega arith;
+        onward = omega arith;
+      }
+  takes_lower false false x y m n ep eq ex ey em en =
+      let one = leb-false (category_at a i) (category_at b j) (sym ep) in
+      let other = leb-false (category_at b j) (category_at a i) (sym eq) in absurd (omega arith)
 
 -- a turn in which both lists have one category at one place
 pub compare_both : (t : Level → Level → Level → Bool) (da db : Level) (a b : List Pair) (i : ℕ)

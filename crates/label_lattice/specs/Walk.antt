@@ -1,6 +1,5 @@
 -- What the walk over exceptions answers, and what one step of it takes.
-use Rattle.std.specs.Prelude.{◌≡◌, ◌≢◌, ◌==◌, ◌&&◌, ◌||◌, ℕ, Bool, List, IsTrue, length, nat_lt, nat_le}
-use Rattle.std.specs.Prelude.{slice_index_or, drop}
+use Rattle.std.specs.Prelude.{◌≡◌, ◌≢◌, ℕ, Bool, List, IsTrue, slice_index_or, drop}
 use Rattle.base.specs.declared.levels.Level.{Level}
 use Rattle.label_lattice.specs.declared.pairings.Pair.{Pair}
 use Rattle.label_lattice.specs.Columns.{filler}
@@ -26,16 +25,6 @@ pub record Takes
 -- the category at a place
 abbrev pub category_at : List Pair → ℕ → ℕ
 category_at ps i = (slice_index_or ps i filler).category.0
-
--- two lists have one category at places
-abbrev pub meets : List Pair → ℕ → List Pair → ℕ → Bool
-meets a i b j =
-    nat_lt i (length a) && (nat_lt j (length b) && category_at a i == category_at b j)
-
--- a list has a category at a place, which is below that at the other's place or the other has none
-abbrev pub comes_first : List Pair → ℕ → List Pair → ℕ → Bool
-comes_first a i b j =
-    nat_lt i (length a) && (nat_le (length b) j || nat_lt (category_at a i) (category_at b j))
 
 -- one category is taken off two lists, at its levels
 pub record TakesBoth

@@ -1,11 +1,12 @@
 //! The merge walks over lists of exceptions, which decide each order test: over two lists for the
 //! orders of two labels, each way at once, and over three lists for the rules on three labels.
-ghost use Rattle.std.specs.Prelude.{◌≡◌, ◌<◌, ◌≤◌, ◌+◌, ◌^◌, ◌==◌, ◌⊎◌, ◌↔◌, ℕ, IsTrue};
-ghost use Rattle.std.specs.Prelude.{length, drop};
+ghost use Rattle.std.specs.Prelude.{◌≡◌, ◌<◌, ◌≤◌, ◌+◌, ◌^◌, ◌==◌, ◌⊎◌, ◌↔◌, ℕ, IsTrue, if◌then◌else◌};
+ghost use Rattle.std.specs.Prelude.{length, drop, slice_index_or};
+ghost use Rattle.label_lattice.specs.Columns.{filler};
 ghost use Rattle.std.specs.Int.{bit_at};
 ghost use Rattle.label_lattice.specs.Levels.{next_of, IsRising};
 ghost use Rattle.label_lattice.specs.Rule.{rule_test, up_rank, down_rank};
-ghost use Rattle.label_lattice.specs.Walk.{Takes, TakesBoth, meets, comes_first, category_at};
+ghost use Rattle.label_lattice.specs.Walk.{Takes, TakesBoth, category_at};
 ghost use Rattle.label_lattice.specs.Walk.{HoldsEverywhere, ComparesOn};
 ghost use Rattle.label_lattice.specs.Ways.{both_test};
 
@@ -106,14 +107,6 @@ struct Turn {
     j: usize,
 }
 
-/// Whether two lists have pairs at places whose category is one.
-#[inline(always)]
-fn meets(a: &Pairs<16>, i: usize, b: &Pairs<16>, j: usize) -> bool
-    ensures { result ≡ meets a.now i b.now j }
-{
-    i < a.len() && j < b.len() && a.pair_at(i).category.0 == b.pair_at(j).category.0
-}
-
 /// Whether two lists have one category at a place.
 #[inline(always)]
 fn has_same(a: &Pairs<16>, b: &Pairs<16>, i: usize) -> bool
@@ -124,12 +117,55 @@ fn has_same(a: &Pairs<16>, b: &Pairs<16>, i: usize) -> bool
     a.pair_at(i).category.0 == b.pair_at(i).category.0
 }
 
-/// Whether a list has a pair at a place whose category comes before all that are left in the other.
+/// The level at a place and the place after it where the list has the category that is taken, and
+/// else its default and the place. (Which list has it no processor foresees, so that is no branch.)
 #[inline(always)]
-fn comes_first(a: &Pairs<16>, i: usize, b: &Pairs<16>, j: usize) -> bool
-    ensures { result ≡ comes_first a.now i b.now j }
+fn taken_where(has: bool, default: Level, pairs: &Pairs<16>, place: usize) -> Taken
+    requires { place < length pairs.now }
+    ensures level { result.level
+        ≡ (if has then (slice_index_or pairs.now place filler).level else default) }
+    ensures place { result.place ≡ (if has then place + 1 else place) }
 {
-    i < a.len() && (j >= b.len() || a.pair_at(i).category.0 < b.pair_at(j).category.0)
+    // For the proof alone: that the list is short is known once its length is read.
+    let _ = pairs.len();
+    let level = pairs.pair_at(place).level;
+    Taken {
+        level: if has { level } else { default },
+        place: place + usize::from(has),
+    }
+}
+
+/// The levels of the lower of the categories at two places, and the places after it. The list that
+/// lacks it has its default there.
+#[inline(always)]
+fn take_lower(
+    a_default: Level,
+    a: &Pairs<16>,
+    i: usize,
+    b_default: Level,
+    b: &Pairs<16>,
+    j: usize,
+) -> Turn
+    requires a_rising { IsRising a.now }
+    requires b_rising { IsRising b.now }
+    requires a_within { i < length a.now }
+    requires b_within { j < length b.now }
+    ensures takes { TakesBoth a_default (drop i a.now) b_default (drop j b.now)
+        result.a result.b (drop result.i a.now) (drop result.j b.now) }
+    ensures a_within { result.i ≤ length a.now }
+    ensures b_within { result.j ≤ length b.now }
+    ensures onward { i + j < result.i + result.j }
+{
+    let one = a.pair_at(i).category.0;
+    let other = b.pair_at(j).category.0;
+    let of_a = taken_where(one <= other, a_default, a, i);
+    let of_b = taken_where(other <= one, b_default, b, j);
+    Turn {
+        a: of_a.level,
+        b: of_b.level,
+        i: of_a.place,
+        j: of_b.place,
+    }
 }
 
 /// The levels of the least category that is left in a list, and the places after it. The other list
@@ -154,30 +190,24 @@ fn take_least(
     ensures b_within { result.j ≤ length b.now }
     ensures onward { i + j < result.i + result.j }
 {
-    // For the proof alone: that the lists are short is known once their lengths are read.
-    let (_, _) = (a.len(), b.len());
-    if meets(a, i, b, j) {
-        Turn {
-            a: a.pair_at(i).level,
-            b: b.pair_at(j).level,
-            i: i + 1,
-            j: j + 1,
-        }
-    } else if comes_first(a, i, b, j) {
-        Turn {
-            a: a.pair_at(i).level,
-            b: b_default,
-            i: i + 1,
-            j,
-        }
-    } else {
-        Turn {
+    let (a_len, b_len) = (a.len(), b.len());
+    if i >= a_len {
+        return Turn {
             a: a_default,
             b: b.pair_at(j).level,
             i,
             j: j + 1,
-        }
+        };
     }
+    if j >= b_len {
+        return Turn {
+            a: a.pair_at(i).level,
+            b: b_default,
+            i: i + 1,
+            j,
+        };
+    }
+    take_lower(a_default, a, i, b_default, b, j)
 }
 
 /// How two labels compare so far, and the place in both lists from which they are still to be
