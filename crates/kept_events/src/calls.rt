@@ -5,6 +5,7 @@ ghost use Rattle.kept_events.specs.Calls.{call_of};
 
 use base::{Data, NoMemory, ObjectId};
 use kernel_rules::{Call, Entry, Mapping};
+use std::alloc::Global;
 use std::marker::Model;
 use std::sync::Arc;
 
@@ -180,6 +181,18 @@ impl KeptCall {
         let form = match Unlabelled::of(call) {
             Some(unlabelled) => Form::Here(unlabelled),
             None => Form::Apart(Arc::try_clone(call)?),
+        };
+        Ok(KeptCall { form })
+    }
+
+    /// Keeps a call as `new` does, where no one else has it: one with a label is written into memory of its own. The error
+    /// is want of memory.
+    pub fn alone(alloc: Global, call: &Call) -> Result<KeptCall, NoMemory>
+        ensures { IfOk result (λ kept. kept ≡ call.now) }
+    {
+        let form = match Unlabelled::of(call) {
+            Some(unlabelled) => Form::Here(unlabelled),
+            None => Form::Apart(Arc::new(alloc, *call)?),
         };
         Ok(KeptCall { form })
     }

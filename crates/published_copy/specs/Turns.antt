@@ -34,6 +34,10 @@ turn thread number seen = record { thread = thread; number = number; seen = seen
 abbrev pub seat_with : Turn → List Event → SeatView
 seat_with pass told = record { pass = pass; told = told }
 
+-- the turn of a thread that has seen the journal
+abbrev pub next_turn : ℕ → List Event → Turn
+next_turn thread journal = turn thread (count thread journal + 1) journal
+
 -- the number is the thread's next in the journal, and the journal is no shorter than what was seen
 abbrev pub is_turn : List Event → Turn → Bool
 is_turn journal pass =

@@ -16,10 +16,11 @@ ghost use mathlib.Core.List.{IsPrefix};
 use crate::lanes::Lane;
 use crate::naming::Naming;
 use crate::pairs::Pair;
-use crate::passes::Pass;
+use crate::passes::{Pass, event_of};
 use crate::places::Places;
 use crate::receipts::Placed;
 use crate::refusals::{SeatRefusal, SubmitRefusal};
+use crate::seating::seat_refusal;
 use crate::tallies::{Tally, count_events, events_of};
 use base::{Limits, Meter, NoMemory, ObjectId};
 use kept_events::{KeptEvent, call_answers};
@@ -68,7 +69,10 @@ fn is_turn<B: Naming>(journal: &[KeptEvent], tallies: &[Tally], pass: &Pass<B>) 
 }
 
 /// There is room for one event and one tally more. Nothing else changes, also without memory.
-fn make_room(journal: &mut Vec<KeptEvent>, tallies: &mut Vec<Tally>) -> Result<(), NoMemory>
+pub(crate) fn make_room(
+    journal: &mut Vec<KeptEvent>,
+    tallies: &mut Vec<Tally>,
+) -> Result<(), NoMemory>
     ensures journal_room { OnOk result (vec_len journal.new < vec_capacity journal.new) }
     ensures tallies_room { OnOk result (vec_len tallies.new < vec_capacity tallies.new) }
     ensures journal { journal.new.items ≡ journal.old.items }
@@ -182,7 +186,8 @@ impl<B: Naming> Book<B> {
             return Err(SubmitRefusal::Memory);
         };
         call_answers();
-        self.journal.push_reserved(pass.event(kept, reply));
+        let event = event_of(pass.thread(), pass.number(), kept, reply);
+        self.journal.push_reserved(event);
         count_events(&mut self.tallies, pass.thread(), pass.number());
         let front = self.pair.front(events + 1);
         Ok(pass.pass_on(self.journal.len(), front))
@@ -199,16 +204,8 @@ impl<B: Naming> Book<B> {
         ensures legal { IsLegal B.boot.limits self.old.journal }
         ensures kept { self.new ≡ self.old }
     {
-        if self.places.has(thread) || events_of(&self.tallies, thread) > 0 {
-            return Some(SeatRefusal::SeatTaken);
-        }
-        if !self.pair.kernel().is_thread(thread, &mut self.meter) {
-            return Some(SeatRefusal::NoThread);
-        }
-        if self.places.are_spent() {
-            return Some(SeatRefusal::SeatsSpent);
-        }
-        None
+        let kernel = self.pair.kernel();
+        seat_refusal(&self.places, &self.tallies, kernel, thread, &mut self.meter)
     }
 
     /// A pass, a reader and a meter for a live thread that was given no seat and has no event: it

@@ -3,7 +3,8 @@
 //! is published, and waits for nobody. The journal is legal, and the published copy is in its state;
 //! what a seat has seen is a beginning of the journal, which begins each that it sees later. A read's reply is the answer in the state of what its seat has then seen,
 //! and notes carry what one seat has seen to another. Who gets the lock next, and when a reader
-//! sees another's event that it was not told of, is left open.
+//! sees another's event that it was not told of, is left open. Where only one caller has all threads,
+//! there is a book with one kernel and no copies.
 #![tactic(auto)]
 
 mod books;
@@ -23,7 +24,9 @@ mod places;
 mod receipts;
 mod refusals;
 mod rules;
+mod seating;
 mod seats;
+mod sole;
 mod tallies;
 mod tips;
 mod writers;
@@ -38,4 +41,5 @@ pub use passes::Pass;
 pub use receipts::{Placed, Receipt};
 pub use refusals::{SeatRefusal, SubmitRefusal, Unread};
 pub use seats::Seat;
+pub use sole::SoleBook;
 pub use syscall_core::BootRefusal;

@@ -29,6 +29,22 @@ impl<B: Naming> Model for Pass<B> {
     ghost view = { λ p. turn p.thread p.number p.front };
 }
 
+/// The event that a thread's call of this number is.
+pub(crate) fn event_of(thread: ObjectId, number: u64, call: KeptCall, reply: &Reply) -> KeptEvent
+    requires { IsTrue (is_of_call reply.now) }
+    ensures thread { result.thread ≡ thread }
+    ensures number { result.number ≡ number }
+    ensures call { result.call ≡ call }
+    ensures reply { result.reply ≡ reply.now }
+{
+    KeptEvent {
+        thread,
+        number,
+        call,
+        reply: KeptReply::new(reply),
+    }
+}
+
 impl<B: Naming> Pass<B> {
     /// The pass of a thread whose next event has this number, and which has seen these events.
     pub(crate) fn new(thread: ObjectId, number: u64, front: Front<B>) -> Pass<B>
@@ -75,22 +91,6 @@ impl<B: Naming> Pass<B> {
         ensures { self.new ≡ turn self.old.thread self.old.number front }
     {
         self.front = front;
-    }
-
-    /// The event that its thread's call is.
-    pub(crate) fn event(&self, call: KeptCall, reply: &Reply) -> KeptEvent
-        requires { IsTrue (is_of_call reply.now) }
-        ensures thread { result.thread ≡ self.now.thread }
-        ensures number { result.number ≡ self.now.number }
-        ensures call { result.call ≡ call }
-        ensures reply { result.reply ≡ reply.now }
-    {
-        KeptEvent {
-            thread: self.thread(),
-            number: self.number(),
-            call,
-            reply: KeptReply::new(reply),
-        }
     }
 
     /// Its event was committed, and it has seen these events, which are so many: the next number is

@@ -16,6 +16,8 @@ mod script_runner_plays;
 #[cfg(test)]
 mod script_runner_program;
 #[cfg(test)]
+mod script_runner_turns;
+#[cfg(test)]
 mod worked_script_tests;
 #[cfg(test)]
 mod worked_scripts;

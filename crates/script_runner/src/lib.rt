@@ -8,19 +8,22 @@
 
 mod answers;
 mod closings;
+mod desks;
 mod dumps;
 mod faults;
 mod gates;
+mod lone_play;
 mod names;
 mod parts;
 mod play;
 mod printing;
 mod program;
+mod shared_play;
 mod workers;
 
 pub use dumps::dump_of;
 pub use faults::PlayFault;
 pub use gates::{Always, Gate, Turn};
 pub use names::{BoundNames, WorkerNames};
-pub use play::{Played, play_all};
+pub use play::{Played, play_all, play_at_once};
 pub use program::{Ended, NAME, histar_on};

@@ -9,28 +9,41 @@ use text_words::Name;
 /// lines in the phase, rising.
 pub type Parts = BTreeMap<usize, Vec<usize>>;
 
-/// Adds the workers of a phase. (Lines of one worker often follow each other.)
-fn add_workers(workers: &mut IndexSet<Name>, phase: &Phase) -> Result<(), AllocError> {
+/// The workers of a script.
+#[derive(Drop)]
+pub struct Workers {
+    /// Their names, in the order of their first lines.
+    pub names: IndexSet<Name>,
+    /// Whether no phase has lines of two.
+    pub take_turns: bool,
+}
+
+/// Adds the workers of a phase, and says whether there are two. (Lines of one worker often follow each other.)
+fn add_workers(workers: &mut IndexSet<Name>, phase: &Phase) -> Result<bool, AllocError> {
     let mut last = None;
+    let mut two = false;
     for place in 0..phase.len() {
         let worker = phase.worker(place);
         if let Some(name) = worker {
             if last != worker {
+                two = last.is_some();
                 workers.insert(name)?;
                 last = worker;
             }
         }
     }
-    Ok(())
+    Ok(two)
 }
 
-/// The workers of a script, in the order of their first lines.
-pub fn workers_of(alloc: Global, script: &Script) -> Result<IndexSet<Name>, AllocError> {
-    let mut workers = IndexSet::new(alloc);
+/// The workers of a script.
+pub fn workers_of(alloc: Global, script: &Script) -> Result<Workers, AllocError> {
+    let mut names = IndexSet::new(alloc);
+    let mut take_turns = true;
     for phase in &script.phases {
-        add_workers(&mut workers, phase)?;
+        let two = add_workers(&mut names, phase)?;
+        take_turns = take_turns && !two;
     }
-    Ok(workers)
+    Ok(Workers { names, take_turns })
 }
 
 fn add_line(

@@ -1,17 +1,22 @@
 //! A worker, which plays its lines in order.
+ghost use Rattle.std.specs.Iterator.{IsFinite};
+
 use crate::answers::{Answer, Answers};
+use crate::desks::Desk;
+use crate::faults::PlayFault;
 use crate::gates::{Gate, Turn};
 use crate::names::{BoundNames, WorkerNames};
 use base::{NoMemory, Refusal};
 use call_text::{Line, Named, Phase, resolve_into};
 use kernel_rules::{Call, Query, Reply};
-use published_copy::{Naming, Seat, SeatRefusal, SubmitRefusal};
+use published_copy::{SeatRefusal, SubmitRefusal};
 use std::alloc::{AllocError, Global};
+use std::mem;
 use std::sync::Wait;
 
 /// How a worker's lines ended.
 #[derive(Clone, Copy, PartialEq, Eq)]
-pub enum LinesEnd {
+enum LinesEnd {
     /// All were played.
     Played,
     /// The gate stopped them.
@@ -20,60 +25,57 @@ pub enum LinesEnd {
     Memory,
 }
 
-/// A worker with its seat, where it has one, and what its lines answered.
+/// A worker, what its lines bound, and what they answered.
 #[derive(Drop)]
-pub struct Worker<'s, B: Naming> {
-    /// Its seat, from the phase in which one was opened.
-    pub seat: Option<Seat<'s, B>>,
-    /// What refused the seat in this phase.
+pub struct Worker {
+    /// What refused it a seat in this phase.
     pub refusal: Option<SeatRefusal>,
     /// What its lines bound in this phase.
     pub own: BoundNames,
     /// What its lines answered.
-    pub answers: Answers,
+    answers: Answers,
     /// Where the call of a line is written. (A call is large, and so is a reply.)
-    pub call: Call,
+    call: Call,
     /// Where the reply to a line is put.
-    pub reply: Reply,
+    reply: Reply,
     /// How its lines ended.
-    pub ended: LinesEnd,
+    ended: LinesEnd,
 }
 
 /// What a call answers, whose reply is put in its place.
-fn submitted<B: Naming, R: Wait>(
+fn submitted<D: Desk, R: Wait>(
     rt: &R,
-    seat: &mut Seat<'_, B>,
+    desk: &mut D,
     call: &Call,
     reply: &mut Reply,
     answers: &mut Answers,
     names: &WorkerNames<'_>,
 ) -> Result<Answer, NoMemory> {
-    match seat.submit_into(rt, call, reply) {
-        Ok(_) => answers.keep(reply, names),
+    match desk.submit(rt, call, reply) {
+        Ok(()) => answers.keep(reply, names),
         Err(SubmitRefusal::OutOfTurn) => Ok(Answer::Refused(Refusal::OutOfTurn)),
         Err(SubmitRefusal::Memory) => Err(NoMemory),
     }
 }
 
 /// What a query answers, whose reply is put in its place.
-fn read<B: Naming>(
-    seat: &mut Seat<'_, B>,
+fn asked<D: Desk>(
+    desk: &mut D,
     query: &Query,
     reply: &mut Reply,
     answers: &mut Answers,
     names: &WorkerNames<'_>,
 ) -> Result<Answer, NoMemory> {
-    match seat.read_into(query, reply) {
+    match desk.ask(query, reply) {
         Ok(()) => answers.keep(reply, names),
         Err(unread) => Ok(Answer::Refused(unread.refusal())),
     }
 }
 
-impl<'s, B: Naming> Worker<'s, B> {
-    /// A worker that has no seat and has played nothing.
-    pub fn new(alloc: Global) -> Worker<'s, B> {
+impl Worker {
+    /// A worker that has played nothing.
+    pub fn new(alloc: Global) -> Worker {
         Worker {
-            seat: None,
             refusal: None,
             own: BoundNames::none(alloc),
             answers: Answers::none(alloc),
@@ -92,25 +94,26 @@ impl<'s, B: Naming> Worker<'s, B> {
     }
 
     /// What a line answers.
-    fn answer<R: Wait>(
+    fn answer<D: Desk, R: Wait>(
         &mut self,
         rt: &R,
+        desk: &mut D,
         line: &Line<'_>,
         earlier: &BoundNames,
     ) -> Result<Answer, NoMemory> {
-        let Some(seat) = &mut self.seat else {
+        if !desk.is_open() {
             return Ok(self.unseated(line));
-        };
+        }
         let names = WorkerNames {
             own: &self.own,
             earlier,
         };
         match resolve_into(&line.call, &names, &mut self.call) {
             Err(name) => Ok(Answer::Unbound(name)),
-            Ok(Some(query)) => read(seat, &query, &mut self.reply, &mut self.answers, &names),
+            Ok(Some(query)) => asked(desk, &query, &mut self.reply, &mut self.answers, &names),
             Ok(None) => {
                 let (call, reply, answers) = (&self.call, &mut self.reply, &mut self.answers);
-                submitted(rt, seat, call, reply, answers, &names)
+                submitted(rt, desk, call, reply, answers, &names)
             }
         }
     }
@@ -123,10 +126,11 @@ impl<'s, B: Naming> Worker<'s, B> {
         Ok(())
     }
 
-    fn play_line<R: Wait, G: Gate>(
+    fn play_line<D: Desk, R: Wait, G: Gate>(
         &mut self,
         rt: &R,
         gate: &G,
+        desk: &mut D,
         index: usize,
         line: &Line<'_>,
         earlier: &BoundNames,
@@ -135,28 +139,31 @@ impl<'s, B: Naming> Worker<'s, B> {
         if gate.before(index, number) == Turn::Stop {
             return Ok(Turn::Stop);
         }
-        let answer = self.answer(rt, line, earlier)?;
+        let answer = self.answer(rt, desk, line, earlier)?;
         self.bind(line, &answer)?;
         self.answers.lines.push((line.number, answer))?;
         Ok(gate.after(index, number))
     }
 
-    /// Plays the lines at these places of a phase, in order, with the names of earlier phases. `index` is the worker's
-    /// place among all.
-    pub fn play<R: Wait, G: Gate>(
+    /// Plays the lines at these places of a phase, in order, with the names of earlier phases. `index` is the worker's place among all.
+    pub fn play<D: Desk, R: Wait, G: Gate, P: Iterator<Item = usize> + Drop>(
         &mut self,
         rt: &R,
         gate: &G,
+        desk: &mut D,
         index: usize,
         phase: &Phase,
-        places: &[usize],
+        places: P,
         earlier: &BoundNames,
-    ) {
+    )
+        requires can { P.can_next places }
+        requires ends { IsFinite (P.remaining places) }
+    {
         for place in places {
-            let Some(line) = phase.line(*place) else {
+            let Some(line) = phase.line(place) else {
                 return;
             };
-            match self.play_line(rt, gate, index, &line, earlier) {
+            match self.play_line(rt, gate, desk, index, &line, earlier) {
                 Ok(Turn::Go) => {}
                 Ok(Turn::Stop) => {
                     self.ended = LinesEnd::Stopped;
@@ -168,5 +175,20 @@ impl<'s, B: Naming> Worker<'s, B> {
                 }
             }
         }
+    }
+
+    /// Ends a phase: why its lines ended early, if they did.
+    pub fn end(&mut self) -> Result<(), PlayFault> {
+        self.refusal = None;
+        match self.ended {
+            LinesEnd::Played => Ok(()),
+            LinesEnd::Stopped => Err(PlayFault::Stopped),
+            LinesEnd::Memory => Err(PlayFault::Memory),
+        }
+    }
+
+    /// What its lines answered, which it has no longer then.
+    pub fn take_answers(&mut self, alloc: Global) -> Answers {
+        mem::replace(&mut self.answers, Answers::none(alloc))
     }
 }

@@ -19,4 +19,6 @@ mod samples;
 #[cfg(test)]
 mod seats;
 #[cfg(test)]
+mod sole;
+#[cfg(test)]
 mod threads;

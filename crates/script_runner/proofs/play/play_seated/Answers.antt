@@ -3,12 +3,12 @@ use Rattle.base.specs.Limits.{in_range}
 use Rattle.base.specs.declared.ranges.Limits.{Limits}
 use Rattle.script_runner.specs.Dumps.{IsClosing}
 use Rattle.script_runner.proofs.Plays.{plays, holds_at_ok}
-use Rattle.script_runner.proofs.play.play_all.Goals as goal
+use Rattle.script_runner.proofs.play.play_seated.Goals as goal
 
 pub returns-in-Ok : goal.returns-in-Ok
 returns-in-Ok g c =
     let limits : Limits = c.args.limits.now in
     let same : c.in-Ok.blank.limits ≡ limits = search rules in
     let good : in_range limits ≡ true = holds_at_ok c.in-Ok.blank _ (in_range limits) c.in-Ok.ensures.limits.1 in
-    let closed : IfOk c.play_booted.result (λ p. IsClosing c.in-Ok.blank.limits p.events.items p.tables) = search rules in
-    plays limits c.play_booted.result good (subst (λ (l : Limits). IfOk c.play_booted.result (λ p. IsClosing l p.events.items p.tables)) same closed)
+    let closed : IfOk c.play_shared.result (λ p. IsClosing c.in-Ok.blank.limits p.events.items p.tables) = search rules in
+    plays limits c.play_shared.result good (subst (λ (l : Limits). IfOk c.play_shared.result (λ p. IsClosing l p.events.items p.tables)) same closed)

@@ -1,0 +1,164 @@
+//! Playing a script whose workers take turns: in one thread, on one kernel that has no copies.
+ghost use Rattle.std.specs.Prelude.{◌≡◌, IfOk};
+ghost use Rattle.script_runner.specs.Dumps.{IsPlayed};
+
+use crate::answers::Answers;
+use crate::closings::{Closing, closing_alone};
+use crate::desks::Turns;
+use crate::faults::PlayFault;
+use crate::gates::Gate;
+use crate::names::BoundNames;
+use crate::play::Played;
+use crate::printing::{Answered, output_of};
+use crate::workers::Worker;
+use base::{Limits, ObjectId};
+use call_text::{Known, Phase, Script, Value};
+use indexmap::IndexSet;
+use published_copy::{Naming, SoleBook};
+use std::alloc::{AllocError, Global};
+use std::mem;
+use std::sync::Wait;
+use text_words::Name;
+
+/// A worker with its thread, where that was given a seat.
+#[derive(Drop)]
+struct Lone {
+    thread: Option<ObjectId>,
+    worker: Worker,
+}
+
+impl Lone {
+    /// Gives its thread a seat.
+    fn open<B: Naming>(&mut self, book: &mut SoleBook<B>, thread: ObjectId) {
+        match book.seat(thread) {
+            Ok(()) => self.thread = Some(thread),
+            Err(refusal) => self.worker.refusal = Some(refusal),
+        }
+    }
+
+    /// Gives its thread a seat where it has none and its name is bound to an object.
+    fn sit<B: Naming>(&mut self, book: &mut SoleBook<B>, bound: Option<Value>) {
+        if self.thread.is_some() {
+            return;
+        }
+        match &bound {
+            Some(Value::Object(thread)) => self.open(book, *thread),
+            _ => {}
+        }
+    }
+
+    /// Plays a phase of which all lines are its own, at its turn. It has all names as its own for so long, and binds among
+    /// them: no other worker plays, and a script binds no name twice.
+    fn play<B: Naming, R: Wait, G: Gate>(
+        &mut self,
+        rt: &R,
+        gate: &G,
+        turns: &mut Turns<B>,
+        index: usize,
+        phase: &Phase,
+        names: &mut BoundNames,
+    ) -> Result<(), PlayFault> {
+        let places = 0..phase.len();
+        turns.thread = self.thread;
+        mem::swap(&mut self.worker.own, names);
+        self.worker
+            .play(rt, gate, turns, index, phase, places, names);
+        mem::swap(&mut self.worker.own, names);
+        self.worker.end()
+    }
+}
+
+/// The workers of a script, none with a seat.
+fn idle(alloc: Global, count: usize) -> Result<Vec<Lone>, AllocError> {
+    let mut idle = Vec::new(alloc);
+    for _ in 0..count {
+        idle.push(Lone {
+            thread: None,
+            worker: Worker::new(alloc),
+        })?;
+    }
+    Ok(idle)
+}
+
+/// Plays a phase, whose lines are all of one worker.
+fn play_phase<B: Naming, R: Wait, G: Gate>(
+    rt: &R,
+    turns: &mut Turns<B>,
+    phase: &Phase,
+    gate: &G,
+    workers: &IndexSet<Name>,
+    played: &mut Vec<Lone>,
+    names: &mut BoundNames,
+) -> Result<(), PlayFault> {
+    let Some(name) = phase.worker(0) else {
+        return Ok(());
+    };
+    let Some(index) = workers.get_index_of(&name) else {
+        return Ok(());
+    };
+    let Some(lone) = played.get_mut(index) else {
+        return Ok(());
+    };
+    lone.sit(&mut turns.book, names.value_of(&name));
+    lone.play(rt, gate, turns, index, phase, names)
+}
+
+/// What the lines of the workers answered, which they have no longer then.
+fn answers_of(alloc: Global, played: &mut Vec<Lone>) -> Result<Vec<Answers>, AllocError> {
+    let mut answers = Vec::with_capacity(alloc, played.len())?;
+    for lone in played {
+        answers.push(lone.worker.take_answers(alloc))?;
+    }
+    Ok(answers)
+}
+
+/// Plays the phases one after another.
+fn play_phases<'a, B: Naming, R: Wait, G: Gate>(
+    rt: &R,
+    alloc: Global,
+    turns: &mut Turns<B>,
+    script: &Script,
+    workers: &'a IndexSet<Name>,
+    gate: &G,
+) -> Result<Answered<'a>, PlayFault> {
+    let mut played = idle(alloc, workers.len())?;
+    let mut names = BoundNames::start(alloc)?;
+    for phase in &script.phases {
+        play_phase(rt, turns, phase, gate, workers, &mut played, &mut names)?;
+    }
+    Ok(Answered {
+        workers,
+        answers: answers_of(alloc, &mut played)?,
+        names,
+    })
+}
+
+/// Plays a script on a newly booted kernel for so many seats, 1 to 64, and makes the output. No phase has lines of two
+/// workers.
+pub fn play_alone<B: Naming, R: Wait, G: Gate>(
+    rt: &R,
+    alloc: Global,
+    limits: &Limits,
+    seats: usize,
+    script: &Script,
+    workers: &IndexSet<Name>,
+    gate: &G,
+) -> Result<Played, PlayFault>
+    requires limits { limits.now ≡ B.boot.limits }
+    requires seats { seats ≡ B.boot.seats }
+    ensures { IfOk result (λ played. IsPlayed limits.now played.events.items played.tables) }
+{
+    let mut turns = Turns {
+        book: SoleBook::<B>::boot(alloc, limits, seats)?,
+        thread: None,
+    };
+    let answered = play_phases(rt, alloc, &mut turns, script, workers, gate)?;
+    let Turns { book, thread: _ } = turns;
+    let Closing { events, tables } = closing_alone(alloc, book)?;
+    let output = output_of(alloc, &answered)?;
+    Ok(Played {
+        output,
+        events,
+        tables,
+    })
+}
