@@ -5,7 +5,7 @@ ghost use Rattle.script_runner.specs.Dumps.{IsClosing};
 use base::{Meter, NoMemory};
 use kept_events::KeptEvent;
 use kernel_rules::Tables;
-use published_copy::{Book, Naming, SoleBook};
+use published_copy::{Book, Naming};
 use std::alloc::Global;
 use std::sync::Wait;
 
@@ -31,16 +31,5 @@ pub fn closing_of<B: Naming, R: Wait>(
     let mut meter = Meter::new(alloc)?;
     let tables = book.kernel().tables(&mut meter)?;
     let events = book.into_events(rt);
-    Ok(Closing { events, tables })
-}
-
-/// What stands in a book that one caller had: its whole journal.
-pub fn closing_alone<B: Naming>(alloc: Global, book: SoleBook<B>) -> Result<Closing, NoMemory>
-    ensures closing { IfOk result
-        (λ closing. IsClosing B.boot.limits closing.events.items closing.tables) }
-{
-    let mut meter = Meter::new(alloc)?;
-    let tables = book.kernel().tables(&mut meter)?;
-    let events = book.into_events();
     Ok(Closing { events, tables })
 }

@@ -1,9 +1,10 @@
 //! Playing a script whose workers take turns: in one thread, on one kernel that has no copies.
 ghost use Rattle.std.specs.Prelude.{◌≡◌, IfOk};
+ghost use Rattle.kernel_rules.specs.History.{state_of};
+ghost use Rattle.kernel_rules.specs.Scratch.{scratch};
 ghost use Rattle.script_runner.specs.Dumps.{IsPlayed};
 
 use crate::answers::Answers;
-use crate::closings::{Closing, closing_alone};
 use crate::desks::Turns;
 use crate::faults::PlayFault;
 use crate::gates::Gate;
@@ -11,9 +12,10 @@ use crate::names::BoundNames;
 use crate::play::Played;
 use crate::printing::{Answered, output_of};
 use crate::workers::Worker;
-use base::{Limits, ObjectId};
+use base::{Limits, Meter, ObjectId};
 use call_text::{Known, Phase, Script, Value};
 use indexmap::IndexSet;
+use kernel_rules::Tables;
 use published_copy::{Naming, SoleBook};
 use std::alloc::{AllocError, Global};
 use std::mem;
@@ -113,7 +115,23 @@ fn answers_of(alloc: Global, played: &mut Vec<Lone>) -> Result<Vec<Answers>, All
 }
 
 /// Plays the phases one after another.
-fn play_phases<'a, B: Naming, R: Wait, G: Gate>(
+fn play_phases<B: Naming, R: Wait, G: Gate>(
+    rt: &R,
+    turns: &mut Turns<B>,
+    script: &Script,
+    workers: &IndexSet<Name>,
+    gate: &G,
+    played: &mut Vec<Lone>,
+    names: &mut BoundNames,
+) -> Result<(), PlayFault> {
+    for phase in &script.phases {
+        play_phase(rt, turns, phase, gate, workers, played, names)?;
+    }
+    Ok(())
+}
+
+/// Plays a script, and says what its lines answered.
+fn play_script<'a, B: Naming, R: Wait, G: Gate>(
     rt: &R,
     alloc: Global,
     turns: &mut Turns<B>,
@@ -121,20 +139,37 @@ fn play_phases<'a, B: Naming, R: Wait, G: Gate>(
     workers: &'a IndexSet<Name>,
     gate: &G,
 ) -> Result<Answered<'a>, PlayFault> {
-    let mut played = idle(alloc, workers.len())?;
     let mut names = BoundNames::start(alloc)?;
-    for phase in &script.phases {
-        play_phase(rt, turns, phase, gate, workers, &mut played, &mut names)?;
-    }
+    let mut played = idle(alloc, workers.len())?;
+    play_phases(rt, turns, script, workers, gate, &mut played, &mut names)?;
+    let answers = answers_of(alloc, &mut played)?;
     Ok(Answered {
         workers,
-        answers: answers_of(alloc, &mut played)?,
+        answers,
         names,
     })
 }
 
+/// The output of a script, and the tables of the state in which it leaves the book.
+fn texts_of<B: Naming, R: Wait, G: Gate>(
+    rt: &R,
+    alloc: Global,
+    turns: &mut Turns<B>,
+    script: &Script,
+    workers: &IndexSet<Name>,
+    gate: &G,
+) -> Result<(Vec<u8>, Tables), PlayFault>
+    ensures { IfOk result (λ texts. texts.1 ≡ scratch (state_of B.boot.limits turns.new.book.journal)) }
+{
+    let answered = play_script(rt, alloc, turns, script, workers, gate)?;
+    let output = output_of(alloc, &answered)?;
+    let mut meter = Meter::new(alloc)?;
+    let tables = turns.book.kernel().tables(&mut meter)?;
+    Ok((output, tables))
+}
+
 /// Plays a script on a newly booted kernel for so many seats, 1 to 64, and makes the output. No phase has lines of two
-/// workers.
+/// workers. (Who owns the book has no place to leave early: its drop would be written out at each.)
 pub fn play_alone<B: Naming, R: Wait, G: Gate>(
     rt: &R,
     alloc: Global,
@@ -152,10 +187,10 @@ pub fn play_alone<B: Naming, R: Wait, G: Gate>(
         book: SoleBook::<B>::boot(alloc, limits, seats)?,
         thread: None,
     };
-    let answered = play_phases(rt, alloc, &mut turns, script, workers, gate)?;
+    let texts = texts_of(rt, alloc, &mut turns, script, workers, gate);
     let Turns { book, thread: _ } = turns;
-    let Closing { events, tables } = closing_alone(alloc, book)?;
-    let output = output_of(alloc, &answered)?;
+    let events = book.into_events();
+    let (output, tables) = texts?;
     Ok(Played {
         output,
         events,
