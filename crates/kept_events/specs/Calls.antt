@@ -1,9 +1,10 @@
 -- The call that is kept in a form.
-use Rattle.std.specs.Arc.{arc_value}
 use Rattle.kernel_rules.specs.declared.calls.Call.{Call}
 use Rattle.kernel_rules.specs.declared.calls.Call.TheVariants as call
 use Rattle.kept_events.specs.declared.calls.Form.{Form}
-use Rattle.kept_events.specs.declared.calls.Form.TheVariants.{Here, Apart}
+use Rattle.kept_events.specs.declared.calls.Form.TheVariants as form
+use Rattle.kept_events.specs.declared.calls.Labelled.{Labelled}
+use Rattle.kept_events.specs.declared.calls.Labelled.TheVariants as labelled
 use Rattle.kept_events.specs.declared.calls.Unlabelled.{Unlabelled}
 use Rattle.kept_events.specs.declared.calls.Unlabelled.TheVariants as kept
 
@@ -25,6 +26,35 @@ call_of (kept.Store address bytes) = call.Store address bytes
 call_of (kept.DevSend entry bytes) = call.DevSend entry bytes
 call_of (kept.DevRecv entry) = call.DevRecv entry
 
+-- of the same name, with the same label
+abbrev pub labelled_call : Labelled → Call
+labelled_call (labelled.SelfSetLabel label) = call.SelfSetLabel label
+labelled_call (labelled.SelfSetClearance clearance) = call.SelfSetClearance clearance
+labelled_call (labelled.ContainerCreate container label quota avoid) = call.ContainerCreate (record {
+  container = container;
+  label = label;
+  quota = quota;
+  avoid = avoid;
+})
+labelled_call (labelled.SegmentCreate container label quota pages) = call.SegmentCreate (record {
+  container = container;
+  label = label;
+  quota = quota;
+  pages = pages;
+})
+labelled_call (labelled.SegmentCopy container label quota source) = call.SegmentCopy (record {
+  container = container;
+  label = label;
+  quota = quota;
+  source = source;
+})
+labelled_call (labelled.AsCreate container label quota) = call.AsCreate (record {
+  container = container;
+  label = label;
+  quota = quota;
+})
+
 abbrev pub formed : Form → Call
-formed (Here unlabelled) = call_of unlabelled
-formed (Apart shared) = arc_value shared
+formed (form.Unlabelled unlabelled) = call_of unlabelled
+formed (form.Labelled labelled) = labelled_call labelled
+formed (form.Whole apart) = apart.value

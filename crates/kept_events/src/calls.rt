@@ -1,13 +1,12 @@
 //! Calls.
 ghost use Rattle.std.specs.Prelude.{◌≡◌, IfOk, IfSome};
-ghost use Rattle.std.specs.Arc.{arc_value};
-ghost use Rattle.kept_events.specs.Calls.{call_of};
+ghost use Rattle.kept_events.specs.Calls.{call_of, formed, labelled_call};
 
-use base::{Data, NoMemory, ObjectId};
-use kernel_rules::{Call, Entry, Mapping};
+use crate::labels::KeptLabel;
+use base::{Data, NoMemory, ObjectId, TypeSet};
+use kernel_rules::{Call, Entry, Mapping, NewAddressSpace, NewContainer, NewCopy, NewSegment};
 use std::alloc::Global;
 use std::marker::Model;
-use std::sync::Arc;
 
 /// A call that carries no label: the calls of these names.
 #[derive(Clone, Copy)]
@@ -150,14 +149,155 @@ impl Unlabelled {
     }
 }
 
+/// A call that carries one label: the calls of these names.
+#[derive(Drop)]
+pub(crate) enum Labelled {
+    SelfSetLabel {
+        label: KeptLabel,
+    },
+    SelfSetClearance {
+        clearance: KeptLabel,
+    },
+    ContainerCreate {
+        container: ObjectId,
+        label: KeptLabel,
+        quota: u32,
+        avoid: TypeSet,
+    },
+    SegmentCreate {
+        container: ObjectId,
+        label: KeptLabel,
+        quota: u32,
+        pages: u32,
+    },
+    SegmentCopy {
+        container: ObjectId,
+        label: KeptLabel,
+        quota: u32,
+        source: Entry,
+    },
+    AsCreate {
+        container: ObjectId,
+        label: KeptLabel,
+        quota: u32,
+    },
+}
+
+impl Labelled {
+    /// The call, where it carries one label.
+    fn of(alloc: Global, call: &Call) -> Result<Option<Labelled>, NoMemory>
+        ensures { IfOk result (λ found. IfSome found (λ l. labelled_call l ≡ call.now)) }
+    {
+        let kept = match call {
+            Call::SelfSetLabel { label } => Labelled::SelfSetLabel {
+                label: KeptLabel::new(alloc, label)?,
+            },
+            Call::SelfSetClearance { clearance } => Labelled::SelfSetClearance {
+                clearance: KeptLabel::new(alloc, clearance)?,
+            },
+            Call::ContainerCreate(new) => Labelled::ContainerCreate {
+                container: new.container,
+                label: KeptLabel::new(alloc, &new.label)?,
+                quota: new.quota,
+                avoid: new.avoid,
+            },
+            Call::SegmentCreate(new) => Labelled::SegmentCreate {
+                container: new.container,
+                label: KeptLabel::new(alloc, &new.label)?,
+                quota: new.quota,
+                pages: new.pages,
+            },
+            Call::SegmentCopy(new) => Labelled::SegmentCopy {
+                container: new.container,
+                label: KeptLabel::new(alloc, &new.label)?,
+                quota: new.quota,
+                source: new.source,
+            },
+            Call::AsCreate(new) => Labelled::AsCreate {
+                container: new.container,
+                label: KeptLabel::new(alloc, &new.label)?,
+                quota: new.quota,
+            },
+            _ => return Ok(None),
+        };
+        Ok(Some(kept))
+    }
+
+    /// The call.
+    fn call(&self) -> Call
+        ensures { result ≡ labelled_call self.now }
+    {
+        match self {
+            Labelled::SelfSetLabel { label } => Call::SelfSetLabel { label: label.raw() },
+            Labelled::SelfSetClearance { clearance } => Call::SelfSetClearance {
+                clearance: clearance.raw(),
+            },
+            Labelled::ContainerCreate {
+                container,
+                label,
+                quota,
+                avoid,
+            } => Call::ContainerCreate(NewContainer {
+                container: *container,
+                label: label.raw(),
+                quota: *quota,
+                avoid: *avoid,
+            }),
+            Labelled::SegmentCreate {
+                container,
+                label,
+                quota,
+                pages,
+            } => Call::SegmentCreate(NewSegment {
+                container: *container,
+                label: label.raw(),
+                quota: *quota,
+                pages: *pages,
+            }),
+            Labelled::SegmentCopy {
+                container,
+                label,
+                quota,
+                source,
+            } => Call::SegmentCopy(NewCopy {
+                container: *container,
+                label: label.raw(),
+                quota: *quota,
+                source: *source,
+            }),
+            Labelled::AsCreate {
+                container,
+                label,
+                quota,
+            } => Call::AsCreate(NewAddressSpace {
+                container: *container,
+                label: label.raw(),
+                quota: *quota,
+            }),
+        }
+    }
+}
+
 /// How a call is kept.
 #[derive(Drop)]
 pub(crate) enum Form {
-    Here(Unlabelled),
-    Apart(Arc<Call>),
+    Unlabelled(Unlabelled),
+    Labelled(Labelled),
+    Whole(Box<Call>),
 }
 
-/// A call that is kept. One without a label stands in it, and one with a label in memory that others may own too.
+/// How a call is kept that carries labels.
+fn form_with_labels(alloc: Global, call: &Call) -> Result<Form, NoMemory>
+    ensures { IfOk result (λ form. formed form ≡ call.now) }
+{
+    match Labelled::of(alloc, call)? {
+        Some(labelled) => Ok(Form::Labelled(labelled)),
+        None => Ok(Form::Whole(Box::new(alloc, *call)?)),
+    }
+}
+
+/// A call that is kept. It has room for the pairs of its label that there are; one with two labels and more stands whole in
+/// memory of its own.
 #[derive(Drop)]
 pub struct KeptCall {
     form: Form,
@@ -173,26 +313,13 @@ impl Model for KeptCall {
 }
 
 impl KeptCall {
-    /// Keeps a call: without a label it is written out, and with one it has an owner more. The error is want of room to
-    /// count the owners.
-    pub fn new(call: &Arc<Call>) -> Result<KeptCall, NoMemory>
-        ensures { IfOk result (λ kept. kept ≡ arc_value call.now) }
-    {
-        let form = match Unlabelled::of(call) {
-            Some(unlabelled) => Form::Here(unlabelled),
-            None => Form::Apart(Arc::try_clone(call)?),
-        };
-        Ok(KeptCall { form })
-    }
-
-    /// Keeps a call as `new` does, where no one else has it: one with a label is written into memory of its own. The error
-    /// is want of memory.
-    pub fn alone(alloc: Global, call: &Call) -> Result<KeptCall, NoMemory>
+    /// Keeps a call. One without a label, or with one that has no pairs, takes no memory. The error is want of memory.
+    pub fn new(alloc: Global, call: &Call) -> Result<KeptCall, NoMemory>
         ensures { IfOk result (λ kept. kept ≡ call.now) }
     {
         let form = match Unlabelled::of(call) {
-            Some(unlabelled) => Form::Here(unlabelled),
-            None => Form::Apart(Arc::new(alloc, *call)?),
+            Some(unlabelled) => Form::Unlabelled(unlabelled),
+            None => form_with_labels(alloc, call)?,
         };
         Ok(KeptCall { form })
     }
@@ -202,8 +329,9 @@ impl KeptCall {
         ensures { result ≡ self.now }
     {
         match &self.form {
-            Form::Here(unlabelled) => unlabelled.call(),
-            Form::Apart(call) => **call,
+            Form::Unlabelled(unlabelled) => unlabelled.call(),
+            Form::Labelled(labelled) => labelled.call(),
+            Form::Whole(call) => **call,
         }
     }
 }

@@ -1,12 +1,12 @@
-//! Events as a journal keeps them: an event of the rules is as large as three labels and more, and most carry none. A
-//! call without a label and its reply are kept in a tenth of that, and of a call with one its shared memory has an owner
-//! more.
+//! Events as a journal keeps them: an event of the rules is as large as three labels of 24 pairs and more, and most carry
+//! none or one of few pairs. They are kept in a sixth of that, and a label's pairs beside them.
 //!
-//! A contract sees what is kept as the call, the reply and the event of the rules. Nothing here takes memory.
+//! A contract sees what is kept as the call, the reply and the event of the rules.
 #![tactic(auto)]
 
 mod calls;
 mod events;
+mod labels;
 mod replies;
 
 pub use calls::KeptCall;

@@ -14,7 +14,7 @@ use std::sync::Arc;
 pub(crate) struct Op {
     /// The thread that calls.
     pub(crate) thread: ObjectId,
-    /// The call, in memory that its event may own too: operations are moved, and a call is large.
+    /// The call, in memory of its own: operations are moved, and a call is large.
     pub(crate) call: Arc<Call>,
     /// How many events there are with it.
     pub(crate) length: u64,

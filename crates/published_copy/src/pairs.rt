@@ -151,7 +151,7 @@ impl<B: Naming> Pair<B> {
 
     /// Makes a pass's call, as the event that comes next: the log tries it and has made it, and then
     /// readers are shown the copy that has it. The reply becomes its answer. The call is written out
-    /// once, for the copies, and given back as it is kept. Without memory nothing changes.
+    /// for the copies, and given back as it is kept. Without memory nothing changes.
     pub(crate) fn commit<R: Wait>(
         &mut self,
         rt: &R,
@@ -170,7 +170,7 @@ impl<B: Naming> Pair<B> {
         ensures kept { OnErr result (self.new ≡ self.old) }
     {
         let shared = Arc::new(self.alloc, *call)?;
-        let kept = KeptCall::new(&shared)?;
+        let kept = KeptCall::new(self.alloc, call)?;
         let kernel = self.copies.kernel();
         let tried = attempt(rt, &mut self.tip, &self.head, kernel, pass, call);
         let Some(head) = tried else {

@@ -67,7 +67,7 @@ fn next_number(journal: &[KeptEvent], tallies: &[Tally], thread: ObjectId) -> u6
 }
 
 impl<B: Naming> SoleBook<B> {
-    /// Boots a kernel with an empty journal, for so many seats, 1 to 64. The error is `BadLimits` exactly where a limit is
+    /// Boots a kernel with an empty journal, for so many seats. The error is `BadLimits` exactly where a limit is
     /// out of its range, and else, for want of memory, `Unavailable`.
     pub fn boot(alloc: Global, limits: &Limits, seats: usize) -> Result<SoleBook<B>, BootRefusal>
         requires limits { limits.now ≡ B.boot.limits }
@@ -153,7 +153,7 @@ impl<B: Naming> SoleBook<B> {
     {
         let number = next_number(&self.journal, &self.tallies, thread);
         make_room(&mut self.journal, &mut self.tallies)?;
-        let kept = KeptCall::alone(self.alloc, call)?;
+        let kept = KeptCall::new(self.alloc, call)?;
         clear(reply);
         self.kernel.step_into(thread, call, reply, &mut self.meter);
         call_answers();

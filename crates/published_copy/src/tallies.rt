@@ -37,13 +37,13 @@ pub(crate) fn events_of(tallies: &[Tally], thread: ObjectId) -> u64
     }
 }
 
-/// A thread that stands among the tallies has so many events, and any other as many as it had.
-fn set_events(tallies: &mut [Tally], thread: ObjectId, events: u64)
-    requires { place_of thread tallies.old < length tallies.old }
+/// The thread that stands in a place among the tallies has so many events, and any other as many as it had.
+fn set_events(tallies: &mut [Tally], place: usize, thread: ObjectId, events: u64)
+    requires place { place ≡ place_of thread tallies.old }
+    requires within { place < length tallies.old }
     ensures { (other : ℕ) → tallied other tallies.new
         ≡ (if thread == other then events else tallied other tallies.old) }
 {
-    let place = place_of(tallies, thread);
     tallies[place] = Tally { thread, events };
 }
 
@@ -53,9 +53,10 @@ pub(crate) fn count_events(tallies: &mut Vec<Tally>, thread: ObjectId, events: u
     ensures { (other : ℕ) → tallied other tallies.new.items
         ≡ (if thread == other then events else tallied other tallies.old.items) }
 {
-    if place_of(tallies.as_slice(), thread) == tallies.len() {
+    let place = place_of(tallies.as_slice(), thread);
+    if place == tallies.len() {
         tallies.push_reserved(Tally { thread, events });
     } else {
-        set_events(tallies.as_mut_slice(), thread, events);
+        set_events(tallies.as_mut_slice(), place, thread, events);
     }
 }

@@ -168,7 +168,7 @@ fn texts_of<B: Naming, R: Wait, G: Gate>(
     Ok((output, tables))
 }
 
-/// Plays a script on a newly booted kernel for so many seats, 1 to 64, and makes the output. No phase has lines of two
+/// Plays a script on a newly booted kernel for so many seats, and makes the output. No phase has lines of two
 /// workers. (Who owns the book has no place to leave early: its drop would be written out at each.)
 pub fn play_alone<B: Naming, R: Wait, G: Gate>(
     rt: &R,

@@ -4,8 +4,8 @@ use Rattle.published_copy.specs.Tallies.{place_of}
 use Rattle.published_copy.proofs.TallyLaws.{tallied-new}
 use Rattle.published_copy.proofs.tallies.count_events.Goals as goal
 
-pub returns-then-place_of-len : goal.returns-then-place_of-len
-returns-then-place_of-len c other =
+pub returns-then-place-len : goal.returns-then-place-len
+returns-then-place-len c other =
     let old = c.args.tallies.now.items in
     let thread = c.args.thread in
     let last : Tally = record { thread = thread; events = c.args.events } in
