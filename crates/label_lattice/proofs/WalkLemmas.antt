@@ -296,15 +296,3 @@ module _ (da db : Level) (a b : List Pair) (i j : ℕ) (rising_a : IsRising a) (
   takes_lower false false x y m n ep eq ex ey em en =
       let one = leb-false (category_at a i) (category_at b j) (sym ep) in
       let other = leb-false (category_at b j) (category_at a i) (sym eq) in absurd (omega arith)
-
--- a turn in which both lists have one category at one place
-pub compare_both : (t : Level → Level → Level → Bool) (da db : Level) (a b : List Pair) (i : ℕ)
-    (r r' : Bool) (x y : Level) → IsRising a → IsRising b → i < length a → i < length b
-    → category_at a i ≡ category_at b i
-    → x ≡ (slice_index_or a i filler).level → y ≡ (slice_index_or b i filler).level
-    → ComparesOn t da db a b i i r → r' ≡ (r && t x y y)
-    → ComparesOn t da db a b (i + 1) (i + 1) r'
-compare_both t da db a b i r r' x y rising_a rising_b in_a in_b same ex ey on e =
-    let taken : TakesBoth da (drop i a) db (drop i b) x y (drop (i + 1) a) (drop (i + 1) b) =
-    rw (add-one i, ex, ey) (takes_both da db a b i i rising_a rising_b in_a in_b same) in
-    compare_more t da db a b i i r taken.category (i + 1) (i + 1) x y r' on taken.first taken.second e

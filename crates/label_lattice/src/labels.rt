@@ -1,5 +1,5 @@
 //! Stored labels: how they are made, read and changed.
-ghost use Rattle.std.specs.Prelude.{◌≡◌, ℕ, ◌↔◌, ◌==◌, nat_le, if◌then◌else◌};
+ghost use Rattle.std.specs.Prelude.{◌≡◌, ℕ, ◌<◌, ◌^◌, ◌↔◌, ◌==◌, nat_le, if◌then◌else◌};
 ghost use Rattle.std.specs.Prelude.{IsTrue, IsNone, IfSome, IfOk, length};
 ghost use Rattle.std.specs.declared.cmp.Ordering.TheVariants.{Equal};
 ghost use Rattle.base.specs.Counts.{scanned};
@@ -13,13 +13,17 @@ ghost use Rattle.label_lattice.specs.Placed.{with_level};
 ghost use Rattle.label_lattice.specs.Raw.{is_bad, is_bad_below, stored_of, raw_of};
 ghost use Rattle.label_lattice.specs.Rule.{rule_test};
 ghost use Rattle.label_lattice.specs.Bits.{bits_of};
+ghost use Rattle.label_lattice.specs.Walk.{HoldsEverywhere};
+ghost use Rattle.label_lattice.specs.Ways.{both_test};
+ghost use Rattle.std.specs.Int.{bit_at};
 
 use crate::exceptions::{collect, has_star_in, level_of, place};
 use crate::listing::compare_pairs;
 use crate::pairings::{Pair, Pairs};
+use crate::planes::{Planes, block_of};
 use crate::raw_labels::RawLabel;
 use crate::walk::{Rule, compare_everywhere, holds_everywhere};
-use crate::ways::BothWays;
+use crate::ways::{BothWays, compare_levels};
 use base::{Category, Level, Meter, Refusal};
 use std::cmp::Ordering;
 use std::marker::Model;
@@ -31,19 +35,31 @@ use std::marker::Model;
 pub struct Label {
     exceptions: Pairs<16>,
     default: Level,
+    // The block that all exceptions lie in, and its planes: what they say of it holds where there is one.
+    block: Option<u64>,
+    planes: Planes,
 }
 
 impl Model for Label {
+    ghost use Rattle.std.specs.Prelude.{◌≡◌};
     ghost use Rattle.label_lattice.specs.Label.{LabelValue, IsStored};
+    ghost use Rattle.label_lattice.specs.Planes.{block_of, planes_of};
 
     ghost Value = { LabelValue };
 
     ghost view = { λ l. record { default_level = l.default; exceptions = l.exceptions } };
 
     ghost invariant = { λ l.
-        IsStored (record { default_level = l.default; exceptions = l.exceptions }) };
+        IsStored (record { default_level = l.default; exceptions = l.exceptions })
+        × (block_of l.exceptions ≡ l.block)
+        × (planes_of l.default l.exceptions ≡ l.planes) };
 
-    ghost inverse = { λ v. record { default = v.default_level; exceptions = v.exceptions } };
+    ghost inverse = { λ v. record {
+      default = v.default_level;
+      exceptions = v.exceptions;
+      block = block_of v.exceptions;
+      planes = planes_of v.default_level v.exceptions;
+    } };
 }
 
 impl Label {
@@ -83,6 +99,8 @@ impl Label {
         Some(Label {
             exceptions,
             default: raw.default,
+            block: block_of(&exceptions),
+            planes: Planes::of(raw.default, &exceptions),
         })
     }
 
@@ -201,7 +219,34 @@ impl Label {
         Some(Label {
             default: self.default,
             exceptions,
+            block: block_of(&exceptions),
+            planes: Planes::of(self.default, &exceptions),
         })
+    }
+
+    /// How the labels compare, each way, as one sum: the bits forth, and eight times those back. Where
+    /// the exceptions of each lie in one block, planes tell, and else a walk over both lists.
+    fn held(&self, other: &Label) -> u8
+        ensures few { result < 2 ^ 6 }
+        ensures bits { (k : ℕ) → IsTrue (bit_at result k == 1) ↔
+            HoldsEverywhere (both_test k) self.now.default_level self.now.exceptions
+            other.now.default_level other.now.exceptions
+            other.now.default_level other.now.exceptions }
+    {
+        let (Some(block), Some(other_block)) = (self.block, other.block) else {
+            return compare_everywhere(
+                self.default,
+                &self.exceptions,
+                other.default,
+                &other.exceptions,
+            );
+        };
+        let held = compare_levels(self.default, other.default);
+        if block == other_block {
+            return held & self.planes.compare(&other.planes);
+        }
+        held & self.planes.compare_to(other.default)
+            & other.planes.compare_level(u64::MAX, self.default)
     }
 
     /// How the labels compare, each way.
@@ -209,12 +254,7 @@ impl Label {
         ensures forth { result.forth ≡ bits_of self.now other.now }
         ensures back { result.back ≡ bits_of other.now self.now }
     {
-        let held = compare_everywhere(
-            self.default,
-            &self.exceptions,
-            other.default,
-            &other.exceptions,
-        );
+        let held = self.held(other);
         BothWays {
             forth: held % 8,
             back: held / 8,

@@ -13,6 +13,7 @@ pub mod laws;
 mod listing;
 mod orders;
 mod pairings;
+mod planes;
 mod raw_labels;
 mod walk;
 mod ways;

@@ -3,7 +3,7 @@ ghost use Rattle.std.specs.Prelude.{◌≡◌};
 ghost use Rattle.std.specs.Cmp.Lexicographic.{slice_cmp};
 ghost use Rattle.base.specs.Counts.{scanned};
 ghost use Rattle.label_lattice.specs.Bits.{bits_of};
-ghost use Rattle.label_lattice.specs.Listing.{pair_cmp, label_cmp};
+ghost use Rattle.label_lattice.specs.Listing.{pair_cmp};
 
 use crate::labels::Label;
 use crate::pairings::{Pair, Pairs};

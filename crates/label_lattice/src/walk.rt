@@ -6,8 +6,8 @@ ghost use Rattle.label_lattice.specs.Columns.{filler};
 ghost use Rattle.std.specs.Int.{bit_at};
 ghost use Rattle.label_lattice.specs.Levels.{next_of, IsRising};
 ghost use Rattle.label_lattice.specs.Rule.{rule_test, up_rank, down_rank};
-ghost use Rattle.label_lattice.specs.Walk.{Takes, TakesBoth, category_at};
-ghost use Rattle.label_lattice.specs.Walk.{HoldsEverywhere, ComparesOn};
+ghost use Rattle.label_lattice.specs.Walk.{Takes, TakesBoth};
+ghost use Rattle.label_lattice.specs.Walk.{HoldsEverywhere};
 ghost use Rattle.label_lattice.specs.Ways.{both_test};
 
 use crate::pairings::Pairs;
@@ -107,16 +107,6 @@ struct Turn {
     j: usize,
 }
 
-/// Whether two lists have one category at a place.
-#[inline(always)]
-fn has_same(a: &Pairs<16>, b: &Pairs<16>, i: usize) -> bool
-    requires a_within { i < length a.now }
-    requires b_within { i < length b.now }
-    ensures { result ≡ (category_at a.now i == category_at b.now i) }
-{
-    a.pair_at(i).category.0 == b.pair_at(i).category.0
-}
-
 /// The level at a place and the place after it where the list has the category that is taken, and
 /// else its default and the place. (Which list has it no processor foresees, so that is no branch.)
 #[inline(always)]
@@ -210,43 +200,9 @@ fn take_least(
     take_lower(a_default, a, i, b_default, b, j)
 }
 
-/// How two labels compare so far, and the place in both lists from which they are still to be
-/// compared.
-#[derive(Clone, Copy)]
-struct Together {
-    held: u8,
-    place: usize,
-}
-
-/// How two labels compare over the defaults and over the places where both lists have the same
-/// category, from the first on, as long as a bit is left.
-#[inline(always)]
-fn compare_together(a_default: Level, a: &Pairs<16>, b_default: Level, b: &Pairs<16>) -> Together
-    requires a_rising { IsRising a.now }
-    requires b_rising { IsRising b.now }
-    ensures a_within { result.place ≤ length a.now }
-    ensures b_within { result.place ≤ length b.now }
-    ensures few { result.held < 2 ^ 6 }
-    ensures bits { (k : ℕ) → ComparesOn (both_test k) a_default b_default a.now b.now
-        result.place result.place (bit_at result.held k == 1) }
-{
-    let mut held = compare_levels(a_default, b_default);
-    let least = a.len().min(b.len());
-    let mut place = 0;
-    while place < least && has_same(a, b, place) {
-        held &= compare_levels(a.pair_at(place).level, b.pair_at(place).level);
-        place += 1;
-        if held == 0 {
-            break;
-        }
-    }
-    Together { held, place }
-}
-
 /// How two labels compare each way, each a default and its exceptions: the sum of those bits of
-/// `compare_levels` that are there at each category. As long as both lists have the same categories,
-/// one place stands for both. From there on each turn compares the levels of the least category that
-/// is left in a list, and the defaults stand for all that are in none. Once no bit is left, that is
+/// `compare_levels` that are there at each category. Each turn compares the levels of the least category
+/// that is left in a list, and the defaults stand for all that are in none. Once no bit is left, that is
 /// the answer.
 pub fn compare_everywhere(a_default: Level, a: &Pairs<16>, b_default: Level, b: &Pairs<16>) -> u8
     requires a_rising { IsRising a.now }
@@ -255,13 +211,9 @@ pub fn compare_everywhere(a_default: Level, a: &Pairs<16>, b_default: Level, b: 
     ensures bits { (k : ℕ) → IsTrue (bit_at result k == 1) ↔
         HoldsEverywhere (both_test k) a_default a.now b_default b.now b_default b.now }
 {
-    if a.len() == 0 && b.len() == 0 {
-        return compare_levels(a_default, b_default);
-    }
-    let together = compare_together(a_default, a, b_default, b);
-    let mut held = together.held;
-    let mut i = together.place;
-    let mut j = together.place;
+    let mut held = compare_levels(a_default, b_default);
+    let mut i = 0;
+    let mut j = 0;
     while i < a.len() || j < b.len() {
         let turn = take_least(a_default, a, i, b_default, b, j);
         held &= compare_levels(turn.a, turn.b);

@@ -11,7 +11,7 @@ use Rattle.label_lattice.proofs.labels.Label.has_star.Goals as goal
 pub returns-clause-test : goal.returns-clause-test
 returns-clause-test c =
     let plain : rank_of c.self.inside.default ≢ 0 =
-    λ zero. c.self.invariant.owned_by_none (rank_of-injective c.self.inside.default Star zero) in
+    λ zero. c.self.invariant.0.owned_by_none (rank_of-injective c.self.inside.default Star zero) in
     rw (← c.self.view_is, eq_false (rank_of c.self.inside.default) 0 plain)
     ((rw c.levels.ensures at c.has_star_in.ensures)
     ∙ list_any-map (λ (p : Pair). p.level) _ c.self.inside.exceptions)
@@ -22,8 +22,8 @@ returns-clause-star c =
     (rw c.levels.ensures at c.has_star_in.ensures)
     ∙ list_any-map (λ (p : Pair). p.level) _ c.self.inside.exceptions in
     rw (← c.self.view_is) (
-      λ r. star_forth c.self.inside.default c.self.inside.exceptions c.self.invariant.owned_by_none
-          c.self.invariant.rising (sym e ∙ r),
+      λ r. star_forth c.self.inside.default c.self.inside.exceptions c.self.invariant.0.owned_by_none
+          c.self.invariant.0.rising (sym e ∙ r),
       λ s. e ∙ star_back c.self.inside.default c.self.inside.exceptions s.0
-          c.self.invariant.owned_by_none s.1,
+          c.self.invariant.0.owned_by_none s.1,
     )

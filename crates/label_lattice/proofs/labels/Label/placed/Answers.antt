@@ -1,8 +1,12 @@
+use Rattle.std.proofs.Common.{sym}
 use Rattle.label_lattice.proofs.PlacedLaw.{stored_from_placed}
 use Rattle.label_lattice.proofs.labels.Label.placed.Goals as goal
 
 pub invariant_of-result : goal.invariant_of-result
-invariant_of-result c =
-    stored_from_placed (record
-    { default_level = c.self.inside.default; exceptions = c.self.inside.exceptions })
-    c.args.pair _ c.self.invariant c.if-not-place.ensures.placed c.if-not-place.ensures.room
+invariant_of-result c = (
+  stored_from_placed (record
+      { default_level = c.self.inside.default; exceptions = c.self.inside.exceptions })
+      c.args.pair _ c.self.invariant.0 c.if-not-place.ensures.placed c.if-not-place.ensures.room,
+  sym c.block_of.ensures,
+  sym c.of.ensures,
+)

@@ -14,8 +14,8 @@ returns-clause-everywhere c = (
 pub returns-clause-equal : goal.returns-clause-equal
 returns-clause-equal c = (
   λ r. same_labels c.args.self.now c.args.other.now
-      (subst IsStored c.self.view_is c.self.invariant)
-      (subst IsStored c.other.view_is c.other.invariant)
+      (subst IsStored c.self.view_is c.self.invariant.0)
+      (subst IsStored c.other.view_is c.other.invariant.0)
       (λ k. rank_of-injective _ _ (eqb-true _ _ (c.holds.ensures.0 r k))),
   λ e. c.holds.ensures.1 (λ k. eq-eqb _ _ (ap (λ (l : LabelValue). rank_of (level l k)) e)),
 )

@@ -6,14 +6,14 @@ use Rattle.label_lattice.proofs.labels.Label.with.Goals as goal
 pub returns-clause-levels : goal.returns-clause-levels
 returns-clause-levels c =
     with-levels c.args.self.now (record { category = c.args.category; level = c.args.level }) _
-    (subst IsStored c.self.view_is c.self.invariant) c.placed.ensures
+    (subst IsStored c.self.view_is c.self.invariant.0) c.placed.ensures
 
 pub returns-clause-stored : goal.returns-clause-stored
 returns-clause-stored c =
     with-stored c.args.self.now (record { category = c.args.category; level = c.args.level }) _
-    (subst IsStored c.self.view_is c.self.invariant) c.placed.ensures
+    (subst IsStored c.self.view_is c.self.invariant.0) c.placed.ensures
 
 pub returns-clause-full : goal.returns-clause-full
 returns-clause-full c =
     with-full c.args.self.now (record { category = c.args.category; level = c.args.level }) _
-    (subst IsStored c.self.view_is c.self.invariant) c.placed.ensures
+    (subst IsStored c.self.view_is c.self.invariant.0) c.placed.ensures
