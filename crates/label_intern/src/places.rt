@@ -10,12 +10,15 @@ use crate::table::Table;
 use base::Meter;
 use label_lattice::Label;
 
-/// A free index, where not all are taken.
-pub fn free_place(slots: &[Option<Held>]) -> usize
+/// A free index, where not all are taken: the one that is likely to be free, where it is, and else the first.
+pub fn free_place(slots: &[Option<Held>], likely: usize) -> usize
     requires { stored slots.now < length slots.now }
     ensures within { result < length slots.now }
     ensures free { held_at slots.now result ≡ None }
 {
+    if likely < slots.len() && slots[likely].is_none() {
+        return likely;
+    }
     for i in 0..slots.len() {
         if slots[i].is_none() {
             return i;

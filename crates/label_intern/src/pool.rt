@@ -24,6 +24,8 @@ pub struct Labels {
     table: Table,
     // The indexes that have a label, by rising labels.
     listed: Vec<u16>,
+    // The index that lost an owner last, where a free one is looked for first.
+    likely: usize,
 }
 
 impl Model for Labels {
@@ -63,6 +65,7 @@ impl Labels {
             slots,
             table,
             listed,
+            likely: 0,
         })
     }
 
@@ -129,7 +132,7 @@ impl Labels {
         let at = match seek(&self.slots, &self.listed, label, meter) {
             Ok(at) => at,
             Err(place) => {
-                let at = free_place(&self.slots);
+                let at = free_place(&self.slots, self.likely);
                 fill(&mut self.table, &self.slots, &self.listed, at, label, meter);
                 put_at(&mut self.listed, place, at as u16);
                 at
@@ -152,7 +155,9 @@ impl Labels {
         let slot = usize::from(at.0);
         unlist(&self.slots, &mut self.listed, at.0);
         lower(&mut self.slots[slot]);
+        self.likely = slot;
     }
+
     /// Takes an owner from the label of an index, where it has one. All other indexes stay.
     pub fn let_go(&mut self, at: LabelIx)
         ensures after { self.new ≡ release_at self.old at.0 }
