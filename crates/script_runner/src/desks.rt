@@ -49,14 +49,14 @@ impl<B: Naming> Desk for Option<Seat<'_, B>> {
 
 /// The book of a run whose workers take turns, and the thread of the worker whose turn it is, where it has a seat.
 #[derive(Drop)]
-pub struct Turns<B: Naming> {
+pub struct SoleDesk<B: Naming> {
     /// The book.
     pub book: SoleBook<B>,
     /// The thread.
     pub thread: Option<ObjectId>,
 }
 
-impl<B: Naming> Desk for Turns<B> {
+impl<B: Naming> Desk for SoleDesk<B> {
     fn is_open(&self) -> bool {
         self.thread.is_some()
     }

@@ -5,7 +5,7 @@ ghost use Rattle.kernel_rules.specs.Scratch.{scratch};
 ghost use Rattle.script_runner.specs.Dumps.{IsPlayed};
 
 use crate::answers::Answers;
-use crate::desks::Turns;
+use crate::desks::SoleDesk;
 use crate::faults::PlayFault;
 use crate::gates::Gate;
 use crate::names::BoundNames;
@@ -55,16 +55,16 @@ impl Lone {
         &mut self,
         rt: &R,
         gate: &G,
-        turns: &mut Turns<B>,
+        desk: &mut SoleDesk<B>,
         index: usize,
         phase: &Phase,
         names: &mut BoundNames,
     ) -> Result<(), PlayFault> {
         let places = 0..phase.len();
-        turns.thread = self.thread;
+        desk.thread = self.thread;
         mem::swap(&mut self.worker.own, names);
         self.worker
-            .play(rt, gate, turns, index, phase, places, names);
+            .play(rt, gate, desk, index, phase, places, names);
         mem::swap(&mut self.worker.own, names);
         self.worker.end()
     }
@@ -85,7 +85,7 @@ fn idle(alloc: Global, count: usize) -> Result<Vec<Lone>, AllocError> {
 /// Plays a phase, whose lines are all of one worker.
 fn play_phase<B: Naming, R: Wait, G: Gate>(
     rt: &R,
-    turns: &mut Turns<B>,
+    desk: &mut SoleDesk<B>,
     phase: &Phase,
     gate: &G,
     workers: &IndexSet<Name>,
@@ -101,8 +101,8 @@ fn play_phase<B: Naming, R: Wait, G: Gate>(
     let Some(lone) = played.get_mut(index) else {
         return Ok(());
     };
-    lone.sit(&mut turns.book, names.value_of(&name));
-    lone.play(rt, gate, turns, index, phase, names)
+    lone.sit(&mut desk.book, names.value_of(&name));
+    lone.play(rt, gate, desk, index, phase, names)
 }
 
 /// What the lines of the workers answered, which they have no longer then.
@@ -117,7 +117,7 @@ fn answers_of(alloc: Global, played: &mut Vec<Lone>) -> Result<Vec<Answers>, All
 /// Plays the phases one after another.
 fn play_phases<B: Naming, R: Wait, G: Gate>(
     rt: &R,
-    turns: &mut Turns<B>,
+    desk: &mut SoleDesk<B>,
     script: &Script,
     workers: &IndexSet<Name>,
     gate: &G,
@@ -125,7 +125,7 @@ fn play_phases<B: Naming, R: Wait, G: Gate>(
     names: &mut BoundNames,
 ) -> Result<(), PlayFault> {
     for phase in &script.phases {
-        play_phase(rt, turns, phase, gate, workers, played, names)?;
+        play_phase(rt, desk, phase, gate, workers, played, names)?;
     }
     Ok(())
 }
@@ -134,14 +134,14 @@ fn play_phases<B: Naming, R: Wait, G: Gate>(
 fn play_script<'a, B: Naming, R: Wait, G: Gate>(
     rt: &R,
     alloc: Global,
-    turns: &mut Turns<B>,
+    desk: &mut SoleDesk<B>,
     script: &Script,
     workers: &'a IndexSet<Name>,
     gate: &G,
 ) -> Result<Answered<'a>, PlayFault> {
     let mut names = BoundNames::start(alloc)?;
     let mut played = idle(alloc, workers.len())?;
-    play_phases(rt, turns, script, workers, gate, &mut played, &mut names)?;
+    play_phases(rt, desk, script, workers, gate, &mut played, &mut names)?;
     let answers = answers_of(alloc, &mut played)?;
     Ok(Answered {
         workers,
@@ -154,17 +154,17 @@ fn play_script<'a, B: Naming, R: Wait, G: Gate>(
 fn texts_of<B: Naming, R: Wait, G: Gate>(
     rt: &R,
     alloc: Global,
-    turns: &mut Turns<B>,
+    desk: &mut SoleDesk<B>,
     script: &Script,
     workers: &IndexSet<Name>,
     gate: &G,
 ) -> Result<(Vec<u8>, Tables), PlayFault>
-    ensures { IfOk result (λ texts. texts.1 ≡ scratch (state_of B.boot.limits turns.new.book.journal)) }
+    ensures { IfOk result (λ texts. texts.1 ≡ scratch (state_of B.boot.limits desk.new.book.journal)) }
 {
-    let answered = play_script(rt, alloc, turns, script, workers, gate)?;
+    let answered = play_script(rt, alloc, desk, script, workers, gate)?;
     let output = output_of(alloc, &answered)?;
     let mut meter = Meter::new(alloc)?;
-    let tables = turns.book.kernel().tables(&mut meter)?;
+    let tables = desk.book.kernel().tables(&mut meter)?;
     Ok((output, tables))
 }
 
@@ -183,12 +183,12 @@ pub fn play_alone<B: Naming, R: Wait, G: Gate>(
     requires seats { seats ≡ B.boot.seats }
     ensures { IfOk result (λ played. IsPlayed limits.now played.events.items played.tables) }
 {
-    let mut turns = Turns {
+    let mut desk = SoleDesk {
         book: SoleBook::<B>::boot(alloc, limits, seats)?,
         thread: None,
     };
-    let texts = texts_of(rt, alloc, &mut turns, script, workers, gate);
-    let Turns { book, thread: _ } = turns;
+    let texts = texts_of(rt, alloc, &mut desk, script, workers, gate);
+    let SoleDesk { book, thread: _ } = desk;
     let events = book.into_events();
     let (output, tables) = texts?;
     Ok(Played {

@@ -1,5 +1,5 @@
 //! Playing a script.
-ghost use Rattle.std.specs.Prelude.{◌≡◌, ◌<◌, ◌≤◌, IfOk};
+ghost use Rattle.std.specs.Prelude.{◌<◌, ◌≤◌, IfOk};
 ghost use Rattle.script_runner.specs.Dumps.{IsPlayed};
 
 use crate::faults::PlayFault;

@@ -11,7 +11,7 @@ pub returns : goal.returns
 returns g c =
     let limits : Limits = c.args.limits.now in
     let boot : Limits = g.B.Naming.boot.limits in
-    let journal : List Event = c.texts_of-texts.new.turns.book.journal in
+    let journal : List Event = c.texts_of-texts.new.desk.book.journal in
     let same : limits ≡ boot = c.requires.limits in
     let items : c.into_events-events.result.items ≡ journal = c.into_events-events.ensures.journal in
     let good : in_range limits ≡ true = holds_at_ok c.in_ok-boot.field-0 _ (in_range limits) c.in_ok-boot.ensures.limits.1 in
