@@ -1,6 +1,6 @@
 //! What is kept by slots.
 ghost use Rattle.std.specs.Prelude.{◌≡◌, None, [], replicate, slice_set};
-ghost use Rattle.arena_state.specs.Deaths.{released, forgotten, bytes_left, mappings_left, IsVacated};
+ghost use Rattle.arena_state.specs.Deaths.{released, bytes_left, mappings_left, IsVacated};
 
 use crate::records::{Kept, Record};
 use address_spaces::Spaces;

@@ -1,6 +1,5 @@
 //! The labels that are stored, by index, and how they compare.
 ghost use Rattle.std.specs.Prelude.{◌≡◌, ◌≤◌, option_copied, option_map};
-ghost use Rattle.label_intern.specs.Held.{held_at};
 ghost use Rattle.kernel_store.specs.Storing.{label_count};
 ghost use Rattle.arena_state.specs.Kept.{label_kept, order_kept};
 ghost use Rattle.arena_state.specs.States.{state_of, labels_stored};

@@ -5,7 +5,6 @@ ghost use Rattle.kernel_rules.specs.State.{object_at, is_fixed, is_immutable, qu
 ghost use Rattle.kernel_rules.specs.State.{use_of, is_kind_at, kind_of};
 ghost use Rattle.kernel_rules.specs.Changes.{joined_at};
 ghost use Rattle.kernel_store.specs.Sights.{kind_at};
-ghost use Rattle.arena_state.specs.Assembled.{body_use};
 ghost use Rattle.arena_state.specs.States.{state_of, find_cost, HasRow, Shows, Finds};
 
 use crate::records::{Kept, Record};
@@ -13,7 +12,6 @@ use crate::states::ArenaState;
 use base::{Data, Kind, Meter, ObjectId, Slot, TypeSet};
 
 impl Kept {
-    ghost use Rattle.std.specs.Prelude.{[]};
     ghost use Rattle.arena_state.specs.Assembled.{body_of};
     ghost use Rattle.arena_state.specs.Filled.{filled_body};
 

@@ -1,6 +1,6 @@
 //! Rows of translation that are remade: what the sixteen slots of an object's address space show,
 //! recomputed by what a thread sees of entries. No label is scanned.
-ghost use Rattle.std.specs.Prelude.{◌≡◌, ◌≢◌, ℕ, ◌<◌, ◌≤◌, true, not, ◌&&◌, Some, None};
+ghost use Rattle.std.specs.Prelude.{◌≡◌, ℕ, ◌<◌, ◌≤◌, true, not, ◌&&◌, Some, None};
 ghost use Rattle.std.specs.Prelude.{slice_get, slice_index_or, IfOk};
 ghost use Rattle.containers.specs.Tree.{HasSlot};
 ghost use Rattle.kernel_rules.specs.Translate.{names_none, opens, own_space, slot_in};

@@ -1,6 +1,6 @@
 //! What a thread's address space shows, and where an address lies, by the row that is kept for the
 //! thread. No label is looked at.
-ghost use Rattle.std.specs.Prelude.{◌≡◌, ◌≤◌, ◌<◌, ◌+◌, ◌*◌, ◌/◌, ◌∷◌, [], true, length, option_copied};
+ghost use Rattle.std.specs.Prelude.{◌≡◌, ◌≤◌, ◌<◌, ◌+◌, ◌*◌, ◌/◌, [], true, length, option_copied};
 ghost use Rattle.containers.specs.Tree.{HasSlot};
 ghost use Rattle.kernel_rules.specs.Translate.{translate, own_space, slots_through};
 ghost use Rattle.kernel_rules.specs.Translate.{covers, place_at, place_by, place_among, place_of};

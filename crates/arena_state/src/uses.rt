@@ -1,5 +1,5 @@
 //! What is kept of uses.
-ghost use Rattle.std.specs.Prelude.{◌≡◌, None, IfSome, IfNone, ◌≤◌, ◌<◌, ◌+◌, ◌^◌};
+ghost use Rattle.std.specs.Prelude.{◌≡◌, None, IfSome, IfNone, ◌≤◌, ◌<◌, ◌+◌};
 ghost use Rattle.kernel_rules.specs.State.{object_at, use_of};
 ghost use Rattle.arena_state.specs.Assembled.{body_use};
 ghost use Rattle.arena_state.specs.States.{state_of, find_cost};

@@ -8,10 +8,15 @@ use Rattle.call_text.specs.declared.phases.Line.{Line}
 use Rattle.call_text.specs.Line.{Written, Break, Said, written_text, FitsWritten}
 use Rattle.call_text.specs.Script.{next, ends, start, lines_of, known_names, ArePhasesNumbered, Earlier, binds_of, IsScript, ScriptFaultsAt}
 use Rattle.call_text.specs.Names.{Holds, Admits, names_after}
-use Rattle.call_text.specs.Reading.{added}
 use Rattle.call_text.proofs.LineLemmas.{script_grammar}
 use Rattle.call_text.proofs.ScriptLemmas.{lines_of-line, lines_of-phase, numbers_line, numbers_phase}
 use Rattle.call_text.proofs.TextLemmas.{Came, came_more, fault_no_end, fault_line, fault_state}
+
+-- the phases, and the lines of the last one, with one more line
+abbrev pub added : ℕ → Written → List (List Line) → List Line → List (List Line) × List Line
+added number Break phases lines = (phases ++ lines ∷ [], [])
+added number (Said binds worker call) phases lines =
+    (phases, lines ++ record { number = number; binds = binds; worker = worker; call = call } ∷ [])
 
 pub record Progress (bytes : List ℕ) (bound : BTreeSet (List ℕ)) (phases : List (List Line)) (lines : List Line) (count : ℕ) (rest : List ℕ) : Type 0 where
   pub names : List (List ℕ)

@@ -4,19 +4,12 @@ use Rattle.spoken_calls.specs.declared.args.Arg.{Arg}
 use Rattle.call_text.specs.declared.lines.Outline.{Outline}
 use Rattle.call_text.specs.declared.lines.Outline.TheVariants as outlines
 use Rattle.call_text.specs.declared.phases.KeptLine.{KeptLine}
-use Rattle.call_text.specs.Line.{Written, Break, Said}
 use Rattle.call_text.specs.declared.phases.Line.{Line}
 use Rattle.call_text.specs.declared.phases.Script.{Script}
 use Rattle.call_text.specs.declared.errors.ScriptError.{ScriptError}
 use Rattle.call_text.specs.declared.errors.ScriptError.TheVariants as errors
 use Rattle.call_text.specs.Phase.{line_in}
 use Rattle.call_text.specs.Script.{IsScript, ScriptFaultsAt}
-
--- the phases, and the lines of the last one, with one more line
-abbrev pub added : ℕ → Written → List (List Line) → List Line → List (List Line) × List Line
-added number Break phases lines = (phases ++ lines ∷ [], [])
-added number (Said binds worker call) phases lines =
-    (phases, lines ++ record { number = number; binds = binds; worker = worker; call = call } ∷ [])
 
 -- The new phases are the old ones with one more line, and so are the lines of the last one, whose
 -- arguments are in the list: after -- it has neither lines nor arguments yet.

@@ -1,5 +1,5 @@
 //! Links between containers and objects, and without memory.
-ghost use Rattle.std.specs.Prelude.{◌≡◌, ℕ, [], ◌∷◌, true, IfOk, length};
+ghost use Rattle.std.specs.Prelude.{◌≡◌, [], ◌∷◌, true, IfOk};
 ghost use Rattle.base.specs.Live.{has};
 ghost use Rattle.containers.specs.Tree.{ids_in, HasSlot};
 

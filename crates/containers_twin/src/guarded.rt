@@ -1,7 +1,7 @@
 //! Containers, each call of which tests what it needs.
-ghost use Rattle.std.specs.Prelude.{◌≡◌, ℕ, ◌<◌, ◌+◌, ◌*◌, ◌%◌, ◌^◌, length, All, IsTrue, IfOk};
+ghost use Rattle.std.specs.Prelude.{◌≡◌, ◌<◌, ◌+◌, ◌*◌, ◌%◌, ◌^◌, length, All, IsTrue};
 ghost use Rattle.std.specs.Prelude.{true};
-ghost use Rattle.base.specs.Live.{has, links};
+ghost use Rattle.base.specs.Live.{has};
 ghost use Rattle.containers.specs.Tree.{ids_in, link_count};
 ghost use Rattle.containers_twin.specs.Layers.{IsLayered};
 

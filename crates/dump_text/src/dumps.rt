@@ -1,7 +1,7 @@
 //! Reading dumps.
 ghost use Rattle.std.specs.Prelude.{◌≡◌, ◌++◌, ◌∷◌, [], ℕ, List, IfOk, OnOk};
 ghost use Rattle.dump_text.specs.Lists.{DumpLists};
-ghost use Rattle.dump_text.specs.Dump.{IsDump, DumpFaultsAt, rank_of, after_rank, may_come, next};
+ghost use Rattle.dump_text.specs.Dump.{IsDump, DumpFaultsAt, rank_of, may_come, next};
 ghost use Rattle.dump_text.specs.Reading.{ReadsDump, Takes, added, nothing};
 
 use crate::errors::DumpError;

@@ -1,5 +1,4 @@
 //! A dump as a value.
-ghost use Rattle.std.specs.Prelude.{◌≡◌};
 
 use base::{Limits, ObjectId};
 use kernel_rules::{Compared, Event, Shown, Used};

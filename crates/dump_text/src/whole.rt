@@ -1,5 +1,5 @@
 //! The dump of a list of events.
-ghost use Rattle.std.specs.Prelude.{◌≡◌, ◌≤◌, ◌<◌, ◌+◌, ◌^◌, ◌++◌, IfOk, OnOk, length};
+ghost use Rattle.std.specs.Prelude.{◌≡◌, ◌<◌, ◌+◌, ◌^◌, ◌++◌, IfOk, OnOk, length};
 ghost use Rattle.dump_text.specs.Whole.{placed_from, placed};
 
 use crate::tables::{Dump, DumpTables, Stored};

@@ -1,5 +1,5 @@
 //! Words that name no object or category but by its number, and their spelling.
-ghost use Rattle.std.specs.Prelude.{◌≡◌, ◌≤◌, ◌++◌, ◌∷◌, [], codes, length, OnOk};
+ghost use Rattle.std.specs.Prelude.{◌≡◌, ◌≤◌, ◌++◌, ◌∷◌, [], length, OnOk};
 ghost use Rattle.std.specs.List.{flat_map, AllByRecursion};
 ghost use Rattle.text_words.specs.DataWord.{IsData};
 ghost use Rattle.text_words.specs.Label.{pair_text, label_text, IsPair, IsLabel};

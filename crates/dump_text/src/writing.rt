@@ -3,7 +3,6 @@ ghost use Rattle.std.specs.Prelude.{◌≡◌, ◌++◌, ◌∷◌, [], map, IfO
 ghost use Rattle.std.specs.List.{AllByRecursion};
 ghost use Rattle.spoken_calls.specs.Arg.{FitsArg};
 ghost use Rattle.call_text.specs.Text.{lines_text};
-ghost use Rattle.dump_text.specs.Event.{event_text};
 ghost use Rattle.dump_text.specs.Word.{arg_of, words_text};
 ghost use Rattle.dump_text.specs.Line.{digit_of, line_text};
 ghost use Rattle.dump_text.specs.Dump.{table_lines, dump_text};

@@ -1,7 +1,7 @@
 //! One family of lists: each cell stands in at most one of them.
-ghost use Rattle.std.specs.Prelude.{◌≡◌, ℕ, ◌+◌, ◌-◌, ◌^◌, ◌<◌, ◌≤◌, [], ◌∷◌, ◌++◌, length};
-ghost use Rattle.std.specs.Prelude.{IfOk, slice_get, remove, replicate, vec_len};
-ghost use Rattle.std.specs.Prelude.{option_copied, Some, None};
+ghost use Rattle.std.specs.Prelude.{◌≡◌, ℕ, ◌+◌, ◌-◌, ◌^◌, ◌<◌, [], ◌∷◌, ◌++◌, length};
+ghost use Rattle.std.specs.Prelude.{IfOk, slice_get, remove};
+ghost use Rattle.std.specs.Prelude.{Some, None};
 ghost use Rattle.std.specs.List.{range_with_len};
 ghost use Rattle.base.specs.Counts.{probed};
 

@@ -1,5 +1,5 @@
 //! Labels of calls.
-ghost use Rattle.std.specs.Prelude.{◌≡◌, IfOk, length, vec_len, vec_capacity};
+ghost use Rattle.std.specs.Prelude.{◌≡◌, IfOk, length};
 
 use base::{Level, NoMemory};
 use label_lattice::{Pair, RawLabel};

@@ -1,9 +1,8 @@
 //! All tables of a state.
-ghost use Rattle.std.specs.Prelude.{◌≡◌, ◌≤◌, ◌+◌, ◌++◌, IfOk, OnOk, length, map};
+ghost use Rattle.std.specs.Prelude.{◌≡◌, ◌≤◌, ◌+◌, ◌++◌, IfOk, OnOk};
 ghost use Rattle.std.specs.List.{flat_map};
-ghost use Rattle.label_lattice.specs.Raw.{raw_of};
 ghost use Rattle.kernel_rules.specs.Scratch.{ids_of, uses_of, shown_as, shown_from, scratch};
-ghost use Rattle.kernel_tables.specs.ById.{shown_at, labels_at};
+ghost use Rattle.kernel_tables.specs.ById.{shown_at};
 
 use crate::labels::{compared, raw_labels, stored_labels};
 use base::{Kind, Meter, NoMemory, ObjectId, Rights};

@@ -1,5 +1,5 @@
 //! Who may enter a gate.
-ghost use Rattle.std.specs.Prelude.{◌≡◌, option_copied};
+ghost use Rattle.std.specs.Prelude.{◌≡◌};
 ghost use Rattle.base.specs.Counts.{ScansAtMost};
 ghost use Rattle.label_rules.specs.LabelRules.{may_enter};
 

@@ -1,6 +1,6 @@
 //! Hints of where objects are: an id with its slot beside it, at the place that the id's last binary digits name, so
 //! that one read tests it.
-ghost use Rattle.std.specs.Prelude.{◌≡◌, ℕ, ◌<◌, [], ◌∷◌, length, IfSome};
+ghost use Rattle.std.specs.Prelude.{◌≡◌, ◌<◌, [], ◌∷◌, length, IfSome};
 ghost use Rattle.object_arena.specs.Hints.{blank, hint_at, hint_place, IsKeptHint, IsForgotten};
 ghost use Rattle.object_arena.specs.Hints.{IsHintCount};
 

@@ -1,5 +1,5 @@
 //! The plain kernel: a map of records, and all else computed anew.
-ghost use Rattle.std.specs.Prelude.{◌≡◌, ◌↔◌, true, false, IsTrue, IfOk, OnOk, OnErr, IsErrOf};
+ghost use Rattle.std.specs.Prelude.{◌≡◌, ◌↔◌, false, IsTrue, IfOk, IsErrOf};
 ghost use Rattle.base.specs.Limits.{in_range};
 ghost use Rattle.kernel_rules.specs.Scratch.{scratch};
 ghost use Rattle.base.specs.declared.kinds.Kind.TheVariants as kinds;

@@ -1,6 +1,5 @@
 -- What a copy shows, and what it becomes when it takes in a call.
 use Rattle.std.specs.Prelude.{Bool, true, false, List, [], ◌∷◌, ◌++◌}
-use Rattle.std.specs.Arc.{arc_value}
 use Rattle.kernel_rules.specs.Step.{answer, next}
 use Rattle.kernel_rules.specs.declared.events.Event.{Event}
 use Rattle.syscall_core.specs.Kernel.{kernel_state}
@@ -36,12 +35,12 @@ shown_of c = record {
 -- and what becomes of it: the next state, the list with the call's event, and the answer
 abbrev pub absorbed : Shown → Op → Shown
 absorbed s op = record {
-  state = next s.state op.thread (arc_value op.call);
+  state = next s.state op.thread op.call.value;
   limits = s.limits;
   length = op.length;
   number = op.seen.book.number;
   log_name = op.seen.book.log_name;
   cells_name = op.seen.book.cells_name;
   list = listed op;
-  reply = answer s.state op.thread (arc_value op.call);
+  reply = answer s.state op.thread op.call.value;
 }

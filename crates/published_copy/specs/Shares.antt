@@ -4,7 +4,6 @@ use mathlib.Core.Option.{some}
 use lib.ListN.{get_elem?}
 use Rattle.logbook.specs.Pages.{Book as Log}
 use Rattle.base.specs.declared.levels.Level.TheVariants.{L1}
-use Rattle.std.specs.Arc.{arc_value}
 use Rattle.kernel_rules.specs.History.{IsLegal, Follows, state_of}
 use Rattle.kernel_rules.specs.declared.events.Event.{Event}
 use Rattle.kernel_rules.specs.declared.replies.Reply.{Reply}
@@ -80,7 +79,7 @@ copies_with list pending = record { list = list; pending = pending }
 pub record IsNext (boot : Boot) (list : List Event) (op : Op) : Type 0 where
   pub event : Event
   pub thread_is : op.thread ≡ event.thread
-  pub call_is : arc_value op.call ≡ event.call
+  pub call_is : op.call.value ≡ event.call
   pub length_is : op.length ≡ length list + 1
   pub log_is : op.seen.book ≡ boot.log
   pub list_is : listed op ≡ list ++ event ∷ []

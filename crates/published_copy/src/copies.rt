@@ -1,6 +1,5 @@
 //! The copies of the kernel that readers take, and how they take in calls.
 ghost use Rattle.std.specs.Prelude.{◌≡◌, ℕ, [], IfOk, true};
-ghost use Rattle.std.specs.Arc.{arc_value};
 ghost use Rattle.kernel_rules.specs.Runs.{booted};
 ghost use Rattle.kernel_rules.specs.Step.{answer, next};
 ghost use Rattle.kernel_rules.specs.declared.replies.Reply.TheVariants as told;
@@ -84,9 +83,9 @@ pub(crate) fn copy_reply(reply: &mut Reply, given: &Reply)
 /// A kernel makes the call of an operation, and the reply becomes its answer.
 fn make(kernel: &mut Kernel, meter: &mut Meter, operation: &Op, reply: &mut Reply)
     ensures reply { reply.new
-        ≡ answer (kernel_state kernel.old) operation.now.thread (arc_value operation.now.call) }
+        ≡ answer (kernel_state kernel.old) operation.now.thread operation.now.call.value }
     ensures state { kernel_state kernel.new
-        ≡ next (kernel_state kernel.old) operation.now.thread (arc_value operation.now.call) }
+        ≡ next (kernel_state kernel.old) operation.now.thread operation.now.call.value }
 {
     clear(reply);
     kernel.step_into(operation.thread, &operation.call, reply, meter);

@@ -15,7 +15,7 @@ pub(crate) struct Op {
     /// The thread that calls.
     pub(crate) thread: ObjectId,
     /// The call, in memory of its own: operations are moved, and a call is large.
-    pub(crate) call: Arc<Call>,
+    pub(crate) call: Box<Call>,
     /// How many events there are with it.
     pub(crate) length: u64,
     /// What the log weighs in which it was tried last.

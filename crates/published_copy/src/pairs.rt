@@ -1,6 +1,6 @@
 //! The log of a boot's events, and the two copies of their state.
 ghost use Rattle.core.specs.Mem.{manually_drop_value};
-ghost use Rattle.std.specs.Prelude.{◌≡◌, ◌+◌, ◌<◌, ◌^◌, ◌++◌, ◌∷◌, [], false, drop, length};
+ghost use Rattle.std.specs.Prelude.{◌≡◌, ◌+◌, ◌<◌, ◌^◌, [], false, drop, length};
 ghost use Rattle.std.specs.Prelude.{OnOk, OnErr, IfOk, IfSome, OnSome};
 ghost use Rattle.std.specs.Arc.{arc_value};
 ghost use Rattle.kernel_rules.specs.History.{state_of, count};
@@ -90,12 +90,12 @@ fn operation<B: Naming>(
     tip: &Tip<B>,
     head: Arc<Head>,
     pass: &Pass<B>,
-    call: Arc<Call>,
+    call: Box<Call>,
     events: u64,
 ) -> Op
     requires { arc_value head ≡ head_of B.boot.log }
     ensures thread { result.thread ≡ pass.now.thread }
-    ensures call { arc_value result.call ≡ arc_value call }
+    ensures call { result.call ≡ call }
     ensures length { result.length ≡ events }
     ensures book { result.seen.book ≡ B.boot.log }
     ensures log { result.seen.log ≡ tip.now }
@@ -169,14 +169,14 @@ impl<B: Naming> Pair<B> {
             (reply.new ≡ answer (state_of B.boot.limits self.old) pass.now.thread call.now) }
         ensures kept { OnErr result (self.new ≡ self.old) }
     {
-        let shared = Arc::new(self.alloc, *call)?;
+        let boxed = Box::new(self.alloc, *call)?;
         let kept = KeptCall::new(self.alloc, call)?;
         let kernel = self.copies.kernel();
         let tried = attempt(rt, &mut self.tip, &self.head, kernel, pass, call);
         let Some(head) = tried else {
             return Err(NoMemory);
         };
-        let op = operation(&self.tip, head, pass, shared, events);
+        let op = operation(&self.tip, head, pass, boxed, events);
         self.copies.queue(op)?;
         self.tip.settle(rt, &self.head);
         self.copies.publish(rt, &self.tip, reply);

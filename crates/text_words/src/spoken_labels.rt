@@ -1,5 +1,5 @@
 //! Labels as a script writes them: `{c:3,#7:*,1}`.
-ghost use Rattle.std.specs.Prelude.{◌≡◌, ◌==◌, ◌≤◌, ◌++◌, ◌∷◌, [], ℕ, List, length, map, IfOk};
+ghost use Rattle.std.specs.Prelude.{◌≡◌, ◌≤◌, ◌++◌, ◌∷◌, [], ℕ, List, length, IfOk};
 ghost use Rattle.std.specs.Prelude.{OnOk, IfSome, IfNone};
 ghost use Rattle.text_words.specs.Reading.{Reads};
 ghost use Rattle.text_words.specs.Label.{pair_text, IsPair, inside_text, label_text, IsLabel};
