@@ -43,11 +43,12 @@ compare_twin() {
 import re, sys
 
 for line in open(sys.argv[1]):
-    row = re.match(r"(.+?) +(64|512) +[\d.]+ +[\d.]+ +([\d.]+)$", line)
+    row = re.match(r"(.+?) +(64|512) +(0|16) +[\d.]+ +[\d.]+ +([\d.]+)$", line)
     if row:
         name = row[1].removesuffix(" 64").replace("+", " with ")
-        ours = re.search(rf"^{name}: (\d+) ns", open(f"{sys.argv[2]}/ours-{row[2]}-0").read(), re.M)
-        print(f"{name}, {row[2]} pages: {ours[1]} ns, twin {row[3]} ns, ratio {int(ours[1]) / float(row[3]):.2f}")
+        ours = re.search(rf"^{name}: (\d+) ns", open(f"{sys.argv[2]}/ours-{row[2]}-{row[3]}").read(), re.M)
+        where = f"{row[2]} pages, {row[3]} categories"
+        print(f"{name}, {where}: {ours[1]} ns, twin {row[4]} ns, ratio {int(ours[1]) / float(row[4]):.2f}")
 PYTHON
 }
 
@@ -61,6 +62,6 @@ for size in "8 0" "64 0" "512 0" "64 4" "64 8" "64 16"; do
     echo "-- beside the simple kernel"
     compare "$folder/ours-$pages-$categories" "$folder/simple"
 done
-echo "== beside the twin's kernel, its median times, no category"
+echo "== beside the twin's kernel, its median times"
 "$twin" >"$folder/twin"
 compare_twin "$folder/twin" "$folder"
