@@ -3,7 +3,7 @@
 # that is made and goes, beside a simple kernel in plain Rust (benches/simple) and beside the tuned one of the twin
 # (benches/twin), and prints ratios, each of one run, how long a boot takes, and the bytes of an event and of a call: at 8, 64
 # and 512 pages as full as they get, with plain labels, and at 64 pages with 4, 8 and 16 categories in each label, which is as
-# many as a label has room for. The twin's bench has plain labels at 64 and 512 pages. Not a test: it ends zero whatever the
+# many as a label has room for. The twin's bench has plain labels at 64 and 512 pages, and 16 categories at 64. Not a test: it ends zero whatever the
 # times are. It needs cargo and python3 beside the toolchain.
 #
 # kernel.sh   ROUNDS=100000 may be set
