@@ -1,10 +1,11 @@
 -- Labels whose exceptions lie in one block of 64 categories, as bits.
-use Rattle.std.specs.Prelude.{ℕ, ◌-◌, ◌/◌, ◌%◌, ◌^◌, ◌==◌, Bool, List, [], ◌∷◌, Option, Some, None}
-use Rattle.std.specs.Prelude.{if◌then◌else◌, bit_or, bit_and, replicate, slice_index_or, slice_set}
-use Rattle.std.specs.Int.{bit_not, w64}
+use Rattle.std.specs.Prelude.{ℕ, zero, suc, ◌+◌, ◌*◌, ◌/◌, ◌%◌, ◌^◌, ◌==◌, Bool, List, [], ◌∷◌, Option, Some, None}
+use Rattle.std.specs.Prelude.{if◌then◌else◌, bit_or, map, slice_index_or}
 use Rattle.std.specs.List.{list_all}
 use Rattle.base.specs.Level.{rank_of}
 use Rattle.base.specs.declared.levels.Level.{Level}
+use Rattle.base.specs.declared.levels.Level.TheVariants.{Star, L0, L1, L2, L3}
+use Rattle.label_lattice.specs.Levels.{level_at}
 use Rattle.label_lattice.specs.declared.pairings.Pair.{Pair}
 use Rattle.label_lattice.specs.declared.planes.Planes.{Planes}
 
@@ -17,34 +18,30 @@ abbrev pub first_block : List Pair → ℕ
 first_block [] = 0
 first_block (p ∷ ps) = p.category.0 / 64
 
--- the block that all exceptions lie in
-abbrev pub block_of : List Pair → Option ℕ
-block_of ps = if lie_in (first_block ps) ps then Some (first_block ps) else None
-
 -- the bit of a category in its block
 abbrev pub bit_of : ℕ → ℕ
 bit_of c = 2 ^ (c % 64)
 
--- For each level, from star on, the categories of a block that have it, as bits: where all have one
-abbrev pub uniform : Level → List ℕ
-uniform l = slice_set (replicate 5 0) (rank_of l) (2 ^ 64 - 1)
+-- the places below a number that pass a test, each as a bit
+unfoldable pub bits_where : (ℕ → Bool) → ℕ → ℕ
+bits_where passes zero = 0
+bits_where passes (suc n) = bit_or (bits_where passes n) (if passes n then 2 ^ n else 0)
 
--- and once a category that had the default has a level
-abbrev pub planes_with : Level → Pair → List ℕ → List ℕ
-planes_with default p planes =
-    let bit = bit_of p.category.0 in
-    let others = bit_and (slice_index_or planes (rank_of default) 0) (bit_not w64 bit) in
-    let left = slice_set planes (rank_of default) others in
-    slice_set left (rank_of p.level) (bit_or (slice_index_or left (rank_of p.level) 0) bit)
+-- the categories of a block that have a level, each as a bit
+abbrev pub plane : ℕ → Level → List Pair → Level → ℕ
+plane block default ps l = bits_where (λ h. rank_of (level_at default ps (64 * block + h)) == rank_of l) 64
 
--- and where the exceptions from a default lie in the block
-abbrev pub having : Level → List Pair → List ℕ
-having default [] = uniform default
-having default (p ∷ ps) = planes_with default p (having default ps)
+-- the planes of a block, a level each, from star on
+abbrev pub planes_in : ℕ → Level → List Pair → Planes
+planes_in block default ps = record {
+  block = block;
+  having = map (plane block default ps) (Star ∷ L0 ∷ L1 ∷ L2 ∷ L3 ∷ []);
+}
 
--- the planes of these exceptions
-abbrev pub planes_of : Level → List Pair → Planes
-planes_of default ps = record { having = having default ps }
+-- the planes of the block that all exceptions lie in
+abbrev pub planes_of : Level → List Pair → Option Planes
+planes_of default ps =
+    if lie_in (first_block ps) ps then Some (planes_in (first_block ps) default ps) else None
 
 -- the plane of a level
 abbrev pub plane_at : Level → Planes → ℕ

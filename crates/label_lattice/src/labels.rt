@@ -20,7 +20,7 @@ ghost use Rattle.std.specs.Int.{bit_at};
 use crate::exceptions::{collect, has_star_in, level_of, place};
 use crate::listing::compare_pairs;
 use crate::pairings::{Pair, Pairs};
-use crate::planes::{Planes, block_of};
+use crate::planes::Planes;
 use crate::raw_labels::RawLabel;
 use crate::walk::{Rule, compare_everywhere, holds_everywhere};
 use crate::ways::{BothWays, compare_levels};
@@ -35,15 +35,14 @@ use std::marker::Model;
 pub struct Label {
     exceptions: Pairs<16>,
     default: Level,
-    // The block that all exceptions lie in, and its planes: what they say of it holds where there is one.
-    block: Option<u64>,
-    planes: Planes,
+    // Of the block that all exceptions lie in, where there is one.
+    planes: Option<Planes>,
 }
 
 impl Model for Label {
     ghost use Rattle.std.specs.Prelude.{◌≡◌};
     ghost use Rattle.label_lattice.specs.Label.{LabelValue, IsStored};
-    ghost use Rattle.label_lattice.specs.Planes.{block_of, planes_of};
+    ghost use Rattle.label_lattice.specs.Planes.{planes_of};
 
     ghost Value = { LabelValue };
 
@@ -51,13 +50,11 @@ impl Model for Label {
 
     ghost invariant = { λ l.
         IsStored (record { default_level = l.default; exceptions = l.exceptions })
-        × (block_of l.exceptions ≡ l.block)
         × (planes_of l.default l.exceptions ≡ l.planes) };
 
     ghost inverse = { λ v. record {
       default = v.default_level;
       exceptions = v.exceptions;
-      block = block_of v.exceptions;
       planes = planes_of v.default_level v.exceptions;
     } };
 }
@@ -99,7 +96,6 @@ impl Label {
         Some(Label {
             exceptions,
             default: raw.default,
-            block: block_of(&exceptions),
             planes: Planes::of(raw.default, &exceptions),
         })
     }
@@ -219,13 +215,13 @@ impl Label {
         Some(Label {
             default: self.default,
             exceptions,
-            block: block_of(&exceptions),
             planes: Planes::of(self.default, &exceptions),
         })
     }
 
     /// How the labels compare, each way, as one sum: the bits forth, and eight times those back. Where
-    /// the exceptions of each lie in one block, planes tell, and else a walk over both lists.
+    /// neither has an exception, the defaults tell; where those of each lie in one block, planes; and
+    /// else a walk over both lists.
     fn held(&self, other: &Label) -> u8
         ensures few { result < 2 ^ 6 }
         ensures bits { (k : ℕ) → IsTrue (bit_at result k == 1) ↔
@@ -233,7 +229,10 @@ impl Label {
             other.now.default_level other.now.exceptions
             other.now.default_level other.now.exceptions }
     {
-        let (Some(block), Some(other_block)) = (self.block, other.block) else {
+        if self.exceptions.len() == 0 && other.exceptions.len() == 0 {
+            return compare_levels(self.default, other.default);
+        }
+        let (Some(planes), Some(other_planes)) = (&self.planes, &other.planes) else {
             return compare_everywhere(
                 self.default,
                 &self.exceptions,
@@ -242,11 +241,10 @@ impl Label {
             );
         };
         let held = compare_levels(self.default, other.default);
-        if block == other_block {
-            return held & self.planes.compare(&other.planes);
+        if planes.block == other_planes.block {
+            return held & planes.compare(other_planes);
         }
-        held & self.planes.compare_to(other.default)
-            & other.planes.compare_level(u64::MAX, self.default)
+        held & planes.compare_to(other.default) & other_planes.compare_level(u64::MAX, self.default)
     }
 
     /// How the labels compare, each way.

@@ -5,8 +5,8 @@ ghost use Rattle.std.specs.Prelude.{◌≡◌, ◌≢◌, ℕ, ◌<◌, ◌==◌
 ghost use Rattle.std.specs.Int.{bit_at};
 ghost use Rattle.std.specs.List.{list_all};
 ghost use Rattle.base.specs.declared.levels.Level.{Level};
-ghost use Rattle.label_lattice.specs.Planes.{bit_of, first_block, block_of};
-ghost use Rattle.label_lattice.specs.Planes.{planes_of, plane_at};
+ghost use Rattle.label_lattice.specs.Levels.{IsRising};
+ghost use Rattle.label_lattice.specs.Planes.{bit_of, first_block, planes_of, plane_at};
 ghost use Rattle.label_lattice.specs.Ways.{both_bits, both_test};
 
 use crate::pairings::Pairs;
@@ -16,6 +16,8 @@ use base::{Category, Level};
 /// For each level the categories of a block that have it, each as a bit.
 #[derive(Clone, Copy)]
 pub struct Planes {
+    /// The 64th part of each of the block's categories.
+    pub block: u64,
     /// By the ranks of levels, from star on.
     having: [u64; 5],
 }
@@ -34,19 +36,6 @@ fn first_block(exceptions: &Pairs<16>) -> u64
     match exceptions.categories().first() {
         Some(category) => category.0 / 64,
         None => 0,
-    }
-}
-
-/// The number of the block that all exceptions lie in, 0 where there are none, and `None` where they
-/// lie in more than one.
-pub fn block_of(exceptions: &Pairs<16>) -> Option<u64>
-    ensures { result ≡ block_of exceptions.now }
-{
-    let block = first_block(exceptions);
-    if lie_in(block, exceptions.categories()) {
-        Some(block)
-    } else {
-        None
     }
 }
 
@@ -72,10 +61,16 @@ fn compare_at(categories: u64, a: Level, b: Level) -> u8
 }
 
 impl Planes {
-    /// The planes of a block that all exceptions lie in.
-    pub fn of(default: Level, exceptions: &Pairs<16>) -> Planes
+    /// The planes of the block that all exceptions lie in, the first block where there are none, and
+    /// `None` where they lie in more than one.
+    pub fn of(default: Level, exceptions: &Pairs<16>) -> Option<Planes>
+        requires { IsRising exceptions.now }
         ensures { result ≡ planes_of default exceptions.now }
     {
+        let block = first_block(exceptions);
+        if !lie_in(block, exceptions.categories()) {
+            return None;
+        }
         let mut having = [0; 5];
         having[usize::from(default.rank())] = u64::MAX;
         let mut place = exceptions.len();
@@ -86,7 +81,7 @@ impl Planes {
             having[usize::from(default.rank())] &= !bit;
             having[usize::from(pair.level.rank())] |= bit;
         }
-        Planes { having }
+        Some(Planes { block, having })
     }
 
     /// How the levels of the block's categories compare with the one that all have in another label, each

@@ -9,7 +9,6 @@ invariant_of-result c = (
   stored_from_collected c.args.raw.now.default c.args.raw.now.pairs c.collect.new.exceptions
       (λ star. c.if-rank-eq0.false (c.rank.ensures ∙ ap rank_of star))
       (c.if-not-collect.ensures.few refl) c.if-not-collect.ensures.value,
-  sym c.block_of.ensures,
   sym c.of.ensures,
 )
 
@@ -25,3 +24,9 @@ returns-clause-levels c = λ k.
     collected_from c.args.raw.now.default c.args.raw.now.pairs c.collect.new.exceptions
     c.if-not-collect.ensures.value in
     rw found.1 (collected-levels c.args.raw.now.default c.args.raw.now.pairs k found.0)
+
+pub of-requires : goal.of-requires
+of-requires c =
+    (stored_from_collected c.args.raw.now.default c.args.raw.now.pairs c.collect.new.exceptions
+    (λ star. c.if-rank-eq0.false (c.rank.ensures ∙ ap rank_of star))
+    (c.if-not-collect.ensures.few refl) c.if-not-collect.ensures.value).rising

@@ -7,6 +7,11 @@ invariant_of-result c = (
   stored_from_placed (record
       { default_level = c.self.inside.default; exceptions = c.self.inside.exceptions })
       c.args.pair _ c.self.invariant.0 c.if-not-place.ensures.placed c.if-not-place.ensures.room,
-  sym c.block_of.ensures,
   sym c.of.ensures,
 )
+
+pub of-requires : goal.of-requires
+of-requires c =
+    (stored_from_placed (record
+    { default_level = c.self.inside.default; exceptions = c.self.inside.exceptions })
+    c.args.pair _ c.self.invariant.0 c.if-not-place.ensures.placed c.if-not-place.ensures.room).rising
