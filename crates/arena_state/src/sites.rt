@@ -2,7 +2,7 @@
 //! label is scanned.
 ghost use Rattle.std.specs.Prelude.{◌≡◌, ◌+◌, true, nat_lt, option_copied};
 ghost use Rattle.kernel_rules.specs.State.{object_at, of_object, kind_of, avoids_at, quota_at, use_of};
-ghost use Rattle.kernel_store.specs.Sights.{site_of, link_site_of};
+ghost use Rattle.kernel_store.specs.Sights.{site_of, link_site_of, sight_of, wide_sight_of};
 ghost use Rattle.arena_state.specs.States.{state_of, Finds};
 
 use crate::records::{Kept, Record};
@@ -10,7 +10,7 @@ use crate::states::ArenaState;
 use crate::uses::pages_of;
 use base::{Kind, Meter, ObjectId};
 use kernel_rules::Entry;
-use kernel_store::{LinkSite, Site};
+use kernel_store::{LinkSite, Sight, Site, WideSight};
 
 impl ArenaState {
     // Whether so many pages more are above the quota of what was looked up.
@@ -103,6 +103,65 @@ impl ArenaState {
         }
     }
 
+    // What a thread sees of a container in which the object of an entry is to be listed too, and of the entry, by what it
+    // sees of the link to come and of the entry.
+    #[inline(always)]
+    fn link_site_seen(
+        &self,
+        thread: ObjectId,
+        own: Option<&Record>,
+        new: &Entry,
+        there: Option<&Record>,
+        around: &WideSight,
+        entry: &Entry,
+        object: Option<&Record>,
+        seen: &Sight,
+    ) -> LinkSite
+        requires link { new.now.object ≡ entry.now.object }
+        requires own { Finds self.now thread (option_copied own) }
+        requires there { Finds self.now new.now.container (option_copied there) }
+        requires around { around.now ≡ wide_sight_of (state_of self.now) thread new.now }
+        requires object { Finds self.now entry.now.object (option_copied object) }
+        requires seen { seen.now ≡ sight_of (state_of self.now) thread entry.now }
+        ensures { result ≡ link_site_of (state_of self.now) thread new.now.container entry.now }
+    {
+        let quota = self.quota_found(entry.object, object);
+        LinkSite {
+            site: Site {
+                runs: around.entry.runs,
+                accessible: around.entry.accessible,
+                container: around.container,
+                avoided: self.is_object_avoided(new.container, there, entry.object, object),
+                full: self.is_full(new.container, there, quota),
+            },
+            entry: *seen,
+            listed: around.entry.listed,
+            cleared: self.is_cleared_found(thread, own, entry.object, object),
+        }
+    }
+
+    // The same, where something that is named may not be there.
+    #[cold]
+    #[inline(never)]
+    fn link_site_any(
+        &self,
+        thread: ObjectId,
+        new: &Entry,
+        entry: &Entry,
+        meter: &mut Meter,
+    ) -> LinkSite
+        requires { new.now.object ≡ entry.now.object }
+        ensures value { result ≡ link_site_of (state_of self.now) thread new.now.container entry.now }
+        ensures scans { meter.new.scans ≡ meter.old.scans }
+    {
+        let own = self.row(thread, meter);
+        let there = self.row(new.container, meter);
+        let object = self.row(entry.object, meter);
+        let around = self.wide_sight(thread, new, meter);
+        let seen = self.sight(thread, entry, meter);
+        self.link_site_seen(thread, own, new, there, &around, entry, object, &seen)
+    }
+
     /// What a thread sees of a container in which the object of an entry is to be listed too, and of the entry, at four
     /// look-ups.
     #[inline(never)]
@@ -120,27 +179,27 @@ impl ArenaState {
             container,
             object: entry.object,
         };
-        let thread_slot = self.slot(thread, meter);
+        let own = self.row(thread, meter);
         let new_slot = self.slot(container, meter);
         let container_slot = self.slot(entry.container, meter);
         let object_slot = self.slot(entry.object, meter);
-        let own = self.record(thread, thread_slot);
+        let lacking = new_slot.is_none() || container_slot.is_none() || object_slot.is_none();
+        if own.is_none() || lacking {
+            return self.link_site_any(thread, &new, entry, meter);
+        }
         let there = self.record(container, new_slot);
         let object = self.record(entry.object, object_slot);
         let around = self.see_found(thread, own, &new, new_slot, object_slot, meter);
         let seen = self.see_found(thread, own, entry, container_slot, object_slot, meter);
-        let quota = self.quota_found(entry.object, object);
-        LinkSite {
-            site: Site {
-                runs: around.entry.runs,
-                accessible: around.entry.accessible,
-                container: around.container,
-                avoided: self.is_object_avoided(container, there, entry.object, object),
-                full: self.is_full(container, there, quota),
-            },
-            entry: seen.entry,
-            listed: around.entry.listed,
-            cleared: self.is_cleared_found(thread, own, entry.object, object),
-        }
+        self.link_site_seen(
+            thread,
+            own,
+            &new,
+            there,
+            &around,
+            entry,
+            object,
+            &seen.entry,
+        )
     }
 }

@@ -115,36 +115,30 @@ impl ArenaState {
         }
     }
 
-    // Where an address of a thread lies by these slots, of which the first has this place, and by
-    // the thread's row.
+    // Where an address of a thread lies by these slots of its address space, and by the thread's row.
     fn place_among(
         &self,
         thread: Located,
         address: u64,
-        first: usize,
         slots: &[Option<Mapping>],
         rows: &Rows,
         meter: &mut Meter,
     ) -> Option<Place>
         requires thread { HasSlot self.now.pieces.places thread.id thread.slot.0 }
         requires rows { AreKept self.now rows.now }
-        requires few { first + length slots.now ≤ 16 }
-        ensures value { result
-            ≡ place_among (state_of self.now) thread.id address first slots.now }
+        requires few { length slots.now ≤ 16 }
+        ensures value { result ≡ place_among (state_of self.now) thread.id address 0 slots.now }
         ensures scans { meter.new.scans ≡ meter.old.scans }
         ensures probes { meter.new.probes ≤ meter.old.probes + find_cost self.now + 1 }
     {
-        match slots {
-            [] => None,
-            [mapping, rest @ ..] => {
-                if covers(mapping, address / 256) {
-                    let shown = rows.shown(thread.slot, first, meter);
-                    self.place_by(address, mapping, shown, meter)
-                } else {
-                    self.place_among(thread, address, first + 1, rest, rows, meter)
-                }
+        for place in 0..slots.len() {
+            let mapping = &slots[place];
+            if covers(mapping, address / 256) {
+                let shown = rows.shown(thread.slot, place, meter);
+                return self.place_by(address, mapping, shown, meter);
             }
         }
+        None
     }
 
     // The slots of the address space of an entry.
@@ -180,7 +174,7 @@ impl ArenaState {
                 let space = self.space_in(thread, self.record(thread, Some(slot)));
                 let slots = self.slots_through(&space, meter);
                 let thread = Located { id: thread, slot };
-                self.place_among(thread, address, 0, slots, rows, meter)
+                self.place_among(thread, address, slots, rows, meter)
             }
             None => None,
         }

@@ -1,5 +1,5 @@
 -- What one turn of the sweep reads.
-use Rattle.std.proofs.Common.{◌≡◌, ◌≢◌, ℕ, ◌+◌, ◌<◌, List, Some, sym, subst, arith}
+use Rattle.std.proofs.Common.{◌≡◌, ◌≢◌, ℕ, ◌+◌, ◌<◌, List, Some, sym, ◌∙◌, subst, arith}
 use Rattle.std.specs.Prelude.{slice_get}
 use Rattle.entry_lists.specs.Lists.{Lists, family_at, cells_at, StandsAt, IsLinked}
 use Rattle.containers.specs.Cells.{Stands, IsLink, IsPaired}
@@ -38,3 +38,21 @@ module _ (size : ℕ) (r : List Lists) (paired : IsPaired size r) where
       let of = paired.object_of object cell (λ (x : object ≡ size). omega arith) held in
       let same : entry ≡ of.0 = is of.0 of.2.place of.2.stands in
       record { holder = lt; object = omega (arith, of.1); held = held; names = subst (λ (i : ℕ). Stands r 1 i cell) (sym same) of.2 }
+
+  -- a cell at a place among the links to an object: it is linked, and by its holder a link
+  pub holder_linked : (o k cell : ℕ) → o < size → StandsAt (cells_at r 1 o) k cell → IsLinked (family_at r 0) cell
+  holder_linked o k cell lt at =
+      linked_zero o cell (λ (e : o ≡ size). omega (arith, lt)) (record { place = k; stands = at })
+
+  pub link_at : (d o k cell head : ℕ) → d < size → o < size → StandsAt (cells_at r 1 o) k cell
+      → ((h p : ℕ) → StandsAt (cells_at r 0 h) p cell → head ≡ h) → head ≡ d → IsLink size r d o cell
+  link_at d o k cell head d_within o_within at is same =
+      let names : Stands r 1 o cell = record { place = k; stands = at } in
+      let of = paired.holder_of o cell (λ (e : o ≡ size). omega (arith, o_within)) names in
+      let found : head ≡ of.0 = is of.0 of.3.place of.3.stands in
+      record {
+        holder = d_within;
+        object = o_within;
+        held = subst (λ (i : ℕ). Stands r 0 i cell) (sym found ∙ same) of.3;
+        names = names;
+      }

@@ -135,9 +135,24 @@ fn sweep<V: Visitor>(
     }
 }
 
-/// The cell by which a container lists an object, if it does. It goes through the links to the object,
-/// which are few where the container's entries may be many.
-pub fn find_link(
+// The cell of the first link to an object, where that is this container's. It counts nothing.
+#[inline(always)]
+fn first_link(rings: &Rings<2>, size: usize, container: usize, object: usize) -> Option<usize>
+    requires paired { IsPaired size rings.now }
+    requires container { container < size }
+    requires object { object < size }
+    ensures { IfSome result (λ c. IsLink size rings.now container object c) }
+{
+    match rings.peek_first(1, object) {
+        Some(cell) if rings.peek_head_of(0, cell) == container => Some(cell),
+        _ => None,
+    }
+}
+
+// The cell by which a container lists an object, if it does, by a walk over the links to the object, which are few where
+// the container's entries may be many.
+#[inline(never)]
+fn walked_link(
     rings: &Rings<2>,
     size: usize,
     container: usize,
@@ -169,6 +184,30 @@ pub fn find_link(
     // The first link, and two reads for each that was passed.
     meter.probe_many((len as u64).saturating_mul(2).saturating_add(1));
     None
+}
+
+/// The cell by which a container lists an object, if it does. Most objects have one link, so the first is looked at
+/// before the walk over all.
+pub fn find_link(
+    rings: &Rings<2>,
+    size: usize,
+    container: usize,
+    object: usize,
+    meter: &mut Meter,
+) -> Option<usize>
+    requires paired { IsPaired size rings.now }
+    requires container { container < size }
+    requires object { object < size }
+    ensures found { IfSome result (λ c. IsLink size rings.now container object c) }
+    ensures absent { IfNone result (Lists' size rings.now container object → ⊥) }
+    ensures scans { meter.new.scans ≡ meter.old.scans }
+{
+    // The first link and its holder.
+    meter.probe_many(2);
+    if let Some(cell) = first_link(rings, size, container, object) {
+        return Some(cell);
+    }
+    walked_link(rings, size, container, object, meter)
 }
 
 /// Makes a spare cell a link, the last of the container's entries.

@@ -31,3 +31,8 @@ pub then_next : {A E : Type 0} (r : Result A E) (new s : State) (t : ℕ) (c : C
 then_next (Ok x) new s t c h sound is =
     is ∙ settled_next s t c h (subst (λ (n : State). is_well_formed n ≡ true) is sound)
 then_next (Err x) new s t c h sound is = is
+
+-- what holds, holds where there is an answer
+pub then_done : {A E X : Type 0} (r : Result A E) (a b : X) → a ≡ b → OnOk r (a ≡ b)
+then_done (Ok x) a b e = e
+then_done (Err x) a b e = tt

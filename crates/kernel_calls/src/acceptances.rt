@@ -10,6 +10,7 @@ ghost use Rattle.kernel_calls.specs.Said.{IsSaid, first_said, stored_said};
 ghost use Rattle.kernel_calls.specs.Settled.{settled};
 ghost use Rattle.kernel_store.specs.Storing.{storing};
 
+use crate::frequent::{step_link, step_segment_write, step_unref};
 use crate::refusals::refused;
 use crate::saying::{first_in, said_of, says_more, second_in, third_in};
 use base::{Category, Meter, ObjectId};
@@ -220,6 +221,33 @@ fn step_saying<S: Store>(
     step_said(state, thread, call, &said, reply, meter)
 }
 
+// One call of those that are made less often.
+fn step_other<S: Store>(
+    state: &mut S,
+    thread: ObjectId,
+    call: &Call,
+    reply: &mut Reply,
+    meter: &mut Meter,
+) -> Result<(), S::Want>
+    requires { reply.old ≡ told.Done }
+    ensures reply { OnOk result (reply.new ≡ answer (S.state state.old) thread call.now) }
+    ensures ok { OnOk result (S.state state.new ≡ next (S.state state.old) thread call.now) }
+    ensures err { OnErr result (S.state state.new ≡ S.state state.old) }
+    ensures meter { is_quiet call.now ≡ true → S.kept meter.new ≡ S.kept meter.old }
+    ensures scans { S.kept meter.new
+        ≤ S.kept meter.old + most_scans (stores call.now) (S.stored state.old) }
+{
+    if let Some(raw) = first_in(call) {
+        return step_saying(state, thread, call, raw, reply, meter);
+    }
+    let said = Said {
+        first: None,
+        second: None,
+        third: None,
+    };
+    step_said(state, thread, call, &said, reply, meter)
+}
+
 /// One call, as `step` says, with its reply put where `Done` stands: a reply is large, and is so made
 /// where it is wanted.
 pub(crate) fn step_into<S: Store>(
@@ -237,18 +265,17 @@ pub(crate) fn step_into<S: Store>(
     ensures scans { S.kept meter.new
         ≤ S.kept meter.old + most_scans (stores call.now) (S.stored state.old) }
 {
-    if let Call::Store { address, data } = call {
-        return Ok(store(state, thread, *address, data, reply, meter));
+    match call {
+        Call::Store { address, data } => Ok(store(state, thread, *address, data, reply, meter)),
+        Call::SegmentWrite {
+            entry,
+            offset,
+            data,
+        } => Ok(step_segment_write(state, thread, entry, *offset, data, reply, meter)),
+        Call::Link { target, entry } => step_link(state, thread, *target, entry, reply, meter),
+        Call::Unref { entry } => step_unref(state, thread, entry, reply, meter),
+        _ => step_other(state, thread, call, reply, meter),
     }
-    if let Some(raw) = first_in(call) {
-        return step_saying(state, thread, call, raw, reply, meter);
-    }
-    let said = Said {
-        first: None,
-        second: None,
-        third: None,
-    };
-    step_said(state, thread, call, &said, reply, meter)
 }
 
 /// One call: its refusal, or what it changes and answers where nothing refuses it. Without memory,

@@ -6,6 +6,7 @@
 #![tactic(auto)]
 
 mod acceptances;
+mod frequent;
 mod queries;
 mod refusals;
 mod saying;

@@ -123,6 +123,22 @@ impl<T: Drop> Arena<T> {
         hinted(&self.hints, id)
     }
 
+    // The slot of an id, none where no object has it, looked for by halves. (Hints tell most slots, so it is kept out of
+    // those who find one.)
+    #[cold]
+    #[inline(never)]
+    fn searched(&self, id: ObjectId, meter: &mut Meter) -> Option<Slot>
+        ensures found { IfSome result (λ slot. (place : ℕ) × IsEntry self.now place id slot.0) }
+        ensures there { IfSome result (λ slot. IsSome (object_at self.now slot.0)) }
+        ensures absent { IfNone result (IsAbsent self.now id) }
+        ensures cost { ProbesAtMost (binary_digits
+            (length self.now.ids) + 1) meter.old meter.new }
+    {
+        let place = place_of(&self.ids, id.number(), meter)?;
+        meter.probe();
+        Some(Slot(self.slots[place]))
+    }
+
     /// The slot of an id, none where no object has it. Adds at most as many probes as the number of slots has binary
     /// digits, plus one.
     pub fn find(&self, id: ObjectId, meter: &mut Meter) -> Option<Slot>
@@ -135,13 +151,7 @@ impl<T: Drop> Arena<T> {
         if let Some(slot) = self.hint_of(id.number(), meter) {
             return Some(Slot(slot));
         }
-        match place_of(&self.ids, id.number(), meter) {
-            Some(place) => {
-                meter.probe();
-                Some(Slot(self.slots[place]))
-            }
-            None => None,
-        }
+        self.searched(id, meter)
     }
 
     /// The object in a slot that has one.

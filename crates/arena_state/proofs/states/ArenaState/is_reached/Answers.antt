@@ -1,5 +1,4 @@
-use Rattle.std.proofs.Common.{◌≡◌, ◌∙◌, Bool, ◌&&◌, sym, ap}
-use Rattle.base.specs.declared.kinds.Kind.TheVariants as kinds
+use Rattle.std.proofs.Common.{◌∙◌, Bool, ◌&&◌, sym, ap}
 use Rattle.kernel_rules.specs.State.{observes}
 use Rattle.kernel_store.specs.declared.sights.Seen.{Seen}
 use Rattle.arena_state.specs.States.{state_of}

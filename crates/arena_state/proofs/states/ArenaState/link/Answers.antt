@@ -8,7 +8,7 @@ use Rattle.containers.proofs.Lists.{ids_added}
 use Rattle.kernel_rules.specs.Changes.{listing}
 use Rattle.std.specs.Vec.{with_item}
 use Rattle.arena_state.specs.declared.pieces.Pieces.{Pieces}
-use Rattle.arena_state.proofs.LinkedLaws.{not_linked, not_root, link_left, no_object, no_container, container_listed, object_listed, enough, sound_then, state_then}
+use Rattle.arena_state.proofs.LinkedLaws.{not_linked, not_root, link_left, no_object, no_container, enough, sound_then, state_then}
 use Rattle.arena_state.specs.declared.records.Record.{Record}
 use Rattle.arena_state.specs.Rows.{rows_of, row_slot}
 use Rattle.arena_state.specs.Assembled.{body_use}

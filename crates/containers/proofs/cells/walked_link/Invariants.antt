@@ -2,7 +2,7 @@ use Rattle.std.proofs.Common.{◌≡◌, ◌<◌, ℕ}
 use Rattle.std.specs.Prelude.{slice_get}
 use Rattle.entry_lists.specs.Lists.{cells_at, StandsAt}
 use Rattle.containers.specs.Cells.{Stands}
-use Rattle.containers.proofs.cells.find_link.Given as goal
+use Rattle.containers.proofs.cells.walked_link.Given as goal
 
 abbrev pub invariant-loop-place : goal.invariant-loop-place
 invariant-loop-place l = record {

@@ -4,24 +4,21 @@ use Rattle.containers.specs.Cells.{Stands}
 use Rattle.std.proofs.lemmas.Bool.{cases_lt}
 use Rattle.base.specs.Counts.{Counts}
 use Rattle.containers.proofs.Handed.{read_scans}
-use Rattle.containers.proofs.Turns.{linked_zero}
+use Rattle.containers.proofs.Turns.{holder_linked, link_at}
 use Rattle.containers.proofs.Cuts.{some_at, none_at}
-use Rattle.containers.proofs.cells.find_link.Goals as goal
+use Rattle.containers.proofs.cells.walked_link.Goals as goal
 
 pub peek_head_of-requires : goal.peek_head_of-requires
 peek_head_of-requires c =
     let at = some_at _ c.loop-place.place c.in-Some.cell (sym c.in-Some.is ∙ c.loop-place.invariant.next) in
-    let s : Stands c.args.rings.now 1 c.args.object c.in-Some.cell = record { place = c.loop-place.place; stands = at } in
-    (lit< tt, (lit< tt, linked_zero c.args.size c.args.rings.now c.requires.paired c.args.object c.in-Some.cell (λ (e : c.args.object ≡ c.args.size). omega (arith, c.requires.object)) s))
+    (lit< tt, (lit< tt, holder_linked c.args.size c.args.rings.now c.requires.paired c.args.object c.loop-place.place c.in-Some.cell c.requires.object at))
 
 pub returns-then-peek_head_of-container-clause-found : goal.returns-then-peek_head_of-container-clause-found
 returns-then-peek_head_of-container-clause-found c =
-    let at = some_at _ c.loop-place.place c.in-Some.cell (sym c.in-Some.is ∙ c.loop-place.invariant.next) in
-    let s : Stands c.args.rings.now 1 c.args.object c.in-Some.cell = record { place = c.loop-place.place; stands = at } in
-    let of = c.requires.paired.holder_of c.args.object c.in-Some.cell (λ (e : c.args.object ≡ c.args.size). omega (arith, c.requires.object)) s in
-    let is : c.peek_head_of.result ≡ of.0 = c.peek_head_of.ensures.value of.0 of.3.place of.3.stands in
-    let same : c.peek_head_of.result ≡ c.args.container = c.if-peek_head_of-container.true in
-    record { holder = c.requires.container; object = c.requires.object; held = subst (λ (i : ℕ). Stands c.args.rings.now 0 i c.in-Some.cell) (sym is ∙ same) of.3; names = s }
+    link_at c.args.size c.args.rings.now c.requires.paired c.args.container c.args.object c.loop-place.place c.in-Some.cell
+    c.peek_head_of.result c.requires.container c.requires.object
+    (some_at _ c.loop-place.place c.in-Some.cell (sym c.in-Some.is ∙ c.loop-place.invariant.next))
+    c.peek_head_of.ensures.value c.if-peek_head_of-container.true
 
 pub peek_next-next-requires : goal.peek_next-next-requires
 peek_next-next-requires c =

@@ -1,0 +1,84 @@
+//! The calls that are made most often, each by its own row and change: what all calls share is left out of their way.
+ghost use Rattle.std.specs.Prelude.{◌≡◌, OnOk, OnErr};
+ghost use Rattle.kernel_rules.specs.Step.{answer, next};
+ghost use Rattle.kernel_rules.specs.declared.calls.Call.TheVariants as call;
+ghost use Rattle.kernel_rules.specs.declared.replies.Reply.TheVariants as told;
+
+use base::{Data, Meter, ObjectId};
+use kernel_rules::{Entry, Reply};
+use kernel_store::{Store, refuse};
+use link_calls::{link, refused_link, refused_unref, unref};
+use memory_calls::{refused_segment_write, segment_write};
+
+/// Writes over bytes of a segment, or has the reply tell what refuses to.
+pub fn step_segment_write<S: Store>(
+    state: &mut S,
+    thread: ObjectId,
+    entry: &Entry,
+    offset: u32,
+    given: &Data,
+    reply: &mut Reply,
+    meter: &mut Meter,
+)
+    requires { reply.old ≡ told.Done }
+    ensures reply { reply.new ≡ answer (S.state state.old) thread
+        (call.SegmentWrite entry.now offset given.now) }
+    ensures state { S.state state.new ≡ next (S.state state.old) thread
+        (call.SegmentWrite entry.now offset given.now) }
+    ensures meter { S.kept meter.new ≡ S.kept meter.old }
+{
+    if let Some(refusal) = refused_segment_write(state, thread, entry, offset, given, meter) {
+        refuse(reply, refusal);
+        return;
+    }
+    segment_write(state, thread, entry, offset, given, meter);
+}
+
+/// Links an object a second time, or has the reply tell what refuses to. The error is want of memory, and nothing is
+/// changed then.
+pub fn step_link<S: Store>(
+    state: &mut S,
+    thread: ObjectId,
+    target: ObjectId,
+    entry: &Entry,
+    reply: &mut Reply,
+    meter: &mut Meter,
+) -> Result<(), S::Want>
+    requires { reply.old ≡ told.Done }
+    ensures reply { OnOk result (reply.new
+        ≡ answer (S.state state.old) thread (call.Link target entry.now)) }
+    ensures ok { OnOk result (S.state state.new
+        ≡ next (S.state state.old) thread (call.Link target entry.now)) }
+    ensures err { OnErr result (S.state state.new ≡ S.state state.old) }
+    ensures meter { S.kept meter.new ≡ S.kept meter.old }
+{
+    if let Some(refusal) = refused_link(state, thread, target, entry, meter) {
+        refuse(reply, refusal);
+        return Ok(());
+    }
+    link(state, thread, target, entry, meter)
+}
+
+/// Takes an object out of a container's list, or has the reply tell what refuses to. The error is want of memory, and
+/// nothing is changed then.
+pub fn step_unref<S: Store>(
+    state: &mut S,
+    thread: ObjectId,
+    entry: &Entry,
+    reply: &mut Reply,
+    meter: &mut Meter,
+) -> Result<(), S::Want>
+    requires { reply.old ≡ told.Done }
+    ensures reply { OnOk result (reply.new
+        ≡ answer (S.state state.old) thread (call.Unref entry.now)) }
+    ensures ok { OnOk result (S.state state.new
+        ≡ next (S.state state.old) thread (call.Unref entry.now)) }
+    ensures err { OnErr result (S.state state.new ≡ S.state state.old) }
+    ensures meter { S.kept meter.new ≡ S.kept meter.old }
+{
+    if let Some(refusal) = refused_unref(state, thread, entry, meter) {
+        refuse(reply, refusal);
+        return Ok(());
+    }
+    unref(state, thread, entry, meter)
+}
