@@ -119,8 +119,9 @@ impl<T: Drop> Arena<T> {
         if self.ids.len() >= self.hints.len() / 4 {
             return None;
         }
+        let found = hinted(&self.hints, id);
         meter.probe();
-        hinted(&self.hints, id)
+        found
     }
 
     // The slot of an id, none where no object has it, looked for by halves. (Hints tell most slots, so it is kept out of

@@ -46,9 +46,14 @@ pub fn hinted(hints: &[Hint], id: u64) -> Option<usize>
     ensures hint { IfSome result (λ slot. hint_at hints.now (hint_place id (length hints.now))
         ≡ record { id = id; slot = slot }) }
 {
-    match hints.get(hint_place(id, hints.len())) {
-        Some(hint) if hint.id == id && id > 0 => Some(hint.slot),
-        _ => None,
+    if hints.is_empty() {
+        return None;
+    }
+    let hint = &hints[hint_place(id, hints.len())];
+    if hint.id == id && id > 0 {
+        Some(hint.slot)
+    } else {
+        None
     }
 }
 

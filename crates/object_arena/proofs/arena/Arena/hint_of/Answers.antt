@@ -16,7 +16,7 @@ returns-then-len-clause-fewer g c =
     (digits_fewer (length c.self.inside.ids.items) (length c.self.inside.cells.items) fewer)
 
 -- a probe is left
-less : (g : given.Over) (c : goal.After-hinted g) → binary_digits (length c.args.self.now.ids) + 1 ≤ binary_digits (length c.args.self.now.cells)
+less : (g : given.Over) (c : goal.After-probe g) → binary_digits (length c.args.self.now.ids) + 1 ≤ binary_digits (length c.args.self.now.cells)
 less g c =
     let ids = c.self.inside.ids.items in
     let hints = c.self.inside.hints.items in
@@ -30,11 +30,11 @@ returns-clause-cost g c = probes_few c.args.meter.now c.probe.new.self 1 _ c.pro
 pub returns-clause-fewer : goal.returns-clause-fewer
 returns-clause-fewer g c = omega (arith, less g c)
 
-found : (g : given.Over) (c : goal.After-hinted g) → IfSome c.hinted.result (λ slot. (place : ℕ) × IsEntry c.args.self.now place c.args.id slot)
+found : (g : given.Over) (c : goal.After-probe g) → IfSome c.hinted-found.result (λ slot. (place : ℕ) × IsEntry c.args.self.now place c.args.id slot)
 found g c =
     let are = subst (λ (a : Objects g.row.T.Denot). AreHints a.ids a.slots c.self.inside.hints.items) c.self.view_is c.self.invariant.4 in
-    hinted_is c.args.self.now c.self.inside.hints.items c.deref.result.now c.args.id c.hinted.result c.deref.ensures.value are
-    c.hinted.ensures.some c.hinted.ensures.hint
+    hinted_is c.args.self.now c.self.inside.hints.items c.deref.result.now c.args.id c.hinted-found.result c.deref.ensures.value are
+    c.hinted-found.ensures.some c.hinted-found.ensures.hint
 
 pub returns-clause-found : goal.returns-clause-found
 returns-clause-found g c = found g c
@@ -42,4 +42,4 @@ returns-clause-found g c = found g c
 pub returns-clause-there : goal.returns-clause-there
 returns-clause-there g c =
     let kept = subst (λ (a : Objects g.row.T.Denot). IsKept a.ids a.slots c.self.inside.spare.items a.cells) c.self.view_is c.self.invariant.0 in
-    entry_there c.args.self.now c.self.inside.spare.items c.args.id c.hinted.result kept (found g c)
+    entry_there c.args.self.now c.self.inside.spare.items c.args.id c.hinted-found.result kept (found g c)
