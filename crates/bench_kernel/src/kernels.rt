@@ -13,12 +13,13 @@ use std::rt::Clock;
 use std::time::Instant;
 use syscall_core::Kernel;
 
-/// A kernel, and the label of what is made in it.
+/// A kernel, the label of what is made in it, and the reply that each call and query puts where the one before it stood.
 #[derive(Drop)]
 pub struct Bench {
     kernel: Kernel,
     meter: Meter,
     label: RawLabel,
+    reply: Reply,
 }
 
 /// A time, and how many of the calls that it took were done.
@@ -49,6 +50,7 @@ impl Bench {
             kernel,
             meter,
             label: RawLabel::new(Level::L1, &[]),
+            reply: Reply::Done,
         })
     }
 
@@ -57,10 +59,9 @@ impl Bench {
 
     /// Whether a call was done. Its reply is put where it is looked at: one that is returned is moved.
     fn ask(&mut self, call: &Call) -> bool {
-        let mut reply = Reply::Done;
         self.kernel
-            .step_into(asker(), call, &mut reply, &mut self.meter);
-        is_done(&reply)
+            .step_into(asker(), call, &mut self.reply, &mut self.meter);
+        is_done(&self.reply)
     }
 
     /// A new category of the asker's.
@@ -162,10 +163,9 @@ impl Bench {
         let mut done = 0u64;
         let start = Instant::now(rt)?;
         for _ in 0..rounds {
-            let mut reply = Reply::Done;
             self.kernel
-                .ask_into(asker(), query, &mut reply, &mut self.meter);
-            if is_done(&reply) {
+                .ask_into(asker(), query, &mut self.reply, &mut self.meter);
+            if is_done(&self.reply) {
                 done = done.wrapping_add(1);
             }
         }
@@ -176,10 +176,9 @@ impl Bench {
     /// Makes an object in the root container, and takes it out again by a call that is told its id: whether both were
     /// done.
     fn make_and_unref(&mut self, making: &Call, unlinking: &mut Call) -> bool {
-        let mut reply = Reply::Done;
         self.kernel
-            .step_into(asker(), making, &mut reply, &mut self.meter);
-        match object_in(&reply) {
+            .step_into(asker(), making, &mut self.reply, &mut self.meter);
+        match object_in(&self.reply) {
             Some(id) => {
                 name_object(unlinking, id);
                 self.ask(unlinking)

@@ -32,8 +32,8 @@ fn read_all<R: Wait>(
     let query = read();
     let mut meter = meter.value.lock(rt);
     let mut found = 0u64;
+    let mut reply = Reply::Done;
     for _ in 0..rounds {
-        let mut reply = Reply::Done;
         kernel
             .read(rt)
             .ask_into(boot_thread(), &query, &mut reply, &mut meter);

@@ -25,23 +25,27 @@ fn object_in(reply: Reply) -> Option<ObjectId> {
 }
 
 // Whether a write was done.
-fn is_written<B: Naming, R: Wait>(rt: &R, seat: &mut Seat<'_, B>, call: &Call) -> bool {
-    let mut reply = Reply::Done;
-    seat.submit_into(rt, call, &mut reply).is_ok() && matches!(reply, Reply::Done)
+fn is_written<B: Naming, R: Wait>(
+    rt: &R,
+    seat: &mut Seat<'_, B>,
+    call: &Call,
+    reply: &mut Reply,
+) -> bool {
+    seat.submit_into(rt, call, reply).is_ok() && matches!(reply, Reply::Done)
 }
 
 // Whether the bytes that were written were read.
-fn is_read<B: Naming>(seat: &mut Seat<'_, B>, query: &Query) -> bool {
-    let mut reply = Reply::Done;
-    seat.read_into(query, &mut reply).is_ok() && shows_bytes(&reply)
+fn is_read<B: Naming>(seat: &mut Seat<'_, B>, query: &Query, reply: &mut Reply) -> bool {
+    seat.read_into(query, reply).is_ok() && shows_bytes(reply)
 }
 
 fn submit_all<B: Naming, R: Wait>(rt: &R, worker: &Desk<'_, B>, rounds: u64, done: &AtomicU64) {
     let call = write();
     let mut seat = worker.value.lock(rt);
     let mut written = 0u64;
+    let mut reply = Reply::Done;
     for _ in 0..rounds {
-        if is_written(rt, &mut seat, &call) {
+        if is_written(rt, &mut seat, &call, &mut reply) {
             written = written.wrapping_add(1);
         }
     }
@@ -52,8 +56,9 @@ fn read_all<B: Naming, R: Wait>(rt: &R, worker: &Desk<'_, B>, rounds: u64, done:
     let query = read();
     let mut seat = worker.value.lock(rt);
     let mut found = 0u64;
+    let mut reply = Reply::Done;
     for _ in 0..rounds {
-        if is_read(&mut seat, &query) {
+        if is_read(&mut seat, &query, &mut reply) {
             found = found.wrapping_add(1);
         }
     }

@@ -10,7 +10,7 @@ ghost use Rattle.kernel_calls.specs.Said.{IsSaid, first_said, stored_said};
 ghost use Rattle.kernel_calls.specs.Settled.{settled};
 ghost use Rattle.kernel_store.specs.Storing.{storing};
 
-use crate::frequent::{step_link, step_segment_write, step_unref};
+use crate::frequent::{clear, step_link, step_segment_write, step_unref};
 use crate::refusals::refused;
 use crate::saying::{first_in, said_of, says_more, second_in, third_in};
 use base::{Category, Meter, ObjectId};
@@ -248,8 +248,8 @@ fn step_other<S: Store>(
     step_said(state, thread, call, &said, reply, meter)
 }
 
-/// One call, as `step` says, with its reply put where `Done` stands: a reply is large, and is so made
-/// where it is wanted.
+/// One call, as `step` says, with its reply put where another stands, whatever that is: a reply is large,
+/// and is so made where it is wanted.
 pub(crate) fn step_into<S: Store>(
     state: &mut S,
     thread: ObjectId,
@@ -257,7 +257,6 @@ pub(crate) fn step_into<S: Store>(
     reply: &mut Reply,
     meter: &mut Meter,
 ) -> Result<(), S::Want>
-    requires { reply.old ≡ told.Done }
     ensures reply { OnOk result (reply.new ≡ answer (S.state state.old) thread call.now) }
     ensures ok { OnOk result (S.state state.new ≡ next (S.state state.old) thread call.now) }
     ensures err { OnErr result (S.state state.new ≡ S.state state.old) }
@@ -265,6 +264,7 @@ pub(crate) fn step_into<S: Store>(
     ensures scans { S.kept meter.new
         ≤ S.kept meter.old + most_scans (stores call.now) (S.stored state.old) }
 {
+    clear(reply);
     match call {
         Call::Store { address, data } => Ok(store(state, thread, *address, data, reply, meter)),
         Call::SegmentWrite {

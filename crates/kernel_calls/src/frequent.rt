@@ -1,14 +1,46 @@
-//! The calls that are made most often, each by its own row and change: what all calls share is left out of their way.
+//! The calls and the query that are made most often, each by its own row and change: what all calls share is left out of their way.
 ghost use Rattle.std.specs.Prelude.{◌≡◌, OnOk, OnErr};
-ghost use Rattle.kernel_rules.specs.Step.{answer, next};
+ghost use Rattle.kernel_rules.specs.Step.{answer, next, query_answer};
 ghost use Rattle.kernel_rules.specs.declared.calls.Call.TheVariants as call;
+ghost use Rattle.kernel_rules.specs.declared.calls.Query.TheVariants as query;
 ghost use Rattle.kernel_rules.specs.declared.replies.Reply.TheVariants as told;
 
 use base::{Data, Meter, ObjectId};
 use kernel_rules::{Entry, Reply};
 use kernel_store::{Store, refuse};
 use link_calls::{link, refused_link, refused_unref, unref};
-use memory_calls::{refused_segment_write, segment_write};
+use memory_calls::{refused_segment_read, refused_segment_write, segment_read, segment_write};
+
+/// The reply becomes `Done`. A reply is large, so it is written where it is another alone.
+pub fn clear(reply: &mut Reply)
+    ensures { reply.new ≡ told.Done }
+{
+    match reply {
+        Reply::Done => {}
+        _ => *reply = Reply::Done,
+    }
+}
+
+/// The reply has bytes of a segment, or what refuses to read them.
+pub fn ask_segment_read<S: Store>(
+    state: &S,
+    thread: ObjectId,
+    entry: &Entry,
+    offset: u32,
+    count: u32,
+    reply: &mut Reply,
+    meter: &mut Meter,
+)
+    ensures value { reply.new ≡ query_answer (S.state state.now) thread
+        (query.SegmentRead entry.now offset count) }
+    ensures meter { S.kept meter.new ≡ S.kept meter.old }
+{
+    if let Some(refusal) = refused_segment_read(state, thread, entry, offset, count, meter) {
+        refuse(reply, refusal);
+        return;
+    }
+    segment_read(state, thread, entry, offset, count, reply, meter);
+}
 
 /// Writes over bytes of a segment, or has the reply tell what refuses to.
 pub fn step_segment_write<S: Store>(

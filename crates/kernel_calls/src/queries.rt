@@ -1,10 +1,11 @@
 //! What a query is answered.
-ghost use Rattle.std.specs.Prelude.{◌≡◌, true, None};
+ghost use Rattle.std.specs.Prelude.{◌≡◌, true, false, None};
 ghost use Rattle.kernel_rules.specs.Step.{found, query_answer};
 ghost use Rattle.kernel_rules.specs.Table.{query_refused};
 ghost use Rattle.kernel_rules.specs.declared.replies.Reply.TheVariants as told;
 ghost use Rattle.kernel_calls.specs.Scans.{is_load};
 
+use crate::frequent::{ask_segment_read, clear};
 use base::{Meter, ObjectId, Refusal};
 use kernel_rules::{Query, Reply};
 use kernel_store::{Store, refuse};
@@ -78,7 +79,26 @@ fn found<S: Store>(state: &S, thread: ObjectId, query: &Query, reply: &mut Reply
     }
 }
 
-/// One query, as `ask` says, with its reply put where `Done` stands: a reply is large, and is so made
+// One query of those that are made less often.
+fn ask_other<S: Store>(
+    state: &S,
+    thread: ObjectId,
+    query: &Query,
+    reply: &mut Reply,
+    meter: &mut Meter,
+)
+    ensures value { reply.new ≡ query_answer (S.state state.now) thread query.now }
+    ensures meter { S.kept meter.new ≡ S.kept meter.old }
+{
+    if let Some(refusal) = refused(state, thread, query, meter) {
+        refuse(reply, refusal);
+        return;
+    }
+    clear(reply);
+    found(state, thread, query, reply, meter)
+}
+
+/// One query, as `ask` says, with its reply put where another stands, whatever that is: a reply is large, and is so made
 /// where it is wanted.
 pub fn ask_into<S: Store>(
     state: &S,
@@ -87,20 +107,19 @@ pub fn ask_into<S: Store>(
     reply: &mut Reply,
     meter: &mut Meter,
 )
-    requires { reply.old ≡ told.Done }
     ensures value { reply.new ≡ query_answer (S.state state.now) thread query.now }
     ensures meter { S.kept meter.new ≡ S.kept meter.old }
     ensures looks { is_load query.now ≡ true → S.spends 9 meter.old meter.new }
 {
-    if let Query::Load { address, count } = query {
-        load(state, thread, *address, *count, reply, meter);
-        return;
+    match query {
+        Query::Load { address, count } => load(state, thread, *address, *count, reply, meter),
+        Query::SegmentRead {
+            entry,
+            offset,
+            count,
+        } => ask_segment_read(state, thread, entry, *offset, *count, reply, meter),
+        _ => ask_other(state, thread, query, reply, meter),
     }
-    if let Some(refusal) = refused(state, thread, query, meter) {
-        refuse(reply, refusal);
-        return;
-    }
-    found(state, thread, query, reply, meter)
 }
 
 /// One query: its refusal, or what it finds where nothing refuses it. It compares no label anew, and

@@ -1,7 +1,6 @@
 //! Calls over a store that never wants memory.
 ghost use Rattle.std.specs.Prelude.{◌≡◌, ◌≤◌, ◌+◌, true};
 ghost use Rattle.kernel_rules.specs.Step.{answer, next};
-ghost use Rattle.kernel_rules.specs.declared.replies.Reply.TheVariants as told;
 ghost use Rattle.kernel_calls.specs.Scans.{is_quiet, most_scans, stores};
 
 use crate::acceptances::step_into;
@@ -10,7 +9,7 @@ use kernel_rules::{Call, Reply};
 use kernel_store::Store;
 use std::convert::Infallible;
 
-/// One call, as `step_surely` says, with its reply put where `Done` stands.
+/// One call, as `step_surely` says, with its reply put where another stands, whatever that is.
 pub fn step_surely_into<S: Store<Want = Infallible>>(
     state: &mut S,
     thread: ObjectId,
@@ -18,7 +17,6 @@ pub fn step_surely_into<S: Store<Want = Infallible>>(
     reply: &mut Reply,
     meter: &mut Meter,
 )
-    requires { reply.old ≡ told.Done }
     ensures reply { reply.new ≡ answer (S.state state.old) thread call.now }
     ensures state { S.state state.new ≡ next (S.state state.old) thread call.now }
     ensures meter { is_quiet call.now ≡ true → S.kept meter.new ≡ S.kept meter.old }

@@ -60,16 +60,6 @@ pub(crate) struct Shown {
     pub(crate) reply: Reply,
 }
 
-/// The reply becomes `Done`. A reply is large, so it is written where it is another alone.
-pub(crate) fn clear(reply: &mut Reply)
-    ensures { reply.new ≡ told.Done }
-{
-    match reply {
-        Reply::Done => {}
-        _ => *reply = Reply::Done,
-    }
-}
-
 /// The reply becomes this one. Most are `Done`, and then nothing is written where it is `Done` already.
 pub(crate) fn copy_reply(reply: &mut Reply, given: &Reply)
     ensures { reply.new ≡ given.now }
@@ -87,7 +77,6 @@ fn make(kernel: &mut Kernel, meter: &mut Meter, operation: &Op, reply: &mut Repl
     ensures state { kernel_state kernel.new
         ≡ next (kernel_state kernel.old) operation.now.thread operation.now.call.value }
 {
-    clear(reply);
     kernel.step_into(operation.thread, &operation.call, reply, meter);
 }
 

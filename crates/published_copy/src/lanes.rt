@@ -5,7 +5,7 @@ ghost use Rattle.kernel_rules.specs.History.{state_of};
 ghost use Rattle.kernel_rules.specs.Step.{query_answer};
 ghost use Rattle.published_copy.specs.Shares.{Names};
 
-use crate::copies::{Copied, clear};
+use crate::copies::Copied;
 use crate::fronts::Front;
 use crate::naming::Naming;
 use crate::rules::{Published, See, Tag};
@@ -54,7 +54,6 @@ impl<B: Naming> Lane<B> {
                     let reader = reading.leave();
                     return (Lane { reader, of }, None);
                 }
-                clear(reply);
                 copy.kernel.ask_into(thread, query, reply, meter);
                 let front = Front::of(copy.length, copy.seen.again());
                 let reader = reading.leave();

@@ -10,7 +10,6 @@ ghost use Rattle.published_copy.specs.Tallies.{IsTallied};
 ghost use Rattle.published_copy.specs.Turns.{next_turn, receipt_of, receipt_with, with_event};
 
 use crate::books::make_room;
-use crate::copies::clear;
 use crate::naming::Naming;
 use crate::passes::event_of;
 use crate::places::Places;
@@ -154,7 +153,6 @@ impl<B: Naming> SoleBook<B> {
         let number = next_number(&self.journal, &self.tallies, thread);
         make_room(&mut self.journal, &mut self.tallies)?;
         let kept = KeptCall::new(self.alloc, call)?;
-        clear(reply);
         self.kernel.step_into(thread, call, reply, &mut self.meter);
         call_answers();
         let event = event_of(thread, number, kept, reply);
@@ -172,7 +170,6 @@ impl<B: Naming> SoleBook<B> {
             ≡ query_answer (state_of B.boot.limits self.old.journal) thread query.now }
         ensures kept { self.new ≡ self.old }
     {
-        clear(reply);
         self.kernel.ask_into(thread, query, reply, &mut self.meter);
     }
 }

@@ -9,7 +9,6 @@ ghost use Rattle.kernel_rules.specs.Runs.{booted};
 ghost use Rattle.arena_state.specs.Kept.{label_kept, order_kept};
 ghost use Rattle.arena_state.specs.Shown.{AreKept};
 ghost use Rattle.kernel_rules.specs.Translate.{translate};
-ghost use Rattle.kernel_rules.specs.declared.replies.Reply.TheVariants as told;
 ghost use Rattle.translation_laws.specs.Names.{IsNamedRightly};
 ghost use Rattle.arena_state.specs.States.{state_of};
 
@@ -145,10 +144,9 @@ impl Kernel {
     ghost use Rattle.kernel_store.specs.Storing.{label_count};
     ghost use Rattle.syscall_core.specs.Kernel.{kernel_state};
 
-    /// One call, as `step_surely` says, with its reply put where `Done` stands: a reply is large, and is
-    /// so made where it is wanted.
+    /// One call, as `step_surely` says, with its reply put where another stands, whatever that is: a reply is
+    /// large, and is so made where it is wanted.
     pub fn step_into(&mut self, thread: ObjectId, call: &Call, reply: &mut Reply, meter: &mut Meter)
-        requires { reply.old ≡ told.Done }
         ensures reply { reply.new ≡ answer (kernel_state self.old) thread call.now }
         ensures state { kernel_state self.new ≡ next (kernel_state self.old) thread call.now }
         ensures quiet { is_quiet call.now ≡ true → meter.new.scans ≡ meter.old.scans }
@@ -174,9 +172,8 @@ impl Kernel {
         reply
     }
 
-    /// One query, as `ask_surely` says, with its reply put where `Done` stands.
+    /// One query, as `ask_surely` says, with its reply put where another stands, whatever that is.
     pub fn ask_into(&self, thread: ObjectId, query: &Query, reply: &mut Reply, meter: &mut Meter)
-        requires { reply.old ≡ told.Done }
         ensures reply { reply.new ≡ query_answer (kernel_state self.now) thread query.now }
         ensures scans { meter.new.scans ≡ meter.old.scans }
         ensures probes { is_load query.now ≡ true
