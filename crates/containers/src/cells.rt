@@ -1,7 +1,7 @@
 //! The cells of links, by slots.
 ghost use Rattle.std.specs.Prelude.{◌≡◌, ◌≢◌, ℕ, ◌+◌, ◌*◌, ◌<◌, ◌^◌, [], ◌∷◌, length, IfOk};
 ghost use Rattle.std.specs.Prelude.{◌≤◌, IfSome, IfNone, sum_by, vec_capacity};
-ghost use Rattle.entry_lists.specs.Lists.{family_at};
+ghost use Rattle.entry_lists.specs.Lists.{family_at, cells_at, StandsAt};
 ghost use Rattle.containers.specs.Cells.{Stands, IsShifted, IsFreed, IsDropped, IsPaired};
 ghost use Rattle.containers.specs.Cells.{IsLink, Lists', IsSound, IsDying, IsAdded};
 ghost use Rattle.containers.specs.Sweep.{IsSweeping, IsSwept, IsTree, IsSimple, IsCut};
@@ -141,7 +141,9 @@ fn first_link(rings: &Rings<2>, size: usize, container: usize, object: usize) ->
     requires paired { IsPaired size rings.now }
     requires container { container < size }
     requires object { object < size }
-    ensures { IfSome result (λ c. IsLink size rings.now container object c) }
+    ensures found { IfSome result (λ c. IsLink size rings.now container object c) }
+    ensures another { IfNone result ((c : ℕ) → IsLink size rings.now container object c
+        → StandsAt (cells_at rings.now 1 object) 0 c → ⊥) }
 {
     match rings.peek_first(1, object) {
         Some(cell) if rings.peek_head_of(0, cell) == container => Some(cell),
@@ -186,8 +188,8 @@ fn walked_link(
     None
 }
 
-/// The cell by which a container lists an object, if it does. Most objects have one link, so the first is looked at
-/// before the walk over all.
+/// The cell by which a container lists an object, if it does. Most objects have one link, so the first is looked at, and
+/// whether there are others, before the walk over all.
 pub fn find_link(
     rings: &Rings<2>,
     size: usize,
@@ -206,6 +208,9 @@ pub fn find_link(
     meter.probe_many(2);
     if let Some(cell) = first_link(rings, size, container, object) {
         return Some(cell);
+    }
+    if rings.len(1, object, meter) < 2 {
+        return None;
     }
     walked_link(rings, size, container, object, meter)
 }

@@ -8,8 +8,8 @@ peek_head_of-requires c =
     let at = some_at _ 0 c.in-Some.cell (sym c.in-Some.is ∙ c.peek_first.ensures.value) in
     (lit< tt, (lit< tt, holder_linked c.args.size c.args.rings.now c.requires.paired c.args.object 0 c.in-Some.cell c.requires.object at))
 
-pub returns-in-Some : goal.returns-in-Some
-returns-in-Some c =
+pub returns-in-Some-clause-found : goal.returns-in-Some-clause-found
+returns-in-Some-clause-found c =
     link_at c.args.size c.args.rings.now c.requires.paired c.args.container c.args.object 0 c.in-Some.cell
     c.peek_head_of.result c.requires.container c.requires.object
     (some_at _ 0 c.in-Some.cell (sym c.in-Some.is ∙ c.peek_first.ensures.value)) c.peek_head_of.ensures.value
