@@ -145,11 +145,9 @@ impl ArenaState {
         }
     }
 
-    // What a thread sees of an entry and of its container, where one of the three may not be there. (Most calls name what is
-    // there, and then nothing asks again whether it is. What may not be there is looked up anew, out of their way.)
-    #[cold]
-    #[inline(never)]
-    fn see_any(&self, thread: ObjectId, entry: &Entry, meter: &mut Meter) -> WideSight
+    // What a thread sees of an entry and of its container, at three look-ups.
+    #[inline(always)]
+    fn see(&self, thread: ObjectId, entry: &Entry, meter: &mut Meter) -> WideSight
         ensures value { result ≡ wide_sight_of (state_of self.now) thread entry.now }
         ensures scans { meter.new.scans ≡ meter.old.scans }
     {
@@ -159,24 +157,29 @@ impl ArenaState {
         self.see_found(thread, own, entry, container_slot, object_slot, meter)
     }
 
+    // The same, where one of the three may not be there.
+    #[cold]
+    #[inline(never)]
+    pub(crate) fn see_any(&self, thread: ObjectId, entry: &Entry, meter: &mut Meter) -> WideSight
+        ensures value { result ≡ wide_sight_of (state_of self.now) thread entry.now }
+        ensures scans { meter.new.scans ≡ meter.old.scans }
+    {
+        self.see(thread, entry, meter)
+    }
+
     /// What a thread sees of an entry, at three look-ups.
     #[inline(never)]
     pub fn sight(&self, thread: ObjectId, entry: &Entry, meter: &mut Meter) -> Sight
         ensures value { result ≡ sight_of (state_of self.now) thread entry.now }
         ensures scans { meter.new.scans ≡ meter.old.scans }
     {
-        let own = self.row(thread, meter);
-        let container_slot = self.slot(entry.container, meter);
-        let object_slot = self.slot(entry.object, meter);
-        if own.is_none() || container_slot.is_none() || object_slot.is_none() {
-            return self.see_any(thread, entry, meter).entry;
-        }
-        self.see_found(thread, own, entry, container_slot, object_slot, meter)
-            .entry
+        self.see(thread, entry, meter).entry
     }
 
-    /// What a thread sees of an entry and of its container, at three look-ups.
-    #[inline(never)]
+    /// What a thread sees of an entry and of its container, at three look-ups. (It is put into the few who ask, where what
+    /// they don't ask for is left out. Most calls name what is there, and then nothing asks again whether it is. What may
+    /// not be there is looked up anew, out of their way.)
+    #[inline(always)]
     pub fn wide_sight(&self, thread: ObjectId, entry: &Entry, meter: &mut Meter) -> WideSight
         ensures value { result ≡ wide_sight_of (state_of self.now) thread entry.now }
         ensures scans { meter.new.scans ≡ meter.old.scans }

@@ -157,14 +157,14 @@ impl ArenaState {
         let own = self.row(thread, meter);
         let there = self.row(new.container, meter);
         let object = self.row(entry.object, meter);
-        let around = self.wide_sight(thread, new, meter);
+        let around = self.see_any(thread, new, meter);
         let seen = self.sight(thread, entry, meter);
         self.link_site_seen(thread, own, new, there, &around, entry, object, &seen)
     }
 
     /// What a thread sees of a container in which the object of an entry is to be listed too, and of the entry, at four
-    /// look-ups.
-    #[inline(never)]
+    /// look-ups. (It is put into the one row that asks.)
+    #[inline(always)]
     pub fn link_site(
         &self,
         thread: ObjectId,

@@ -95,6 +95,7 @@ impl Store for Kernel {
         self.state.sight(thread, entry, meter)
     }
 
+    #[inline(always)]
     fn wide_sight(&self, thread: ObjectId, entry: &Entry, meter: &mut Meter) -> WideSight {
         self.state.wide_sight(thread, entry, meter)
     }
@@ -110,6 +111,7 @@ impl Store for Kernel {
         self.state.site(thread, kind, container, quota, meter)
     }
 
+    #[inline(always)]
     fn link_site(
         &self,
         thread: ObjectId,
