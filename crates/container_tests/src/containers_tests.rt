@@ -97,21 +97,28 @@ fn links_are_kept_in_order(rt: HostRuntime) -> Result<(), Fail> {
     Ok(())
 }
 
-// Each of two ids is found by halves with three probes here. The first link and its container are two more. Where that is
-// another container, the number of links is read, and where there are several a walk reads it again and the first link, then
-// each link's container, and the next link where that is another: three probes for the first link, and two for each one passed.
+// An id is found by halves here, 5 with two probes and the others with three. The first link and its container are two more.
+// Where that is another container, the number of links is read, and where there are several the last link and its container.
+// Where that is another one too, a walk reads the number again and the first link, then each link's container and the next
+// link. A peek at an id counts nothing.
 #[test]
 fn a_walk_counts_what_it_reads(rt: HostRuntime) -> Result<(), Fail> {
     let mut meter = Meter::new(rt.alloc())?;
     let tree = family(rt.alloc(), &mut meter)?;
-    let [root, four, six] = [1, 4, 6].map(ObjectId::new);
+    let [root, four, five, six] = [1, 4, 5, 6].map(ObjectId::new);
     let before = meter.probes();
     assert!(rt; is_true(tree.is_listed(root, six, &mut meter)));
     let one = meter.probes();
     assert!(rt; is_true(tree.is_listed(four, six, &mut meter)));
     let two = meter.probes();
+    assert!(rt; is_true(!tree.is_listed(five, six, &mut meter)));
+    let three = meter.probes();
     assert!(rt; agree(one.saturating_sub(before), 8));
-    assert!(rt; agree(two.saturating_sub(one), 14));
+    assert!(rt; agree(two.saturating_sub(one), 11));
+    assert!(rt; agree(three.saturating_sub(two), 16));
+    assert!(rt; is_true(tree.peek(six).is_some()));
+    assert!(rt; agree(tree.peek(ObjectId::new(7)), None));
+    assert!(rt; agree(meter.probes(), three));
     Ok(())
 }
 

@@ -2,6 +2,8 @@
 use Rattle.std.proofs.Common.{◌≡◌, ℕ, ◌+◌, ◌<◌, inl, inr, Bool, true, false, Option, Some, None, is_some, List, length, get_or, refl, sym, ap, ◌∙◌, subst, arith}
 use Rattle.std.specs.Prelude.{slice_get, IfSome, IfNone}
 use Rattle.std.proofs.lemmas.Bool.{cases_eq}
+use Rattle.std.proofs.lemmas.Option.{IfSome_then}
+use Rattle.base.specs.declared.ids.Slot.{Slot}
 use Rattle.entry_lists.specs.Lists.{Lists, family_at, cells_at, StandsAt, IsLinked, IsWellFormed}
 use Rattle.object_arena.specs.Objects.{Objects, IsEntry, IsAbsent}
 use Rattle.base.specs.Live.{has, links}
@@ -37,6 +39,10 @@ module _ {T : Type 0} (size root : ℕ) (r : List Lists) (names : List ℕ) (a :
   entry_slot place id slot e =
       let same = ids_are r names a.ids a.slots kept.directory.beside in
       record { place = place; within = omega (arith, e.within, ap length same); id_is = ap (λ (xs : List ℕ). get_or xs place 0) same ∙ e.id_is; slot_is = e.slot_is }
+
+  -- so what was found there is found here
+  pub entry_found : (id : ℕ) (result : Option Slot) → IfSome result (λ slot. (place : ℕ) × IsEntry a place id slot.0) → IfSome result (λ slot. HasSlot view id slot.0)
+  entry_found id result found = IfSome_then result found (λ slot e. entry_slot e.0 id slot.0 e.1)
 
   -- and back
   pub slot_entry : (id slot : ℕ) (h : HasSlot view id slot) → IsEntry a h.place id slot

@@ -1,5 +1,5 @@
 -- One link that goes, with what it takes along.
-use Rattle.std.proofs.Common.{◌≡◌, ℕ, ◌≤◌, inl, inr, List, [], length, get_or, Some, None, sym, ◌∙◌, subst, arith}
+use Rattle.std.proofs.Common.{◌≡◌, ℕ, ◌≤◌, inl, inr, List, [], length, get_or, Some, None, sym, ap, ◌∙◌, subst, arith}
 use Rattle.std.specs.Prelude.{slice_get, sum_by}
 use Rattle.std.proofs.lemmas.Bool.{cases_lt}
 use Rattle.std.proofs.lemmas.Option.{slice_get-get_or, slice_get_past}
@@ -21,6 +21,9 @@ some_at xs k c e = elim (cases_lt k (length xs)) [
 
     same : (x y : ℕ) → Some x ≡ Some y → x ≡ y
     same x y h = cc
+
+pub at_some : (xs : List ℕ) (k c : ℕ) → StandsAt xs k c → slice_get xs k ≡ Some c
+at_some xs k c at = slice_get-get_or xs k 0 at.within ∙ ap (λ (i : ℕ). Some i) at.is
 
 pub none_at : (xs : List ℕ) (k : ℕ) → None ≡ slice_get xs k → length xs ≤ k
 none_at xs k e = elim (cases_lt k (length xs)) [

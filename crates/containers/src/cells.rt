@@ -135,17 +135,24 @@ fn sweep<V: Visitor>(
     }
 }
 
-// The cell of the first link to an object, where that is this container's. It counts nothing.
+// This cell of a link to an object, where the link is this container's. It counts nothing.
 #[inline(always)]
-fn first_link(rings: &Rings<2>, size: usize, container: usize, object: usize) -> Option<usize>
+fn if_held(
+    rings: &Rings<2>,
+    size: usize,
+    container: usize,
+    object: usize,
+    cell: Option<usize>,
+) -> Option<usize>
     requires paired { IsPaired size rings.now }
     requires container { container < size }
     requires object { object < size }
+    requires names { IfSome cell (Stands rings.now 1 object) }
     ensures found { IfSome result (λ c. IsLink size rings.now container object c) }
     ensures another { IfNone result ((c : ℕ) → IsLink size rings.now container object c
-        → StandsAt (cells_at rings.now 1 object) 0 c → ⊥) }
+        → cell ≢ Some c) }
 {
-    match rings.peek_first(1, object) {
+    match cell {
         Some(cell) if rings.peek_head_of(0, cell) == container => Some(cell),
         _ => None,
     }
@@ -188,8 +195,8 @@ fn walked_link(
     None
 }
 
-/// The cell by which a container lists an object, if it does. Most objects have one link, so the first is looked at, and
-/// whether there are others, before the walk over all.
+/// The cell by which a container lists an object, if it does. Most objects have one link, and most links that go are an
+/// object's first or its last, so these are looked at before the walk over all.
 pub fn find_link(
     rings: &Rings<2>,
     size: usize,
@@ -206,11 +213,18 @@ pub fn find_link(
 {
     // The first link and its holder.
     meter.probe_many(2);
-    if let Some(cell) = first_link(rings, size, container, object) {
+    let first = rings.peek_first(1, object);
+    if let Some(cell) = if_held(rings, size, container, object, first) {
         return Some(cell);
     }
     if rings.len(1, object, meter) < 2 {
         return None;
+    }
+    // The last link and its holder.
+    meter.probe_many(2);
+    let last = rings.peek_last(1, object);
+    if let Some(cell) = if_held(rings, size, container, object, last) {
+        return Some(cell);
     }
     walked_link(rings, size, container, object, meter)
 }

@@ -120,6 +120,16 @@ impl<T: Drop> Containers<T> {
         self.arena.find(id, meter)
     }
 
+    /// The slot of an id by its hint; none where no hint is of it, though an object may have it. Counts nothing: whoever
+    /// looks several ids up counts a probe for each at once.
+    #[inline(always)]
+    pub fn peek(&self, id: ObjectId) -> Option<Slot>
+        ensures found { IfSome result (λ slot. HasSlot self.now id slot.0) }
+        ensures there { IfSome result (λ slot. IsSome (record_at self.now slot.0)) }
+    {
+        self.arena.peek(id)
+    }
+
     /// The record in a slot that has one.
     pub fn get(&self, slot: Slot) -> &T
         requires { IsSome (record_at self.now slot.0) }

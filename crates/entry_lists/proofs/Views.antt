@@ -1,13 +1,13 @@
 -- What is read off lists that lie in the nodes.
-use Rattle.std.proofs.Common.{◌≡◌, ℕ, suc, ◌+◌, ◌<◌, ◌≤◌, inl, inr, Some, None, List, [], ◌∷◌, map, length, get_or, take, drop, refl, sym, ap, ap₂, ◌∙◌, subst, arith, length-drop, get_or-drop}
+use Rattle.std.proofs.Common.{◌≡◌, ℕ, suc, ◌+◌, ◌-◌, ◌<◌, ◌≤◌, inl, inr, Some, None, List, [], ◌∷◌, map, length, get_or, take, drop, refl, sym, ap, ap₂, ◌∙◌, subst, arith, length-drop, get_or-drop}
 use Rattle.std.specs.Prelude.{All, slice_get}
 use Rattle.std.proofs.lemmas.Bool.{cases_lt}
 use Rattle.std.proofs.lemmas.List.{get_or-map, get_or_past, length-map}
-use Rattle.std.proofs.lemmas.List.Elements.{All-head, All-drop}
+use Rattle.std.proofs.lemmas.List.Elements.{All-head, All-tail, All-drop}
 use Rattle.std.proofs.lemmas.Option.{slice_get-get_or, slice_get_past}
 use Rattle.entry_lists.specs.Lists.{Lists, StandsAt}
 use Rattle.entry_lists.specs.Chain.{Segment, IsLaidOut, IsSound, lists_from}
-use Rattle.entry_lists.proofs.Segments.{segment_split, segment_walk}
+use Rattle.entry_lists.proofs.Segments.{segment_back, segment_split, segment_walk}
 
 -- the node after the start is the first of the list, where it is a cell
 pub step_some : (next prev : List ℕ) (cells a b : ℕ) (xs : List ℕ) → cells ≤ b → Segment next prev a xs b → get_or next a 0 < cells → slice_get xs 0 ≡ Some (get_or next a 0)
@@ -17,6 +17,23 @@ step_some next prev cells a b (x ∷ xs) le s lt = ap (λ (i : ℕ). Some i) (sy
 pub step_none : (next prev : List ℕ) (cells a b : ℕ) (xs : List ℕ) → All (λ c. c < cells) xs → Segment next prev a xs b → cells ≤ get_or next a 0 → slice_get xs 0 ≡ None
 step_none next prev cells a b [] p s le = refl
 step_none next prev cells a b (x ∷ xs) p s le = absurd (omega (arith, s.0.ahead, All-head (λ c. c < cells) x xs p))
+
+-- the node before the end is the last of the list
+pub end_some : (next prev : List ℕ) (a b x : ℕ) (xs : List ℕ) → Segment next prev a (x ∷ xs) b → slice_get (x ∷ xs) (length xs) ≡ Some (get_or prev b 0)
+end_some next prev a b x [] s = ap (λ (i : ℕ). Some i) (sym s.1.back)
+end_some next prev a b x (y ∷ ys) s = end_some next prev x b y ys s.1
+
+-- where it is a cell, and else the list is empty
+pub last_of : (next prev : List ℕ) (cells a b : ℕ) (xs : List ℕ) → cells ≤ a → Segment next prev a xs b → get_or prev b 0 < cells → slice_get xs (length xs - 1) ≡ Some (get_or prev b 0)
+last_of next prev cells a b [] le s lt = absurd (omega (arith, s.back))
+last_of next prev cells a b (x ∷ xs) le s lt =
+    let at : length (x ∷ xs) - 1 ≡ length xs = omega arith in
+    ap (slice_get (x ∷ xs)) at ∙ end_some next prev a b x xs s
+
+pub no_last : (next prev : List ℕ) (cells a b : ℕ) (xs : List ℕ) → All (λ c. c < cells) xs → Segment next prev a xs b → cells ≤ get_or prev b 0 → slice_get xs (length xs - 1) ≡ None
+no_last next prev cells a b [] p s le = refl
+no_last next prev cells a b (x ∷ xs) p s le =
+    absurd (omega (arith, segment_back next prev (λ c. c < cells) x b xs (All-head (λ c. c < cells) x xs p) (All-tail (λ c. c < cells) x xs p) s.1))
 
 -- the first after a cut
 pub slice_get_after : (xs : List ℕ) (k : ℕ) → slice_get (drop (suc k) xs) 0 ≡ slice_get xs (k + 1)
@@ -70,6 +87,12 @@ module _ (cells : ℕ) (next prev heads lens : List ℕ) (lists : List (List ℕ
 
   pub first_none : (head n : ℕ) → head < length lists → n ≡ get_or next (cells + head) 0 → cells ≤ n → None ≡ slice_get (get_or lists head []) 0
   first_none head n lt e large = sym (step_none next prev cells (cells + head) (cells + head) _ (lay.rings head lt).in_range (lay.rings head lt).linked (omega arith))
+
+  pub last_some : (head n : ℕ) → head < length lists → n ≡ get_or prev (cells + head) 0 → n < cells → (let xs = get_or lists head [] in Some n ≡ slice_get xs (length xs - 1))
+  last_some head n lt e small = sym (last_of next prev cells (cells + head) (cells + head) _ (omega arith) (lay.rings head lt).linked (omega arith) ∙ ap (λ (i : ℕ). Some i) (sym e))
+
+  pub last_none : (head n : ℕ) → head < length lists → n ≡ get_or prev (cells + head) 0 → cells ≤ n → (let xs = get_or lists head [] in None ≡ slice_get xs (length xs - 1))
+  last_none head n lt e large = sym (no_last next prev cells (cells + head) (cells + head) _ (lay.rings head lt).in_range (lay.rings head lt).linked (omega arith))
 
   -- from a cell to the end of its ring
   pub rest_from : (head place cell : ℕ) → StandsAt (get_or lists head []) place cell → Segment next prev cell (drop (suc place) (get_or lists head [])) (cells + head)

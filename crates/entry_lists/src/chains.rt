@@ -92,6 +92,16 @@ impl Chains {
         self.peek_first(head)
     }
 
+    /// The last cell of a head's list, none where the list is empty. Counts nothing: whoever looks counts what it reads.
+    pub fn peek_last(&self, head: usize) -> Option<usize>
+        requires { head < length self.now.lists }
+        ensures value { result
+            ≡ slice_get (list_at self.now head) (length (list_at self.now head) - 1) }
+    {
+        let node = self.prev[self.cells + head];
+        if node < self.cells { Some(node) } else { None }
+    }
+
     /// The cell after a cell that stands in a list, none where it is the last. Counts nothing: whoever walks adds up
     /// what it reads at once.
     pub fn peek_next(&self, cell: usize) -> Option<usize>

@@ -69,6 +69,16 @@ impl<const FAMILIES: usize> Rings<FAMILIES> {
         self.families[family].first(head, meter)
     }
 
+    /// The last cell of a head's list, none where the list is empty. Counts nothing: whoever looks counts what it reads.
+    pub fn peek_last(&self, family: usize, head: usize) -> Option<usize>
+        requires family { family < FAMILIES }
+        requires head { head < length (family_at self.now family).lists }
+        ensures value { result
+            ≡ slice_get (cells_at self.now family head) (length (cells_at self.now family head) - 1) }
+    {
+        self.families[family].peek_last(head)
+    }
+
     /// The cell after a cell that stands in a list of the family, none where it is the last. Counts nothing: whoever
     /// walks adds up what it reads at once.
     pub fn peek_next(&self, family: usize, cell: usize) -> Option<usize>

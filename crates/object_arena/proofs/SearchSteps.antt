@@ -45,8 +45,8 @@ halved_first end size lt fits =
     subst (λ (m : ℕ). Parts 0 m end (binary_digits size)) middle
     (halves 0 end (binary_digits size) lt (omega (arith, fits, below_digits size)))
 
--- a number below a quarter of the count of hints has a binary digit less than the size
-pub digit_less : (ids count size : ℕ) → IsHintCount count size → ids < count / 4 → binary_digits ids + 1 ≤ binary_digits size
+-- a number below an eighth of the count of hints has a binary digit less than the size
+pub digit_less : (ids count size : ℕ) → IsHintCount count size → ids < count / 8 → binary_digits ids + 1 ≤ binary_digits size
 digit_less ids count size is lt =
     let top = is (omega (arith, lt)) in
     let fits : binary_digits ids ≤ top.0 = length-digits_of-le 2 top.0 ids (omega arith) (omega (arith, lt, top.1)) in

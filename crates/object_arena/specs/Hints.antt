@@ -39,6 +39,6 @@ pub record IsForgotten (old new : List Hint) (gone : List ℕ) (many : ℕ) : Ty
   pub none : (i : ℕ) → i < many → 0 < slice_index gone i
       → (hint_at new (hint_place (slice_index gone i) (length old))).id ≢ slice_index gone i
 
--- there are four times as many as a power of two up to the size, or none
+-- there are eight times as many as a power of two up to the size, or none
 abbrev pub IsHintCount : ℕ → ℕ → Type 0
-IsHintCount count size = 0 < count → (k : ℕ) × (count ≡ 4 * 2 ^ k) × (2 ^ k ≤ size)
+IsHintCount count size = 0 < count → (k : ℕ) × (count ≡ 8 * 2 ^ k) × (2 ^ k ≤ size)

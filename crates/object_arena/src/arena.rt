@@ -107,21 +107,33 @@ impl<T: Drop> Arena<T> {
         ObjectId::new(self.ids[place])
     }
 
+    /// The slot of an id by its hint; none where no hint is of it, though an object may have it. Counts nothing: whoever
+    /// looks several ids up counts a probe for each at once.
+    #[inline(always)]
+    pub fn peek(&self, id: ObjectId) -> Option<Slot>
+        ensures found { IfSome result (λ slot. (place : ℕ) × IsEntry self.now place id slot.0) }
+        ensures there { IfSome result (λ slot. IsSome (object_at self.now slot.0)) }
+    {
+        match hinted(&self.hints, id.number()) {
+            Some(slot) => Some(Slot(slot)),
+            None => None,
+        }
+    }
+
     // The slot that is hinted of an id, which is one probe. It is left out where a search could then take one too many.
-    fn hint_of(&self, id: u64, meter: &mut Meter) -> Option<usize>
-        ensures found { IfSome result (λ slot. (place : ℕ) × IsEntry self.now place id slot) }
-        ensures there { IfSome result (λ slot. IsSome (object_at self.now slot)) }
+    fn hint_of(&self, id: ObjectId, meter: &mut Meter) -> Option<Slot>
+        ensures found { IfSome result (λ slot. (place : ℕ) × IsEntry self.now place id slot.0) }
+        ensures there { IfSome result (λ slot. IsSome (object_at self.now slot.0)) }
         ensures cost { ProbesAtMost (binary_digits (length self.now.cells)
             - binary_digits (length self.now.ids)) meter.old meter.new }
         ensures fewer { binary_digits (length self.now.ids)
             ≤ binary_digits (length self.now.cells) }
     {
-        if self.ids.len() >= self.hints.len() / 4 {
+        if self.ids.len() >= self.hints.len() / 8 {
             return None;
         }
-        let found = hinted(&self.hints, id);
         meter.probe();
-        found
+        self.peek(id)
     }
 
     // The slot of an id, none where no object has it, looked for by halves. (Hints tell most slots, so it is kept out of
@@ -149,8 +161,8 @@ impl<T: Drop> Arena<T> {
         ensures cost { ProbesAtMost (binary_digits
             (length self.now.cells) + 1) meter.old meter.new }
     {
-        if let Some(slot) = self.hint_of(id.number(), meter) {
-            return Some(Slot(slot));
+        if let Some(slot) = self.hint_of(id, meter) {
+            return Some(slot);
         }
         self.searched(id, meter)
     }

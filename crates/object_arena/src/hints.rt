@@ -22,13 +22,13 @@ pub fn blank() -> Hint
     Hint { id: 0, slot: 0 }
 }
 
-/// How many hints an arena of so many slots has: a power of two, so that each end of an id has a place, and two to four
-/// for each slot, so that few ids find another's hint at their place. An arena of 2^48 slots and more has none.
+/// How many hints an arena of so many slots has: a power of two, so that each end of an id has a place, and four to
+/// eight for each slot, so that few ids find another's hint at their place. An arena of 2^48 slots and more has none.
 pub fn hint_count(size: usize) -> usize
     ensures { IsHintCount result size }
 {
     match size.checked_ilog2() {
-        Some(digits) if size < 1 << 48 => 4 * (1 << digits),
+        Some(digits) if size < 1 << 48 => 8 * (1 << digits),
         _ => 0,
     }
 }

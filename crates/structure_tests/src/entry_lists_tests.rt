@@ -54,6 +54,8 @@ fn a_peek_counts_nothing(rt: HostRuntime) -> Result<(), Fail> {
     link_three(&mut rings, &mut meter);
     assert!(rt; agree(rings.peek_first(0, 1), Some(3)));
     assert!(rt; agree(rings.peek_first(0, 0), None));
+    assert!(rt; agree(rings.peek_last(0, 1), Some(0)));
+    assert!(rt; agree(rings.peek_last(0, 0), None));
     assert!(rt; agree(rings.peek_next(0, 3), Some(0)));
     assert!(rt; agree(rings.peek_head_of(1, 3), 2));
     assert!(rt; agree(meter.probes(), 6));

@@ -45,23 +45,25 @@ fn objects_are_found_by_their_ids(rt: HostRuntime) -> Result<(), Fail> {
     Ok(())
 }
 
-// Four slots have sixteen places for hints: of 5, 21 and 37, which end alike, the first to come has the place.
+// Four slots have thirty-two places for hints: of 5, 37 and 69, which end alike, the first to come has the place.
 #[test]
 fn an_id_is_found_by_its_hint_or_by_halves(rt: HostRuntime) -> Result<(), Fail> {
     let mut meter = Meter::new(rt.alloc())?;
     let mut arena = Arena::boot(rt.alloc(), 4)?;
     let first = arena.insert(ObjectId::new(5), 'a');
-    let second = arena.insert(ObjectId::new(21), 'b');
-    let third = arena.insert(ObjectId::new(37), 'c');
+    let second = arena.insert(ObjectId::new(37), 'b');
+    let third = arena.insert(ObjectId::new(69), 'c');
     assert!(rt; agree(arena.find(ObjectId::new(5), &mut meter), Some(first)));
-    // A hint is one read.
+    assert!(rt; agree(arena.peek(ObjectId::new(5)), Some(first)));
+    assert!(rt; agree(arena.peek(ObjectId::new(37)), None));
+    // A hint is one read, and a peek counts nothing.
     assert!(rt; agree(meter.probes(), 1));
-    assert!(rt; agree(arena.find(ObjectId::new(21), &mut meter), Some(second)));
-    assert!(rt; agree(arena.find(ObjectId::new(37), &mut meter), Some(third)));
+    assert!(rt; agree(arena.find(ObjectId::new(37), &mut meter), Some(second)));
+    assert!(rt; agree(arena.find(ObjectId::new(69), &mut meter), Some(third)));
 
     assert!(rt; agree(arena.remove(ObjectId::new(5), &mut meter), 'a'));
     assert!(rt; agree(arena.find(ObjectId::new(5), &mut meter), None));
-    assert!(rt; agree(arena.find(ObjectId::new(37), &mut meter), Some(third)));
+    assert!(rt; agree(arena.find(ObjectId::new(69), &mut meter), Some(third)));
     Ok(())
 }
 

@@ -1,10 +1,6 @@
 use Rattle.std.proofs.Common.{◌+◌, ◌/◌, ◌<◌, ◌≤◌, ℕ, length, subst, arith}
-use Rattle.std.specs.Prelude.{IfSome}
-use Rattle.object_arena.specs.Objects.{Objects, IsEntry, binary_digits}
-use Rattle.object_arena.specs.Slots.{IsKept}
-use Rattle.object_arena.specs.Hints.{AreHints}
+use Rattle.object_arena.specs.Objects.{Objects, binary_digits}
 use Rattle.object_arena.proofs.SearchSteps.{digits_fewer, digit_less, probes_few}
-use Rattle.object_arena.proofs.HintSteps.{hinted_is, entry_there}
 use Rattle.object_arena.proofs.arena.Arena.hint_of.Given as given
 use Rattle.object_arena.proofs.arena.Arena.hint_of.Goals as goal
 
@@ -16,11 +12,11 @@ returns-then-len-clause-fewer g c =
     (digits_fewer (length c.self.inside.ids.items) (length c.self.inside.cells.items) fewer)
 
 -- a probe is left
-less : (g : given.Over) (c : goal.After-probe g) → binary_digits (length c.args.self.now.ids) + 1 ≤ binary_digits (length c.args.self.now.cells)
+less : (g : given.Over) (c : goal.After-peek g) → binary_digits (length c.args.self.now.ids) + 1 ≤ binary_digits (length c.args.self.now.cells)
 less g c =
     let ids = c.self.inside.ids.items in
     let hints = c.self.inside.hints.items in
-    let below : length ids < length hints / 4 = omega (arith, c.if-len.false, c.len.ensures, c.len-2.ensures) in
+    let below : length ids < length hints / 8 = omega (arith, c.if-len.false, c.len.ensures, c.len-2.ensures) in
     subst (λ (a : Objects g.row.T.Denot). binary_digits (length a.ids) + 1 ≤ binary_digits (length a.cells)) c.self.view_is
     (digit_less (length ids) (length hints) (length c.self.inside.cells.items) c.self.invariant.5 below)
 
@@ -29,17 +25,3 @@ returns-clause-cost g c = probes_few c.args.meter.now c.probe.new.self 1 _ c.pro
 
 pub returns-clause-fewer : goal.returns-clause-fewer
 returns-clause-fewer g c = omega (arith, less g c)
-
-found : (g : given.Over) (c : goal.After-probe g) → IfSome c.hinted-found.result (λ slot. (place : ℕ) × IsEntry c.args.self.now place c.args.id slot)
-found g c =
-    let are = subst (λ (a : Objects g.row.T.Denot). AreHints a.ids a.slots c.self.inside.hints.items) c.self.view_is c.self.invariant.4 in
-    hinted_is c.args.self.now c.self.inside.hints.items c.deref.result.now c.args.id c.hinted-found.result c.deref.ensures.value are
-    c.hinted-found.ensures.some c.hinted-found.ensures.hint
-
-pub returns-clause-found : goal.returns-clause-found
-returns-clause-found g c = found g c
-
-pub returns-clause-there : goal.returns-clause-there
-returns-clause-there g c =
-    let kept = subst (λ (a : Objects g.row.T.Denot). IsKept a.ids a.slots c.self.inside.spare.items a.cells) c.self.view_is c.self.invariant.0 in
-    entry_there c.args.self.now c.self.inside.spare.items c.args.id c.hinted-found.result kept (found g c)
