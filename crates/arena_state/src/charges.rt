@@ -30,8 +30,8 @@ impl ArenaState {
         ensures slots { KeepsAllSlots self.old self.new }
         ensures scans { meter.new.scans ≡ meter.old.scans }
     {
-        match self.slot(container, meter) {
-            Some(parent) => match self.slot(entry.object, meter) {
+        match self.quick_slot(container, meter) {
+            Some(parent) => match self.quick_slot(entry.object, meter) {
                 Some(object) => {
                     let pages = self.pieces.holdings.records[object.0].quota;
                     let target = Located {

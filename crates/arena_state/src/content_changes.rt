@@ -87,7 +87,7 @@ impl ArenaState {
         ensures places { self.new.pieces.places ≡ self.old.pieces.places }
         ensures scans { meter.new.scans ≡ meter.old.scans }
     {
-        match self.slot(id, meter) {
+        match self.quick_slot(id, meter) {
             Some(slot) => self.pieces.holdings.segments.write(slot, at, given, meter),
             None => {}
         }

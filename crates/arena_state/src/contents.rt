@@ -70,7 +70,8 @@ impl ArenaState {
         }
     }
 
-    /// So many bytes of a segment, from one on, up to 64.
+    /// So many bytes of a segment, from one on, up to 64. (It is put into the two queries that read.)
+    #[inline(always)]
     pub fn bytes_from(&self, id: ObjectId, from: usize, count: u32, meter: &mut Meter) -> Data
         requires few { count ≤ 64 }
         requires inside { from + count ≤ length (bytes_at (state_of self.now) id) }

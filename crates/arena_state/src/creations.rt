@@ -34,7 +34,7 @@ impl ArenaState {
             ≤ meter.old.scans + storing 1 (labels_stored self.old) }
         ensures slots { KeepsSlots self.old self.new (state_of self.old).next_id }
     {
-        match self.slot(container, meter) {
+        match self.quick_slot(container, meter) {
             Some(parent) => {
                 let label = self.pieces.holdings.labels.intern(label, meter);
                 let given = fresh_record(label, quota, Kept::Container(avoid, 1));
@@ -63,7 +63,7 @@ impl ArenaState {
             ≤ meter.old.scans + storing 1 (labels_stored self.old) }
         ensures slots { KeepsSlots self.old self.new (state_of self.old).next_id }
     {
-        match self.slot(container, meter) {
+        match self.quick_slot(container, meter) {
             Some(parent) => {
                 let label = self.pieces.holdings.labels.intern(label, meter);
                 let given = fresh_record(label, quota, Kept::Segment(pages));
@@ -96,7 +96,7 @@ impl ArenaState {
             ≤ meter.old.scans + storing 1 (labels_stored self.old) }
         ensures slots { KeepsSlots self.old self.new (state_of self.old).next_id }
     {
-        match self.slot(container, meter) {
+        match self.quick_slot(container, meter) {
             Some(parent) => {
                 let label = self.pieces.holdings.labels.intern(label, meter);
                 let given = fresh_record(label, quota, Kept::AddressSpace);

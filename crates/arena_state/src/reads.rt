@@ -114,7 +114,8 @@ impl ArenaState {
         ensures value { result ≡ kind_at (state_of self.now) id }
         ensures scans { meter.new.scans ≡ meter.old.scans }
     {
-        match self.row(id, meter) {
+        let slot = self.quick_slot(id, meter);
+        match self.record(id, slot) {
             Some(row) => Some(row.body.kind()),
             None => None,
         }

@@ -184,12 +184,17 @@ impl ArenaState {
         ensures value { result ≡ wide_sight_of (state_of self.now) thread entry.now }
         ensures scans { meter.new.scans ≡ meter.old.scans }
     {
-        let own = self.row(thread, meter);
-        let container_slot = self.slot(entry.container, meter);
-        let object_slot = self.slot(entry.object, meter);
-        if own.is_none() || container_slot.is_none() || object_slot.is_none() {
+        meter.probe_many(3);
+        let Some(own) = self.peek(thread) else {
             return self.see_any(thread, entry, meter);
-        }
-        self.see_found(thread, own, entry, container_slot, object_slot, meter)
+        };
+        let Some(container) = self.peek(entry.container) else {
+            return self.see_any(thread, entry, meter);
+        };
+        let Some(object) = self.peek(entry.object) else {
+            return self.see_any(thread, entry, meter);
+        };
+        let own = self.record(thread, Some(own));
+        self.see_found(thread, own, entry, Some(container), Some(object), meter)
     }
 }

@@ -89,8 +89,8 @@ impl ArenaState {
         ensures value { result ≡ site_of (state_of self.now) thread kind container quota }
         ensures scans { meter.new.scans ≡ meter.old.scans }
     {
-        let thread_slot = self.slot(thread, meter);
-        let slot = self.slot(container, meter);
+        let thread_slot = self.quick_slot(thread, meter);
+        let slot = self.quick_slot(container, meter);
         let own = self.record(thread, thread_slot);
         let there = self.record(container, slot);
         let seen = self.seen(thread, own, container, there);
@@ -179,18 +179,25 @@ impl ArenaState {
             container,
             object: entry.object,
         };
-        let own = self.row(thread, meter);
-        let new_slot = self.slot(container, meter);
-        let container_slot = self.slot(entry.container, meter);
-        let object_slot = self.slot(entry.object, meter);
-        let lacking = new_slot.is_none() || container_slot.is_none() || object_slot.is_none();
-        if own.is_none() || lacking {
+        meter.probe_many(4);
+        let Some(own) = self.peek(thread) else {
             return self.link_site_any(thread, &new, entry, meter);
-        }
+        };
+        let Some(new_slot) = self.peek(container) else {
+            return self.link_site_any(thread, &new, entry, meter);
+        };
+        let Some(old_slot) = self.peek(entry.container) else {
+            return self.link_site_any(thread, &new, entry, meter);
+        };
+        let Some(object_slot) = self.peek(entry.object) else {
+            return self.link_site_any(thread, &new, entry, meter);
+        };
+        let (new_slot, old_slot, object_slot) = (Some(new_slot), Some(old_slot), Some(object_slot));
+        let own = self.record(thread, Some(own));
         let there = self.record(container, new_slot);
         let object = self.record(entry.object, object_slot);
         let around = self.see_found(thread, own, &new, new_slot, object_slot, meter);
-        let seen = self.see_found(thread, own, entry, container_slot, object_slot, meter);
+        let seen = self.see_found(thread, own, entry, old_slot, object_slot, meter);
         self.link_site_seen(
             thread,
             own,

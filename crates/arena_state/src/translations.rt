@@ -116,6 +116,7 @@ impl ArenaState {
     }
 
     // Where an address of a thread lies by these slots of its address space, and by the thread's row.
+    #[inline(always)]
     fn place_among(
         &self,
         thread: Located,
@@ -155,7 +156,8 @@ impl ArenaState {
     }
 
     /// Where an address of a thread lies, by the one mapping that covers its page, and by the
-    /// thread's row.
+    /// thread's row. (It is put into the few who ask, since what it tells is large.)
+    #[inline(always)]
     #[tactic(auto, unfolding(kernel_rules::specs::Translate::place_of))]
     pub fn place(
         &self,

@@ -20,8 +20,8 @@ impl ArenaState {
         ensures slots { KeepsAllSlots self.old self.new }
         ensures scans { meter.new.scans ≡ meter.old.scans }
     {
-        match self.slot(entry.container, meter) {
-            Some(container) => match self.slot(entry.object, meter) {
+        match self.quick_slot(entry.container, meter) {
+            Some(container) => match self.quick_slot(entry.object, meter) {
                 Some(object) => self.unlink(entry, container, object, meter),
                 None => {}
             },

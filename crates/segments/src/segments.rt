@@ -25,6 +25,19 @@ impl Model for Segments {
     ghost view = { λ a. map concat a.frames };
 }
 
+// So many bytes of a page, up to 64, from one on. (Most who read ask for as many as data hold, and these are moved at once.)
+fn part(page: &[u8; 256], from: usize, count: usize) -> Data
+    requires few { count ≤ 64 }
+    requires within { from + count ≤ 256 }
+    ensures { result ≡ slice_range page.now from (from + count) }
+{
+    if count == Data::MOST {
+        Data::from_slice(&page[from..from + Data::MOST])
+    } else {
+        Data::from_slice(&page[from..from + count])
+    }
+}
+
 // Some bytes and then others, up to 64 in all.
 fn joined(first: &[u8], second: &[u8]) -> Data
     requires { length first.now + length second.now ≤ 64 }
@@ -89,7 +102,7 @@ impl Segments {
         let page = self.frames.page(slot.0, place, meter);
         let first = 256 - offset;
         if count <= first {
-            return Data::from_slice(&page[offset..offset + count]);
+            return part(page, offset, count);
         }
         let next = self.frames.page(slot.0, place + 1, meter);
         joined(&page[offset..], &next[..count - first])

@@ -174,11 +174,13 @@ impl Store for Kernel {
         self.state.parent(container, meter)
     }
 
+    #[inline(always)]
     fn bytes_from(&self, id: ObjectId, from: usize, count: u32, meter: &mut Meter) -> Data {
         self.rows.few();
         self.state.bytes_from(id, from, count, meter)
     }
 
+    #[inline(always)]
     fn place(&self, thread: ObjectId, address: u64, meter: &mut Meter) -> Option<Place> {
         self.rows.few();
         self.state.place(thread, address, &self.rows, meter)

@@ -25,7 +25,7 @@ pub link_found-requires-clause-container : goal.link_found-requires-clause-conta
 link_found-requires-clause-container c = c.in-Some.ensures.found.has
 
 pub link_found-requires-clause-object : goal.link_found-requires-clause-object
-link_found-requires-clause-object c = c.in-Some-slot.ensures.found.has
+link_found-requires-clause-object c = c.in-Some-quick_slot.ensures.found.has
 
 pub link_found-requires-clause-not_root : goal.link_found-requires-clause-not_root
 link_found-requires-clause-not_root c = not_root c.args.self.now.pieces c.args.self.now.sound c.args.container c.args.entry.now (kind_bare c.args.self.now.pieces kinds.Container c.args.container true c.requires.container) (holds_bare c.args.self.now.pieces c.args.entry.now c.requires.held) (kind_bare c.args.self.now.pieces kinds.Container c.args.entry.now.object false c.requires.plain) (fixed_bare c.args.self.now.pieces c.args.entry.now.object true c.requires.fixed) (listed_bare c.args.self.now.pieces c.args.container c.args.entry.now.object false c.requires.unlisted) (linked_bare c.args.self.now.pieces c.args.self.now.sound c.args.self.now.stocked c.args.container c.args.entry.now.object c.requires.room)
@@ -38,11 +38,11 @@ link_found-requires-clause-room c = link_left c.args.self.now.pieces c.args.self
 
 pub charge-requires : goal.charge-requires
 charge-requires c = enough c.args.self.now.pieces c.args.self.now.sound c.args.container c.args.entry.now (kind_bare c.args.self.now.pieces kinds.Container c.args.container true c.requires.container) (holds_bare c.args.self.now.pieces c.args.entry.now c.requires.held) (kind_bare c.args.self.now.pieces kinds.Container c.args.entry.now.object false c.requires.plain) (fixed_bare c.args.self.now.pieces c.args.entry.now.object true c.requires.fixed) (listed_bare c.args.self.now.pieces c.args.container c.args.entry.now.object false c.requires.unlisted) (linked_bare c.args.self.now.pieces c.args.self.now.sound c.args.self.now.stocked c.args.container c.args.entry.now.object c.requires.room)
-    c.in-Some.parent.0 c.in-Some-slot.object.0 c.in-Some.ensures.found.has c.in-Some-slot.ensures.found.has
+    c.in-Some.parent.0 c.in-Some-quick_slot.object.0 c.in-Some.ensures.found.has c.in-Some-quick_slot.ensures.found.has
     c.index.result.now c.index_mut-charged.result.now c.index.ensures c.index_mut-charged.ensures.value
 
 pub unreachable-requires : goal.unreachable-requires
-unreachable-requires c = no_object c.args.self.now.pieces c.args.self.now.sound c.args.container c.args.entry.now (kind_bare c.args.self.now.pieces kinds.Container c.args.container true c.requires.container) (holds_bare c.args.self.now.pieces c.args.entry.now c.requires.held) (kind_bare c.args.self.now.pieces kinds.Container c.args.entry.now.object false c.requires.plain) (fixed_bare c.args.self.now.pieces c.args.entry.now.object true c.requires.fixed) (listed_bare c.args.self.now.pieces c.args.container c.args.entry.now.object false c.requires.unlisted) (linked_bare c.args.self.now.pieces c.args.self.now.sound c.args.self.now.stocked c.args.container c.args.entry.now.object c.requires.room) (none_bare c.args.self.now.pieces c.args.entry.now.object c.in-None-slot.ensures.none)
+unreachable-requires c = no_object c.args.self.now.pieces c.args.self.now.sound c.args.container c.args.entry.now (kind_bare c.args.self.now.pieces kinds.Container c.args.container true c.requires.container) (holds_bare c.args.self.now.pieces c.args.entry.now c.requires.held) (kind_bare c.args.self.now.pieces kinds.Container c.args.entry.now.object false c.requires.plain) (fixed_bare c.args.self.now.pieces c.args.entry.now.object true c.requires.fixed) (listed_bare c.args.self.now.pieces c.args.container c.args.entry.now.object false c.requires.unlisted) (linked_bare c.args.self.now.pieces c.args.self.now.sound c.args.self.now.stocked c.args.container c.args.entry.now.object c.requires.room) (none_bare c.args.self.now.pieces c.args.entry.now.object c.in-None-quick_slot.ensures.none)
 
 pub unreachable-requires-in-None : goal.unreachable-requires-in-None
 unreachable-requires-in-None c = no_container c.args.self.now.pieces c.args.self.now.sound c.args.container c.args.entry.now (kind_bare c.args.self.now.pieces kinds.Container c.args.container true c.requires.container) (holds_bare c.args.self.now.pieces c.args.entry.now c.requires.held) (kind_bare c.args.self.now.pieces kinds.Container c.args.entry.now.object false c.requires.plain) (fixed_bare c.args.self.now.pieces c.args.entry.now.object true c.requires.fixed) (listed_bare c.args.self.now.pieces c.args.container c.args.entry.now.object false c.requires.unlisted) (linked_bare c.args.self.now.pieces c.args.self.now.sound c.args.self.now.stocked c.args.container c.args.entry.now.object c.requires.room) (none_bare c.args.self.now.pieces c.args.container c.in-None.ensures.none)
@@ -50,7 +50,7 @@ unreachable-requires-in-None c = no_container c.args.self.now.pieces c.args.self
 pub invariant_of-self : goal.invariant_of-self
 invariant_of-self c = record {
   sound = sound_then c.args.self.now.pieces c.args.self.now.sound c.args.container c.args.entry.now (kind_bare c.args.self.now.pieces kinds.Container c.args.container true c.requires.container) (holds_bare c.args.self.now.pieces c.args.entry.now c.requires.held) (kind_bare c.args.self.now.pieces kinds.Container c.args.entry.now.object false c.requires.plain) (fixed_bare c.args.self.now.pieces c.args.entry.now.object true c.requires.fixed) (listed_bare c.args.self.now.pieces c.args.container c.args.entry.now.object false c.requires.unlisted) (linked_bare c.args.self.now.pieces c.args.self.now.sound c.args.self.now.stocked c.args.container c.args.entry.now.object c.requires.room)
-      c.in-Some.parent.0 c.in-Some-slot.object.0 c.in-Some.ensures.found.has c.in-Some-slot.ensures.found.has
+      c.in-Some.parent.0 c.in-Some-quick_slot.object.0 c.in-Some.ensures.found.has c.in-Some-quick_slot.ensures.found.has
       c.index.result.now c.index_mut-charged.result.now c.index.ensures c.index_mut-charged.ensures.value
       _ refl refl refl (λ i. (c.link_found.ensures.linked i).lists) (λ i. (c.link_found.ensures.linked i).slots) (ap (λ t. length t.cells) c.link_found.ensures.linked) c.len-count.ensures.well_formed refl c.charge.new.given c.charge.ensures refl;
   stocked =
@@ -112,6 +112,6 @@ returns-clause-state c =
     })
     c.args.self.now.sound c.args.container (listing c.args.entry.now.object) (relisting_apart (λ ids. ids ++ c.args.entry.now.object ∷ []))
     (state_then c.args.self.now.pieces c.args.self.now.sound c.args.container c.args.entry.now (kind_bare c.args.self.now.pieces kinds.Container c.args.container true c.requires.container) (holds_bare c.args.self.now.pieces c.args.entry.now c.requires.held) (kind_bare c.args.self.now.pieces kinds.Container c.args.entry.now.object false c.requires.plain) (fixed_bare c.args.self.now.pieces c.args.entry.now.object true c.requires.fixed) (listed_bare c.args.self.now.pieces c.args.container c.args.entry.now.object false c.requires.unlisted) (linked_bare c.args.self.now.pieces c.args.self.now.sound c.args.self.now.stocked c.args.container c.args.entry.now.object c.requires.room)
-    c.in-Some.parent.0 c.in-Some-slot.object.0 c.in-Some.ensures.found.has c.in-Some-slot.ensures.found.has
+    c.in-Some.parent.0 c.in-Some-quick_slot.object.0 c.in-Some.ensures.found.has c.in-Some-quick_slot.ensures.found.has
     c.index.result.now c.index_mut-charged.result.now c.index.ensures c.index_mut-charged.ensures.value
     q refl refl refl (λ i. (c.link_found.ensures.linked i).lists) (λ i. (c.link_found.ensures.linked i).slots) (ap (λ t. length t.cells) c.link_found.ensures.linked) c.len-count.ensures.well_formed refl c.charge.new.given c.charge.ensures refl)

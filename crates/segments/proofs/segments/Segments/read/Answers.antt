@@ -19,7 +19,7 @@ returns-then-count-first-clause-value c =
     let off = c.args.from % 256 in
     let n : off + c.args.count - off ≡ c.args.count = omega arith in
     let m : c.args.count ≡ c.args.from + c.args.count - c.args.from = omega arith in
-    c.from_slice-then-count-first.ensures
+    c.part.ensures
     ∙ ap (λ (k : ℕ). take k (drop off c.page-page.result.now)) n
     ∙ ap (λ (p : List ℕ). take c.args.count (drop off p)) c.page-page.ensures.value
     ∙ in_page (pages_at f c.args.slot.0) (c.paged.ensures.whole c.args.slot.0) c.args.from c.args.count (omega (arith, c.if-count-eq0.false)) within c.if-count-first.true
