@@ -70,6 +70,15 @@ impl Metered {
         }
     }
 
+    /// How many cells a call of the boot thread reads, where it is not refused.
+    pub fn probes(&mut self, call: &Call) -> Option<u64> {
+        let before = self.meter.probes();
+        match self.step(call) {
+            Reply::Refused(_) => None,
+            _ => Some(self.meter.probes().saturating_sub(before)),
+        }
+    }
+
     /// Whether a call that stores so many labels is done, and scans as few as it says: none where it stores none.
     pub fn scans_few(&mut self, call: &Call, stores: u64) -> Result<bool, NoMemory> {
         let carried = self.labels()? as u64;

@@ -1,10 +1,12 @@
-//! How many labels calls of the arena kernel scan, by a meter.
+//! How many labels calls of the arena kernel scan, and how many cells they read, by a meter.
 use crate::metered::Metered;
-use base::{Level, ObjectId};
+use base::{Data, Level, ObjectId};
 use kernel_rules::NewGate;
 use std::test::Fail;
 use syscall_core::Call;
-use test_support::{everywhere, in_root, new_container, new_segment, new_thread, no_entry, plain};
+use test_support::{
+    agree, everywhere, in_root, new_container, new_segment, new_thread, no_entry, plain,
+};
 
 /// A call that makes a gate with the clearance {2} and without an address space.
 fn new_gate() -> Call {
@@ -39,5 +41,37 @@ fn few_labels_are_scanned(rt: HostRuntime) -> Result<(), Fail> {
         let (call, stores) = stored_by(place);
         assert!(rt; metered.scans_few(&call, stores)?, "call {place}");
     }
+    Ok(())
+}
+
+// A write reads the hints of the thread, the container and the segment, the first link to the segment and its container,
+// the segment's hint once more, and the page.
+#[test]
+fn a_write_counts_what_it_reads(rt: HostRuntime) -> Result<(), Fail> {
+    let mut metered = Metered::boot(rt.alloc())?;
+    metered.step(&new_segment(plain()));
+    let write = Call::SegmentWrite {
+        entry: in_root(4),
+        offset: 0,
+        data: Data::from_slice(&[7; 4]),
+    };
+    assert!(rt; agree(metered.probes(&write), Some(7)));
+    Ok(())
+}
+
+// A link reads four hints; the first link to the object and its container for each of the two entries, and that there is no
+// other link; the object's hint for its kind, and both hints once more; and moves a cell of two families, which is
+// thirteen reads.
+#[test]
+fn a_link_counts_what_it_reads(rt: HostRuntime) -> Result<(), Fail> {
+    let mut metered = Metered::boot(rt.alloc())?;
+    metered.step(&new_container(9));
+    metered.step(&new_segment(plain()));
+    metered.step(&Call::SetFixed { entry: in_root(5) });
+    let link = Call::Link {
+        target: ObjectId::new(4),
+        entry: in_root(5),
+    };
+    assert!(rt; agree(metered.probes(&link), Some(25)));
     Ok(())
 }
