@@ -1,4 +1,5 @@
 pub mod RowLaws
+pub mod FoundLaws
 pub mod ListLaws
 pub mod LookLaws
 pub mod LabelLaws

@@ -4,19 +4,21 @@ ghost use Rattle.base.specs.Live.{has};
 ghost use Rattle.base.specs.declared.kinds.Kind.TheVariants as kinds;
 ghost use Rattle.kernel_rules.specs.Changes.{changed, listing, requoted};
 ghost use Rattle.kernel_rules.specs.State.{holds, is_fixed, is_kind_at, list_at, quota_at, use_of};
+ghost use Rattle.kernel_store.specs.Sights.{kind_at};
 ghost use Rattle.arena_state.specs.Shown.{KeepsAllSlots};
 ghost use Rattle.arena_state.specs.States.{state_of};
 
 use crate::records::{charge, discharge, requote};
 use crate::states::ArenaState;
-use base::{Meter, ObjectId};
+use base::{Kind, Meter, ObjectId};
 use containers::Located;
 use kernel_rules::Entry;
 
 impl ArenaState {
     /// An object whose quota is fixed comes last in the list of a second container, which uses its quota more. It takes
-    /// no memory: the link is there, since the quota was admitted.
-    pub fn link(&mut self, container: ObjectId, entry: &Entry, meter: &mut Meter)
+    /// no memory: the link is there, since the quota was admitted. Tells the kind of the object.
+    #[inline(always)]
+    pub fn link(&mut self, container: ObjectId, entry: &Entry, meter: &mut Meter) -> Option<Kind>
         requires container { is_kind_at (state_of self.old) kinds.Container container ≡ true }
         requires held { holds (state_of self.old) entry.now ≡ true }
         requires plain { is_kind_at (state_of self.old) kinds.Container entry.now.object ≡ false }
@@ -25,13 +27,16 @@ impl ArenaState {
         requires room { use_of (state_of self.old) container
             + quota_at (state_of self.old) entry.now.object
             ≤ quota_at (state_of self.old) container }
+        ensures kind { result ≡ kind_at (state_of self.old) entry.now.object }
         ensures state { state_of self.new
             ≡ changed (state_of self.old) container (listing entry.now.object) }
         ensures slots { KeepsAllSlots self.old self.new }
         ensures scans { meter.new.scans ≡ meter.old.scans }
     {
-        match self.quick_slot(container, meter) {
-            Some(parent) => match self.quick_slot(entry.object, meter) {
+        let (into, linked) = self.quick_slots(container, entry.object, meter);
+        let kind = self.kind_found(entry.object, linked);
+        match into {
+            Some(parent) => match linked {
                 Some(object) => {
                     let pages = self.pieces.holdings.records[object.0].quota;
                     let target = Located {
@@ -47,6 +52,7 @@ impl ArenaState {
                     let charged = &mut self.pieces.holdings.records[parent.0];
                     let most = charged.quota;
                     charge(charged, pages, most);
+                    kind
                 }
                 None => unreachable!(),
             },

@@ -80,6 +80,7 @@ impl ArenaState {
     }
 
     /// A segment's bytes are written over from `at` on.
+    #[inline(always)]
     pub fn write_bytes(&mut self, id: ObjectId, at: usize, given: &[u8], meter: &mut Meter)
         requires { at + length given.now ≤ length (bytes_at (state_of self.old) id) }
         ensures state { state_of self.new

@@ -39,22 +39,26 @@ impl ArenaState {
     }
 
     /// The label of an object, where it is recorded.
+    #[inline(always)]
     pub fn label(&self, id: ObjectId, meter: &mut Meter) -> Option<&Label>
         ensures value { option_copied result ≡ label_at (state_of self.now) id }
         ensures scans { meter.new.scans ≡ meter.old.scans }
     {
-        match self.row(id, meter) {
+        let slot = self.quick_slot(id, meter);
+        match self.record(id, slot) {
             Some(row) => Some(self.label_at(row.label)),
             None => None,
         }
     }
 
     /// The clearance of a thread, and `None` for any other object.
+    #[inline(always)]
     pub fn clearance(&self, thread: ObjectId, meter: &mut Meter) -> Option<&Label>
         ensures value { option_copied result ≡ clearance_at (state_of self.now) thread }
         ensures scans { meter.new.scans ≡ meter.old.scans }
     {
-        match self.row(thread, meter) {
+        let slot = self.quick_slot(thread, meter);
+        match self.record(thread, slot) {
             Some(row) => match &row.body {
                 Kept::Thread(kept) => Some(self.label_at(kept.clearance)),
                 _ => None,

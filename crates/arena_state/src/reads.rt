@@ -108,17 +108,27 @@ impl ArenaState {
         }
     }
 
-    /// The kind of an object, none where it is not recorded.
+    // The kind of an object that was looked up.
+    #[inline(always)]
     #[tactic(auto, unfolding(kernel_store::specs::Sights::kind_at))]
+    pub(crate) fn kind_found(&self, id: ObjectId, slot: Option<Slot>) -> Option<Kind>
+        requires found { IfSome slot (λ slot. HasRow self.now id slot.0) }
+        requires none { IfNone slot (object_at (state_of self.now) id ≡ None) }
+        ensures { result ≡ kind_at (state_of self.now) id }
+    {
+        match self.record(id, slot) {
+            Some(row) => Some(row.body.kind()),
+            None => None,
+        }
+    }
+
+    /// The kind of an object, none where it is not recorded.
     pub fn kind(&self, id: ObjectId, meter: &mut Meter) -> Option<Kind>
         ensures value { result ≡ kind_at (state_of self.now) id }
         ensures scans { meter.new.scans ≡ meter.old.scans }
     {
         let slot = self.quick_slot(id, meter);
-        match self.record(id, slot) {
-            Some(row) => Some(row.body.kind()),
-            None => None,
-        }
+        self.kind_found(id, slot)
     }
 
     /// Whether an id is that of an object of this kind.

@@ -137,6 +137,7 @@ impl ArenaState {
 
     /// The row of an object, if there is such an object, says what its slots show, and its slot
     /// names it if it is a thread. All other slots stay.
+    #[inline(always)]
     pub fn remake_row(&self, thread: ObjectId, rows: &mut Rows, meter: &mut Meter)
         requires { slot_count rows.old ≡ (state_of self.now).limits.pages }
         ensures size { slot_count rows.new ≡ slot_count rows.old }
@@ -146,7 +147,7 @@ impl ArenaState {
             → SameAt rows.old rows.new slot }
         ensures scans { meter.new.scans ≡ meter.old.scans }
     {
-        match self.slot(thread, meter) {
+        match self.quick_slot(thread, meter) {
             Some(slot) => match self.space_in(thread, self.record(thread, Some(slot))) {
                 Some(space) => self.show(slot, thread, &space, rows, meter),
                 None => rows.clear(slot),

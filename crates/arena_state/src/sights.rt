@@ -12,6 +12,35 @@ use containers::Located;
 use kernel_rules::Entry;
 use kernel_store::{Seen, Sight, WideSight};
 
+// The same, field by field.
+#[inline(always)]
+pub(crate) fn seen_apart(seen: &Seen) -> Seen
+    ensures { result ≡ seen.now }
+{
+    Seen {
+        kind: seen.kind,
+        observed: seen.observed,
+        flowing: seen.flowing,
+        immutable: seen.immutable,
+        fixed: seen.fixed,
+        pages: seen.pages,
+    }
+}
+
+// The same, field by field.
+#[inline(always)]
+pub(crate) fn sight_apart(sight: &Sight) -> Sight
+    ensures { result ≡ sight.now }
+{
+    Sight {
+        runs: sight.runs,
+        accessible: sight.accessible,
+        held: sight.held,
+        listed: sight.listed,
+        object: seen_apart(&sight.object),
+    }
+}
+
 impl ArenaState {
     // What who has the one record sees of what has the other.
     pub(crate) fn seen(
@@ -60,8 +89,8 @@ impl ArenaState {
         }
     }
 
-    // Whether a container's list has an object, where both were looked up.
-    fn lists_found(
+    // Whether a container's list has an object, where both were looked up. The two cells of the first link are not counted.
+    pub(crate) fn lists_found(
         &self,
         entry: &Entry,
         container: Option<Slot>,
@@ -106,8 +135,8 @@ impl ArenaState {
         seen.is(Kind::Container) && seen.observed
     }
 
-    // What a thread sees of an entry and of its container, where all three were looked up. (It is put into those who
-    // tell it, so that what one doesn't tell is not looked at there.)
+    // What a thread sees of an entry and of its container, where all three were looked up, and whether
+    // the container lists the object. (It is put into those who tell it, so that what one doesn't tell is not looked at there.)
     #[inline(always)]
     pub(crate) fn see_found(
         &self,
@@ -116,7 +145,7 @@ impl ArenaState {
         entry: &Entry,
         container_slot: Option<Slot>,
         object_slot: Option<Slot>,
-        meter: &mut Meter,
+        listed: bool,
     ) -> WideSight
         requires own { Finds self.now thread (option_copied own) }
         requires container { IfSome container_slot (λ slot. HasRow self.now entry.now.container slot.0) }
@@ -125,12 +154,11 @@ impl ArenaState {
         requires object { IfSome object_slot (λ slot. HasRow self.now entry.now.object slot.0) }
         requires no_object { IfNone object_slot
             (object_at (state_of self.now) entry.now.object ≡ None) }
-        ensures value { result ≡ wide_sight_of (state_of self.now) thread entry.now }
-        ensures scans { meter.new.scans ≡ meter.old.scans }
+        requires listed { listed ≡ has (list_at (state_of self.now) entry.now.container) entry.now.object }
+        ensures { result ≡ wide_sight_of (state_of self.now) thread entry.now }
     {
         let container = self.record(entry.container, container_slot);
         let object = self.record(entry.object, object_slot);
-        let listed = self.lists_found(entry, container_slot, object_slot, meter);
         let around = self.seen(thread, own, entry.container, container);
         let holds = around.is(Kind::Container);
         WideSight {
@@ -151,10 +179,12 @@ impl ArenaState {
         ensures value { result ≡ wide_sight_of (state_of self.now) thread entry.now }
         ensures scans { meter.new.scans ≡ meter.old.scans }
     {
+        meter.probe_many(2);
         let own = self.row(thread, meter);
         let container_slot = self.slot(entry.container, meter);
         let object_slot = self.slot(entry.object, meter);
-        self.see_found(thread, own, entry, container_slot, object_slot, meter)
+        let listed = self.lists_found(entry, container_slot, object_slot, meter);
+        self.see_found(thread, own, entry, container_slot, object_slot, listed)
     }
 
     // The same, where one of the three may not be there.
@@ -165,6 +195,20 @@ impl ArenaState {
         ensures scans { meter.new.scans ≡ meter.old.scans }
     {
         self.see(thread, entry, meter)
+    }
+
+    // The same, told field by field: what a call that is rarely made gives back by way of memory is not put into memory then
+    // where none is made.
+    #[inline(always)]
+    fn see_apart(&self, thread: ObjectId, entry: &Entry, meter: &mut Meter) -> WideSight
+        ensures value { result ≡ wide_sight_of (state_of self.now) thread entry.now }
+        ensures scans { meter.new.scans ≡ meter.old.scans }
+    {
+        let seen = self.see_any(thread, entry, meter);
+        WideSight {
+            entry: sight_apart(&seen.entry),
+            container: seen_apart(&seen.container),
+        }
     }
 
     /// What a thread sees of an entry, at three look-ups.
@@ -184,17 +228,20 @@ impl ArenaState {
         ensures value { result ≡ wide_sight_of (state_of self.now) thread entry.now }
         ensures scans { meter.new.scans ≡ meter.old.scans }
     {
-        meter.probe_many(3);
+        // Three hints, and the two cells of the first link to the object.
+        meter.probe_many(5);
         let Some(own) = self.peek(thread) else {
-            return self.see_any(thread, entry, meter);
+            return self.see_apart(thread, entry, meter);
         };
         let Some(container) = self.peek(entry.container) else {
-            return self.see_any(thread, entry, meter);
+            return self.see_apart(thread, entry, meter);
         };
         let Some(object) = self.peek(entry.object) else {
-            return self.see_any(thread, entry, meter);
+            return self.see_apart(thread, entry, meter);
         };
+        let (container, object) = (Some(container), Some(object));
+        let listed = self.lists_found(entry, container, object, meter);
         let own = self.record(thread, Some(own));
-        self.see_found(thread, own, entry, Some(container), Some(object), meter)
+        self.see_found(thread, own, entry, container, object, listed)
     }
 }

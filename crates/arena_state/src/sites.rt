@@ -6,6 +6,7 @@ ghost use Rattle.kernel_store.specs.Sights.{site_of, link_site_of, sight_of, wid
 ghost use Rattle.arena_state.specs.States.{state_of, Finds};
 
 use crate::records::{Kept, Record};
+use crate::sights::{seen_apart, sight_apart};
 use crate::states::ArenaState;
 use crate::uses::pages_of;
 use base::{Kind, Meter, ObjectId};
@@ -77,7 +78,8 @@ impl ArenaState {
     }
 
     /// What a thread sees of a container in which an object of a kind and of this quota is to be listed, at two look-ups.
-    #[inline(never)]
+    /// (It is put into the few rows that ask.)
+    #[inline(always)]
     pub fn site(
         &self,
         thread: ObjectId,
@@ -89,8 +91,7 @@ impl ArenaState {
         ensures value { result ≡ site_of (state_of self.now) thread kind container quota }
         ensures scans { meter.new.scans ≡ meter.old.scans }
     {
-        let thread_slot = self.quick_slot(thread, meter);
-        let slot = self.quick_slot(container, meter);
+        let (thread_slot, slot) = self.quick_slots(thread, container, meter);
         let own = self.record(thread, thread_slot);
         let there = self.record(container, slot);
         let seen = self.seen(thread, own, container, there);
@@ -162,6 +163,34 @@ impl ArenaState {
         self.link_site_seen(thread, own, new, there, &around, entry, object, &seen)
     }
 
+    // The same, told field by field, as `see_apart` does.
+    #[inline(always)]
+    fn link_site_apart(
+        &self,
+        thread: ObjectId,
+        new: &Entry,
+        entry: &Entry,
+        meter: &mut Meter,
+    ) -> LinkSite
+        requires { new.now.object ≡ entry.now.object }
+        ensures value { result ≡ link_site_of (state_of self.now) thread new.now.container entry.now }
+        ensures scans { meter.new.scans ≡ meter.old.scans }
+    {
+        let seen = self.link_site_any(thread, new, entry, meter);
+        LinkSite {
+            site: Site {
+                runs: seen.site.runs,
+                accessible: seen.site.accessible,
+                container: seen_apart(&seen.site.container),
+                avoided: seen.site.avoided,
+                full: seen.site.full,
+            },
+            entry: sight_apart(&seen.entry),
+            listed: seen.listed,
+            cleared: seen.cleared,
+        }
+    }
+
     /// What a thread sees of a container in which the object of an entry is to be listed too, and of the entry, at four
     /// look-ups. (It is put into the one row that asks.)
     #[inline(always)]
@@ -179,25 +208,28 @@ impl ArenaState {
             container,
             object: entry.object,
         };
-        meter.probe_many(4);
+        // Four hints, and twice the two cells of the first link to the object.
+        meter.probe_many(8);
         let Some(own) = self.peek(thread) else {
-            return self.link_site_any(thread, &new, entry, meter);
+            return self.link_site_apart(thread, &new, entry, meter);
         };
         let Some(new_slot) = self.peek(container) else {
-            return self.link_site_any(thread, &new, entry, meter);
+            return self.link_site_apart(thread, &new, entry, meter);
         };
         let Some(old_slot) = self.peek(entry.container) else {
-            return self.link_site_any(thread, &new, entry, meter);
+            return self.link_site_apart(thread, &new, entry, meter);
         };
         let Some(object_slot) = self.peek(entry.object) else {
-            return self.link_site_any(thread, &new, entry, meter);
+            return self.link_site_apart(thread, &new, entry, meter);
         };
         let (new_slot, old_slot, object_slot) = (Some(new_slot), Some(old_slot), Some(object_slot));
+        let is_listed = self.lists_found(&new, new_slot, object_slot, meter);
+        let is_entry = self.lists_found(entry, old_slot, object_slot, meter);
         let own = self.record(thread, Some(own));
         let there = self.record(container, new_slot);
         let object = self.record(entry.object, object_slot);
-        let around = self.see_found(thread, own, &new, new_slot, object_slot, meter);
-        let seen = self.see_found(thread, own, entry, old_slot, object_slot, meter);
+        let around = self.see_found(thread, own, &new, new_slot, object_slot, is_listed);
+        let seen = self.see_found(thread, own, entry, old_slot, object_slot, is_entry);
         self.link_site_seen(
             thread,
             own,

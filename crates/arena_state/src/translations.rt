@@ -91,6 +91,7 @@ impl ArenaState {
     }
 
     // Where an address lies by a mapping that covers it, and what that shows.
+    #[inline(always)]
     fn place_by(
         &self,
         address: u64,

@@ -2,34 +2,42 @@
 ghost use Rattle.std.specs.Prelude.{◌≡◌};
 ghost use Rattle.kernel_rules.specs.Changes.{changed, delisting};
 ghost use Rattle.kernel_rules.specs.Step.{restricted};
+ghost use Rattle.kernel_store.specs.Sights.{kind_at};
 ghost use Rattle.arena_state.specs.Shown.{KeepsAllSlots};
 ghost use Rattle.arena_state.specs.States.{state_of, HasRow};
 
 use crate::records::discharge;
 use crate::states::ArenaState;
-use base::{Meter, Slot};
+use base::{Kind, Meter, Slot};
 use containers::Located;
 use kernel_rules::Entry;
 
 impl ArenaState {
     /// An object is taken out of a container's list, and what no path from the root leads to is gone. It takes no
-    /// memory and scans no label. What no list has is left.
-    pub fn unref(&mut self, entry: &Entry, meter: &mut Meter)
+    /// memory and scans no label. What no list has is left. Tells the kind that the object had, none where it was not
+    /// recorded.
+    #[inline(always)]
+    pub fn unref(&mut self, entry: &Entry, meter: &mut Meter) -> Option<Kind>
+        ensures kind { result ≡ kind_at (state_of self.old) entry.now.object }
         ensures state { state_of self.new ≡ restricted
             (changed (state_of self.old) entry.now.container (delisting entry.now.object)) }
         ensures slots { KeepsAllSlots self.old self.new }
         ensures scans { meter.new.scans ≡ meter.old.scans }
     {
-        match self.quick_slot(entry.container, meter) {
-            Some(container) => match self.quick_slot(entry.object, meter) {
+        let (lister, listed) = self.quick_slots(entry.container, entry.object, meter);
+        let kind = self.kind_found(entry.object, listed);
+        match lister {
+            Some(container) => match listed {
                 Some(object) => self.unlink(entry, container, object, meter),
                 None => {}
             },
             None => {}
         }
+        kind
     }
 
     // An object is taken out of a container's list, where both were looked up. What it doesn't list is left.
+    #[inline(always)]
     fn unlink(&mut self, entry: &Entry, container: Slot, object: Slot, meter: &mut Meter)
         requires container { HasRow self.old entry.now.container container.0 }
         requires object { HasRow self.old entry.now.object object.0 }

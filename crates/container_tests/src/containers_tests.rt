@@ -166,6 +166,25 @@ fn a_link_is_made_where_both_were_found(rt: HostRuntime) -> Result<(), Fail> {
     Ok(())
 }
 
+// The first link and its container are not counted; where that is another one, that there is another link is, and the last one
+// with its container.
+#[test]
+fn a_first_link_is_looked_at_uncounted(rt: HostRuntime) -> Result<(), Fail> {
+    let mut meter = Meter::new(rt.alloc())?;
+    let tree = family(rt.alloc(), &mut meter)?;
+    let root = found(&tree, ObjectId::root(), &mut meter);
+    let six = found(&tree, ObjectId::new(6), &mut meter);
+    let before = meter.probes();
+    assert!(rt; is_true(tree.is_linked(root, six, &mut meter)));
+    assert!(rt; agree(meter.probes(), before));
+    let four = found(&tree, ObjectId::new(4), &mut meter);
+    let other = found(&tree, ObjectId::new(6), &mut meter);
+    let before = meter.probes();
+    assert!(rt; is_true(tree.is_linked(four, other, &mut meter)));
+    assert!(rt; agree(meter.probes().saturating_sub(before), 3));
+    Ok(())
+}
+
 #[test]
 fn a_link_that_was_found_goes(rt: HostRuntime) -> Result<(), Fail> {
     let mut meter = Meter::new(rt.alloc())?;

@@ -1,9 +1,9 @@
 -- One link that goes, with what it takes along.
-use Rattle.std.proofs.Common.{◌≡◌, ℕ, ◌≤◌, inl, inr, List, [], length, get_or, Some, None, sym, ap, ◌∙◌, subst, arith}
-use Rattle.std.specs.Prelude.{slice_get, sum_by}
+use Rattle.std.proofs.Common.{◌≡◌, ℕ, ◌≤◌, inl, inr, List, [], length, get_or, Option, Some, None, sym, ap, ◌∙◌, subst, arith}
+use Rattle.std.specs.Prelude.{slice_get, sum_by, IfSome}
 use Rattle.std.proofs.lemmas.Bool.{cases_lt}
 use Rattle.std.proofs.lemmas.Option.{slice_get-get_or, slice_get_past}
-use Rattle.entry_lists.specs.Lists.{Lists, family_at, StandsAt}
+use Rattle.entry_lists.specs.Lists.{Lists, family_at, cells_at, StandsAt}
 use Rattle.containers.specs.Cells.{Stands, IsLink, Lists', IsDropped, IsSound}
 use Rattle.containers.specs.Sweep.{IsSweeping, IsSwept, IsSimple, IsTree, IsCut}
 use Rattle.containers.proofs.Moves.{changed_at}
@@ -21,6 +21,11 @@ some_at xs k c e = elim (cases_lt k (length xs)) [
 
     same : (x y : ℕ) → Some x ≡ Some y → x ≡ y
     same x y h = cc
+
+-- so what a read of a list of a family finds stands there
+pub some_stands : (r : List Lists) (family head place : ℕ) (found : Option ℕ) → found ≡ slice_get (cells_at r family head) place → IfSome found (Stands r family head)
+some_stands r family head place None e = tt
+some_stands r family head place (Some c) e = record { place = place; stands = some_at (cells_at r family head) place c e }
 
 pub at_some : (xs : List ℕ) (k c : ℕ) → StandsAt xs k c → slice_get xs k ≡ Some c
 at_some xs k c at = slice_get-get_or xs k 0 at.within ∙ ap (λ (i : ℕ). Some i) at.is

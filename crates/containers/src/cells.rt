@@ -1,7 +1,7 @@
 //! The cells of links, by slots.
 ghost use Rattle.std.specs.Prelude.{◌≡◌, ◌≢◌, ℕ, ◌+◌, ◌*◌, ◌<◌, ◌^◌, [], ◌∷◌, length, IfOk};
-ghost use Rattle.std.specs.Prelude.{◌≤◌, IfSome, IfNone, sum_by, vec_capacity};
-ghost use Rattle.entry_lists.specs.Lists.{family_at, cells_at, StandsAt};
+ghost use Rattle.std.specs.Prelude.{◌≤◌, IfSome, IfNone, Some, sum_by, slice_get, vec_capacity};
+ghost use Rattle.entry_lists.specs.Lists.{family_at, cells_at};
 ghost use Rattle.containers.specs.Cells.{Stands, IsShifted, IsFreed, IsDropped, IsPaired};
 ghost use Rattle.containers.specs.Cells.{IsLink, Lists', IsSound, IsDying, IsAdded};
 ghost use Rattle.containers.specs.Sweep.{IsSweeping, IsSwept, IsTree, IsSimple, IsCut};
@@ -27,30 +27,33 @@ pub fn spare_rings(alloc: Global, size: usize) -> Result<Rings<2>, NoMemory>
     Ok(rings)
 }
 
-// Takes a cell from its list of a family to the end of another.
-fn shift(rings: &mut Rings<2>, family: usize, to: usize, cell: usize, meter: &mut Meter)
+// Takes a cell from its list of a family to the end of another. It counts nothing.
+#[inline(always)]
+fn shift(rings: &mut Rings<2>, family: usize, to: usize, cell: usize)
     requires family { family < 2 }
     requires to { to < length (family_at rings.old family).lists }
     requires from { (head : ℕ) × (head ≢ to) × Stands rings.old family head cell }
-    ensures shifted { IsShifted rings.old rings.new family to cell }
-    ensures scans { meter.new.scans ≡ meter.old.scans }
+    ensures { IsShifted rings.old rings.new family to cell }
 {
-    rings.unlink(family, cell, meter);
-    rings.push_back(family, to, cell, meter);
+    rings.shift(family, to, cell);
 }
 
 // Makes a cell spare.
+#[inline(always)]
 fn free(rings: &mut Rings<2>, size: usize, cell: usize, meter: &mut Meter)
     requires paired { IsPaired size rings.old }
     requires holder { (head : ℕ) × (head ≢ size) × Stands rings.old 0 head cell }
     ensures freed { IsFreed size rings.old rings.new cell }
     ensures scans { meter.new.scans ≡ meter.old.scans }
 {
-    shift(rings, 0, size, cell, meter);
-    shift(rings, 1, size, cell, meter);
+    // Two cells that are moved.
+    meter.probe_many(12);
+    shift(rings, 0, size, cell);
+    shift(rings, 1, size, cell);
 }
 
 // Takes a link out of its container. The last link to a slot is kept among the dying.
+#[inline(always)]
 fn drop_link(rings: &mut Rings<2>, size: usize, object: usize, cell: usize, meter: &mut Meter)
     requires fits { size + 2 < 2 ^ 64 }
     requires paired { IsPaired size rings.old }
@@ -61,7 +64,9 @@ fn drop_link(rings: &mut Rings<2>, size: usize, object: usize, cell: usize, mete
     ensures scans { meter.new.scans ≡ meter.old.scans }
 {
     if rings.len(1, object, meter) == 1 {
-        shift(rings, 0, size + 1, cell, meter);
+        // A cell that is moved.
+        meter.probe_many(6);
+        shift(rings, 0, size + 1, cell);
     } else {
         free(rings, size, cell, meter);
     }
@@ -117,9 +122,13 @@ fn sweep<V: Visitor>(
 {
     // For the proof alone: the loop's invariant names the root.
     let _root = root;
-    while let Some(last) = rings.first(0, size + 1, meter) {
-        let object = rings.head_of(1, last, meter);
-        match rings.first(0, object, meter) {
+    // That at last none is dying.
+    meter.probe();
+    while let Some(last) = rings.peek_first(0, size + 1) {
+        let object = rings.peek_head_of(1, last);
+        // The first of the dying, whose link it was, and what that lists first.
+        meter.probe_many(3);
+        match rings.peek_first(0, object) {
             Some(cell) => {
                 let entry = rings.head_of(1, cell, meter);
                 drop_link(rings, size, entry, cell, meter);
@@ -195,8 +204,40 @@ fn walked_link(
     None
 }
 
+// The cell by which a container lists an object, if it does, where the first link to the object is not the container's.
+fn later_link(
+    rings: &Rings<2>,
+    size: usize,
+    container: usize,
+    object: usize,
+    meter: &mut Meter,
+) -> Option<usize>
+    requires paired { IsPaired size rings.now }
+    requires container { container < size }
+    requires object { object < size }
+    requires later { (c : ℕ) → IsLink size rings.now container object c
+        → slice_get (cells_at rings.now 1 object) 0 ≢ Some c }
+    ensures found { IfSome result (λ c. IsLink size rings.now container object c) }
+    ensures absent { IfNone result (Lists' size rings.now container object → ⊥) }
+    ensures scans { meter.new.scans ≡ meter.old.scans }
+{
+    if rings.len(1, object, meter) < 2 {
+        return None;
+    }
+    let last = rings.peek_last(1, object);
+    let held = if_held(rings, size, container, object, last);
+    // The last link and its holder.
+    meter.probe_many(2);
+    if let Some(cell) = held {
+        return Some(cell);
+    }
+    walked_link(rings, size, container, object, meter)
+}
+
 /// The cell by which a container lists an object, if it does. Most objects have one link, and most links that go are an
-/// object's first or its last, so these are looked at before the walk over all.
+/// object's first or its last, so these are looked at before the walk over all. The first link and its holder are not
+/// counted: whoever asks counts them.
+#[inline(always)]
 pub fn find_link(
     rings: &Rings<2>,
     size: usize,
@@ -211,25 +252,15 @@ pub fn find_link(
     ensures absent { IfNone result (Lists' size rings.now container object → ⊥) }
     ensures scans { meter.new.scans ≡ meter.old.scans }
 {
-    // The first link and its holder.
-    meter.probe_many(2);
     let first = rings.peek_first(1, object);
-    if let Some(cell) = if_held(rings, size, container, object, first) {
-        return Some(cell);
+    match if_held(rings, size, container, object, first) {
+        Some(cell) => Some(cell),
+        None => later_link(rings, size, container, object, meter),
     }
-    if rings.len(1, object, meter) < 2 {
-        return None;
-    }
-    // The last link and its holder.
-    meter.probe_many(2);
-    let last = rings.peek_last(1, object);
-    if let Some(cell) = if_held(rings, size, container, object, last) {
-        return Some(cell);
-    }
-    walked_link(rings, size, container, object, meter)
 }
 
 /// Makes a spare cell a link, the last of the container's entries.
+#[inline(always)]
 pub fn add_link(
     rings: &mut Rings<2>,
     size: usize,
@@ -244,10 +275,12 @@ pub fn add_link(
     ensures added { IsAdded size rings.old rings.new container object }
     ensures scans { meter.new.scans ≡ meter.old.scans }
 {
-    match rings.first(0, size, meter) {
+    // The first spare cell, which is moved in two families.
+    meter.probe_many(13);
+    match rings.peek_first(0, size) {
         Some(cell) => {
-            shift(rings, 0, container, cell, meter);
-            shift(rings, 1, object, cell, meter);
+            shift(rings, 0, container, cell);
+            shift(rings, 1, object, cell);
         }
         None => unreachable!(),
     }

@@ -216,14 +216,20 @@ impl<T: Drop> Containers<T> {
     {
         match self.arena.find(container, meter) {
             Some(d) => match self.arena.find(object, meter) {
-                Some(o) => find_link(&self.rings, self.size, d.0, o.0, meter).is_some(),
+                Some(o) => {
+                    // The first link to the object, and its holder.
+                    meter.probe_many(2);
+                    find_link(&self.rings, self.size, d.0, o.0, meter).is_some()
+                }
                 None => false,
             },
             None => false,
         }
     }
 
-    /// Whether a container lists an object, where both were found: no id is looked up.
+    /// Whether a container lists an object, where both were found: no id is looked up. The two cells of the first link, which
+    /// tells most often, are not counted: whoever asks counts them.
+    #[inline(always)]
     pub fn is_linked(&self, container: Located, object: Located, meter: &mut Meter) -> bool
         requires container { HasSlot self.now container.id container.slot.0 }
         requires object { HasSlot self.now object.id object.slot.0 }
@@ -318,6 +324,7 @@ impl<T: Drop> Containers<T> {
     }
 
     /// Adds a link as `link` does, where both were found: no id is looked up. All else stays.
+    #[inline(always)]
     pub fn link_found(&mut self, container: Located, object: Located, meter: &mut Meter)
         requires container { HasSlot self.old container.id container.slot.0 }
         requires object { HasSlot self.old object.id object.slot.0 }
@@ -406,7 +413,10 @@ impl<T: Drop> Containers<T> {
         ensures scans { meter.new.scans ≡ meter.old.scans }
     {
         let (d, o) = (container.slot.0, object.slot.0);
-        match find_link(&self.rings, self.size, d, o, meter) {
+        let found = find_link(&self.rings, self.size, d, o, meter);
+        // The first link to the object, and its holder.
+        meter.probe_many(2);
+        match found {
             Some(cell) => {
                 cut_link(
                     &mut self.rings,

@@ -1,6 +1,6 @@
 -- What a contract sees of lists of cells.
 use Rattle.std.specs.Prelude.{◌≡◌, ℕ, ◌<◌, ◌≤◌, List, [], length, slice_index, slice_index_or}
-use Rattle.std.specs.Prelude.{slice_set, replicate, refl}
+use Rattle.std.specs.Prelude.{slice_set, replicate, remove, ◌++◌, ◌∷◌, refl}
 use Rattle.std.specs.Coded.{Coded, code_by, coded×, coded_ℕ, coded_list}
 
 -- how many cells there are, and for each head its list of cells
@@ -15,6 +15,15 @@ list_at r head = slice_index_or r.lists head []
 -- the same lists but for one
 abbrev pub with_list : Lists → ℕ → List ℕ → Lists
 with_list r head xs = record r { lists = slice_set r.lists head xs }
+
+-- a cell at this place of a head's list goes to the end of another's
+abbrev pub shifted : List (List ℕ) → ℕ → ℕ → ℕ → ℕ → List (List ℕ)
+shifted lists head place to cell =
+    let out = slice_set lists head (remove (slice_index_or lists head []) place) in
+    slice_set out to (slice_index_or out to [] ++ cell ∷ [])
+
+abbrev pub shifted_lists : Lists → ℕ → ℕ → ℕ → ℕ → Lists
+shifted_lists r head place to cell = record r { lists = shifted r.lists head place to cell }
 
 -- the cell stands at this place of this list
 pub record StandsAt (xs : List ℕ) (place cell : ℕ) : Type 0 where

@@ -1,9 +1,11 @@
 //! One family of lists: each cell stands in at most one of them.
-ghost use Rattle.std.specs.Prelude.{◌≡◌, ℕ, ◌+◌, ◌-◌, ◌^◌, ◌<◌, [], ◌∷◌, ◌++◌, length};
-ghost use Rattle.std.specs.Prelude.{IfOk, slice_get, remove};
+ghost use Rattle.std.specs.Prelude.{◌≡◌, ℕ, ◌+◌, ◌-◌, ◌^◌, ◌<◌, List, [], ◌∷◌, ◌++◌, length};
+ghost use Rattle.std.specs.Prelude.{IfOk, slice_get, slice_index, slice_index_or, slice_set, remove};
 ghost use Rattle.std.specs.Prelude.{Some, None};
 ghost use Rattle.std.specs.List.{range_with_len};
 ghost use Rattle.base.specs.Counts.{probed};
+ghost use Rattle.entry_lists.specs.Chain.{IsLaidOut};
+ghost use Rattle.entry_lists.specs.Lists.{StandsAt, shifted};
 
 use base::{Meter, NoMemory};
 use std::alloc::Global;
@@ -50,9 +52,91 @@ fn each_below(alloc: Global, len: usize) -> Result<Vec<usize>, NoMemory>
     Ok(v)
 }
 
+// Puts a cell that stands in no list at the end of a head's list, by the nodes alone.
+#[inline(always)]
+fn put_last(
+    cells: usize,
+    next: &mut [usize],
+    prev: &mut [usize],
+    heads: &mut [usize],
+    lens: &mut [usize],
+    head: usize,
+    cell: usize,
+)
+    ghost lists: { List (List ℕ) }
+    requires laid { IsLaidOut cells next.old prev.old heads.old lens.old lists }
+    requires head { head < length lists }
+    requires cell { cell < cells }
+    requires free { (other place : ℕ) → StandsAt (slice_index_or lists other []) place cell → ⊥ }
+    requires last { slice_index prev.old (cells + head) < length next.old }
+    ensures { IsLaidOut cells next.new prev.new heads.new lens.new
+        (slice_set lists head (slice_index_or lists head [] ++ cell ∷ [])) }
+{
+    let sentinel = cells + head;
+    let last = prev[sentinel];
+    let len = lens[head];
+    next[last] = cell;
+    next[cell] = sentinel;
+    prev[sentinel] = cell;
+    prev[cell] = last;
+    heads[cell] = head;
+    lens[head] = len + 1;
+}
+
+// Takes a cell out of its list, by the nodes alone.
+#[inline(always)]
+fn take_out(
+    cells: usize,
+    next: &mut [usize],
+    prev: &mut [usize],
+    heads: &[usize],
+    lens: &mut [usize],
+    cell: usize,
+)
+    ghost lists: { List (List ℕ) }
+    requires laid { IsLaidOut cells next.old prev.old heads.now lens.old lists }
+    requires linked { (head : ℕ) × (place : ℕ) × StandsAt (slice_index_or lists head []) place cell }
+    requires before { slice_index prev.old cell < length next.old }
+    requires after { slice_index next.old cell < length prev.old }
+    ensures { (head place : ℕ) → StandsAt (slice_index_or lists head []) place cell
+        → IsLaidOut cells next.new prev.new heads.now lens.new
+        (slice_set lists head (remove (slice_index_or lists head []) place)) }
+{
+    let _cells = cells;
+    let before = prev[cell];
+    let after = next[cell];
+    let head = heads[cell];
+    let len = lens[head];
+    next[before] = after;
+    prev[after] = before;
+    lens[head] = len - 1;
+}
+
+// Takes a cell out of its list and puts it at the end of a head's list, by the nodes alone.
+#[inline(always)]
+fn shift(
+    cells: usize,
+    next: &mut [usize],
+    prev: &mut [usize],
+    heads: &mut [usize],
+    lens: &mut [usize],
+    to: usize,
+    cell: usize,
+)
+    ghost lists: { List (List ℕ) }
+    requires laid { IsLaidOut cells next.old prev.old heads.old lens.old lists }
+    requires to { to < length lists }
+    requires linked { (head : ℕ) × (place : ℕ) × StandsAt (slice_index_or lists head []) place cell }
+    ensures { (head place : ℕ) → StandsAt (slice_index_or lists head []) place cell
+        → IsLaidOut cells next.new prev.new heads.new lens.new (shifted lists head place to cell) }
+{
+    take_out(cells, next, prev, heads, lens, cell);
+    put_last(cells, next, prev, heads, lens, to, cell);
+}
+
 impl Chains {
-    ghost use Rattle.entry_lists.specs.Lists.{empty_lists, list_at, with_list};
-    ghost use Rattle.entry_lists.specs.Lists.{StandsAt, IsLinked, IsWellFormed};
+    ghost use Rattle.entry_lists.specs.Lists.{empty_lists, list_at, with_list, shifted_lists};
+    ghost use Rattle.entry_lists.specs.Lists.{IsLinked, IsWellFormed};
 
     /// Lists with no cell yet, one for each head. Only this takes memory.
     pub fn new(alloc: Global, heads: usize, cells: usize) -> Result<Self, NoMemory>
@@ -168,15 +252,15 @@ impl Chains {
         ensures counted { meter.new ≡ probed 2 meter.old }
     {
         meter.probe_many(2);
-        let sentinel = self.cells + head;
-        let last = self.prev[sentinel];
-        let len = self.lens[head];
-        self.next[last] = cell;
-        self.next[cell] = sentinel;
-        self.prev[sentinel] = cell;
-        self.prev[cell] = last;
-        self.heads[cell] = head;
-        self.lens[head] = len + 1;
+        put_last(
+            self.cells,
+            &mut self.next,
+            &mut self.prev,
+            &mut self.heads,
+            &mut self.lens,
+            head,
+            cell,
+        );
     }
 
     /// Takes a cell out of its list.
@@ -190,12 +274,34 @@ impl Chains {
         ensures counted { meter.new ≡ probed 4 meter.old }
     {
         meter.probe_many(4);
-        let before = self.prev[cell];
-        let after = self.next[cell];
-        let head = self.heads[cell];
-        let len = self.lens[head];
-        self.next[before] = after;
-        self.prev[after] = before;
-        self.lens[head] = len - 1;
+        take_out(
+            self.cells,
+            &mut self.next,
+            &mut self.prev,
+            &self.heads,
+            &mut self.lens,
+            cell,
+        );
+    }
+
+    /// Takes a cell out of its list and puts it at the end of a head's list, which may be the same. Counts
+    /// nothing: whoever moves cells adds up what is read at once, six a cell.
+    pub fn shift(&mut self, to: usize, cell: usize)
+        requires to { to < length self.old.lists }
+        requires linked { IsLinked self.old cell }
+        ensures shifted { (head place : ℕ) → StandsAt (list_at self.old head) place cell
+            → self.new ≡ shifted_lists self.old head place to cell }
+        ensures was_well_formed { IsWellFormed self.old }
+        ensures well_formed { IsWellFormed self.new }
+    {
+        shift(
+            self.cells,
+            &mut self.next,
+            &mut self.prev,
+            &mut self.heads,
+            &mut self.lens,
+            to,
+            cell,
+        );
     }
 }

@@ -1,6 +1,6 @@
 //! Several families of lists over the same cells.
 ghost use Rattle.std.specs.Prelude.{◌≡◌, ℕ, ◌+◌, ◌-◌, ◌^◌, ◌<◌, [], ◌∷◌, ◌++◌, length};
-ghost use Rattle.std.specs.Prelude.{map, IfOk, slice_get, remove, All};
+ghost use Rattle.std.specs.Prelude.{map, IfOk, slice_get, slice_set, remove, All};
 ghost use Rattle.base.specs.Counts.{probed};
 
 use crate::chains::Chains;
@@ -31,7 +31,7 @@ impl<const FAMILIES: usize> Model for Rings<FAMILIES> {
 }
 
 impl<const FAMILIES: usize> Rings<FAMILIES> {
-    ghost use Rattle.entry_lists.specs.Lists.{empty_lists, family_at, cells_at, with_cells};
+    ghost use Rattle.entry_lists.specs.Lists.{empty_lists, family_at, cells_at, with_cells, shifted_lists};
     ghost use Rattle.entry_lists.specs.Lists.{StandsAt, IsLinked, IsWellFormed};
 
     /// Lists with no cell yet: `heads` says for each family how many heads it has, and all families have the same
@@ -169,5 +169,23 @@ impl<const FAMILIES: usize> Rings<FAMILIES> {
     {
         let lists = &mut self.families[family];
         lists.unlink(cell, meter);
+    }
+
+    /// Takes a cell out of its list of the family and puts it at the end of a head's list, which may be the same; the order
+    /// of the others stays, and so do all other lists. Counts nothing: whoever moves cells adds up what is read at once, six a
+    /// cell.
+    pub fn shift(&mut self, family: usize, to: usize, cell: usize)
+        requires family { family < FAMILIES }
+        requires to { to < length (family_at self.old family).lists }
+        requires linked { IsLinked (family_at self.old family) cell }
+        ensures shifted { (head place : ℕ) → StandsAt (cells_at self.old family head) place cell
+            → self.new ≡ slice_set self.old family
+            (shifted_lists (family_at self.old family) head place to cell) }
+        ensures families { length self.old ≡ FAMILIES }
+        ensures was_well_formed { IsWellFormed (family_at self.old family) }
+        ensures well_formed { IsWellFormed (family_at self.new family) }
+    {
+        let lists = &mut self.families[family];
+        lists.shift(to, cell);
     }
 }

@@ -10,7 +10,9 @@ ghost use Rattle.kernel_calls.specs.Said.{IsSaid, first_said, stored_said};
 ghost use Rattle.kernel_calls.specs.Settled.{settled};
 ghost use Rattle.kernel_store.specs.Storing.{storing};
 
-use crate::frequent::{clear, step_link, step_segment_write, step_unref};
+use crate::frequent::{
+    clear, step_link, step_segment_create, step_segment_write, step_unref, tell_object,
+};
 use crate::refusals::refused;
 use crate::saying::{first_in, said_of, says_more, second_in, third_in};
 use base::{Category, Meter, ObjectId};
@@ -33,13 +35,6 @@ fn tell_category(reply: &mut Reply, made: Category)
     ensures { reply.new ≡ told.Category made }
 {
     *reply = Reply::Category(made);
-}
-
-// The reply is the object that was made.
-fn tell_object(reply: &mut Reply, made: ObjectId)
-    ensures { reply.new ≡ told.Object made }
-{
-    *reply = Reply::Object(made);
 }
 
 // What a call that nothing refuses changes, and what the reply then is. Without memory, which is the
@@ -221,7 +216,9 @@ fn step_saying<S: Store>(
     step_said(state, thread, call, &said, reply, meter)
 }
 
-// One call of those that are made less often.
+// One call of those that are made less often. (In a function of its own: what it needs beside is left out of the way of the
+// others.)
+#[inline(never)]
 fn step_other<S: Store>(
     state: &mut S,
     thread: ObjectId,
@@ -272,6 +269,7 @@ pub(crate) fn step_into<S: Store>(
             offset,
             data,
         } => Ok(step_segment_write(state, thread, entry, *offset, data, reply, meter)),
+        Call::SegmentCreate(made) => step_segment_create(state, thread, made, reply, meter),
         Call::Link { target, entry } => step_link(state, thread, *target, entry, reply, meter),
         Call::Unref { entry } => step_unref(state, thread, entry, reply, meter),
         _ => step_other(state, thread, call, reply, meter),

@@ -1,15 +1,28 @@
 //! The calls and the query that are made most often, each by its own row and change: what all calls share is left out of their way.
-ghost use Rattle.std.specs.Prelude.{◌≡◌, OnOk, OnErr};
+ghost use Rattle.std.specs.Prelude.{◌≡◌, ◌≤◌, ◌+◌, OnOk, OnErr};
 ghost use Rattle.kernel_rules.specs.Step.{answer, next, query_answer};
+ghost use Rattle.kernel_calls.specs.Scans.{most_scans};
 ghost use Rattle.kernel_rules.specs.declared.calls.Call.TheVariants as call;
 ghost use Rattle.kernel_rules.specs.declared.calls.Query.TheVariants as query;
 ghost use Rattle.kernel_rules.specs.declared.replies.Reply.TheVariants as told;
 
 use base::{Data, Meter, ObjectId};
-use kernel_rules::{Entry, Reply};
+use kernel_rules::{Entry, NewSegment, Reply};
 use kernel_store::{Store, refuse};
+use label_rules::stored_of;
 use link_calls::{link, refused_link, refused_unref, unref};
-use memory_calls::{refused_segment_read, refused_segment_write, segment_read, segment_write};
+use memory_calls::{
+    refused_segment_create, refused_segment_read, refused_segment_write, segment_create,
+    segment_read, segment_write,
+};
+
+// The reply becomes `Done`, whatever it was. (In a function of its own, as `kernel_store::refuse` says.)
+#[inline(never)]
+fn tell_done(reply: &mut Reply)
+    ensures { reply.new ≡ told.Done }
+{
+    *reply = Reply::Done;
+}
 
 /// The reply becomes `Done`. A reply is large, so it is written where it is another alone.
 pub fn clear(reply: &mut Reply)
@@ -17,11 +30,12 @@ pub fn clear(reply: &mut Reply)
 {
     match reply {
         Reply::Done => {}
-        _ => *reply = Reply::Done,
+        _ => tell_done(reply),
     }
 }
 
 /// The reply has bytes of a segment, or what refuses to read them.
+#[inline(never)]
 pub fn ask_segment_read<S: Store>(
     state: &S,
     thread: ObjectId,
@@ -43,6 +57,7 @@ pub fn ask_segment_read<S: Store>(
 }
 
 /// Writes over bytes of a segment, or has the reply tell what refuses to.
+#[inline(never)]
 pub fn step_segment_write<S: Store>(
     state: &mut S,
     thread: ObjectId,
@@ -66,8 +81,44 @@ pub fn step_segment_write<S: Store>(
     segment_write(state, thread, entry, offset, given, meter);
 }
 
+/// The reply is the object that was made. (In a function of its own, as `kernel_store::refuse` says.)
+#[inline(never)]
+pub fn tell_object(reply: &mut Reply, made: ObjectId)
+    ensures { reply.new ≡ told.Object made }
+{
+    *reply = Reply::Object(made);
+}
+
+/// Makes a segment, or has the reply tell what refuses to. The error is want of memory, and nothing is changed then.
+#[inline(never)]
+pub fn step_segment_create<S: Store>(
+    state: &mut S,
+    thread: ObjectId,
+    made: &NewSegment,
+    reply: &mut Reply,
+    meter: &mut Meter,
+) -> Result<(), S::Want>
+    requires { reply.old ≡ told.Done }
+    ensures reply { OnOk result (reply.new
+        ≡ answer (S.state state.old) thread (call.SegmentCreate made.now)) }
+    ensures ok { OnOk result (S.state state.new
+        ≡ next (S.state state.old) thread (call.SegmentCreate made.now)) }
+    ensures err { OnErr result (S.state state.new ≡ S.state state.old) }
+    ensures scans { S.kept meter.new ≤ S.kept meter.old + most_scans 1 (S.stored state.old) }
+{
+    let label = stored_of(&made.label, meter);
+    if let Some(refusal) = refused_segment_create(state, thread, made, label.as_ref(), meter) {
+        refuse(reply, refusal);
+        return Ok(());
+    }
+    let id = segment_create(state, thread, made, label.as_ref(), meter)?;
+    tell_object(reply, id);
+    Ok(())
+}
+
 /// Links an object a second time, or has the reply tell what refuses to. The error is want of memory, and nothing is
 /// changed then.
+#[inline(never)]
 pub fn step_link<S: Store>(
     state: &mut S,
     thread: ObjectId,
@@ -93,6 +144,7 @@ pub fn step_link<S: Store>(
 
 /// Takes an object out of a container's list, or has the reply tell what refuses to. The error is want of memory, and
 /// nothing is changed then.
+#[inline(never)]
 pub fn step_unref<S: Store>(
     state: &mut S,
     thread: ObjectId,

@@ -28,6 +28,7 @@ pub struct NewObject<'a> {
 }
 
 /// The new object, which uses so many pages itself, fits into its container, which was looked at.
+#[inline(always)]
 fn fitting<S: Store>(
     state: &S,
     thread: ObjectId,
@@ -84,6 +85,7 @@ pub fn good_label<S: Store>(state: &S, raw: &RawLabel, label: Option<&Label>) ->
 }
 
 /// The raw label can be that of a container, a segment or an address space.
+#[inline(always)]
 fn starless_label<S: Store>(state: &S, raw: &RawLabel, label: Option<&Label>) -> [Condition; 1]
     requires { option_copied label ≡ stored raw.now }
     ensures { result ≡ (
@@ -98,6 +100,7 @@ fn starless_label<S: Store>(state: &S, raw: &RawLabel, label: Option<&Label>) ->
 }
 
 /// Whether a stored label is at least the thread's, and at most its clearance.
+#[inline(always)]
 pub fn is_in_range<S: Store>(
     state: &S,
     thread: ObjectId,
@@ -114,7 +117,9 @@ pub fn is_in_range<S: Store>(
 }
 
 /// What refuses a new container, segment or address space, which uses so many pages itself. Its
-/// container was looked at, and its label is the stored one, where there is one.
+/// container was looked at, and its label is the stored one, where there is one. (It is put into the rows that ask, as
+/// `refusal_of` is.)
+#[inline(always)]
 pub fn new_object<S: Store>(
     state: &S,
     thread: ObjectId,

@@ -60,8 +60,7 @@ fn a_write_counts_what_it_reads(rt: HostRuntime) -> Result<(), Fail> {
 }
 
 // A link reads four hints; the first link to the object and its container for each of the two entries, and that there is no
-// other link; the object's hint for its kind, and both hints once more; and moves a cell of two families, which is
-// thirteen reads.
+// other link; both hints once more; and moves a cell of two families, which is thirteen reads.
 #[test]
 fn a_link_counts_what_it_reads(rt: HostRuntime) -> Result<(), Fail> {
     let mut metered = Metered::boot(rt.alloc())?;
@@ -72,6 +71,6 @@ fn a_link_counts_what_it_reads(rt: HostRuntime) -> Result<(), Fail> {
         target: ObjectId::new(4),
         entry: in_root(5),
     };
-    assert!(rt; agree(metered.probes(&link), Some(25)));
+    assert!(rt; agree(metered.probes(&link), Some(24)));
     Ok(())
 }

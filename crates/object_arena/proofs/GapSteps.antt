@@ -3,7 +3,7 @@ use Rattle.std.proofs.Common.{◌≡◌, ◌≢◌, ℕ, ◌+◌, ◌<◌, ◌�
 use Rattle.std.specs.Prelude.{IsSome, Contains, is_some, false}
 use Rattle.std.proofs.lemmas.Bool.{cases_lt, cases_eq, false≢true}
 use Rattle.std.proofs.lemmas.List.{get_or_append_left, get_or_push, get_or-take, length-take-le}
-use Rattle.object_arena.specs.Objects.{Rises, Apart, IsWithoutAll}
+use Rattle.object_arena.specs.Objects.{Objects, Rises, Apart, IsWithoutAll}
 use Rattle.object_arena.specs.Slots.{IsKept}
 use Rattle.object_arena.specs.Gaps.{Goes, IsVacated, HasGaps, CameFrom, IsClosing, IsClosed}
 use Rattle.object_arena.proofs.Kept.{one_place, not_both, two_slots, in_range_some, Apart-push, default}
@@ -351,3 +351,17 @@ vacated_from ids slots ids0 slots0 gone count old old0 new first a b d v =
     subst (λ (xs : List ℕ). IsVacated xs slots gone count old new first) a
     (subst (λ (xs : List ℕ). IsVacated ids0 xs gone count old new first) b
     (subst (λ (os : List (Option _)). IsVacated ids0 slots0 gone count os new first) d v))
+
+-- where no id goes, all stay
+pub without_none : {T : Type 0} (a : Objects T) (gone : List ℕ) → length a.ids ≡ length a.slots → Rises a.ids → length gone ≡ 0 → IsWithoutAll a a gone
+without_none a gone beside rises none =
+    let not : (id : ℕ) → Contains gone id → ⊥ = λ id c. absurd (omega (arith, c.1, none)) in
+    record {
+      beside = beside;
+      rises = rises;
+      stays = λ place id slot e _. (place, e);
+      were = λ place id slot e. (place, e, not id);
+      pool = refl;
+      empty = λ place id slot e c. absurd (not id c);
+      same = λ slot _. refl;
+    }

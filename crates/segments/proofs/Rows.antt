@@ -55,15 +55,9 @@ module _ (frames : List (List ℕ)) (tables : List (List ℕ)) (free : List ℕ)
           ∙ ap (λ (w : List (List (List ℕ))). set w slot (set (pages_at v slot) place page)) view
 
       -- a page is written over
-      module _ (now : List ℕ) (now_is : now ≡ get_or frames f now) (from k : ℕ) (part part' : List ℕ) (same : part' ≡ part) (k_is : k ≡ length part) (room : from + length part ≤ 256) where
-        abbrev pub after : List ℕ
-        after = take from now ++ (part' ++ drop k (drop from now))
-
+      module _ (now : List ℕ) (now_is : now ≡ get_or frames f now) (from : ℕ) (part after : List ℕ) (after_is : after ≡ written from part now) (room : from + length part ≤ 256) where
         now_page : now ≡ get_or frames f []
         now_page = get_or_read frames f now frame_in now_is []
-
-        after_is : after ≡ written from part now
-        after_is = patched now part part' from k same k_is
 
         pub put_kept : IsKept (set frames f after) tables free
         put_kept =

@@ -5,7 +5,7 @@ ghost use Rattle.base.specs.Counts.{probed, ProbesAtMost};
 ghost use Rattle.kernel_rules.specs.Written.{written};
 
 use crate::tables::Table;
-use base::{Meter, NoMemory};
+use base::{Data, Meter, NoMemory};
 use std::alloc::Global;
 use std::marker::Model;
 
@@ -29,6 +29,19 @@ impl Model for Frames {
     ghost invariant = { λ a. IsKept a.frames.items a.tables.items a.free.items
         × (length a.frames.items ≡ length a.tables.items)
         × (length a.frames.items ≤ vec_capacity a.free) };
+}
+
+// Writes over the bytes of a page from one on. (Most who write give as many as data hold, and these are moved at once.)
+#[inline(always)]
+fn overwrite(page: &mut [u8; 256], from: usize, part: &[u8])
+    requires { from + length part.now ≤ 256 }
+    ensures { page.new ≡ written from part.now page.old }
+{
+    if part.len() == Data::MOST {
+        page[from..from + Data::MOST].copy_from_slice(part);
+    } else {
+        page[from..from + part.len()].copy_from_slice(part);
+    }
 }
 
 impl Frames {
@@ -93,7 +106,7 @@ impl Frames {
         meter.probe();
         let frame = self.tables[slot].at(place);
         let page = &mut self.frames[frame];
-        page[from..from + part.len()].copy_from_slice(part);
+        overwrite(page, from, part);
     }
 
     /// Gives a slot one more page, with these bytes. All others stay. One probe.

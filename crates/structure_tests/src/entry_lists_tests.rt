@@ -75,6 +75,19 @@ fn a_cell_leaves_one_family(rt: HostRuntime) -> Result<(), Fail> {
     Ok(())
 }
 
+#[test]
+fn a_cell_goes_to_the_end_of_a_list(rt: HostRuntime) -> Result<(), Fail> {
+    let mut meter = Meter::new(rt.alloc())?;
+    let mut rings = Rings::<2>::new(rt.alloc(), &[2, 3], 4)?;
+    link_three(&mut rings, &mut meter);
+    rings.shift(0, 1, 3);
+    assert!(rt; agree(rings.peek_first(0, 1), Some(0)));
+    assert!(rt; agree(rings.peek_last(0, 1), Some(3)));
+    assert!(rt; agree(rings.peek_first(1, 2), Some(3)));
+    assert!(rt; agree(meter.probes(), 6));
+    Ok(())
+}
+
 // Where an allocation is refused, lists that are made again are as if nothing had been.
 #[test]
 fn want_of_memory_changes_nothing(rt: HostRuntime) -> Result<(), Fail> {

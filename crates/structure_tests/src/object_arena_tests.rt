@@ -76,8 +76,9 @@ fn objects_go_together(rt: HostRuntime) -> Result<(), Fail> {
     arena.insert(ObjectId::new(10), 'c');
     // 7 is the id of none.
     arena.remove_all(&[10, 7, 4].map(ObjectId::new), &mut meter);
-    // By halves each id takes two probes; each slot that goes is read once, and so is each of the three places.
-    assert!(rt; agree(meter.probes(), 11));
+    // The last place tells the last id by one probe; each other id takes this one and two by halves. Each slot that goes is
+    // read once, and so is each of the three places.
+    assert!(rt; agree(meter.probes(), 12));
     assert!(rt; agree(arena.len(), 1));
     assert!(rt; agree(arena.find(ObjectId::new(9), &mut meter), Some(second)));
     assert!(rt; agree(arena.find(ObjectId::new(4), &mut meter), None));

@@ -26,7 +26,7 @@ use Rattle.arena_state.specs.declared.repairs.Change.{Change}
 use Rattle.arena_state.specs.declared.repairs.Change.TheVariants as change
 use Rattle.arena_state.specs.declared.states.ArenaState.{ArenaState}
 use Rattle.arena_state.proofs.RepairedLaws.{rest_slots}
-use Rattle.kernel_store.specs.Sights.{kind_at}
+use Rattle.kernel_store.specs.Sights.{kind_at, is_of}
 use Rattle.syscall_core.specs.Kernel.{IsUntouched, cut_touches, may_be_of_kind}
 use Rattle.syscall_core.proofs.RepairLaws.{cut_own, immutable_left, link_left, or_off, same_slots_at, unref_left}
 use Rattle.syscall_core.proofs.RowLaws.{same_space}
@@ -142,6 +142,25 @@ all_kept b c rows k off = record {
   kept = λ id slot h. k.kept id slot h (inr (off id));
   named = k.named;
 }
+
+-- so an entry touches no thread where neither its object's kind nor a mapping lets it
+pub entry_off : (s : State) (e : Entry) (found : Option kind.Kind) (mapped : Bool) → IsNamedRightly s
+    → found ≡ kind_at s e.object → (mapped ≡ false → IsUnmapped s e.object)
+    → (may_be_of_kind kinds.AddressSpace found || mapped) ≡ false → IsUntouched s (change.Entry e)
+entry_off s e found mapped h is none off =
+    let parts = or_off (may_be_of_kind kinds.AddressSpace found) mapped off in
+    entry_untouched s e h
+    (sym (kind_not_other kinds.AddressSpace s e.object) ∙ sym (ap (may_be_of_kind kinds.AddressSpace) is) ∙ parts.0)
+    (none parts.1)
+
+-- and so does one that is taken out
+pub cut_off : (s : State) (e : Entry) (found : Option kind.Kind) (mapped : Bool) → IsNamedRightly s
+    → found ≡ kind_at s e.object → (mapped ≡ false → IsUnmapped s e.object)
+    → (is_of kinds.Container found || (may_be_of_kind kinds.AddressSpace found || mapped)) ≡ false
+    → IsUntouched s (cut_touches (is_of kinds.Container found) e)
+cut_off s e found mapped h is none off =
+    let parts = or_off (is_of kinds.Container found) (may_be_of_kind kinds.AddressSpace found || mapped) off in
+    subst (λ (b : Bool). IsUntouched s (cut_touches b e)) (sym parts.0) (entry_off s e found mapped h is none parts.1)
 
 pub link_kept : (a b : ArenaState) (rows : BySlot) (d o : ℕ) → AreKept a rows → KeepsAllSlots a b
     → state_of b ≡ changed (state_of a) d (listing o)

@@ -1,10 +1,9 @@
 //! The arena kernel as what calls keep objects in: it takes no memory after its boot, and a call that compares only
 //! labels which are kept scans none.
-ghost use Rattle.std.specs.Prelude.{◌≡◌, false};
+ghost use Rattle.std.specs.Prelude.{◌≡◌, ◌||◌};
 ghost use Rattle.base.specs.declared.kinds.Kind.TheVariants as kinds;
-ghost use Rattle.arena_state.specs.declared.repairs.Change.TheVariants as by;
-ghost use Rattle.kernel_store.specs.Sights.{kind_at, is_of};
-ghost use Rattle.syscall_core.specs.Kernel.{cut_touches, may_be_of_kind, IsUntouched};
+ghost use Rattle.kernel_store.specs.Sights.{is_of};
+ghost use Rattle.syscall_core.specs.Kernel.{cut_touches, may_be_of_kind};
 
 use crate::kernel::Kernel;
 use arena_state::Change;
@@ -47,26 +46,20 @@ fn may_be_space(kind: Option<Kind>) -> bool
     }
 }
 
-impl Kernel {
-    ghost use Rattle.syscall_core.specs.Kernel.{kernel_state};
+// Whether an entry may touch a thread as it comes or goes, by the kind of its object and by whether some address space may
+// map it: it touches none where the object is recorded, is no address space, and none maps it.
+fn may_touch(kind: Option<Kind>, is_mapped: bool) -> bool
+    ensures { result ≡ (may_be_of_kind kinds.AddressSpace kind || is_mapped) }
+{
+    may_be_space(kind) || is_mapped
+}
 
-    // Whether an entry may touch a thread as it comes or goes, by the kind of its object: it touches none where the
-    // object is recorded, is no address space, and none maps it.
-    fn may_touch(&self, kind: Option<Kind>, entry: &Entry) -> bool
-        requires { kind ≡ kind_at (kernel_state self.now) entry.now.object }
-        ensures { result ≡ false → IsUntouched (kernel_state self.now) (by.Entry entry.now) }
-    {
-        may_be_space(kind) || self.state.may_map(entry.object)
-    }
-
-    // Whether a thread may be touched once an entry is taken out, by the kind of its object.
-    fn cut_may_touch(&self, kind: Option<Kind>, entry: &Entry) -> bool
-        requires { kind ≡ kind_at (kernel_state self.now) entry.now.object }
-        ensures { result ≡ false → IsUntouched (kernel_state self.now)
-            (cut_touches (is_of kinds.Container kind) entry.now) }
-    {
-        is_container(kind) || self.may_touch(kind, entry)
-    }
+// Whether a thread may be touched once an entry is taken out, by the same.
+fn cut_may_touch(kind: Option<Kind>, is_mapped: bool) -> bool
+    ensures { result ≡ (is_of kinds.Container kind
+        || (may_be_of_kind kinds.AddressSpace kind || is_mapped)) }
+{
+    is_container(kind) || may_touch(kind, is_mapped)
 }
 
 impl Store for Kernel {
@@ -100,6 +93,7 @@ impl Store for Kernel {
         self.state.wide_sight(thread, entry, meter)
     }
 
+    #[inline(always)]
     fn site(
         &self,
         thread: ObjectId,
@@ -130,10 +124,12 @@ impl Store for Kernel {
         self.state.is_cleared(thread, id, meter)
     }
 
+    #[inline(always)]
     fn label(&self, id: ObjectId, meter: &mut Meter) -> Option<&Label> {
         self.state.label(id, meter)
     }
 
+    #[inline(always)]
     fn clearance(&self, thread: ObjectId, meter: &mut Meter) -> Option<&Label> {
         self.state.clearance(thread, meter)
     }
@@ -239,6 +235,7 @@ impl Store for Kernel {
         self.state.next_category()
     }
 
+    #[inline(always)]
     fn link(
         &mut self,
         container: ObjectId,
@@ -249,21 +246,20 @@ impl Store for Kernel {
             container,
             object: entry.object,
         };
-        let kind = self.state.kind(entry.object, meter);
-        let is_touching = self.may_touch(kind, &linked);
-        self.state.link(container, entry, meter);
-        if is_touching {
+        let is_mapped = self.state.may_map(linked.object);
+        let kind = self.state.link(container, entry, meter);
+        if may_touch(kind, is_mapped) {
             self.state
                 .repair(&Change::Entry(linked), &mut self.rows, meter);
         }
         Ok(())
     }
 
+    #[inline(always)]
     fn unref(&mut self, entry: &Entry, meter: &mut Meter) -> Result<(), Infallible> {
-        let kind = self.state.kind(entry.object, meter);
-        let is_touching = self.cut_may_touch(kind, entry);
-        self.state.unref(entry, meter);
-        if is_touching {
+        let is_mapped = self.state.may_map(entry.object);
+        let kind = self.state.unref(entry, meter);
+        if cut_may_touch(kind, is_mapped) {
             let cut = cut_touches(is_container(kind), entry);
             self.state.repair(&cut, &mut self.rows, meter);
         }
@@ -278,6 +274,7 @@ impl Store for Kernel {
         self.state.quota_move(entry, up, down, meter);
     }
 
+    #[inline(always)]
     fn write_bytes(&mut self, id: ObjectId, at: usize, given: &[u8], meter: &mut Meter) {
         self.state.write_bytes(id, at, given, meter);
     }

@@ -1,4 +1,4 @@
-use Rattle.std.proofs.Common.{ℕ, Option, subst, sym, lit<}
+use Rattle.std.proofs.Common.{ℕ, Option, subst, lit<}
 use Rattle.std.specs.Prelude.{IfSome}
 use Rattle.containers.specs.Cells.{Stands}
 use Rattle.containers.proofs.Turns.{holder_linked, link_at}

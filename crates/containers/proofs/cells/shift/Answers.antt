@@ -1,28 +1,30 @@
-use Rattle.std.proofs.Common.{◌<◌, List, length, ap, arith, lit<}
+use Rattle.std.proofs.Common.{◌≡◌, ◌++◌, ◌∷◌, [], ◌<◌, ◌∙◌, length, set, refl, sym, ap, arith, lit<}
+use Rattle.std.proofs.lemmas.List.{set-set}
 use Rattle.std.specs.Prelude.{remove}
-use Rattle.entry_lists.specs.Lists.{Lists, family_at, cells_at}
-use Rattle.entry_lists.proofs.Lookups.{heads_kept, cells_kept}
+use Rattle.entry_lists.specs.Lists.{Lists, family_at, cells_at, list_at, with_list, with_cells}
+use Rattle.entry_lists.proofs.Lookups.{family_at-with_cells}
 use Rattle.entry_lists.proofs.Views.{head_below}
 use Rattle.containers.proofs.Shifts.{shifted}
 use Rattle.containers.proofs.cells.shift.Goals as goal
 
-pub push_back-requires : goal.push_back-requires
-push_back-requires c =
-    let from = c.requires.from.0 in
+pub shift-requires : goal.shift-requires
+shift-requires c =
     let s = c.requires.from.2 in
-    let fam : c.args.family < length c.args.rings.now = omega (arith, c.requires.family, c.unlink.ensures.families) in
-    let taken = c.unlink.ensures.removed from s.place s.stands in
-    let less = remove (cells_at c.args.rings.now c.args.family from) s.place in
-    let heads = heads_kept c.args.rings.now c.args.family fam from less in
-    let cells = cells_kept c.args.rings.now c.args.family fam from less in
-    let below = c.unlink.ensures.was_well_formed.in_range from s.place c.args.cell s.stands in
-    let same_heads = ap (λ (r : List Lists). length (family_at r c.args.family).lists) taken in
-    let same_cells = ap (λ (r : List Lists). (family_at r c.args.family).cells) taken in
-    (lit< tt, (c.requires.family, (omega (arith, c.requires.to, heads, same_heads), (omega (arith, below, cells, same_cells), c.unlink.ensures.free))))
+    (lit< tt, (c.requires.family, (c.requires.to, (c.requires.from.0, s.place, s.stands))))
 
-pub returns-clause-shifted : goal.returns-clause-shifted
-returns-clause-shifted c =
+pub returns : goal.returns
+returns c =
     let from = c.requires.from.0 in
     let s = c.requires.from.2 in
-    let fam : c.args.family < length c.args.rings.now = omega (arith, c.requires.family, c.unlink.ensures.families) in
-    shifted _ _ _ c.args.family from c.args.to s.place c.args.cell fam (head_below (family_at c.args.rings.now c.args.family).lists from s.place c.args.cell s.stands) c.requires.to c.requires.from.1 s.stands c.unlink.ensures.was_well_formed c.push_back.ensures.well_formed (c.unlink.ensures.removed from s.place s.stands) c.push_back.ensures.appended
+    let r = c.args.rings.now in
+    let f = c.args.family in
+    let to = c.args.to in
+    let cell = c.args.cell in
+    let fam : f < length r = omega (arith, c.requires.family, c.shift.ensures.families) in
+    let less = remove (cells_at r f from) s.place in
+    let out = with_list (family_at r f) from less in
+    let again : c.shift.new.self ≡ with_cells (with_cells r f from less) f to (cells_at (with_cells r f from less) f to ++ cell ∷ []) =
+    c.shift.ensures.shifted from s.place s.stands
+    ∙ sym (ap (λ (l : Lists). set (with_cells r f from less) f (with_list l to (list_at l to ++ cell ∷ []))) (family_at-with_cells r f fam from less)
+    ∙ set-set r f out (with_list out to (list_at out to ++ cell ∷ []))) in
+    shifted _ _ _ f from to s.place cell fam (head_below (family_at r f).lists from s.place cell s.stands) c.requires.to c.requires.from.1 s.stands c.shift.ensures.was_well_formed c.shift.ensures.well_formed refl again

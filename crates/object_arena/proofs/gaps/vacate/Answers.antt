@@ -10,7 +10,7 @@ loop-id-preserved g c =
     let v = c.loop-id.invariant.vacated in
     let last : c.loop-id.id-index < length c.args.gone.now = c.loop-id-test.true in
     let id_is : c.number.result ≡ get_or c.args.gone.now c.loop-id.id-index 0 = c.number.ensures ∙ get_or_read c.args.gone.now c.loop-id.id-index c.id-item.result last c.id-item.is 0 in
-    elim c.match-place_of.branch [
+    elim c.match-place_from_end.branch [
       | in-Some w ↦
           let found = w.in-Some.ensures.found in
           let within : w.in-Some.place < length c.args.ids.now = found.0 in

@@ -9,8 +9,8 @@ use Rattle.arena_state.specs.States.{state_of}
 use Rattle.arena_state.proofs.states.ArenaState.see_found.Goals as goal
 use Rattle.arena_state.proofs.states.ArenaState.see_found.Goals.{then-holds+then-listed, then-holds+else-listed, else-holds}
 
-pub returns-clause-value : goal.returns-clause-value
-returns-clause-value c =
+pub returns : goal.returns
+returns c =
     let s : State = state_of c.args.self.now in
     let e = c.args.entry.now in
     let kind : c.is-holds.result ≡ is_kind_at s kinds.Container e.container
@@ -19,9 +19,9 @@ returns-clause-value c =
     let held : c.if-holds.result ≡ holds s e
     = elim c.if-holds.branch [
       | then-holds+then-listed w ↦ (let r : c.if-holds.result ≡ true = cc in r)
-          ∙ sym (λ i. (sym kind ∙ w.if-holds.true) i && ((sym c.lists_found-listed.ensures.value ∙ w.if-listed.true) i || (e.object == e.container)))
+          ∙ sym (λ i. (sym kind ∙ w.if-holds.true) i && ((sym c.requires.listed ∙ w.if-listed.true) i || (e.object == e.container)))
       | then-holds+else-listed w ↦ w.result-is ∙ w.eq.ensures
-          ∙ sym (λ i. (sym kind ∙ w.if-holds.true) i && ((sym c.lists_found-listed.ensures.value ∙ w.if-listed.false) i || (e.object == e.container)))
+          ∙ sym (λ i. (sym kind ∙ w.if-holds.true) i && ((sym c.requires.listed ∙ w.if-listed.false) i || (e.object == e.container)))
       | else-holds w ↦ (let r : c.if-holds.result ≡ false = cc in r)
           ∙ sym (ap (λ (v : Bool). v && (has (list_at s e.container) e.object || e.object == e.container)) (sym kind ∙ w.if-holds.false))
     ] in
@@ -30,7 +30,7 @@ returns-clause-value c =
         runs = c.is_found.ensures i;
         accessible = c.is_reached.ensures i;
         held = held i;
-        listed = c.lists_found-listed.ensures.value i;
+        listed = c.requires.listed i;
         object = c.seen.ensures i;
       };
       container = c.seen-around.ensures i;

@@ -1,80 +1,47 @@
-use Rattle.std.proofs.Common.{◌<◌, ap, arith}
-use Rattle.std.proofs.lemmas.List.{get_or_read}
-use Rattle.entry_lists.specs.Lists.{Lists}
-use Rattle.entry_lists.proofs.Views.{laid_out, lens_len, len_is, view_of}
-use Rattle.entry_lists.proofs.Changes.{pushed_laid_out, last_in, length-list, well_formed, well_formed_as}
+use Rattle.std.proofs.Common.{◌<◌, ◌++◌, ◌∷◌, ℕ, List, [], length, get_or, set, refl, subst, ap, arith}
+use Rattle.std.specs.Vec.{with_items}
+use Rattle.entry_lists.specs.Lists.{Lists, StandsAt, list_at}
+use Rattle.entry_lists.specs.Chain.{IsLaidOut}
+use Rattle.entry_lists.proofs.Views.{laid_out, view_of}
+use Rattle.entry_lists.proofs.Changes.{last_in, well_formed, well_formed_as}
+use Rattle.entry_lists.proofs.Slices.{laid_first, laid_in, read, read_is, read_laid, stands_there}
 use Rattle.entry_lists.proofs.chains.Chains.push_back.Goals as goal
 
-pub overflow_add-sentinel : goal.overflow_add-sentinel
-overflow_add-sentinel c =
-    let l = laid_out _ _ _ _ _ _ c.self.invariant c.self.view_is in
-    omega (arith, l.next_len, c.requires.head)
+-- the lists after it lie in the vectors
+after : (c : goal.After-self-4-1)
+    → IsLaidOut c.self.inside.cells (with_items c.self.inside.next c.put_last.new.next).items (with_items c.self.inside.prev c.put_last.new.prev).items (with_items c.self.inside.heads c.put_last.new.heads).items (with_items c.self.inside.lens c.put_last.new.lens).items (set c.args.self.now.lists c.args.head (list_at c.args.self.now c.args.head ++ c.args.cell ∷ []))
+after c =
+    let was = laid_first c.self.inside.cells c.self.inside.next c.self.inside.prev c.self.inside.heads c.self.inside.lens _ _ _ _ c.args.self.now
+    c.deref_mut.ensures.value c.deref_mut-2.ensures.value c.deref_mut-3.ensures.value c.deref_mut-4.ensures.value
+    c.self.invariant c.self.view_is in
+    let lay = subst (λ (ls : List (List ℕ)). IsLaidOut c.self.inside.cells c.put_last.new.next c.put_last.new.prev c.put_last.new.heads c.put_last.new.lens (set ls c.args.head (get_or ls c.args.head [] ++ c.args.cell ∷ [])))
+    (read_is _ _ _ _ _ _ was) c.put_last.ensures in
+    laid_in c.self.inside.cells c.self.inside.next c.self.inside.prev c.self.inside.heads c.self.inside.lens _ _ _ _ _
+    (omega (arith, c.put_last.auto.next, c.deref_mut.ensures.len)) (omega (arith, c.put_last.auto.prev, c.deref_mut-2.ensures.len))
+    (omega (arith, c.put_last.auto.heads, c.deref_mut-3.ensures.len)) (omega (arith, c.put_last.auto.lens, c.deref_mut-4.ensures.len)) lay
 
-pub index-last-requires : goal.index-last-requires
-index-last-requires c =
-    let l = laid_out _ _ _ _ _ _ c.self.invariant c.self.view_is in
-    omega (arith, l.prev_len, c.requires.head, c.self.inside.prev.ok.0)
-
-pub index-len-requires : goal.index-len-requires
-index-len-requires c =
-    let l = laid_out _ _ _ _ _ _ c.self.invariant c.self.view_is in
-    omega (arith, lens_len _ _ _ _ _ _ l, c.requires.head, c.self.inside.lens.ok.0)
-
-pub index_mut-requires : goal.index_mut-requires
-index_mut-requires c =
-    let l = laid_out _ _ _ _ _ _ c.self.invariant c.self.view_is in
+pub put_last-requires : goal.put_last-requires
+put_last-requires c =
+    let was = laid_first c.self.inside.cells c.self.inside.next c.self.inside.prev c.self.inside.heads c.self.inside.lens _ _ _ _ c.args.self.now
+    c.deref_mut.ensures.value c.deref_mut-2.ensures.value c.deref_mut-3.ensures.value c.deref_mut-4.ensures.value
+    c.self.invariant c.self.view_is in
+    let laid = read_laid _ _ _ _ _ _ was in
+    let head : c.args.head < length (read _ _ _ _ _ _ was) = omega (arith, c.requires.head, ap length (read_is _ _ _ _ _ _ was)) in
     let below : c.args.cell < c.self.inside.cells = omega (arith, c.requires.cell, ap (λ (r : Lists). r.cells) c.self.view_is) in
-    let last = get_or_read c.self.inside.prev.items _ _ (omega (arith, l.prev_len, c.requires.head, c.self.inside.prev.ok.0)) c.index-last.ensures 0 in
-    let len = get_or_read c.self.inside.lens.items _ _ (omega (arith, lens_len _ _ _ _ _ _ l, c.requires.head, c.self.inside.lens.ok.0)) c.index-len.ensures 0 in
-    let inside = last_in _ _ _ _ _ _ l c.args.head c.args.cell c.index-last.result.now c.index-len.result.now last len c.requires.head below (λ h k at. c.requires.free (h, k, at)) in
-    omega (arith, inside, c.self.inside.next.ok.0)
-
-pub index_mut-requires-3 : goal.index_mut-requires-3
-index_mut-requires-3 c =
-    let l = laid_out _ _ _ _ _ _ c.self.invariant c.self.view_is in
-    omega (arith, l.prev_len, c.requires.head, c.self.inside.prev.ok.0)
-
-pub overflow_add-len : goal.overflow_add-len
-overflow_add-len c =
-    let l = laid_out _ _ _ _ _ _ c.self.invariant c.self.view_is in
-    let read = get_or_read c.self.inside.lens.items _ _ (omega (arith, lens_len _ _ _ _ _ _ l, c.requires.head, c.self.inside.lens.ok.0)) c.index-len.ensures 0 in
-    omega (arith, l.next_len, c.requires.head, length-list _ _ _ _ _ _ l c.args.head c.requires.head, len_is _ _ _ _ _ _ l c.args.head c.requires.head, c.self.inside.next.ok.0)
-
-pub index_mut-requires-6 : goal.index_mut-requires-6
-index_mut-requires-6 c =
-    let l = laid_out _ _ _ _ _ _ c.self.invariant c.self.view_is in
-    omega (arith, lens_len _ _ _ _ _ _ l, c.requires.head, c.self.inside.lens.ok.0)
+    let free = λ (other place : ℕ) (s : StandsAt (get_or (read _ _ _ _ _ _ was) other []) place c.args.cell).
+    c.requires.free (other, place, stands_there _ _ _ _ _ _ was other place c.args.cell s) in
+    (laid, (head, (below, (free, last_in _ _ _ _ _ _ laid c.args.head c.args.cell _ _ refl refl head below free))))
 
 pub invariant_of-self : goal.invariant_of-self
-invariant_of-self c =
-    let l = laid_out _ _ _ _ _ _ c.self.invariant c.self.view_is in
-    let below : c.args.cell < c.self.inside.cells = omega (arith, c.requires.cell, ap (λ (r : Lists). r.cells) c.self.view_is) in
-    let last = get_or_read c.self.inside.prev.items _ _ (omega (arith, l.prev_len, c.requires.head, c.self.inside.prev.ok.0)) c.index-last.ensures 0 in
-    let len = get_or_read c.self.inside.lens.items _ _ (omega (arith, lens_len _ _ _ _ _ _ l, c.requires.head, c.self.inside.lens.ok.0)) c.index-len.ensures 0 in
-    let lay = pushed_laid_out _ _ _ _ _ _ l c.args.head c.args.cell c.index-last.result.now c.index-len.result.now last len c.requires.head below (λ h k at. c.requires.free (h, k, at)) in
-    record { lists = _; lay = lay }
+invariant_of-self c = record { lists = _; lay = after c }
 
 pub returns-clause-appended : goal.returns-clause-appended
 returns-clause-appended c =
-    let l = laid_out _ _ _ _ _ _ c.self.invariant c.self.view_is in
-    let cells_are = ap (λ (r : Lists). r.cells) c.self.view_is in
-    let below : c.args.cell < c.self.inside.cells = omega (arith, c.requires.cell, cells_are) in
-    let last = get_or_read c.self.inside.prev.items _ _ (omega (arith, l.prev_len, c.requires.head, c.self.inside.prev.ok.0)) c.index-last.ensures 0 in
-    let len = get_or_read c.self.inside.lens.items _ _ (omega (arith, lens_len _ _ _ _ _ _ l, c.requires.head, c.self.inside.lens.ok.0)) c.index-len.ensures 0 in
-    let lay = pushed_laid_out _ _ _ _ _ _ l c.args.head c.args.cell c.index-last.result.now c.index-len.result.now last len c.requires.head below (λ h k at. c.requires.free (h, k, at)) in
-    view_of _ _ _ _ _ _ c.args.self.now lay cells_are
+    view_of _ _ _ _ _ _ c.args.self.now (after c) (ap (λ (r : Lists). r.cells) c.self.view_is)
 
 pub returns-clause-was_well_formed : goal.returns-clause-was_well_formed
 returns-clause-was_well_formed c =
-    let l = laid_out _ _ _ _ _ _ c.self.invariant c.self.view_is in
-    well_formed _ _ _ _ _ _ l (ap (λ (r : Lists). r.cells) c.self.view_is)
+    well_formed _ _ _ _ _ _ (laid_out _ _ _ _ _ _ c.self.invariant c.self.view_is) (ap (λ (r : Lists). r.cells) c.self.view_is)
 
 pub returns-clause-well_formed : goal.returns-clause-well_formed
-returns-clause-well_formed c =
-    let l = laid_out _ _ _ _ _ _ c.self.invariant c.self.view_is in
-    let cells_are = ap (λ (r : Lists). r.cells) c.self.view_is in
-    let below : c.args.cell < c.self.inside.cells = omega (arith, c.requires.cell, cells_are) in
-    let last = get_or_read c.self.inside.prev.items _ _ (omega (arith, l.prev_len, c.requires.head, c.self.inside.prev.ok.0)) c.index-last.ensures 0 in
-    let len = get_or_read c.self.inside.lens.items _ _ (omega (arith, lens_len _ _ _ _ _ _ l, c.requires.head, c.self.inside.lens.ok.0)) c.index-len.ensures 0 in
-    let lay = pushed_laid_out _ _ _ _ _ _ l c.args.head c.args.cell c.index-last.result.now c.index-len.result.now last len c.requires.head below (λ h k at. c.requires.free (h, k, at)) in
-    well_formed_as _ _ _ _ _ _ lay
+returns-clause-well_formed c = well_formed_as _ _ _ _ _ _ (after c)

@@ -1,144 +1,64 @@
-use Rattle.std.proofs.Common.{◌≡◌, [], ℕ, List, get_or, ap, sym, ◌∙◌, subst, arith}
-use Rattle.std.proofs.lemmas.List.{get_or_read}
+use Rattle.std.proofs.Common.{ℕ, List, [], get_or, set, refl, sym, subst, ap, arith}
 use Rattle.std.specs.Prelude.{remove}
-use Rattle.entry_lists.specs.Lists.{Lists, StandsAt, with_list}
-use Rattle.entry_lists.proofs.Views.{laid_out, lens_len, len_is, view_of, head_is, head_below, cell_below}
-use Rattle.entry_lists.proofs.Changes.{unlinked_laid_out, before_in, after_in, not_after_remove, well_formed, well_formed_as}
+use Rattle.std.specs.Vec.{with_items}
+use Rattle.std.proofs.lemmas.List.{with_items_is}
+use Rattle.entry_lists.specs.Lists.{Lists, StandsAt, list_at}
+use Rattle.entry_lists.specs.Chain.{IsLaidOut}
+use Rattle.entry_lists.proofs.Views.{laid_out, view_of}
+use Rattle.entry_lists.proofs.Changes.{not_after_remove, well_formed, well_formed_as, before_in, after_in}
+use Rattle.entry_lists.proofs.Slices.{laid_first, laid_as, read_is, read_laid, stands_read}
 use Rattle.entry_lists.proofs.chains.Chains.unlink.Goals as goal
 
-pub index-before-requires : goal.index-before-requires
-index-before-requires c =
-    let l = laid_out _ _ _ _ _ _ c.self.invariant c.self.view_is in
-    let below = cell_below _ _ _ _ _ _ l c.requires.0 c.requires.1 _ c.requires.2 in
-    omega (arith, l.prev_len, c.self.inside.prev.ok.0)
+-- the lists after it lie in the vectors
+after : (c : goal.After-self-3-1) (head place : ℕ) → StandsAt (list_at c.args.self.now head) place c.args.cell
+    → IsLaidOut c.self.inside.cells (with_items c.self.inside.next c.take_out.new.next).items (with_items c.self.inside.prev c.take_out.new.prev).items c.self.inside.heads.items (with_items c.self.inside.lens c.take_out.new.lens).items (set c.args.self.now.lists head (remove (list_at c.args.self.now head) place))
+after c head place at =
+    let was = laid_first c.self.inside.cells c.self.inside.next c.self.inside.prev c.self.inside.heads c.self.inside.lens _ _ _ _ c.args.self.now
+    c.deref_mut.ensures.value c.deref_mut-2.ensures.value c.deref.ensures.value c.deref_mut-3.ensures.value
+    c.self.invariant c.self.view_is in
+    let lay = subst (λ (ls : List (List ℕ)). IsLaidOut c.self.inside.cells c.take_out.new.next c.take_out.new.prev c.deref.result.now c.take_out.new.lens (set ls head (remove (get_or ls head []) place)))
+    (read_is _ _ _ _ _ _ was) (c.take_out.ensures head place (stands_read _ _ _ _ _ _ was head place c.args.cell at)) in
+    laid_as c.self.inside.cells _ _ _ _ _ _ _ _ _
+    (sym (with_items_is c.self.inside.next c.take_out.new.next (omega (arith, c.take_out.auto.next, c.deref_mut.ensures.len))))
+    (sym (with_items_is c.self.inside.prev c.take_out.new.prev (omega (arith, c.take_out.auto.prev, c.deref_mut-2.ensures.len))))
+    c.deref.ensures.value
+    (sym (with_items_is c.self.inside.lens c.take_out.new.lens (omega (arith, c.take_out.auto.lens, c.deref_mut-3.ensures.len)))) lay
 
-pub index-after-requires : goal.index-after-requires
-index-after-requires c =
-    let l = laid_out _ _ _ _ _ _ c.self.invariant c.self.view_is in
-    let below = cell_below _ _ _ _ _ _ l c.requires.0 c.requires.1 _ c.requires.2 in
-    omega (arith, l.next_len, c.self.inside.next.ok.0)
-
-pub index-head-requires : goal.index-head-requires
-index-head-requires c =
-    let l = laid_out _ _ _ _ _ _ c.self.invariant c.self.view_is in
-    let below = cell_below _ _ _ _ _ _ l c.requires.0 c.requires.1 _ c.requires.2 in
-    omega (arith, l.heads_len, c.self.inside.heads.ok.0)
-
-pub index-len-requires : goal.index-len-requires
-index-len-requires c =
-    let l = laid_out _ _ _ _ _ _ c.self.invariant c.self.view_is in
-    let below = cell_below _ _ _ _ _ _ l c.requires.0 c.requires.1 _ c.requires.2 in
-    let lt = head_below c.args.self.now.lists c.requires.0 c.requires.1 _ c.requires.2 in
-    let head_read = get_or_read c.self.inside.heads.items _ _ (omega (arith, l.heads_len, c.self.inside.heads.ok.0)) c.index-head.ensures 0 in
-    let head = head_is _ _ _ _ _ _ l c.requires.0 c.requires.1 _ c.requires.2 in
-    let read : c.index-head.result.now ≡ c.requires.0 = cc in
-    omega (arith, lens_len _ _ _ _ _ _ l, c.self.inside.lens.ok.0)
-
-pub index_mut-requires : goal.index_mut-requires
-index_mut-requires c =
-    let l = laid_out _ _ _ _ _ _ c.self.invariant c.self.view_is in
-    let below = cell_below _ _ _ _ _ _ l c.requires.0 c.requires.1 _ c.requires.2 in
-    let before_is = get_or_read c.self.inside.prev.items _ _ (omega (arith, l.prev_len, c.self.inside.prev.ok.0)) c.index-before.ensures 0 in
-    let after_is = get_or_read c.self.inside.next.items _ _ (omega (arith, l.next_len, c.self.inside.next.ok.0)) c.index-after.ensures 0 in
-    let inside = before_in _ _ _ _ _ _ l c.requires.0 c.requires.1 c.args.cell c.index-before.result.now c.index-after.result.now (get_or c.self.inside.lens.items c.requires.0 0) before_is after_is (cc) c.requires.2 in
-    omega (arith, inside, c.self.inside.next.ok.0)
-
-pub index_mut-requires-2 : goal.index_mut-requires-2
-index_mut-requires-2 c =
-    let l = laid_out _ _ _ _ _ _ c.self.invariant c.self.view_is in
-    let below = cell_below _ _ _ _ _ _ l c.requires.0 c.requires.1 _ c.requires.2 in
-    let before_is = get_or_read c.self.inside.prev.items _ _ (omega (arith, l.prev_len, c.self.inside.prev.ok.0)) c.index-before.ensures 0 in
-    let after_is = get_or_read c.self.inside.next.items _ _ (omega (arith, l.next_len, c.self.inside.next.ok.0)) c.index-after.ensures 0 in
-    let inside = after_in _ _ _ _ _ _ l c.requires.0 c.requires.1 c.args.cell c.index-before.result.now c.index-after.result.now (get_or c.self.inside.lens.items c.requires.0 0) before_is after_is (cc) c.requires.2 in
-    omega (arith, inside, c.self.inside.prev.ok.0)
-
-pub overflow_sub-len : goal.overflow_sub-len
-overflow_sub-len c =
-    let l = laid_out _ _ _ _ _ _ c.self.invariant c.self.view_is in
-    let below = cell_below _ _ _ _ _ _ l c.requires.0 c.requires.1 _ c.requires.2 in
-    let lt = head_below c.args.self.now.lists c.requires.0 c.requires.1 _ c.requires.2 in
-    let head_read = get_or_read c.self.inside.heads.items _ _ (omega (arith, l.heads_len, c.self.inside.heads.ok.0)) c.index-head.ensures 0 in
-    let head = head_is _ _ _ _ _ _ l c.requires.0 c.requires.1 _ c.requires.2 in
-    let read : c.index-head.result.now ≡ c.requires.0 = cc in
-    let len_read = get_or_read c.self.inside.lens.items _ _ (omega (arith, lens_len _ _ _ _ _ _ l, c.self.inside.lens.ok.0)) c.index-len.ensures 0 in
-    let long = len_is _ _ _ _ _ _ l c.requires.0 lt in
-    let read_len : c.index-len.result.now ≡ get_or c.self.inside.lens.items c.requires.0 0 = cc in
-    omega (arith, long, c.requires.2.within)
-
-pub index_mut-requires-3 : goal.index_mut-requires-3
-index_mut-requires-3 c =
-    let l = laid_out _ _ _ _ _ _ c.self.invariant c.self.view_is in
-    let below = cell_below _ _ _ _ _ _ l c.requires.0 c.requires.1 _ c.requires.2 in
-    let lt = head_below c.args.self.now.lists c.requires.0 c.requires.1 _ c.requires.2 in
-    let head_read = get_or_read c.self.inside.heads.items _ _ (omega (arith, l.heads_len, c.self.inside.heads.ok.0)) c.index-head.ensures 0 in
-    let head = head_is _ _ _ _ _ _ l c.requires.0 c.requires.1 _ c.requires.2 in
-    let read : c.index-head.result.now ≡ c.requires.0 = cc in
-    omega (arith, lens_len _ _ _ _ _ _ l, c.self.inside.lens.ok.0)
+pub take_out-requires : goal.take_out-requires
+take_out-requires c =
+    let was = laid_first c.self.inside.cells c.self.inside.next c.self.inside.prev c.self.inside.heads c.self.inside.lens _ _ _ _ c.args.self.now
+    c.deref_mut.ensures.value c.deref_mut-2.ensures.value c.deref.ensures.value c.deref_mut-3.ensures.value
+    c.self.invariant c.self.view_is in
+    let laid = read_laid _ _ _ _ _ _ was in
+    let at = c.requires in
+    let there = stands_read _ _ _ _ _ _ was at.0 at.1 c.args.cell at.2 in (
+      laid,
+      (
+        (at.0, at.1, there),
+        (
+          before_in _ _ _ _ _ _ laid at.0 at.1 c.args.cell _ _ _ refl refl refl there,
+          after_in _ _ _ _ _ _ laid at.0 at.1 c.args.cell _ _ _ refl refl refl there,
+        ),
+      ),
+    )
 
 pub invariant_of-self : goal.invariant_of-self
-invariant_of-self c =
-    let l = laid_out _ _ _ _ _ _ c.self.invariant c.self.view_is in
-    let below = cell_below _ _ _ _ _ _ l c.requires.0 c.requires.1 _ c.requires.2 in
-    let lt = head_below c.args.self.now.lists c.requires.0 c.requires.1 _ c.requires.2 in
-    let before_is = get_or_read c.self.inside.prev.items _ _ (omega (arith, l.prev_len, c.self.inside.prev.ok.0)) c.index-before.ensures 0 in
-    let after_is = get_or_read c.self.inside.next.items _ _ (omega (arith, l.next_len, c.self.inside.next.ok.0)) c.index-after.ensures 0 in
-    let head_read = get_or_read c.self.inside.heads.items _ _ (omega (arith, l.heads_len, c.self.inside.heads.ok.0)) c.index-head.ensures 0 in
-    let head = head_is _ _ _ _ _ _ l c.requires.0 c.requires.1 _ c.requires.2 in
-    let read : c.index-head.result.now ≡ c.requires.0 = cc in
-    let len_read = get_or_read c.self.inside.lens.items _ _ (omega (arith, lens_len _ _ _ _ _ _ l, c.self.inside.lens.ok.0)) c.index-len.ensures 0 in
-    let at = subst (λ (i : ℕ). StandsAt (get_or c.args.self.now.lists i []) c.requires.1 c.args.cell) (sym read) c.requires.2 in
-    let lay = unlinked_laid_out _ _ _ _ _ _ l c.index-head.result.now c.requires.1 c.args.cell c.index-before.result.now c.index-after.result.now c.index-len.result.now before_is after_is len_read at in
-    record { lists = _; lay = lay }
+invariant_of-self c = record { lists = _; lay = after c c.requires.0 c.requires.1 c.requires.2 }
 
 pub returns-clause-removed : goal.returns-clause-removed
-returns-clause-removed c =
-    λ h place stands.
-    let l = laid_out _ _ _ _ _ _ c.self.invariant c.self.view_is in
-    let below = cell_below _ _ _ _ _ _ l h place _ stands in
-    let lt = head_below c.args.self.now.lists h place _ stands in
-    let before_is = get_or_read c.self.inside.prev.items _ _ (omega (arith, l.prev_len, c.self.inside.prev.ok.0)) c.index-before.ensures 0 in
-    let after_is = get_or_read c.self.inside.next.items _ _ (omega (arith, l.next_len, c.self.inside.next.ok.0)) c.index-after.ensures 0 in
-    let head_read = get_or_read c.self.inside.heads.items _ _ (omega (arith, l.heads_len, c.self.inside.heads.ok.0)) c.index-head.ensures 0 in
-    let head = head_is _ _ _ _ _ _ l h place _ stands in
-    let read : c.index-head.result.now ≡ h = cc in
-    let len_read = get_or_read c.self.inside.lens.items _ _ (omega (arith, lens_len _ _ _ _ _ _ l, c.self.inside.lens.ok.0)) c.index-len.ensures 0 in
-    let at = subst (λ (i : ℕ). StandsAt (get_or c.args.self.now.lists i []) place c.args.cell) (sym read) stands in
-    let lay = unlinked_laid_out _ _ _ _ _ _ l c.index-head.result.now place c.args.cell c.index-before.result.now c.index-after.result.now c.index-len.result.now before_is after_is len_read at in
-    view_of _ _ _ _ _ _ c.args.self.now lay (ap (λ (r : Lists). r.cells) c.self.view_is) ∙ ap (λ (i : ℕ). with_list c.args.self.now i (remove (get_or c.args.self.now.lists i []) place)) read
+returns-clause-removed c = λ head place at.
+    view_of _ _ _ _ _ _ c.args.self.now (after c head place at) (ap (λ (r : Lists). r.cells) c.self.view_is)
 
 pub returns-clause-free : goal.returns-clause-free
 returns-clause-free c =
-    let l = laid_out _ _ _ _ _ _ c.self.invariant c.self.view_is in
-    let below = cell_below _ _ _ _ _ _ l c.requires.0 c.requires.1 _ c.requires.2 in
-    let lt = head_below c.args.self.now.lists c.requires.0 c.requires.1 _ c.requires.2 in
-    let before_is = get_or_read c.self.inside.prev.items _ _ (omega (arith, l.prev_len, c.self.inside.prev.ok.0)) c.index-before.ensures 0 in
-    let after_is = get_or_read c.self.inside.next.items _ _ (omega (arith, l.next_len, c.self.inside.next.ok.0)) c.index-after.ensures 0 in
-    let head_read = get_or_read c.self.inside.heads.items _ _ (omega (arith, l.heads_len, c.self.inside.heads.ok.0)) c.index-head.ensures 0 in
-    let head = head_is _ _ _ _ _ _ l c.requires.0 c.requires.1 _ c.requires.2 in
-    let read : c.index-head.result.now ≡ c.requires.0 = cc in
-    let len_read = get_or_read c.self.inside.lens.items _ _ (omega (arith, lens_len _ _ _ _ _ _ l, c.self.inside.lens.ok.0)) c.index-len.ensures 0 in
-    let at = subst (λ (i : ℕ). StandsAt (get_or c.args.self.now.lists i []) c.requires.1 c.args.cell) (sym read) c.requires.2 in
-    let lay = unlinked_laid_out _ _ _ _ _ _ l c.index-head.result.now c.requires.1 c.args.cell c.index-before.result.now c.index-after.result.now c.index-len.result.now before_is after_is len_read at in
-    let are = ap (λ (r : Lists). r.lists) (view_of _ _ _ _ _ _ c.args.self.now lay (ap (λ (r : Lists). r.cells) c.self.view_is)) in
-    λ linked. not_after_remove _ _ _ _ _ _ l c.index-head.result.now c.requires.1 c.args.cell at linked.0 linked.1
+    let at = c.requires in
+    let are = ap (λ (r : Lists). r.lists) (view_of _ _ _ _ _ _ c.args.self.now (after c at.0 at.1 at.2) (ap (λ (r : Lists). r.cells) c.self.view_is)) in
+    λ linked. not_after_remove _ _ _ _ _ _ (laid_out _ _ _ _ _ _ c.self.invariant c.self.view_is) at.0 at.1 c.args.cell at.2 linked.0 linked.1
     (subst (λ (ls : List (List ℕ)). StandsAt (get_or ls linked.0 []) linked.1 c.args.cell) are linked.2)
 
 pub returns-clause-was_well_formed : goal.returns-clause-was_well_formed
 returns-clause-was_well_formed c =
-    let l = laid_out _ _ _ _ _ _ c.self.invariant c.self.view_is in
-    well_formed _ _ _ _ _ _ l (ap (λ (r : Lists). r.cells) c.self.view_is)
+    well_formed _ _ _ _ _ _ (laid_out _ _ _ _ _ _ c.self.invariant c.self.view_is) (ap (λ (r : Lists). r.cells) c.self.view_is)
 
 pub returns-clause-well_formed : goal.returns-clause-well_formed
-returns-clause-well_formed c =
-    let l = laid_out _ _ _ _ _ _ c.self.invariant c.self.view_is in
-    let below = cell_below _ _ _ _ _ _ l c.requires.0 c.requires.1 _ c.requires.2 in
-    let lt = head_below c.args.self.now.lists c.requires.0 c.requires.1 _ c.requires.2 in
-    let before_is = get_or_read c.self.inside.prev.items _ _ (omega (arith, l.prev_len, c.self.inside.prev.ok.0)) c.index-before.ensures 0 in
-    let after_is = get_or_read c.self.inside.next.items _ _ (omega (arith, l.next_len, c.self.inside.next.ok.0)) c.index-after.ensures 0 in
-    let head_read = get_or_read c.self.inside.heads.items _ _ (omega (arith, l.heads_len, c.self.inside.heads.ok.0)) c.index-head.ensures 0 in
-    let head = head_is _ _ _ _ _ _ l c.requires.0 c.requires.1 _ c.requires.2 in
-    let read : c.index-head.result.now ≡ c.requires.0 = cc in
-    let len_read = get_or_read c.self.inside.lens.items _ _ (omega (arith, lens_len _ _ _ _ _ _ l, c.self.inside.lens.ok.0)) c.index-len.ensures 0 in
-    let at = subst (λ (i : ℕ). StandsAt (get_or c.args.self.now.lists i []) c.requires.1 c.args.cell) (sym read) c.requires.2 in
-    let lay = unlinked_laid_out _ _ _ _ _ _ l c.index-head.result.now c.requires.1 c.args.cell c.index-before.result.now c.index-after.result.now c.index-len.result.now before_is after_is len_read at in
-    well_formed_as _ _ _ _ _ _ lay
+returns-clause-well_formed c = well_formed_as _ _ _ _ _ _ (after c c.requires.0 c.requires.1 c.requires.2)

@@ -1,4 +1,4 @@
-use Rattle.std.proofs.Common.{◌+◌, ◌-◌, length, length-set, arith}
+use Rattle.std.proofs.Common.{length-set, arith}
 use Rattle.segments.proofs.Rows.{frame_in, put_kept, put_after}
 use Rattle.segments.proofs.frames.Frames.put.Goals as goal
 
@@ -11,11 +11,11 @@ pub invariant_of-self : goal.invariant_of-self
 invariant_of-self c =
     let a = c.self.inside in
     let kept = put_kept a.frames.items a.tables.items a.free.items c.self.invariant.0 _ c.self.view_is c.args.slot _ c.requires.slot c.index.ensures c.args.place c.at-frame.result c.requires.place c.at-frame.ensures
-    c.index_mut-page.result.now c.index_mut-page.ensures.value c.args.from (c.args.from + length c.args.part.now - c.args.from) c.args.part.now c.copy_from_slice.new.self c.copy_from_slice.ensures.after (omega arith) c.requires.within in
+    c.index_mut-page.result.now c.index_mut-page.ensures.value c.args.from c.args.part.now c.overwrite.new.page c.overwrite.ensures c.requires.within in
     (kept, omega (arith, c.self.invariant.1, length-set a.frames.items c.at-frame.result), omega (arith, c.self.invariant.2, length-set a.frames.items c.at-frame.result))
 
 pub returns-clause-after : goal.returns-clause-after
 returns-clause-after c =
     let a = c.self.inside in
     put_after a.frames.items a.tables.items a.free.items c.self.invariant.0 _ c.self.view_is c.args.slot _ c.requires.slot c.index.ensures c.args.place c.at-frame.result c.requires.place c.at-frame.ensures
-    c.index_mut-page.result.now c.index_mut-page.ensures.value c.args.from (c.args.from + length c.args.part.now - c.args.from) c.args.part.now c.copy_from_slice.new.self c.copy_from_slice.ensures.after (omega arith) c.requires.within
+    c.index_mut-page.result.now c.index_mut-page.ensures.value c.args.from c.args.part.now c.overwrite.new.page c.overwrite.ensures c.requires.within
