@@ -3,10 +3,11 @@
 # that is made and goes, beside a simple kernel in plain Rust (benches/simple) and beside the tuned one of the twin
 # (benches/twin), and prints ratios, each of one run, how long a boot takes, and the bytes of an event and of a call: at 8, 64
 # and 512 pages as full as they get, with plain labels, and at 64 pages with 4, 8 and 16 categories in each label, which is as
-# many as a label has room for. The twin's bench has plain labels at 64 and 512 pages, and 16 categories at 64. Not a test: it ends zero whatever the
+# many as a label has room for. The twin's bench has plain labels at 64 and 512 pages, and 16 categories at 64. A machine's clock is not
+# steady, so each is played many times for a short while, and of each row the least time is told. Not a test: it ends zero whatever the
 # times are. It needs cargo and python3 beside the toolchain.
 #
-# kernel.sh   ROUNDS=100000 may be set
+# kernel.sh   RUNS=30 and ROUNDS=1000 may be set
 set -eu
 top=$(cd "$(dirname "$0")/.." && pwd)
 bench=$top/crates/bench_kernel/out/bench_kernel
@@ -19,6 +20,22 @@ done
 built=$(cd "$top/crates/bench_kernel" && rt run --jobs 1 2>&1) || { echo "$built" >&2; exit 1; }
 folder=$(mktemp -d -p /dev/shm)
 trap 'rm -rf "$folder"' EXIT
+
+# plays a program many times, and prints its rows as they stood in the run in which each took the least time
+least() {
+    for ((run = 0; run < ${RUNS:-30}; run++)); do
+        "$@"
+    done | python3 -c '
+import re, sys
+
+least = {}
+for line in sys.stdin:
+    row = re.match(r"([^:]+): (\d+) ", line)
+    if row and int(row[2]) < least.get(row[1], (sys.maxsize,))[0]:
+        least[row[1]] = int(row[2]), line
+print(*(line for _, line in least.values()), sep="", end="")
+'
+}
 
 # prints a table of the rows that both have, each with the ratio of ours to the simple kernel's
 compare() {
@@ -37,13 +54,13 @@ for name, (time, unit) in ours.items():
 PYTHON
 }
 
-# prints the twin's rows, each with the ratio of ours to it
+# prints the least times of the twin's rows, each with the ratio of ours to it
 compare_twin() {
     python3 - "$1" "$2" <<'PYTHON'
 import re, sys
 
 for line in open(sys.argv[1]):
-    row = re.match(r"(.+?) +(64|512) +(0|16) +[\d.]+ +[\d.]+ +([\d.]+)$", line)
+    row = re.match(r"(.+?) +(64|512) +(0|16) +([\d.]+) +[\d.]+ +[\d.]+$", line)
     if row:
         name = row[1].removesuffix(" 64").replace("+", " with ")
         ours = re.search(rf"^{name}: (\d+) ns", open(f"{sys.argv[2]}/ours-{row[2]}-{row[3]}").read(), re.M)
@@ -55,13 +72,13 @@ PYTHON
 # (seven pages are the boot's, the segment's and the space's, and one is left for what is made and goes)
 for size in "8 0" "64 0" "512 0" "64 4" "64 8" "64 16"; do
     read -r pages categories <<<"$size"
-    words=("$pages" $((pages - 8)) "$categories" "${ROUNDS:-100000}")
+    words=("$pages" $((pages - 8)) "$categories" "${ROUNDS:-1000}")
     echo "== $pages pages, $categories categories"
-    "$bench" "${words[@]}" "$folder/file" | tee "$folder/ours-$pages-$categories"
-    "$simple" "${words[@]}" >"$folder/simple"
+    least "$bench" "${words[@]}" "$folder/file" | tee "$folder/ours-$pages-$categories"
+    least "$simple" "${words[@]}" >"$folder/simple"
     echo "-- beside the simple kernel"
     compare "$folder/ours-$pages-$categories" "$folder/simple"
 done
-echo "== beside the twin's kernel, its median times"
+echo "== beside the twin's kernel"
 "$twin" >"$folder/twin"
 compare_twin "$folder/twin" "$folder"
