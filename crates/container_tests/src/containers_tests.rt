@@ -185,6 +185,9 @@ fn a_first_link_is_looked_at_uncounted(rt: HostRuntime) -> Result<(), Fail> {
     Ok(())
 }
 
+// What goes is 4 with 5, and the second link to 6: the first link to 4 with its container, and how many there are; a cell that
+// is moved; four turns of three reads, and that nothing is dying then; for 5 and for 6 whose link it is and how many there
+// are; another cell that is moved, and three that are moved twice, of six reads each; and ten of the directory.
 #[test]
 fn a_link_that_was_found_goes(rt: HostRuntime) -> Result<(), Fail> {
     let mut meter = Meter::new(rt.alloc())?;
@@ -192,10 +195,29 @@ fn a_link_that_was_found_goes(rt: HostRuntime) -> Result<(), Fail> {
     let mut seen = nothing_seen();
     let root = found(&tree, ObjectId::root(), &mut meter);
     let four = found(&tree, ObjectId::new(4), &mut meter);
+    let before = meter.probes();
     assert!(rt; is_true(tree.unref_found(root, four, &mut seen, &mut meter)));
+    assert!(rt; agree(meter.probes().saturating_sub(before), 78));
     assert!(rt; agree(seen.links, 3));
     assert!(rt; agree(seen.len, 2));
     assert!(rt; agree(tree.len(), 2));
+    Ok(())
+}
+
+// The first and the last link with their containers, and twice how many there are; a cell that is moved twice; and that
+// nothing is dying.
+#[test]
+fn a_second_link_goes_alone(rt: HostRuntime) -> Result<(), Fail> {
+    let mut meter = Meter::new(rt.alloc())?;
+    let mut tree = family(rt.alloc(), &mut meter)?;
+    let mut seen = nothing_seen();
+    let four = found(&tree, ObjectId::new(4), &mut meter);
+    let six = found(&tree, ObjectId::new(6), &mut meter);
+    let before = meter.probes();
+    assert!(rt; is_true(tree.unref_found(four, six, &mut seen, &mut meter)));
+    assert!(rt; agree(meter.probes().saturating_sub(before), 19));
+    assert!(rt; agree(seen.links, 1));
+    assert!(rt; agree(tree.len(), 4));
     Ok(())
 }
 
