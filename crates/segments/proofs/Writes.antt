@@ -70,6 +70,29 @@ module _ (v0 : List (List ℕ)) (slot at : ℕ) (given : List ℕ) (lt : slot < 
         ∙ ap (λ (w : List (List ℕ)). set w slot (written at (take (done + part) given) bytes)) so_far
         ∙ set-set v0 slot (written at x bytes) (written at (take (done + part) given) bytes)
 
+-- where all that is given lies within one page
+module _ (v0 : List (List ℕ)) (slot at : ℕ) (given : List ℕ) (lt : slot < length v0) (room : at + length given ≤ length (bytes_in v0 slot)) (f : List (List (List ℕ))) (paged : IsPaged f)
+    (is : map concat f ≡ v0) (some : 0 < length given) (short : at % 256 + length given ≤ 256) where
+  bytes_here : concat (pages_at f slot) ≡ bytes_in v0 slot
+  bytes_here = sym (bytes_are f slot) ∙ ap (λ (w : List (List ℕ)). bytes_in w slot) is
+
+  pub slot_here : slot < length f
+  slot_here = omega (arith, lt, ap length is, length-map f concat)
+
+  pub place_here : at / 256 < length (pages_at f slot)
+  place_here = omega (arith, some, room, ap length bytes_here, length-concat (pages_at f slot) (paged.whole slot))
+
+  pub written_here : (f' : List (List (List ℕ))) → f' ≡ set f slot (set (pages_at f slot) (at / 256) (written (at % 256) given (page_at f slot (at / 256))))
+      → map concat f' ≡ set v0 slot (written at given (bytes_in v0 slot))
+  written_here f' step =
+      let at_is : 256 * (at / 256) + at % 256 ≡ at = omega arith in
+      let now : concat (set (pages_at f slot) (at / 256) (written (at % 256) given (page_at f slot (at / 256)))) ≡ written at given (bytes_in v0 slot) =
+      written_page (at / 256) (at % 256) given (pages_at f slot) (paged.whole slot) place_here (omega (arith, short))
+      ∙ ap (λ (m : ℕ). written m given (concat (pages_at f slot))) at_is
+      ∙ ap (λ (b : List ℕ). written at given b) bytes_here in
+      seen f paged (map concat f) refl f' slot _ _ step now
+      ∙ ap (λ (w : List (List ℕ)). set w slot (written at given (bytes_in v0 slot))) is
+
 -- a probe was made for each page that was met
 pub record IsMet (at done len : ℕ) (old new : Counts) : Type 0 where
   pub pages : ℕ

@@ -108,9 +108,9 @@ impl Segments {
         joined(&page[offset..], &next[..count - first])
     }
 
-    /// Writes over the bytes of a slot from a byte on, where 0 is the first. All other bytes stay. At most two probes, and
-    /// one for each 256 bytes that are given.
-    pub fn write(&mut self, slot: Slot, at: usize, given: &[u8], meter: &mut Meter)
+    // Writes over the bytes of a slot from a byte on, page by page.
+    #[inline(never)]
+    fn write_pages(&mut self, slot: Slot, at: usize, given: &[u8], meter: &mut Meter)
         requires slot { slot.0 < length self.old }
         requires within { at + length given.now ≤ length (bytes_in self.old slot.0) }
         ensures after { self.new
@@ -126,6 +126,25 @@ impl Segments {
             self.frames
                 .put(slot.0, place, offset, &given[done..done + part], meter);
             done += part;
+        }
+    }
+
+    /// Writes over the bytes of a slot from a byte on, where 0 is the first. All other bytes stay. At most two probes, and
+    /// one for each 256 bytes that are given. (It is put into those who write: most write within one page.)
+    #[inline(always)]
+    pub fn write(&mut self, slot: Slot, at: usize, given: &[u8], meter: &mut Meter)
+        requires slot { slot.0 < length self.old }
+        requires within { at + length given.now ≤ length (bytes_in self.old slot.0) }
+        ensures after { self.new
+            ≡ slice_set self.old slot.0 (written at given.now (bytes_in self.old slot.0)) }
+        ensures probes { ProbesAtMost (length given.now / 256 + 2) meter.old meter.new }
+    {
+        let offset = at % 256;
+        if 0 < given.len() && given.len() <= 256 - offset {
+            self.frames.paged();
+            self.frames.put(slot.0, at / 256, offset, given, meter);
+        } else {
+            self.write_pages(slot, at, given, meter);
         }
     }
 

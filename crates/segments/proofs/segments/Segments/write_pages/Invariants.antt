@@ -3,7 +3,7 @@ use Rattle.std.specs.List.{concat}
 use Rattle.kernel_rules.specs.Written.{written}
 use Rattle.segments.specs.Segments.{bytes_in}
 use Rattle.segments.proofs.Writes.{IsMet}
-use Rattle.segments.proofs.segments.Segments.write.Given as goal
+use Rattle.segments.proofs.segments.Segments.write_pages.Given as goal
 
 abbrev pub invariant-loop-done : goal.invariant-loop-done
 invariant-loop-done l = record {
