@@ -1,24 +1,36 @@
 //! A second link, and a quota that moves: what containers use changes with them. No label is scanned.
-ghost use Rattle.std.specs.Prelude.{◌≡◌, ◌≤◌, ◌+◌, true, false};
+ghost use Rattle.std.specs.Prelude.{◌≡◌, ◌≤◌, ◌+◌, true, false, IfSome};
 ghost use Rattle.base.specs.Live.{has};
 ghost use Rattle.base.specs.declared.kinds.Kind.TheVariants as kinds;
 ghost use Rattle.kernel_rules.specs.Changes.{changed, listing, requoted};
 ghost use Rattle.kernel_rules.specs.State.{holds, is_fixed, is_kind_at, list_at, quota_at, use_of};
 ghost use Rattle.kernel_store.specs.Sights.{kind_at};
+ghost use Rattle.kernel_store.specs.Spots.{LiesAt};
 ghost use Rattle.arena_state.specs.Shown.{KeepsAllSlots};
-ghost use Rattle.arena_state.specs.States.{state_of};
+ghost use Rattle.arena_state.specs.States.{state_of, HasRow};
 
 use crate::records::{charge, discharge, requote};
 use crate::states::ArenaState;
 use base::{Kind, Meter, ObjectId};
 use containers::Located;
 use kernel_rules::Entry;
+use kernel_store::Spot;
 
 impl ArenaState {
     /// An object whose quota is fixed comes last in the list of a second container, which uses its quota more. It takes
-    /// no memory: the link is there, since the quota was admitted. Tells the kind of the object.
+    /// no memory: the link is there, since the quota was admitted. Where the two lie is known, or is looked up. Tells the
+    /// kind of the object.
     #[inline(always)]
-    pub fn link(&mut self, container: ObjectId, entry: &Entry, meter: &mut Meter) -> Option<Kind>
+    pub fn link(
+        &mut self,
+        thread: ObjectId,
+        container: ObjectId,
+        entry: &Entry,
+        to_come: Option<Spot>,
+        meter: &mut Meter,
+    ) -> Option<Kind>
+        requires to_come { IfSome to_come (LiesAt (HasRow self.old) thread
+            (record { container = container; object = entry.now.object })) }
         requires container { is_kind_at (state_of self.old) kinds.Container container ≡ true }
         requires held { holds (state_of self.old) entry.now ≡ true }
         requires plain { is_kind_at (state_of self.old) kinds.Container entry.now.object ≡ false }
@@ -33,7 +45,11 @@ impl ArenaState {
         ensures slots { KeepsAllSlots self.old self.new }
         ensures scans { meter.new.scans ≡ meter.old.scans }
     {
-        let (into, linked) = self.quick_slots(container, entry.object, meter);
+        let new = Entry {
+            container,
+            object: entry.object,
+        };
+        let (into, linked) = self.or_looked_up(thread, &new, to_come, meter);
         let kind = self.kind_found(entry.object, linked);
         match into {
             Some(parent) => match linked {

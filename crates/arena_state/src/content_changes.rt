@@ -1,12 +1,12 @@
 //! The changes of contents: a segment's bytes, the slots of an address space, a device's packets. None takes memory or
 //! scans a label.
-ghost use Rattle.std.specs.Prelude.{◌≡◌, ◌≤◌, ◌<◌, ◌+◌, ◌*◌, true, ◌++◌, ◌∷◌, [], length, drop, slice_set};
+ghost use Rattle.std.specs.Prelude.{◌≡◌, ◌≤◌, ◌<◌, ◌+◌, ◌*◌, true, ◌++◌, ◌∷◌, [], length, drop, slice_set, IfSome};
 ghost use Rattle.address_spaces.specs.Mappings.{with_mapping};
 ghost use Rattle.kernel_rules.specs.Changes.{changed, with_body, rebyte, requeue, reslot};
 ghost use Rattle.base.specs.declared.kinds.Kind.TheVariants as kinds;
 ghost use Rattle.kernel_rules.specs.State.{bytes_at, is_kind_at, packets_at, quota_at};
 ghost use Rattle.kernel_rules.specs.Written.{resized, written};
-ghost use Rattle.arena_state.specs.States.{state_of};
+ghost use Rattle.arena_state.specs.States.{state_of, HasRow};
 
 use crate::records::Kept;
 use crate::states::ArenaState;
@@ -79,16 +79,24 @@ impl ArenaState {
         }
     }
 
-    /// A segment's bytes are written over from `at` on.
+    /// A segment's bytes are written over from `at` on. Where it lies is known, or is looked up.
     #[inline(always)]
-    pub fn write_bytes(&mut self, id: ObjectId, at: usize, given: &[u8], meter: &mut Meter)
-        requires { at + length given.now ≤ length (bytes_at (state_of self.old) id) }
+    pub fn write_bytes(
+        &mut self,
+        id: ObjectId,
+        slot: Option<Slot>,
+        at: usize,
+        given: &[u8],
+        meter: &mut Meter,
+    )
+        requires there { IfSome slot (λ slot. HasRow self.old id slot.0) }
+        requires inside { at + length given.now ≤ length (bytes_at (state_of self.old) id) }
         ensures state { state_of self.new
             ≡ changed (state_of self.old) id (with_body (rebyte (written at given.now))) }
         ensures places { self.new.pieces.places ≡ self.old.pieces.places }
         ensures scans { meter.new.scans ≡ meter.old.scans }
     {
-        match self.quick_slot(id, meter) {
+        match self.or_searched(id, slot, meter) {
             Some(slot) => self.pieces.holdings.segments.write(slot, at, given, meter),
             None => {}
         }

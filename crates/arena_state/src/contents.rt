@@ -1,16 +1,16 @@
 //! What is read of the contents of objects: a segment's bytes, the slots of an address space, a device's packets. No
 //! label is scanned.
-ghost use Rattle.std.specs.Prelude.{◌≡◌, ◌≤◌, ◌+◌, false, length, slice_range};
+ghost use Rattle.std.specs.Prelude.{◌≡◌, ◌≤◌, ◌+◌, false, length, slice_range, IfSome};
 ghost use Rattle.kernel_rules.specs.State.{bytes_at, packets_at, page_count, slots_at};
 ghost use Rattle.kernel_rules.specs.Translate.{slot_at};
 ghost use Rattle.arena_state.specs.Contents.{keeps_device};
-ghost use Rattle.arena_state.specs.States.{state_of, find_cost};
+ghost use Rattle.arena_state.specs.States.{state_of, find_cost, HasRow};
 ghost use Rattle.arena_state.specs.Stocked.{kept_pages, keeps_space};
 ghost use Rattle.arena_state.specs.Touched.{IsUnmapped};
 
 use crate::records::Kept;
 use crate::states::ArenaState;
-use base::{Data, Meter, ObjectId};
+use base::{Data, Meter, ObjectId, Slot};
 use kernel_rules::Mapping;
 
 impl Kept {
@@ -70,16 +70,25 @@ impl ArenaState {
         }
     }
 
-    /// So many bytes of a segment, from one on, up to 64. (It is put into the two queries that read.)
+    /// So many bytes of a segment, from one on, up to 64. Where it lies is known, or is looked up. (It is put into the two
+    /// queries that read.)
     #[inline(always)]
-    pub fn bytes_from(&self, id: ObjectId, from: usize, count: u32, meter: &mut Meter) -> Data
+    pub fn bytes_from(
+        &self,
+        id: ObjectId,
+        slot: Option<Slot>,
+        from: usize,
+        count: u32,
+        meter: &mut Meter,
+    ) -> Data
+        requires there { IfSome slot (λ slot. HasRow self.now id slot.0) }
         requires few { count ≤ 64 }
         requires inside { from + count ≤ length (bytes_at (state_of self.now) id) }
         ensures value { result ≡ slice_range (bytes_at (state_of self.now) id) from (from + count) }
         ensures scans { meter.new.scans ≡ meter.old.scans }
         ensures probes { meter.new.probes ≤ meter.old.probes + find_cost self.now + 2 }
     {
-        match self.slot(id, meter) {
+        match self.or_searched(id, slot, meter) {
             Some(slot) => {
                 let segments = &self.pieces.holdings.segments;
                 segments.read(slot, from, count as usize, meter)

@@ -1,14 +1,14 @@
 //! Tests of the labels of stored objects, by the order bits that are kept. No label is scanned.
-ghost use Rattle.std.specs.Prelude.{◌≡◌, ◌==◌, ◌≤◌, ◌+◌, ◌<◌, IsSome, option_copied};
+ghost use Rattle.std.specs.Prelude.{◌≡◌, ◌==◌, ◌≤◌, ◌+◌, ◌<◌, IsSome, IfSome, option_copied};
 ghost use Rattle.std.specs.Int.RustNames.{bit_and};
 ghost use Rattle.label_rules.specs.LabelRules.{both, below, visible, shown};
 ghost use Rattle.label_intern.specs.Held.{held_at, label_of};
 ghost use Rattle.kernel_rules.specs.State.{label_at, clearance_at, is_live_kind};
-ghost use Rattle.arena_state.specs.States.{state_of, find_cost, label_found, Finds, IsLabelled};
+ghost use Rattle.arena_state.specs.States.{state_of, find_cost, label_found, Finds, HasRow, IsLabelled};
 
 use crate::records::{Kept, Record};
 use crate::states::ArenaState;
-use base::{Kind, Meter, ObjectId};
+use base::{Kind, Meter, ObjectId, Slot};
 use label_intern::LabelIx;
 use label_lattice::Label;
 
@@ -38,6 +38,35 @@ impl ArenaState {
         self.pieces.holdings.labels.get(index)
     }
 
+    // The label of what was looked up.
+    #[inline(always)]
+    fn label_in(&self, id: ObjectId, found: Option<&Record>) -> Option<&Label>
+        requires { Finds self.now id (option_copied found) }
+        ensures { option_copied result ≡ label_at (state_of self.now) id }
+    {
+        let _id = id;
+        match found {
+            Some(row) => Some(self.label_at(row.label)),
+            None => None,
+        }
+    }
+
+    // The clearance of what was looked up, and `None` where that is no thread.
+    #[inline(always)]
+    fn clearance_in(&self, id: ObjectId, found: Option<&Record>) -> Option<&Label>
+        requires { Finds self.now id (option_copied found) }
+        ensures { option_copied result ≡ clearance_at (state_of self.now) id }
+    {
+        let _id = id;
+        match found {
+            Some(row) => match &row.body {
+                Kept::Thread(kept) => Some(self.label_at(kept.clearance)),
+                _ => None,
+            },
+            None => None,
+        }
+    }
+
     /// The label of an object, where it is recorded.
     #[inline(always)]
     pub fn label(&self, id: ObjectId, meter: &mut Meter) -> Option<&Label>
@@ -45,10 +74,7 @@ impl ArenaState {
         ensures scans { meter.new.scans ≡ meter.old.scans }
     {
         let slot = self.quick_slot(id, meter);
-        match self.record(id, slot) {
-            Some(row) => Some(self.label_at(row.label)),
-            None => None,
-        }
+        self.label_in(id, self.record(id, slot))
     }
 
     /// The clearance of a thread, and `None` for any other object.
@@ -58,13 +84,25 @@ impl ArenaState {
         ensures scans { meter.new.scans ≡ meter.old.scans }
     {
         let slot = self.quick_slot(thread, meter);
-        match self.record(thread, slot) {
-            Some(row) => match &row.body {
-                Kept::Thread(kept) => Some(self.label_at(kept.clearance)),
-                _ => None,
-            },
-            None => None,
-        }
+        self.clearance_in(thread, self.record(thread, slot))
+    }
+
+    /// The label and the clearance of a thread, at one look-up. Where it lies is known, or is looked up.
+    #[inline(always)]
+    pub fn bounds(
+        &self,
+        thread: ObjectId,
+        slot: Option<Slot>,
+        meter: &mut Meter,
+    ) -> (Option<&Label>, Option<&Label>)
+        requires { IfSome slot (λ slot. HasRow self.now thread slot.0) }
+        ensures label { option_copied result.0 ≡ label_at (state_of self.now) thread }
+        ensures clearance { option_copied result.1 ≡ clearance_at (state_of self.now) thread }
+        ensures scans { meter.new.scans ≡ meter.old.scans }
+    {
+        let slot = self.or_searched(thread, slot, meter);
+        let own = self.record(thread, slot);
+        (self.label_in(thread, own), self.clearance_in(thread, own))
     }
 
     // Whether who has the one record observes what has the other, where both are there.

@@ -3,6 +3,7 @@ ghost use Rattle.std.specs.Prelude.{◌≡◌, None, IfSome, IfNone, option_copi
 ghost use Rattle.base.specs.Live.{has};
 ghost use Rattle.kernel_rules.specs.State.{object_at, list_at, is_live_kind, is_accessible};
 ghost use Rattle.kernel_store.specs.Sights.{seen_of, sight_of, wide_sight_of};
+ghost use Rattle.kernel_store.specs.Spots.{LiesAt};
 ghost use Rattle.arena_state.specs.States.{state_of, HasRow, Finds};
 
 use crate::records::Record;
@@ -10,36 +11,7 @@ use crate::states::ArenaState;
 use base::{Kind, Meter, ObjectId, Slot};
 use containers::Located;
 use kernel_rules::Entry;
-use kernel_store::{Seen, Sight, WideSight};
-
-// The same, field by field.
-#[inline(always)]
-pub(crate) fn seen_apart(seen: &Seen) -> Seen
-    ensures { result ≡ seen.now }
-{
-    Seen {
-        kind: seen.kind,
-        observed: seen.observed,
-        flowing: seen.flowing,
-        immutable: seen.immutable,
-        fixed: seen.fixed,
-        pages: seen.pages,
-    }
-}
-
-// The same, field by field.
-#[inline(always)]
-pub(crate) fn sight_apart(sight: &Sight) -> Sight
-    ensures { result ≡ sight.now }
-{
-    Sight {
-        runs: sight.runs,
-        accessible: sight.accessible,
-        held: sight.held,
-        listed: sight.listed,
-        object: seen_apart(&sight.object),
-    }
-}
+use kernel_store::{Seen, Sight, Spot, WideSight};
 
 impl ArenaState {
     // What who has the one record sees of what has the other.
@@ -187,7 +159,7 @@ impl ArenaState {
         self.see_found(thread, own, entry, container_slot, object_slot, listed)
     }
 
-    // The same, where one of the three may not be there.
+    // The same, where hints don't tell all three.
     #[cold]
     #[inline(never)]
     pub(crate) fn see_any(&self, thread: ObjectId, entry: &Entry, meter: &mut Meter) -> WideSight
@@ -195,20 +167,6 @@ impl ArenaState {
         ensures scans { meter.new.scans ≡ meter.old.scans }
     {
         self.see(thread, entry, meter)
-    }
-
-    // The same, told field by field: what a call that is rarely made gives back by way of memory is not put into memory then
-    // where none is made.
-    #[inline(always)]
-    fn see_apart(&self, thread: ObjectId, entry: &Entry, meter: &mut Meter) -> WideSight
-        ensures value { result ≡ wide_sight_of (state_of self.now) thread entry.now }
-        ensures scans { meter.new.scans ≡ meter.old.scans }
-    {
-        let seen = self.see_any(thread, entry, meter);
-        WideSight {
-            entry: sight_apart(&seen.entry),
-            container: seen_apart(&seen.container),
-        }
     }
 
     /// What a thread sees of an entry, at three look-ups.
@@ -220,28 +178,28 @@ impl ArenaState {
         self.see(thread, entry, meter).entry
     }
 
-    /// What a thread sees of an entry and of its container, at three look-ups. (It is put into the few who ask, where what
-    /// they don't ask for is left out. Most calls name what is there, and then nothing asks again whether it is. What may
-    /// not be there is looked up anew, out of their way.)
+    /// What a thread sees of an entry and of its container, at three look-ups. Where all three lie is known, or is looked up.
+    /// (It is put into the few who ask, where what they don't ask for is left out.)
     #[inline(always)]
-    pub fn wide_sight(&self, thread: ObjectId, entry: &Entry, meter: &mut Meter) -> WideSight
+    pub fn wide_sight(
+        &self,
+        thread: ObjectId,
+        entry: &Entry,
+        spot: Option<Spot>,
+        meter: &mut Meter,
+    ) -> WideSight
+        requires { IfSome spot (LiesAt (HasRow self.now) thread entry.now) }
         ensures value { result ≡ wide_sight_of (state_of self.now) thread entry.now }
         ensures scans { meter.new.scans ≡ meter.old.scans }
     {
+        let Some(spot) = spot else {
+            return self.see_any(thread, entry, meter);
+        };
         // Three hints, and the two cells of the first link to the object.
         meter.probe_many(5);
-        let Some(own) = self.peek(thread) else {
-            return self.see_apart(thread, entry, meter);
-        };
-        let Some(container) = self.peek(entry.container) else {
-            return self.see_apart(thread, entry, meter);
-        };
-        let Some(object) = self.peek(entry.object) else {
-            return self.see_apart(thread, entry, meter);
-        };
-        let (container, object) = (Some(container), Some(object));
+        let (container, object) = (Some(spot.container), Some(spot.object));
         let listed = self.lists_found(entry, container, object, meter);
-        let own = self.record(thread, Some(own));
+        let own = self.record(thread, Some(spot.thread));
         self.see_found(thread, own, entry, container, object, listed)
     }
 }

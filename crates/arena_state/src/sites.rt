@@ -1,17 +1,17 @@
 //! What a thread sees of a container in which an object is to be listed: each id that is named is looked up once. No
 //! label is scanned.
-ghost use Rattle.std.specs.Prelude.{◌≡◌, ◌+◌, true, nat_lt, option_copied};
+ghost use Rattle.std.specs.Prelude.{◌≡◌, ◌+◌, true, nat_lt, option_copied, IfSome, IfNone, None};
 ghost use Rattle.kernel_rules.specs.State.{object_at, of_object, kind_of, avoids_at, quota_at, use_of};
 ghost use Rattle.kernel_store.specs.Sights.{site_of, link_site_of, sight_of, wide_sight_of};
-ghost use Rattle.arena_state.specs.States.{state_of, Finds};
+ghost use Rattle.kernel_store.specs.Spots.{LiesAt};
+ghost use Rattle.arena_state.specs.States.{state_of, Finds, HasRow};
 
 use crate::records::{Kept, Record};
-use crate::sights::{seen_apart, sight_apart};
 use crate::states::ArenaState;
 use crate::uses::pages_of;
-use base::{Kind, Meter, ObjectId};
+use base::{Kind, Meter, ObjectId, Slot};
 use kernel_rules::Entry;
-use kernel_store::{LinkSite, Sight, Site, WideSight};
+use kernel_store::{LinkSite, Sight, Site, Spot, WideSight};
 
 impl ArenaState {
     // Whether so many pages more are above the quota of what was looked up.
@@ -77,8 +77,34 @@ impl ArenaState {
         }
     }
 
+    // The slots of a thread and of a container, which are known or else looked up. The look is counted either way.
+    #[inline(always)]
+    fn site_slots(
+        &self,
+        thread: ObjectId,
+        container: ObjectId,
+        spot: Option<Spot>,
+        meter: &mut Meter,
+    ) -> (Option<Slot>, Option<Slot>)
+        requires { IfSome spot (LiesAt (HasRow self.now) thread
+            (record { container = container; object = container })) }
+        ensures own { IfSome result.0 (λ slot. HasRow self.now thread slot.0) }
+        ensures not_own { IfNone result.0 (object_at (state_of self.now) thread ≡ None) }
+        ensures there { IfSome result.1 (λ slot. HasRow self.now container slot.0) }
+        ensures not_there { IfNone result.1 (object_at (state_of self.now) container ≡ None) }
+        ensures scans { meter.new.scans ≡ meter.old.scans }
+    {
+        match spot {
+            Some(spot) => {
+                meter.probe_many(2);
+                (Some(spot.thread), Some(spot.container))
+            }
+            None => self.quick_slots(thread, container, meter),
+        }
+    }
+
     /// What a thread sees of a container in which an object of a kind and of this quota is to be listed, at two look-ups.
-    /// (It is put into the few rows that ask.)
+    /// Where both lie is known, or is looked up. (It is put into the few rows that ask.)
     #[inline(always)]
     pub fn site(
         &self,
@@ -86,12 +112,15 @@ impl ArenaState {
         kind: Kind,
         container: ObjectId,
         quota: u32,
+        spot: Option<Spot>,
         meter: &mut Meter,
     ) -> Site
+        requires { IfSome spot (LiesAt (HasRow self.now) thread
+            (record { container = container; object = container })) }
         ensures value { result ≡ site_of (state_of self.now) thread kind container quota }
         ensures scans { meter.new.scans ≡ meter.old.scans }
     {
-        let (thread_slot, slot) = self.quick_slots(thread, container, meter);
+        let (thread_slot, slot) = self.site_slots(thread, container, spot, meter);
         let own = self.record(thread, thread_slot);
         let there = self.record(container, slot);
         let seen = self.seen(thread, own, container, there);
@@ -141,7 +170,7 @@ impl ArenaState {
         }
     }
 
-    // The same, where something that is named may not be there.
+    // The same, where hints don't tell all that is named.
     #[cold]
     #[inline(never)]
     fn link_site_any(
@@ -163,44 +192,22 @@ impl ArenaState {
         self.link_site_seen(thread, own, new, there, &around, entry, object, &seen)
     }
 
-    // The same, told field by field, as `see_apart` does.
-    #[inline(always)]
-    fn link_site_apart(
-        &self,
-        thread: ObjectId,
-        new: &Entry,
-        entry: &Entry,
-        meter: &mut Meter,
-    ) -> LinkSite
-        requires { new.now.object ≡ entry.now.object }
-        ensures value { result ≡ link_site_of (state_of self.now) thread new.now.container entry.now }
-        ensures scans { meter.new.scans ≡ meter.old.scans }
-    {
-        let seen = self.link_site_any(thread, new, entry, meter);
-        LinkSite {
-            site: Site {
-                runs: seen.site.runs,
-                accessible: seen.site.accessible,
-                container: seen_apart(&seen.site.container),
-                avoided: seen.site.avoided,
-                full: seen.site.full,
-            },
-            entry: sight_apart(&seen.entry),
-            listed: seen.listed,
-            cleared: seen.cleared,
-        }
-    }
-
     /// What a thread sees of a container in which the object of an entry is to be listed too, and of the entry, at four
-    /// look-ups. (It is put into the one row that asks.)
+    /// look-ups. Where the link is to come and where the entry lies is known, or is looked up. (It is put into the one row
+    /// that asks.)
     #[inline(always)]
     pub fn link_site(
         &self,
         thread: ObjectId,
         container: ObjectId,
         entry: &Entry,
+        to_come: Option<Spot>,
+        spot: Option<Spot>,
         meter: &mut Meter,
     ) -> LinkSite
+        requires to_come { IfSome to_come (LiesAt (HasRow self.now) thread
+            (record { container = container; object = entry.now.object })) }
+        requires spot { IfSome spot (LiesAt (HasRow self.now) thread entry.now) }
         ensures value { result ≡ link_site_of (state_of self.now) thread container entry.now }
         ensures scans { meter.new.scans ≡ meter.old.scans }
     {
@@ -208,24 +215,19 @@ impl ArenaState {
             container,
             object: entry.object,
         };
+        let Some(to_come) = to_come else {
+            return self.link_site_any(thread, &new, entry, meter);
+        };
+        let Some(spot) = spot else {
+            return self.link_site_any(thread, &new, entry, meter);
+        };
         // Four hints, and twice the two cells of the first link to the object.
         meter.probe_many(8);
-        let Some(own) = self.peek(thread) else {
-            return self.link_site_apart(thread, &new, entry, meter);
-        };
-        let Some(new_slot) = self.peek(container) else {
-            return self.link_site_apart(thread, &new, entry, meter);
-        };
-        let Some(old_slot) = self.peek(entry.container) else {
-            return self.link_site_apart(thread, &new, entry, meter);
-        };
-        let Some(object_slot) = self.peek(entry.object) else {
-            return self.link_site_apart(thread, &new, entry, meter);
-        };
-        let (new_slot, old_slot, object_slot) = (Some(new_slot), Some(old_slot), Some(object_slot));
+        let (new_slot, old_slot) = (Some(to_come.container), Some(spot.container));
+        let object_slot = Some(to_come.object);
         let is_listed = self.lists_found(&new, new_slot, object_slot, meter);
         let is_entry = self.lists_found(entry, old_slot, object_slot, meter);
-        let own = self.record(thread, Some(own));
+        let own = self.record(thread, Some(to_come.thread));
         let there = self.record(container, new_slot);
         let object = self.record(entry.object, object_slot);
         let around = self.see_found(thread, own, &new, new_slot, object_slot, is_listed);

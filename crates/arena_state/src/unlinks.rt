@@ -1,30 +1,39 @@
 //! An entry that is taken out, and the objects that are gone with it.
-ghost use Rattle.std.specs.Prelude.{◌≡◌};
+ghost use Rattle.std.specs.Prelude.{◌≡◌, IfSome};
 ghost use Rattle.kernel_rules.specs.Changes.{changed, delisting};
 ghost use Rattle.kernel_rules.specs.Step.{restricted};
 ghost use Rattle.kernel_store.specs.Sights.{kind_at};
+ghost use Rattle.kernel_store.specs.Spots.{LiesAt};
 ghost use Rattle.arena_state.specs.Shown.{KeepsAllSlots};
 ghost use Rattle.arena_state.specs.States.{state_of, HasRow};
 
 use crate::records::discharge;
 use crate::states::ArenaState;
-use base::{Kind, Meter, Slot};
+use base::{Kind, Meter, ObjectId, Slot};
 use containers::Located;
 use kernel_rules::Entry;
+use kernel_store::Spot;
 
 impl ArenaState {
-    /// An object is taken out of a container's list, and what no path from the root leads to is gone. It takes no
-    /// memory and scans no label. What no list has is left. Tells the kind that the object had, none where it was not
-    /// recorded.
+    /// An object is taken out of a container's list, and what no path from the root leads to is gone. Where the two lie is
+    /// known, or is looked up. It takes no memory and scans no label. What no list has is left. Tells the kind that the
+    /// object had, none where it was not recorded.
     #[inline(always)]
-    pub fn unref(&mut self, entry: &Entry, meter: &mut Meter) -> Option<Kind>
+    pub fn unref(
+        &mut self,
+        thread: ObjectId,
+        entry: &Entry,
+        spot: Option<Spot>,
+        meter: &mut Meter,
+    ) -> Option<Kind>
+        requires { IfSome spot (LiesAt (HasRow self.old) thread entry.now) }
         ensures kind { result ≡ kind_at (state_of self.old) entry.now.object }
         ensures state { state_of self.new ≡ restricted
             (changed (state_of self.old) entry.now.container (delisting entry.now.object)) }
         ensures slots { KeepsAllSlots self.old self.new }
         ensures scans { meter.new.scans ≡ meter.old.scans }
     {
-        let (lister, listed) = self.quick_slots(entry.container, entry.object, meter);
+        let (lister, listed) = self.or_looked_up(thread, entry, spot, meter);
         let kind = self.kind_found(entry.object, listed);
         match lister {
             Some(container) => match listed {

@@ -1,9 +1,9 @@
 //! A store that counts each look.
 ghost use Rattle.std.specs.Prelude.{◌≡◌};
 
-use base::{Data, Kind, Meter, NoMemory, ObjectId, Rights, TypeSet};
+use base::{Data, Kind, Meter, NoMemory, ObjectId, Rights, Slot, TypeSet};
 use kernel_rules::{Entry, Gate, Ids, Mapping, Place, Thread};
-use kernel_store::{LinkSite, Sight, Site, Store, WideSight};
+use kernel_store::{LinkSite, Sight, Site, Spot, Store, WideSight};
 use label_lattice::Label;
 use plain_state::PlainState;
 
@@ -37,7 +37,13 @@ impl Store for Counting {
 
     ghost spends = { λ n a b. Unit {0} };
 
+    ghost lies = { λ s id slot. Unit {0} };
+
     type Want = NoMemory;
+
+    fn spot(&self, thread: ObjectId, entry: &Entry) -> Option<Spot> {
+        Store::spot(&self.state, thread, entry)
+    }
 
     fn is_live_kind(&self, kind: Kind, id: ObjectId, meter: &mut Meter) -> bool {
         meter.probe();
@@ -49,9 +55,15 @@ impl Store for Counting {
         Store::sight(&self.state, thread, entry, meter)
     }
 
-    fn wide_sight(&self, thread: ObjectId, entry: &Entry, meter: &mut Meter) -> WideSight {
+    fn wide_sight(
+        &self,
+        thread: ObjectId,
+        entry: &Entry,
+        spot: Option<Spot>,
+        meter: &mut Meter,
+    ) -> WideSight {
         meter.probe();
-        Store::wide_sight(&self.state, thread, entry, meter)
+        Store::wide_sight(&self.state, thread, entry, spot, meter)
     }
 
     fn site(
@@ -60,10 +72,11 @@ impl Store for Counting {
         kind: Kind,
         container: ObjectId,
         quota: u32,
+        spot: Option<Spot>,
         meter: &mut Meter,
     ) -> Site {
         meter.probe();
-        Store::site(&self.state, thread, kind, container, quota, meter)
+        Store::site(&self.state, thread, kind, container, quota, spot, meter)
     }
 
     fn link_site(
@@ -71,10 +84,12 @@ impl Store for Counting {
         thread: ObjectId,
         container: ObjectId,
         entry: &Entry,
+        to_come: Option<Spot>,
+        spot: Option<Spot>,
         meter: &mut Meter,
     ) -> LinkSite {
         meter.probe();
-        Store::link_site(&self.state, thread, container, entry, meter)
+        Store::link_site(&self.state, thread, container, entry, to_come, spot, meter)
     }
 
     fn is_there(&self, id: ObjectId, meter: &mut Meter) -> bool {
@@ -91,6 +106,15 @@ impl Store for Counting {
 
     fn clearance(&self, thread: ObjectId, meter: &mut Meter) -> Option<&Label> {
         Store::clearance(&self.state, thread, meter)
+    }
+
+    fn bounds(
+        &self,
+        thread: ObjectId,
+        slot: Option<Slot>,
+        meter: &mut Meter,
+    ) -> (Option<&Label>, Option<&Label>) {
+        Store::bounds(&self.state, thread, slot, meter)
     }
 
     fn is_fixed(&self, id: ObjectId, meter: &mut Meter) -> bool {
@@ -129,9 +153,16 @@ impl Store for Counting {
         Store::parent(&self.state, container, meter)
     }
 
-    fn bytes_from(&self, id: ObjectId, from: usize, count: u32, meter: &mut Meter) -> Data {
+    fn bytes_from(
+        &self,
+        id: ObjectId,
+        slot: Option<Slot>,
+        from: usize,
+        count: u32,
+        meter: &mut Meter,
+    ) -> Data {
         meter.probe();
-        Store::bytes_from(&self.state, id, from, count, meter)
+        Store::bytes_from(&self.state, id, slot, from, count, meter)
     }
 
     fn place(&self, thread: ObjectId, address: u64, meter: &mut Meter) -> Option<Place> {
@@ -194,15 +225,23 @@ impl Store for Counting {
 
     fn link(
         &mut self,
+        thread: ObjectId,
         container: ObjectId,
         entry: &Entry,
+        to_come: Option<Spot>,
         meter: &mut Meter,
     ) -> Result<(), NoMemory> {
-        Store::link(&mut self.state, container, entry, meter)
+        Store::link(&mut self.state, thread, container, entry, to_come, meter)
     }
 
-    fn unref(&mut self, entry: &Entry, meter: &mut Meter) -> Result<(), NoMemory> {
-        Store::unref(&mut self.state, entry, meter)
+    fn unref(
+        &mut self,
+        thread: ObjectId,
+        entry: &Entry,
+        spot: Option<Spot>,
+        meter: &mut Meter,
+    ) -> Result<(), NoMemory> {
+        Store::unref(&mut self.state, thread, entry, spot, meter)
     }
 
     fn set_fixed(&mut self, id: ObjectId, meter: &mut Meter) {
@@ -213,8 +252,15 @@ impl Store for Counting {
         Store::quota_move(&mut self.state, entry, up, down, meter);
     }
 
-    fn write_bytes(&mut self, id: ObjectId, at: usize, given: &[u8], meter: &mut Meter) {
-        Store::write_bytes(&mut self.state, id, at, given, meter);
+    fn write_bytes(
+        &mut self,
+        id: ObjectId,
+        slot: Option<Slot>,
+        at: usize,
+        given: &[u8],
+        meter: &mut Meter,
+    ) {
+        Store::write_bytes(&mut self.state, id, slot, at, given, meter);
     }
 
     fn create_container(

@@ -16,7 +16,7 @@ use crate::frequent::{
 use crate::refusals::refused;
 use crate::saying::{first_in, said_of, says_more, second_in, third_in};
 use base::{Category, Meter, ObjectId};
-use kernel_rules::{Call, Reply};
+use kernel_rules::{Call, Entry, Reply};
 use kernel_store::{Said, Store, refuse};
 use label_lattice::{Label, RawLabel};
 use label_rules::stored_of;
@@ -91,8 +91,8 @@ fn accept<S: Store>(
             reply,
             gate_create(state, thread, made, said.first, said.second, meter)?,
         )),
-        Call::Link { target, entry } => link(state, thread, *target, entry, meter),
-        Call::Unref { entry } => unref(state, thread, entry, meter),
+        Call::Link { target, entry } => link(state, thread, *target, entry, None, meter),
+        Call::Unref { entry } => unref(state, thread, entry, None, meter),
         Call::QuotaMove { entry, change } => Ok(quota_move(state, thread, entry, *change, meter)),
         Call::SetFixed { entry } => Ok(set_fixed(state, thread, entry, meter)),
         Call::SetImmutable { entry } => Ok(set_immutable(state, thread, entry, meter)),
@@ -102,7 +102,7 @@ fn accept<S: Store>(
             entry,
             offset,
             data,
-        } => Ok(segment_write(state, thread, entry, *offset, data, meter)),
+        } => Ok(segment_write(state, thread, entry, None, *offset, data, meter)),
         Call::AsMap {
             space,
             slot,
@@ -268,10 +268,41 @@ pub(crate) fn step_into<S: Store>(
             entry,
             offset,
             data,
-        } => Ok(step_segment_write(state, thread, entry, *offset, data, reply, meter)),
-        Call::SegmentCreate(made) => step_segment_create(state, thread, made, reply, meter),
-        Call::Link { target, entry } => step_link(state, thread, *target, entry, reply, meter),
-        Call::Unref { entry } => step_unref(state, thread, entry, reply, meter),
+        } => match state.spot(thread, entry) {
+            Some(spot) => Ok(step_segment_write(
+                state, thread, entry, spot, *offset, data, reply, meter,
+            )),
+            None => step_other(state, thread, call, reply, meter),
+        },
+        Call::SegmentCreate(made) => {
+            let around = Entry {
+                container: made.container,
+                object: made.container,
+            };
+            match state.spot(thread, &around) {
+                Some(spot) => step_segment_create(state, thread, made, spot, reply, meter),
+                None => step_other(state, thread, call, reply, meter),
+            }
+        }
+        Call::Link { target, entry } => {
+            let linked = Entry {
+                container: *target,
+                object: entry.object,
+            };
+            match state.spot(thread, &linked) {
+                Some(to_come) => match state.spot(thread, entry) {
+                    Some(spot) => {
+                        step_link(state, thread, *target, entry, to_come, spot, reply, meter)
+                    }
+                    None => step_other(state, thread, call, reply, meter),
+                },
+                None => step_other(state, thread, call, reply, meter),
+            }
+        }
+        Call::Unref { entry } => match state.spot(thread, entry) {
+            Some(spot) => step_unref(state, thread, entry, spot, reply, meter),
+            None => step_other(state, thread, call, reply, meter),
+        },
         _ => step_other(state, thread, call, reply, meter),
     }
 }

@@ -43,7 +43,7 @@ fn refused<S: Store>(
             entry,
             offset,
             count,
-        } => refused_segment_read(state, thread, entry, *offset, *count, meter),
+        } => refused_segment_read(state, thread, entry, None, *offset, *count, meter),
         Query::MetaGet { entry } => refused_meta_get(state, thread, entry, meter),
         Query::AsGet { space, slot } => refused_as_get(state, thread, space, *slot, meter),
         Query::Load { address, count } => refused_load(state, thread, *address, *count, meter),
@@ -72,7 +72,7 @@ fn found<S: Store>(state: &S, thread: ObjectId, query: &Query, reply: &mut Reply
             entry,
             offset,
             count,
-        } => segment_read(state, thread, entry, *offset, *count, reply, meter),
+        } => segment_read(state, thread, entry, None, *offset, *count, reply, meter),
         Query::MetaGet { entry } => meta_get(state, thread, entry, reply, meter),
         Query::AsGet { space, slot } => as_get(state, thread, space, *slot, reply, meter),
         Query::Load { address, count } => load(state, thread, *address, *count, reply, meter),
@@ -117,7 +117,12 @@ pub fn ask_into<S: Store>(
             entry,
             offset,
             count,
-        } => ask_segment_read(state, thread, entry, *offset, *count, reply, meter),
+        } => match state.spot(thread, entry) {
+            Some(spot) => {
+                ask_segment_read(state, thread, entry, spot, *offset, *count, reply, meter)
+            }
+            None => ask_other(state, thread, query, reply, meter),
+        },
         _ => ask_other(state, thread, query, reply, meter),
     }
 }

@@ -47,7 +47,9 @@ pub fn refused<S: Store>(
         Call::ContainerCreate(made) => refused_container_create(
             state, thread, made, said.first, meter,
         ),
-        Call::SegmentCreate(made) => refused_segment_create(state, thread, made, said.first, meter),
+        Call::SegmentCreate(made) => refused_segment_create(
+            state, thread, made, None, said.first, meter,
+        ),
         Call::SegmentCopy(made) => refused_segment_copy(state, thread, made, said.first, meter),
         Call::AsCreate(made) => refused_as_create(state, thread, made, said.first, meter),
         Call::ThreadCreate(made) => refused_thread_create(
@@ -66,8 +68,10 @@ pub fn refused<S: Store>(
             said.second,
             meter,
         ),
-        Call::Link { target, entry } => refused_link(state, thread, *target, entry, meter),
-        Call::Unref { entry } => refused_unref(state, thread, entry, meter),
+        Call::Link { target, entry } => refused_link(
+            state, thread, *target, entry, None, None, meter,
+        ),
+        Call::Unref { entry } => refused_unref(state, thread, entry, None, meter),
         Call::QuotaMove { entry, change } => {
             refused_quota_move(state, thread, entry, *change, meter)
         }
@@ -81,7 +85,7 @@ pub fn refused<S: Store>(
             entry,
             offset,
             data,
-        } => refused_segment_write(state, thread, entry, *offset, data, meter),
+        } => refused_segment_write(state, thread, entry, None, *offset, data, meter),
         Call::AsMap {
             space,
             slot,

@@ -8,6 +8,7 @@ mod conditions;
 mod new_objects;
 mod said;
 mod sights;
+mod spots;
 mod stores;
 
 pub use conditions::{
@@ -18,4 +19,5 @@ pub use conditions::{
 pub use new_objects::{NewObject, good_label, is_in_range, new_bearer, new_object};
 pub use said::Said;
 pub use sights::{LinkSite, Seen, Sight, Site, WideSight, itself};
+pub use spots::{Spot, object_slot, own_slot};
 pub use stores::Store;

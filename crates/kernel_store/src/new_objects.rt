@@ -1,5 +1,5 @@
 //! What refuses a new object.
-ghost use Rattle.std.specs.Prelude.{◌≡◌, ◌≤◌, ◌+◌, ◌∷◌, [], ◌||◌, not, is_none, option_copied};
+ghost use Rattle.std.specs.Prelude.{◌≡◌, ◌≤◌, ◌+◌, ◌∷◌, [], ◌||◌, not, is_none, option_copied, IfSome};
 ghost use Rattle.base.specs.declared.refusals.Refusal.TheVariants as refusal;
 ghost use Rattle.label_lattice.specs.Raw.{all_made, is_bad_below, raw_has_star};
 ghost use Rattle.label_rules.specs.LabelRules.{both, below, between, stored};
@@ -10,7 +10,7 @@ ghost use Rattle.kernel_store.specs.Sights.{site_of};
 use crate::conditions::{Condition, at_site, modified, not_immutable};
 use crate::sights::Site;
 use crate::stores::Store;
-use base::{Kind, Meter, ObjectId, Refusal};
+use base::{Kind, Meter, ObjectId, Refusal, Slot};
 use label_lattice::{Label, RawLabel};
 use label_rules::{is_below, is_between};
 
@@ -99,36 +99,40 @@ fn starless_label<S: Store>(state: &S, raw: &RawLabel, label: Option<&Label>) ->
     )]
 }
 
-/// Whether a stored label is at least the thread's, and at most its clearance.
+/// Whether a stored label is at least the thread's, and at most its clearance. Where the thread lies is known, or is looked
+/// up.
 #[inline(always)]
 pub fn is_in_range<S: Store>(
     state: &S,
     thread: ObjectId,
+    own: Option<Slot>,
     label: Option<&Label>,
     meter: &mut Meter,
 ) -> bool
+    requires { IfSome own (λ slot. S.lies state.now thread slot.0) }
     ensures value { result
         ≡ in_range_of (S.state state.now) thread (option_copied label.entry) }
     ensures meter { S.kept meter.new ≤ S.kept meter.old + 2 }
 {
-    let own = state.label(thread, meter);
-    let clearance = state.clearance(thread, meter);
-    is_between(own, label, clearance, meter)
+    let (least, most) = state.bounds(thread, own, meter);
+    is_between(least, label, most, meter)
 }
 
 /// What refuses a new container, segment or address space, which uses so many pages itself. Its
-/// container was looked at, and its label is the stored one, where there is one. (It is put into the rows that ask, as
-/// `refusal_of` is.)
+/// container was looked at, and its label is the stored one, where there is one. Where the caller lies is known, or is
+/// looked up. (It is put into the rows that ask, as `refusal_of` is.)
 #[inline(always)]
 pub fn new_object<S: Store>(
     state: &S,
     thread: ObjectId,
+    own: Option<Slot>,
     site: &Site,
     made: &NewObject,
     label: Option<&Label>,
     pages: u64,
     meter: &mut Meter,
 ) -> [Condition; 10]
+    requires own { IfSome own (λ slot. S.lies state.now thread slot.0) }
     requires site { site.now ≡ site_of (S.state state.now) thread
         made.now.kind made.now.container made.now.quota }
     requires label { option_copied label ≡ stored made.now.label.now }
@@ -147,7 +151,7 @@ pub fn new_object<S: Store>(
         spent,
     ] = fitting(state, thread, site, made, pages);
     let [unfit] = starless_label(state, made.label, label);
-    let in_range = is_in_range(state, thread, label, meter);
+    let in_range = is_in_range(state, thread, own, label, meter);
     [
         access,
         observed,

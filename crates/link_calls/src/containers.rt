@@ -38,10 +38,10 @@ pub fn refused_container_create<S: Store>(
         quota: made.quota,
         label: &made.label,
     };
-    let site = state.site(thread, object.kind, made.container, made.quota, meter);
+    let site = state.site(thread, object.kind, made.container, made.quota, None, meter);
     refusal_of(&[
         &halted_by(&site),
-        &new_object(state, thread, &site, &object, label, 1, meter),
+        &new_object(state, thread, None, &site, &object, label, 1, meter),
     ])
 }
 

@@ -1,5 +1,5 @@
 //! A kernel with its meters, and looks at it of which the prover is told nothing.
-use base::{Meter, NoMemory, ObjectId};
+use base::{Limits, Meter, NoMemory, ObjectId};
 use label_intern::LabelIx;
 use std::alloc::Global;
 use std::test::Fail;
@@ -17,8 +17,13 @@ pub struct Metered {
 impl Metered {
     /// A kernel after its boot.
     pub fn boot(alloc: Global) -> Result<Metered, Fail> {
+        Metered::boot_with(alloc, &LIMITS)
+    }
+
+    /// A kernel of these limits after its boot.
+    pub fn boot_with(alloc: Global, limits: &Limits) -> Result<Metered, Fail> {
         Ok(Metered {
-            kernel: Kernel::boot(alloc, &LIMITS)?,
+            kernel: Kernel::boot(alloc, limits)?,
             meter: Meter::new(alloc)?,
             recomputing: Meter::new(alloc)?,
         })

@@ -1,11 +1,11 @@
 //! How many labels calls of the arena kernel scan, and how many cells they read, by a meter.
 use crate::metered::Metered;
-use base::{Data, Level, ObjectId};
+use base::{Data, Level, Limits, ObjectId};
 use kernel_rules::NewGate;
 use std::test::Fail;
 use syscall_core::Call;
 use test_support::{
-    agree, everywhere, in_root, new_container, new_segment, new_thread, no_entry, plain,
+    LIMITS, agree, everywhere, in_root, new_container, new_segment, new_thread, no_entry, plain,
 };
 
 /// A call that makes a gate with the clearance {2} and without an address space.
@@ -44,8 +44,17 @@ fn few_labels_are_scanned(rt: HostRuntime) -> Result<(), Fail> {
     Ok(())
 }
 
+// A create reads the hints of the thread and the container, and the container's once more; moves a cell of two families, which
+// is thirteen reads; takes a frame for its page; and reads the hint of what it made.
+#[test]
+fn a_create_counts_what_it_reads(rt: HostRuntime) -> Result<(), Fail> {
+    let mut metered = Metered::boot(rt.alloc())?;
+    assert!(rt; agree(metered.probes(&new_segment(plain())), Some(18)));
+    Ok(())
+}
+
 // A write reads the hints of the thread, the container and the segment, the first link to the segment and its container,
-// the segment's hint once more, and the page.
+// and the page.
 #[test]
 fn a_write_counts_what_it_reads(rt: HostRuntime) -> Result<(), Fail> {
     let mut metered = Metered::boot(rt.alloc())?;
@@ -55,12 +64,32 @@ fn a_write_counts_what_it_reads(rt: HostRuntime) -> Result<(), Fail> {
         offset: 0,
         data: Data::from_slice(&[7; 4]),
     };
-    assert!(rt; agree(metered.probes(&write), Some(7)));
+    assert!(rt; agree(metered.probes(&write), Some(6)));
+    Ok(())
+}
+
+// An arena of 64 slots has 512 places for hints, so the root has that of object 513, and a write to this goes the way of all
+// calls: it reads the hints of the thread and the container, the first link to the segment and its container, twice the hint
+// that is not the segment's, two halves and a slot, and the page.
+#[test]
+fn a_write_without_a_hint_counts_more(rt: HostRuntime) -> Result<(), Fail> {
+    let limits = Limits {
+        next_id: 513,
+        ..LIMITS
+    };
+    let mut metered = Metered::boot_with(rt.alloc(), &limits)?;
+    metered.step(&new_segment(plain()));
+    let write = Call::SegmentWrite {
+        entry: in_root(513),
+        offset: 0,
+        data: Data::from_slice(&[7; 4]),
+    };
+    assert!(rt; agree(metered.probes(&write), Some(13)));
     Ok(())
 }
 
 // A link reads four hints; the first link to the object and its container for each of the two entries, and that there is no
-// other link; both hints once more; and moves a cell of two families, which is thirteen reads.
+// other link; and moves a cell of two families, which is thirteen reads.
 #[test]
 fn a_link_counts_what_it_reads(rt: HostRuntime) -> Result<(), Fail> {
     let mut metered = Metered::boot(rt.alloc())?;
@@ -71,6 +100,6 @@ fn a_link_counts_what_it_reads(rt: HostRuntime) -> Result<(), Fail> {
         target: ObjectId::new(4),
         entry: in_root(5),
     };
-    assert!(rt; agree(metered.probes(&link), Some(24)));
+    assert!(rt; agree(metered.probes(&link), Some(22)));
     Ok(())
 }

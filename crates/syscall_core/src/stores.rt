@@ -2,16 +2,19 @@
 //! labels which are kept scans none.
 ghost use Rattle.std.specs.Prelude.{◌≡◌, ◌||◌};
 ghost use Rattle.base.specs.declared.kinds.Kind.TheVariants as kinds;
+ghost use Rattle.arena_state.specs.Shown.{AreKept, AreKeptBut};
+ghost use Rattle.arena_state.specs.declared.repairs.Change.TheVariants as touched;
 ghost use Rattle.kernel_store.specs.Sights.{is_of};
 ghost use Rattle.syscall_core.specs.Kernel.{cut_touches, may_be_of_kind};
 
 use crate::kernel::Kernel;
-use arena_state::Change;
-use base::{Data, Kind, Meter, ObjectId, Rights, TypeSet};
+use arena_state::{ArenaState, Change};
+use base::{Data, Kind, Meter, ObjectId, Rights, Slot, TypeSet};
 use kernel_rules::{Entry, Gate, Ids, Mapping, Place, Thread};
-use kernel_store::{LinkSite, Sight, Site, Store, WideSight};
+use kernel_store::{LinkSite, Sight, Site, Spot, Store, WideSight};
 use label_lattice::Label;
 use std::convert::Infallible;
+use translation_rows::Rows;
 
 // What may be touched once an entry is taken out: what goes by it, and all where it names a container.
 fn cut_touches(is_container: bool, entry: &Entry) -> Change
@@ -62,12 +65,40 @@ fn cut_may_touch(kind: Option<Kind>, is_mapped: bool) -> bool
     is_container(kind) || may_touch(kind, is_mapped)
 }
 
+// The rows of the threads to which an entry that came may show something are remade. (In a function of its own, as the one
+// below: most links touch no row.)
+#[inline(never)]
+fn repair_entry(state: &ArenaState, entry: &Entry, rows: &mut Rows, meter: &mut Meter)
+    requires { AreKeptBut state.now (touched.Entry entry.now) 0 rows.old }
+    ensures kept { AreKept state.now rows.new }
+    ensures scans { meter.new.scans ≡ meter.old.scans }
+{
+    state.repair(&Change::Entry(*entry), rows, meter);
+}
+
+// The rows of the threads that an entry which was taken out may have touched are remade.
+#[inline(never)]
+fn repair_cut(
+    state: &ArenaState,
+    is_container: bool,
+    entry: &Entry,
+    rows: &mut Rows,
+    meter: &mut Meter,
+)
+    requires { AreKeptBut state.now (cut_touches is_container entry.now) 0 rows.old }
+    ensures kept { AreKept state.now rows.new }
+    ensures scans { meter.new.scans ≡ meter.old.scans }
+{
+    let cut = cut_touches(is_container, entry);
+    state.repair(&cut, rows, meter);
+}
+
 impl Store for Kernel {
     ghost use Rattle.syscall_core.specs.Kernel.{kernel_state};
     ghost use Rattle.arena_state.proofs.LookLaws.{no_looks, more_looks, both_looks};
     ghost use Rattle.arena_state.proofs.StockLaws.{whole_formed};
     ghost use Rattle.arena_state.specs.Looks.{Looks};
-    ghost use Rattle.arena_state.specs.States.{labels_stored};
+    ghost use Rattle.arena_state.specs.States.{labels_stored, HasRow};
 
     ghost state = { kernel_state };
 
@@ -77,7 +108,14 @@ impl Store for Kernel {
 
     ghost spends = { Looks };
 
+    ghost lies = { λ k. HasRow k.state };
+
     type Want = Infallible;
+
+    #[inline(always)]
+    fn spot(&self, thread: ObjectId, entry: &Entry) -> Option<Spot> {
+        self.state.spot(thread, entry)
+    }
 
     fn is_live_kind(&self, kind: Kind, id: ObjectId, meter: &mut Meter) -> bool {
         self.rows.few();
@@ -89,8 +127,14 @@ impl Store for Kernel {
     }
 
     #[inline(always)]
-    fn wide_sight(&self, thread: ObjectId, entry: &Entry, meter: &mut Meter) -> WideSight {
-        self.state.wide_sight(thread, entry, meter)
+    fn wide_sight(
+        &self,
+        thread: ObjectId,
+        entry: &Entry,
+        spot: Option<Spot>,
+        meter: &mut Meter,
+    ) -> WideSight {
+        self.state.wide_sight(thread, entry, spot, meter)
     }
 
     #[inline(always)]
@@ -100,9 +144,10 @@ impl Store for Kernel {
         kind: Kind,
         container: ObjectId,
         quota: u32,
+        spot: Option<Spot>,
         meter: &mut Meter,
     ) -> Site {
-        self.state.site(thread, kind, container, quota, meter)
+        self.state.site(thread, kind, container, quota, spot, meter)
     }
 
     #[inline(always)]
@@ -111,9 +156,12 @@ impl Store for Kernel {
         thread: ObjectId,
         container: ObjectId,
         entry: &Entry,
+        to_come: Option<Spot>,
+        spot: Option<Spot>,
         meter: &mut Meter,
     ) -> LinkSite {
-        self.state.link_site(thread, container, entry, meter)
+        self.state
+            .link_site(thread, container, entry, to_come, spot, meter)
     }
 
     fn is_there(&self, id: ObjectId, meter: &mut Meter) -> bool {
@@ -132,6 +180,16 @@ impl Store for Kernel {
     #[inline(always)]
     fn clearance(&self, thread: ObjectId, meter: &mut Meter) -> Option<&Label> {
         self.state.clearance(thread, meter)
+    }
+
+    #[inline(always)]
+    fn bounds(
+        &self,
+        thread: ObjectId,
+        slot: Option<Slot>,
+        meter: &mut Meter,
+    ) -> (Option<&Label>, Option<&Label>) {
+        self.state.bounds(thread, slot, meter)
     }
 
     fn is_fixed(&self, id: ObjectId, meter: &mut Meter) -> bool {
@@ -171,9 +229,16 @@ impl Store for Kernel {
     }
 
     #[inline(always)]
-    fn bytes_from(&self, id: ObjectId, from: usize, count: u32, meter: &mut Meter) -> Data {
+    fn bytes_from(
+        &self,
+        id: ObjectId,
+        slot: Option<Slot>,
+        from: usize,
+        count: u32,
+        meter: &mut Meter,
+    ) -> Data {
         self.rows.few();
-        self.state.bytes_from(id, from, count, meter)
+        self.state.bytes_from(id, slot, from, count, meter)
     }
 
     #[inline(always)]
@@ -238,8 +303,10 @@ impl Store for Kernel {
     #[inline(always)]
     fn link(
         &mut self,
+        thread: ObjectId,
         container: ObjectId,
         entry: &Entry,
+        to_come: Option<Spot>,
         meter: &mut Meter,
     ) -> Result<(), Infallible> {
         let linked = Entry {
@@ -247,21 +314,26 @@ impl Store for Kernel {
             object: entry.object,
         };
         let is_mapped = self.state.may_map(linked.object);
-        let kind = self.state.link(container, entry, meter);
+        let kind = self.state.link(thread, container, entry, to_come, meter);
         if may_touch(kind, is_mapped) {
-            self.state
-                .repair(&Change::Entry(linked), &mut self.rows, meter);
+            repair_entry(&self.state, &linked, &mut self.rows, meter);
         }
         Ok(())
     }
 
     #[inline(always)]
-    fn unref(&mut self, entry: &Entry, meter: &mut Meter) -> Result<(), Infallible> {
+    fn unref(
+        &mut self,
+        thread: ObjectId,
+        entry: &Entry,
+        spot: Option<Spot>,
+        meter: &mut Meter,
+    ) -> Result<(), Infallible> {
         let is_mapped = self.state.may_map(entry.object);
-        let kind = self.state.unref(entry, meter);
+        let kind = self.state.unref(thread, entry, spot, meter);
         if cut_may_touch(kind, is_mapped) {
-            let cut = cut_touches(is_container(kind), entry);
-            self.state.repair(&cut, &mut self.rows, meter);
+            let is_container = is_container(kind);
+            repair_cut(&self.state, is_container, entry, &mut self.rows, meter);
         }
         Ok(())
     }
@@ -275,8 +347,15 @@ impl Store for Kernel {
     }
 
     #[inline(always)]
-    fn write_bytes(&mut self, id: ObjectId, at: usize, given: &[u8], meter: &mut Meter) {
-        self.state.write_bytes(id, at, given, meter);
+    fn write_bytes(
+        &mut self,
+        id: ObjectId,
+        slot: Option<Slot>,
+        at: usize,
+        given: &[u8],
+        meter: &mut Meter,
+    ) {
+        self.state.write_bytes(id, slot, at, given, meter);
     }
 
     fn resize(&mut self, id: ObjectId, pages: u32, meter: &mut Meter) -> Result<(), Infallible> {

@@ -44,7 +44,7 @@ pub fn refused_gate_create<S: Store>(
         quota: made.quota,
         label: &made.label,
     };
-    let site = state.site(thread, object.kind, made.container, made.quota, meter);
+    let site = state.site(thread, object.kind, made.container, made.quota, None, meter);
     let raw = &made.clearance;
     refusal_of(&[
         &halted_at(&space),
@@ -93,9 +93,10 @@ fn own_bearer<S: Store>(state: &S, thread: ObjectId, meter: &mut Meter) -> Beare
     ensures value { result ≡ own_bearer (S.state state.now) thread }
     ensures meter { S.kept meter.new ≡ S.kept meter.old }
 {
+    let (label, clearance) = state.bounds(thread, None, meter);
     Bearer {
-        label: state.label(thread, meter).copied(),
-        clearance: state.clearance(thread, meter).copied(),
+        label: label.copied(),
+        clearance: clearance.copied(),
     }
 }
 

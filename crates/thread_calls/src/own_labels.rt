@@ -28,7 +28,7 @@ pub fn refused_self_set_label<S: Store>(
     ensures value { result ≡ refused (S.state state.now) thread (call.SelfSetLabel raw.now) }
     ensures meter { S.kept meter.new ≤ S.kept meter.old + 2 }
 {
-    let in_range = is_in_range(state, thread, label, meter);
+    let in_range = is_in_range(state, thread, None, label, meter);
     refusal_of(&[
         &halted(state, thread, meter),
         &good_label(state, raw, label),
@@ -67,8 +67,7 @@ fn may_clear_to<S: Store>(
         (clearance_at (S.state state.now) thread) (option_copied asked.entry) }
     ensures meter { S.kept meter.new ≤ S.kept meter.old + 2 }
 {
-    let label = state.label(thread, meter);
-    let clearance = state.clearance(thread, meter);
+    let (label, clearance) = state.bounds(thread, None, meter);
     may_clear(label, clearance, asked, meter)
 }
 

@@ -67,7 +67,7 @@ pub fn refused_thread_create<S: Store>(
         quota: made.quota,
         label: &made.label,
     };
-    let site = state.site(thread, object.kind, made.container, made.quota, meter);
+    let site = state.site(thread, object.kind, made.container, made.quota, None, meter);
     let raw = &made.clearance;
     refusal_of(&[
         &halted_by(&site),

@@ -16,7 +16,7 @@ pub returns-in-Some-clause-scans : goal.returns-in-Some-clause-scans
 returns-in-Some-clause-scans g c =
     omega (
       arith,
-      g.met.S.Store.kept_scans 1 _ _ c.stored_of-label.ensures.scans,
+      g.met.S.Store.kept_scans 1 _ _ c.stored_of-stored.ensures.scans,
       c.refused_segment_create.ensures.meter,
     )
 
@@ -24,7 +24,7 @@ pub returns-in_err-id-clause-scans : goal.returns-in_err-id-clause-scans
 returns-in_err-id-clause-scans g c =
     omega (
       arith,
-      g.met.S.Store.kept_scans 1 _ _ c.stored_of-label.ensures.scans,
+      g.met.S.Store.kept_scans 1 _ _ c.stored_of-stored.ensures.scans,
       c.refused_segment_create.ensures.meter,
       c.segment_create.ensures.meter,
     )
@@ -38,7 +38,7 @@ pub returns-clause-scans : goal.returns-clause-scans
 returns-clause-scans g c =
     omega (
       arith,
-      g.met.S.Store.kept_scans 1 _ _ c.stored_of-label.ensures.scans,
+      g.met.S.Store.kept_scans 1 _ _ c.stored_of-stored.ensures.scans,
       c.refused_segment_create.ensures.meter,
       c.segment_create.ensures.meter,
     )

@@ -14,7 +14,7 @@ returns-in-Some-clause-state g c =
 
 pub returns-clause-reply : goal.returns-clause-reply
 returns-clause-reply g c =
-    c.requires ∙ sym (step_done _ _ _ (sym c.refused_segment_write.ensures.value ∙ c.in_default.is)).0
+    c.requires.done ∙ sym (step_done _ _ _ (sym c.refused_segment_write.ensures.value ∙ c.in_default.is)).0
 
 pub returns-clause-state : goal.returns-clause-state
 returns-clause-state g c =

@@ -13,7 +13,7 @@ returns-in-Some-clause-ok g c =
 
 pub returns-clause-reply : goal.returns-clause-reply
 returns-clause-reply g c =
-    then_done _ _ _ (c.requires ∙ sym (step_done _ _ _ (sym c.refused_unref.ensures.value ∙ c.in_default.is)).0)
+    then_done _ _ _ (c.requires.done ∙ sym (step_done _ _ _ (sym c.refused_unref.ensures.value ∙ c.in_default.is)).0)
 
 pub returns-clause-ok : goal.returns-clause-ok
 returns-clause-ok g c =

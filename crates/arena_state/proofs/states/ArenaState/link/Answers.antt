@@ -23,10 +23,10 @@ use Rattle.arena_state.proofs.FoundLaws.{told_row, told_none}
 use Rattle.arena_state.proofs.states.ArenaState.link.Goals as goal
 
 pub link_found-requires-clause-container : goal.link_found-requires-clause-container
-link_found-requires-clause-container c = (told_row c.args.self.now c.args.container c.quick_slots-into.result.0 c.in-Some.parent c.in-Some.is c.quick_slots-into.ensures.one).has
+link_found-requires-clause-container c = (told_row c.args.self.now c.args.container c.or_looked_up-into.result.0 c.in-Some.parent c.in-Some.is c.or_looked_up-into.ensures.one).has
 
 pub link_found-requires-clause-object : goal.link_found-requires-clause-object
-link_found-requires-clause-object c = (told_row c.args.self.now c.args.entry.now.object c.quick_slots-into.result.1 c.in-Some-linked.object c.in-Some-linked.is c.quick_slots-into.ensures.other).has
+link_found-requires-clause-object c = (told_row c.args.self.now c.args.entry.now.object c.or_looked_up-into.result.1 c.in-Some-linked.object c.in-Some-linked.is c.or_looked_up-into.ensures.other).has
 
 pub link_found-requires-clause-not_root : goal.link_found-requires-clause-not_root
 link_found-requires-clause-not_root c = not_root c.args.self.now.pieces c.args.self.now.sound c.args.container c.args.entry.now (kind_bare c.args.self.now.pieces kinds.Container c.args.container true c.requires.container) (holds_bare c.args.self.now.pieces c.args.entry.now c.requires.held) (kind_bare c.args.self.now.pieces kinds.Container c.args.entry.now.object false c.requires.plain) (fixed_bare c.args.self.now.pieces c.args.entry.now.object true c.requires.fixed) (listed_bare c.args.self.now.pieces c.args.container c.args.entry.now.object false c.requires.unlisted) (linked_bare c.args.self.now.pieces c.args.self.now.sound c.args.self.now.stocked c.args.container c.args.entry.now.object c.requires.room)
@@ -39,19 +39,19 @@ link_found-requires-clause-room c = link_left c.args.self.now.pieces c.args.self
 
 pub charge-requires : goal.charge-requires
 charge-requires c = enough c.args.self.now.pieces c.args.self.now.sound c.args.container c.args.entry.now (kind_bare c.args.self.now.pieces kinds.Container c.args.container true c.requires.container) (holds_bare c.args.self.now.pieces c.args.entry.now c.requires.held) (kind_bare c.args.self.now.pieces kinds.Container c.args.entry.now.object false c.requires.plain) (fixed_bare c.args.self.now.pieces c.args.entry.now.object true c.requires.fixed) (listed_bare c.args.self.now.pieces c.args.container c.args.entry.now.object false c.requires.unlisted) (linked_bare c.args.self.now.pieces c.args.self.now.sound c.args.self.now.stocked c.args.container c.args.entry.now.object c.requires.room)
-    c.in-Some.parent.0 c.in-Some-linked.object.0 (told_row c.args.self.now c.args.container c.quick_slots-into.result.0 c.in-Some.parent c.in-Some.is c.quick_slots-into.ensures.one).has (told_row c.args.self.now c.args.entry.now.object c.quick_slots-into.result.1 c.in-Some-linked.object c.in-Some-linked.is c.quick_slots-into.ensures.other).has
+    c.in-Some.parent.0 c.in-Some-linked.object.0 (told_row c.args.self.now c.args.container c.or_looked_up-into.result.0 c.in-Some.parent c.in-Some.is c.or_looked_up-into.ensures.one).has (told_row c.args.self.now c.args.entry.now.object c.or_looked_up-into.result.1 c.in-Some-linked.object c.in-Some-linked.is c.or_looked_up-into.ensures.other).has
     c.index.result.now c.index_mut-charged.result.now c.index.ensures c.index_mut-charged.ensures.value
 
 pub unreachable-requires : goal.unreachable-requires
-unreachable-requires c = no_object c.args.self.now.pieces c.args.self.now.sound c.args.container c.args.entry.now (kind_bare c.args.self.now.pieces kinds.Container c.args.container true c.requires.container) (holds_bare c.args.self.now.pieces c.args.entry.now c.requires.held) (kind_bare c.args.self.now.pieces kinds.Container c.args.entry.now.object false c.requires.plain) (fixed_bare c.args.self.now.pieces c.args.entry.now.object true c.requires.fixed) (listed_bare c.args.self.now.pieces c.args.container c.args.entry.now.object false c.requires.unlisted) (linked_bare c.args.self.now.pieces c.args.self.now.sound c.args.self.now.stocked c.args.container c.args.entry.now.object c.requires.room) (none_bare c.args.self.now.pieces c.args.entry.now.object (told_none _ c.quick_slots-into.result.1 c.in-None-linked.is c.quick_slots-into.ensures.not_other))
+unreachable-requires c = no_object c.args.self.now.pieces c.args.self.now.sound c.args.container c.args.entry.now (kind_bare c.args.self.now.pieces kinds.Container c.args.container true c.requires.container) (holds_bare c.args.self.now.pieces c.args.entry.now c.requires.held) (kind_bare c.args.self.now.pieces kinds.Container c.args.entry.now.object false c.requires.plain) (fixed_bare c.args.self.now.pieces c.args.entry.now.object true c.requires.fixed) (listed_bare c.args.self.now.pieces c.args.container c.args.entry.now.object false c.requires.unlisted) (linked_bare c.args.self.now.pieces c.args.self.now.sound c.args.self.now.stocked c.args.container c.args.entry.now.object c.requires.room) (none_bare c.args.self.now.pieces c.args.entry.now.object (told_none _ c.or_looked_up-into.result.1 c.in-None-linked.is c.or_looked_up-into.ensures.not_other))
 
 pub unreachable-requires-in-None : goal.unreachable-requires-in-None
-unreachable-requires-in-None c = no_container c.args.self.now.pieces c.args.self.now.sound c.args.container c.args.entry.now (kind_bare c.args.self.now.pieces kinds.Container c.args.container true c.requires.container) (holds_bare c.args.self.now.pieces c.args.entry.now c.requires.held) (kind_bare c.args.self.now.pieces kinds.Container c.args.entry.now.object false c.requires.plain) (fixed_bare c.args.self.now.pieces c.args.entry.now.object true c.requires.fixed) (listed_bare c.args.self.now.pieces c.args.container c.args.entry.now.object false c.requires.unlisted) (linked_bare c.args.self.now.pieces c.args.self.now.sound c.args.self.now.stocked c.args.container c.args.entry.now.object c.requires.room) (none_bare c.args.self.now.pieces c.args.container (told_none _ c.quick_slots-into.result.0 c.in-None.is c.quick_slots-into.ensures.not_one))
+unreachable-requires-in-None c = no_container c.args.self.now.pieces c.args.self.now.sound c.args.container c.args.entry.now (kind_bare c.args.self.now.pieces kinds.Container c.args.container true c.requires.container) (holds_bare c.args.self.now.pieces c.args.entry.now c.requires.held) (kind_bare c.args.self.now.pieces kinds.Container c.args.entry.now.object false c.requires.plain) (fixed_bare c.args.self.now.pieces c.args.entry.now.object true c.requires.fixed) (listed_bare c.args.self.now.pieces c.args.container c.args.entry.now.object false c.requires.unlisted) (linked_bare c.args.self.now.pieces c.args.self.now.sound c.args.self.now.stocked c.args.container c.args.entry.now.object c.requires.room) (none_bare c.args.self.now.pieces c.args.container (told_none _ c.or_looked_up-into.result.0 c.in-None.is c.or_looked_up-into.ensures.not_one))
 
 pub invariant_of-self : goal.invariant_of-self
 invariant_of-self c = record {
   sound = sound_then c.args.self.now.pieces c.args.self.now.sound c.args.container c.args.entry.now (kind_bare c.args.self.now.pieces kinds.Container c.args.container true c.requires.container) (holds_bare c.args.self.now.pieces c.args.entry.now c.requires.held) (kind_bare c.args.self.now.pieces kinds.Container c.args.entry.now.object false c.requires.plain) (fixed_bare c.args.self.now.pieces c.args.entry.now.object true c.requires.fixed) (listed_bare c.args.self.now.pieces c.args.container c.args.entry.now.object false c.requires.unlisted) (linked_bare c.args.self.now.pieces c.args.self.now.sound c.args.self.now.stocked c.args.container c.args.entry.now.object c.requires.room)
-      c.in-Some.parent.0 c.in-Some-linked.object.0 (told_row c.args.self.now c.args.container c.quick_slots-into.result.0 c.in-Some.parent c.in-Some.is c.quick_slots-into.ensures.one).has (told_row c.args.self.now c.args.entry.now.object c.quick_slots-into.result.1 c.in-Some-linked.object c.in-Some-linked.is c.quick_slots-into.ensures.other).has
+      c.in-Some.parent.0 c.in-Some-linked.object.0 (told_row c.args.self.now c.args.container c.or_looked_up-into.result.0 c.in-Some.parent c.in-Some.is c.or_looked_up-into.ensures.one).has (told_row c.args.self.now c.args.entry.now.object c.or_looked_up-into.result.1 c.in-Some-linked.object c.in-Some-linked.is c.or_looked_up-into.ensures.other).has
       c.index.result.now c.index_mut-charged.result.now c.index.ensures c.index_mut-charged.ensures.value
       _ refl refl refl (λ i. (c.link_found.ensures.linked i).lists) (λ i. (c.link_found.ensures.linked i).slots) (ap (λ t. length t.cells) c.link_found.ensures.linked) c.len-count.ensures.well_formed refl c.charge.new.given c.charge.ensures refl;
   stocked =
@@ -71,13 +71,13 @@ invariant_of-self c = record {
             ∙ slots_by_ids c.args.self.now.pieces.places.lists (add_lists c.args.self.now.pieces.places.lists c.args.container c.args.entry.now.object) c.args.self.now.pieces.places.slots
             (ids_added c.args.self.now.pieces.places.lists c.args.container c.args.entry.now.object) id;
         pages = read_set kept_pages c.args.self.now.pieces.holdings.records.items c.in-Some.parent.0 c.charge.new.given
-            (slot_within c.args.self.now.pieces c.args.self.now.sound c.args.container c.in-Some.parent.0 (told_row c.args.self.now c.args.container c.quick_slots-into.result.0 c.in-Some.parent c.in-Some.is c.quick_slots-into.ensures.one).has)
+            (slot_within c.args.self.now.pieces c.args.self.now.sound c.args.container c.in-Some.parent.0 (told_row c.args.self.now c.args.container c.or_looked_up-into.result.0 c.in-Some.parent c.in-Some.is c.or_looked_up-into.ensures.one).has)
             (ap (λ (r : Record). kept_pages r.body) c.charge.ensures ∙ reuse_pages (body_use c.index_mut-charged.result.now.body + c.index.result.now.quota) c.index_mut-charged.result.now.body
-            ∙ ap (λ (r : Record). kept_pages r.body) (read_is c.args.self.now.pieces c.args.self.now.sound c.args.container c.in-Some.parent.0 (told_row c.args.self.now c.args.container c.quick_slots-into.result.0 c.in-Some.parent c.in-Some.is c.quick_slots-into.ensures.one).has c.index_mut-charged.result.now c.index_mut-charged.ensures.value));
+            ∙ ap (λ (r : Record). kept_pages r.body) (read_is c.args.self.now.pieces c.args.self.now.sound c.args.container c.in-Some.parent.0 (told_row c.args.self.now c.args.container c.or_looked_up-into.result.0 c.in-Some.parent c.in-Some.is c.or_looked_up-into.ensures.one).has c.index_mut-charged.result.now c.index_mut-charged.ensures.value));
         space = read_set keeps_space c.args.self.now.pieces.holdings.records.items c.in-Some.parent.0 c.charge.new.given
-            (slot_within c.args.self.now.pieces c.args.self.now.sound c.args.container c.in-Some.parent.0 (told_row c.args.self.now c.args.container c.quick_slots-into.result.0 c.in-Some.parent c.in-Some.is c.quick_slots-into.ensures.one).has)
+            (slot_within c.args.self.now.pieces c.args.self.now.sound c.args.container c.in-Some.parent.0 (told_row c.args.self.now c.args.container c.or_looked_up-into.result.0 c.in-Some.parent c.in-Some.is c.or_looked_up-into.ensures.one).has)
             (ap (λ (r : Record). keeps_space r.body) c.charge.ensures ∙ reuse_space (body_use c.index_mut-charged.result.now.body + c.index.result.now.quota) c.index_mut-charged.result.now.body
-            ∙ ap (λ (r : Record). keeps_space r.body) (read_is c.args.self.now.pieces c.args.self.now.sound c.args.container c.in-Some.parent.0 (told_row c.args.self.now c.args.container c.quick_slots-into.result.0 c.in-Some.parent c.in-Some.is c.quick_slots-into.ensures.one).has c.index_mut-charged.result.now c.index_mut-charged.ensures.value));
+            ∙ ap (λ (r : Record). keeps_space r.body) (read_is c.args.self.now.pieces c.args.self.now.sound c.args.container c.in-Some.parent.0 (told_row c.args.self.now c.args.container c.or_looked_up-into.result.0 c.in-Some.parent c.in-Some.is c.or_looked_up-into.ensures.one).has c.index_mut-charged.result.now c.index_mut-charged.ensures.value));
       }) c.args.self.now.stocked;
 }
 
@@ -103,16 +103,16 @@ returns-clause-state c =
           ∙ slots_by_ids c.args.self.now.pieces.places.lists (add_lists c.args.self.now.pieces.places.lists c.args.container c.args.entry.now.object) c.args.self.now.pieces.places.slots
           (ids_added c.args.self.now.pieces.places.lists c.args.container c.args.entry.now.object) id;
       pages = read_set kept_pages c.args.self.now.pieces.holdings.records.items c.in-Some.parent.0 c.charge.new.given
-          (slot_within c.args.self.now.pieces c.args.self.now.sound c.args.container c.in-Some.parent.0 (told_row c.args.self.now c.args.container c.quick_slots-into.result.0 c.in-Some.parent c.in-Some.is c.quick_slots-into.ensures.one).has)
+          (slot_within c.args.self.now.pieces c.args.self.now.sound c.args.container c.in-Some.parent.0 (told_row c.args.self.now c.args.container c.or_looked_up-into.result.0 c.in-Some.parent c.in-Some.is c.or_looked_up-into.ensures.one).has)
           (ap (λ (r : Record). kept_pages r.body) c.charge.ensures ∙ reuse_pages (body_use c.index_mut-charged.result.now.body + c.index.result.now.quota) c.index_mut-charged.result.now.body
-          ∙ ap (λ (r : Record). kept_pages r.body) (read_is c.args.self.now.pieces c.args.self.now.sound c.args.container c.in-Some.parent.0 (told_row c.args.self.now c.args.container c.quick_slots-into.result.0 c.in-Some.parent c.in-Some.is c.quick_slots-into.ensures.one).has c.index_mut-charged.result.now c.index_mut-charged.ensures.value));
+          ∙ ap (λ (r : Record). kept_pages r.body) (read_is c.args.self.now.pieces c.args.self.now.sound c.args.container c.in-Some.parent.0 (told_row c.args.self.now c.args.container c.or_looked_up-into.result.0 c.in-Some.parent c.in-Some.is c.or_looked_up-into.ensures.one).has c.index_mut-charged.result.now c.index_mut-charged.ensures.value));
       space = read_set keeps_space c.args.self.now.pieces.holdings.records.items c.in-Some.parent.0 c.charge.new.given
-          (slot_within c.args.self.now.pieces c.args.self.now.sound c.args.container c.in-Some.parent.0 (told_row c.args.self.now c.args.container c.quick_slots-into.result.0 c.in-Some.parent c.in-Some.is c.quick_slots-into.ensures.one).has)
+          (slot_within c.args.self.now.pieces c.args.self.now.sound c.args.container c.in-Some.parent.0 (told_row c.args.self.now c.args.container c.or_looked_up-into.result.0 c.in-Some.parent c.in-Some.is c.or_looked_up-into.ensures.one).has)
           (ap (λ (r : Record). keeps_space r.body) c.charge.ensures ∙ reuse_space (body_use c.index_mut-charged.result.now.body + c.index.result.now.quota) c.index_mut-charged.result.now.body
-          ∙ ap (λ (r : Record). keeps_space r.body) (read_is c.args.self.now.pieces c.args.self.now.sound c.args.container c.in-Some.parent.0 (told_row c.args.self.now c.args.container c.quick_slots-into.result.0 c.in-Some.parent c.in-Some.is c.quick_slots-into.ensures.one).has c.index_mut-charged.result.now c.index_mut-charged.ensures.value));
+          ∙ ap (λ (r : Record). keeps_space r.body) (read_is c.args.self.now.pieces c.args.self.now.sound c.args.container c.in-Some.parent.0 (told_row c.args.self.now c.args.container c.or_looked_up-into.result.0 c.in-Some.parent c.in-Some.is c.or_looked_up-into.ensures.one).has c.index_mut-charged.result.now c.index_mut-charged.ensures.value));
     })
     c.args.self.now.sound c.args.container (listing c.args.entry.now.object) (relisting_apart (λ ids. ids ++ c.args.entry.now.object ∷ []))
     (state_then c.args.self.now.pieces c.args.self.now.sound c.args.container c.args.entry.now (kind_bare c.args.self.now.pieces kinds.Container c.args.container true c.requires.container) (holds_bare c.args.self.now.pieces c.args.entry.now c.requires.held) (kind_bare c.args.self.now.pieces kinds.Container c.args.entry.now.object false c.requires.plain) (fixed_bare c.args.self.now.pieces c.args.entry.now.object true c.requires.fixed) (listed_bare c.args.self.now.pieces c.args.container c.args.entry.now.object false c.requires.unlisted) (linked_bare c.args.self.now.pieces c.args.self.now.sound c.args.self.now.stocked c.args.container c.args.entry.now.object c.requires.room)
-    c.in-Some.parent.0 c.in-Some-linked.object.0 (told_row c.args.self.now c.args.container c.quick_slots-into.result.0 c.in-Some.parent c.in-Some.is c.quick_slots-into.ensures.one).has (told_row c.args.self.now c.args.entry.now.object c.quick_slots-into.result.1 c.in-Some-linked.object c.in-Some-linked.is c.quick_slots-into.ensures.other).has
+    c.in-Some.parent.0 c.in-Some-linked.object.0 (told_row c.args.self.now c.args.container c.or_looked_up-into.result.0 c.in-Some.parent c.in-Some.is c.or_looked_up-into.ensures.one).has (told_row c.args.self.now c.args.entry.now.object c.or_looked_up-into.result.1 c.in-Some-linked.object c.in-Some-linked.is c.or_looked_up-into.ensures.other).has
     c.index.result.now c.index_mut-charged.result.now c.index.ensures c.index_mut-charged.ensures.value
     q refl refl refl (λ i. (c.link_found.ensures.linked i).lists) (λ i. (c.link_found.ensures.linked i).slots) (ap (λ t. length t.cells) c.link_found.ensures.linked) c.len-count.ensures.well_formed refl c.charge.new.given c.charge.ensures refl)

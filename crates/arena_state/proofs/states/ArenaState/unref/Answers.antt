@@ -11,7 +11,7 @@ returns-in-None-listed-clause-state c =
     let e = c.args.entry.now in
     unlisted_state (state_of a) e.container e.object (whole_formed a.pieces a.sound a.stocked)
     (none_listed a.pieces a.sound e.container e.object
-    (told_none _ c.quick_slots-lister.result.1 c.in-None-listed.is c.quick_slots-lister.ensures.not_other))
+    (told_none _ c.or_looked_up-lister.result.1 c.in-None-listed.is c.or_looked_up-lister.ensures.not_other))
 
 pub returns-in-None-clause-state : goal.returns-in-None-clause-state
 returns-in-None-clause-state c =
@@ -19,4 +19,4 @@ returns-in-None-clause-state c =
     let e = c.args.entry.now in
     unlisted_state (state_of a) e.container e.object (whole_formed a.pieces a.sound a.stocked)
     (none_lists a.pieces a.sound e.container e.object
-    (told_none _ c.quick_slots-lister.result.0 c.in-None.is c.quick_slots-lister.ensures.not_one))
+    (told_none _ c.or_looked_up-lister.result.0 c.in-None.is c.or_looked_up-lister.ensures.not_one))

@@ -8,8 +8,8 @@ use Rattle.arena_state.proofs.states.ArenaState.write_bytes.Goals as goal
 pub write-requires-clause-within : goal.write-requires-clause-within
 write-requires-clause-within c =
     elim (bytes_here c.args.self.now c.args.id c.in-Some.slot.0 c.in-Some.ensures.found.has) [
-      | inl is ↦ omega (arith, c.requires, ap length is)
-      | inr is ↦ omega (arith, c.requires, ap length is)
+      | inl is ↦ omega (arith, c.requires.inside, ap length is)
+      | inr is ↦ omega (arith, c.requires.inside, ap length is)
     ]
 
 pub invariant_of-self : goal.invariant_of-self
@@ -18,8 +18,8 @@ invariant_of-self c =
     let has = c.in-Some.ensures.found.has in
     let within : c.args.at + length c.args.given.now ≤ length (bytes_in a.pieces.holdings.segments c.in-Some.slot.0)
     = elim (bytes_here a c.args.id c.in-Some.slot.0 has) [
-      | inl is ↦ omega (arith, c.requires, ap length is)
-      | inr is ↦ omega (arith, c.requires, ap length is)
+      | inl is ↦ omega (arith, c.requires.inside, ap length is)
+      | inr is ↦ omega (arith, c.requires.inside, ap length is)
     ] in
     record {
       sound = segments_sound a.pieces c.write.new.self a.sound;
@@ -33,8 +33,8 @@ returns-in-Some-clause-state c =
     let has = c.in-Some.ensures.found.has in
     let within : c.args.at + length c.args.given.now ≤ length (bytes_in a.pieces.holdings.segments c.in-Some.slot.0)
     = elim (bytes_here a c.args.id c.in-Some.slot.0 has) [
-      | inl is ↦ omega (arith, c.requires, ap length is)
-      | inr is ↦ omega (arith, c.requires, ap length is)
+      | inl is ↦ omega (arith, c.requires.inside, ap length is)
+      | inr is ↦ omega (arith, c.requires.inside, ap length is)
     ] in
     rebyted a.pieces a.sound c.args.id c.in-Some.slot.0 has a.stocked (written c.args.at c.args.given.now)
     c.write.new.self c.write.ensures.after (written_long c.args.at c.args.given.now _ within)

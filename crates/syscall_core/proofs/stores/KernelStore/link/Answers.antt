@@ -6,8 +6,8 @@ use Rattle.syscall_core.proofs.RepairLaws.{link_left}
 use Rattle.syscall_core.proofs.UntouchedLaws.{entry_off, link_kept}
 use Rattle.syscall_core.proofs.stores.KernelStore.link.Goals as goal
 
-pub repair-requires : goal.repair-requires
-repair-requires c =
+pub repair_entry-requires : goal.repair_entry-requires
+repair_entry-requires c =
     link_left c.args.self.now.state c.link-kind.new.self c.args.self.now.rows c.args.container c.args.entry.now.object
     c.args.self.now.kept c.link-kind.ensures.slots c.link-kind.ensures.state
 
@@ -16,7 +16,7 @@ invariant_of-self c =
     let k = c.args.self.now in
     let s = state_of k.state in
     record {
-      kept = c.repair.ensures.kept;
+      kept = c.repair_entry.ensures.kept;
       named = subst IsNamedRightly (sym c.link-kind.ensures.state) (named_lists s c.args.container (λ ids. ids ++ c.args.entry.now.object ∷ []) k.named);
     }
 

@@ -13,13 +13,13 @@ use Rattle.syscall_core.proofs.RepairLaws.{unref_left}
 use Rattle.syscall_core.proofs.UntouchedLaws.{cut_off, unref_kept}
 use Rattle.syscall_core.proofs.stores.KernelStore.unref.Goals as goal
 
-pub repair-requires : goal.repair-requires
-repair-requires c =
+pub repair_cut-requires : goal.repair_cut-requires
+repair_cut-requires c =
     let k = c.args.self.now in
     let e = c.args.entry.now in
     let found = ap (is_of kinds.Container) c.unref-kind.ensures.kind ∙ kind_seen (state_of k.state) kinds.Container e.object in
     subst (λ (w : Change). AreKeptBut c.unref-kind.new.self w 0 k.rows)
-    (sym (c.cut_touches-cut.ensures ∙ ap (λ (v : Bool). cut_touches v e) (c.is_container.ensures ∙ found)))
+    (sym (ap (λ (v : Bool). cut_touches v e) (c.is_container-is_container.ensures ∙ found)))
     (unref_left k.state c.unref-kind.new.self k.rows e.container e.object k.kept c.unref-kind.ensures.slots c.unref-kind.ensures.state)
 
 pub invariant_of-self : goal.invariant_of-self
@@ -27,7 +27,7 @@ invariant_of-self c =
     let k = c.args.self.now in
     let s = state_of k.state in
     record {
-      kept = c.repair.ensures.kept;
+      kept = c.repair_cut.ensures.kept;
       named = subst IsNamedRightly (sym c.unref-kind.ensures.state) (named_rest (changed s c.args.entry.now.container (delisting c.args.entry.now.object)) (named_lists s c.args.entry.now.container (without c.args.entry.now.object) k.named));
     }
 
