@@ -3,7 +3,7 @@ use base::{Limits, Meter, NoMemory, ObjectId};
 use label_intern::LabelIx;
 use std::alloc::Global;
 use std::test::Fail;
-use syscall_core::{Call, Kernel, Reply};
+use syscall_core::{Call, Kernel, Query, Reply};
 use test_support::{LIMITS, boot_thread};
 
 /// A kernel, the meter of its calls, and another for its tables.
@@ -79,6 +79,18 @@ impl Metered {
     pub fn probes(&mut self, call: &Call) -> Option<u64> {
         let before = self.meter.probes();
         match self.step(call) {
+            Reply::Refused(_) => None,
+            _ => Some(self.meter.probes().saturating_sub(before)),
+        }
+    }
+
+    /// How many cells a query of the boot thread reads, where it is not refused.
+    pub fn probes_asked(&mut self, query: &Query) -> Option<u64> {
+        let before = self.meter.probes();
+        match self
+            .kernel
+            .ask_surely(boot_thread(), query, &mut self.meter)
+        {
             Reply::Refused(_) => None,
             _ => Some(self.meter.probes().saturating_sub(before)),
         }

@@ -1,9 +1,9 @@
 //! How many labels calls of the arena kernel scan, and how many cells they read, by a meter.
 use crate::metered::Metered;
 use base::{Data, Level, Limits, ObjectId};
-use kernel_rules::NewGate;
+use kernel_rules::{Entry, NewGate};
 use std::test::Fail;
-use syscall_core::Call;
+use syscall_core::{Call, Query};
 use test_support::{
     LIMITS, agree, everywhere, in_root, new_container, new_segment, new_thread, no_entry, plain,
 };
@@ -101,5 +101,40 @@ fn a_link_counts_what_it_reads(rt: HostRuntime) -> Result<(), Fail> {
         entry: in_root(5),
     };
     assert!(rt; agree(metered.probes(&link), Some(22)));
+    Ok(())
+}
+
+// A read reads what a write reads.
+#[test]
+fn a_read_counts_what_it_reads(rt: HostRuntime) -> Result<(), Fail> {
+    let mut metered = Metered::boot(rt.alloc())?;
+    metered.step(&new_segment(plain()));
+    let read = Query::SegmentRead {
+        entry: in_root(4),
+        offset: 0,
+        count: 4,
+    };
+    assert!(rt; agree(metered.probes_asked(&read), Some(6)));
+    Ok(())
+}
+
+// An unreference of a second link reads three hints; the first link to the object and its container, how many there are, and the
+// last link and its container; and nineteen more to take that out of the containers.
+#[test]
+fn an_unreference_counts_what_it_reads(rt: HostRuntime) -> Result<(), Fail> {
+    let mut metered = Metered::boot(rt.alloc())?;
+    metered.step(&new_container(9));
+    metered.step(&new_segment(plain()));
+    metered.step(&Call::SetFixed { entry: in_root(5) });
+    let target = ObjectId::new(4);
+    metered.step(&Call::Link {
+        target,
+        entry: in_root(5),
+    });
+    let entry = Entry {
+        container: target,
+        object: ObjectId::new(5),
+    };
+    assert!(rt; agree(metered.probes(&Call::Unref { entry }), Some(27)));
     Ok(())
 }
