@@ -5,34 +5,39 @@ checks the crate once. An edit is refused there where the check tells an open go
 it calls is not proved says nothing of it. What a round proves all the same, or can't tell, is tried alone, as rt
 must-fail does. Rounds keep their work, and last the crate as it is has to be proved over it; else each is tried alone.
 
-What is refused only because a proof names what the edit took away fails as well: that says nothing of the contract."""
+What is refused only because a proof names what the edit took away fails as well, and so does what is refused with no open
+goal told: that says nothing of the contract."""
 import glob
-import importlib.machinery
-import importlib.util
 import os
 import re
 import shutil
-import sys
 import tempfile
 
 from gate.proofs import TIMES
 from gate.times import Times
+from gate.toolchain import FLAGS, library_task, toolchain
 
-FLAGS = ["--jobs", "1"]
 HEAD = re.compile(r"^([ \t]*)(?:pub(?:\([^)]*\))?\s+)?(?:const\s+|unsafe\s+)*fn\s+(\w+)", re.M)
+PLACE = re.compile(r"(?:note: )?(?:\./)?(\S+?):(\d+):\d+: ")
 OPEN = r": it is not proved that |: error"
 GONE = r"has no field|is not in scope|has no `|was not admitted"
-NAME_GONE = "only because a proof file names what the edit took away"
 NO_CONTRACT = "NOT REFUSED by a contract: a proof names what the edit takes away"
 
 
-def toolchain():
-    """rt itself, whose checks these are."""
-    path = os.path.realpath(shutil.which("rt"))
-    loader = importlib.machinery.SourceFileLoader("rt", path)
-    made = importlib.util.module_from_spec(importlib.util.spec_from_loader("rt", loader))
-    loader.exec_module(made)
-    return made
+def messages(said):
+    """What a check said, one message a line: a line that tells no place and no verdict goes on with the message before it."""
+    told = []
+    for line in said.rstrip("\n").split("\n"):
+        if told and not (PLACE.match(line) or re.match(r"fn |logic=", line)):
+            told[-1] += f" {line.strip()}"
+        else:
+            told.append(line)
+    return told
+
+
+def is_open_goal(message):
+    """Whether a message tells an open goal, and not of a name that is gone."""
+    return bool(PLACE.match(message) and re.search(OPEN, message) and not re.search(GONE, message))
 
 
 def function_around(text, at):
@@ -100,26 +105,26 @@ class Batch:
     def check(self, rt, crate, kept):
         """What the check says, or None where it judged no contract, as where a text can't be read."""
         ran = rt.checked(crate, self.texts, FLAGS, kept)
-        lines = ran.stdout.rstrip("\n").split("\n")
-        is_judged = ran.returncode == 1 and lines[-1].startswith("logic=not-proved")
-        return lines if is_judged and not any(rt.unread(it, self.texts) for it in lines) else None
+        told = messages(ran.stdout)
+        is_judged = ran.returncode == 1 and told[-1].startswith("logic=not-proved")
+        return told if is_judged and not any(rt.unread(it, self.texts) for it in told) else None
 
-    def verdict(self, edit, lines):
+    def verdict(self, edit, told):
         """'refused', 'proved', or 'hidden' where the check can't tell of this edit."""
-        if any(self.is_own_goal(edit, it) for it in lines):
+        if any(self.is_own_goal(edit, it) for it in told):
             return "refused"
         path, name = edit.place[:2]
         module = "::".join(path[len("src/") : -len(".rt")].split("/"))
-        said = [it for it in lines if re.match(rf"fn \S+::{name}: ", it)]
+        said = [it for it in told if re.match(rf"fn \S+::{name}: ", it)]
         near = [it for it in said if f"::{module}::" in it] if len(said) > 1 else said
         return "proved" if len(near) == 1 and near[0].endswith(": proved") else "hidden"
 
-    def is_own_goal(self, edit, line):
-        """Whether a line tells a goal that is open in the edit's function itself, and not of a name that is gone."""
-        path, name = edit.place[:2]
-        at = re.match(r"(?:note: )?(?:\./)?(\S+?):(\d+):\d+: ", line)
-        if not at or not re.search(OPEN, line) or re.search(GONE, line):
+    def is_own_goal(self, edit, message):
+        """Whether a message tells a goal that is open in the edit's function itself."""
+        if not is_open_goal(message):
             return False
+        path, name = edit.place[:2]
+        at = PLACE.match(message)
         if at[1] == path:
             return self.function_at(path, int(at[2])) == edit.place[1:]
         return at[1].startswith("proofs/") and f"/{name}/" in at[1] and self.named.count(name) == 1
@@ -148,10 +153,10 @@ class Trial:
         refused, alone, count = [], [it for it in self.edits if not it.place], 0
         while len(left) > 1:
             batch = Batch(self.rt, self.crate, left)
-            lines = batch.check(self.rt, self.crate, kept)
-            if lines is None:
+            told = batch.check(self.rt, self.crate, kept)
+            if told is None:
                 break
-            verdicts = {it: batch.verdict(it, lines) for it in batch.taken}
+            verdicts = {it: batch.verdict(it, told) for it in batch.taken}
             own = [it for it in batch.taken if verdicts[it] == "refused"]
             refused += own
             alone += [it for it in batch.taken if verdicts[it] == "proved"]
@@ -164,10 +169,24 @@ class Trial:
 
     def alone(self, edit, kept):
         """An edit tried by itself: over kept work first, and from nothing where it isn't refused so."""
-        verdict, text = self.rt.must_fail(self.crate, edit.file, FLAGS, kept)
-        if kept and (verdict != self.rt.REFUSED or NAME_GONE in text):
-            verdict, text = self.rt.must_fail(self.crate, edit.file, FLAGS)
-        return (False, NO_CONTRACT) if NAME_GONE in text else (verdict == self.rt.REFUSED, text.partition(": ")[2])
+        is_refused, text = self.tried(edit, kept)
+        return (is_refused, text) if is_refused or not kept else self.tried(edit, None)
+
+    def tried(self, edit, kept):
+        """Whether one check refuses an edit, with an open goal that speaks of no name that is gone, and what it says."""
+        texts, why = self.rt.read_edit(edit.file, self.crate.folder)
+        if why:
+            return False, f"BAD EDIT: {why}"
+        ran = self.rt.checked(self.crate, texts, FLAGS, kept)
+        told = messages(ran.stdout)
+        if ran.returncode == 0:
+            return False, "NOT REFUSED: the crate is still proved with it"
+        if ran.returncode != 1 or not told[-1].startswith("logic=not-proved") or any(self.rt.unread(it, texts) for it in told):
+            return False, f"BAD EDIT: no contract was tried: {told[0][:200]}"
+        goals = [it for it in told if is_open_goal(it)]
+        if goals:
+            return True, f"refused: {goals[0][:160]}"
+        return False, NO_CONTRACT if any(re.search(GONE, it) for it in told) else "BAD EDIT: refused with no open goal told"
 
     def over_kept(self, kept):
         """Each edit's verdict, all over one another's work."""
@@ -194,8 +213,8 @@ def tasks_of(rt, crates, wanted, is_built, report):
         below = [(it.name, "library") for it in crate.below()] if not is_built else []
         needed = any(crate in it.below() for it in crates if it.name in wanted)
         if needed and not is_built:
-            build = lambda given, jobs, it=crate: it.build_rlib(FLAGS, anew=False)  # noqa: E731
-            tasks[crate.name, "library"] = (below, crate.count(rb"\n"), rt.need(crate), build)
+            key, task = library_task(rt, crate, crate.count(rb"\n"), lambda given, jobs, it=crate: it.build_rlib(FLAGS, anew=False))
+            tasks[key] = task
         if files and crate.name in wanted:
             trial = Trial(rt, crate, [os.path.abspath(it) for it in files], report)
             tasks[crate.name, "edits"] = (below, 50 * len(files), rt.need(crate), lambda given, jobs, it=trial: it.run())

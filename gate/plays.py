@@ -19,10 +19,11 @@ def text(file, otherwise=""):
 
 
 def ran(*words):
-    """How a command ended: its status and what it wrote to standard output."""
-    how = {"stdin": subprocess.DEVNULL, "stdout": subprocess.PIPE, "stderr": subprocess.DEVNULL, "text": True, "errors": "replace"}
+    """How a command ended: its status and what it wrote to standard output, with what it wrote to standard error after it. (A
+    program that isn't proved says so there.)"""
+    how = {"stdin": subprocess.DEVNULL, "stdout": subprocess.PIPE, "stderr": subprocess.PIPE, "text": True, "errors": "replace"}
     done = subprocess.run(words, **how)
-    return done.returncode, done.stdout
+    return done.returncode, done.stdout + done.stderr
 
 
 class Script:
@@ -66,7 +67,7 @@ def compare(report):
 
 
 def play(report, histar=("./histar",), auditor=("./histar-audit",)):
-    """Plays every script and audits every dump, by the commands given."""
+    """Plays every script and audits every dump, by the commands given. An unproved run says so on standard error, and fails."""
     scripts = [Script(it) for it in sorted(glob.glob("examples/*.histar"))]
     report.heading("Examples")
     compare(report)

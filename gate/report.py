@@ -16,15 +16,16 @@ def processor_seconds():
 
 
 class Report:
-    def __init__(self):
-        self.began = time.monotonic()
+    def __init__(self, is_silent=False):
+        self.began, self.is_silent = time.monotonic(), is_silent
         self.passed = 0
         self.failures = []
         self.printing = threading.Lock()
 
     def say(self, text):
-        with self.printing:
-            print(text, flush=True)
+        if not self.is_silent:
+            with self.printing:
+                print(text, flush=True)
 
     def so_far(self):
         return minutes(time.monotonic() - self.began)

@@ -1,7 +1,7 @@
 #!/usr/bin/env python3
-"""Writes the table of docs/GATE.md anew, between its two marks: each crate's lines and edits as they stand, its seconds as
-the last whole ./test (and ./test edits) left them in out/times, the longest chain of crates, and minutes for each
-thousand lines."""
+"""Takes over into gate/seconds what the last whole ./test (and ./test edits) left in out/times, and writes the table of
+docs/GATE.md anew, between its two marks: each crate's lines and edits as they stand, its seconds, the longest chain of
+crates, and minutes for each thousand lines. ./prove tells how long is left by gate/seconds."""
 import glob
 import os
 import re
@@ -13,6 +13,7 @@ sys.path.insert(0, os.getcwd())
 
 from gate import times  # noqa: E402
 from gate.proofs import TIMES  # noqa: E402
+from gate.toolchain import SECONDS  # noqa: E402
 
 BEGIN, END = "<!-- made by gate/table.py -->\n", "<!-- end of what gate/table.py made -->\n"
 
@@ -58,7 +59,7 @@ class Crate:
 
 
 def crates():
-    seconds = times.read(TIMES)
+    seconds = times.read(SECONDS)
     with open("crates.txt", encoding="utf-8") as it:
         rows = [line.split("#")[0].split(":") for line in it if ":" in line.split("#")[0]]
     return [Crate(row[0].split()[0], row[1].split(), seconds) for row in rows]
@@ -97,6 +98,7 @@ def table():
 
 
 def main():
+    times.add(SECONDS, times.read(TIMES))
     with open("docs/GATE.md", encoding="utf-8") as it:
         head, _, rest = it.read().partition(BEGIN)
     tail = rest.partition(END)[2]

@@ -75,11 +75,15 @@ class Times:
         return sums
 
     def keep(self, file):
-        """Writes a line 'CRATE KIND SECONDS' for each crate and kind; what was not timed stays as it stands in the file."""
-        made = read(file)
-        made.update({key: round(seconds) for key, seconds in self.seconds().items()})
-        with open(file, "w", encoding="utf-8") as it:
-            it.writelines(f"{crate} {kind} {seconds}\n" for (crate, kind), seconds in sorted(made.items()))
+        """Writes what was timed to a file; what was not stays as it stands there."""
+        add(file, {key: round(seconds) for key, seconds in self.seconds().items()})
+
+
+def add(file, seconds):
+    """Writes a line 'CRATE KIND SECONDS' for each crate and kind, those that stand in the file already among them."""
+    made = {**read(file), **seconds}
+    with open(file, "w", encoding="utf-8") as it:
+        it.writelines(f"{crate} {kind} {taken}\n" for (crate, kind), taken in sorted(made.items()))
 
 
 def read(file):

@@ -1,0 +1,145 @@
+"""./prove: the programs and the crates below them proved and built, side by side, over what earlier builds kept.
+
+A crate is one task with one job, so all cores are at work as long as crates are left that do not wait for each other. A
+start that is interrupted ends with all its processes; what it built stays, and the next start goes on there."""
+import fcntl
+import os
+import shutil
+import signal
+import subprocess
+import sys
+import threading
+import time
+
+from gate import times
+from gate.report import minutes
+from gate.toolchain import FLAGS, SECONDS, library_task, toolchain
+
+PROGRAMS = ("histar", "histar_audit")
+LOG = "out/prove.log"
+LOCK = "out/prove.lock"
+TO_RUN = "both programs are proved and built: ./histar run examples/first.histar"
+NO_RT, NOT_PROVED, NO_ROOM, AT_WORK = 69, 70, 73, 75
+# What the disk has to have left, in MB, and what a build that fails for want of it leaves.
+WANTED, FULL = 3000, 200
+
+
+def end(status, text):
+    """Says why it ends, and ends at once. rt's guard then ends each process that was started."""
+    print(f"prove: {text}", file=sys.stderr, flush=True)
+    os._exit(status)
+
+
+def left_on_disk():
+    found = os.statvfs(".")
+    return found.f_bavail * found.f_frsize >> 20
+
+
+class Progress:
+    """Which crates are left, and about how long they take: by the seconds of an earlier run, at the pace of this one."""
+
+    def __init__(self, crates):
+        self.known = {name: seconds for (name, kind), seconds in times.read(SECONDS).items() if kind == "check"}
+        self.uses = {it.name: [below.name for below in it.deps] for it in crates}
+        self.left = set(self.uses)
+        self.spent = self.expected = 0
+        self.printing = threading.Lock()
+
+    def expects(self, name):
+        return self.known.get(name, 30)
+
+    def chain(self, name):
+        """The seconds of the longest chain of crates that are left up to this one."""
+        return max((self.chain(it) for it in self.uses[name]), default=0) + (self.expects(name) if name in self.left else 0)
+
+    def seconds_left(self):
+        whole = sum(map(self.expects, self.left)) / len(os.sched_getaffinity(0))
+        pace = self.spent / self.expected if self.expected else 1
+        return pace * max(whole, *map(self.chain, self.left))
+
+    def ended(self, name, seconds):
+        """Notes that a crate is built, after this many seconds, and says so."""
+        with self.printing:
+            self.left.discard(name)
+            if seconds > 2:
+                self.spent, self.expected = self.spent + seconds, self.expected + self.expects(name)
+            told = f"{len(self.left)} crates left, about {minutes(self.seconds_left())} minutes" if self.left else "none left"
+            print(f"prove: {name} is built; {told}", flush=True)
+
+
+class Build:
+    """The building of one crate: a library, or a program, which then runs once on its stored input."""
+
+    def __init__(self, rt, crate, progress):
+        self.rt, self.crate, self.progress = rt, crate, progress
+        self.log = f"crates/{crate.name}/{LOG}"
+
+    def call(self):
+        if not self.crate.is_program:
+            return self.crate.build_rlib(FLAGS, anew=False)
+        with open(f"crates/{self.crate.name}/stdin", "rb") as script:
+            words = [*self.rt.rtlib.guarded(), "rt", "run", *FLAGS]
+            return subprocess.run(words, cwd=self.crate.folder, stdin=script, stdout=self.crate.out, stderr=self.crate.out).returncode
+
+    def run(self, *_):
+        began = time.monotonic()
+        try:
+            os.makedirs(os.path.dirname(self.log), exist_ok=True)
+            with open(self.log, "w", encoding="utf-8") as self.crate.out:
+                status = self.call()
+            if self.crate.is_program and not status:
+                os.utime(f"crates/{self.crate.name}/out/{self.crate.name}")
+        except OSError as fault:
+            end(NO_ROOM, f"{fault.filename or 'this tree'} can't be written: {fault.strerror}")
+        if status:
+            end(NO_ROOM, "the disk is full") if left_on_disk() < FULL else end(NOT_PROVED, f"{self.crate.name} isn't proved or built: {self.log} says why")
+        self.progress.ended(self.crate.name, time.monotonic() - began)
+        return status
+
+
+def tasks_of(rt, crates, progress):
+    """For rt's scheduler: each library, and each program after all below it."""
+    tasks = {}
+    for crate in crates:
+        key, task = library_task(rt, crate, progress.expects(crate.name), Build(rt, crate, progress).run)
+        tasks[key] = task
+    return tasks
+
+
+def locked():
+    """What keeps other starts out until this one ends."""
+    try:
+        os.makedirs(os.path.dirname(LOCK), exist_ok=True)
+        lock = open(LOCK, "w", encoding="utf-8")
+    except OSError as fault:
+        end(NO_ROOM, f"{fault.filename} can't be written: {fault.strerror}")
+    try:
+        fcntl.flock(lock, fcntl.LOCK_EX | fcntl.LOCK_NB)
+    except BlockingIOError:
+        end(AT_WORK, "another start of ./prove is at work in this tree")
+    return lock
+
+
+def interrupted(number, _):
+    end(128 + number, "interrupted: the next start goes on from here")
+
+
+def prove():
+    """Proves and builds both programs, and returns the status."""
+    if shutil.which("rt") is None:
+        end(NO_RT, "rt (the Rattle toolchain) is not on the path")
+    held = locked()
+    if left_on_disk() < WANTED:
+        end(NO_ROOM, f"the disk has {left_on_disk()} MB left, and this wants {WANTED}")
+    rt = toolchain()
+    rt.share_work(True)
+    rt.rtlib.guarded()
+    for it in (signal.SIGINT, signal.SIGTERM, signal.SIGHUP):
+        signal.signal(it, interrupted)
+    every = rt.rtlib.crates_below(os.getcwd())
+    wanted = {below.name for it in every if it.name in PROGRAMS for below in [it, *it.below()]}
+    crates = [it for it in every if it.name in wanted]
+    rt.in_lanes(tasks_of(rt, crates, Progress(crates)))
+    print(f"prove: {TO_RUN}", flush=True)
+    held.close()
+    return 0

@@ -1,0 +1,175 @@
+"""How the programs and ./prove start: by the proved program where it stands and is newer than its sources, else unproved with
+one line that says so, and one clear line with a status of its own where that can't be.
+
+It tries the repository's own scripts in a small tree of their own, with a stand-in for rt that gives a stored answer of
+`rt try`. Only what needs a real check takes the real rt."""
+import fcntl
+import os
+import shutil
+import signal
+import subprocess
+import tempfile
+import time
+
+from gate import plays
+from gate.report import Report
+
+CRATES = "low:\nhistar: low\nhistar_audit: low\n"
+PROVABLE = "//! A number.\n#![tactic(auto)]\n\n/// Gives one more.\npub fn more(n: u8) -> u8\nwhere\n    requires { n.now < 255 },\n{\n    n + 1\n}\n"
+WRONG = PROVABLE.replace("n.now < 255", "n.now < 256")
+MAIN = "//! Prints nothing.\n#![tactic(auto)]\n\nfn main(_rt: HostRuntime) {}\n"
+UNPROVED = "histar: not proved yet: this run is compiled with checks, which takes about a minute; ./prove builds the proved program\n"
+NEEDS = "needs the proved program, which ./prove builds\n"
+ANSWERED = "run=ended status=1 runners=1 races=unchecked proved=no"
+STAND_IN = "#!/bin/sh\necho \"$*\"; echo 'checked: ended status=1' >&2; echo '{said}' >&2; exit 1\n"
+
+
+def write(file, text):
+    os.makedirs(os.path.dirname(file), exist_ok=True)
+    with open(file, "w", encoding="utf-8") as it:
+        it.write(text)
+
+
+class Tree:
+    """A small tree with the scripts that start programs, and a folder of commands with a stand-in for rt."""
+
+    def __init__(self, room):
+        self.top, self.commands = f"{room}/tree", f"{room}/commands"
+        os.makedirs(f"{self.top}/gate")
+        for it in ("histar", "histar-audit", "start.sh", "prove", "HANDLES"):
+            shutil.copy2(it, f"{self.top}/{it}")
+        for it in ("programs", "report", "times", "toolchain"):
+            shutil.copy2(f"gate/{it}.py", f"{self.top}/gate/{it}.py")
+        write(f"{self.top}/crates.txt", CRATES)
+        write(f"{self.top}/crates/low/src/lib.rt", PROVABLE)
+        for it in ("histar", "histar_audit"):
+            write(f"{self.top}/crates/{it}/src/main.rt", MAIN)
+            write(f"{self.top}/crates/{it}/stdin", "")
+        self.stand_in(ANSWERED)
+
+    def stand_in(self, said):
+        """Puts a stand-in for rt on the path: it prints the words that it was given, and ends with status 1."""
+        write(f"{self.commands}/rt", STAND_IN.format(said=said))
+        os.chmod(f"{self.commands}/rt", 0o755)
+
+    def prove_by_hand(self, name):
+        """Puts a program where ./prove would build it: it prints its words."""
+        write(f"{self.top}/crates/{name}/out/{name}", '#!/bin/sh\necho "proved $*"\n')
+        os.chmod(f"{self.top}/crates/{name}/out/{name}", 0o755)
+
+    def start(self, *words, has_rt=True):
+        """How a command of the tree ended: status, standard output, standard error."""
+        path = f"{self.commands}:{os.environ['PATH']}" if has_rt else "/usr/bin:/bin"
+        how = {"cwd": self.top, "env": {**os.environ, "PATH": path}, "stdin": subprocess.DEVNULL, "capture_output": True, "text": True}
+        done = subprocess.run(words, **how)
+        return done.returncode, done.stdout, done.stderr
+
+
+def expect(report, name, got, wanted):
+    """Counts whether a command ended as it should: status, standard output, standard error."""
+    report.counts(got == wanted, f"{name}: status {got[0]}" + ("" if got == wanted else f", {got}, wanted {wanted}"))
+
+
+def try_programs(report, tree):
+    """The two programs, without and with what ./prove builds."""
+    write(f"{tree.top}/script", "")
+    given = f"try --data script.histar={os.path.realpath(tree.top)}/script -- run"
+    played = (1, f"{given} script.histar --pages 8\n", UNPROVED)
+    expect(report, "./histar unproved", tree.start("./histar", "run", "script", "--pages", "8"), played)
+    played = (1, f"{given} --pages 8 script.histar\n", UNPROVED)
+    expect(report, "./histar unproved, the script last", tree.start("./histar", "run", "--pages", "8", "script"), played)
+    expect(report, "./histar unproved, no such script", tree.start("./histar", "run", "none"), (1, "try -- run none\n", UNPROVED))
+    no_rt = (69, "", "histar: rt (the Rattle toolchain) is not on the path\n")
+    expect(report, "./histar without rt", tree.start("./histar", "run", "script", has_rt=False), no_rt)
+    expect(report, "./histar --dump unproved", tree.start("./histar", "run", "script", "--dump", "d"), (78, "", f"histar: --dump {NEEDS}"))
+    expect(report, "./histar-audit unproved", tree.start("./histar-audit", "script"), (78, "", f"histar-audit: this {NEEDS}"))
+    tree.stand_in("run=none proved=no")
+    no_answer = f"{UNPROVED}histar: the unproved run gave no answer: run=none proved=no\n"
+    expect(report, "./histar unproved, no answer", tree.start("./histar", "run", "none"), (70, "try -- run none\n", no_answer))
+    tree.stand_in(ANSWERED)
+    tree.prove_by_hand("histar")
+    tree.prove_by_hand("histar_audit")
+    expect(report, "./histar proved", tree.start("./histar", "run", "script", "--dump", "d"), (0, "proved run script --dump d\n", ""))
+    expect(report, "./histar-audit proved", tree.start("./histar-audit", "d"), (0, "proved d\n", ""))
+    later = time.time() + 60
+    os.utime(f"{tree.top}/crates/low/src/lib.rt", (later, later))
+    expect(report, "./histar older than a source", tree.start("./histar", "run", "none"), (1, "try -- run none\n", UNPROVED))
+    os.utime(f"{tree.top}/crates/low/src/lib.rt")
+
+
+def failures_of_play(tree, status, out):
+    """How many failures the stage that plays scripts tells of a run that should end with this status and output."""
+    script, told = plays.Script("none.histar"), Report(is_silent=True)
+    script.status, script.out = status, out
+    path = os.environ["PATH"]
+    os.environ["PATH"] = f"{tree.commands}:{path}"
+    try:
+        script.play(told, (f"{tree.top}/histar",))
+    finally:
+        os.environ["PATH"] = path
+    return len(told.failures)
+
+
+def try_gate(report, tree):
+    """The stage that plays scripts takes no unproved run for a proved one, though its status and standard output are right."""
+    tree.prove_by_hand("histar")
+    proved = failures_of_play(tree, 0, "proved run none.histar\n")
+    shutil.rmtree(f"{tree.top}/crates/histar/out")
+    unproved = failures_of_play(tree, 1, "try -- run none.histar\n")
+    report.counts((proved, unproved) == (0, 1), "the stage that plays scripts passes a proved run, and fails with the program taken away")
+
+
+def try_prove(report, tree):
+    """Bad starts of ./prove that need no check."""
+    expect(report, "./prove without rt", tree.start("./prove", has_rt=False), (69, "", "prove: rt (the Rattle toolchain) is not on the path\n"))
+    write(f"{tree.top}/out", "")
+    expect(report, "./prove where out can't be written", tree.start("./prove"), (73, "", "prove: out can't be written: File exists\n"))
+    os.remove(f"{tree.top}/out")
+    os.mkdir(f"{tree.top}/out")
+    with open(f"{tree.top}/out/prove.lock", "w", encoding="utf-8") as held:
+        fcntl.flock(held, fcntl.LOCK_EX)
+        beside = (75, "", "prove: another start of ./prove is at work in this tree\n")
+        expect(report, "./prove beside another", tree.start("./prove"), beside)
+
+
+def processes_below(top):
+    """How many processes work in a folder."""
+    found = 0
+    for it in filter(str.isdigit, os.listdir("/proc")):
+        try:
+            found += os.readlink(f"/proc/{it}/cwd").startswith(top)
+        except OSError:
+            pass
+    return found
+
+
+def try_checks(report, tree):
+    """./prove with the real rt: a proof that fails, and an interrupt, after which nothing of it is left."""
+    os.remove(f"{tree.commands}/rt")
+    write(f"{tree.top}/crates/low/src/lib.rt", WRONG)
+    status, _, said = tree.start("./prove")
+    line = "prove: low isn't proved or built: crates/low/out/prove.log says why\n"
+    report.counts((status, said) == (70, line), f"./prove where a proof fails: status {status}, {said.strip()}")
+    write(f"{tree.top}/crates/low/src/lib.rt", PROVABLE)
+    how = {"cwd": tree.top, "stdin": subprocess.DEVNULL, "stdout": subprocess.DEVNULL, "stderr": subprocess.PIPE, "text": True}
+    started = subprocess.Popen("./prove", **how)
+    until = time.monotonic() + 30
+    while processes_below(f"{tree.top}/crates/low") == 0 and time.monotonic() < until:
+        time.sleep(0.1)
+    was_at_work = processes_below(f"{tree.top}/crates/low") > 0
+    started.send_signal(signal.SIGINT)
+    said = started.communicate(timeout=30)[1]
+    time.sleep(1)
+    left = processes_below(tree.top)
+    is_well = (was_at_work, started.returncode, left) == (True, 130, 0)
+    report.counts(is_well, f"./prove interrupted: status {started.returncode}, {left} processes left, {said.strip()}")
+
+
+def start(report):
+    report.heading("Starts")
+    with tempfile.TemporaryDirectory(prefix="starts-") as room:
+        tree = Tree(room)
+        try_programs(report, tree)
+        try_gate(report, tree)
+        try_prove(report, tree)
+        try_checks(report, tree)
