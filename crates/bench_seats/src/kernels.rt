@@ -58,17 +58,23 @@ fn write_until<R: Wait>(rt: &R, locked: &Locked, stop: &AtomicBool) {
     }
 }
 
+// A meter for each of so many readers.
+fn meters(alloc: Global, readers: u64) -> Result<Vec<Roomy<Mutex<Meter>>>> {
+    let mut meters = Vec::new(alloc);
+    for _ in 0..readers {
+        meters.push(Roomy::new(Mutex::new(Meter::new(alloc)?)))?;
+    }
+    Ok(meters)
+}
+
 impl Locked {
     /// A kernel with a segment that has the bytes, for so many readers.
     pub fn new(alloc: Global, readers: u64) -> Result<Locked> {
-        let mut kernel = Kernel::boot(alloc, &LIMITS)?;
+        let meters = meters(alloc, readers)?;
         let mut meter = Meter::new(alloc)?;
+        let mut kernel = Kernel::boot(alloc, &LIMITS)?;
         kernel.step_surely(boot_thread(), &new_segment(), &mut meter);
         kernel.step_surely(boot_thread(), &write(), &mut meter);
-        let mut meters = Vec::new(alloc);
-        for _ in 0..readers {
-            meters.push(Roomy::new(Mutex::new(Meter::new(alloc)?)))?;
-        }
         Ok(Locked {
             kernel: RwLock::new(kernel),
             writer: Mutex::new(meter),

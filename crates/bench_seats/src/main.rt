@@ -131,6 +131,21 @@ fn crowd<'s, B: Naming + Send, R: Threads + Wait + Clock + Print + Sync>(
     Ok(())
 }
 
+/// What one, two and four threads do at once, and how reads grow with their threads.
+fn compare_few_beside<'s, B: Naming + Send, R: Threads + Wait + Clock + Print + Sync>(
+    rt: &R,
+    seats: &[Desk<'s, B>],
+    locked: &Locked,
+    file: &File,
+    rounds: u64,
+) -> Result<()> {
+    for threads in THREADS {
+        let each = rounds / (threads as u64).max(1);
+        compare_at(rt, seats, locked, file, threads, each)?;
+    }
+    grow(rt, seats, locked, rounds)
+}
+
 fn compare_few<B: Naming + Send, R: Threads + Wait + Clock + Print + Sync>(
     rt: &R,
     alloc: Global,
@@ -138,14 +153,21 @@ fn compare_few<B: Naming + Send, R: Threads + Wait + Clock + Print + Sync>(
     file: &File,
     rounds: u64,
 ) -> Result<()> {
-    let locked = Locked::new(alloc, 4)?;
     let seats = seats::seats(rt, alloc, shared, FEW)?;
-    let seats = seats.as_slice();
-    for threads in THREADS {
-        let each = rounds / (threads as u64).max(1);
-        compare_at(rt, seats, &locked, file, threads, each)?;
-    }
-    grow(rt, seats, &locked, rounds)
+    let locked = Locked::new(alloc, 4)?;
+    compare_few_beside(rt, seats.as_slice(), &locked, file, rounds)
+}
+
+/// What one thread does, and what a submit takes while more and more seats read.
+fn compare_all_beside<'s, B: Naming + Send, R: Threads + Wait + Clock + Print + Sync>(
+    rt: &R,
+    seats: &[Desk<'s, B>],
+    locked: &Locked,
+    file: &File,
+    rounds: u64,
+) -> Result<()> {
+    compare_at(rt, seats, locked, file, 1, rounds)?;
+    crowd(rt, seats, rounds / 400)
 }
 
 fn compare_all<B: Naming + Send, R: Threads + Wait + Clock + Print + Sync>(
@@ -155,11 +177,9 @@ fn compare_all<B: Naming + Send, R: Threads + Wait + Clock + Print + Sync>(
     file: &File,
     rounds: u64,
 ) -> Result<()> {
-    let locked = Locked::new(alloc, 1)?;
     let seats = seats::seats(rt, alloc, shared, ALL)?;
-    let seats = seats.as_slice();
-    compare_at(rt, seats, &locked, file, 1, rounds)?;
-    crowd(rt, seats, rounds / 400)
+    let locked = Locked::new(alloc, 1)?;
+    compare_all_beside(rt, seats.as_slice(), &locked, file, rounds)
 }
 
 /// At a boot for few seats.

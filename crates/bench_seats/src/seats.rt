@@ -106,6 +106,27 @@ fn add_seat<'s, B: Naming, R: Wait>(
     Ok(())
 }
 
+// Seats with one more before them.
+fn with_first<'s, B: Naming>(
+    mut others: Vec<Desk<'s, B>>,
+    seat: Seat<'s, B>,
+) -> Result<Vec<Desk<'s, B>>> {
+    others.insert(0, Roomy::new(Mutex::new(seat)))?;
+    Ok(others)
+}
+
+fn threads_with_seats<'s, B: Naming, R: Wait>(
+    rt: &R,
+    alloc: Global,
+    shared: &'s Shared<B>,
+    boot: &mut Seat<'_, B>,
+    threads: u64,
+) -> Result<Vec<Desk<'s, B>>> {
+    let mut seats = Vec::new(alloc);
+    fill(rt, shared, boot, threads, &mut seats)?;
+    Ok(seats)
+}
+
 /// The segment with its bytes, and so many new threads with their seats.
 fn fill<'s, B: Naming, R: Wait>(
     rt: &R,
@@ -132,10 +153,10 @@ pub fn seats<'s, B: Naming, R: Wait>(
     threads: u64,
 ) -> Result<Vec<Desk<'s, B>>> {
     let mut boot = shared.open_seat(rt, boot_thread())?;
-    let mut others = Vec::new(alloc);
-    fill(rt, shared, &mut boot, threads, &mut others)?;
-    others.insert(0, Roomy::new(Mutex::new(boot)))?;
-    Ok(others)
+    match threads_with_seats(rt, alloc, shared, &mut boot, threads) {
+        Ok(others) => with_first(others, boot),
+        Err(error) => Err(error),
+    }
 }
 
 /// The nanoseconds in which all workers at once write so often each, while it is counted what was

@@ -110,6 +110,38 @@ fn intern_one(
     print_beside_map(rt, alloc, what, stored, rounds as u64, ours, theirs)
 }
 
+// Stores so many labels in both.
+fn fill(pool: &mut Pool, map: &mut Stored, meter: &mut Meter, stored: usize) -> Result<()> {
+    for category in 0..stored {
+        if let Some(label) = label_of(category, meter) {
+            let _at = pool.intern(&label, meter);
+            let number = u16::try_from(category).unwrap_or(u16::MAX);
+            map.intern(&key_of(category), &label, number, meter)?;
+        }
+    }
+    Ok(())
+}
+
+// Stores a label that is stored, the middle one, and a new one, round after round.
+fn time_interns(
+    rt: &(impl Clock + Print),
+    alloc: Global,
+    (stored, rounds): (usize, usize),
+    (pool, map, meter): (&mut Pool, &mut Stored, &mut Meter),
+) -> Result<()> {
+    fill(pool, map, meter, stored)?;
+    for (what, category) in [
+        ("intern, stored, at", stored / 2),
+        ("intern, new, at", stored),
+    ] {
+        let label = label_of(category, meter).ok_or(NoMemory)?;
+        let key = key_of(category);
+        let both = (&mut *pool, &mut *map, &mut *meter);
+        intern_one(rt, alloc, what, stored, rounds, both, (&label, &key))?;
+    }
+    Ok(())
+}
+
 /// Stores a label that is stored, the middle one, and a new one, each released again, beside so many stored labels, in a
 /// pool and in `BTreeMap`s. Both keep how a new label compares with each stored one.
 pub fn intern(
@@ -120,32 +152,11 @@ pub fn intern(
 ) -> Result<()> {
     let stored = labels.clamp(1, MOST);
     let mut meter = Meter::new(alloc)?;
-    let mut pool = Pool::boot(alloc, stored.saturating_add(1))?;
     let mut map = Stored {
         map: BTreeMap::new(alloc),
         order: BTreeMap::new(alloc),
     };
-    for category in 0..stored {
-        if let Some(label) = label_of(category, &mut meter) {
-            let _at = pool.intern(&label, &mut meter);
-            map.intern(&key_of(category), &label, category as u16, &mut meter)?;
-        }
-    }
-    for (what, category) in [
-        ("intern, stored, at", stored / 2),
-        ("intern, new, at", stored),
-    ] {
-        let label = label_of(category, &mut meter).ok_or(NoMemory)?;
-        let one = (&mut pool, &mut map, &mut meter);
-        intern_one(
-            rt,
-            alloc,
-            what,
-            stored,
-            rounds,
-            one,
-            (&label, &key_of(category)),
-        )?;
-    }
-    Ok(())
+    let mut pool = Pool::boot(alloc, stored.saturating_add(1))?;
+    let all = (&mut pool, &mut map, &mut meter);
+    time_interns(rt, alloc, (stored, rounds), all)
 }

@@ -91,56 +91,97 @@ fn id_at(base: u64, place: usize) -> u64 {
     base.saturating_add((place as u64).saturating_mul(2))
 }
 
-/// Makes a subtree of so many containers, each with up to eight entries, and takes it out again, round after round, in
-/// containers and in maps that keep a list and a count for each id. Only the taking out is timed.
-pub fn unref(
-    rt: &(impl Clock + Print),
+// What the rounds so far took, in nanoseconds, what the containers read, and what went from both.
+#[derive(Drop)]
+struct Spent {
+    ours: u64,
+    theirs: u64,
+    probes: u64,
+    seen: Count,
+    seen_there: Count,
+}
+
+fn no_count() -> Count {
+    Count {
+        links: 0,
+        objects: 0,
+    }
+}
+
+fn nothing_spent() -> Spent {
+    Spent {
+        ours: 0,
+        theirs: 0,
+        probes: 0,
+        seen: no_count(),
+        seen_there: no_count(),
+    }
+}
+
+// The container of the one at a place: each lists up to eight.
+fn container_at(base: u64, place: usize) -> u64 {
+    if place == 0 {
+        1
+    } else {
+        id_at(base, (place - 1) / 8)
+    }
+}
+
+// Makes a subtree of so many containers, from an id on, in both.
+fn grow(alloc: Global, tree: &mut Guarded, maps: &mut Maps, base: u64, size: usize) -> Result<()> {
+    for place in 0..size {
+        let (container, id) = (container_at(base, place), id_at(base, place));
+        tree.create(ObjectId::new(container), ObjectId::new(id))?;
+        maps.create(alloc, container, id)?;
+    }
+    Ok(())
+}
+
+// Takes a subtree out of both.
+fn cut(
+    rt: &impl Clock,
     alloc: Global,
-    objects: usize,
-    rounds: usize,
+    tree: &mut Guarded,
+    maps: &mut Maps,
+    base: u64,
+    spent: &mut Spent,
 ) -> Result<()> {
-    let size = objects.clamp(1, MOST);
-    let mut tree = Guarded::boot(alloc, size.saturating_add(1))?;
-    let mut maps = Maps {
-        lists: BTreeMap::new(alloc),
-        listed: BTreeMap::new(alloc),
-    };
-    maps.lists.insert(1, Vec::new(alloc))?;
-    let mut seen = Count {
-        links: 0,
-        objects: 0,
-    };
-    let mut seen_there = Count {
-        links: 0,
-        objects: 0,
-    };
-    let (mut ours, mut theirs, mut probes) = (0u64, 0u64, 0u64);
+    let before = tree.meter().probes();
+    let start = Instant::now(rt)?;
+    tree.unref(ObjectId::root(), ObjectId::new(base), &mut spent.seen)?;
+    spent.ours = spent.ours.saturating_add(nanos_since(rt, start)?);
+    let probes = tree.meter().probes().saturating_sub(before);
+    spent.probes = spent.probes.saturating_add(probes);
+    let start = Instant::now(rt)?;
+    maps.unref(alloc, 1, base, &mut spent.seen_there)?;
+    spent.theirs = spent.theirs.saturating_add(nanos_since(rt, start)?);
+    Ok(())
+}
+
+// Makes a subtree of so many containers and takes it out again, round after round.
+fn grow_and_cut(
+    rt: &impl Clock,
+    alloc: Global,
+    tree: &mut Guarded,
+    maps: &mut Maps,
+    (size, rounds): (usize, usize),
+) -> Result<Spent> {
+    let mut spent = nothing_spent();
     let mut base = 3u64;
     for _ in 0..rounds {
-        for place in 0..size {
-            let container = if place == 0 {
-                1
-            } else {
-                id_at(base, (place - 1) / 8)
-            };
-            let id = id_at(base, place);
-            tree.create(ObjectId::new(container), ObjectId::new(id))?;
-            maps.create(alloc, container, id)?;
-        }
-        let before = tree.meter().probes();
-        let start = Instant::now(rt)?;
-        tree.unref(ObjectId::root(), ObjectId::new(base), &mut seen)?;
-        ours = ours.saturating_add(nanos_since(rt, start)?);
-        probes = probes.saturating_add(tree.meter().probes().saturating_sub(before));
-        let start = Instant::now(rt)?;
-        maps.unref(alloc, 1, base, &mut seen_there)?;
-        theirs = theirs.saturating_add(nanos_since(rt, start)?);
+        grow(alloc, tree, maps, base, size)?;
+        cut(rt, alloc, tree, maps, base, &mut spent)?;
         base = id_at(base, size);
     }
-    let (links, objects) = (seen.links, seen.objects);
-    let (links_there, objects_there) = (seen_there.links, seen_there.objects);
-    let each = probes / objects.max(1);
+    Ok(spent)
+}
+
+fn print_spent(rt: &impl Print, alloc: Global, size: usize, spent: &Spent) -> Result<()> {
+    let (links, objects) = (spent.seen.links, spent.seen.objects);
+    let (links_there, objects_there) = (spent.seen_there.links, spent.seen_there.objects);
+    let each = spent.probes / objects.max(1);
     println!(rt; "went {objects} of {links} and {objects_there} of {links_there}, probes {each}")?;
+    let (ours, theirs) = (spent.ours, spent.theirs);
     print_beside_map(
         rt,
         alloc,
@@ -150,4 +191,23 @@ pub fn unref(
         ours,
         theirs,
     )
+}
+
+/// Makes a subtree of so many containers, each with up to eight entries, and takes it out again, round after round, in
+/// containers and in maps that keep a list and a count for each id. Only the taking out is timed.
+pub fn unref(
+    rt: &(impl Clock + Print),
+    alloc: Global,
+    objects: usize,
+    rounds: usize,
+) -> Result<()> {
+    let size = objects.clamp(1, MOST);
+    let mut maps = Maps {
+        lists: BTreeMap::new(alloc),
+        listed: BTreeMap::new(alloc),
+    };
+    maps.lists.insert(1, Vec::new(alloc))?;
+    let mut tree = Guarded::boot(alloc, size.saturating_add(1))?;
+    let spent = grow_and_cut(rt, alloc, &mut tree, &mut maps, (size, rounds))?;
+    print_spent(rt, alloc, size, &spent)
 }
