@@ -29,7 +29,7 @@ use Rattle.arena_state.specs.Stocked.{content_at, whole_state}
 use Rattle.arena_state.specs.Sound.{IsSound}
 
 -- whether two labels are one
-abbrev is_same : LabelValue → LabelValue → Bool
+abbrev pub is_same : LabelValue → LabelValue → Bool
 is_same l m = is_eq (label_cmp l m)
 
 tied : (r : Ordering) → is_eq r ≡ true → r ≡ Equal
@@ -37,7 +37,7 @@ tied Less h = absurd (true≢false (sym h))
 tied Equal h = refl
 tied Greater h = absurd (true≢false (sym h))
 
-same_is : (l m : LabelValue) → is_same l m ≡ true → l ≡ m
+pub same_is : (l m : LabelValue) → is_same l m ≡ true → l ≡ m
 same_is l m e = labels_exact l m (tied (label_cmp l m) e)
 
 is_itself : (l m : LabelValue) → l ≡ m → is_same l m ≡ true
@@ -51,7 +51,7 @@ or_later : (a b : Bool) → b ≡ true → (a || b) ≡ true
 or_later true b e = refl
 or_later false b e = e
 
-or_rest : (a b : Bool) → a ≡ false → (a || b) ≡ true → b ≡ true
+pub or_rest : (a b : Bool) → a ≡ false → (a || b) ≡ true → b ≡ true
 or_rest true b e h = absurd (true≢false e)
 or_rest false b e h = h
 
@@ -197,18 +197,21 @@ rows_carry h cs i (e ∷ es) (x ∷ slots) long one =
           (record_carries h.labels r e.1 (cs e.0) i (omega arith))
     ]
 
+-- the label of an index that has one is a stored label
+pub held_carried : (p : Pieces) → IsSound p → IsInterned p.holdings.labels → (i : ℕ) (h : Held)
+    → held_at p.holdings.labels i ≡ Some h
+    → is_stored_in h.label (stored_labels (whole_state p).objects) ≡ true
+held_carried p s interned i h e =
+    let owners : owners_in (held_at p.holdings.labels i) ≡ h.owners = ap owners_in e in
+    let label : label_of p.holdings.labels i ≡ h.label = ap label_in e in
+    (labels_listed (whole_state p).objects).1 h.label
+    ∙ ap (λ (l : LabelValue). is_stored_in l
+    (flat_map (λ (e : ℕ × Object). labels_of e.1) (whole_state p).objects)) (sym label)
+    ∙ rows_carry p.holdings (content_at p) i p.places.lists p.places.slots s.tree.beside
+    (omega (arith, s.owned i, interned.has_owner i h e))
+
 -- the stored labels are no more than the different labels that objects carry
 pub labels_carried : (p : Pieces) → IsSound p → IsInterned p.holdings.labels
     → stored p.holdings.labels ≤ length (stored_labels (whole_state p).objects)
-labels_carried p s interned = no_more p.holdings.labels (stored_labels (whole_state p).objects) among interned.one_index
-  where
-    among : (i : ℕ) (h : Held) → held_at p.holdings.labels i ≡ Some h
-        → is_stored_in h.label (stored_labels (whole_state p).objects) ≡ true
-    among i h e =
-        let owners : owners_in (held_at p.holdings.labels i) ≡ h.owners = ap owners_in e in
-        let label : label_of p.holdings.labels i ≡ h.label = ap label_in e in
-        (labels_listed (whole_state p).objects).1 h.label
-        ∙ ap (λ (l : LabelValue). is_stored_in l
-        (flat_map (λ (e : ℕ × Object). labels_of e.1) (whole_state p).objects)) (sym label)
-        ∙ rows_carry p.holdings (content_at p) i p.places.lists p.places.slots s.tree.beside
-        (omega (arith, s.owned i, interned.has_owner i h e))
+labels_carried p s interned =
+    no_more p.holdings.labels (stored_labels (whole_state p).objects) (held_carried p s interned) interned.one_index

@@ -48,5 +48,6 @@ pub mod RefillLaws
 pub mod CopyLaws
 pub mod ResizeLaws
 pub mod CarriedLaws
+pub mod KeptLaws
 pub mod ShownLaws
 pub mod RepairedLaws

@@ -1,7 +1,7 @@
 //! The labels that are stored, by index, and how they compare.
 ghost use Rattle.std.specs.Prelude.{◌≡◌, ◌≤◌, option_copied, option_map};
 ghost use Rattle.kernel_store.specs.Storing.{label_count};
-ghost use Rattle.arena_state.specs.Kept.{label_kept, order_kept};
+ghost use Rattle.arena_state.specs.Kept.{label_kept, order_kept, AreStored};
 ghost use Rattle.arena_state.specs.States.{state_of, labels_stored};
 
 use crate::states::ArenaState;
@@ -36,6 +36,14 @@ impl ArenaState {
     /// this from a call.
     pub fn labels_are_carried(&self)
         ensures { labels_stored self.now ≤ label_count (state_of self.now) }
+    {
+        self.pieces.holdings.labels.well_formed();
+    }
+
+    /// The labels of the indexes are those that the state stores, each at one index. Nothing is done: a caller's proof has
+    /// this from a call.
+    pub fn labels_are_kept(&self)
+        ensures { AreStored (state_of self.now) (label_kept self.now) }
     {
         self.pieces.holdings.labels.well_formed();
     }

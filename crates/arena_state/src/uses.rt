@@ -1,5 +1,5 @@
 //! What is kept of uses.
-ghost use Rattle.std.specs.Prelude.{◌≡◌, None, IfSome, IfNone, ◌≤◌, ◌<◌, ◌+◌};
+ghost use Rattle.std.specs.Prelude.{◌≡◌, ◌≤◌, ◌+◌, option_map};
 ghost use Rattle.kernel_rules.specs.State.{object_at, use_of};
 ghost use Rattle.arena_state.specs.Assembled.{body_use};
 ghost use Rattle.arena_state.specs.States.{state_of, find_cost};
@@ -25,8 +25,8 @@ pub(crate) fn pages_of(body: &Kept, most: u32) -> u32
 impl ArenaState {
     /// What a live object uses, in pages of 256 bytes, as it is kept; none for any other id. No label is scanned.
     pub fn kept_use(&self, id: ObjectId, meter: &mut Meter) -> Option<u32>
-        ensures some { IfSome result (λ pages. pages ≡ use_of (state_of self.now) id) }
-        ensures none { IfNone result (object_at (state_of self.now) id ≡ None) }
+        ensures value { result
+            ≡ option_map (λ _. use_of (state_of self.now) id) (object_at (state_of self.now) id) }
         ensures scans { meter.new.scans ≡ meter.old.scans }
         ensures probes { meter.new.probes ≤ meter.old.probes + find_cost self.now }
     {

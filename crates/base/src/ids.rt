@@ -47,7 +47,3 @@ impl ObjectId {
 /// The place of an object's record in an arena, from 0.
 #[derive(Clone, Copy, PartialEq, Eq, Debug)]
 pub struct Slot(pub usize);
-
-/// The place of a container's entry among all cells of entries, from 0.
-#[derive(Clone, Copy, PartialEq, Eq, Debug)]
-pub struct LinkIx(pub usize);

@@ -17,7 +17,7 @@ mod refusals;
 mod sets;
 
 pub use bytes::Data;
-pub use ids::{Category, LinkIx, ObjectId, Slot};
+pub use ids::{Category, ObjectId, Slot};
 pub use kinds::Kind;
 pub use levels::Level;
 pub use liveness::live_by_path;

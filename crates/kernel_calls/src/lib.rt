@@ -5,13 +5,8 @@
 //! is left to the store.
 #![tactic(auto)]
 
-mod acceptances;
-mod frequent;
 mod queries;
-mod refusals;
-mod saying;
-mod sure;
+mod steps;
 
-pub use acceptances::step;
 pub use queries::{ask, ask_into};
-pub use sure::{step_surely, step_surely_into};
+pub use steps::{step, step_surely, step_surely_into};

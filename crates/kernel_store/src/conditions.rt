@@ -5,14 +5,13 @@ ghost use Rattle.base.specs.declared.kinds.Kind.TheVariants as kinds;
 ghost use Rattle.base.specs.declared.refusals.Refusal.TheVariants as refusal;
 ghost use Rattle.kernel_rules.specs.Rows.{refusal_of, halted, is_shape, allows};
 ghost use Rattle.kernel_rules.specs.Translate.{names_none};
-ghost use Rattle.kernel_rules.specs.declared.replies.Reply.TheVariants as told;
 ghost use Rattle.kernel_store.specs.Parts.{joined};
 ghost use Rattle.kernel_store.specs.Sights.{is_of};
 
 use crate::sights::{Seen, Sight, Site};
 use crate::stores::Store;
 use base::{Kind, Meter, ObjectId, Refusal};
-use kernel_rules::{Entry, Place, Reply, least_with};
+use kernel_rules::{Entry, Place, least_with};
 
 /// A refusal, and whether it is given.
 pub type Condition = (Refusal, bool);
@@ -28,15 +27,6 @@ pub fn refusal_of(row: &[&[Condition]]) -> Option<Refusal>
         least = least_with(least, part);
     }
     least
-}
-
-/// The reply is a refusal. (In a function of its own, since a reply is large: each value that a
-/// function makes is set to zero where the function begins, be it needed or not.)
-#[inline(never)]
-pub fn refuse(reply: &mut Reply, refusal: Refusal)
-    ensures { reply.new ≡ told.Refused refusal }
-{
-    *reply = Reply::Refused(refusal);
 }
 
 /// The caller is no live thread.

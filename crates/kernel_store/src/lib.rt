@@ -5,8 +5,9 @@
 #![tactic(auto)]
 
 mod conditions;
+mod labels;
 mod new_objects;
-mod said;
+mod replies;
 mod sights;
 mod spots;
 mod stores;
@@ -14,10 +15,11 @@ mod stores;
 pub use conditions::{
     Condition, at_container, at_site, flowing, halted, halted_at, halted_by, in_container,
     listed_in, mapped_to_read, mapped_to_write, modified, not_immutable, not_of_kind, observed,
-    of_kind, refusal_of, refuse, shaped, space_entry, within,
+    of_kind, refusal_of, shaped, space_entry, within,
 };
+pub use labels::stored_label;
 pub use new_objects::{NewObject, good_label, is_in_range, new_bearer, new_object};
-pub use said::Said;
+pub use replies::{refuse, set_done, tell_done, tell_object};
 pub use sights::{LinkSite, Seen, Sight, Site, WideSight, itself};
 pub use spots::{Spot, object_slot, own_slot};
 pub use stores::Store;

@@ -1,27 +1,25 @@
 //! The calls that make containers and read their lists.
-#![tactic(auto, unfolding(kernel_rules::specs::Table::refused, kernel_rules::specs::Table::query_refused), using(kernel_store::proofs::SightLaws::kind_seen))]
+#![tactic(auto, unfolding(kernel_rules::specs::Table::refused, kernel_rules::specs::Table::query_refused), using(kernel_store::proofs::SightLaws::kind_seen, kernel_store::proofs::CallLaws::calls))]
 
-ghost use Rattle.std.specs.Prelude.{◌≡◌, ◌≤◌, ◌+◌, None, IfOk, IfSome, OnOk, OnErr};
+ghost use Rattle.std.specs.Prelude.{◌≡◌, ◌≤◌, ◌+◌, OnOk, OnErr};
 ghost use Rattle.std.specs.Prelude.{option_copied};
-ghost use Rattle.label_lattice.specs.Label.{IsStored};
 ghost use Rattle.label_rules.specs.LabelRules.{stored};
-ghost use Rattle.kernel_rules.specs.Step.{accepted, edit, found};
+ghost use Rattle.kernel_rules.specs.Step.{answer, next, query_answer};
 ghost use Rattle.kernel_rules.specs.Table.{refused, query_refused};
 ghost use Rattle.kernel_rules.specs.declared.calls.Call.TheVariants as call;
 ghost use Rattle.kernel_rules.specs.declared.calls.Query.TheVariants as query;
-ghost use Rattle.kernel_rules.specs.declared.replies.Reply.TheVariants as told;
 ghost use Rattle.kernel_store.specs.Storing.{storing};
 
 use base::{Kind, Meter, ObjectId, Refusal};
 use kernel_rules::{NewContainer, Reply};
 use kernel_store::{
-    NewObject, Store, at_container, halted_at, halted_by, itself, new_object, refusal_of,
+    NewObject, Store, at_container, halted_at, halted_by, itself, new_object, refusal_of, refuse,
+    stored_label, tell_object,
 };
 use label_lattice::Label;
 
-/// What refuses to make a container, whose label is the stored one, where there is one.
-#[inline(never)]
-pub fn refused_container_create<S: Store>(
+// What refuses to make a container, whose label is the stored one, where there is one.
+fn refused_container_create<S: Store>(
     state: &S,
     thread: ObjectId,
     made: &NewContainer,
@@ -45,35 +43,36 @@ pub fn refused_container_create<S: Store>(
     ])
 }
 
-/// Makes a container without entries, of this label. The error is want of memory, and nothing is
-/// changed then.
+/// Makes a container without entries, or tells what refuses to. The error is want of memory, and nothing is changed then.
 #[inline(never)]
 pub fn container_create<S: Store>(
     state: &mut S,
     thread: ObjectId,
     made: &NewContainer,
-    label: Option<&Label>,
+    reply: &mut Reply,
     meter: &mut Meter,
-) -> Result<ObjectId, S::Want>
-    requires free { refused (S.state state.old) thread (call.ContainerCreate made.now) ≡ None }
-    requires label { option_copied label ≡ stored made.now.label }
-    requires fit { IfSome (option_copied label) IsStored }
-    ensures object { IfOk result (λ id. told.Object id ≡ accepted (S.state state.old) thread
-        (call.ContainerCreate made.now)) }
-    ensures ok { OnOk result (S.state state.new ≡ edit (S.state state.old) thread
-        (call.ContainerCreate made.now)) }
+) -> Result<(), S::Want>
+    ensures reply { OnOk result (reply.new
+        ≡ answer (S.state state.old) thread (call.ContainerCreate made.now)) }
+    ensures ok { OnOk result (S.state state.new
+        ≡ next (S.state state.old) thread (call.ContainerCreate made.now)) }
     ensures err { OnErr result (S.state state.new ≡ S.state state.old) }
-    ensures meter { S.kept meter.new
-        ≤ S.kept meter.old + storing 1 (S.stored state.old) }
+    ensures meter { S.kept meter.new ≤ S.kept meter.old + 3 + storing 1 (S.stored state.old) }
 {
+    let label = stored_label(state, &made.label, meter);
+    let label = label.as_ref();
+    if let Some(refusal) = refused_container_create(state, thread, made, label, meter) {
+        refuse(reply, refusal);
+        return Ok(());
+    }
     let kinds = state.joined(made.container, made.avoid, meter);
     let id = state.create_container(made.container, label, made.quota, kinds, meter)?;
-    Ok(id)
+    tell_object(state, id, reply);
+    Ok(())
 }
 
-/// What refuses to read a container's list.
-#[inline(never)]
-pub fn refused_container_list<S: Store>(
+// What refuses to read a container's list.
+fn refused_container_list<S: Store>(
     state: &S,
     thread: ObjectId,
     container: ObjectId,
@@ -93,8 +92,8 @@ pub fn refused_container_list<S: Store>(
     ])
 }
 
-/// The length of a container's list, and up to 16 of its ids.
-#[tactic(auto, using(crate::proofs::ContainerLaws::list_reaches))]
+/// The length of a container's list and up to 16 of its ids, or what refuses to read it.
+#[inline(never)]
 pub fn container_list<S: Store>(
     state: &S,
     thread: ObjectId,
@@ -103,21 +102,21 @@ pub fn container_list<S: Store>(
     reply: &mut Reply,
     meter: &mut Meter,
 )
-    requires { query_refused (S.state state.now) thread
-        (query.ContainerList container from) ≡ None }
-    ensures value { reply.new ≡ found (S.state state.now) thread
+    ensures value { reply.new ≡ query_answer (S.state state.now) thread
         (query.ContainerList container from) }
     ensures meter { S.kept meter.new ≡ S.kept meter.old }
 {
+    if let Some(refusal) = refused_container_list(state, thread, container, from, meter) {
+        return refuse(reply, refusal);
+    }
     *reply = Reply::Listed {
         count: state.list_len(container, meter) as u64,
         ids: state.ids_from(container, from, meter),
     };
 }
 
-/// What refuses to ask for a container's own container.
-#[inline(never)]
-pub fn refused_container_parent<S: Store>(
+// What refuses to ask for a container's own container.
+fn refused_container_parent<S: Store>(
     state: &S,
     thread: ObjectId,
     container: ObjectId,
@@ -131,8 +130,8 @@ pub fn refused_container_parent<S: Store>(
     refusal_of(&[&halted_at(&seen), &at_container(&seen)])
 }
 
-/// The container that lists a container; the root's is the root.
-#[tactic(auto, using(crate::proofs::ContainerLaws::parent_asked))]
+/// The container that lists a container, or what refuses to ask for it; the root's is the root.
+#[inline(never)]
 pub fn container_parent<S: Store>(
     state: &S,
     thread: ObjectId,
@@ -140,10 +139,12 @@ pub fn container_parent<S: Store>(
     reply: &mut Reply,
     meter: &mut Meter,
 )
-    requires { query_refused (S.state state.now) thread
-        (query.ContainerParent container) ≡ None }
-    ensures value { reply.new ≡ found (S.state state.now) thread (query.ContainerParent container) }
+    ensures value { reply.new ≡ query_answer (S.state state.now) thread
+        (query.ContainerParent container) }
     ensures meter { S.kept meter.new ≡ S.kept meter.old }
 {
+    if let Some(refusal) = refused_container_parent(state, thread, container, meter) {
+        return refuse(reply, refusal);
+    }
     *reply = Reply::Parent(state.parent(container, meter));
 }

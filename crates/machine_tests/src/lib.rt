@@ -17,6 +17,8 @@ mod known;
 #[cfg(test)]
 mod metered;
 #[cfg(test)]
+mod run_tests;
+#[cfg(test)]
 mod scan_tests;
 #[cfg(test)]
 mod storm_tests;

@@ -1,12 +1,13 @@
 //! The arena kernel: what it keeps equals recomputation, and no call takes memory after boot.
-ghost use Rattle.std.specs.Prelude.{◌≡◌, ◌≤◌, ◌+◌, ◌↔◌, true, false, IfOk, IfSome, IfNone, IsErrOf, None, option_copied};
-ghost use Rattle.std.specs.Prelude.{option_map, slice_get};
+ghost use Rattle.std.specs.Prelude.{◌≡◌, ◌≤◌, ◌+◌, ◌↔◌, true, false, IfOk, IfSome, IsErrOf, IsTrue, None};
+ghost use Rattle.std.specs.Prelude.{option_copied, option_map, slice_get};
 ghost use Rattle.base.specs.Limits.{in_range};
 ghost use Rattle.base.specs.declared.kinds.Kind.TheVariants as kinds;
 ghost use Rattle.kernel_rules.specs.Scratch.{ids_of, scratch};
 ghost use Rattle.kernel_rules.specs.State.{is_live_kind, object_at, use_of};
 ghost use Rattle.kernel_rules.specs.Runs.{booted};
-ghost use Rattle.arena_state.specs.Kept.{label_kept, order_kept};
+ghost use Rattle.kernel_rules.specs.WellFormed.{is_well_formed};
+ghost use Rattle.arena_state.specs.Kept.{label_kept, order_kept, AreStored, Stores};
 ghost use Rattle.arena_state.specs.Shown.{AreKept};
 ghost use Rattle.kernel_rules.specs.Translate.{translate};
 ghost use Rattle.translation_laws.specs.Names.{IsNamedRightly};
@@ -66,6 +67,11 @@ impl Kernel {
         }
     }
 
+    /// A law, which does nothing when it is called: the state of every kernel is well formed.
+    pub fn well_formed(&self)
+        ensures { IsTrue (is_well_formed (kernel_state self.now)) }
+    {}
+
     /// The tables of the kernel's state, recomputed by its calls. Want of memory is the only error.
     pub fn tables(&self, meter: &mut Meter) -> Result<Tables, NoMemory>
         ensures { IfOk result (λ tables. tables ≡ scratch (kernel_state self.now)) }
@@ -83,14 +89,25 @@ impl Kernel {
         self.state.is_live_kind(Kind::Thread, thread, meter)
     }
 
-    /// The label of an index, none where it has none. Each stored label has one index.
-    pub fn kept_label(&self, index: LabelIx) -> Option<&Label>
-        ensures { option_copied result ≡ label_kept self.now.state index.0 }
+    /// A law, which does nothing when it is called: the labels of the indexes are those that the state stores. Each stored
+    /// label has one index, and no other label has one.
+    pub fn labels_are_kept(&self)
+        ensures { AreStored (kernel_state self.now) (label_kept self.now.state) }
     {
+        self.state.labels_are_kept();
+    }
+
+    /// The label of an index, none where it has none. It is a label that the state stores; `labels_are_kept` says that each
+    /// of these has one index.
+    pub fn kept_label(&self, index: LabelIx) -> Option<&Label>
+        ensures value { option_copied result ≡ label_kept self.now.state index.0 }
+        ensures stored { IfSome result (λ label. Stores (kernel_state self.now) label.now) }
+    {
+        self.labels_are_kept();
         self.state.kept_label(index)
     }
 
-    /// How the label of an index compares with that of another, none where one has none. No label is
+    /// How the label of an index compares with that of another, none exactly where one of the two has none. No label is
     /// scanned.
     pub fn kept_order(&self, one: LabelIx, other: LabelIx) -> Option<OrderBits>
         ensures { option_map (λ o. o.0) result ≡ order_kept self.now.state one.0 other.0 }
@@ -119,8 +136,8 @@ impl Kernel {
 
     /// What a live object uses, in pages of 256 bytes, as it is kept; none for any other id.
     pub fn kept_use(&self, id: ObjectId, meter: &mut Meter) -> Option<u32>
-        ensures some { IfSome result (λ pages. pages ≡ use_of (kernel_state self.now) id) }
-        ensures none { IfNone result (object_at (kernel_state self.now) id ≡ None) }
+        ensures value { result
+            ≡ option_map (λ _. use_of (kernel_state self.now) id) (object_at (kernel_state self.now) id) }
         ensures scans { meter.new.scans ≡ meter.old.scans }
         ensures probes { meter.new.probes ≤ meter.old.probes + 16 }
     {
@@ -197,19 +214,22 @@ impl Kernel {
 }
 
 impl Machine for Kernel {
-    ghost use Rattle.std.specs.Prelude.{IsOk, IfOk, OnOk, OnErr, ◌≡◌, ◌≤◌, ◌+◌};
-    ghost use Rattle.kernel_calls.specs.Scans.{most_scans, stores};
+    ghost use Rattle.std.specs.Prelude.{⊤, IsOk, IfOk, OnOk, OnErr, ◌≡◌, ◌≤◌, ◌+◌};
+    ghost use Rattle.kernel_calls.specs.Scans.{is_load, is_quiet, most_scans, stores};
     ghost use Rattle.kernel_rules.specs.Step.{answer, next, query_answer};
     ghost use Rattle.kernel_store.specs.Storing.{label_count};
     ghost use Rattle.syscall_core.specs.Kernel.{kernel_state};
 
     ghost state = { kernel_state };
 
+    ghost sure = { ⊤ };
+
     fn step(&mut self, thread: ObjectId, call: &Call, meter: &mut Meter) -> Result<Reply, NoMemory>
         ensures reply { IfOk result (λ reply. reply ≡ answer (kernel_state self.old) thread call.now) }
         ensures ok { OnOk result (kernel_state self.new ≡ next (kernel_state self.old) thread call.now) }
         ensures err { OnErr result (kernel_state self.new ≡ kernel_state self.old) }
         ensures sure { IsOk result }
+        ensures quiet { is_quiet call.now ≡ true → meter.new.scans ≡ meter.old.scans }
         ensures scans { meter.new.scans ≤ meter.old.scans
             + most_scans (stores call.now) (label_count (kernel_state self.old)) }
     {
@@ -220,6 +240,9 @@ impl Machine for Kernel {
         ensures reply { IfOk result
             (λ reply. reply ≡ query_answer (kernel_state self.now) thread query.now) }
         ensures sure { IsOk result }
+        ensures scans { meter.new.scans ≡ meter.old.scans }
+        ensures probes { is_load query.now ≡ true
+            → meter.new.probes ≤ meter.old.probes + 64 }
     {
         Ok(self.ask_surely(thread, query, meter))
     }

@@ -1,17 +1,19 @@
 //! The call that makes a category.
-#![tactic(auto, unfolding(kernel_rules::specs::Table::refused, kernel_rules::specs::Table::query_refused), using(kernel_store::proofs::SightLaws::kind_seen))]
+#![tactic(auto, unfolding(kernel_rules::specs::Table::refused, kernel_rules::specs::Table::query_refused), using(kernel_store::proofs::SightLaws::kind_seen, kernel_store::proofs::CallLaws::calls))]
 
-ghost use Rattle.std.specs.Prelude.{◌≡◌, ◌≤◌, ◌+◌, ◌||◌, is_none, None, IfSome};
+ghost use Rattle.std.specs.Prelude.{◌≡◌, ◌≤◌, ◌+◌, ◌||◌, is_none, true, IfSome};
 ghost use Rattle.label_lattice.specs.Label.{IsStored};
 ghost use Rattle.kernel_rules.specs.Rows.{own_label, own_clearance};
-ghost use Rattle.kernel_rules.specs.Step.{accepted, edit};
+ghost use Rattle.kernel_rules.specs.Step.{answer, next};
 ghost use Rattle.kernel_rules.specs.Table.{refused};
+ghost use Rattle.kernel_rules.specs.WellFormed.{is_well_formed};
 ghost use Rattle.kernel_rules.specs.declared.calls.Call.TheVariants as call;
 ghost use Rattle.kernel_rules.specs.declared.replies.Reply.TheVariants as told;
 ghost use Rattle.kernel_store.specs.Storing.{storing};
 
 use base::{Category, Level, Meter, ObjectId, Refusal};
-use kernel_store::{Store, halted, refusal_of};
+use kernel_rules::Reply;
+use kernel_store::{Store, halted, refusal_of, refuse};
 use label_lattice::Label;
 use label_rules::with_category;
 
@@ -49,13 +51,8 @@ fn is_full<S: Store>(state: &S, thread: ObjectId, meter: &mut Meter) -> bool
     own_label(state, thread, meter).is_none() || own_clearance(state, thread, meter).is_none()
 }
 
-/// What refuses to make a category.
-#[inline(never)]
-pub fn refused_cat_create<S: Store>(
-    state: &S,
-    thread: ObjectId,
-    meter: &mut Meter,
-) -> Option<Refusal>
+// What refuses to make a category.
+fn refused_cat_create<S: Store>(state: &S, thread: ObjectId, meter: &mut Meter) -> Option<Refusal>
     ensures value { result ≡ refused (S.state state.now) thread call.CatCreate }
     ensures meter { S.kept meter.new ≤ S.kept meter.old + 2 }
 {
@@ -67,18 +64,36 @@ pub fn refused_cat_create<S: Store>(
     ])
 }
 
-/// Makes a category, which the thread owns.
 #[inline(never)]
-pub fn cat_create<S: Store>(state: &mut S, thread: ObjectId, meter: &mut Meter) -> Category
-    requires { refused (S.state state.old) thread call.CatCreate ≡ None }
-    ensures category { told.Category result ≡ accepted (S.state state.old) thread call.CatCreate }
-    ensures state { S.state state.new ≡ edit (S.state state.old) thread call.CatCreate }
-    ensures meter { S.kept meter.new
-        ≤ S.kept meter.old + 2 + storing 2 (S.stored state.old) }
+fn set_category(reply: &mut Reply, made: Category)
+    ensures { reply.new ≡ told.Category made }
 {
+    *reply = Reply::Category(made);
+}
+
+// The reply is the new category. The second clause is that of `kernel_store::tell_done`.
+#[inline(always)]
+fn tell_category<S: Store>(state: &S, made: Category, reply: &mut Reply)
+    ensures reply { reply.new ≡ told.Category made }
+    ensures sound { is_well_formed (S.state state.now) ≡ true }
+{
+    let _state = state;
+    set_category(reply, made);
+}
+
+/// Makes a category, which the thread owns, or tells what refuses to.
+#[inline(never)]
+pub fn cat_create<S: Store>(state: &mut S, thread: ObjectId, reply: &mut Reply, meter: &mut Meter)
+    ensures reply { reply.new ≡ answer (S.state state.old) thread call.CatCreate }
+    ensures state { S.state state.new ≡ next (S.state state.old) thread call.CatCreate }
+    ensures meter { S.kept meter.new ≤ S.kept meter.old + 4 + storing 2 (S.stored state.old) }
+{
+    if let Some(refusal) = refused_cat_create(state, thread, meter) {
+        return refuse(reply, refusal);
+    }
     let category = Category(state.next_category());
     let label = own_label(state, thread, meter);
     let clearance = own_clearance(state, thread, meter);
     state.own_category(thread, label.as_ref(), clearance.as_ref(), meter);
-    category
+    tell_category(state, category, reply);
 }

@@ -1,13 +1,13 @@
 //! The calls that make and enter gates.
-#![tactic(auto, unfolding(kernel_rules::specs::Table::refused, kernel_rules::specs::Table::query_refused), using(kernel_store::proofs::SightLaws::kind_seen))]
+#![tactic(auto, unfolding(kernel_rules::specs::Table::refused, kernel_rules::specs::Table::query_refused), using(kernel_store::proofs::SightLaws::kind_seen, kernel_store::proofs::CallLaws::calls))]
 
-ghost use Rattle.std.specs.Prelude.{◌≡◌, ◌≤◌, ◌+◌, ℕ, true, None};
-ghost use Rattle.std.specs.Prelude.{IfOk, OnOk, OnErr, IfSome, option_copied};
+ghost use Rattle.std.specs.Prelude.{◌≡◌, ◌≤◌, ◌+◌, ℕ, true};
+ghost use Rattle.std.specs.Prelude.{OnOk, OnErr, IfSome, option_copied};
 ghost use Rattle.label_lattice.specs.Label.{IsStored};
 ghost use Rattle.label_rules.specs.LabelRules.{may_enter, stored};
 ghost use Rattle.base.specs.declared.kinds.Kind.TheVariants as kinds;
 ghost use Rattle.kernel_rules.specs.State.{gate_at, is_kind_at};
-ghost use Rattle.kernel_rules.specs.Step.{accepted, edit, through_gate, told_by};
+ghost use Rattle.kernel_rules.specs.Step.{answer, next, through_gate, told_by};
 ghost use Rattle.kernel_rules.specs.Table.{refused, own_bearer, gate_bearer};
 ghost use Rattle.kernel_rules.specs.declared.calls.Call.TheVariants as call;
 ghost use Rattle.kernel_rules.specs.declared.replies.Reply.TheVariants as told;
@@ -16,15 +16,14 @@ ghost use Rattle.kernel_store.specs.Storing.{storing};
 use base::{Kind, Meter, ObjectId, Refusal};
 use kernel_rules::{Entry, Gate, NewGate, Reply};
 use kernel_store::{
-    NewObject, Said, Store, good_label, halted_at, in_container, new_bearer, of_kind, refusal_of,
-    space_entry,
+    NewObject, Store, good_label, halted_at, in_container, new_bearer, of_kind, refusal_of, refuse,
+    space_entry, stored_label, tell_done, tell_object,
 };
 use label_lattice::{Label, RawLabel};
 use label_rules::{Asked, Bearer, may_enter};
 
-/// What refuses to make a gate, whose label and clearance are the stored ones, where there are any.
-#[inline(never)]
-pub fn refused_gate_create<S: Store>(
+// What refuses to make a gate, whose label and clearance are the stored ones, where there are any.
+fn refused_gate_create<S: Store>(
     state: &S,
     thread: ObjectId,
     made: &NewGate,
@@ -53,31 +52,33 @@ pub fn refused_gate_create<S: Store>(
     ])
 }
 
-/// Makes a gate of this label and clearance. The error is want of memory, and nothing is changed then.
+/// Makes a gate, or tells what refuses to. The error is want of memory, and nothing is changed then.
 #[inline(never)]
 pub fn gate_create<S: Store>(
     state: &mut S,
     thread: ObjectId,
     made: &NewGate,
-    label: Option<&Label>,
-    clearance: Option<&Label>,
+    reply: &mut Reply,
     meter: &mut Meter,
-) -> Result<ObjectId, S::Want>
-    requires free { refused (S.state state.old) thread (call.GateCreate made.now) ≡ None }
-    requires label { option_copied label ≡ stored made.now.label }
-    requires clearance { option_copied clearance ≡ stored made.now.clearance }
-    requires label_fit { IfSome (option_copied label) IsStored }
-    requires clearance_fit { IfSome (option_copied clearance) IsStored }
-    ensures object { IfOk result (λ id. told.Object id ≡ accepted (S.state state.old) thread
-        (call.GateCreate made.now)) }
-    ensures ok { OnOk result (S.state state.new ≡ edit (S.state state.old) thread
-        (call.GateCreate made.now)) }
+) -> Result<(), S::Want>
+    ensures reply { OnOk result (reply.new
+        ≡ answer (S.state state.old) thread (call.GateCreate made.now)) }
+    ensures ok { OnOk result (S.state state.new
+        ≡ next (S.state state.old) thread (call.GateCreate made.now)) }
     ensures err { OnErr result (S.state state.new ≡ S.state state.old) }
-    ensures meter { S.kept meter.new
-        ≤ S.kept meter.old + storing 2 (S.stored state.old) }
+    ensures meter { S.kept meter.new ≤ S.kept meter.old + 5 + storing 2 (S.stored state.old) }
 {
+    let label = stored_label(state, &made.label, meter);
+    let label = label.as_ref();
+    let clearance = stored_label(state, &made.clearance, meter);
+    let clearance = clearance.as_ref();
+    if let Some(refusal) = refused_gate_create(state, thread, made, label, clearance, meter) {
+        refuse(reply, refusal);
+        return Ok(());
+    }
     let Some(clearance) = clearance else {
-        return Ok(state.next_id());
+        tell_object(state, state.next_id(), reply);
+        return Ok(());
     };
     let gate = Gate {
         clearance: *clearance,
@@ -86,7 +87,8 @@ pub fn gate_create<S: Store>(
         closure: made.closure,
     };
     let id = state.create_gate(made.container, label, made.quota, &gate, meter)?;
-    Ok(id)
+    tell_object(state, id, reply);
+    Ok(())
 }
 
 fn own_bearer<S: Store>(state: &S, thread: ObjectId, meter: &mut Meter) -> Bearer
@@ -118,25 +120,16 @@ fn is_open<S: Store>(
     state: &S,
     thread: ObjectId,
     gate: ObjectId,
-    said: &Said,
+    asked: &Asked,
     meter: &mut Meter,
 ) -> bool
     ensures value { result ≡ may_enter (own_bearer (S.state state.now) thread)
-        (gate_bearer (S.state state.now) gate) (record {
-          label = option_copied said.now.first;
-          clearance = option_copied said.now.second;
-          verify = option_copied said.now.third;
-        }) }
+        (gate_bearer (S.state state.now) gate) asked.now }
     ensures meter { S.kept meter.new ≤ S.kept meter.old + 5 }
 {
     let own = own_bearer(state, thread, meter);
     let gate = gate_bearer(state, gate, meter);
-    let asked = Asked {
-        label: said.first.copied(),
-        clearance: said.second.copied(),
-        verify: said.third.copied(),
-    };
-    may_enter(&own, &gate, &asked, meter)
+    may_enter(&own, &gate, asked, meter)
 }
 
 /// The three labels that a thread asks of a gate, as they are given.
@@ -150,33 +143,32 @@ pub struct Entering<'a> {
     pub verify: &'a RawLabel,
 }
 
-/// What refuses to enter a gate.
-#[inline(never)]
-pub fn refused_gate_enter<S: Store>(
+// What refuses to enter a gate by these labels, as they are stored, where they can be.
+fn refused_gate_enter<S: Store>(
     state: &S,
     thread: ObjectId,
     gate: &Entry,
     entering: &Entering,
-    said: &Said,
+    asked: &Asked,
     meter: &mut Meter,
 ) -> Option<Refusal>
-    requires label { option_copied said.now.first ≡ stored entering.now.label.now }
-    requires clearance { option_copied said.now.second ≡ stored entering.now.clearance.now }
-    requires verify { option_copied said.now.third ≡ stored entering.now.verify.now }
+    requires label { asked.now.label ≡ stored entering.now.label.now }
+    requires clearance { asked.now.clearance ≡ stored entering.now.clearance.now }
+    requires verify { asked.now.verify ≡ stored entering.now.verify.now }
     ensures value { result ≡ refused (S.state state.now) thread
         (call.GateEnter gate.now entering.now.label.now
         entering.now.clearance.now entering.now.verify.now) }
     ensures meter { S.kept meter.new ≤ S.kept meter.old + 5 }
 {
     let seen = state.sight(thread, gate, meter);
-    let open = is_open(state, thread, gate.object, said, meter);
+    let open = is_open(state, thread, gate.object, asked, meter);
     refusal_of(&[
         &halted_at(&seen),
         &in_container(&seen),
         &of_kind(Kind::Gate, &seen.object),
-        &good_label(state, entering.label, said.first),
-        &good_label(state, entering.clearance, said.second),
-        &good_label(state, entering.verify, said.third),
+        &good_label(state, entering.label, asked.label.as_ref()),
+        &good_label(state, entering.clearance, asked.clearance.as_ref()),
+        &good_label(state, entering.verify, asked.verify.as_ref()),
         &[(Refusal::GateDenied, !open)],
     ])
 }
@@ -184,24 +176,23 @@ pub fn refused_gate_enter<S: Store>(
 fn enter<S: Store>(
     state: &mut S,
     thread: ObjectId,
-    said: &Said,
+    asked: &Asked,
     gate: &Option<Gate>,
     meter: &mut Meter,
 )
     requires thread { is_kind_at (S.state state.old) kinds.Thread thread ≡ true }
     requires gate { (id : ℕ) × (gate.now ≡ gate_at (S.state state.old) id) }
-    requires label { IfSome (option_copied said.now.first) IsStored }
-    requires clearance { IfSome (option_copied said.now.second) IsStored }
-    requires verify { IfSome (option_copied said.now.third) IsStored }
+    requires label { IfSome asked.now.label IsStored }
+    requires clearance { IfSome asked.now.clearance IsStored }
+    requires verify { IfSome asked.now.verify IsStored }
     ensures state { S.state state.new ≡ through_gate (S.state state.old) thread
-        (option_copied said.now.first) (option_copied said.now.second)
-        (option_copied said.now.third) gate.now }
+        asked.now.label asked.now.clearance asked.now.verify gate.now }
     ensures meter { S.kept meter.new
         ≤ S.kept meter.old + storing 3 (S.stored state.old) }
 {
-    if let Some(label) = said.first {
-        if let Some(clearance) = said.second {
-            if let Some(verify) = said.third {
+    if let Some(label) = &asked.label {
+        if let Some(clearance) = &asked.clearance {
+            if let Some(verify) = &asked.verify {
                 if let Some(gate) = gate {
                     state.enter(thread, label, clearance, verify, gate, meter);
                 }
@@ -223,38 +214,35 @@ fn tell(gate: &Option<Gate>, reply: &mut Reply)
     }
 }
 
-/// The thread enters a gate: it has the asked labels, and the gate's address space, entry point and
-/// closure, of which the reply tells.
+/// The thread enters a gate, or is told what refuses it: it has the asked labels, and the gate's address space, entry point
+/// and closure, of which the reply tells.
 #[inline(never)]
 pub fn gate_enter<S: Store>(
     state: &mut S,
     thread: ObjectId,
     gate: &Entry,
     entering: &Entering,
-    said: &Said,
     reply: &mut Reply,
     meter: &mut Meter,
 )
-    requires done { reply.old ≡ told.Done }
-    requires free { refused (S.state state.old) thread (call.GateEnter gate.now entering.now.label.now
-        entering.now.clearance.now entering.now.verify.now) ≡ None }
-    requires label { option_copied said.now.first ≡ stored entering.now.label.now }
-    requires clearance { option_copied said.now.second ≡ stored entering.now.clearance.now }
-    requires verify { option_copied said.now.third ≡ stored entering.now.verify.now }
-    requires label_fit { IfSome (option_copied said.now.first) IsStored }
-    requires clearance_fit { IfSome (option_copied said.now.second) IsStored }
-    requires verify_fit { IfSome (option_copied said.now.third) IsStored }
-    ensures reply { reply.new ≡ accepted (S.state state.old) thread
+    ensures reply { reply.new ≡ answer (S.state state.old) thread
         (call.GateEnter gate.now entering.now.label.now
         entering.now.clearance.now entering.now.verify.now) }
-    ensures state { S.state state.new ≡ edit (S.state state.old) thread
+    ensures state { S.state state.new ≡ next (S.state state.old) thread
         (call.GateEnter gate.now entering.now.label.now
         entering.now.clearance.now entering.now.verify.now) }
-    ensures meter { S.kept meter.new
-        ≤ S.kept meter.old + storing 3 (S.stored state.old) }
+    ensures meter { S.kept meter.new ≤ S.kept meter.old + 8 + storing 3 (S.stored state.old) }
 {
-    let _entering = entering;
+    let asked = Asked {
+        label: stored_label(state, entering.label, meter),
+        clearance: stored_label(state, entering.clearance, meter),
+        verify: stored_label(state, entering.verify, meter),
+    };
+    if let Some(refusal) = refused_gate_enter(state, thread, gate, entering, &asked, meter) {
+        return refuse(reply, refusal);
+    }
     let entered = state.gate(gate.object, meter);
-    enter(state, thread, said, &entered, meter);
+    enter(state, thread, &asked, &entered, meter);
+    tell_done(state, reply);
     tell(&entered, reply);
 }

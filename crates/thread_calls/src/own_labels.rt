@@ -1,23 +1,24 @@
 //! The calls by which a thread changes its label and its clearance.
-#![tactic(auto, unfolding(kernel_rules::specs::Table::refused, kernel_rules::specs::Table::query_refused), using(kernel_store::proofs::SightLaws::kind_seen))]
+#![tactic(auto, unfolding(kernel_rules::specs::Table::refused, kernel_rules::specs::Table::query_refused), using(kernel_store::proofs::SightLaws::kind_seen, kernel_store::proofs::CallLaws::calls))]
 
-ghost use Rattle.std.specs.Prelude.{◌≡◌, ◌≤◌, ◌+◌, None, IfSome, option_copied};
-ghost use Rattle.label_lattice.specs.Label.{IsStored};
+ghost use Rattle.std.specs.Prelude.{◌≡◌, ◌≤◌, ◌+◌, option_copied};
 ghost use Rattle.label_rules.specs.LabelRules.{may_clear, stored};
 ghost use Rattle.kernel_rules.specs.State.{label_at, clearance_at};
-ghost use Rattle.kernel_rules.specs.Step.{edit};
+ghost use Rattle.kernel_rules.specs.Step.{answer, next};
 ghost use Rattle.kernel_rules.specs.Table.{refused};
 ghost use Rattle.kernel_rules.specs.declared.calls.Call.TheVariants as call;
 ghost use Rattle.kernel_store.specs.Storing.{storing};
 
 use base::{Meter, ObjectId, Refusal};
-use kernel_store::{Store, good_label, halted, is_in_range, refusal_of};
+use kernel_rules::Reply;
+use kernel_store::{
+    Store, good_label, halted, is_in_range, refusal_of, refuse, stored_label, tell_done,
+};
 use label_lattice::{Label, RawLabel};
 use label_rules::may_clear;
 
-/// What refuses a new own label, which is the stored one, where there is one.
-#[inline(never)]
-pub fn refused_self_set_label<S: Store>(
+// What refuses a new own label, which is the stored one, where there is one.
+fn refused_self_set_label<S: Store>(
     state: &S,
     thread: ObjectId,
     raw: &RawLabel,
@@ -36,25 +37,27 @@ pub fn refused_self_set_label<S: Store>(
     ])
 }
 
-/// The thread has another label, the stored one.
+/// The thread has another label, or is told what refuses it.
 #[inline(never)]
 pub fn self_set_label<S: Store>(
     state: &mut S,
     thread: ObjectId,
     raw: &RawLabel,
-    label: Option<&Label>,
+    reply: &mut Reply,
     meter: &mut Meter,
 )
-    requires free { refused (S.state state.old) thread (call.SelfSetLabel raw.now) ≡ None }
-    requires label { option_copied label ≡ stored raw.now }
-    requires fit { IfSome (option_copied label) IsStored }
+    ensures reply { reply.new ≡ answer (S.state state.old) thread (call.SelfSetLabel raw.now) }
     ensures state { S.state state.new
-        ≡ edit (S.state state.old) thread (call.SelfSetLabel raw.now) }
-    ensures meter { S.kept meter.new
-        ≤ S.kept meter.old + storing 1 (S.stored state.old) }
+        ≡ next (S.state state.old) thread (call.SelfSetLabel raw.now) }
+    ensures meter { S.kept meter.new ≤ S.kept meter.old + 3 + storing 1 (S.stored state.old) }
 {
-    let _raw = raw;
+    let label = stored_label(state, raw, meter);
+    let label = label.as_ref();
+    if let Some(refusal) = refused_self_set_label(state, thread, raw, label, meter) {
+        return refuse(reply, refusal);
+    }
     state.set_label(thread, label, meter);
+    tell_done(state, reply);
 }
 
 fn may_clear_to<S: Store>(
@@ -71,9 +74,8 @@ fn may_clear_to<S: Store>(
     may_clear(label, clearance, asked, meter)
 }
 
-/// What refuses a new own clearance, which is the stored one, where there is one.
-#[inline(never)]
-pub fn refused_self_set_clearance<S: Store>(
+// What refuses a new own clearance, which is the stored one, where there is one.
+fn refused_self_set_clearance<S: Store>(
     state: &S,
     thread: ObjectId,
     raw: &RawLabel,
@@ -92,22 +94,25 @@ pub fn refused_self_set_clearance<S: Store>(
     ])
 }
 
-/// The thread has another clearance, the stored one.
+/// The thread has another clearance, or is told what refuses it.
 #[inline(never)]
 pub fn self_set_clearance<S: Store>(
     state: &mut S,
     thread: ObjectId,
     raw: &RawLabel,
-    clearance: Option<&Label>,
+    reply: &mut Reply,
     meter: &mut Meter,
 )
-    requires clearance { option_copied clearance ≡ stored raw.now }
-    requires fit { IfSome (option_copied clearance) IsStored }
+    ensures reply { reply.new ≡ answer (S.state state.old) thread (call.SelfSetClearance raw.now) }
     ensures state { S.state state.new
-        ≡ edit (S.state state.old) thread (call.SelfSetClearance raw.now) }
-    ensures meter { S.kept meter.new
-        ≤ S.kept meter.old + storing 1 (S.stored state.old) }
+        ≡ next (S.state state.old) thread (call.SelfSetClearance raw.now) }
+    ensures meter { S.kept meter.new ≤ S.kept meter.old + 3 + storing 1 (S.stored state.old) }
 {
-    let _raw = raw;
+    let clearance = stored_label(state, raw, meter);
+    let clearance = clearance.as_ref();
+    if let Some(refusal) = refused_self_set_clearance(state, thread, raw, clearance, meter) {
+        return refuse(reply, refusal);
+    }
     state.set_clearance(thread, clearance, meter);
+    tell_done(state, reply);
 }

@@ -1,28 +1,24 @@
 //! The calls that make threads, give them an address space, and tell what they are.
-#![tactic(auto, unfolding(kernel_rules::specs::Table::refused, kernel_rules::specs::Table::query_refused), using(kernel_store::proofs::SightLaws::kind_seen))]
+#![tactic(auto, unfolding(kernel_rules::specs::Table::refused, kernel_rules::specs::Table::query_refused), using(kernel_store::proofs::SightLaws::kind_seen, kernel_store::proofs::CallLaws::calls))]
 
-ghost use Rattle.std.specs.Prelude.{◌≡◌, ◌≤◌, ◌+◌, None, IfOk, IfSome, OnOk, OnErr};
-ghost use Rattle.std.specs.Prelude.{option_copied};
-ghost use Rattle.label_lattice.specs.Label.{IsStored};
+ghost use Rattle.std.specs.Prelude.{◌≡◌, ◌≤◌, ◌+◌, OnOk, OnErr, option_copied};
 ghost use Rattle.label_rules.specs.LabelRules.{stored};
-ghost use Rattle.kernel_rules.specs.Step.{accepted, edit, found};
+ghost use Rattle.kernel_rules.specs.Step.{answer, next, query_answer};
 ghost use Rattle.kernel_rules.specs.Table.{refused, query_refused};
 ghost use Rattle.kernel_rules.specs.declared.calls.Call.TheVariants as call;
 ghost use Rattle.kernel_rules.specs.declared.calls.Query.TheVariants as query;
-ghost use Rattle.kernel_rules.specs.declared.replies.Reply.TheVariants as told;
 ghost use Rattle.kernel_store.specs.Storing.{storing};
 
 use base::{Kind, Meter, ObjectId, Refusal};
 use kernel_rules::{Entry, NewThread, Reply};
 use kernel_store::{
-    NewObject, Store, halted, halted_at, halted_by, in_container, new_bearer, refusal_of,
-    space_entry,
+    NewObject, Store, halted, halted_at, halted_by, in_container, new_bearer, refusal_of, refuse,
+    space_entry, stored_label, tell_done, tell_object,
 };
 use label_lattice::Label;
 
-/// What refuses another address space.
-#[inline(never)]
-pub fn refused_self_set_as<S: Store>(
+// What refuses another address space.
+fn refused_self_set_as<S: Store>(
     state: &S,
     thread: ObjectId,
     space: &Entry,
@@ -35,20 +31,29 @@ pub fn refused_self_set_as<S: Store>(
     refusal_of(&[&halted_at(&seen), &space_entry(space, &seen)])
 }
 
-/// The thread has another address space.
+/// The thread has another address space, or is told what refuses it.
 #[inline(never)]
-pub fn self_set_as<S: Store>(state: &mut S, thread: ObjectId, space: &Entry, meter: &mut Meter)
-    requires { refused (S.state state.old) thread (call.SelfSetAs space.now) ≡ None }
+pub fn self_set_as<S: Store>(
+    state: &mut S,
+    thread: ObjectId,
+    space: &Entry,
+    reply: &mut Reply,
+    meter: &mut Meter,
+)
+    ensures reply { reply.new ≡ answer (S.state state.old) thread (call.SelfSetAs space.now) }
     ensures state { S.state state.new
-        ≡ edit (S.state state.old) thread (call.SelfSetAs space.now) }
+        ≡ next (S.state state.old) thread (call.SelfSetAs space.now) }
     ensures meter { S.kept meter.new ≡ S.kept meter.old }
 {
+    if let Some(refusal) = refused_self_set_as(state, thread, space, meter) {
+        return refuse(reply, refusal);
+    }
     state.set_space(thread, *space, meter);
+    tell_done(state, reply);
 }
 
-/// What refuses to make a thread, whose label and clearance are the stored ones, where there are any.
-#[inline(never)]
-pub fn refused_thread_create<S: Store>(
+// What refuses to make a thread, whose label and clearance are the stored ones, where there are any.
+fn refused_thread_create<S: Store>(
     state: &S,
     thread: ObjectId,
     made: &NewThread,
@@ -75,31 +80,33 @@ pub fn refused_thread_create<S: Store>(
     ])
 }
 
-/// Makes a thread of this label and clearance. The error is want of memory, and nothing is changed then.
+/// Makes a thread, or tells what refuses to. The error is want of memory, and nothing is changed then.
 #[inline(never)]
 pub fn thread_create<S: Store>(
     state: &mut S,
     thread: ObjectId,
     made: &NewThread,
-    label: Option<&Label>,
-    clearance: Option<&Label>,
+    reply: &mut Reply,
     meter: &mut Meter,
-) -> Result<ObjectId, S::Want>
-    requires free { refused (S.state state.old) thread (call.ThreadCreate made.now) ≡ None }
-    requires label { option_copied label ≡ stored made.now.label }
-    requires clearance { option_copied clearance ≡ stored made.now.clearance }
-    requires label_fit { IfSome (option_copied label) IsStored }
-    requires clearance_fit { IfSome (option_copied clearance) IsStored }
-    ensures object { IfOk result (λ id. told.Object id ≡ accepted (S.state state.old) thread
-        (call.ThreadCreate made.now)) }
-    ensures ok { OnOk result (S.state state.new ≡ edit (S.state state.old) thread
-        (call.ThreadCreate made.now)) }
+) -> Result<(), S::Want>
+    ensures reply { OnOk result (reply.new
+        ≡ answer (S.state state.old) thread (call.ThreadCreate made.now)) }
+    ensures ok { OnOk result (S.state state.new
+        ≡ next (S.state state.old) thread (call.ThreadCreate made.now)) }
     ensures err { OnErr result (S.state state.new ≡ S.state state.old) }
-    ensures meter { S.kept meter.new
-        ≤ S.kept meter.old + storing 3 (S.stored state.old) }
+    ensures meter { S.kept meter.new ≤ S.kept meter.old + 5 + storing 3 (S.stored state.old) }
 {
+    let label = stored_label(state, &made.label, meter);
+    let label = label.as_ref();
+    let clearance = stored_label(state, &made.clearance, meter);
+    let clearance = clearance.as_ref();
+    if let Some(refusal) = refused_thread_create(state, thread, made, label, clearance, meter) {
+        refuse(reply, refusal);
+        return Ok(());
+    }
     let Some(clearance) = clearance else {
-        return Ok(state.next_id());
+        tell_object(state, state.next_id(), reply);
+        return Ok(());
     };
     let id = state.create_thread(
         made.container,
@@ -109,42 +116,45 @@ pub fn thread_create<S: Store>(
         made.entry_point,
         meter,
     )?;
-    Ok(id)
+    tell_object(state, id, reply);
+    Ok(())
 }
 
-/// What refuses to tell what the caller is.
-#[inline(never)]
-pub fn refused_self_get<S: Store>(state: &S, thread: ObjectId, meter: &mut Meter) -> Option<Refusal>
+// What refuses to tell what the caller is.
+fn refused_self_get<S: Store>(state: &S, thread: ObjectId, meter: &mut Meter) -> Option<Refusal>
     ensures value { result ≡ query_refused (S.state state.now) thread query.SelfGet }
     ensures meter { S.kept meter.new ≡ S.kept meter.old }
 {
     refusal_of(&[&halted(state, thread, meter)])
 }
 
-/// What the caller is.
+/// What the caller is, or what refuses to tell it.
+#[inline(never)]
 pub fn self_get<S: Store>(state: &S, thread: ObjectId, reply: &mut Reply, meter: &mut Meter)
-    requires { reply.old ≡ told.Done }
-    ensures value { reply.new ≡ found (S.state state.now) thread query.SelfGet }
+    ensures value { reply.new ≡ query_answer (S.state state.now) thread query.SelfGet }
     ensures meter { S.kept meter.new ≡ S.kept meter.old }
 {
-    if let (Some(own), Some(label)) = (
-        state.thread(thread, meter),
-        state.label(thread, meter).copied(),
-    ) {
-        *reply = Reply::Own {
-            label,
-            clearance: own.clearance,
-            verify: own.verify,
-            space: own.space,
-            entry_point: own.entry_point,
-            closure: own.closure,
-        };
+    if let Some(refusal) = refused_self_get(state, thread, meter) {
+        return refuse(reply, refusal);
+    }
+    let label = state.label(thread, meter).copied();
+    match (state.thread(thread, meter), label) {
+        (Some(own), Some(label)) => {
+            *reply = Reply::Own {
+                label,
+                clearance: own.clearance,
+                verify: own.verify,
+                space: own.space,
+                entry_point: own.entry_point,
+                closure: own.closure,
+            };
+        }
+        _ => tell_done(state, reply),
     }
 }
 
-/// What refuses to tell the label of an object.
-#[inline(never)]
-pub fn refused_obj_label<S: Store>(
+// What refuses to tell the label of an object.
+fn refused_obj_label<S: Store>(
     state: &S,
     thread: ObjectId,
     entry: &Entry,
@@ -162,7 +172,8 @@ pub fn refused_obj_label<S: Store>(
     ])
 }
 
-/// The label of an object.
+/// The label of an object, or what refuses to tell it.
+#[inline(never)]
 pub fn obj_label<S: Store>(
     state: &S,
     thread: ObjectId,
@@ -170,11 +181,14 @@ pub fn obj_label<S: Store>(
     reply: &mut Reply,
     meter: &mut Meter,
 )
-    requires { reply.old ≡ told.Done }
-    ensures value { reply.new ≡ found (S.state state.now) thread (query.ObjLabel entry.now) }
+    ensures value { reply.new ≡ query_answer (S.state state.now) thread (query.ObjLabel entry.now) }
     ensures meter { S.kept meter.new ≡ S.kept meter.old }
 {
-    if let Some(label) = state.label(entry.object, meter) {
-        *reply = Reply::Label(*label);
+    if let Some(refusal) = refused_obj_label(state, thread, entry, meter) {
+        return refuse(reply, refusal);
+    }
+    match state.label(entry.object, meter) {
+        None => tell_done(state, reply),
+        Some(label) => *reply = Reply::Label(*label),
     }
 }
