@@ -7,7 +7,8 @@ import re
 # The files whose names the prover itself reads.
 READ_BY_PROVER = ("Invariants.antt", "Answers.antt", "Proof.antt")
 WORD = re.compile(r"[^\s(){}\[\],.;@\"]+")
-SIGNATURE = re.compile(r"^ {0,2}(?:(?:pub|abbrev|unfoldable|private) )*([^\s(){}\[\],.;:\"]+) : ")
+MODIFIERS = ("pub", "abbrev", "unfoldable", "private")
+SIGNATURE = re.compile(rf"^ {{0,2}}(?:(?:{'|'.join(MODIFIERS)}) )*([^\s(){{}}\[\],.;:\"]+) : ")
 
 
 def files_of(pattern):
@@ -15,8 +16,9 @@ def files_of(pattern):
 
 
 def lines_of(file):
+    """A file's lines without their comments."""
     with open(file, encoding="utf-8") as it:
-        return [line.partition("--")[0] for line in it.read().split("\n")]
+        return [line.partition("--" if file.endswith(".antt") else "//")[0] for line in it.read().split("\n")]
 
 
 def definitions(file):
@@ -26,28 +28,40 @@ def definitions(file):
     return [found[1] for found in map(SIGNATURE.match, lines_of(file)) if found]
 
 
-def own_lines(line, name):
-    """Whether a line states or begins to define a name: what it says of itself is no citation."""
-    return re.match(rf"\s*(?:(?:pub|abbrev|unfoldable|private) )*{re.escape(name)}(?:\s|$)", line) is not None
+def citations_in(file):
+    """The words of a file that cite something: neither the name that a line states, nor that of a clause of it."""
+    stated = None
+    for line in lines_of(file):
+        signature = SIGNATURE.match(line)
+        words = WORD.findall(line)
+        if signature:
+            stated = signature[1]
+            yield from words[words.index(stated) + 1 :]
+        elif words[:1] == [stated]:
+            yield from words[1:]
+        else:
+            yield from words
 
 
 def citations():
-    """How often each word stands in a file, but at the beginning of a line that defines it; and the parts of operators."""
-    counts = collections.Counter()
-    for file in [*files_of("crates/*/specs/**/*.antt"), *files_of("crates/*/proofs/**/*.antt"), *files_of("crates/*/src/**/*.rt")]:
-        for line in lines_of(file) if file.endswith(".antt") else open(file, encoding="utf-8"):
-            words = WORD.findall(line)
-            if words and own_lines(line, words[0] if words[0] not in ("pub", "abbrev", "unfoldable") else words[min(1, len(words) - 1)]):
-                words = words[1:]
-            counts.update(words)
-    return counts
+    """How often each word is cited."""
+    patterns = ("specs/**/*.antt", "proofs/**/*.antt", "src/**/*.rt")
+    return collections.Counter(word for it in patterns for file in files_of(f"crates/*/{it}") for word in citations_in(file))
 
 
 def uncited():
-    """Each definition that nothing cites, with its file."""
+    """Each definition that nothing cites, with its file. (An operator is cited by its parts, and isn't looked for.)"""
     counts = citations()
     for file in [*files_of("crates/*/specs/**/*.antt"), *files_of("crates/*/proofs/**/*.antt")]:
         for name in definitions(file):
-            is_operator = "◌" in name
-            if not is_operator and counts[name] == 0:
+            if "◌" not in name and counts[name] == 0:
                 yield file, name
+
+
+def tell(report):
+    """Counts whether each definition and lemma is cited, and tells those that aren't."""
+    report.heading("Definitions and lemmas")
+    found = list(uncited())
+    for file, name in found:
+        report.say(f"{file}: nothing cites {name}")
+    report.counts(not found, f"definitions and lemmas that nothing cites: {len(found)}")

@@ -79,12 +79,6 @@ module _ (lists : List (List ℕ)) (slot : ℕ) where
         | inr apart ↦ inr (h.0, h.1, subst (λ (zs : List ℕ). StandsAt zs h.1 c) (get_or-set_other lists slot h.0 ys [] apart) h.2)
       ]
 
-  pub hooked_emptied : (c : ℕ) → IsHooked (set lists slot []) c → IsHooked lists c
-  hooked_emptied c h = elim (hooked_in_set [] c h) [
-    | inl s ↦ absurd (omega (arith, s.1.within))
-    | inr there ↦ there
-  ]
-
   module _ (cell : ℕ) where
     -- what stands in the list with one more
     in_longer : (k c : ℕ) → StandsAt (list_at lists slot ++ cell ∷ []) k c → (c ≡ cell) ⊎ IsHooked lists c

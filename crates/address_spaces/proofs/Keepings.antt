@@ -53,32 +53,6 @@ module _ (ms : List (List (Option Mapping))) (segments threads : Lists) (marks :
   pub row_long : (space : ℕ) → space < length ms → length (places_at ms space) ≡ 16
   row_long space below = s.places space [] below
 
-  -- another list of threads
-  pub threads_kept : (threads' : Lists) → length threads'.lists ≡ length threads.lists → threads'.cells ≡ threads.cells → IsKept ms segments threads' marks
-  threads_kept threads' count cells = record {
-    places = s.places;
-    fits = s.fits;
-    segment_count = s.segment_count;
-    space_count = count ∙ s.space_count;
-    mapping_cells = s.mapping_cells;
-    thread_cells = cells ∙ s.thread_cells;
-    mapped = s.mapped;
-    marked = s.marked;
-  }
-
-  -- fewer cells are hooked
-  pub fewer_kept : (segments' : Lists) → length segments'.lists ≡ length segments.lists → segments'.cells ≡ segments.cells → ((c : ℕ) → IsHooked segments'.lists c → IsHooked segments.lists c) → IsKept ms segments' threads marks
-  fewer_kept segments' count cells were = record {
-    places = s.places;
-    fits = s.fits;
-    segment_count = count ∙ s.segment_count;
-    space_count = s.space_count;
-    mapping_cells = cells ∙ s.mapping_cells;
-    thread_cells = s.thread_cells;
-    mapped = λ c h. s.mapped c (were c h);
-    marked = s.marked;
-  }
-
   -- another mapping at a place
   module _ (space place : ℕ) (m : Option Mapping) (segments' : Lists) (marks' : List Bool) (below : space < length ms) (within : place < 16) (count : length segments'.lists ≡ length segments.lists) (cells : segments'.cells ≡ segments.cells) where
     pub mapping_kept : ((c : ℕ) → IsHooked segments'.lists c → IsSome (mapping_at (with_mapping ms space place m) (c / 16) (c % 16))) → AreMarked (with_mapping ms space place m) marks' → IsKept (with_mapping ms space place m) segments' threads marks'

@@ -6,4 +6,3 @@ pub mod Placings
 pub mod Markings
 pub mod Keepings
 pub mod Emptyings
-pub mod Callers

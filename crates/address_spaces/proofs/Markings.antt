@@ -47,12 +47,6 @@ marked_on marks o q was =
     by (inl same) = inl (ap (λ (x : ℕ). mark_place x (length marks)) same)
     by (inr on) = inr on
 
--- no mapping is of an object whose mark is not set
-pub unmarked : (ms : List (List (Option Mapping))) (marks : List Bool) (o : ℕ) → AreMarked ms marks → is_marked marks o ≡ false
-    → (space place : ℕ) (m : Mapping) → mapping_at ms space place ≡ Some m → m.entry.object ≢ o
-unmarked ms marks o all off space place m is same =
-    absurd (both_ways (is_marked marks o) off (sym (ap (is_marked marks) same) ∙ all space place m is))
-
 -- a mapping after a write is what was written, or stood there
 module _ (ms : List (List (Option Mapping))) (space place : ℕ) (m : Option Mapping) (below : space < length ms) (within : place < length (places_at ms space)) where
   written_or_old : (a b : ℕ) (x : Option Mapping) → mapping_at (with_mapping ms space place m) a b ≡ x → (m ≡ x) ⊎ (mapping_at ms a b ≡ x)

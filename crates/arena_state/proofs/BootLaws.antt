@@ -31,16 +31,6 @@ use Rattle.arena_state.specs.Rows.{rows_of}
 use Rattle.arena_state.specs.Assembled.{pieces_state, objects_in, record_in, assembled, blank, fresh_record, fresh_thread, claims, claims_in, use_in, body_use}
 use Rattle.arena_state.specs.Sound.{IsSound}
 
-pub first_next : (l : Limits) → in_range l ≡ true → 4 ≤ l.next_id
-first_next l h = leb-true 4 l.next_id (and_parts _ _ (and_parts _ _ (and_parts _ _ (and_parts _ _ h).0).0).0).1
-
-pub some_pages : (l : Limits) → in_range l ≡ true → 1 ≤ l.pages
-some_pages l h =
-    let eight : 8 ≤ l.pages = leb-true 8 l.pages
-    (and_parts _ _
-    (and_parts _ _ (and_parts _ _ (and_parts _ _ (and_parts _ _ (and_parts _ _ h).0).0).0).0).0).0 in
-    omega arith
-
 pub empty_first : (n i : ℕ) → held_at (replicate n None) i ≡ None
 empty_first n i = elim (cases_lt i n) [
   | inl within ↦ get_or-replicate n i None None within

@@ -85,10 +85,6 @@ module _ (p q : Pieces) (h : IsHeld p q) where
       → whole_state q ≡ changed (whole_state p) id f
   held_state s id f apart is' = (λ i. filled_state (λ o. content_held o i) (is' i)) ∙ whole_changed p s id f apart
 
-  -- and none
-  pub still_state : pieces_state q ≡ pieces_state p → whole_state q ≡ whole_state p
-  still_state is' = (λ i. filled_state (λ o. content_held o i) (is' i))
-
 -- what is read off the bodies of records of which one was set
 pub read_set : {X : Type 0} (f : kept.Kept → X) (items : List Record) (slot : ℕ) (r : Record) → slot < length items
     → f r.body ≡ f (record_in items slot).body → (x : ℕ) → f (record_in (set items slot r) x).body ≡ f (record_in items x).body

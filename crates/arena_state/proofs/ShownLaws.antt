@@ -182,9 +182,6 @@ set_tells s id slot other old thread row on within named is shows = record {
 pub record AreMade (a : ArenaState) (rows : BySlot) (n : ℕ) : Type 0 where
   pub made : (id slot : ℕ) (h : HasSlot a.pieces.places id slot) → h.place < n → Tells (state_of a) id rows slot
 
-pub none_made : (a : ArenaState) (rows : BySlot) → AreMade a rows 0
-none_made a rows = record { made = λ id slot h lt. absurd (omega (arith, lt)) }
-
 pub more_made : (a : ArenaState) (old new : BySlot) (n thread : ℕ) → n < length (ids_in a.pieces.places.lists)
     → thread ≡ get_or (ids_in a.pieces.places.lists) n 0 → AreMade a old n
     → ((slot : ℕ) → HasSlot a.pieces.places thread slot → Tells (state_of a) thread new slot)
@@ -215,13 +212,6 @@ all_made a rows n le size made = record {
   kept = λ id slot h. (made.made id slot h (omega (arith, h.within, le))).row;
   named = λ id slot h. (made.made id slot h (omega (arith, h.within, le))).thread;
 }
-
--- an object's slot has a row, which says what is shown
-pub row_there : (a : ArenaState) (rows : BySlot) → AreKept a rows → (id slot : ℕ) → HasSlot a.pieces.places id slot
-    → slot < slot_count rows
-row_there a rows k id slot h =
-    let within : slot < length a.pieces.places.cells = slot_in_pool a.pieces a.sound id slot h in
-    omega (arith, within, k.size, a.sound.cells)
 
 -- what is kept stays so where each object keeps its slot and what it is shown
 pub rows_stay : (a b : ArenaState) (rows : BySlot) → AreKept a rows → b.pieces.places ≡ a.pieces.places

@@ -66,9 +66,6 @@ module _ (p q : Pieces) (s : IsSound p) (d o : ℕ) (u : IsUnlinked p q d o) whe
   abbrev stays : ℕ → Bool
   stays i = is_live (cut_lists p.places.lists d o) i
 
-  abbrev old_records : List Record
-  old_records = p.holdings.records.items
-
   pub slot_of : ℕ → ℕ
   slot_of i = row_slot (lookup (is_at (nat_cmp i)) (rows_of p.places.lists p.places.slots))
 

@@ -88,34 +88,8 @@ lists_of-set_value o (e ∷ es) x y found same =
       | false ↦ λ f. ap (λ t. (e.0, listed e.1.body) ∷ t) (lists_of-set_value o es x y f same)
     ] found
 
--- an edit of one object that leaves its list leaves all lists
-pub lists_of-changed : (s : State) (o : ℕ) (f : Object → Object)
-    → ((x : Object) → listed (f x).body ≡ listed x.body) → lists_of (changed s o f).objects ≡ lists_of s.objects
-lists_of-changed s o f same =
-    elim (object_at s o)
-    as (λ v. object_at s o ≡ v → lists_of (of_object s (λ x. put s o (f x)) v).objects ≡ lists_of s.objects) [
-      | None ↦ λ is. refl
-      | Some x ↦ λ is. lists_of-set_value o s.objects x (f x) is (same x)
-    ] refl
-
 pub restricted_live : (s : State) → are_live (lists_of s.objects) ≡ true → restricted s ≡ s
 restricted_live s h = (λ i. record s { objects = live_part-all s.objects h i })
-
-pub listed-rebyte : (f : List ℕ → List ℕ) (b : body.Body) → listed (rebyte f b) ≡ listed b
-listed-rebyte f (is.Segment bytes) = refl
-listed-rebyte f (is.Container avoid list) = refl
-listed-rebyte f (is.AddressSpace slots) = refl
-listed-rebyte f (is.Thread t) = refl
-listed-rebyte f (is.Gate g) = refl
-listed-rebyte f (is.Device packets) = refl
-
-pub listed-rethread : (f : thread.Thread → thread.Thread) (b : body.Body) → listed (rethread f b) ≡ listed b
-listed-rethread f (is.Thread t) = refl
-listed-rethread f (is.Segment bytes) = refl
-listed-rethread f (is.Container avoid list) = refl
-listed-rethread f (is.AddressSpace slots) = refl
-listed-rethread f (is.Gate g) = refl
-listed-rethread f (is.Device packets) = refl
 
 pub next_id-changed : (s : State) (o : ℕ) (f : Object → Object) → (changed s o f).next_id ≡ s.next_id
 next_id-changed s o f =

@@ -80,11 +80,6 @@ none_hold (c ∷ row) h =
       | false ↦ λ e. (refl, none_hold row e)
     ] h
 
--- the refusal of two rows, one after the other
-pub joined_rows : (a b : Row) (p q : Option Refusal) → p ≡ refusal_of a → q ≡ refusal_of b
-    → least_of p q ≡ refusal_of (a ++ b)
-joined_rows a b p q first second = (λ i. least_of (first i) (second i)) ∙ sym (appended a b)
-
 -- a refusal and what is left of a row, one condition on
 pub held_more : (a b : Option Refusal) (row : Row) (i : ℕ) (d : Refusal × Bool) → i < length row
     → (get_or row i d).1 ≡ true → least_of a (refusal_of (drop i row)) ≡ b

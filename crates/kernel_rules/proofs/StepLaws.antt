@@ -41,18 +41,5 @@ pub step_sound : (s : State) (t : ℕ) (c : Call) → refused s t c ≡ None →
 step_sound s t c h sound =
     (step_done s t c h).1 ∙ restricted_live (edit s t c) (soundness_of (edit s t c) sound).live
 
-pub then_on : {A E X : Type 0} (r : Result A E) (a b c : X) → OnOk r (a ≡ b) → b ≡ c → OnOk r (a ≡ c)
-then_on (Ok x) a b c h e = h ∙ e
-then_on (Err x) a b c h e = h
-
-pub then_if : {A E : Type 0} (r : Result A E) (a b : A) → IfOk r (λ x. x ≡ a) → a ≡ b → IfOk r (λ x. x ≡ b)
-then_if (Ok x) a b h e = h ∙ e
-then_if (Err x) a b h e = h
-
--- a value that is there is what the state is made of
-pub with_there : {X : Type 0} (s : State) (v : Option X) (x : X) (f : X → State) → v ≡ Some x
-    → with_value s v f ≡ f x
-with_there s v x f h = ap (λ w. with_value s w f) h
-
 pub not_both : {X : Type 0} (v : Option X) → v ≡ None → is_none v ≡ false → ⊥
 not_both v none some = both_ways (is_none v) some (ap is_none none)

@@ -231,10 +231,6 @@ observes s t o = both visible (label_at s o) (label_at s t)
 abbrev pub flows_to : State → ℕ → ℕ → Bool
 flows_to s t o = both below (label_at s t) (label_at s o)
 
--- thread t modifies o: it observes it, and its label is at most o's
-abbrev pub modifies : State → ℕ → ℕ → Bool
-modifies s t o = observes s t o && flows_to s t o
-
 -- thread t may name what container d lists: d is a live container that t observes
 abbrev pub is_accessible : State → ℕ → ℕ → Bool
 is_accessible s t d = is_live_kind s kinds.Container d && observes s t d

@@ -73,17 +73,3 @@ module _ (slots : List (Option Held)) (listed : List ℕ) (at : ℕ) (l : LabelV
           → Fills (n + 1) t before after
       of None e some is = absurd (false≢true some)
       of (Some g) e some is = fills_one n mid t before m after g filled width at_in free e (rw is at change) scans
-
-  -- the order against all labels was written
-  pub fills_all : (t : Table) (before after : Counts) → IsListed slots listed → Fills (length listed) t before after → IsFilled slots at l old t
-  fills_all t before after s filled = record {
-    width = filled.width;
-    own = filled.own;
-    forth = λ j h at_j.
-        let p = s.all j (ap is_some at_j) in
-        rw (← p.2) (filled.forth p.0 h p.1 (rw (← p.2) at at_j));
-    back = λ j h at_j.
-        let p = s.all j (ap is_some at_j) in
-        rw (← p.2) (filled.back p.0 h p.1 (rw (← p.2) at at_j));
-    others = filled.others;
-  }

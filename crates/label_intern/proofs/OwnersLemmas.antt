@@ -21,9 +21,6 @@ one_other i j off =
     ] in
     ap {B = ℕ} (λ (b : Bool). cond b 1 0) apart
 
-pub takes_none : (ls : List (Option Held)) → Takes ls ls (λ i. 0)
-takes_none ls = record { owners = λ i. omega arith; labels = λ i h. refl; pool = refl }
-
 pub takes_then : (a b c : List (Option Held)) (m n : ℕ → ℕ) → Takes a b m → Takes b c n → Takes a c (λ i. m i + n i)
 takes_then a b c m n f g = record {
   owners = λ i. omega (arith, f.owners i, g.owners i);

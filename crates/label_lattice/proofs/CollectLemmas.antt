@@ -4,7 +4,6 @@ use Rattle.std.proofs.Common.{[]}
 use Rattle.std.proofs.Common.{◌∷◌, length, drop, get_or, refl, sym, ◌∙◌, subst, nat_lt, arith, ◌==◌}
 use Rattle.std.proofs.Common.{if◌then◌else◌, eq-eqb, nat_le, Some, None}
 use Rattle.std.proofs.Common.{add-one}
-use Rattle.std.proofs.Math.ListN.{drop_of_length-le}
 use Rattle.std.proofs.Math.Seq.{drop-cons}
 use Rattle.std.specs.List.{list_any}
 use Rattle.label_lattice.specs.Columns.{filler}
@@ -21,7 +20,7 @@ use Rattle.label_lattice.specs.Raw.{has_twice, differing, collected, collected_a
 use Rattle.label_lattice.proofs.LabelLemmas.{bool_cases}
 use Rattle.label_lattice.proofs.PlacedLemmas.{placed-same, placed-after, placed-before}
 use Rattle.label_lattice.proofs.PlacedLemmas.{placed-here, placed-other, placed-IsRising}
-use Rattle.label_lattice.proofs.PlacedLemmas.{placed-DiffersFrom, eq_false, lt_true, lt_false}
+use Rattle.label_lattice.proofs.PlacedLemmas.{placed-DiffersFrom, eq_false, lt_true}
 
 -- a pair of the list has the category
 abbrev pub any_at : ℕ → List Pair → Bool
@@ -145,18 +144,6 @@ collect_full d pairs i es p on head full =
     ∙ subst (λ (r : List Pair). length es + differing d r ≡ differing d pairs) head on.count in
     rw (lt_true 16 (differing d pairs) (omega arith)) (or_true (has_twice pairs))
 
--- at the end all is collected
-collect_done : (d : Level) (pairs : List Pair) (i : ℕ) (es : List Pair)
-    → CollectGoesOn d pairs i es → drop i pairs ≡ []
-    → ((has_twice pairs || nat_lt 16 (differing d pairs)) ≡ false) × (es ≡ collected d pairs [])
-collect_done d pairs i es on done =
-    let count : length es + 0 ≡ differing d pairs =
-    subst (λ (r : List Pair). length es + differing d r ≡ differing d pairs) done on.count in
-    let few : length es ≤ 16 = on.few in (
-      rw (on.once, lt_false 16 (differing d pairs) (omega arith)) refl,
-      subst (λ (r : List Pair). collected d r es ≡ collected d pairs []) done on.collects,
-    )
-
 pub collected-IsRising : (d : Level) (ps es : List Pair) → IsRising es
     → IsRising (collected d ps es)
 collected-IsRising d [] es h = h
@@ -225,14 +212,6 @@ pub collect_some : (d : Level) (pairs : List Pair) (i : ℕ) (es : List Pair)
 collect_some d pairs i es on within room =
     collect_step d pairs i es (get_or pairs i filler) on (head_at pairs i within)
     (le_means (length (placed d (get_or pairs i filler) es)) 16 (sym room))
-
--- the answer at the end
-pub collect_end : (d : Level) (pairs : List Pair) (i : ℕ) (es : List Pair)
-    → CollectGoesOn d pairs i es → length pairs ≤ i
-    → Some es ≡ collected_all d pairs
-collect_end d pairs i es on past =
-    let done = collect_done d pairs i es on (drop_of_length-le pairs past) in
-    rw (done.0, ← done.1) refl
 
 -- what was collected, from the answer
 pub collected_from : (d : Level) (pairs es : List Pair)

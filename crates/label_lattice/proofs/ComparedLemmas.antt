@@ -1,19 +1,11 @@
 -- Two lists that are compared place by place.
-use Rattle.std.proofs.Common.{◌≡◌, ℕ, zero, suc, ◌+◌, ◌<◌, List, [], ◌∷◌, length, drop, get_or, refl, arith, add-one, drop-cons, min, sym, ap, ◌∙◌, inl, inr}
+use Rattle.std.proofs.Common.{◌≡◌, ℕ, zero, suc, List, [], ◌∷◌, length, drop, refl, arith, min, sym, ap, ◌∙◌, inl, inr}
 use Rattle.std.specs.Cmp.{nat_cmp_is}
 use Rattle.std.specs.declared.cmp.Ordering.TheVariants.{Less, Equal, Greater}
 use Rattle.std.proofs.lemmas.Bool.{cases_order}
 use Rattle.std.specs.declared.cmp.Ordering.{Ordering}
-use Rattle.std.specs.Ordering.{nat_cmp, ordering_then}
+use Rattle.std.specs.Ordering.{nat_cmp}
 use Rattle.std.specs.Cmp.Lexicographic.{slice_cmp}
-
--- a place
-pub slice_cmp-drop : {K : Type 0} (R : K → K → Ordering) (xs ys : List K) (i : ℕ) (x : K)
-    → i < length xs → i < length ys
-    → slice_cmp R (drop i xs) (drop i ys)
-    ≡ ordering_then (R (get_or xs i x) (get_or ys i x)) (slice_cmp R (drop (i + 1) xs) (drop (i + 1) ys))
-slice_cmp-drop R xs ys i x one other =
-    rw (add-one, drop-cons xs i x one, drop-cons ys i x other) refl
 
 nat_cmp-suc : (m n : ℕ) → nat_cmp m n ≡ nat_cmp (suc m) (suc n)
 nat_cmp-suc m n =

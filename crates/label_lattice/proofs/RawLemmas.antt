@@ -16,7 +16,7 @@ use Rattle.label_lattice.specs.declared.raw_labels.RawLabel.{RawLabel}
 use Rattle.label_lattice.specs.Levels.{level_at, any_star, IsRising, IsAbove, DiffersFrom}
 use Rattle.label_lattice.specs.Label.{LabelValue, IsStored, has_star}
 use Rattle.label_lattice.specs.Raw.{has_twice, differing, collected, is_bad, is_made, all_made}
-use Rattle.label_lattice.specs.Raw.{is_bad_below, raw_has_star, raw_of, stored_of}
+use Rattle.label_lattice.specs.Raw.{raw_has_star, raw_of, stored_of}
 use Rattle.label_lattice.proofs.WalkLemmas.{level_at-same, level_at-other}
 use Rattle.label_lattice.proofs.LabelLemmas.{bool_cases, rank_of-injective, same_exceptions}
 use Rattle.label_lattice.proofs.LabelLemmas.{star_test, star_back, star_forth}
@@ -154,9 +154,3 @@ star_kept raw good =
       λ s. star_back raw.default raw.pairs s.0 parts.0 s.1,
     ) in
     rw same refl
-
--- a raw label that names a category that was not made
-pub bad_below : (next : ℕ) (raw : RawLabel) → all_made next raw.pairs ≡ false
-    → is_bad_below next raw ≡ true
-bad_below next raw unmade =
-    elim (bool_cases (is_bad raw)) [ inl bad ↦ rw bad refl | inr good ↦ rw (good, unmade) refl ]

@@ -6,7 +6,7 @@ use Rattle.std.proofs.lemmas.List.{get_or_append_left, get_or_push, get_or-take,
 use Rattle.object_arena.specs.Objects.{Objects, Rises, Apart, IsWithoutAll}
 use Rattle.object_arena.specs.Slots.{IsKept}
 use Rattle.object_arena.specs.Gaps.{Goes, IsVacated, HasGaps, CameFrom, IsClosing, IsClosed}
-use Rattle.object_arena.proofs.Kept.{one_place, not_both, two_slots, in_range_some, Apart-push, default}
+use Rattle.object_arena.proofs.Kept.{one_place, not_both, in_range_some, Apart-push, default}
 
 -- a slot has no object and has one
 both : {T : Type 0} (o : Option T) → o ≡ None → IsSome o → ⊥
@@ -42,15 +42,6 @@ goes_cases ids gone count place g = elim (cases_lt g.at count) [
 ]
 
 module _ {T : Type 0} (ids slots gone : List ℕ) (old : List (Option T)) where
-  pub vacated_start : IsVacated ids slots gone 0 old old (length ids)
-  vacated_start = record {
-    pool = refl;
-    in_range = omega arith;
-    before = λ place g. absurd (omega (arith, g.among));
-    empty = λ place g. absurd (omega (arith, g.among));
-    same = λ slot other. refl;
-  }
-
   -- the same under other names
   pub vacated_as : (count : ℕ) (new new' : List (Option T)) (first first' : ℕ) → new' ≡ new → first' ≡ first → IsVacated ids slots gone count old new first → IsVacated ids slots gone count old new' first'
   vacated_as count new new' first first' a b v =
@@ -299,18 +290,6 @@ module _ {T : Type 0} (ids slots spare gone : List ℕ) (cells cells' : List (Op
   other_slot : (slot : ℕ) → ((k : ℕ) → k < length ids → get_or slots k 0 ≡ slot → Goes ids gone (length gone) k → ⊥) → get_or cells' slot None ≡ get_or cells slot None
   other_slot slot other = v.same slot (λ k goes e. other k goes.within e goes)
 
-  pub gaps_of : HasGaps ids slots spare cells'
-  gaps_of = record {
-    beside = kept.beside;
-    total = omega (arith, kept.total, v.pool);
-    rising = kept.rising;
-    used = λ k lt. omega (arith, (kept.used k lt).0, v.pool);
-    unused = λ k lt. (let was = kept.unused k lt in (omega (arith, was.0, v.pool), other_slot (get_or spare k 0) (λ j in_ids e goes. two_slots cells (get_or slots j 0) (get_or spare k 0) (kept.used j (omega (arith, in_ids, kept.beside))).1 was.1 e) ∙ was.1));
-    slots_apart = kept.slots_apart;
-    spare_apart = kept.spare_apart;
-    parted = λ j k lj lk. two_slots cells (get_or slots j 0) (get_or spare k 0) (kept.used j lj).1 (kept.unused k lk).1;
-  }
-
   -- an id that stays keeps its object
   stays_there : (k : ℕ) → k < length ids → (Goes ids gone (length gone) k → ⊥) → get_or cells' (get_or slots k 0) None ≡ get_or cells (get_or slots k 0) None
   stays_there k lt not = other_slot (get_or slots k 0) (λ j in_ids e goes.
@@ -319,9 +298,6 @@ module _ {T : Type 0} (ids slots spare gone : List ℕ) (cells cells' : List (Op
 
   some_there : (k : ℕ) → k < length ids → (Goes ids gone (length gone) k → ⊥) → IsSome (get_or cells' (get_or slots k 0) None)
   some_there k lt not = subst (λ (o : Option T). IsSome o) (sym (stays_there k lt not)) (kept.used k (omega (arith, lt, kept.beside))).1
-
-  pub there_before : (k : ℕ) → k < first → IsSome (get_or cells' (get_or slots k 0) None)
-  there_before k lt = some_there k (omega (arith, lt, v.in_range)) (λ goes. absurd (omega (arith, v.before k goes)))
 
   among : (k : ℕ) → Goes ids gone (length gone) k → Contains gone (get_or ids k 0)
   among k goes = (goes.at, goes.among, sym (default gone goes.at (get_or ids k 0) goes.among) ∙ goes.id_is)

@@ -1,11 +1,10 @@
 -- What changes of an arena keep its hints.
 use Rattle.std.proofs.Common.{◌≡◌, ◌≢◌, ℕ, ◌+◌, ◌-◌, ◌<◌, ◌≤◌, ◌⊎◌, inl, inr, List, [], ◌∷◌, ◌++◌, length, get_or, Option, Some, None, refl, sym, ap, ◌∙◌, subst, arith, length-append}
-use Rattle.std.specs.Prelude.{Contains, remove, replicate, IfSome, IsSome}
+use Rattle.std.specs.Prelude.{Contains, remove, replicate, IfSome}
 use Rattle.std.proofs.lemmas.Bool.{cases_lt}
 use Rattle.std.proofs.lemmas.List.{get_or_append_left, get_or_push, get_or_past, get_or_default, get_or-replicate, length-replicate}
 use Rattle.std.proofs.lemmas.List.Edits.{get_or-remove_below, get_or-remove_above, length-remove}
-use Rattle.object_arena.specs.Objects.{Objects, object_at, IsEntry, IsWithoutAll}
-use Rattle.object_arena.specs.Slots.{IsKept}
+use Rattle.object_arena.specs.Objects.{Objects, IsEntry, IsWithoutAll}
 use Rattle.object_arena.specs.Hints.{blank, hint_at, hint_place, IsHint, AreHints, IsKeptHint, IsForgotten, IsHintCount}
 use Rattle.object_arena.specs.declared.hints.Hint.{Hint}
 
@@ -145,39 +144,6 @@ pub hints_as : (ids slots ids' slots' : List ℕ) (hints : List Hint) → AreHin
 hints_as ids slots ids' slots' hints are a b =
     subst (λ (xs : List ℕ). AreHints xs slots' hints) (sym a) (subst (λ (xs : List ℕ). AreHints ids xs hints) (sym b) are)
 
--- none is gone yet
-pub forgotten_start : (hints : List Hint) (gone : List ℕ) → IsForgotten hints hints gone 0
-forgotten_start hints gone = record { count = refl; each = λ k. inl refl; none = λ i lt. absurd (omega (arith, lt)) }
-
--- one more is
-pub forgotten_more : (old now new : List Hint) (gone : List ℕ) (many id : ℕ) → id ≡ get_or gone many 0 → IsForgotten old now gone many
-    → IsForgotten now new (id ∷ []) 1 → IsForgotten old new gone (many + 1)
-forgotten_more old now new gone many id is before after = record {
-  count = after.count ∙ before.count;
-  each = λ k. pick k (after.each k) (before.each k);
-  none = λ i lt some. elim (cases_lt i many) [
-    | inl was ↦ kept i was some (after.each (hint_place (get_or gone i 0) (length old)))
-    | inr last ↦
-        let same : i ≡ many = omega (arith, lt, last) in
-        let here : get_or gone i 0 ≡ id = ap (λ (j : ℕ). get_or gone j 0) same ∙ sym is in
-        λ e. after.none 0 (omega arith) (omega (arith, some, here))
-        (ap (λ (n : ℕ). (hint_at new (hint_place id n)).id) before.count ∙ ap (λ (x : ℕ). (hint_at new (hint_place x (length old))).id) (sym here) ∙ e ∙ here)
-  ];
-}
-  where
-    pick : (k : ℕ) → (hint_at new k ≡ hint_at now k) ⊎ (hint_at new k ≡ blank) → (hint_at now k ≡ hint_at old k) ⊎ (hint_at now k ≡ blank)
-        → (hint_at new k ≡ hint_at old k) ⊎ (hint_at new k ≡ blank)
-    pick k (inr none) _ = inr none
-    pick k (inl same) (inl stood) = inl (same ∙ stood)
-    pick k (inl same) (inr none) = inr (same ∙ none)
-
-    kept : (i : ℕ) → i < many → 0 < get_or gone i 0
-        → (hint_at new (hint_place (get_or gone i 0) (length old)) ≡ hint_at now (hint_place (get_or gone i 0) (length old)))
-        ⊎ (hint_at new (hint_place (get_or gone i 0) (length old)) ≡ blank)
-        → (hint_at new (hint_place (get_or gone i 0) (length old))).id ≢ get_or gone i 0
-    kept i lt some (inl same) e = before.none i lt some (ap (λ (h : Hint). h.id) (sym same) ∙ e)
-    kept i lt some (inr none) e = let zero : (hint_at new (hint_place (get_or gone i 0) (length old))).id ≡ 0 = ap (λ (h : Hint). h.id) none in absurd (omega (arith, e, zero, some))
-
 module _ {T : Type 0} where
   -- what is hinted of an id is its slot
   pub hinted_is : (a : Objects T) (hints hints' : List Hint) (id : ℕ) (found : Option ℕ) → hints' ≡ hints → AreHints a.ids a.slots hints
@@ -190,10 +156,3 @@ module _ {T : Type 0} where
       let id_is : (hint_at hints k).id ≡ id = ap (λ (h : Hint). h.id) here in
       let hint = are k (omega (arith, some, id_is)) in
       (hint.at, record { within = hint.within; id_is = hint.id_is ∙ id_is; slot_is = hint.slot_is ∙ ap (λ (h : Hint). h.slot) here })
-
-  -- and there is an object
-  pub entry_there : (a : Objects T) (spare : List ℕ) (id : ℕ) (found : Option ℕ) → IsKept a.ids a.slots spare a.cells
-      → IfSome found (λ slot. (place : ℕ) × IsEntry a place id slot) → IfSome found (λ slot. IsSome (object_at a slot))
-  entry_there a spare id None kept entry = entry
-  entry_there a spare id (Some slot) kept entry =
-      subst (λ (k : ℕ). IsSome (object_at a k)) entry.1.slot_is (kept.used entry.0 (omega (arith, kept.beside, entry.1.within))).1

@@ -1,5 +1,5 @@
 -- The steps of a search by halves.
-use Rattle.std.proofs.Common.{◌≡◌, ◌≢◌, ℕ, zero, suc, ◌+◌, ◌-◌, ◌*◌, ◌/◌, ◌^◌, ◌<◌, ◌≤◌, ◌⊎◌, inl, inr, min, List, length, get_or, sym, ap, ◌∙◌, subst, arith}
+use Rattle.std.proofs.Common.{◌≡◌, ◌≢◌, ℕ, zero, suc, ◌+◌, ◌-◌, ◌*◌, ◌/◌, ◌^◌, ◌<◌, ◌≤◌, ◌⊎◌, inl, inr, min, List, length, get_or, sym, ap, subst, arith}
 use Rattle.std.proofs.Math.Pow.{pow_mono}
 use Rattle.std.proofs.lemmas.Grind.{pow_more}
 use Rattle.std.proofs.lemmas.Bool.{cases_lt}
@@ -158,18 +158,6 @@ one_more old now more most few is =
       no_more = omega (arith, probes, few.no_more);
       scans = omega (arith, few.scans, scans);
     }
-
-pub none_more : (old new : Counts) (most : ℕ) → ProbesAtMost most old new → ProbesAtMost (most + 1) old new
-none_more old new most few =
-    record { no_fewer = few.no_fewer; no_more = omega (arith, few.no_more); scans = few.scans }
-
--- probes, and then others
-pub probes_then : (old now new : Counts) (m n : ℕ) → ProbesAtMost m old now → ProbesAtMost n now new → ProbesAtMost (m + n) old new
-probes_then old now new m n before after = record {
-  no_fewer = omega (arith, before.no_fewer, after.no_fewer);
-  no_more = omega (arith, before.no_more, after.no_more);
-  scans = after.scans ∙ before.scans;
-}
 
 -- no more than a larger number
 pub probes_within : (old new : Counts) (m n : ℕ) → m ≤ n → ProbesAtMost m old new → ProbesAtMost n old new

@@ -23,10 +23,6 @@ paged frames tables free kept = record {
 pub frame_within : (frames : List (List ℕ)) (tables : List (List ℕ)) (free : List ℕ) → IsKept frames tables free → (slot place : ℕ) → place < length (get_or tables slot []) → get_or (get_or tables slot []) place 0 < length frames
 frame_within frames tables free kept slot place lt = kept.within (suc slot) place lt
 
--- where fewer pages are had than there are slots, a frame is free
-pub some_free : (frames : List (List ℕ)) (tables : List (List ℕ)) (free : List ℕ) → IsKept frames tables free → page_total (map (pages_from frames) tables) < length tables → 0 < length free
-some_free frames tables free kept room = omega (arith, sum_by-map length length (pages_from frames) (length-pages frames) tables, sum_by-cons length free tables, kept.all, room)
-
 few_set : (tables : List (List ℕ)) (slot : ℕ) (t : List ℕ) → ((s : ℕ) → length (get_or tables s []) ≤ 16) → length t ≤ 16 → (s : ℕ) → length (get_or (set tables slot t) s []) ≤ 16
 few_set [] slot t all few s = all s
 few_set (u ∷ us) zero t all few zero = few

@@ -57,9 +57,6 @@ pub record ArgsRead (ks : List ArgKind) (text : List ℕ) (old items : List Arg)
   pub onward : (all : List Arg) → AreArgs ks all → text ≡ further_text all
       → (more : List Arg) × AreArgs (drop i ks) more × (rest ≡ further_text more)
 
-pub none_read : (ks : List ArgKind) (text : List ℕ) (old : List Arg) → ArgsRead ks text old old 0 text
-none_read ks text old = record { found = []; are = tt; front = refl; items_are = sym (append-nil old); onward = λ all are e. (all, are, e) }
-
 next_of : (k : ArgKind) (ks : List ArgKind) (rest after word left : List ℕ) (more : List Arg) → rest ≡ 32 ∷ after → after ≡ word ++ left → lacks 32 word ≡ true → IsRest left → AreArgs (k ∷ ks) more → rest ≡ further_text more → FirstArg k ks word left
 next_of k ks rest after word left [] space parts lack is are e = absurd are
 next_of k ks rest after word left (a ∷ more) space parts lack is are e =

@@ -39,11 +39,6 @@ byte_more word front out i high low before lt hb lb h l e =
     rw (n, take_more word (2 * i + 1) 0 lt, take_more word (2 * i) 0 (omega arith), before, h, l, e, encoded_more front (high * 16 + low), d, m)
     (append_assoc (encode_lower front) (get_or lower_digits high 0 ∷ []) (get_or lower_digits low 0 ∷ []))
 
--- data that isn't none
-pub some_data : (word bytes : List ℕ) → 0 < length bytes → word ≡ encode_lower bytes → word ≡ data_text bytes
-some_data word [] some e = absurd (omega arith)
-some_data word (b ∷ bytes) some e = e
-
 digits_of : (word v : List ℕ) (n i : ℕ) → word ≡ encode_lower v → length word ≡ 2 * n → i < n → DigitsAt word (2 * i) (get_or v i 0)
 digits_of word v n i e many lt =
     let len : length word ≡ 2 * length v = ap length e ∙ length-encode_with lower_digits v in

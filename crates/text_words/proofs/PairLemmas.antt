@@ -29,11 +29,6 @@ label_inside text v fits e = record { fit = fits.pairs; few = fits.few; is = e �
 pub inside_label : (text : List ℕ) (ps : List SpokenPair) (l : Level) → text ≡ pairs_text ps ++ level_text l → text ≡ inside_text (record { pairs = ps; default = l })
 inside_label text ps l h = h ∙ label_joined ps (level_text l)
 
--- what was read in the braces is what was read
-pub braced : (word text : List ℕ) (found : Option LabelValue) → word ≡ 123 ∷ (text ++ 125 ∷ []) → Reads inside_text IsLabel text found → Reads label_text IsLabel word found
-braced word text (Some v) e h = (h.0, e ∙ ap (λ (x : List ℕ). 123 ∷ (x ++ 125 ∷ [])) h.1)
-braced word text None e h = λ v fits is. h v fits (before_last text (inside_text v) 125 (let j = sym e ∙ is in cc))
-
 -- the pairs so far, and what may come after them
 pub record PairsRead (text : List ℕ) (pairs : List SpokenPair) (rest : List ℕ) : Type 0 where
   pub fit : AllByRecursion IsPair pairs
@@ -41,9 +36,6 @@ pub record PairsRead (text : List ℕ) (pairs : List SpokenPair) (rest : List �
   pub front : text ≡ pairs_text pairs ++ rest
   pub onward : (ps : List SpokenPair) (l : Level) → IsInside text ps l
       → (more : List SpokenPair) × IsInside rest more l × (length pairs + length more ≤ 24)
-
-pub none_read : (text : List ℕ) (pairs : List SpokenPair) → pairs ≡ [] → PairsRead text pairs text
-none_read text pairs e = rw e (record { fit = tt; few = omega arith; front = refl; onward = λ ps l is. (ps, is, (let few = is.few in omega arith)) })
 
 -- a pair that comes next
 pub record NextPair (part after : List ℕ) (l : Level) (many : ℕ) : Type 0 where

@@ -1,4 +1,4 @@
-use Rattle.std.proofs.Common.{◌+◌, ◌/◌, ◌<◌, ◌≤◌, ℕ, length, subst, arith}
+use Rattle.std.proofs.Common.{◌+◌, ◌/◌, ◌<◌, ◌≤◌, length, subst, arith}
 use Rattle.object_arena.specs.Objects.{Objects, binary_digits}
 use Rattle.object_arena.proofs.SearchSteps.{digits_fewer, digit_less, probes_few}
 use Rattle.object_arena.proofs.arena.Arena.hint_of.Given as given
