@@ -1,12 +1,10 @@
-use Rattle.std.proofs.Common.{◌≡◌, ◌≢◌, ℕ, ◌+◌, ◌*◌, ◌<◌, List, Option, Some, None, length, get_or, is_some, IsSome, IfSome, refl, sym, ◌∙◌, ap, inl, inr, arith}
+use Rattle.std.proofs.Common.{◌≡◌, ◌≢◌, ℕ, ◌+◌, ◌*◌, ◌<◌, List, Option, Some, None, length, get_or, IsSome, IfSome, refl, sym, ◌∙◌, ap, inl, inr, arith}
 use Rattle.base.specs.Counts.{Counts, scanned, ScansAtMost}
 use Rattle.label_lattice.specs.Label.{LabelValue}
 use Rattle.label_lattice.specs.Bits.{bits_of}
 use Rattle.label_intern.specs.declared.held.Held.{Held}
 use Rattle.label_intern.specs.declared.table.Table.{Table}
 use Rattle.label_intern.specs.Held.{held_at}
-use Rattle.label_intern.specs.Fill.{IsFilled}
-use Rattle.label_intern.specs.Listed.{IsListed}
 use Rattle.label_intern.specs.Table.{cell, ChangesPair}
 use Rattle.label_intern.proofs.CountsLemmas.{scans_some, scans_both}
 use Rattle.label_intern.proofs.HeldLemmas.{held_within}
