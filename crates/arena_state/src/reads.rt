@@ -171,7 +171,7 @@ impl ArenaState {
     {
         match self.row(container, meter) {
             Some(row) => match &row.body {
-                Kept::Container(avoid, _) => kinds.with(*avoid),
+                Kept::Container(avoid, _) => kinds | *avoid,
                 _ => kinds,
             },
             None => kinds,

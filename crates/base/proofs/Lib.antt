@@ -1,2 +1,3 @@
 pub mod PaddedLaws
 pub mod LiveLaw
+pub mod SetBitFacts

@@ -5,3 +5,5 @@ pub mod Padded
 pub mod Limits
 pub mod Sets
 pub mod Live
+pub mod SetBits
+pub mod SetBitLaws

@@ -7,6 +7,7 @@
 
 mod bytes;
 mod ids;
+mod kind_bits;
 mod kinds;
 mod levels;
 mod liveness;
@@ -14,6 +15,7 @@ mod memory;
 mod meters;
 mod ranges;
 mod refusals;
+mod right_bits;
 mod sets;
 
 pub use bytes::Data;

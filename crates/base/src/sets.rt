@@ -1,6 +1,6 @@
 //! Sets of rights and of kinds.
 ghost use Rattle.std.specs.Prelude.{◌≡◌};
-ghost use Rattle.base.specs.Sets.{no_kind, only, has_kind, union, no_right, reading};
+ghost use Rattle.base.specs.Sets.{no_kind, only, has_kind, no_right, reading};
 
 use crate::kinds::Kind;
 
@@ -108,20 +108,6 @@ impl TypeSet {
             Kind::Thread => self.thread,
             Kind::Gate => self.gate,
             Kind::Device => self.device,
-        }
-    }
-
-    /// The kinds of either set.
-    pub fn with(self, other: TypeSet) -> TypeSet
-        ensures { result ≡ union self other }
-    {
-        TypeSet {
-            container: self.container || other.container,
-            segment: self.segment || other.segment,
-            address_space: self.address_space || other.address_space,
-            thread: self.thread || other.thread,
-            gate: self.gate || other.gate,
-            device: self.device || other.device,
         }
     }
 }

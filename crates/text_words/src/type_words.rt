@@ -38,7 +38,7 @@ fn gathered(word: &[u8]) -> TypeSet
 {
     let mut set = TypeSet::none();
     for letter in word {
-        set = set.with(set_of(*letter));
+        set = set | set_of(*letter);
     }
     set
 }

@@ -1,5 +1,6 @@
 //! The words: each public call once, with values from the table.
 use base::{Data, Kind, Level, Limits, Meter, ObjectId, Refusal, Rights, TypeSet, live_by_path};
+use bitflags::Flags;
 use std::test::Fail;
 
 #[test]
@@ -27,8 +28,42 @@ fn words_are_those_of_the_table(rt: HostRuntime) {
 }
 
 #[test]
+fn sets_are_changed_as_sets_of_bits(rt: HostRuntime) {
+    let mut set = TypeSet::SEGMENT | TypeSet::GATE;
+    set.insert(TypeSet::THREAD);
+    set.remove(TypeSet::GATE);
+    assert!(rt; set == TypeSet::SEGMENT.union(TypeSet::THREAD) && set.contains(TypeSet::SEGMENT));
+    assert!(rt; set - TypeSet::SEGMENT == TypeSet::of(Kind::Thread));
+    assert!(rt; !(!set | set) == TypeSet::none() && TypeSet::all().is_all());
+    assert!(rt; (set & TypeSet::THREAD) ^ TypeSet::SEGMENT == set);
+}
+
+#[test]
+fn rights_have_names(rt: HostRuntime) {
+    assert!(rt; Rights::from_name("WRITE") == Some(Rights::WRITE));
+    assert!(rt; Rights::from_name("EXEC").is_none());
+    let both = Rights::READ | Rights::WRITE;
+    assert!(rt; both.is_all() && both - Rights::READ == Rights::WRITE);
+    assert!(rt; !Rights::READ & both == Rights::WRITE && Rights::READ ^ both == Rights::WRITE);
+}
+
+#[test]
+fn each_of_a_set_is_told(rt: HostRuntime) {
+    let mut count = 0u64;
+    for kind in TypeSet::all() {
+        assert!(rt; TypeSet::all().contains(kind));
+        count = count.saturating_add(1);
+    }
+    for right in Rights::READ {
+        assert!(rt; right == Rights::READ);
+        count = count.saturating_add(1);
+    }
+    assert!(rt; count == 7);
+}
+
+#[test]
 fn sets_hold_what_was_put_in(rt: HostRuntime) {
-    let both = TypeSet::of(Kind::Gate).with(TypeSet::of(Kind::Segment));
+    let both = TypeSet::of(Kind::Gate) | TypeSet::of(Kind::Segment);
     assert!(rt; both.has(Kind::Gate) && both.has(Kind::Segment) && !both.has(Kind::Device));
     assert!(rt; !TypeSet::none().has(Kind::Container));
     let rights = Rights {
