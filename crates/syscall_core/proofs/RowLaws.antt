@@ -24,7 +24,7 @@ use Rattle.translation_rows.specs.Rows.{BySlot, slot_count}
 use Rattle.arena_state.specs.Shown.{AreKept, KeepsSlots, SameAt, Tells}
 use Rattle.arena_state.specs.States.{state_of, find_cost}
 use Rattle.arena_state.proofs.LookLaws.{few_find}
-use Rattle.syscall_core.specs.declared.kernel.Kernel.{Kernel}
+use Rattle.syscall_core.specs.declared.kept_state.KeptState.{KeptState}
 use Rattle.arena_state.specs.declared.states.ArenaState.{ArenaState}
 use Rattle.arena_state.proofs.ShownLaws.{rows_stay, one_remade}
 
@@ -36,7 +36,7 @@ few_pages l h =
     (and_parts _ _ (and_parts _ _ (and_parts _ _ (and_parts _ _ (and_parts _ _ h).0).0).0).0).0).1
 
 -- an object is found by eleven probes
-pub few_probes : (k : Kernel) → slot_count k.rows ≤ 512 → find_cost k.state ≤ 11
+pub few_probes : (k : KeptState) → slot_count k.rows ≤ 512 → find_cost k.state ≤ 11
 few_probes k few =
     let le : (state_of k.state).limits.pages ≤ 512 = omega (arith, few, k.kept.size) in
     few_find k.state le

@@ -11,7 +11,7 @@ use Rattle.syscall_core.specs.declared.kernel.Kernel.{Kernel}
 
 -- the state that the kernel is in
 abbrev pub kernel_state : Kernel → State
-kernel_state k = state_of k.state
+kernel_state k = state_of k.kept.state
 
 -- what may be touched once the entry is taken out, which names a container or does not
 abbrev pub cut_touches : Bool → Entry → change.Change

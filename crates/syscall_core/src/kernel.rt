@@ -8,11 +8,10 @@ ghost use Rattle.kernel_rules.specs.State.{is_live_kind, object_at, use_of};
 ghost use Rattle.kernel_rules.specs.Runs.{booted};
 ghost use Rattle.kernel_rules.specs.WellFormed.{is_well_formed};
 ghost use Rattle.arena_state.specs.Kept.{label_kept, order_kept, AreStored, Stores};
-ghost use Rattle.arena_state.specs.Shown.{AreKept};
 ghost use Rattle.kernel_rules.specs.Translate.{translate};
-ghost use Rattle.translation_laws.specs.Names.{IsNamedRightly};
 ghost use Rattle.arena_state.specs.States.{state_of};
 
+use crate::kept_state::KeptState;
 use arena_state::ArenaState;
 use base::{Kind, Limits, Meter, NoMemory, ObjectId, Rights};
 use kernel_calls::{ask_into, step_surely_into};
@@ -22,7 +21,6 @@ use label_intern::{LabelIx, OrderBits};
 use label_lattice::Label;
 use plain_core::{BootRefusal, Machine};
 use std::alloc::Global;
-use translation_rows::Rows;
 
 /// A label kernel that takes all its memory at boot and keeps what its calls decide by: label
 /// orders, translations, uses and live ids. A contract sees it as its state, which is well formed
@@ -30,21 +28,18 @@ use translation_rows::Rows;
 #[derive(Drop)]
 pub struct Kernel {
     alloc: Global,
-    pub(crate) state: ArenaState,
-    pub(crate) rows: Rows,
-    ghost kept: { AreKept state rows },
-    ghost named: { IsNamedRightly (state_of state) },
+    kept: KeptState,
 }
 
-/// A booted kernel, for limits in range. Want of memory is the only error.
-fn booted_kernel(alloc: Global, limits: &Limits) -> Result<Kernel, NoMemory>
+// The state after a boot, for limits in range. Want of memory is the only error.
+fn booted_state(alloc: Global, limits: &Limits) -> Result<KeptState, NoMemory>
     requires { in_range limits.now ≡ true }
-    ensures { IfOk result (λ kernel. state_of kernel.state ≡ booted limits.now) }
+    ensures { IfOk result (λ kept. state_of kept.state ≡ booted limits.now) }
 {
     let mut meter = Meter::new(alloc)?;
     let state = ArenaState::boot(alloc, limits, &mut meter)?;
     let rows = state.new_rows(alloc, &mut meter)?;
-    Ok(Kernel { alloc, state, rows })
+    Ok(KeptState { state, rows })
 }
 
 impl Kernel {
@@ -61,8 +56,8 @@ impl Kernel {
         if !limits.is_in_range() {
             return Err(BootRefusal::BadLimits);
         }
-        match booted_kernel(alloc, limits) {
-            Ok(kernel) => Ok(kernel),
+        match booted_state(alloc, limits) {
+            Ok(kept) => Ok(Kernel { alloc, kept }),
             Err(_) => Err(BootRefusal::Unavailable),
         }
     }
@@ -76,7 +71,7 @@ impl Kernel {
     pub fn tables(&self, meter: &mut Meter) -> Result<Tables, NoMemory>
         ensures { IfOk result (λ tables. tables ≡ scratch (kernel_state self.now)) }
     {
-        tables(self.alloc, self, meter)
+        tables(self.alloc, &self.kept, meter)
     }
 
     /// Whether an id is that of a live thread. No label is scanned.
@@ -85,34 +80,34 @@ impl Kernel {
         ensures scans { meter.new.scans ≡ meter.old.scans }
         ensures probes { meter.new.probes ≤ meter.old.probes + 16 }
     {
-        self.rows.few();
-        self.state.is_live_kind(Kind::Thread, thread, meter)
+        self.kept.rows.few();
+        self.kept.state.is_live_kind(Kind::Thread, thread, meter)
     }
 
     /// A law, which does nothing when it is called: the labels of the indexes are those that the state stores. Each stored
     /// label has one index, and no other label has one.
     pub fn labels_are_kept(&self)
-        ensures { AreStored (kernel_state self.now) (label_kept self.now.state) }
+        ensures { AreStored (kernel_state self.now) (label_kept self.now.kept.state) }
     {
-        self.state.labels_are_kept();
+        self.kept.state.labels_are_kept();
     }
 
     /// The label of an index, none where it has none. It is a label that the state stores; `labels_are_kept` says that each
     /// of these has one index.
     pub fn kept_label(&self, index: LabelIx) -> Option<&Label>
-        ensures value { option_copied result ≡ label_kept self.now.state index.0 }
+        ensures value { option_copied result ≡ label_kept self.now.kept.state index.0 }
         ensures stored { IfSome result (λ label. Stores (kernel_state self.now) label.now) }
     {
         self.labels_are_kept();
-        self.state.kept_label(index)
+        self.kept.state.kept_label(index)
     }
 
     /// How the label of an index compares with that of another, none exactly where one of the two has none. No label is
     /// scanned.
     pub fn kept_order(&self, one: LabelIx, other: LabelIx) -> Option<OrderBits>
-        ensures { option_map (λ o. o.0) result ≡ order_kept self.now.state one.0 other.0 }
+        ensures { option_map (λ o. o.0) result ≡ order_kept self.now.kept.state one.0 other.0 }
     {
-        self.state.kept_order(one, other)
+        self.kept.state.kept_order(one, other)
     }
 
     /// What a slot of a live thread's address space shows, as it is kept: a segment, with the
@@ -130,8 +125,9 @@ impl Kernel {
         ensures scans { meter.new.scans ≡ meter.old.scans }
         ensures probes { meter.new.probes ≤ meter.old.probes + 16 }
     {
-        self.rows.few();
-        self.state.kept_translation(thread, slot, &self.rows, meter)
+        let kept = &self.kept;
+        kept.rows.few();
+        kept.state.kept_translation(thread, slot, &kept.rows, meter)
     }
 
     /// What a live object uses, in pages of 256 bytes, as it is kept; none for any other id.
@@ -141,8 +137,8 @@ impl Kernel {
         ensures scans { meter.new.scans ≡ meter.old.scans }
         ensures probes { meter.new.probes ≤ meter.old.probes + 16 }
     {
-        self.rows.few();
-        self.state.kept_use(id, meter)
+        self.kept.rows.few();
+        self.kept.state.kept_use(id, meter)
     }
 
     /// The id at a place among the live ids, which rise, from 0 on; none from their number on.
@@ -151,7 +147,7 @@ impl Kernel {
         ensures scans { meter.new.scans ≡ meter.old.scans }
         ensures probes { meter.new.probes ≤ meter.old.probes + 16 }
     {
-        self.state.kept_live(place, meter)
+        self.kept.state.kept_live(place, meter)
     }
 }
 
@@ -170,8 +166,8 @@ impl Kernel {
         ensures scans { meter.new.scans ≤ meter.old.scans
             + most_scans (stores call.now) (label_count (kernel_state self.old)) }
     {
-        self.state.labels_are_carried();
-        step_surely_into(self, thread, call, reply, meter)
+        self.kept.state.labels_are_carried();
+        step_surely_into(&mut self.kept, thread, call, reply, meter)
     }
 
     /// One call of a thread that may change the state, as `Machine::step` says; it takes no memory, so
@@ -196,7 +192,7 @@ impl Kernel {
         ensures probes { is_load query.now ≡ true
             → meter.new.probes ≤ meter.old.probes + 64 }
     {
-        ask_into(self, thread, query, reply, meter)
+        ask_into(&self.kept, thread, query, reply, meter)
     }
 
     /// One query of a thread, as `Machine::ask` says; it takes no memory, so there is no error. No label

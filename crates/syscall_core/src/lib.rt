@@ -6,6 +6,7 @@
 //! names of `plain_core` are given on.
 #![tactic(auto)]
 
+mod kept_state;
 mod kernel;
 mod stores;
 

@@ -7,7 +7,7 @@ ghost use Rattle.arena_state.specs.declared.repairs.Change.TheVariants as touche
 ghost use Rattle.kernel_store.specs.Sights.{is_of};
 ghost use Rattle.syscall_core.specs.Kernel.{cut_touches, may_be_of_kind};
 
-use crate::kernel::Kernel;
+use crate::kept_state::KeptState;
 use arena_state::{ArenaState, Change};
 use base::{Data, Kind, Meter, ObjectId, Rights, Slot, TypeSet};
 use kernel_rules::{Entry, Gate, Ids, Mapping, Place, Thread};
@@ -93,14 +93,13 @@ fn repair_cut(
     state.repair(&cut, rows, meter);
 }
 
-impl Store for Kernel {
-    ghost use Rattle.syscall_core.specs.Kernel.{kernel_state};
+impl Store for KeptState {
     ghost use Rattle.arena_state.proofs.LookLaws.{no_looks, more_looks, both_looks};
     ghost use Rattle.arena_state.proofs.StockLaws.{whole_formed};
     ghost use Rattle.arena_state.specs.Looks.{Looks};
-    ghost use Rattle.arena_state.specs.States.{labels_stored, HasRow};
+    ghost use Rattle.arena_state.specs.States.{labels_stored, state_of, HasRow};
 
-    ghost state = { kernel_state };
+    ghost state = { λ k. state_of k.state };
 
     ghost kept = { λ m. m.scans };
 

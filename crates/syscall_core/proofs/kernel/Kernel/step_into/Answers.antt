@@ -10,7 +10,7 @@ pub returns-clause-scans : goal.returns-clause-scans
 returns-clause-scans c =
     omega (
       arith,
-      more_scans (stores c.args.call.now) (labels_stored c.args.self.now.state)
+      more_scans (stores c.args.call.now) (labels_stored c.args.self.now.kept.state)
           (label_count (kernel_state c.args.self.now)) c.labels_are_carried.ensures,
       c.step_surely_into.ensures.scans,
     )

@@ -3,5 +3,5 @@ use Rattle.syscall_core.proofs.kernel.Kernel.well_formed.Goals as goal
 
 pub returns : goal.returns
 returns c =
-    let a = c.args.self.now.state in
+    let a = c.args.self.now.kept.state in
     whole_formed a.pieces a.sound a.stocked

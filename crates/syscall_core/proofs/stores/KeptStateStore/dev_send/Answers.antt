@@ -1,0 +1,17 @@
+use Rattle.std.proofs.Common.{sym, subst, ◌++◌, ◌∷◌, []}
+use Rattle.arena_state.specs.States.{state_of}
+use Rattle.translation_laws.specs.Names.{IsNamedRightly}
+use Rattle.kernel_rules.specs.Changes.{with_body, requeue}
+use Rattle.translation_laws.proofs.Bodies.{alike_packets}
+use Rattle.translation_laws.proofs.Names.{named_packets}
+use Rattle.syscall_core.proofs.RowLaws.{alike_rows_stay}
+use Rattle.syscall_core.proofs.stores.KeptStateStore.dev_send.Goals as goal
+
+pub invariant_of-self : goal.invariant_of-self
+invariant_of-self c =
+    let k = c.args.self.now in
+    let s = state_of k.state in
+    record {
+      kept = alike_rows_stay k.state c.dev_send.new.self k.rows c.args.id (with_body (requeue (λ packets. packets ++ c.args.packet ∷ []))) k.kept c.dev_send.ensures.places c.dev_send.ensures.state (alike_packets (λ packets. packets ++ c.args.packet ∷ []));
+      named = subst IsNamedRightly (sym c.dev_send.ensures.state) (named_packets s c.args.id (λ packets. packets ++ c.args.packet ∷ []) k.named);
+    }

@@ -1,0 +1,23 @@
+use Rattle.std.proofs.Common.{sym, subst}
+use Rattle.std.specs.Prelude.{option_copied}
+use Rattle.arena_state.specs.States.{state_of}
+use Rattle.translation_laws.specs.Names.{IsNamedRightly}
+use Rattle.kernel_rules.specs.Changes.{changed, labelled}
+use Rattle.kernel_rules.specs.Step.{with_value}
+use Rattle.translation_laws.proofs.Threads.{label_own}
+use Rattle.translation_laws.proofs.Touched.{labels_row, rows_value}
+use Rattle.syscall_core.proofs.NamedLaws.{labelled_named}
+use Rattle.syscall_core.proofs.RowLaws.{valued_limits, valued_space, row_remade, same_slots}
+use Rattle.syscall_core.proofs.stores.KeptStateStore.set_label.Goals as goal
+
+pub invariant_of-self : goal.invariant_of-self
+invariant_of-self c =
+    let k = c.args.self.now in
+    let s = state_of k.state in
+    record {
+      kept = row_remade k.state c.give_label.new.self k.rows c.remake_row.new.rows c.args.thread k.kept (with_value s (option_copied c.args.label) (λ l. changed s c.args.thread (labelled l))) c.give_label.ensures.state (same_slots k.state c.give_label.new.self c.args.thread c.give_label.ensures.places) (valued_limits s (option_copied c.args.label) c.args.thread labelled) (valued_space s (option_copied c.args.label) c.args.thread labelled)
+          (λ q i off. rows_value s q i (option_copied c.args.label) (λ l. changed s c.args.thread (labelled l)) (λ l.
+          labels_row s (changed s c.args.thread (labelled l)) c.args.thread q i k.named c.requires.thread off
+          (label_own s c.args.thread q l off) (λ law. law.label l))) c.remake_row.ensures.size c.remake_row.ensures.row c.remake_row.ensures.others;
+      named = subst IsNamedRightly (sym c.give_label.ensures.state) (labelled_named s c.args.thread (option_copied c.args.label) k.named);
+    }
