@@ -1,15 +1,21 @@
 -- Counting the events of threads in a map.
-use Rattle.std.proofs.Common.{◌≡◌, ℕ, ◌+◌, ◌≤◌, true, false, ◌==◌, if◌then◌else◌, length}
+use Rattle.std.proofs.Common.{◌≡◌, ℕ, ◌+◌, ◌≤◌, true, false, ◌==◌, if◌then◌else◌, length, map}
 use Rattle.std.proofs.Common.{List, [], ◌∷◌, ◌++◌, Some, refl, sym, ap, ◌∙◌, subst, arith}
 use Rattle.std.specs.BTreeMap.{BTreeMap, get, is_at, Updates}
 use Rattle.std.specs.Option.{unwrap_or}
 use Rattle.std.specs.Ordering.{nat_cmp}
 use Rattle.std.proofs.lemmas.Bool.{eqb-true, eq-eqb}
-use Rattle.kernel_rules.proofs.HistoryLaws.{count-snoc, count_within, state_of-snoc}
+use Rattle.std.proofs.lemmas.List.{map_push}
+use Rattle.histories.proofs.HistoryLaws.{count-snoc, count_within, state_of-snoc}
 use Rattle.kernel_rules.proofs.RecordLaws.{same_id}
-use Rattle.kernel_rules.specs.History.{state_of, count}
+use Rattle.histories.proofs.BatchLaws.{answered_calls, answered-snoc, by-snoc, state_after-snoc}
+use Rattle.histories.specs.Events.{Event, calls_in, by, told}
+use Rattle.histories.specs.History.{answered, state_of, count}
+use Rattle.histories.specs.declared.events.Answered.{Answered}
+use Rattle.kernel_rules.specs.Runs.{state_after}
+use Rattle.kernel_rules.specs.State.{State}
 use Rattle.kernel_rules.specs.Step.{answer, next}
-use Rattle.kernel_rules.specs.declared.events.Event.{Event}
+use Rattle.kernel_rules.specs.declared.calls.Call.{Call}
 use Rattle.kernel_rules.specs.declared.replies.Reply.{Reply}
 use Rattle.plain_core.specs.Kernel.{kernel_state}
 use Rattle.auditor.specs.Replay.{true_event, IsCounted, IsReplay}
@@ -51,7 +57,7 @@ counted_more old new events e counted updates q =
 pub replay_more : (old new : Replay) (e : Event) (key n : ℕ) → IsReplay old → new.limits ≡ old.limits
     → key ≡ e.thread → n ≡ count e.thread old.events.items
     → Updates nat_cmp old.counts new.counts key (Some (n + 1))
-    → kernel_state new.kernel ≡ next (kernel_state old.kernel) e.thread e.call
+    → kernel_state new.kernel ≡ state_after (kernel_state old.kernel) (by e.thread (calls_in e))
     → new.events.items ≡ old.events.items ++ true_event old.limits old.events.items e ∷ []
     → IsReplay new
 replay_more old new e key n was limits_are key_is n_is updates stepped events_are =
@@ -60,21 +66,44 @@ replay_more old new e key n was limits_are key_is n_is updates stepped events_ar
     subst (λ (p : ℕ × ℕ). Updates nat_cmp old.counts new.counts p.0 (Some (p.1 + 1)))
     (λ i. (key_is i, n_is i)) updates in
     let there : kernel_state new.kernel ≡ state_of old.limits (old.events.items ++ x ∷ []) =
-    stepped ∙ ap (λ s. next s e.thread e.call) was.state ∙ sym (state_of-snoc old.limits old.events.items x) in
+    stepped ∙ ap (λ s. state_after s (by e.thread (calls_in e))) was.state
+    ∙ ap (λ (cs : List Call). state_after (state_of old.limits old.events.items) (by e.thread cs))
+    (sym (answered_calls (state_of old.limits old.events.items) e.thread (calls_in e)))
+    ∙ sym (state_of-snoc old.limits old.events.items x) in
     record {
       state = there ∙ (λ i. state_of (sym limits_are i) (sym events_are i));
       counted = subst (λ (l : List Event). IsCounted new.counts l) (sym events_are)
           (counted_more old.counts new.counts old.events.items x was.counted at);
     }
 
--- an event with the next number and the kernel's answer is true
-pub true_is : (r : Replay) (e : Event) (n : ℕ) (reply : Reply) → IsReplay r
-    → n ≡ count e.thread r.events.items → reply ≡ answer (kernel_state r.kernel) e.thread e.call
-    → record { thread = e.thread; number = n + 1; call = e.call; reply = reply }
+-- an event with the next number and the kernel's answers is true
+pub true_is : (r : Replay) (e : Event) (n : ℕ) (made : List Answered) → IsReplay r
+    → n ≡ count e.thread r.events.items
+    → made ≡ answered (kernel_state r.kernel) e.thread (calls_in e)
+    → record { thread = e.thread; number = n + 1; calls = made }
     ≡ true_event r.limits r.events.items e
-true_is r e n reply is n_is reply_is = λ i. record {
+true_is r e n made is n_is made_is = λ i. record {
   thread = e.thread;
   number = n_is i + 1;
-  call = e.call;
-  reply = (reply_is ∙ ap (λ s. answer s e.thread e.call) is.state) i;
+  calls = (made_is ∙ ap (λ s. answered s e.thread (calls_in e)) is.state) i;
 }
+
+-- the first calls were made from a state, with these answers
+pub record IsMade (old now : State) (thread : ℕ) (calls made : List Answered) : Type 0 where
+  pub state : now ≡ state_after old (by thread (map (λ a. a.call) calls))
+  pub answers : made ≡ answered old thread (map (λ a. a.call) calls)
+
+-- one call more
+pub made_more : (old now later : State) (thread : ℕ) (calls more made : List Answered) (a : Answered) (r : Reply)
+    → more ≡ calls ++ a ∷ [] → IsMade old now thread calls made → r ≡ answer now thread a.call
+    → later ≡ next now thread a.call → IsMade old later thread more (made ++ told a.call r ∷ [])
+made_more old now later thread calls more made a r more_is h reply state =
+    let cs = map (λ (x : Answered). x.call) calls in
+    let all : map (λ (x : Answered). x.call) more ≡ cs ++ a.call ∷ [] =
+    ap (map (λ (x : Answered). x.call)) more_is ∙ map_push (λ (x : Answered). x.call) calls a in
+    record {
+      state = state ∙ ap (λ s. next s thread a.call) h.state ∙ sym (state_after-snoc old (by thread cs) (thread, a.call))
+          ∙ ap (state_after old) (sym (ap (by thread) all ∙ by-snoc thread cs a.call));
+      answers = (λ i. h.answers i ++ told a.call ((reply ∙ ap (λ s. answer s thread a.call) h.state) i) ∷ [])
+          ∙ sym (answered-snoc old thread cs a.call) ∙ ap (answered old thread) (sym all);
+    }

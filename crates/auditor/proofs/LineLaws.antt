@@ -4,8 +4,8 @@ use Rattle.std.proofs.Common.{Some, refl, sym, ap, ◌∙◌, subst, arith, appe
 use Rattle.std.specs.List.{AllByRecursion}
 use Rattle.std.proofs.lemmas.Bool.Decides.{eqb_tells}
 use Rattle.base.specs.declared.ranges.Limits.{Limits}
-use Rattle.kernel_rules.specs.History.{IsLegal}
-use Rattle.kernel_rules.specs.declared.events.Event.{Event}
+use Rattle.histories.specs.History.{IsLegal}
+use Rattle.histories.specs.Events.{Event}
 use Rattle.text_words.specs.Lacks.{lacks}
 use Rattle.text_words.proofs.Split.{cond_false}
 use Rattle.call_text.specs.Text.{lines_text}
@@ -16,6 +16,7 @@ use Rattle.dump_text.specs.Lists.{DumpLists}
 use Rattle.dump_text.specs.Whole.{whole_dump}
 use Rattle.dump_text.specs.declared.lines.Line.{Line}
 use Rattle.dump_text.proofs.LineLemmas.{dump_grammar}
+use Rattle.dump_text.proofs.Batches.{lines_batches}
 use Rattle.auditor.specs.Replay.{replayed}
 use Rattle.auditor.specs.Verdict.{true_dump, first_difference, false_line, DifferAt, TellsFalse}
 use Rattle.auditor.specs.declared.verdicts.Verdict.TheVariants as is
@@ -126,7 +127,7 @@ LegalIsDump = (limits : Limits) (events : List Event) → IsBootable limits → 
 pub false_told : (bytes : List ℕ) (d : DumpLists) (n : ℕ) → LegalIsDump → IsDump bytes d
     → FitsWords (true_dump d) → false_line bytes d ≡ Some n → TellsFalse bytes (is.False n)
 false_told bytes d n law is_dump fits e =
-    let true_is = law d.limits (replayed d.limits d.events) (is_dump.fit.1.0.1) (replayed_legal d.limits d.events) fits in
+    let true_is = law d.limits (replayed d.limits d.events) (is_dump.fit.1.0.1) (replayed_legal d.limits d.events (lines_batches d is_dump.fit)) fits in
     let h : first_difference 1 (lines_text line_text (lines_of d)) (lines_text line_text (lines_of (true_dump d))) ≡ Some n =
     subst (λ (t : List ℕ). first_difference 1 t (dump_text (true_dump d)) ≡ Some n) is_dump.bytes_are e in
     let found = differ 1 n (lines_of d) (lines_of (true_dump d)) is_dump.fit true_is.fit h in

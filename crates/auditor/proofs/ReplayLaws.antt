@@ -1,12 +1,14 @@
 -- Laws of events that are replayed.
-use Rattle.std.proofs.Common.{◌≡◌, ℕ, ◌+◌, ◌<◌, List, [], ◌∷◌, ◌++◌, length, take, get_or}
+use Rattle.std.proofs.Common.{◌≡◌, ℕ, ◌+◌, ◌<◌, true, ◌&&◌, nat_le, List, [], ◌∷◌, ◌++◌, length, take, get_or}
 use Rattle.std.proofs.Common.{refl, sym, ap, ◌∙◌, subst, add-one}
 use Rattle.std.proofs.Math.Seq.{take-suc}
-use Rattle.std.proofs.lemmas.List.{append_assoc, append-nil}
+use Rattle.std.specs.List.{AllByRecursion}
+use Rattle.std.proofs.lemmas.List.{append_assoc, append-nil, length-map}
 use Rattle.base.specs.declared.ranges.Limits.{Limits}
-use Rattle.kernel_rules.specs.History.{Follows, IsLegal}
-use Rattle.kernel_rules.proofs.HistoryLaws.{legal_none, legal-snoc}
-use Rattle.kernel_rules.specs.declared.events.Event.{Event}
+use Rattle.histories.specs.History.{count, is_batch, Follows, IsLegal}
+use Rattle.histories.proofs.HistoryLaws.{legal_none, legal-snoc, answered_follows}
+use Rattle.histories.specs.Events.{Event, calls_in}
+use Rattle.histories.specs.declared.events.Answered.{Answered}
 use Rattle.auditor.specs.Replay.{true_event, replayed_after, replayed}
 
 -- one event more is replayed after the others
@@ -17,21 +19,27 @@ replayed-snoc limits before [] e = refl
 replayed-snoc limits before (x ∷ xs) e =
     replayed-snoc limits (before ++ true_event limits before x ∷ []) xs e
 
--- an event with its true number and reply follows
-true_follows : (limits : Limits) (before : List Event) (e : Event)
-    → Follows limits before (true_event limits before e)
-true_follows limits before e = record { number = refl; reply = refl }
+-- each event has 1 to 16 calls
+abbrev pub AreBatches : List Event → Type 0
+AreBatches events = AllByRecursion (λ (e : Event). is_batch e.calls ≡ true) events
 
-legal_after : (limits : Limits) (before es : List Event) → IsLegal limits before
+-- an event of 1 to 16 calls with its true number and replies follows
+true_follows : (limits : Limits) (before : List Event) (e : Event) → is_batch e.calls ≡ true
+    → Follows limits before (true_event limits before e)
+true_follows limits before e size =
+    answered_follows limits before e.thread (count e.thread before + 1) (calls_in e)
+    (ap (λ n. nat_le 1 n && nat_le n 16) (length-map e.calls (λ (a : Answered). a.call)) ∙ size) refl
+
+legal_after : (limits : Limits) (before es : List Event) → AreBatches es → IsLegal limits before
     → IsLegal limits (replayed_after limits before es)
-legal_after limits before [] legal = legal
-legal_after limits before (e ∷ es) legal =
-    legal_after limits (before ++ true_event limits before e ∷ []) es
-    (legal-snoc limits before (true_event limits before e) legal (true_follows limits before e))
+legal_after limits before [] all legal = legal
+legal_after limits before (e ∷ es) all legal =
+    legal_after limits (before ++ true_event limits before e ∷ []) es all.1
+    (legal-snoc limits before (true_event limits before e) legal (true_follows limits before e all.0))
 
 -- replayed events are legal
-pub replayed_legal : (limits : Limits) (es : List Event) → IsLegal limits (replayed limits es)
-replayed_legal limits es = legal_after limits [] es (legal_none limits [] refl)
+pub replayed_legal : (limits : Limits) (es : List Event) → AreBatches es → IsLegal limits (replayed limits es)
+replayed_legal limits es all = legal_after limits [] es all (legal_none limits [] refl)
 
 -- an event that follows has its true number and reply
 follows_true : (limits : Limits) (before : List Event) (e : Event) → Follows limits before e
@@ -39,8 +47,7 @@ follows_true : (limits : Limits) (before : List Event) (e : Event) → Follows l
 follows_true limits before e f = λ i. record {
   thread = e.thread;
   number = sym f.number i;
-  call = e.call;
-  reply = sym f.reply i;
+  calls = sym f.replies i;
 }
 
 same_after : (limits : Limits) (before es : List Event) → IsLegal limits (before ++ es)

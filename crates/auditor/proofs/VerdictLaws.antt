@@ -1,11 +1,12 @@
 -- What bytes with a verdict are.
 use Rattle.std.proofs.Common.{◌≡◌, ℕ, List, Option, Some, None, refl, sym, ap, ◌∙◌}
 use Rattle.base.specs.declared.ranges.Limits.{Limits}
-use Rattle.kernel_rules.specs.History.{IsLegal}
-use Rattle.kernel_rules.specs.declared.events.Event.{Event}
+use Rattle.histories.specs.History.{IsLegal}
+use Rattle.histories.specs.Events.{Event}
 use Rattle.dump_text.specs.Dump.{dump_text, IsDump, DumpFaultsAt}
 use Rattle.dump_text.specs.Lists.{DumpLists}
 use Rattle.dump_text.specs.Whole.{whole_dump}
+use Rattle.dump_text.proofs.Batches.{lines_batches}
 use Rattle.auditor.specs.Replay.{replayed}
 use Rattle.auditor.specs.Verdict.{true_dump, false_line, IsVerdict, IsLegalText}
 use Rattle.auditor.specs.declared.verdicts.Verdict.{Verdict}
@@ -44,7 +45,7 @@ clean_legal bytes v =
     let d = v.0 in (
       d.limits,
       replayed d.limits d.events,
-      replayed_legal d.limits d.events,
+      replayed_legal d.limits d.events (lines_batches d v.1.fit),
       none_same 1 bytes (dump_text (true_dump d)) v.2,
     )
 

@@ -4,19 +4,18 @@ use Rattle.std.specs.BTreeMap.{BTreeMap, get}
 use Rattle.std.specs.Option.{unwrap_or}
 use Rattle.std.specs.Ordering.{nat_cmp}
 use Rattle.base.specs.declared.ranges.Limits.{Limits}
-use Rattle.kernel_rules.specs.History.{state_of, count}
-use Rattle.kernel_rules.specs.Step.{answer}
-use Rattle.kernel_rules.specs.declared.events.Event.{Event}
+use Rattle.histories.specs.Events.{Event, calls_in}
+use Rattle.histories.specs.History.{answered, state_of, count}
 use Rattle.plain_core.specs.Kernel.{kernel_state}
 use Rattle.auditor.specs.declared.replays.Replay.{Replay}
 
--- the event with its thread's next number after these events, and the answer in their state
+-- the event with its thread's next number after these events, and each of its calls with its answer in
+-- the state that they and the calls before it lead to
 abbrev pub true_event : Limits → List Event → Event → Event
 true_event limits before e = record {
   thread = e.thread;
   number = count e.thread before + 1;
-  call = e.call;
-  reply = answer (state_of limits before) e.thread e.call;
+  calls = answered (state_of limits before) e.thread (calls_in e);
 }
 
 -- these events, and after them others with their true numbers and replies

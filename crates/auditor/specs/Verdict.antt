@@ -2,8 +2,8 @@
 use Rattle.std.specs.Prelude.{◌≡◌, ℕ, ◌+◌, ◌==◌, if◌then◌else◌, List, [], ◌∷◌, take, slice_get}
 use Rattle.std.specs.Prelude.{Option, Some, None}
 use Rattle.base.specs.declared.ranges.Limits.{Limits}
-use Rattle.kernel_rules.specs.History.{IsLegal}
-use Rattle.kernel_rules.specs.declared.events.Event.{Event}
+use Rattle.histories.specs.History.{IsLegal}
+use Rattle.histories.specs.Events.{Event}
 use Rattle.dump_text.specs.Dump.{lines_of, dump_text, IsDump, DumpFaultsAt}
 use Rattle.dump_text.specs.Lists.{DumpLists}
 use Rattle.dump_text.specs.declared.lines.Line.{Line}
@@ -25,9 +25,9 @@ first_difference n (x ∷ xs) (y ∷ ys) =
 first_difference n (x ∷ xs) [] = Some n
 first_difference n [] (y ∷ ys) = Some n
 
--- The first line in which the bytes differ from the text of the true dump. Each line of an event
--- keeps its thread and its call there, so it differs where its number or its reply is not the
--- rules'.
+-- The first line in which the bytes differ from the text of the true dump. Each event keeps its
+-- thread and its calls there, so the line with its number differs where that is not the rules', and
+-- the line of a call where its reply is not.
 abbrev pub false_line : List ℕ → DumpLists → Option ℕ
 false_line bytes d = first_difference 1 bytes (dump_text (true_dump d))
 

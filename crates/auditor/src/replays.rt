@@ -1,10 +1,14 @@
 //! Playing calls again.
-ghost use Rattle.std.specs.Prelude.{◌≡◌, ◌+◌, ◌++◌, ◌∷◌, ◌≤◌, [], IfOk, OnOk, length};
-ghost use Rattle.kernel_rules.specs.History.{count};
+ghost use Rattle.std.specs.Prelude.{◌≡◌, ◌+◌, ◌++◌, ◌∷◌, ◌≤◌, [], map, IfOk, OnOk, length};
+ghost use Rattle.kernel_rules.specs.Runs.{state_after};
+ghost use Rattle.histories.specs.Events.{by, told};
+ghost use Rattle.histories.specs.History.{answered, count};
+ghost use Rattle.plain_core.specs.Kernel.{kernel_state};
 ghost use Rattle.auditor.specs.Replay.{true_event, replayed, IsCounted, IsReplay};
 
 use base::{Limits, Meter, NoMemory, ObjectId};
-use kernel_rules::Event;
+use histories::{Answered, Event};
+use kernel_rules::{Call, Mapping, Reply};
 use plain_core::{Machine, PlainKernel};
 use std::alloc::Global;
 use std::collections::BTreeMap;
@@ -36,6 +40,41 @@ fn count_of(counts: &BTreeMap<u64, u64>, events: &[Event], thread: ObjectId) -> 
     }
 }
 
+/// Adds a call and its reply.
+fn tell(all: &mut Vec<Answered>, call: &Call, reply: &Reply) -> Result<(), NoMemory>
+    ensures { OnOk result (all.new.items ≡ all.old.items ++ told call.now reply.now ∷ []) }
+{
+    let _named: Option<Mapping> = None;
+    let answered = Answered {
+        call: *call,
+        reply: *reply,
+    };
+    let (_call, _reply) = (&answered.call, &answered.reply);
+    all.push(answered)?;
+    Ok(())
+}
+
+/// Makes the calls of a thread, and tells them with their answers.
+fn make(
+    alloc: Global,
+    kernel: &mut PlainKernel,
+    meter: &mut Meter,
+    thread: ObjectId,
+    calls: &[Answered],
+) -> Result<Vec<Answered>, NoMemory>
+    ensures answers { IfOk result (λ made. made.items
+        ≡ answered (kernel_state kernel.old) thread (map (λ a. a.call) calls.now)) }
+    ensures state { OnOk result (kernel_state kernel.new
+        ≡ state_after (kernel_state kernel.old) (by thread (map (λ a. a.call) calls.now))) }
+{
+    let mut made = Vec::with_capacity(alloc, calls.len())?;
+    for earlier in calls {
+        let reply = kernel.step(thread, &earlier.call, meter)?;
+        tell(&mut made, &earlier.call, &reply)?;
+    }
+    Ok(made)
+}
+
 impl Replay {
     /// A newly booted kernel, with no event.
     fn start(alloc: Global, limits: &Limits) -> Result<Replay, NoMemory>
@@ -55,25 +94,29 @@ impl Replay {
         })
     }
 
-    /// Takes an event's call again.
-    fn take(&mut self, event: &Event) -> Result<(), NoMemory>
+    /// Takes an event's calls again.
+    fn take(&mut self, alloc: Global, event: &Event) -> Result<(), NoMemory>
         requires { IsReplay self.old }
         ensures replay { OnOk result (IsReplay self.new) }
         ensures limits { OnOk result (self.new.limits ≡ self.old.limits) }
         ensures event { OnOk result (self.new.events.items ≡ self.old.events.items
             ++ true_event self.old.limits self.old.events.items event.now ∷ []) }
     {
-        let number = count_of(&self.counts, self.events.as_slice(), event.thread) + 1;
-        let reply = self
-            .kernel
-            .step(event.thread, &event.call, &mut self.meter)?;
+        let thread = event.thread;
+        let number = count_of(&self.counts, self.events.as_slice(), thread) + 1;
+        let calls = make(
+            alloc,
+            &mut self.kernel,
+            &mut self.meter,
+            thread,
+            event.calls.as_slice(),
+        )?;
         self.events.push(Event {
-            thread: event.thread,
+            thread,
             number,
-            call: event.call,
-            reply,
+            calls,
         })?;
-        self.counts.insert(event.thread.number(), number)?;
+        self.counts.insert(thread.number(), number)?;
         Ok(())
     }
 }
@@ -86,7 +129,7 @@ pub fn take_all(alloc: Global, limits: &Limits, events: &[Event]) -> Result<Repl
 {
     let mut replay = Replay::start(alloc, limits)?;
     for event in events {
-        replay.take(event)?;
+        replay.take(alloc, event)?;
     }
     Ok(replay)
 }

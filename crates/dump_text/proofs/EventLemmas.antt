@@ -35,10 +35,11 @@ use Rattle.spoken_calls.specs.Arg.{arg_text, IsArg}
 use Rattle.spoken_calls.specs.Spoken.{AreArgs, Spoken, IsSpoken, spoken_text}
 use Rattle.spoken_calls.proofs.SpokenLemmas.{spoken_lacks_end}
 use Rattle.text_words.proofs.PartLemmas.{not_in}
-use Rattle.kernel_rules.specs.declared.events.Event.{Event}
+use Rattle.histories.specs.declared.events.Answered.{Answered}
+use Rattle.dump_text.specs.declared.events.Single.{Single}
 use Rattle.dump_text.specs.Call.{call_text, IsCall, spoken_of}
 use Rattle.dump_text.specs.Report.{report_text}
-use Rattle.dump_text.specs.Event.{event_text, IsEvent}
+use Rattle.dump_text.specs.Event.{answered_text, IsAnswered, single_text, IsSingle}
 use Rattle.dump_text.proofs.CallLemmas.{call_is_one}
 use Rattle.dump_text.proofs.ReportLemmas.{number_lacks, report_lacks_end, report_is_one}
 
@@ -185,51 +186,56 @@ answer_first text before behind call reply parts lb lc e = first_part 61 before 
 pub answer_is : (text before behind call reply : List ℕ) → text ≡ before ++ 61 ∷ behind → before ≡ call ++ 32 ∷ [] → behind ≡ codes "> " ++ reply → text ≡ call ++ codes " => " ++ reply
 answer_is text before behind call reply parts a b = parts ∙ ap₂ (λ (x y : List ℕ). x ++ 61 ∷ y) a b ∙ sym (answer_shape call reply)
 
+-- what parts them stands where it does
+pub answer_same : (rest : List ℕ) (a : Answered) → IsAnswered a → rest ≡ answered_text a → (call reply : List ℕ) → rest ≡ call ++ codes " => " ++ reply → lacks 61 call ≡ true → (call ≡ call_text a.call) × (reply ≡ report_text a.reply)
+answer_same rest a is spelled call reply parts lack =
+    let f = answer_first rest (call_text a.call ++ 32 ∷ []) (62 ∷ 32 ∷ report_text a.reply) call reply (spelled ∙ answer_shape (call_text a.call) (report_text a.reply)) (spaced_lacks (call_text a.call) (call_lacks_sign a.call is.call)) lack parts in
+    (before_last call (call_text a.call) 32 (sym f.0), cc)
+
+pub no_call : (rest : List ℕ) (a : Answered) → IsAnswered a → rest ≡ answered_text a → ((call reply : List ℕ) → lacks 61 call ≡ true → rest ≡ call ++ codes " => " ++ reply → ⊥) → ⊥
+no_call rest a is at none = none (call_text a.call) (report_text a.reply) (call_lacks_sign a.call is.call) at
+
+pub answered_lacks_end : (a : Answered) → IsAnswered a → lacks 10 (answered_text a) ≡ true
+answered_lacks_end a is = lacks-append 10 (call_text a.call ++ codes " => ") (report_text a.reply) (lacks-append 10 (call_text a.call) (codes " => ") (spoken_lacks_end (spoken_of a.call) is.call) refl) (report_lacks_end a.reply is.reply)
+
+-- no two calls with their replies have one spelling
+pub answered_is_one : (a b : Answered) → IsAnswered a → IsAnswered b → answered_text a ≡ answered_text b → a ≡ b
+answered_is_one a b ia ib same =
+    let p = answer_same (answered_text a) b ib same (call_text a.call) (report_text a.reply) refl (call_lacks_sign a.call ia.call) in
+    let r = call_is_one a.call b.call ia.call ib.call p.0 in
+    let s = report_is_one a.reply b.reply ia.reply ib.reply p.1 in
+    (λ i. record { call = r i; reply = s i })
+
 -- the parts of an event, one by one
-module _ (text thread more : List ℕ) (e : Event) (is : IsEvent e) (spelled : text ≡ event_text e) where
+module _ (text thread more : List ℕ) (e : Single) (is : IsSingle e) (spelled : text ≡ single_text e) where
   pub no_thread : lacks 32 text ≡ true → ⊥
-  no_thread l = not_in 32 (decimal e.thread) (decimal e.number ++ 32 ∷ (call_text e.call ++ codes " => " ++ report_text e.reply)) (subst (λ (x : List ℕ). lacks 32 x ≡ true) spelled l)
+  no_thread l = not_in 32 (decimal e.thread) (decimal e.number ++ 32 ∷ answered_text e.answered) (subst (λ (x : List ℕ). lacks 32 x ≡ true) spelled l)
 
   module _ (parts : text ≡ thread ++ 32 ∷ more) (lack : lacks 32 thread ≡ true) where
-    pub thread_is : (thread ≡ decimal e.thread) × (more ≡ decimal e.number ++ 32 ∷ (call_text e.call ++ codes " => " ++ report_text e.reply))
-    thread_is = first_part 32 thread (decimal e.thread) more (decimal e.number ++ 32 ∷ (call_text e.call ++ codes " => " ++ report_text e.reply)) lack (number_lacks e.thread is.thread) (sym parts ∙ spelled)
+    pub thread_is : (thread ≡ decimal e.thread) × (more ≡ decimal e.number ++ 32 ∷ answered_text e.answered)
+    thread_is = first_part 32 thread (decimal e.thread) more (decimal e.number ++ 32 ∷ answered_text e.answered) lack (number_lacks e.thread is.thread) (sym parts ∙ spelled)
 
     pub no_number : lacks 32 more ≡ true → ⊥
-    no_number l = not_in 32 (decimal e.number) (call_text e.call ++ codes " => " ++ report_text e.reply) (subst (λ (x : List ℕ). lacks 32 x ≡ true) thread_is.1 l)
+    no_number l = not_in 32 (decimal e.number) (answered_text e.answered) (subst (λ (x : List ℕ). lacks 32 x ≡ true) thread_is.1 l)
 
     module _ (number rest : List ℕ) (parts' : more ≡ number ++ 32 ∷ rest) (lack' : lacks 32 number ≡ true) where
-      pub number_is : (number ≡ decimal e.number) × (rest ≡ call_text e.call ++ codes " => " ++ report_text e.reply)
-      number_is = first_part 32 number (decimal e.number) rest (call_text e.call ++ codes " => " ++ report_text e.reply) lack' (number_lacks e.number is.number) (sym parts' ∙ thread_is.1)
+      pub number_is : (number ≡ decimal e.number) × (rest ≡ answered_text e.answered)
+      number_is = first_part 32 number (decimal e.number) rest (answered_text e.answered) lack' (number_lacks e.number is.number) (sym parts' ∙ thread_is.1)
 
-      module _ (call reply : List ℕ) (parts'' : rest ≡ call ++ codes " => " ++ reply) (lack'' : lacks 61 call ≡ true) where
-        pub answer_same : (call ≡ call_text e.call) × (reply ≡ report_text e.reply)
-        answer_same =
-            let f = answer_first rest (call_text e.call ++ 32 ∷ []) (62 ∷ 32 ∷ report_text e.reply) call reply (number_is.1 ∙ answer_shape (call_text e.call) (report_text e.reply)) (spaced_lacks (call_text e.call) (call_lacks_sign e.call is.call)) lack'' parts'' in
-            (cut call (call_text e.call) (sym f.0), cc)
-          where
-            cut : (xs ys : List ℕ) → xs ++ 32 ∷ [] ≡ ys ++ 32 ∷ [] → xs ≡ ys
-            cut xs ys h = before_last xs ys 32 h
-
-pub no_call : (rest : List ℕ) (e : Event) → IsEvent e → rest ≡ call_text e.call ++ codes " => " ++ report_text e.reply → ((call reply : List ℕ) → lacks 61 call ≡ true → rest ≡ call ++ codes " => " ++ reply → ⊥) → ⊥
-no_call rest e is at none = none (call_text e.call) (report_text e.reply) (call_lacks_sign e.call is.call) at
-
-pub event_lacks_end : (e : Event) → IsEvent e → lacks 10 (event_text e) ≡ true
-event_lacks_end e is =
-    lacks-append 10 (decimal e.thread) (32 ∷ (decimal e.number ++ 32 ∷ (call_text e.call ++ codes " => " ++ report_text e.reply))) (number_lacks_end e.thread is.thread)
-    (lacks-append 10 (decimal e.number) (32 ∷ (call_text e.call ++ codes " => " ++ report_text e.reply)) (number_lacks_end e.number is.number)
-    (lacks-append 10 (call_text e.call ++ codes " => ") (report_text e.reply) (lacks-append 10 (call_text e.call) (codes " => ") (spoken_lacks_end (spoken_of e.call) is.call) refl) (report_lacks_end e.reply is.reply)))
+pub single_lacks_end : (e : Single) → IsSingle e → lacks 10 (single_text e) ≡ true
+single_lacks_end e is =
+    lacks-append 10 (decimal e.thread) (32 ∷ (decimal e.number ++ 32 ∷ answered_text e.answered)) (number_lacks_end e.thread is.thread)
+    (lacks-append 10 (decimal e.number) (32 ∷ answered_text e.answered) (number_lacks_end e.number is.number) (answered_lacks_end e.answered is.answered))
   where
     number_lacks_end : (n : ℕ) → n < 2 ^ 64 → lacks 10 (decimal n) ≡ true
     number_lacks_end n lt = decimal_lacks 10 n (lit< tt) lt
 
 -- no two events have one spelling
-pub event_is_one : (e f : Event) → IsEvent e → IsEvent f → event_text e ≡ event_text f → e ≡ f
-event_is_one e f ie if' same =
-    let t = thread_is (event_text e) (decimal e.thread) (decimal e.number ++ 32 ∷ (call_text e.call ++ codes " => " ++ report_text e.reply)) f if' same refl (number_lacks e.thread ie.thread) in
-    let n = number_is (event_text e) (decimal e.thread) (decimal e.number ++ 32 ∷ (call_text e.call ++ codes " => " ++ report_text e.reply)) f if' same refl (number_lacks e.thread ie.thread) (decimal e.number) (call_text e.call ++ codes " => " ++ report_text e.reply) refl (number_lacks e.number ie.number) in
-    let a = answer_same (event_text e) (decimal e.thread) (decimal e.number ++ 32 ∷ (call_text e.call ++ codes " => " ++ report_text e.reply)) f if' same refl (number_lacks e.thread ie.thread) (decimal e.number) (call_text e.call ++ codes " => " ++ report_text e.reply) refl (number_lacks e.number ie.number) (call_text e.call) (report_text e.reply) refl (call_lacks_sign e.call ie.call) in
+pub single_is_one : (e f : Single) → IsSingle e → IsSingle f → single_text e ≡ single_text f → e ≡ f
+single_is_one e f ie if' same =
+    let t = thread_is (single_text e) (decimal e.thread) (decimal e.number ++ 32 ∷ answered_text e.answered) f if' same refl (number_lacks e.thread ie.thread) in
+    let n = number_is (single_text e) (decimal e.thread) (decimal e.number ++ 32 ∷ answered_text e.answered) f if' same refl (number_lacks e.thread ie.thread) (decimal e.number) (answered_text e.answered) refl (number_lacks e.number ie.number) in
     let p = decimal_injective e.thread f.thread ie.thread if'.thread t.0 in
     let q = decimal_injective e.number f.number ie.number if'.number n.0 in
-    let r = call_is_one e.call f.call ie.call if'.call a.0 in
-    let s = report_is_one e.reply f.reply ie.reply if'.reply a.1 in
-    (λ i. record { thread = p i; number = q i; call = r i; reply = s i })
+    let r = answered_is_one e.answered f.answered ie.answered if'.answered n.1 in
+    (λ i. record { thread = p i; number = q i; answered = r i })

@@ -1,6 +1,6 @@
 -- The text of the dump of legal events is a dump's, where each value fits its word.
-use Rattle.std.proofs.Common.{lit<, ◌≡◌, ℕ, ◌<◌, ◌^◌, ◌&&◌, not, nat_le, ◌==◌, List, [], ◌∷◌, ◌++◌, map, length, refl, sym, ◌∙◌, subst, arith, append_assoc}
-use Rattle.std.specs.List.{AllByRecursion}
+use Rattle.std.proofs.Common.{lit<, ◌≡◌, ℕ, ◌≤◌, ◌<◌, ◌^◌, true, ◌&&◌, not, nat_le, ◌==◌, List, [], ◌∷◌, ◌++◌, map, length, refl, sym, ◌∙◌, subst, arith, append_assoc}
+use Rattle.std.specs.List.{AllByRecursion, flat_map}
 use Rattle.std.proofs.lemmas.Bool.{and_parts, leb-true}
 use Rattle.std.proofs.lemmas.List.{length-map}
 use Rattle.base.specs.Level.{rank_of}
@@ -9,19 +9,22 @@ use Rattle.label_lattice.specs.Raw.{raw_of}
 use Rattle.base.specs.declared.ranges.Limits.{Limits}
 use Rattle.base.specs.declared.levels.Level.{Level}
 use Rattle.base.specs.declared.levels.Level.TheVariants.{Star, L0, L1, L2, L3}
-use Rattle.kernel_rules.specs.History.{IsLegal, Follows, state_of}
+use Rattle.histories.specs.Events.{Event, calls_in}
+use Rattle.histories.specs.declared.events.Answered.{Answered}
+use Rattle.histories.specs.History.{answered, is_batch, IsLegal, Follows, state_of}
 use Rattle.kernel_rules.specs.Scratch.{scratch, stored_labels, compared_from}
 use Rattle.kernel_rules.specs.State.{State, live_part}
-use Rattle.kernel_rules.specs.declared.events.Event.{Event}
+use Rattle.kernel_rules.specs.Step.{next as then}
+use Rattle.kernel_rules.specs.declared.calls.Call.{Call}
 use Rattle.dump_text.specs.declared.lines.Line.{Line}
 use Rattle.dump_text.specs.declared.lines.Line.TheVariants as lines
 use Rattle.text_words.specs.Label.{IsLabel}
 use Rattle.dump_text.specs.Word.{spoken_label}
-use Rattle.dump_text.specs.Event.{IsEvent}
+use Rattle.dump_text.specs.Event.{IsAnswered}
 use Rattle.dump_text.specs.Report.{IsReport}
 use Rattle.dump_text.specs.Line.{IsLine, IsBootable, digit_of, AreAllowed, limits_kinds, limits_words}
-use Rattle.dump_text.specs.Dump.{IsDump, dump_text, lines_of, table_lines}
-use Rattle.dump_text.specs.Fits.{FitsEvent, FitsReply, FitsWords}
+use Rattle.dump_text.specs.Dump.{IsDump, dump_text, lines_with, event_lines, lines_of, table_lines}
+use Rattle.dump_text.specs.Fits.{FitsAnswered, FitsEvent, FitsReply, FitsWords}
 use Rattle.dump_text.specs.Whole.{whole_dump, placed, placed_from}
 use Rattle.dump_text.proofs.KernelReplies.{answer_report}
 use Rattle.dump_text.proofs.Places.{labels_fit, orders_fit, labels_few, all_append}
@@ -31,22 +34,45 @@ all_map : {V : Type 0} (make : V → Line) (P : V → Type 0) → ((v : V) → P
 all_map make P gives [] all = tt
 all_map make P gives (v ∷ vs) all = (gives v all.0, all_map make P gives vs all.1)
 
+-- calls with the answers of the rules
+answers_fit : (s : State) (thread : ℕ) (calls : List Call) → AllByRecursion FitsAnswered (answered s thread calls) → AllByRecursion IsAnswered (answered s thread calls)
+answers_fit s thread [] all = tt
+answers_fit s thread (c ∷ cs) all = (
+  record { call = all.0.call; reply = answer_report s thread c all.0.reply },
+  answers_fit (then s thread c) thread cs all.1,
+)
+
+-- the lines of 1 to 16 calls
+lines_are : (t n : ℕ) (cs : List Answered) → t < 2 ^ 64 → n < 2 ^ 64 → is_batch cs ≡ true → AllByRecursion IsAnswered cs → AllByRecursion IsLine (lines_with t n cs)
+lines_are t n [] ft fn size all = absurd cc
+lines_are t n (a ∷ []) ft fn size all = (record { thread = ft; number = fn; answered = all.0 }, tt)
+lines_are t n (a ∷ b ∷ cs) ft fn size all =
+    let both = and_parts (nat_le 1 (length (a ∷ b ∷ cs))) (nat_le (length (a ∷ b ∷ cs)) 16) size in
+    let most : length (a ∷ b ∷ cs) ≤ 16 = leb-true (length (a ∷ b ∷ cs)) 16 both.1 in
+    let few : length (a ∷ b ∷ cs) < 2 ^ 32 = omega (arith, most) in
+    let some : 2 ≤ length (a ∷ b ∷ cs) = omega arith in (
+      (
+        (record { kind_is = refl; fits = ft }, (record { kind_is = refl; fits = fn }, (record { kind_is = refl; fits = few }, tt))),
+        (some, most),
+      ),
+      all_map lines.Call IsAnswered (λ x fits. fits) (a ∷ b ∷ cs) all,
+    )
+
 -- an event that follows legal ones
-follows_fits : (limits : Limits) (before : List Event) (e : Event) → Follows limits before e → FitsEvent e → IsEvent e
-follows_fits limits before e follows fits = record {
-  thread = fits.thread;
-  number = fits.number;
-  call = fits.call;
-  reply = subst IsReport (sym follows.reply) (answer_report (state_of limits before) e.thread e.call (subst FitsReply follows.reply fits.reply));
-}
+follows_fits : (limits : Limits) (before : List Event) (e : Event) → Follows limits before e → FitsEvent e → AllByRecursion IsLine (event_lines e)
+follows_fits limits before e follows fits =
+    lines_are e.thread e.number e.calls fits.thread fits.number follows.size
+    (subst (λ (cs : List Answered). AllByRecursion IsAnswered cs) (sym follows.replies)
+    (answers_fit (state_of limits before) e.thread (calls_in e)
+    (subst (λ (cs : List Answered). AllByRecursion FitsAnswered cs) follows.replies fits.calls)))
 
 -- the events after the first ones
-events_fit : (limits : Limits) (events : List Event) → IsLegal limits events → (before es : List Event) → events ≡ before ++ es → AllByRecursion FitsEvent es → AllByRecursion IsEvent es
+events_fit : (limits : Limits) (events : List Event) → IsLegal limits events → (before es : List Event) → events ≡ before ++ es → AllByRecursion FitsEvent es → AllByRecursion IsLine (flat_map event_lines es)
 events_fit limits events legal before [] is all = tt
-events_fit limits events legal before (e ∷ es) is all = (
-  follows_fits limits before e (legal before es e is) all.0,
-  events_fit limits events legal (before ++ e ∷ []) es (is ∙ sym (append_assoc before (e ∷ []) es)) all.1,
-)
+events_fit limits events legal before (e ∷ es) is all =
+    all_append IsLine (event_lines e) (flat_map event_lines es)
+    (follows_fits limits before e (legal before es e is) all.0)
+    (events_fit limits events legal (before ++ e ∷ []) es (is ∙ sym (append_assoc before (e ∷ []) es)) all.1)
 
 digit_small : (level : Level) → digit_of level < 2 ^ 32
 digit_small L0 = lit< tt
@@ -102,13 +128,13 @@ tables_fit limits events fits =
 lines_fit : (limits : Limits) (events : List Event) → IsBootable limits → IsLegal limits events → FitsWords (whole_dump limits events) → AllByRecursion IsLine (lines_of (whole_dump limits events))
 lines_fit limits events bootable legal fits =
     let t = placed (scratch (state_of limits events)) in
-    let told = all_map lines.Event IsEvent (λ e fits. fits) events (events_fit limits events legal [] events refl fits.events) in
-    (tt, (limits_fit limits bootable, all_append IsLine (map lines.Event events ++ table_lines t) (lines.End ∷ []) (all_append IsLine (map lines.Event events) (table_lines t) told (tables_fit limits events fits)) (tt, tt)))
+    let told = events_fit limits events legal [] events refl fits.events in
+    (tt, (limits_fit limits bootable, all_append IsLine (flat_map event_lines events ++ table_lines t) (lines.End ∷ []) (all_append IsLine (flat_map event_lines events) (table_lines t) told (tables_fit limits events fits)) (tt, tt)))
 
 pub legal_dump : (limits : Limits) (events : List Event) → IsBootable limits → IsLegal limits events → FitsWords (whole_dump limits events) → IsDump (dump_text (whole_dump limits events)) (whole_dump limits events)
 legal_dump limits events bootable legal fits = record {
   fit = lines_fit limits events bootable legal fits;
-  state = 9;
+  state = record { first = 9; owed = 0 };
   ran = dump_runs (whole_dump limits events);
   ended = refl;
   bytes_are = refl;

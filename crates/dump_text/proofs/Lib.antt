@@ -4,9 +4,12 @@ pub mod CallLemmas
 pub mod ReportLemmas
 pub mod EventLemmas
 pub mod LineLemmas
+pub mod EventLines
 pub mod Ordering
+pub mod Gathering
 pub mod Progress
 pub mod Sequence
 pub mod KernelReplies
 pub mod Places
 pub mod KernelDumps
+pub mod Batches

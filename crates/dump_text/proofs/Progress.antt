@@ -1,10 +1,11 @@
 -- How far a dump has been read.
-use Rattle.std.proofs.Common.{◌≡◌, ◌≢◌, ℕ, ◌+◌, ◌<◌, ◌≤◌, Bool, true, List, [], ◌∷◌, ◌++◌, length, Option, Some, None, refl, ap, ◌∙◌, sym, arith, subst, length-append}
+use Rattle.std.proofs.Common.{◌≡◌, ◌≢◌, ℕ, ◌+◌, ◌<◌, ◌≤◌, ◌==◌, Bool, true, List, [], ◌∷◌, ◌++◌, length, Option, Some, None, refl, ap, ◌∙◌, sym, arith, subst, length-append}
 use Rattle.std.specs.Prelude.{IsSome}
 use Rattle.std.proofs.lemmas.Bool.{ne_eqb}
 use Rattle.std.proofs.lemmas.List.{append-nil}
 use Rattle.text_words.specs.Lacks.{lacks}
 use Rattle.call_text.proofs.TextLemmas.{Came, came_more, fault_no_end, fault_line}
+use Rattle.dump_text.specs.declared.dumps.Place.{Place}
 use Rattle.dump_text.specs.declared.lines.Line.{Line}
 use Rattle.dump_text.specs.Lists.{DumpLists}
 use Rattle.dump_text.specs.Line.{line_text, IsLine}
@@ -14,63 +15,62 @@ use Rattle.dump_text.specs.Reading.{nothing, Takes}
 use Rattle.dump_text.proofs.LineLemmas.{dump_grammar}
 use Rattle.dump_text.proofs.Ordering.{Shows, shows_nothing, shows_more, shows_all}
 
-pub record Progress (bytes : List ℕ) (d : DumpLists) (first count : ℕ) (rest : List ℕ) : Type 0 where
+pub record Progress (bytes : List ℕ) (d : DumpLists) (place : Place) (count : ℕ) (rest : List ℕ) : Type 0 where
   pub lines : List Line
-  pub came : Came line_text IsLine next start bytes lines first rest
-  pub shows : Shows first d lines
+  pub came : Came line_text IsLine next start bytes lines place rest
+  pub shows : Shows place d lines
   pub counted : count ≡ length lines
   pub short : count + length rest ≤ length bytes
 
 -- nothing was read
-pub progress_start : (bytes : List ℕ) (d : DumpLists) → d ≡ nothing → Progress bytes d 0 0 bytes
+pub progress_start : (bytes : List ℕ) (d : DumpLists) → d ≡ nothing → Progress bytes d start 0 bytes
 progress_start bytes d e = record {
   lines = [];
   came = record { fit = tt; ran = refl; parts = refl };
-  shows = subst (λ (x : DumpLists). Shows 0 x []) (sym e) shows_nothing;
+  shows = subst (λ (x : DumpLists). Shows start x []) (sym e) shows_nothing;
   counted = refl;
   short = omega arith;
 }
 
 -- one more line was read
-pub progress_more : (bytes : List ℕ) (d more : DumpLists) (first later count : ℕ) (rest l after : List ℕ) → Progress bytes d first count rest → rest ≡ l ++ 10 ∷ after → length after < length rest → Takes l first d more (Some later)
+pub progress_more : (bytes : List ℕ) (d more : DumpLists) (first later : Place) (count : ℕ) (rest l after : List ℕ) → Progress bytes d first count rest → rest ≡ l ++ 10 ∷ after → length after < length rest → Takes l first d more (Some later)
     → Progress bytes more later (count + 1) after
 progress_more bytes d more first later count rest l after at parts shorter t = record {
   lines = at.lines ++ t.0 ∷ [];
   came = came_more line_text IsLine next start bytes at.lines first rest l after t.0 later at.came parts t.1 t.2 t.3;
-  shows = subst (λ (x : DumpLists). Shows later x (at.lines ++ t.0 ∷ [])) (sym t.4) (shows_more first later t.0 d at.lines t.3 at.shows);
+  shows = subst (λ (x : DumpLists). Shows later x (at.lines ++ t.0 ∷ [])) (sym t.4) (shows_more first later t.0 d at.lines t.1 t.3 at.shows);
   counted = (let n = at.counted in omega (arith, n, length-append at.lines (t.0 ∷ [])));
   short = (let n = at.short in omega (arith, n, shorter));
 }
 
 -- the last line lacks its end
-pub fault_at_end : (bytes : List ℕ) (d : DumpLists) (first count : ℕ) (rest : List ℕ) → Progress bytes d first count rest → lacks 10 rest ≡ true → (rest ≡ [] → ⊥) → DumpFaultsAt bytes (count + 1)
+pub fault_at_end : (bytes : List ℕ) (d : DumpLists) (first : Place) (count : ℕ) (rest : List ℕ) → Progress bytes d first count rest → lacks 10 rest ≡ true → (rest ≡ [] → ⊥) → DumpFaultsAt bytes (count + 1)
 fault_at_end bytes d first count rest at lack some =
     fault_no_end line_text IsLine next ends start bytes at.lines first rest (count + 1) at.came (ap (λ n. n + 1) at.counted) lack (λ e. absurd (some e))
 
 -- a line that may not stand there
-pub fault_there : (bytes : List ℕ) (d more : DumpLists) (first count : ℕ) (rest l after : List ℕ) → Progress bytes d first count rest → rest ≡ l ++ 10 ∷ after → lacks 10 l ≡ true → Takes l first d more None → DumpFaultsAt bytes (count + 1)
+pub fault_there : (bytes : List ℕ) (d more : DumpLists) (first : Place) (count : ℕ) (rest l after : List ℕ) → Progress bytes d first count rest → rest ≡ l ++ 10 ∷ after → lacks 10 l ≡ true → Takes l first d more None → DumpFaultsAt bytes (count + 1)
 fault_there bytes d more first count rest l after at parts lack t =
     fault_line line_text IsLine next ends start bytes at.lines first rest (count + 1) l after dump_grammar at.came (ap (λ n. n + 1) at.counted) parts lack t
 
 -- too early an end
-pub fault_early : (bytes : List ℕ) (d : DumpLists) (first count : ℕ) (rest : List ℕ) → Progress bytes d first count rest → rest ≡ [] → first ≢ 9 → DumpFaultsAt bytes (count + 1)
+pub fault_early : (bytes : List ℕ) (d : DumpLists) (first : Place) (count : ℕ) (rest : List ℕ) → Progress bytes d first count rest → rest ≡ [] → first.first ≢ 9 → DumpFaultsAt bytes (count + 1)
 fault_early bytes d first count rest at none other =
-    fault_no_end line_text IsLine next ends start bytes at.lines first rest (count + 1) at.came (ap (λ n. n + 1) at.counted) (subst (λ (x : List ℕ). lacks 10 x ≡ true) (sym none) refl) (λ e. ne_eqb first 9 other)
+    fault_no_end line_text IsLine next ends start bytes at.lines first rest (count + 1) at.came (ap (λ n. n + 1) at.counted) (subst (λ (x : List ℕ). lacks 10 x ≡ true) (sym none) refl) (λ e. ne_eqb first.first 9 other)
 
 nothing_left : (xs rest : List ℕ) → rest ≡ [] → xs ++ rest ≡ xs
 nothing_left xs rest e = ap (λ (x : List ℕ). xs ++ x) e ∙ append-nil xs
 
 -- all was read
-pub progress_end : (bytes : List ℕ) (d : DumpLists) (first count : ℕ) (rest : List ℕ) → Progress bytes d first count rest → rest ≡ [] → first ≡ 9 → IsDump bytes d
+pub progress_end : (bytes : List ℕ) (d : DumpLists) (first : Place) (count : ℕ) (rest : List ℕ) → Progress bytes d first count rest → rest ≡ [] → first.first ≡ 9 → IsDump bytes d
 progress_end bytes d first count rest at none e =
-    let s = subst (λ (n : ℕ). Shows n d at.lines) e at.shows in
-    let all = shows_all d at.lines s in
+    let all = shows_all first d at.lines e at.shows in
     let came = subst (λ (vs : List Line). Came line_text IsLine next start bytes vs first rest) all at.came in
     record {
       fit = came.fit;
       state = first;
       ran = came.ran;
-      ended = ap (λ (n : ℕ). ends n) e;
+      ended = ap (λ (n : ℕ). n == 9) e;
       bytes_are = came.parts ∙ nothing_left (dump_text d) rest none;
     }
 
@@ -82,10 +82,10 @@ pub filled : (text : List ℕ) (l : Line) (b : Bool) → b ≡ true → Fills li
 filled text l b e h = subst (λ (x : Bool). Fills line_text IsLine text l x) e h
 
 -- the line that was read may not stand there, and no other has its spelling
-pub not_next : (text : List ℕ) (first : ℕ) (l : Line) → IsLine l → text ≡ line_text l → next first l ≡ None → (m : Line) → IsLine m → IsSome (next first m) → text ≡ line_text m → ⊥
+pub not_next : (text : List ℕ) (first : Place) (l : Line) → IsLine l → text ≡ line_text l → next first l ≡ None → (m : Line) → IsLine m → IsSome (next first m) → text ≡ line_text m → ⊥
 not_next text first l is e none m im some em =
     let same : m ≡ l = dump_grammar.one m l im is (sym em ∙ e) in
     not_some (next first m) (ap (next first) same ∙ none) some
 
-pub taken : (text : List ℕ) (first : ℕ) (d more : DumpLists) (o p : Option ℕ) → o ≡ p → Takes text first d more o → Takes text first d more p
-taken text first d more o p e t = subst (λ (x : Option ℕ). Takes text first d more x) e t
+pub taken : (text : List ℕ) (first : Place) (d more : DumpLists) (o p : Option Place) → o ≡ p → Takes text first d more o → Takes text first d more p
+taken text first d more o p e t = subst (λ (x : Option Place). Takes text first d more x) e t

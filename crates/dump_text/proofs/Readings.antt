@@ -1,5 +1,5 @@
 -- Reading what stands after a line's first word.
-use Rattle.std.proofs.Common.{◌≡◌, ℕ, ◌<◌, List, [], ◌∷◌, ◌++◌, length, Option, Some, None, ap, ◌∙◌, sym, subst}
+use Rattle.std.proofs.Common.{◌≡◌, ℕ, ◌<◌, List, [], ◌∷◌, ◌++◌, length, Bool, false, Option, Some, None, ap, ◌∙◌, sym, subst}
 use Rattle.std.specs.Global.{Vec}
 use Rattle.text_words.specs.Reading.{Reads}
 use Rattle.spoken_calls.specs.declared.args.ArgKind.{ArgKind}
@@ -8,7 +8,7 @@ use Rattle.spoken_calls.specs.Spoken.{AreArgs, ReadsArguments, arguments_text}
 use Rattle.spoken_calls.proofs.SpokenLemmas.{arguments_are_one}
 use Rattle.dump_text.specs.declared.words.Word.{Word}
 use Rattle.dump_text.specs.Word.{args_of, words_text}
-use Rattle.dump_text.specs.Making.{Makes}
+use Rattle.dump_text.specs.Making.{Makes, Fills}
 use Rattle.dump_text.specs.Line.{AreAllowed}
 
 -- what comes after one beginning
@@ -34,3 +34,7 @@ made words Allows ks b text rest r args found (Some v) positive some read is sam
 made words Allows ks b text rest r args found None positive some read is same m = λ v allowed e.
     let p = some_args ks rest r args some read in
     m v allowed.1 (same ∙ arguments_are_one ks args.items (args_of (words v)) positive p.0 allowed.0 (sym p.1 ∙ cancel b rest (words_text (words v)) (sym is ∙ e)))
+
+-- what was not filled in is not spelled
+pub not_filled : {V : Type 0} (text : V → List ℕ) (Fits : V → Type 0) (word : List ℕ) (v : V) (b : Bool) → b ≡ false → Fills text Fits word v b → (w : V) → Fits w → word ≡ text w → ⊥
+not_filled text Fits word v b not h = subst (λ (x : Bool). Fills text Fits word v x) not h

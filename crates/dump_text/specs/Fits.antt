@@ -1,7 +1,8 @@
 -- Dumps whose values fit the words that spell them, whatever the rules say of them.
 use Rattle.std.specs.Prelude.{◌<◌, ◌^◌, length}
 use Rattle.std.specs.List.{AllByRecursion}
-use Rattle.kernel_rules.specs.declared.events.Event.{Event}
+use Rattle.histories.specs.Events.{Event}
+use Rattle.histories.specs.declared.events.Answered.{Answered}
 use Rattle.kernel_rules.specs.declared.replies.Reply.{Reply}
 use Rattle.kernel_rules.specs.declared.replies.Reply.TheVariants as replies
 use Rattle.text_words.specs.DataWord.{IsData}
@@ -10,6 +11,7 @@ use Rattle.dump_text.specs.Word.{spoken_label}
 use Rattle.dump_text.specs.Call.{IsCall}
 use Rattle.dump_text.specs.Line.{AreWords, use_kinds, use_words, map_kinds, map_words}
 use Rattle.dump_text.specs.Lists.{TableLists, DumpLists}
+use Rattle.dump_text.specs.declared.events.Single.{Single}
 use Rattle.dump_text.specs.declared.lines.Line.{Line}
 use Rattle.dump_text.specs.declared.lines.Line.TheVariants as lines
 
@@ -21,17 +23,29 @@ FitsReply (replies.Entered point closure) = (point < 2 ^ 64) × (closure < 2 ^ 6
 FitsReply (replies.Bytes d) = IsData d
 FitsReply _ = Unit {0}
 
+-- a call and its reply fit their words
+pub record FitsAnswered (a : Answered) : Type 0 where
+  pub call : IsCall a.call
+  pub reply : FitsReply a.reply
+
 -- the numbers of an event are of 64 bits, and its call and its reply fit their words
+pub record FitsSingle (e : Single) : Type 0 where
+  pub thread : e.thread < 2 ^ 64
+  pub number : e.number < 2 ^ 64
+  pub answered : FitsAnswered e.answered
+
+-- the same of an event of any number of calls
 pub record FitsEvent (e : Event) : Type 0 where
   pub thread : e.thread < 2 ^ 64
   pub number : e.number < 2 ^ 64
-  pub call : IsCall e.call
-  pub reply : FitsReply e.reply
+  pub calls : AllByRecursion FitsAnswered e.calls
 
--- the values of a line of events or tables fit their words. Nothing is asked of the limits, of the
--- places of labels, or of what an order says
+-- the values of a line of events or tables fit their words. Nothing is asked of the limits, of how
+-- many calls a batch has, of the places of labels, or of what an order says
 abbrev pub FitsLine : Line → Type 0
-FitsLine (lines.Event e) = FitsEvent e
+FitsLine (lines.Event e) = FitsSingle e
+FitsLine (lines.Batch b) = (b.thread < 2 ^ 64) × (b.number < 2 ^ 64)
+FitsLine (lines.Call a) = FitsAnswered a
 FitsLine (lines.Live id) = id < 2 ^ 64
 FitsLine (lines.Use u) = AreWords use_kinds (use_words u)
 FitsLine (lines.Map s) = AreWords map_kinds (map_words s)
@@ -48,5 +62,5 @@ pub record FitTables (t : TableLists) : Type 0 where
 
 -- the events and the tables fit their words
 pub record FitsWords (d : DumpLists) : Type 0 where
-  pub events : AllByRecursion (λ e. FitsLine (lines.Event e)) d.events
+  pub events : AllByRecursion FitsEvent d.events
   pub tables : FitTables d.tables

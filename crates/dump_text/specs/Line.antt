@@ -13,10 +13,11 @@ use Rattle.kernel_rules.specs.declared.tables.Used.{Used}
 use Rattle.kernel_rules.specs.declared.tables.Shown.{Shown}
 use Rattle.dump_text.specs.declared.tables.Stored.{Stored}
 use Rattle.kernel_rules.specs.declared.tables.Compared.{Compared}
+use Rattle.dump_text.specs.declared.line_words.Batch.{Batch}
 use Rattle.dump_text.specs.declared.lines.Line.{Line}
 use Rattle.dump_text.specs.declared.lines.Line.TheVariants as lines
 use Rattle.dump_text.specs.Word.{args_of, words_text}
-use Rattle.dump_text.specs.Event.{event_text, IsEvent}
+use Rattle.dump_text.specs.Event.{answered_text, IsAnswered, single_text, IsSingle}
 
 -- a level of a label that no star is in, as a digit
 abbrev pub digit_of : Level → ℕ
@@ -31,6 +32,10 @@ abbrev pub limits_words : Limits → List Word
 limits_words l =
     words.Number l.pages ∷ words.Number (digit_of l.device) ∷ words.Wide l.next_id
     ∷ words.Wide l.next_category ∷ []
+
+-- THREAD NUMBER COUNT
+abbrev pub batch_words : Batch → List Word
+batch_words b = words.Wide b.thread ∷ words.Wide b.number ∷ words.Number b.count ∷ []
 
 -- ID
 abbrev pub live_words : ℕ → List Word
@@ -56,6 +61,9 @@ order_words o = words.Number o.first ∷ words.Number o.second ∷ words.Number 
 abbrev pub limits_kinds : List ArgKind
 limits_kinds = kinds.Number ∷ kinds.Number ∷ kinds.Wide ∷ kinds.Wide ∷ []
 
+abbrev pub batch_kinds : List ArgKind
+batch_kinds = kinds.Wide ∷ kinds.Wide ∷ kinds.Number ∷ []
+
 abbrev pub live_kinds : List ArgKind
 live_kinds = kinds.Wide ∷ []
 
@@ -79,6 +87,10 @@ AreWords ks ws = AreArgs ks (args_of ws)
 abbrev pub IsBootable : Limits → Type 0
 IsBootable l = in_range l ≡ true
 
+-- 2 to 16 calls
+abbrev pub HasSeveral : Batch → Type 0
+HasSeveral b = (2 ≤ b.count) × (b.count ≤ 16)
+
 -- three bits
 abbrev pub HasThreeBits : Compared → Type 0
 HasThreeBits o = o.bits ≤ 7
@@ -95,7 +107,9 @@ AreAllowed ks words Allows v = AreWords ks (words v) × Allows v
 abbrev pub line_text : Line → List ℕ
 line_text lines.Version = codes "histar-dump 1"
 line_text (lines.Limits l) = codes "limits " ++ words_text (limits_words l)
-line_text (lines.Event e) = codes "event " ++ event_text e
+line_text (lines.Event e) = codes "event " ++ single_text e
+line_text (lines.Batch b) = codes "batch " ++ words_text (batch_words b)
+line_text (lines.Call a) = codes "call " ++ answered_text a
 line_text (lines.Live id) = codes "live " ++ words_text (live_words id)
 line_text (lines.Use u) = codes "use " ++ words_text (use_words u)
 line_text (lines.Map s) = codes "map " ++ words_text (map_words s)
@@ -107,7 +121,9 @@ line_text lines.End = codes "end"
 abbrev pub IsLine : Line → Type 0
 IsLine lines.Version = Unit {0}
 IsLine (lines.Limits l) = AreAllowed limits_kinds limits_words IsBootable l
-IsLine (lines.Event e) = IsEvent e
+IsLine (lines.Event e) = IsSingle e
+IsLine (lines.Batch b) = AreAllowed batch_kinds batch_words HasSeveral b
+IsLine (lines.Call a) = IsAnswered a
 IsLine (lines.Live id) = AreAllowed live_kinds live_words Anything id
 IsLine (lines.Use u) = AreAllowed use_kinds use_words Anything u
 IsLine (lines.Map s) = AreAllowed map_kinds map_words Anything s

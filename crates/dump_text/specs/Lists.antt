@@ -1,7 +1,7 @@
 -- What a dump has, as lists.
 use Rattle.std.specs.Prelude.{ℕ, List}
 use Rattle.base.specs.declared.ranges.Limits.{Limits}
-use Rattle.kernel_rules.specs.declared.events.Event.{Event}
+use Rattle.histories.specs.Events.{Event}
 use Rattle.kernel_rules.specs.declared.tables.Used.{Used}
 use Rattle.kernel_rules.specs.declared.tables.Shown.{Shown}
 use Rattle.dump_text.specs.declared.tables.Stored.{Stored}

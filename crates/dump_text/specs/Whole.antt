@@ -2,10 +2,10 @@
 use Rattle.std.specs.Prelude.{ℕ, ◌+◌, List, [], ◌∷◌}
 use Rattle.base.specs.declared.ranges.Limits.{Limits}
 use Rattle.label_lattice.specs.declared.raw_labels.RawLabel.{RawLabel}
-use Rattle.kernel_rules.specs.History.{IsLegal, state_of}
+use Rattle.histories.specs.Events.{Event}
+use Rattle.histories.specs.History.{IsLegal, state_of}
 use Rattle.kernel_rules.specs.Scratch.{scratch}
 use Rattle.kernel_rules.specs.Tables.{TableLists as Kept}
-use Rattle.kernel_rules.specs.declared.events.Event.{Event}
 use Rattle.dump_text.specs.Dump.{IsDump}
 use Rattle.dump_text.specs.Line.{IsBootable}
 use Rattle.dump_text.specs.Lists.{TableLists, DumpLists}

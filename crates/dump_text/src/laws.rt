@@ -1,8 +1,8 @@
 //! Laws of the dumps of legal events.
 ghost use Rattle.std.specs.Prelude.{List};
 ghost use Rattle.base.specs.declared.ranges.Limits.{Limits as Booted};
-ghost use Rattle.kernel_rules.specs.History.{IsLegal};
-ghost use Rattle.kernel_rules.specs.declared.events.Event.{Event as Done};
+ghost use Rattle.histories.specs.History.{IsLegal};
+ghost use Rattle.histories.specs.Events.{Event as Done};
 ghost use Rattle.dump_text.specs.Dump.{dump_text, IsDump};
 ghost use Rattle.dump_text.specs.Fits.{FitsWords};
 ghost use Rattle.dump_text.specs.Line.{IsBootable};

@@ -1,17 +1,28 @@
-//! What stands in the lines of the tables.
+//! What stands in the lines of the tables, and in those that head batches.
 ghost use Rattle.std.specs.Prelude.{◌≡◌, IfSome, IfNone};
 ghost use Rattle.base.specs.declared.levels.Level.{Level as LevelValue};
 ghost use Rattle.base.specs.declared.levels.Level.TheVariants.{Star};
 ghost use Rattle.dump_text.specs.Making.{Makes};
 ghost use Rattle.dump_text.specs.Line.{digit_of, limits_words, live_words, use_words, map_words};
-ghost use Rattle.dump_text.specs.Line.{label_words, order_words};
-ghost use Rattle.dump_text.specs.Line.{IsBootable, HasThreeBits, Anything};
+ghost use Rattle.dump_text.specs.Line.{batch_words, label_words, order_words};
+ghost use Rattle.dump_text.specs.Line.{IsBootable, HasSeveral, HasThreeBits, Anything};
 
 use crate::labels::numbered;
 use crate::tables::Stored;
 use base::{Level, Limits, ObjectId};
 use kernel_rules::{Compared, Shown, Used};
 use spoken_calls::Arg;
+
+/// The head of a batch of several calls, whose lines come after it.
+#[derive(Clone, Copy)]
+pub struct Batch {
+    /// The thread that called.
+    pub thread: ObjectId,
+    /// Which of its thread's events it is, from 1.
+    pub number: u64,
+    /// How many calls it has: 2 to 16 in a dump.
+    pub count: usize,
+}
 
 /// The level with the digit. No digit is that of a star.
 fn level_of(digit: u32) -> Option<Level>
@@ -27,7 +38,7 @@ fn level_of(digit: u32) -> Option<Level>
     }
 }
 
-/// What a line of the tables tells by its words, after the first.
+/// What a line tells by its words, after the first.
 pub trait Worded: Sized {
     ghost use Rattle.std.specs.Prelude.{List};
     ghost use Rattle.dump_text.specs.declared.words.Word.{Word};
@@ -72,6 +83,28 @@ impl Worded for Limits {
             return None;
         }
         Some(limits)
+    }
+}
+
+/// The head of a batch.
+impl Worded for Batch {
+    ghost words = { batch_words };
+
+    ghost Allows = { HasSeveral };
+
+    fn of_args(args: &[Arg]) -> Option<Batch> {
+        match args {
+            [Arg::Wide(thread), Arg::Wide(number), Arg::Number(count)]
+                if 2 <= *count && *count <= 16 =>
+            {
+                Some(Batch {
+                    thread: ObjectId::new(*thread),
+                    number: *number,
+                    count: *count as usize,
+                })
+            }
+            _ => None,
+        }
     }
 }
 

@@ -2,18 +2,19 @@
 ghost use Rattle.std.specs.Prelude.{◌≡◌, ◌<◌, ◌++◌, codes, length, IfOk};
 ghost use Rattle.text_words.specs.Reading.{Reads};
 ghost use Rattle.dump_text.specs.Making.{Fills};
-ghost use Rattle.dump_text.specs.Event.{event_text, IsEvent};
+ghost use Rattle.dump_text.specs.Event.{answered_text, IsAnswered, single_text, IsSingle};
 ghost use Rattle.dump_text.specs.Word.{words_text};
 ghost use Rattle.dump_text.specs.Line.{line_text, IsLine};
 ghost use Rattle.dump_text.specs.Line.{AreAllowed};
 ghost use Rattle.dump_text.specs.declared.lines.Line.TheVariants as told;
 
-use crate::events::read_event;
-use crate::line_words::Worded;
+use crate::events::{Single, read_answered, read_single};
+use crate::line_words::{Batch, Worded};
 use crate::stripping::after;
 use crate::tables::Stored;
 use base::{Limits, ObjectId};
-use kernel_rules::{Call, Compared, Event, Reply, Shown, Used};
+use histories::Answered;
+use kernel_rules::{Call, Compared, Reply, Shown, Used};
 use spoken_calls::{ArgKind, read_arguments};
 use std::alloc::{AllocError, Global};
 use text_words::is_same;
@@ -25,7 +26,12 @@ pub enum Line {
     Version,
     /// What the machine was booted with.
     Limits(Limits),
-    Event(Event),
+    /// An event of one call.
+    Event(Single),
+    /// The head of an event of several calls.
+    Batch(Batch),
+    /// One of these calls.
+    Call(Answered),
     /// A live id.
     Live(ObjectId),
     Use(Used),
@@ -69,11 +75,11 @@ pub trait AsLine {
         ensures { result ≡ line self.now };
 }
 
-impl AsLine for Event {
-    ghost line = { told.Event };
+impl AsLine for Answered {
+    ghost line = { told.Call };
 
     fn as_line(&self) -> Line {
-        Line::Event(*self)
+        Line::Call(*self)
     }
 }
 
@@ -117,25 +123,43 @@ impl AsLine for Compared {
     }
 }
 
-/// An event that nothing told yet.
-fn no_event() -> Event {
-    Event {
-        thread: ObjectId::new(0),
-        number: 0,
+/// A call that nothing told yet.
+fn no_answer() -> Answered {
+    Answered {
         call: Call::CatCreate,
         reply: Reply::Done,
     }
 }
 
+/// An event that nothing told yet.
+fn no_event() -> Single {
+    Single {
+        thread: ObjectId::new(0),
+        number: 0,
+        answered: no_answer(),
+    }
+}
+
 /// Fills in an event, as `event` and its words, and tells whether the text spells one.
-fn read_event_line(alloc: Global, text: &[u8], event: &mut Event) -> Result<bool, AllocError>
-    ensures { IfOk result (λ yes. Fills (λ e. codes "event " ++ event_text e) IsEvent
+fn read_event_line(alloc: Global, text: &[u8], event: &mut Single) -> Result<bool, AllocError>
+    ensures { IfOk result (λ yes. Fills (λ e. codes "event " ++ single_text e) IsSingle
         text.now event.new yes) }
 {
     let Some(rest) = after(text, b"event ") else {
         return Ok(false);
     };
-    read_event(alloc, rest, event)
+    read_single(alloc, rest, event)
+}
+
+/// Fills in a call and its reply, as `call` and their words, and tells whether the text spells them.
+fn read_call_line(alloc: Global, text: &[u8], answered: &mut Answered) -> Result<bool, AllocError>
+    ensures { IfOk result (λ yes. Fills (λ a. codes "call " ++ answered_text a) IsAnswered
+        text.now answered.new yes) }
+{
+    let Some(rest) = after(text, b"call ") else {
+        return Ok(false);
+    };
+    read_answered(alloc, rest, answered)
 }
 
 /// Fills in the line that the bytes before a line's end spell, and tells whether they spell one.
@@ -207,6 +231,20 @@ pub fn read_line(alloc: Global, text: &[u8], line: &mut Line) -> Result<bool, Al
         ],
     )? {
         *line = Line::Limits(limits);
+        return Ok(true);
+    }
+    if let Some(batch) = read_worded::<Batch>(
+        alloc,
+        text,
+        b"batch ",
+        &[ArgKind::Wide, ArgKind::Wide, ArgKind::Number],
+    )? {
+        *line = Line::Batch(batch);
+        return Ok(true);
+    }
+    let mut answered = no_answer();
+    if read_call_line(alloc, text, &mut answered)? {
+        *line = Line::Call(answered);
         return Ok(true);
     }
     let mut event = no_event();

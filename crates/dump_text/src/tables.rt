@@ -1,7 +1,8 @@
 //! A dump as a value.
 
 use base::{Limits, ObjectId};
-use kernel_rules::{Compared, Event, Shown, Used};
+use histories::Event;
+use kernel_rules::{Compared, Shown, Used};
 use label_lattice::RawLabel;
 use std::marker::Model;
 

@@ -4,7 +4,8 @@ ghost use Rattle.dump_text.specs.Whole.{placed_from, placed};
 
 use crate::tables::{Dump, DumpTables, Stored};
 use base::{Limits, NoMemory};
-use kernel_rules::{Event, Tables as Kept};
+use histories::Event;
+use kernel_rules::Tables as Kept;
 use label_lattice::RawLabel;
 use std::alloc::Global;
 

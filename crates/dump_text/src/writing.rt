@@ -1,18 +1,20 @@
 //! Writing dumps.
 ghost use Rattle.std.specs.Prelude.{◌≡◌, ◌++◌, ◌∷◌, [], map, IfOk, OnOk};
-ghost use Rattle.std.specs.List.{AllByRecursion};
+ghost use Rattle.std.specs.List.{AllByRecursion, flat_map};
 ghost use Rattle.spoken_calls.specs.Arg.{FitsArg};
 ghost use Rattle.call_text.specs.Text.{lines_text};
 ghost use Rattle.dump_text.specs.Word.{arg_of, words_text};
 ghost use Rattle.dump_text.specs.Line.{digit_of, line_text};
-ghost use Rattle.dump_text.specs.Dump.{table_lines, dump_text};
-ghost use Rattle.dump_text.specs.Fits.{FitsLine, FitTables, FitsWords};
+ghost use Rattle.dump_text.specs.Dump.{event_lines, table_lines, dump_text};
+ghost use Rattle.dump_text.specs.Fits.{FitsEvent, FitsLine, FitTables, FitsWords};
 
-use crate::events::put_event;
+use crate::events::{Single, put_answered, put_single};
+use crate::line_words::Batch;
 use crate::lines::{AsLine, Line};
 use crate::tables::{Dump, DumpTables};
 use crate::words::{Word, put_further, put_word};
 use base::{Level, NoMemory};
+use histories::Event;
 use std::alloc::{AllocError, Global};
 
 /// The digit of a level.
@@ -63,7 +65,15 @@ fn put_line_words(out: &mut Vec<u8>, line: &Line) -> Result<(), NoMemory>
         }
         Line::Event(event) => {
             out.extend_from_slice(b"event ")?;
-            put_event(out, &event)?;
+            put_single(out, &event)?;
+        }
+        Line::Batch(batch) => {
+            let more = [Word::Wide(batch.number), Word::Wide(batch.count as u64)];
+            put_words(out, b"batch ", &Word::Wide(batch.thread.number()), &more)?;
+        }
+        Line::Call(answered) => {
+            out.extend_from_slice(b"call ")?;
+            put_answered(out, &answered)?;
         }
         Line::Live(id) => put_words(out, b"live ", &Word::Wide(id.number()), &[])?,
         Line::Use(used) => {
@@ -116,6 +126,41 @@ fn put_each<T: AsLine>(out: &mut Vec<u8>, items: &[T]) -> Result<(), NoMemory>
     Ok(())
 }
 
+/// Adds the lines of the event.
+fn put_event(out: &mut Vec<u8>, event: &Event) -> Result<(), NoMemory>
+    ensures text { OnOk result (out.new.items
+        ≡ out.old.items ++ lines_text line_text (event_lines event.now)) }
+    ensures fits { OnOk result (FitsEvent event.now) }
+{
+    if let [answered] = event.calls.as_slice() {
+        let single = Single {
+            thread: event.thread,
+            number: event.number,
+            answered: *answered,
+        };
+        return put_line(out, &Line::Event(single));
+    }
+    let batch = Batch {
+        thread: event.thread,
+        number: event.number,
+        count: event.calls.len(),
+    };
+    put_line(out, &Line::Batch(batch))?;
+    put_each(out, event.calls.as_slice())
+}
+
+/// Adds the lines of the events.
+fn put_events(out: &mut Vec<u8>, events: &[Event]) -> Result<(), NoMemory>
+    ensures text { OnOk result (out.new.items
+        ≡ out.old.items ++ lines_text line_text (flat_map event_lines events.now)) }
+    ensures fits { OnOk result (AllByRecursion FitsEvent events.now) }
+{
+    for event in events {
+        put_event(out, event)?;
+    }
+    Ok(())
+}
+
 /// Adds the lines of the tables.
 fn put_tables(out: &mut Vec<u8>, tables: &DumpTables) -> Result<(), NoMemory>
     ensures text { OnOk result (out.new.items
@@ -138,7 +183,7 @@ pub fn write_dump(alloc: Global, dump: &Dump) -> Result<Vec<u8>, NoMemory>
     let mut out = Vec::new(alloc);
     put_line(&mut out, &Line::Version)?;
     put_line(&mut out, &Line::Limits(dump.limits))?;
-    put_each(&mut out, dump.events.as_slice())?;
+    put_events(&mut out, dump.events.as_slice())?;
     put_tables(&mut out, &dump.tables)?;
     put_line(&mut out, &Line::End)?;
     Ok(out)

@@ -59,6 +59,15 @@ impl KeptReply {
         KeptReply { answered }
     }
 
+    /// The same reply.
+    pub fn again(&self) -> KeptReply
+        ensures { result ≡ self.now }
+    {
+        KeptReply {
+            answered: self.answered,
+        }
+    }
+
     /// The reply.
     pub fn reply(&self) -> Reply
         ensures { result ≡ self.now }

@@ -1,12 +1,12 @@
 -- What a commit publishes.
-use Rattle.std.proofs.Common.{◌≡◌, ◌+◌, ℕ, List, [], ◌∷◌, ◌++◌, length, fold, refl, sym, ap, ◌∙◌, subst, arith, length-append}
+use Rattle.std.proofs.Common.{◌≡◌, ◌+◌, ℕ, map, List, [], ◌∷◌, ◌++◌, length, fold, refl, sym, ap, ◌∙◌, subst, arith, length-append}
 use Rattle.logbook.specs.Pages.{Book as Log}
 use Rattle.base.specs.declared.ranges.Limits.{Limits}
-use Rattle.kernel_rules.specs.Step.{answer, next}
-use Rattle.kernel_rules.specs.Runs.{booted}
-use Rattle.kernel_rules.specs.History.{IsLegal, state_of}
-use Rattle.kernel_rules.specs.declared.events.Event.{Event}
-use Rattle.kernel_rules.proofs.HistoryLaws.{legal_none, legal-snoc, state_of-snoc}
+use Rattle.kernel_rules.specs.Runs.{booted, state_after, replies_to}
+use Rattle.histories.specs.History.{IsLegal, state_of}
+use Rattle.histories.specs.Events.{Event, by, calls_in, replies_in}
+use Rattle.histories.proofs.HistoryLaws.{legal_none, legal-snoc, state_of-snoc}
+use Rattle.histories.proofs.BatchLaws.{answered_replies}
 use Rattle.published_copy.specs.declared.copies.Copied.{Copied}
 use Rattle.published_copy.specs.declared.ops.Op.{Op}
 use Rattle.published_copy.specs.declared.entries.Entry.{Entry}
@@ -15,7 +15,7 @@ use Rattle.published_copy.specs.Entries.{made}
 use Rattle.published_copy.specs.Absorbed.{shown_of, absorbed, list_of, listed}
 use Rattle.syscall_core.specs.Kernel.{kernel_state}
 use Rattle.published_copy.specs.Boots.{Boot}
-use Rattle.published_copy.specs.Shares.{CopiesView, EndsWithReply, IsAwaited, IsNext, IsShown, Names, Succeeds, copies_with, tag_of}
+use Rattle.published_copy.specs.Shares.{CopiesView, EndsWithReplies, IsAwaited, IsNext, IsShown, Names, Succeeds, copies_with, tag_of}
 
 abbrev log_from : ℕ × (ℕ × ℕ) → Log
 log_from t = record { number = t.0; log_name = t.1.0; cells_name = t.1.1 }
@@ -35,7 +35,7 @@ shows_next boot x y list op was nx is =
     let list_is : list_of y.sealed y.seen.log ≡ list ++ e ∷ [] = listed_is ∙ nx.list_is in
     let kernel : kernel_state y.kernel ≡ state_of limits (list ++ e ∷ []) =
     ap (λ s. s.state) is
-    ∙ ((λ i. next (shown_state boot x list was i) (nx.thread_is i) (nx.call_is i))
+    ∙ ((λ i. state_after (shown_state boot x list was i) (by (nx.thread_is i) (nx.calls_are i)))
     ∙ sym (state_of-snoc limits list e)) in
     let legal : IsLegal limits (list ++ e ∷ []) =
     legal-snoc limits list e
@@ -52,28 +52,29 @@ shows_next boot x y list op was nx is =
       list_is = listed_is;
     }
 
--- and it has that event's reply
+-- and it has that event's replies
 pub replies_next : (boot : Boot) (x y : Copied) (list : List Event) (op : Op)
-    → IsShown boot x list → IsNext boot list op → shown_of y ≡ absorbed (shown_of x) op → EndsWithReply (listed op) y.reply
+    → IsShown boot x list → IsNext boot list op → shown_of y ≡ absorbed (shown_of x) op → EndsWithReplies (listed op) (y.reply ∷ y.further)
 replies_next boot x y list op was nx is = record {
   before = list;
   event = nx.event;
   list_is = nx.list_is;
-  reply_is =
-      nx.may.reply
-      ∙ sym (ap (λ s. s.reply) is ∙ (λ i. answer (shown_state boot x list was i) (nx.thread_is i) (nx.call_is i)));
+  replies_are =
+      ap (map (λ a. a.reply)) nx.may.replies
+      ∙ answered_replies (state_of boot.limits list) nx.event.thread (calls_in nx.event)
+      ∙ sym (ap (λ s. s.replies) is ∙ (λ i. replies_to (shown_state boot x list was i) (by (nx.thread_is i) (nx.calls_are i))));
 }
 
--- what is shown once the awaited operation was taken in, and its reply
+-- what is shown once the awaited operation was taken in, and its replies
 pub shows_awaited : (boot : Boot) (v : CopiesView) (x y : Copied) (pending : List Op) (list : List Event)
-    → copies_with (list_of x.sealed x.seen.log) pending ≡ v
+    → copies_with (list_of x.sealed x.seen.log) pending x.reply x.further ≡ v
     → IsShown boot x (list_of x.sealed x.seen.log) → IsAwaited boot v list
-    → shown_of y ≡ fold absorbed (shown_of x) pending → IsShown boot y list × EndsWithReply list y.reply
+    → shown_of y ≡ fold absorbed (shown_of x) pending → IsShown boot y list × EndsWithReplies list (y.reply ∷ y.further)
 shows_awaited boot v x y pending list view was now is =
-    let awaited : IsAwaited boot (copies_with (list_of x.sealed x.seen.log) pending) list =
+    let awaited : IsAwaited boot (copies_with (list_of x.sealed x.seen.log) pending x.reply x.further) list =
     subst (λ (c : CopiesView). IsAwaited boot c list) (sym view) now in
     let took : shown_of y ≡ absorbed (shown_of x) awaited.op = is ∙ ap (fold absorbed (shown_of x)) awaited.pending_is in
-    subst (λ (l : List Event). IsShown boot y l × EndsWithReply l y.reply) awaited.list_is (
+    subst (λ (l : List Event). IsShown boot y l × EndsWithReplies l (y.reply ∷ y.further)) awaited.list_is (
       shows_next boot x y (list_of x.sealed x.seen.log) awaited.op was awaited.next took,
       replies_next boot x y (list_of x.sealed x.seen.log) awaited.op was awaited.next took,
     )
@@ -96,12 +97,12 @@ succeeds boot x y list now was is =
 
 -- an operation that was queued is awaited once the log has made its event
 pub awaits : (boot : Boot) (copies : CopiesView) (list : List Event) (op : Op) (log settled : List Entry)
-    → copies ≡ copies_with list (op ∷ []) → IsNext boot list op → op.seen.log ≡ log → settled ≡ log ++ Made ∷ []
+    → copies.list ≡ list → copies.pending ≡ op ∷ [] → IsNext boot list op → op.seen.log ≡ log → settled ≡ log ++ Made ∷ []
     → IsAwaited boot copies (made settled)
-awaits boot copies list op log settled is nx saw settles = record {
+awaits boot copies list op log settled lists is nx saw settles = record {
   op = op;
-  pending_is = ap (λ c. c.pending) is;
-  next = subst (λ (l : List Event). IsNext boot l op) (sym (ap (λ c. c.list) is)) nx;
+  pending_is = is;
+  next = subst (λ (l : List Event). IsNext boot l op) (sym lists) nx;
   list_is = ap (λ (l : List Entry). made (l ++ Made ∷ [])) saw ∙ ap made (sym settles);
 }
 

@@ -4,3 +4,5 @@ pub mod EntryLaws
 pub mod Adding
 pub mod Shares
 pub mod Commits
+pub mod Batches
+pub mod Refused

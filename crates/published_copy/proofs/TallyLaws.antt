@@ -6,9 +6,9 @@ use Rattle.std.proofs.lemmas.List.{at_drop_more, at_drop_all}
 use Rattle.std.proofs.Common.{add-zero}
 use Rattle.std.proofs.lemmas.Bool.Decides.{nat_tests}
 use Rattle.published_copy.specs.declared.tallies.Tally.{Tally}
-use Rattle.kernel_rules.specs.History.{count}
-use Rattle.kernel_rules.specs.declared.events.Event.{Event}
-use Rattle.kernel_rules.proofs.HistoryLaws.{count-snoc}
+use Rattle.histories.specs.History.{count}
+use Rattle.histories.specs.Events.{Event}
+use Rattle.histories.proofs.HistoryLaws.{count-snoc}
 use Rattle.published_copy.specs.Tallies.{place_of, tallied, IsTallied}
 
 -- the thread is next

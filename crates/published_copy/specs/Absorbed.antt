@@ -1,7 +1,8 @@
 -- What a copy shows, and what it becomes when it takes in a call.
 use Rattle.std.specs.Prelude.{Bool, true, false, List, [], ◌∷◌, ◌++◌}
-use Rattle.kernel_rules.specs.Step.{answer, next}
-use Rattle.kernel_rules.specs.declared.events.Event.{Event}
+use Rattle.kernel_rules.specs.Runs.{state_after, replies_to}
+use Rattle.kernel_rules.specs.declared.calls.Call.{Call}
+use Rattle.histories.specs.Events.{Event, by}
 use Rattle.syscall_core.specs.Kernel.{kernel_state}
 use Rattle.published_copy.specs.declared.entries.Entry.{Entry}
 use Rattle.published_copy.specs.declared.entries.Entry.TheVariants.{Made}
@@ -19,6 +20,10 @@ list_of false log = made (log ++ Made ∷ [])
 abbrev pub listed : Op → List Event
 listed op = list_of false op.seen.log
 
+-- its calls
+abbrev pub calls_with : Op → List Call
+calls_with op = op.call.value ∷ op.more.items
+
 -- what both copies have in common
 abbrev pub shown_of : Copied → Shown
 shown_of c = record {
@@ -29,18 +34,18 @@ shown_of c = record {
   log_name = c.seen.book.log_name;
   cells_name = c.seen.book.cells_name;
   list = list_of c.sealed c.seen.log;
-  reply = c.reply;
+  replies = c.reply ∷ c.further;
 }
 
--- and what becomes of it: the next state, the list with the call's event, and the answer
+-- and what becomes of it: the state after all calls, the list with their event, and the answers
 abbrev pub absorbed : Shown → Op → Shown
 absorbed s op = record {
-  state = next s.state op.thread op.call.value;
+  state = state_after s.state (by op.thread (calls_with op));
   limits = s.limits;
   length = op.length;
   number = op.seen.book.number;
   log_name = op.seen.book.log_name;
   cells_name = op.seen.book.cells_name;
   list = listed op;
-  reply = answer s.state op.thread op.call.value;
+  replies = replies_to s.state (by op.thread (calls_with op));
 }

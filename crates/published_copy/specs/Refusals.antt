@@ -16,3 +16,4 @@ seat_refusal no_seat.SeatsSpent = is.SeatsSpent
 abbrev pub submit_refusal : submit.SubmitRefusal → refusal.Refusal
 submit_refusal no_submit.Memory = is.Memory
 submit_refusal no_submit.OutOfTurn = is.OutOfTurn
+submit_refusal no_submit.BadBatch = is.BadBatch

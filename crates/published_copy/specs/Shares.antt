@@ -4,12 +4,12 @@ use mathlib.Core.Option.{some}
 use lib.ListN.{get_elem?}
 use Rattle.logbook.specs.Pages.{Book as Log}
 use Rattle.base.specs.declared.levels.Level.TheVariants.{L1}
-use Rattle.kernel_rules.specs.History.{IsLegal, Follows, state_of}
-use Rattle.kernel_rules.specs.declared.events.Event.{Event}
+use Rattle.histories.specs.History.{IsLegal, Follows, state_of}
+use Rattle.histories.specs.Events.{Event, calls_in, replies_in}
 use Rattle.kernel_rules.specs.declared.replies.Reply.{Reply}
 use Rattle.syscall_core.specs.Kernel.{kernel_state}
 use Rattle.published_copy.specs.Boots.{Boot}
-use Rattle.published_copy.specs.Absorbed.{list_of, listed}
+use Rattle.published_copy.specs.Absorbed.{calls_with, list_of, listed}
 use Rattle.published_copy.specs.declared.copies.Copied.{Copied}
 use Rattle.published_copy.specs.declared.ops.Op.{Op}
 use Rattle.published_copy.specs.declared.rules.Tag.{Tag}
@@ -67,19 +67,22 @@ pub record IsShown (boot : Boot) (x : Copied) (journal : List Event) : Type 0 wh
   pub limits_are : x.limits ≡ boot.limits
   pub list_is : list_of x.sealed x.seen.log ≡ journal
 
--- what the writer has: the list that it shows, and the operations that it has still to show
+-- what the writer has: the list that it shows, the operations that it has still to show, and what the calls of the list's
+-- last event were answered
 pub record CopiesView : Type 0 where
   pub list : List Event
   pub pending : List Op
+  pub reply : Reply
+  pub further : List Reply
 
-abbrev pub copies_with : List Event → List Op → CopiesView
-copies_with list pending = record { list = list; pending = pending }
+abbrev pub copies_with : List Event → List Op → Reply → List Reply → CopiesView
+copies_with list pending reply further = record { list = list; pending = pending; reply = reply; further = further }
 
 -- the operation makes the list with one event more at its end, a legal one
 pub record IsNext (boot : Boot) (list : List Event) (op : Op) : Type 0 where
   pub event : Event
   pub thread_is : op.thread ≡ event.thread
-  pub call_is : op.call.value ≡ event.call
+  pub calls_are : calls_with op ≡ calls_in event
   pub length_is : op.length ≡ length list + 1
   pub log_is : op.seen.book ≡ boot.log
   pub list_is : listed op ≡ list ++ event ∷ []
@@ -92,12 +95,12 @@ pub record IsAwaited (boot : Boot) (copies : CopiesView) (list : List Event) : T
   pub next : IsNext boot copies.list op
   pub list_is : listed op ≡ list
 
--- the last event of the list has this reply
-pub record EndsWithReply (list : List Event) (reply : Reply) : Type 0 where
+-- the last event of the list has these replies
+pub record EndsWithReplies (list : List Event) (replies : List Reply) : Type 0 where
   pub before : List Event
   pub event : Event
   pub list_is : list ≡ before ++ event ∷ []
-  pub reply_is : event.reply ≡ reply
+  pub replies_are : replies_in event ≡ replies
 
 -- the second copy is the state of its list, and of the boot of the first
 abbrev pub Succeeds : Copied → Copied → Type 0

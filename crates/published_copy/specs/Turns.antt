@@ -1,15 +1,17 @@
 -- What passes and seats know, and what calls make of it.
 use mathlib.Core.List.{IsPrefix}
 use Rattle.std.specs.Prelude.{◌≡◌, ℕ, ◌+◌, ◌⊎◌, Bool, true, false, ◌&&◌, ◌==◌, nat_le, List, []}
-use Rattle.std.specs.Prelude.{◌∷◌, ◌++◌, length}
+use Rattle.std.specs.Prelude.{◌∷◌, ◌++◌, length, map}
 use Rattle.base.specs.declared.ranges.Limits.{Limits}
-use Rattle.kernel_rules.specs.History.{state_of, count, IsLegal}
+use Rattle.histories.specs.History.{answered, state_of, count, is_batch, IsLegal}
 use Rattle.kernel_rules.specs.State.{State}
+use Rattle.kernel_rules.specs.Runs.{replies_to}
 use Rattle.kernel_rules.specs.Step.{answer, query_answer}
 use Rattle.kernel_rules.specs.declared.calls.Call.{Call}
 use Rattle.kernel_rules.specs.declared.calls.Query.{Query}
 use Rattle.kernel_rules.specs.declared.replies.Reply.{Reply}
-use Rattle.kernel_rules.specs.declared.events.Event.{Event}
+use Rattle.histories.specs.Events.{Event, by}
+use Rattle.published_copy.specs.declared.receipts.BatchReceipt.{BatchReceipt}
 use Rattle.published_copy.specs.declared.receipts.Placed.{Placed}
 use Rattle.published_copy.specs.declared.receipts.Receipt.{Receipt}
 use Rattle.published_copy.specs.declared.refusals.SubmitRefusal as submit
@@ -43,26 +45,31 @@ abbrev pub is_turn : List Event → Turn → Bool
 is_turn journal pass =
     (pass.number == count pass.thread journal + 1) && nat_le (length pass.seen) (length journal)
 
--- the event that a call makes: its reply is the answer in this state
-abbrev pub event_at : State → Turn → Call → Event
-event_at s pass call = record {
+-- the event that calls make: each reply is the answer in the state that this one and the calls before lead to
+abbrev pub event_at : State → Turn → List Call → Event
+event_at s pass calls = record {
   thread = pass.thread;
   number = pass.number;
-  call = call;
-  reply = answer s pass.thread call;
+  calls = answered s pass.thread calls;
 }
 
 -- the journal with that event at its end
-abbrev pub with_event : Limits → List Event → Turn → Call → List Event
-with_event limits journal pass call = journal ++ event_at (state_of limits journal) pass call ∷ []
+abbrev pub with_event : Limits → List Event → Turn → List Call → List Event
+with_event limits journal pass calls = journal ++ event_at (state_of limits journal) pass calls ∷ []
 
--- the receipt of that event
+-- the receipt of the event of one call
 abbrev pub receipt_of : Limits → List Event → Turn → Call → Receipt
 receipt_of limits journal pass call = record {
   reply = answer (state_of limits journal) pass.thread call;
   number = pass.number;
   length = length journal + 1;
 }
+
+-- what the receipt of a batch tells: a reply to each call, and where its event stands
+abbrev pub TellsBatch : Limits → List Event → Turn → List Call → BatchReceipt → Type 0
+TellsBatch limits journal pass calls receipt =
+    (receipt.replies.items ≡ replies_to (state_of limits journal) (by pass.thread calls))
+    × (receipt.number ≡ pass.number) × (receipt.length ≡ length journal + 1)
 
 -- the receipt of an event by its reply and where it stands
 abbrev pub receipt_with : Reply → Placed → Receipt
@@ -73,30 +80,40 @@ receipt_with reply placed = record {
 }
 
 -- the pass then: its number is the next one, and it has seen the journal with that event
-abbrev pub passed_on : Limits → List Event → Turn → Call → Turn
-passed_on limits journal pass call =
-    turn pass.thread (pass.number + 1) (with_event limits journal pass call)
+abbrev pub passed_on : Limits → List Event → Turn → List Call → Turn
+passed_on limits journal pass calls =
+    turn pass.thread (pass.number + 1) (with_event limits journal pass calls)
 
--- some journal begins with all that the seat had seen; with the call's event it is legal, and is
--- what the seat has then seen and was told; the receipt is that event's
+-- some journal begins with all that the seat had seen; with the event of the calls it is legal, and is
+-- what the seat has then seen and was told; the receipt tells of that event
+abbrev pub IsSubmittedAs : (List Event → Type 0) → Limits → SeatView → List Call → SeatView → Type 0
+IsSubmittedAs Tells limits seat calls after =
+    (journal : List Event) × IsPrefix seat.pass.seen journal
+    × IsLegal limits (with_event limits journal seat.pass calls)
+    × Tells journal
+    × (after ≡ seat_with (passed_on limits journal seat.pass calls)
+    (with_event limits journal seat.pass calls))
+
+-- the same, of a batch of one call
 abbrev pub IsSubmitted : Limits → SeatView → Call → Receipt → SeatView → Type 0
 IsSubmitted limits seat call receipt after =
-    (journal : List Event) × IsPrefix seat.pass.seen journal
-    × IsLegal limits (with_event limits journal seat.pass call)
-    × (receipt ≡ receipt_of limits journal seat.pass call)
-    × (after ≡ seat_with (passed_on limits journal seat.pass call)
-    (with_event limits journal seat.pass call))
+    IsSubmittedAs (λ journal. receipt ≡ receipt_of limits journal seat.pass call) limits seat (call ∷ []) after
 
--- whether it was the pass's turn, where a call of it is refused so
-abbrev pub was_turn : submit.SubmitRefusal → Bool
-was_turn no_submit.Memory = true
-was_turn no_submit.OutOfTurn = false
+-- and of any batch
+abbrev pub IsBatchSubmitted : Limits → SeatView → List Call → BatchReceipt → SeatView → Type 0
+IsBatchSubmitted limits seat calls receipt after =
+    IsSubmittedAs (λ journal. TellsBatch limits journal seat.pass calls receipt) limits seat calls after
 
--- at some legal journal it was the pass's turn where memory was wanted, and was not where the call
--- came out of turn
-abbrev pub IsNotSubmitted : Limits → Turn → submit.SubmitRefusal → Type 0
-IsNotSubmitted limits pass refusal =
-    (journal : List Event) × IsLegal limits journal × (is_turn journal pass ≡ was_turn refusal)
+-- whether it was the pass's turn, at some legal journal
+abbrev pub WasTurn : Limits → Turn → Bool → Type 0
+WasTurn limits pass was = (journal : List Event) × IsLegal limits journal × (is_turn journal pass ≡ was)
+
+-- calls that are no batch are refused so; else, at some legal journal, it was the pass's turn where memory was wanted, and
+-- was not where they came out of turn
+abbrev pub IsNotSubmitted : Limits → Turn → List Call → submit.SubmitRefusal → Type 0
+IsNotSubmitted limits pass calls no_submit.BadBatch = is_batch calls ≡ false
+IsNotSubmitted limits pass calls no_submit.OutOfTurn = (is_batch calls ≡ true) × WasTurn limits pass false
+IsNotSubmitted limits pass calls no_submit.Memory = (is_batch calls ≡ true) × WasTurn limits pass true
 
 -- what the seat has then seen is a legal list that begins with what it had seen, and the reply is
 -- the answer in its state; what it was told stays

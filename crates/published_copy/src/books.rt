@@ -3,27 +3,28 @@ ghost use Rattle.std.specs.Prelude.{◌≡◌, ◌≤◌, ◌<◌, ◌+◌, ◌�
 ghost use Rattle.std.specs.Prelude.{IfOk, IfErr, OnOk, OnErr, IsErrOf, Some, None};
 ghost use Rattle.std.specs.Prelude.{◌^◌, IsTrue, IfNone, vec_len, vec_capacity};
 ghost use Rattle.base.specs.declared.kinds.Kind.TheVariants as kinds;
-ghost use Rattle.kernel_rules.specs.History.{IsLegal, state_of, count};
+ghost use Rattle.histories.specs.History.{IsLegal, state_of, count, is_batch};
+ghost use Rattle.kernel_rules.specs.Step.{answer};
 ghost use Rattle.kernel_rules.specs.State.{is_live_kind};
 ghost use Rattle.syscall_core.specs.Kernel.{kernel_state};
 ghost use Rattle.published_copy.specs.Books.{places_with};
 ghost use Rattle.published_copy.specs.Seats.{seat_refused};
 ghost use Rattle.published_copy.specs.Tallies.{IsTallied};
 ghost use Rattle.published_copy.specs.Turns.{turn, is_turn, with_event, receipt_of, receipt_with};
-ghost use Rattle.published_copy.specs.Turns.{passed_on};
+ghost use Rattle.published_copy.specs.Turns.{passed_on, TellsBatch};
 ghost use mathlib.Core.List.{IsPrefix};
 
 use crate::lanes::Lane;
 use crate::naming::Naming;
 use crate::pairs::Pair;
-use crate::passes::{Pass, event_of};
+use crate::passes::Pass;
 use crate::places::Places;
-use crate::receipts::Placed;
+use crate::receipts::{BatchReceipt, Placed, batch_of, replies_room, tell_last};
 use crate::refusals::{SeatRefusal, SubmitRefusal};
 use crate::seating::seat_refusal;
 use crate::tallies::{Tally, count_events, events_of};
 use base::{Limits, Meter, NoMemory, ObjectId};
-use kept_events::{KeptEvent, call_answers};
+use kept_events::KeptEvent;
 use kernel_rules::{Call, Reply};
 use std::marker::Model;
 use std::sync::Wait;
@@ -44,7 +45,7 @@ pub struct Book<B: Naming> {
 
 impl<B: Naming> Model for Book<B> {
     ghost use Rattle.std.specs.Prelude.{◌≡◌};
-    ghost use Rattle.kernel_rules.specs.History.{IsLegal};
+    ghost use Rattle.histories.specs.History.{IsLegal};
     ghost use Rattle.published_copy.specs.Books.{BookView};
     ghost use Rattle.published_copy.specs.Tallies.{IsTallied};
 
@@ -152,6 +153,43 @@ impl<B: Naming> Book<B> {
         journal
     }
 
+    /// Makes a batch whose turn it is. The reply becomes the first call's answer. Which threads were given seats stays as
+    /// it is.
+    fn make<R: Wait>(
+        &mut self,
+        rt: &R,
+        pass: &mut Pass<B>,
+        call: &Call,
+        more: &[Call],
+        reply: &mut Reply,
+    ) -> Result<Placed, NoMemory>
+        requires size { is_batch (call.now ∷ more.now) ≡ true }
+        requires number { pass.old.number ≡ count pass.old.thread self.old.journal + 1 }
+        requires fits { pass.old.number + 1 < 2 ^ 64 }
+        requires within { length pass.old.seen ≤ length self.old.journal }
+        ensures number { IfOk result (λ placed. placed.number ≡ pass.old.number) }
+        ensures length { IfOk result (λ placed. placed.length ≡ length self.old.journal + 1) }
+        ensures reply { OnOk result (reply.new
+            ≡ answer (state_of B.boot.limits self.old.journal) pass.old.thread call.now) }
+        ensures journal { OnOk result (self.new.journal ≡ with_event B.boot.limits
+            self.old.journal pass.old (call.now ∷ more.now)) }
+        ensures seated { self.new.seated ≡ self.old.seated }
+        ensures pass { OnOk result (pass.new ≡ passed_on B.boot.limits
+            self.old.journal pass.old (call.now ∷ more.now)) }
+        ensures begins { OnOk result (IsPrefix pass.old.seen self.old.journal) }
+        ensures kept { OnErr result ((self.new ≡ self.old) × (pass.new ≡ pass.old)) }
+        ensures legal { IsLegal B.boot.limits self.new.journal }
+    {
+        let events = self.journal.len() as u64;
+        let _begins = self.pair.front(events).has(pass.front());
+        make_room(&mut self.journal, &mut self.tallies)?;
+        let event = self.pair.commit(rt, pass, call, more, events + 1, reply)?;
+        self.journal.push_reserved(event);
+        count_events(&mut self.tallies, pass.thread(), pass.number());
+        let front = self.pair.front(events + 1);
+        Ok(pass.pass_on(self.journal.len(), front))
+    }
+
     /// Makes a call as the pass's thread, as `Lent::commit` says. The reply becomes the event's.
     /// Which threads were given seats stays as it is.
     pub(crate) fn commit<R: Wait>(
@@ -163,34 +201,59 @@ impl<B: Naming> Book<B> {
     ) -> Result<Placed, SubmitRefusal>
         ensures receipt { IfOk result (λ placed. receipt_with reply.new placed
             ≡ receipt_of B.boot.limits self.old.journal pass.old call.now) }
-        ensures journal { OnOk result
-            (self.new.journal ≡ with_event B.boot.limits self.old.journal pass.old call.now) }
+        ensures journal { OnOk result (self.new.journal
+            ≡ with_event B.boot.limits self.old.journal pass.old (call.now ∷ [])) }
         ensures seated { self.new.seated ≡ self.old.seated }
         ensures pass { OnOk result
-            (pass.new ≡ passed_on B.boot.limits self.old.journal pass.old call.now) }
+            (pass.new ≡ passed_on B.boot.limits self.old.journal pass.old (call.now ∷ [])) }
         ensures begins { OnOk result (IsPrefix pass.old.seen self.old.journal) }
 
         ensures turn { IsErrOf result SubmitRefusal.OutOfTurn
             ↔ (is_turn self.old.journal pass.old ≡ false) }
+        ensures good { IsErrOf result SubmitRefusal.BadBatch → ⊥ }
         ensures kept { OnErr result ((self.new ≡ self.old) × (pass.new ≡ pass.old)) }
         ensures legal { IsLegal B.boot.limits self.new.journal }
     {
         if !is_turn(&self.journal, &self.tallies, pass) {
             return Err(SubmitRefusal::OutOfTurn);
         }
-        let events = self.journal.len() as u64;
-        let _begins = self.pair.front(events).has(pass.front());
-        make_room(&mut self.journal, &mut self.tallies)?;
-        let made = self.pair.commit(rt, pass, call, events + 1, reply);
-        let Ok(kept) = made else {
-            return Err(SubmitRefusal::Memory);
+        Ok(self.make(rt, pass, call, &[], reply)?)
+    }
+
+    /// Makes a batch as the pass's thread, as `Lent::commit_batch` says. Which threads were given seats stays as it is.
+    pub(crate) fn commit_batch<R: Wait>(
+        &mut self,
+        rt: &R,
+        pass: &mut Pass<B>,
+        calls: &[Call],
+    ) -> Result<BatchReceipt, SubmitRefusal>
+        ensures receipt { IfOk result (λ receipt.
+            TellsBatch B.boot.limits self.old.journal pass.old calls.now receipt) }
+        ensures journal { OnOk result (self.new.journal
+            ≡ with_event B.boot.limits self.old.journal pass.old calls.now) }
+        ensures seated { self.new.seated ≡ self.old.seated }
+        ensures pass { OnOk result
+            (pass.new ≡ passed_on B.boot.limits self.old.journal pass.old calls.now) }
+        ensures begins { OnOk result (IsPrefix pass.old.seen self.old.journal) }
+
+        ensures good { IsErrOf result SubmitRefusal.BadBatch ↔ (is_batch calls.now ≡ false) }
+        ensures turn { IsErrOf result SubmitRefusal.OutOfTurn
+            ↔ ((is_batch calls.now ≡ true) × (is_turn self.old.journal pass.old ≡ false)) }
+        ensures kept { OnErr result ((self.new ≡ self.old) × (pass.new ≡ pass.old)) }
+        ensures legal { IsLegal B.boot.limits self.new.journal }
+    {
+        let _events = self.journal.len();
+        let Some((call, more)) = batch_of(calls) else {
+            return Err(SubmitRefusal::BadBatch);
         };
-        call_answers();
-        let event = event_of(pass.thread(), pass.number(), kept, reply);
-        self.journal.push_reserved(event);
-        count_events(&mut self.tallies, pass.thread(), pass.number());
-        let front = self.pair.front(events + 1);
-        Ok(pass.pass_on(self.journal.len(), front))
+        if !is_turn(&self.journal, &self.tallies, pass) {
+            return Err(SubmitRefusal::OutOfTurn);
+        }
+        let mut replies = replies_room(self.pair.alloc(), calls)?;
+        let mut reply = Reply::Done;
+        let placed = self.make(rt, pass, call, more, &mut reply)?;
+        tell_last(&mut replies, self.journal.as_slice());
+        Ok(placed.batch_receipt(replies))
     }
 
     /// Why a thread is given no seat, if anything: the least that holds.

@@ -1,16 +1,19 @@
 //! The copies of the kernel that readers take, and how they take in calls.
-ghost use Rattle.std.specs.Prelude.{◌≡◌, ℕ, [], IfOk, true};
-ghost use Rattle.kernel_rules.specs.Runs.{booted};
-ghost use Rattle.kernel_rules.specs.Step.{answer, next};
+ghost use Rattle.std.specs.Prelude.{◌≡◌, ◌∷◌, ℕ, [], IfOk, true};
+ghost use Rattle.histories.specs.Events.{by};
+ghost use Rattle.kernel_rules.specs.Runs.{booted, replies_to, state_after};
 ghost use Rattle.kernel_rules.specs.declared.replies.Reply.TheVariants as told;
+ghost use Rattle.published_copy.specs.Absorbed.{calls_with};
 ghost use Rattle.published_copy.specs.Boots.{boot_of};
 ghost use Rattle.published_copy.specs.Shares.{IsShown};
 ghost use Rattle.syscall_core.specs.Kernel.{kernel_state};
 
+use crate::further::Further;
 use crate::logs::{Told, weighed};
 use crate::ops::Op;
 use base::{Limits, Meter, NoMemory};
-use kernel_rules::{Event, Reply};
+use histories::Event;
+use kernel_rules::Reply;
 use left_right::Absorb;
 use std::alloc::{AllocError, Global};
 use std::marker::Model;
@@ -27,8 +30,10 @@ pub(crate) struct Copied {
     /// published: the event is made before.
     pub(crate) sealed: bool,
     pub(crate) seen: Told,
-    /// What the list's last call was answered; `Done` where there is none.
+    /// What the first call of the list's last event was answered; `Done` where there is none.
     pub(crate) reply: Reply,
+    /// What the calls after it were answered.
+    pub(crate) further: Further,
     pub(crate) meter: Meter,
 }
 
@@ -48,7 +53,7 @@ impl Model for Stood {
 }
 
 /// What the two copies have in common: the state, the limits, the length, the log by its name, the
-/// list, and the last reply. No value of it is made.
+/// list, and the replies of its last event. No value of it is made.
 pub(crate) struct Shown {
     pub(crate) state: Stood,
     pub(crate) limits: Limits,
@@ -57,7 +62,7 @@ pub(crate) struct Shown {
     pub(crate) log_name: u64,
     pub(crate) cells_name: u64,
     pub(crate) list: [Event; 0],
-    pub(crate) reply: Reply,
+    pub(crate) replies: [Reply; 0],
 }
 
 /// The reply becomes this one. Most are `Done`, and then nothing is written where it is `Done` already.
@@ -70,14 +75,21 @@ pub(crate) fn copy_reply(reply: &mut Reply, given: &Reply)
     }
 }
 
-/// A kernel makes the call of an operation, and the reply becomes its answer.
-fn make(kernel: &mut Kernel, meter: &mut Meter, operation: &Op, reply: &mut Reply)
-    ensures reply { reply.new
-        ≡ answer (kernel_state kernel.old) operation.now.thread operation.now.call.value }
-    ensures state { kernel_state kernel.new
-        ≡ next (kernel_state kernel.old) operation.now.thread operation.now.call.value }
+/// A kernel makes the calls of an operation, and the replies become its answers.
+fn make(
+    kernel: &mut Kernel,
+    meter: &mut Meter,
+    operation: &Op,
+    reply: &mut Reply,
+    further: &mut Further,
+)
+    ensures replies { reply.new ∷ further.new ≡ replies_to (kernel_state kernel.old)
+        (by operation.now.thread (calls_with operation.now)) }
+    ensures state { kernel_state kernel.new ≡ state_after (kernel_state kernel.old)
+        (by operation.now.thread (calls_with operation.now)) }
 {
-    kernel.step_into(operation.thread, &operation.call, reply, meter);
+    let (call, more) = (&operation.call, operation.more.as_slice());
+    further.make(kernel, meter, operation.thread, call, more, reply);
 }
 
 impl Absorb<Op> for Copied {
@@ -97,6 +109,7 @@ impl Absorb<Op> for Copied {
             &mut self.meter,
             operation,
             &mut self.reply,
+            &mut self.further,
         );
         self.length = operation.length;
         let (weight, seen) = weighed(&operation.head, &operation.seen);
@@ -124,9 +137,11 @@ pub(crate) fn first_copy(
         (λ copy. (seats : ℕ) → IsShown (boot_of seen.now.book limits.now seats) copy []) }
     ensures state { IfOk result (λ copy. kernel_state copy.kernel ≡ booted limits.now) }
     ensures rest { IfOk result (λ copy. (copy.limits ≡ limits.now) × (copy.length ≡ 0)
-        × (copy.sealed ≡ true) × (copy.seen ≡ seen.now) × (copy.reply ≡ told.Done)) }
+        × (copy.sealed ≡ true) × (copy.seen ≡ seen.now) × (copy.reply ≡ told.Done)
+        × (copy.further ≡ [])) }
 {
     let meter = Meter::new(alloc)?;
+    let further = Further::new(alloc)?;
     Ok(Copied {
         kernel,
         limits: *limits,
@@ -134,6 +149,7 @@ pub(crate) fn first_copy(
         sealed: true,
         seen: seen.again(),
         reply: Reply::Done,
+        further,
         meter,
     })
 }

@@ -1,12 +1,12 @@
 //! What stands in the log of a boot, and the rule of the log.
 use base::ObjectId;
-use kernel_rules::{Call, Event};
+use histories::Event;
+use kernel_rules::Call;
 use logbook::{Gain, Plain, Play, Rule};
 use syscall_core::Kernel;
 
 /// What stands in the log: an event is tried before there is room for it, and made once there is.
 /// No value of it is made.
-#[derive(Clone, Copy)]
 pub(crate) enum Entry {
     Tried(Event),
     Made,
@@ -64,30 +64,31 @@ impl Plain<Sealing, Entry, u64> for Add {
     ghost state = { λ _. None };
 }
 
-/// A call that is to be made to a kernel. The entry that tries it has the kernel's answer.
+/// A batch that is to be made to a kernel. The entry that tries it has the kernel's answers.
 #[derive(Drop)]
 pub(crate) struct Trial<'a> {
-    /// The kernel, before the call.
+    /// The kernel, before the calls.
     pub(crate) kernel: &'a Kernel,
     /// The thread that calls.
     pub(crate) thread: ObjectId,
-    /// Which of its thread's events the call is.
+    /// Which of its thread's events the batch is.
     pub(crate) number: u64,
-    /// The call.
+    /// The first call.
     pub(crate) call: &'a Call,
+    /// The calls after it.
+    pub(crate) more: &'a [Call],
 }
 
 impl<'a> Plain<Trial<'a>, Entry, u64> for Add {
-    ghost use Rattle.std.specs.Prelude.{None};
-    ghost use Rattle.kernel_rules.specs.Step.{answer};
+    ghost use Rattle.std.specs.Prelude.{◌∷◌, None};
+    ghost use Rattle.histories.specs.History.{answered};
     ghost use Rattle.syscall_core.specs.Kernel.{kernel_state};
     ghost use Rattle.published_copy.specs.Entries.{tried};
 
     ghost ask = { λ t. tried (record {
       thread = t.thread;
       number = t.number;
-      call = t.call.now;
-      reply = answer (kernel_state t.kernel.now) t.thread t.call.now;
+      calls = answered (kernel_state t.kernel.now) t.thread (t.call.now ∷ t.more.now);
     }) };
 
     ghost state = { λ t. None };

@@ -1,7 +1,7 @@
 //! Beginnings of the boot's one list of events.
 ghost use Rattle.std.specs.Prelude.{◌≡◌, ◌<◌, length, MatchBool};
 ghost use mathlib.Core.List.{IsPrefix};
-ghost use Rattle.kernel_rules.specs.History.{IsLegal};
+ghost use Rattle.histories.specs.History.{IsLegal};
 ghost use Rattle.published_copy.specs.Entries.{made};
 
 use crate::logs::Told;
@@ -20,8 +20,8 @@ pub(crate) struct Front<B: Naming> {
 impl<B: Naming> Model for Front<B> {
     ghost use Rattle.std.specs.Prelude.{◌≡◌, List};
     ghost use Rattle.std.specs.Prelude as std;
-    ghost use Rattle.kernel_rules.specs.declared.events.Event.{Event};
-    ghost use Rattle.kernel_rules.specs.History.{IsLegal};
+    ghost use Rattle.histories.specs.Events.{Event};
+    ghost use Rattle.histories.specs.History.{IsLegal};
     ghost use Rattle.published_copy.specs.Entries.{made};
 
     ghost Value = { List Event };

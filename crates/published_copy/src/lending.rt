@@ -1,14 +1,14 @@
 //! A book that is lent.
-ghost use Rattle.std.specs.Prelude.{◌≡◌, ◌↔◌, false, IfOk, OnOk, OnErr, IsErrOf};
+ghost use Rattle.std.specs.Prelude.{◌≡◌, ◌↔◌, ◌∷◌, [], true, false, IfOk, OnOk, OnErr, IsErrOf};
 ghost use Rattle.std.specs.Sync.Mutex.{mutex_guard_value};
 ghost use mathlib.Core.List.{IsPrefix};
-ghost use Rattle.kernel_rules.specs.History.{IsLegal};
-ghost use Rattle.published_copy.specs.Turns.{is_turn, with_event, receipt_of, passed_on};
+ghost use Rattle.histories.specs.History.{IsLegal, is_batch};
+ghost use Rattle.published_copy.specs.Turns.{is_turn, with_event, receipt_of, passed_on, TellsBatch};
 
 use crate::books::Book;
 use crate::naming::Naming;
 use crate::passes::Pass;
-use crate::receipts::Receipt;
+use crate::receipts::{BatchReceipt, Receipt};
 use crate::refusals::SubmitRefusal;
 use kernel_rules::{Call, Reply};
 use std::marker::Model;
@@ -55,20 +55,50 @@ impl<B: Naming> Lent<'_, B> {
         ensures receipt { IfOk result (λ receipt. receipt
             ≡ receipt_of B.boot.limits self.old.journal pass.old call.now) }
         ensures journal { OnOk result
-            (self.new.journal ≡ with_event B.boot.limits self.old.journal pass.old call.now) }
+            (self.new.journal ≡ with_event B.boot.limits self.old.journal pass.old (call.now ∷ [])) }
         ensures seated { self.new.seated ≡ self.old.seated }
         ensures pass { OnOk result
-            (pass.new ≡ passed_on B.boot.limits self.old.journal pass.old call.now) }
+            (pass.new ≡ passed_on B.boot.limits self.old.journal pass.old (call.now ∷ [])) }
         ensures begins { OnOk result (IsPrefix pass.old.seen self.old.journal) }
 
         ensures turn { IsErrOf result SubmitRefusal.OutOfTurn
             ↔ (is_turn self.old.journal pass.old ≡ false) }
+        ensures good { IsErrOf result SubmitRefusal.BadBatch → ⊥ }
         ensures kept { OnErr result ((self.new ≡ self.old) × (pass.new ≡ pass.old)) }
         ensures legal { IsLegal B.boot.limits self.new.journal }
     {
         let mut reply = Reply::Done;
         let placed = self.guard.commit(rt, pass, call, &mut reply)?;
         Ok(placed.receipt(&reply))
+    }
+
+    /// Makes 1 to 16 calls as the pass's thread, which are one event more at the journal's end, and waits for those who
+    /// still read the copy that takes them in: nobody reads a state between two of them. Each call is answered in the state
+    /// that those before it leave; one that is refused changes nothing, and the rest are made. The error is `BadBatch`
+    /// exactly where there are other numbers of calls, else `OutOfTurn` where `commit` says so, and else, for want of memory,
+    /// `Memory`. An error changes nothing.
+    pub fn commit_batch<R: Wait>(
+        &mut self,
+        rt: &R,
+        pass: &mut Pass<B>,
+        calls: &[Call],
+    ) -> Result<BatchReceipt, SubmitRefusal>
+        ensures receipt { IfOk result (λ receipt.
+            TellsBatch B.boot.limits self.old.journal pass.old calls.now receipt) }
+        ensures journal { OnOk result
+            (self.new.journal ≡ with_event B.boot.limits self.old.journal pass.old calls.now) }
+        ensures seated { self.new.seated ≡ self.old.seated }
+        ensures pass { OnOk result
+            (pass.new ≡ passed_on B.boot.limits self.old.journal pass.old calls.now) }
+        ensures begins { OnOk result (IsPrefix pass.old.seen self.old.journal) }
+
+        ensures good { IsErrOf result SubmitRefusal.BadBatch ↔ (is_batch calls.now ≡ false) }
+        ensures turn { IsErrOf result SubmitRefusal.OutOfTurn
+            ↔ ((is_batch calls.now ≡ true) × (is_turn self.old.journal pass.old ≡ false)) }
+        ensures kept { OnErr result ((self.new ≡ self.old) × (pass.new ≡ pass.old)) }
+        ensures legal { IsLegal B.boot.limits self.new.journal }
+    {
+        self.guard.commit_batch(rt, pass, calls)
     }
 }
 

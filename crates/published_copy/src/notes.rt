@@ -14,7 +14,7 @@ pub struct Note<B: Naming> {
 
 impl<B: Naming> Model for Note<B> {
     ghost use Rattle.std.specs.Prelude.{List};
-    ghost use Rattle.kernel_rules.specs.declared.events.Event.{Event};
+    ghost use Rattle.histories.specs.Events.{Event};
 
     ghost Value = { List Event };
 

@@ -1,5 +1,6 @@
 //! The calls that the copies take in.
-ghost use Rattle.std.specs.Prelude.{◌≡◌};
+ghost use Rattle.std.specs.Prelude.{◌≡◌, ◌≤◌};
+ghost use Rattle.std.specs.Prelude as std;
 ghost use Rattle.std.specs.Arc.{arc_value};
 ghost use Rattle.published_copy.specs.Entries.{weight as weight_of_log};
 ghost use Rattle.published_copy.specs.Rules.{head_of};
@@ -9,13 +10,15 @@ use base::ObjectId;
 use kernel_rules::Call;
 use std::sync::Arc;
 
-/// A call for the copies, with the log in which it was tried.
+/// The calls of a batch for the copies, with the log in which it was tried.
 #[derive(Drop)]
 pub(crate) struct Op {
     /// The thread that calls.
     pub(crate) thread: ObjectId,
-    /// The call, in memory of its own: operations are moved, and a call is large.
+    /// The first call, in memory of its own: operations are moved, and a call is large.
     pub(crate) call: Box<Call>,
+    /// The calls after it, at most 15, which a batch of one call has not.
+    pub(crate) more: Vec<Call>,
     /// How many events there are with it.
     pub(crate) length: u64,
     /// What the log weighs in which it was tried last.
@@ -24,6 +27,7 @@ pub(crate) struct Op {
     pub(crate) seen: Told,
     /// What the log weighs at any time.
     pub(crate) head: Arc<Head>,
+    pub(crate) ghost few: { std.length more.items ≤ 15 },
     pub(crate) ghost weighs: { weight ≡ weight_of_log seen.log },
     pub(crate) ghost head_is: { arc_value head ≡ head_of seen.book },
 }

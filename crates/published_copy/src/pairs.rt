@@ -1,16 +1,16 @@
 //! The log of a boot's events, and the two copies of their state.
 ghost use Rattle.core.specs.Mem.{manually_drop_value};
-ghost use Rattle.std.specs.Prelude.{◌≡◌, ◌+◌, ◌<◌, ◌^◌, [], false, drop, length};
+ghost use Rattle.std.specs.Prelude.{◌≡◌, ◌+◌, ◌≤◌, ◌<◌, ◌^◌, ◌∷◌, [], true, false, drop, length};
 ghost use Rattle.std.specs.Prelude.{OnOk, OnErr, IfOk, IfSome, OnSome};
 ghost use Rattle.std.specs.Arc.{arc_value};
-ghost use Rattle.kernel_rules.specs.History.{state_of, count};
+ghost use Rattle.histories.specs.History.{state_of, count, is_batch};
 ghost use Rattle.kernel_rules.specs.Step.{answer};
 ghost use Rattle.syscall_core.specs.Kernel.{kernel_state};
 ghost use Rattle.published_copy.specs.Absorbed.{list_of};
 ghost use Rattle.published_copy.specs.Entries.{made, weight};
 ghost use Rattle.published_copy.specs.Rules.{head_of};
 ghost use Rattle.published_copy.specs.Shares.{IsShown};
-ghost use Rattle.published_copy.specs.Turns.{with_event};
+ghost use Rattle.published_copy.specs.Turns.{event_at, with_event};
 
 use crate::fronts::Front;
 use crate::lanes::Lane;
@@ -21,7 +21,7 @@ use crate::passes::Pass;
 use crate::tips::Tip;
 use crate::writers::{Copies, Writer};
 use base::NoMemory;
-use kept_events::KeptCall;
+use kept_events::{KeptCalls, KeptEvent, KeptReply, call_answers};
 use kernel_rules::{Call, Reply};
 use std::alloc::Global;
 use std::marker::Model;
@@ -42,22 +42,21 @@ pub(crate) struct Pair<B: Naming> {
 impl<B: Naming> Model for Pair<B> {
     ghost use Rattle.std.specs.Prelude.{◌≡◌, List, []};
     ghost use Rattle.std.specs.Arc.{arc_value};
-    ghost use Rattle.kernel_rules.specs.History.{IsLegal};
-    ghost use Rattle.kernel_rules.specs.declared.events.Event.{Event};
+    ghost use Rattle.histories.specs.History.{IsLegal};
+    ghost use Rattle.histories.specs.Events.{Event};
     ghost use Rattle.published_copy.specs.Entries.{made};
     ghost use Rattle.published_copy.specs.Rules.{head_of};
-    ghost use Rattle.published_copy.specs.Shares.{copies_with};
 
     ghost Value = { List Event };
 
     ghost view = { λ p. made p.tip };
 
     ghost invariant = { λ p. (arc_value p.head ≡ head_of B.boot.log)
-        × (p.copies ≡ copies_with (made p.tip) [])
+        × (p.copies.list ≡ made p.tip) × (p.copies.pending ≡ [])
         × IsLegal B.boot.limits (made p.tip) };
 }
 
-/// The call is tried in the log, and has an owner of the head for the copies' operation. What the log
+/// The batch is tried in the log, and has an owner of the head for the copies' operation. What the log
 /// has made stays. None where the log or the head's owners are too many to count, and then nothing
 /// changes.
 fn attempt<B: Naming, R: Wait>(
@@ -67,35 +66,39 @@ fn attempt<B: Naming, R: Wait>(
     kernel: &Kernel,
     pass: &Pass<B>,
     call: &Call,
+    more: &[Call],
 ) -> Option<Arc<Head>>
     requires head { arc_value head.now ≡ head_of B.boot.log }
     requires state { kernel_state kernel.now ≡ state_of B.boot.limits (made tip.old) }
     ensures same { made tip.new ≡ made tip.old }
     ensures head { IfSome result (λ owner. arc_value owner ≡ head_of B.boot.log) }
     ensures list { OnSome result (list_of false tip.new
-        ≡ with_event B.boot.limits (made tip.old) pass.now call.now) }
+        ≡ with_event B.boot.limits (made tip.old) pass.now (call.now ∷ more.now)) }
     ensures room { OnSome result (weight tip.new + 1 < 2 ^ 64) }
 {
     if tip.weight() >= u64::MAX - 3 {
         return None;
     }
     let owner = Arc::try_clone(head).ok()?;
-    tip.attempt(rt, head, kernel, pass, call);
+    tip.attempt(rt, head, kernel, pass, call, more);
     Some(owner)
 }
 
-/// The call as an operation for the copies, which makes so many events: the log was last tried with
+/// The batch as an operation for the copies, which makes so many events: the log was last tried with
 /// it.
 fn operation<B: Naming>(
     tip: &Tip<B>,
     head: Arc<Head>,
     pass: &Pass<B>,
     call: Box<Call>,
+    more: Vec<Call>,
     events: u64,
 ) -> Op
-    requires { arc_value head ≡ head_of B.boot.log }
+    requires head { arc_value head ≡ head_of B.boot.log }
+    requires few { length more.items ≤ 15 }
     ensures thread { result.thread ≡ pass.now.thread }
     ensures call { result.call ≡ call }
+    ensures more { result.more.items ≡ more.items }
     ensures length { result.length ≡ events }
     ensures book { result.seen.book ≡ B.boot.log }
     ensures log { result.seen.log ≡ tip.now }
@@ -103,6 +106,7 @@ fn operation<B: Naming>(
     Op {
         thread: pass.thread(),
         call,
+        more,
         length: events,
         weight: tip.weight(),
         seen: tip.seen(),
@@ -110,7 +114,24 @@ fn operation<B: Naming>(
     }
 }
 
+/// The same calls, in memory of their own, where there are any.
+fn copied(alloc: Global, calls: &[Call]) -> Result<Vec<Call>, NoMemory>
+    ensures { IfOk result (λ copied. copied.items ≡ calls.now) }
+{
+    let mut copied = Vec::new(alloc);
+    if !calls.is_empty() {
+        copied.reserve_exact(calls.len())?;
+        copied.extend_from_slice(calls)?;
+    }
+    Ok(copied)
+}
+
 impl<B: Naming> Pair<B> {
+    /// The memory that it grows in.
+    pub(crate) fn alloc(&self) -> Global {
+        self.alloc
+    }
+
     /// The log and the copies of a boot, with no event.
     pub(crate) fn new(
         alloc: Global,
@@ -149,38 +170,46 @@ impl<B: Naming> Pair<B> {
         self.copies.kernel()
     }
 
-    /// Makes a pass's call, as the event that comes next: the log tries it and has made it, and then
-    /// readers are shown the copy that has it. The reply becomes its answer. The call is written out
-    /// for the copies, and given back as it is kept. Without memory nothing changes.
+    /// Makes a pass's batch, as the event that comes next: the log tries it and has made it, and then
+    /// readers are shown the copy that has it, with all of its calls. The reply becomes the answer to the
+    /// first. The calls are written out for the copies, and the event is given back as it is kept. Without
+    /// memory nothing changes.
     pub(crate) fn commit<R: Wait>(
         &mut self,
         rt: &R,
         pass: &Pass<B>,
         call: &Call,
+        more: &[Call],
         events: u64,
         reply: &mut Reply,
-    ) -> Result<KeptCall, NoMemory>
+    ) -> Result<KeptEvent, NoMemory>
+        requires size { is_batch (call.now ∷ more.now) ≡ true }
         requires number { pass.now.number ≡ count pass.now.thread self.old + 1 }
         requires events { events ≡ length self.old + 1 }
-        ensures call { IfOk result (λ kept. kept ≡ call.now) }
-        ensures event { OnOk result
-            (self.new ≡ with_event B.boot.limits self.old pass.now call.now) }
+        ensures event { IfOk result (λ kept. kept
+            ≡ event_at (state_of B.boot.limits self.old) pass.now (call.now ∷ more.now)) }
+        ensures journal { OnOk result (self.new
+            ≡ with_event B.boot.limits self.old pass.now (call.now ∷ more.now)) }
         ensures reply { OnOk result
             (reply.new ≡ answer (state_of B.boot.limits self.old) pass.now.thread call.now) }
         ensures kept { OnErr result (self.new ≡ self.old) }
     {
-        let boxed = Box::new(self.alloc, *call)?;
-        let kept = KeptCall::new(self.alloc, call)?;
+        let first = Box::new(self.alloc, *call)?;
+        let others = copied(self.alloc, more)?;
+        let kept = KeptCalls::new(self.alloc, call, more)?;
         let kernel = self.copies.kernel();
-        let tried = attempt(rt, &mut self.tip, &self.head, kernel, pass, call);
+        let tried = attempt(rt, &mut self.tip, &self.head, kernel, pass, call, more);
         let Some(head) = tried else {
             return Err(NoMemory);
         };
-        let op = operation(&self.tip, head, pass, boxed, events);
+        let op = operation(&self.tip, head, pass, first, others, events);
         self.copies.queue(op)?;
         self.tip.settle(rt, &self.head);
         self.copies.publish(rt, &self.tip, reply);
-        Ok(kept)
+        call_answers();
+        let further = self.copies.further();
+        let (thread, number) = (pass.thread(), pass.number());
+        Ok(kept.event(thread, number, KeptReply::new(reply), further))
     }
 
     /// A reader of the copies, which knows their boot.

@@ -1,15 +1,12 @@
 //! What a thread carries from call to call.
-ghost use Rattle.std.specs.Prelude.{◌≡◌, ◌+◌, ◌<◌, ◌^◌, IsTrue, length};
-ghost use Rattle.kept_events.specs.Replies.{is_of_call};
-ghost use Rattle.kernel_rules.specs.History.{IsLegal};
+ghost use Rattle.std.specs.Prelude.{◌≡◌, ◌+◌, ◌<◌, ◌^◌, length};
+ghost use Rattle.histories.specs.History.{IsLegal};
 ghost use Rattle.published_copy.specs.Turns.{turn};
 
 use crate::fronts::Front;
 use crate::naming::Naming;
 use crate::receipts::Placed;
 use base::ObjectId;
-use kept_events::{KeptCall, KeptEvent, KeptReply};
-use kernel_rules::Reply;
 use std::marker::Model;
 
 /// What a thread carries from call to call: the number of its next event, and the events that it
@@ -27,22 +24,6 @@ impl<B: Naming> Model for Pass<B> {
     ghost Value = { Turn };
 
     ghost view = { λ p. turn p.thread p.number p.front };
-}
-
-/// The event that a thread's call of this number is.
-pub(crate) fn event_of(thread: ObjectId, number: u64, call: KeptCall, reply: &Reply) -> KeptEvent
-    requires { IsTrue (is_of_call reply.now) }
-    ensures thread { result.thread ≡ thread }
-    ensures number { result.number ≡ number }
-    ensures call { result.call ≡ call }
-    ensures reply { result.reply ≡ reply.now }
-{
-    KeptEvent {
-        thread,
-        number,
-        call,
-        reply: KeptReply::new(reply),
-    }
 }
 
 impl<B: Naming> Pass<B> {

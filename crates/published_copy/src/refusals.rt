@@ -43,16 +43,20 @@ pub enum SubmitRefusal {
     /// The number is not its thread's next, or the list that was seen is longer than the journal.
     #[error("out of turn")]
     OutOfTurn,
+    /// A batch of no call, or of more than 16.
+    #[error("bad batch")]
+    BadBatch,
 }
 
 impl SubmitRefusal {
-    /// Its place in the table of refusals: 40 or 44.
+    /// Its place in the table of refusals: 40, 44 or 45.
     pub fn refusal(self) -> Refusal
         ensures { result ≡ submit_refusal self }
     {
         match self {
             SubmitRefusal::Memory => Refusal::Memory,
             SubmitRefusal::OutOfTurn => Refusal::OutOfTurn,
+            SubmitRefusal::BadBatch => Refusal::BadBatch,
         }
     }
 }

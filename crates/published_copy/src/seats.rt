@@ -1,6 +1,6 @@
 //! A thread's place at a kernel that it shares.
-ghost use Rattle.std.specs.Prelude.{◌≡◌, IfOk, IfErr, OnOk, OnErr};
-ghost use Rattle.published_copy.specs.Turns.{IsSubmitted, IsNotSubmitted, IsRead, IsLearnt};
+ghost use Rattle.std.specs.Prelude.{◌≡◌, ◌∷◌, [], IfOk, IfErr, OnOk, OnErr};
+ghost use Rattle.published_copy.specs.Turns.{IsSubmitted, IsBatchSubmitted, IsNotSubmitted, IsRead, IsLearnt};
 ghost use Rattle.published_copy.specs.Turns.{seat_with, receipt_with};
 
 use crate::books::Book;
@@ -9,7 +9,7 @@ use crate::lanes::Lane;
 use crate::naming::Naming;
 use crate::notes::Note;
 use crate::passes::Pass;
-use crate::receipts::{Placed, Receipt};
+use crate::receipts::{BatchReceipt, Placed, Receipt};
 use crate::refusals::{SubmitRefusal, Unread};
 use base::Meter;
 use kernel_rules::{Call, Query, Reply};
@@ -68,7 +68,7 @@ impl<B: Naming> Seat<'_, B> {
         ensures done { IfOk result
             (λ receipt. IsSubmitted B.boot.limits self.old call.now receipt self.new) }
         ensures refused { IfErr result
-            (λ refusal. IsNotSubmitted B.boot.limits self.old.pass refusal) }
+            (λ refusal. IsNotSubmitted B.boot.limits self.old.pass (call.now ∷ []) refusal) }
         ensures kept { OnErr result (self.new ≡ self.old) }
     {
         let mut reply = Reply::Done;
@@ -88,12 +88,41 @@ impl<B: Naming> Seat<'_, B> {
         ensures done { IfOk result (λ placed. IsSubmitted B.boot.limits self.old call.now
             (receipt_with reply.new placed) self.new) }
         ensures refused { IfErr result
-            (λ refusal. IsNotSubmitted B.boot.limits self.old.pass refusal) }
+            (λ refusal. IsNotSubmitted B.boot.limits self.old.pass (call.now ∷ []) refusal) }
         ensures kept { OnErr result (self.new ≡ self.old) }
     {
-        let placed = self.lock.lock(rt).commit(rt, &mut self.pass, call, reply)?;
-        self.told = self.pass.front().again();
-        Ok(placed)
+        let made = self.lock.lock(rt).commit(rt, &mut self.pass, call, reply);
+        match made {
+            Ok(placed) => {
+                self.told = self.pass.front().again();
+                Ok(placed)
+            }
+            Err(refusal) => Err(refusal),
+        }
+    }
+
+    /// Makes 1 to 16 calls, which waits for the lock; they are then one event of the journal, as `Lent::commit_batch` says.
+    /// An error changes nothing; `BadBatch` comes exactly where there are other numbers of calls.
+    #[tactic(auto, using(crate::proofs::Prefixes::prefix_self))]
+    pub fn submit_batch<R: Wait>(
+        &mut self,
+        rt: &R,
+        calls: &[Call],
+    ) -> Result<BatchReceipt, SubmitRefusal>
+        ensures done { IfOk result (λ receipt.
+            IsBatchSubmitted B.boot.limits self.old calls.now receipt self.new) }
+        ensures refused { IfErr result
+            (λ refusal. IsNotSubmitted B.boot.limits self.old.pass calls.now refusal) }
+        ensures kept { OnErr result (self.new ≡ self.old) }
+    {
+        let made = self.lock.lock(rt).commit_batch(rt, &mut self.pass, calls);
+        match made {
+            Ok(receipt) => {
+                self.told = self.pass.front().again();
+                Ok(receipt)
+            }
+            Err(refusal) => Err(refusal),
+        }
     }
 
     /// Asks the copy that is published, which is no event, and no step behind what the seat has

@@ -1,24 +1,24 @@
 //! A kernel for threads of which only one calls at a time.
-ghost use Rattle.std.specs.Prelude.{◌≡◌, ◌↔◌, ◌+◌, ◌++◌, ◌∷◌, [], false, IfOk, OnOk, OnErr};
+ghost use Rattle.std.specs.Prelude.{◌≡◌, ◌↔◌, ◌+◌, ◌++◌, ◌∷◌, [], true, false, length, IfOk, OnOk, OnErr};
 ghost use Rattle.std.specs.Prelude.{IsErrOf, IfErr, Some, None};
 ghost use Rattle.base.specs.Limits.{in_range};
-ghost use Rattle.kernel_rules.specs.History.{IsLegal, count, state_of};
-ghost use Rattle.kernel_rules.specs.Step.{query_answer};
+ghost use Rattle.histories.specs.History.{IsLegal, count, is_batch, state_of};
+ghost use Rattle.kernel_rules.specs.Step.{answer, query_answer};
 ghost use Rattle.syscall_core.specs.Kernel.{kernel_state};
 ghost use Rattle.published_copy.specs.Seats.{seat_refused};
 ghost use Rattle.published_copy.specs.Tallies.{IsTallied};
-ghost use Rattle.published_copy.specs.Turns.{next_turn, receipt_of, receipt_with, with_event};
+ghost use Rattle.published_copy.specs.Turns.{next_turn, receipt_of, receipt_with, with_event, TellsBatch};
 
 use crate::books::make_room;
 use crate::naming::Naming;
-use crate::passes::event_of;
+use crate::further::Further;
 use crate::places::Places;
-use crate::receipts::Placed;
-use crate::refusals::SeatRefusal;
+use crate::receipts::{BatchReceipt, Placed, batch_of, replies_room, tell_last};
+use crate::refusals::{SeatRefusal, SubmitRefusal};
 use crate::seating::seat_refusal;
 use crate::tallies::{Tally, count_events, events_of};
 use base::{Limits, Meter, NoMemory, ObjectId};
-use kept_events::{KeptCall, KeptEvent, call_answers};
+use kept_events::{KeptCalls, KeptEvent, KeptReply, call_answers};
 use kernel_rules::{Call, Query, Reply};
 use std::alloc::Global;
 use std::marker::{Model, PhantomData};
@@ -35,13 +35,14 @@ pub struct SoleBook<B: Naming> {
     meter: Meter,
     journal: Vec<KeptEvent>,
     tallies: Vec<Tally>,
+    further: Further,
     places: Places,
     of: PhantomData<B>,
 }
 
 impl<B: Naming> Model for SoleBook<B> {
     ghost use Rattle.std.specs.Prelude.{◌≡◌};
-    ghost use Rattle.kernel_rules.specs.History.{IsLegal, state_of};
+    ghost use Rattle.histories.specs.History.{IsLegal, state_of};
     ghost use Rattle.syscall_core.specs.Kernel.{kernel_state};
     ghost use Rattle.published_copy.specs.Books.{BookView};
     ghost use Rattle.published_copy.specs.Tallies.{IsTallied};
@@ -75,7 +76,9 @@ impl<B: Naming> SoleBook<B> {
         ensures limits { IsErrOf result BootRefusal.BadLimits ↔ (in_range limits.now ≡ false) }
     {
         let kernel = Kernel::boot(alloc, limits)?;
-        let (Ok(meter), Ok(places)) = (Meter::new(alloc), Places::new(alloc, seats)) else {
+        let (Ok(meter), Ok(places), Ok(further)) =
+            (Meter::new(alloc), Places::new(alloc, seats), Further::new(alloc))
+        else {
             return Err(BootRefusal::Unavailable);
         };
         Ok(SoleBook {
@@ -85,6 +88,7 @@ impl<B: Naming> SoleBook<B> {
             meter,
             journal: Vec::new(alloc),
             tallies: Vec::new(alloc),
+            further,
             places,
             of: PhantomData,
         })
@@ -110,6 +114,7 @@ impl<B: Naming> SoleBook<B> {
             meter: _,
             journal,
             tallies: _,
+            further: _,
             places: _,
             of: _,
         } = self;
@@ -134,6 +139,41 @@ impl<B: Naming> SoleBook<B> {
         Ok(())
     }
 
+    /// Makes a batch as a thread. The reply becomes the first call's answer.
+    fn make(
+        &mut self,
+        thread: ObjectId,
+        call: &Call,
+        more: &[Call],
+        reply: &mut Reply,
+    ) -> Result<Placed, NoMemory>
+        requires size { is_batch (call.now ∷ more.now) ≡ true }
+        ensures number { IfOk result (λ placed. placed.number ≡ count thread self.old.journal + 1) }
+        ensures length { IfOk result (λ placed. placed.length ≡ length self.old.journal + 1) }
+        ensures reply { OnOk result
+            (reply.new ≡ answer (state_of B.boot.limits self.old.journal) thread call.now) }
+        ensures journal { OnOk result (self.new.journal ≡ with_event B.boot.limits self.old.journal
+            (next_turn thread self.old.journal) (call.now ∷ more.now)) }
+        ensures seated { self.new.seated ≡ self.old.seated }
+        ensures kept { OnErr result (self.new ≡ self.old) }
+        ensures legal { IsLegal B.boot.limits self.new.journal }
+    {
+        let number = next_number(&self.journal, &self.tallies, thread);
+        make_room(&mut self.journal, &mut self.tallies)?;
+        let kept = KeptCalls::new(self.alloc, call, more)?;
+        let (kernel, meter) = (&mut self.kernel, &mut self.meter);
+        self.further.make(kernel, meter, thread, call, more, reply);
+        call_answers();
+        let further = self.further.replies();
+        let event = kept.event(thread, number, KeptReply::new(reply), further);
+        self.journal.push_reserved(event);
+        count_events(&mut self.tallies, thread, number);
+        Ok(Placed {
+            number,
+            length: self.journal.len(),
+        })
+    }
+
     /// Makes a call as a thread, which is one event more at the journal's end, with the thread's next number. The reply
     /// becomes the event's. The error is want of memory, and changes nothing.
     pub fn submit_into(
@@ -144,24 +184,42 @@ impl<B: Naming> SoleBook<B> {
     ) -> Result<Placed, NoMemory>
         ensures receipt { IfOk result (λ placed. receipt_with reply.new placed
             ≡ receipt_of B.boot.limits self.old.journal (next_turn thread self.old.journal) call.now) }
-        ensures journal { OnOk result (self.new.journal
-            ≡ with_event B.boot.limits self.old.journal (next_turn thread self.old.journal) call.now) }
+        ensures journal { OnOk result (self.new.journal ≡ with_event B.boot.limits self.old.journal
+            (next_turn thread self.old.journal) (call.now ∷ [])) }
         ensures seated { self.new.seated ≡ self.old.seated }
         ensures kept { OnErr result (self.new ≡ self.old) }
         ensures legal { IsLegal B.boot.limits self.new.journal }
     {
-        let number = next_number(&self.journal, &self.tallies, thread);
-        make_room(&mut self.journal, &mut self.tallies)?;
-        let kept = KeptCall::new(self.alloc, call)?;
-        self.kernel.step_into(thread, call, reply, &mut self.meter);
-        call_answers();
-        let event = event_of(thread, number, kept, reply);
-        self.journal.push_reserved(event);
-        count_events(&mut self.tallies, thread, number);
-        Ok(Placed {
-            number,
-            length: self.journal.len(),
-        })
+        self.make(thread, call, &[], reply)
+    }
+
+    /// Makes 1 to 16 calls as a thread, which are one event more at the journal's end, with the thread's next number. Each
+    /// is answered in the state that those before it leave; one that is refused changes nothing, and the rest are made.
+    /// The error is `BadBatch` exactly where there are other numbers of calls, and else want of memory; it changes nothing.
+    pub fn submit_batch(
+        &mut self,
+        thread: ObjectId,
+        calls: &[Call],
+    ) -> Result<BatchReceipt, SubmitRefusal>
+        ensures receipt { IfOk result (λ receipt. TellsBatch B.boot.limits self.old.journal
+            (next_turn thread self.old.journal) calls.now receipt) }
+        ensures journal { OnOk result (self.new.journal ≡ with_event B.boot.limits self.old.journal
+            (next_turn thread self.old.journal) calls.now) }
+        ensures seated { self.new.seated ≡ self.old.seated }
+        ensures good { IsErrOf result SubmitRefusal.BadBatch ↔ (is_batch calls.now ≡ false) }
+        ensures turn { IsErrOf result SubmitRefusal.OutOfTurn → ⊥ }
+        ensures kept { OnErr result (self.new ≡ self.old) }
+        ensures legal { IsLegal B.boot.limits self.new.journal }
+    {
+        let _events = self.journal.len();
+        let Some((call, more)) = batch_of(calls) else {
+            return Err(SubmitRefusal::BadBatch);
+        };
+        let mut replies = replies_room(self.alloc, calls)?;
+        let mut reply = Reply::Done;
+        let placed = self.make(thread, call, more, &mut reply)?;
+        tell_last(&mut replies, self.journal.as_slice());
+        Ok(placed.batch_receipt(replies))
     }
 
     /// Asks as a thread, which is no event. The reply becomes the answer in the state that the journal leads to.

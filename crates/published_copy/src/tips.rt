@@ -107,7 +107,7 @@ impl<B: Naming> Tip<B> {
         self.weight = weight + weighs;
     }
 
-    /// A pass's call is tried: the log has the event that it is to be.
+    /// A pass's batch is tried: the log has the event that it is to be.
     pub(crate) fn attempt<R: Wait>(
         &mut self,
         rt: &R,
@@ -115,17 +115,20 @@ impl<B: Naming> Tip<B> {
         kernel: &Kernel,
         pass: &Pass<B>,
         call: &Call,
+        more: &[Call],
     )
         requires head { head.now ≡ head_of B.boot.log }
         requires room { weight self.old + 2 < 2 ^ 64 }
         ensures { self.new
-            ≡ self.old ++ tried (event_at (kernel_state kernel.now) pass.now call.now) ∷ [] }
+            ≡ self.old ++ tried (event_at (kernel_state kernel.now) pass.now
+            (call.now ∷ more.now)) ∷ [] }
     {
         let trial = Trial {
             kernel,
             thread: pass.thread(),
             number: pass.number(),
             call,
+            more,
         };
         self.add::<Trial<'_>, Add, R>(rt, head, &trial, 2)
     }

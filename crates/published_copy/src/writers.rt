@@ -2,14 +2,14 @@
 ghost use Rattle.core.specs.Mem.{manually_drop_value};
 ghost use Rattle.std.specs.Prelude.{◌≡◌, ◌<◌, ◌≤◌, ◌∷◌, [], drop, fold, IfOk, OnErr, IsTrue};
 ghost use Rattle.left_right.specs.Sides.{view};
-ghost use Rattle.kernel_rules.specs.History.{IsLegal, state_of};
+ghost use Rattle.histories.specs.History.{IsLegal, state_of};
 ghost use Rattle.kernel_rules.specs.Runs.{booted};
 ghost use Rattle.syscall_core.specs.Kernel.{kernel_state};
 ghost use Rattle.published_copy.specs.Absorbed.{shown_of, absorbed};
 ghost use Rattle.published_copy.specs.Boots.{boot_of};
 ghost use Rattle.published_copy.specs.Entries.{made};
 ghost use Rattle.published_copy.specs.Shares.{IsShown, IsGood, IsAwaited, Succeeds, copies_with};
-ghost use Rattle.published_copy.specs.Shares.{EndsWithReply, tag_of};
+ghost use Rattle.published_copy.specs.Shares.{EndsWithReplies, tag_of};
 ghost use Rattle.published_copy.specs.declared.copies.Copied.{Copied};
 
 use crate::copies::{Copied, copy_reply, first_copy};
@@ -21,6 +21,7 @@ use crate::rules::{Mark, Published, Tag, Tell};
 use crate::tips::Tip;
 use base::{Limits, NoMemory};
 use core::mem::replace_with;
+use kept_events::KeptReply;
 use kernel_rules::Reply;
 use left_right::reader::Reader;
 use std::alloc::Global;
@@ -33,7 +34,7 @@ use syscall_core::Kernel;
 pub(crate) type Writer = left_right::writer::Writer<Copied, Op, Tag, Published>;
 
 /// The two copies, of which readers are shown one. Contracts see the list of the one that is shown,
-/// which is legal and whose state it is in, and the operations that it lacks. Where they are
+/// which is legal and whose state it is in, the operations that it lacks, and the replies of its last event. Where they are
 /// dropped and not closed, their memory is not given back: that waits for readers.
 #[derive(Drop)]
 pub(crate) struct Copies<B: Naming> {
@@ -55,7 +56,9 @@ impl<B: Naming> Model for Copies<B> {
     ghost view = { λ c. copies_with
         (list_of (manually_drop_value c.writer).desk.shown.value.sealed
         (manually_drop_value c.writer).desk.shown.value.seen.log)
-        (drop (manually_drop_value c.writer).behind (manually_drop_value c.writer).log.items) };
+        (drop (manually_drop_value c.writer).behind (manually_drop_value c.writer).log.items)
+        (manually_drop_value c.writer).desk.shown.value.reply
+        (manually_drop_value c.writer).desk.shown.value.further };
 
     ghost invariant = { λ c. IsShown B.boot (manually_drop_value c.writer).desk.shown.value
         (list_of (manually_drop_value c.writer).desk.shown.value.sealed
@@ -153,7 +156,8 @@ impl<B: Naming> Copies<B> {
         requires shown { IsShown B.boot (manually_drop_value writer).desk.shown.value [] }
         requires pending { drop (manually_drop_value writer).behind
             (manually_drop_value writer).log.items ≡ [] }
-        ensures { result ≡ copies_with [] [] }
+        ensures list { result.list ≡ [] }
+        ensures pending { result.pending ≡ [] }
     {
         Copies {
             writer,
@@ -165,7 +169,8 @@ impl<B: Naming> Copies<B> {
     /// The copies are to take in this operation. Without memory they are not, and nothing changes.
     pub(crate) fn queue(&mut self, op: Op) -> Result<(), NoMemory>
         requires { self.old.pending ≡ [] }
-        ensures queued { IfOk result (λ _. self.new ≡ copies_with self.old.list (op ∷ [])) }
+        ensures queued { IfOk result (λ _. self.new
+            ≡ copies_with self.old.list (op ∷ []) self.old.reply self.old.further) }
         ensures kept { OnErr result (self.new ≡ self.old) }
     {
         let writer: &mut Writer = &mut self.writer;
@@ -183,18 +188,28 @@ impl<B: Naming> Copies<B> {
         &writer.published().kernel
     }
 
-    /// Readers are shown what the operation makes: the events that the log has made. The reply becomes
-    /// that of the last of them.
+    /// Readers are shown what the operation makes: the events that the log has made, with all calls of the
+    /// last. The reply becomes that of its first call.
     pub(crate) fn publish<R: Wait>(&mut self, rt: &R, tip: &Tip<B>, reply: &mut Reply)
         requires { IsAwaited B.boot self.old (made tip.now) }
-        ensures shown { self.new ≡ copies_with (made tip.now) [] }
+        ensures list { self.new.list ≡ made tip.now }
+        ensures pending { self.new.pending ≡ [] }
         ensures legal { IsLegal B.boot.limits (made tip.now) }
-        ensures reply { EndsWithReply (made tip.now) reply.new }
+        ensures replies { EndsWithReplies (made tip.now) (self.new.reply ∷ self.new.further) }
+        ensures reply { reply.new ≡ self.new.reply }
     {
         let writer: &mut Writer = &mut self.writer;
         publish(writer, rt);
         copy_reply(reply, &writer.published().reply);
         self.marked = true;
+    }
+
+    /// What the calls after the first of the last event were answered.
+    pub(crate) fn further(&self) -> &[KeptReply]
+        ensures { result.now ≡ self.now.further }
+    {
+        let writer: &Writer = &self.writer;
+        writer.published().further.replies()
     }
 
     /// A reader of the copies, which knows their boot.

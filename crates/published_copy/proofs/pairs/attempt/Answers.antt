@@ -1,5 +1,5 @@
 use Rattle.std.proofs.Common.{◌≡◌, ◌++◌, ◌∷◌, [], List, ap, ◌∙◌, arith, rules}
-use Rattle.kernel_rules.specs.declared.events.Event.{Event}
+use Rattle.histories.specs.Events.{Event}
 use Rattle.published_copy.specs.declared.entries.Entry.{Entry}
 use Rattle.published_copy.specs.declared.entries.Entry.TheVariants.{Made}
 use Rattle.syscall_core.specs.Kernel.{kernel_state}
@@ -10,19 +10,19 @@ use Rattle.published_copy.proofs.pairs.attempt.Goals as goal
 
 pub returns-clause-same : goal.returns-clause-same
 returns-clause-same g c =
-    let e : Event = event_at (kernel_state c.args.kernel.now) c.args.pass.now c.args.call.now in
+    let e : Event = event_at (kernel_state c.args.kernel.now) c.args.pass.now (c.args.call.now ∷ c.args.more.now) in
     let log : c.attempt.new.self ≡ c.args.tip.now ++ tried e ∷ [] = search rules in
     ap made log ∙ made-tried c.args.tip.now e
 
 pub returns-clause-list : goal.returns-clause-list
 returns-clause-list g c =
-    let e : Event = event_at (kernel_state c.args.kernel.now) c.args.pass.now c.args.call.now in
+    let e : Event = event_at (kernel_state c.args.kernel.now) c.args.pass.now (c.args.call.now ∷ c.args.more.now) in
     let log : c.attempt.new.self ≡ c.args.tip.now ++ tried e ∷ [] = search rules in
     ap (λ (l : List Entry). made (l ++ Made ∷ [])) log
-    ∙ (made-made c.args.tip.now e ∙ ap (λ s. made c.args.tip.now ++ event_at s c.args.pass.now c.args.call.now ∷ []) c.requires.state)
+    ∙ (made-made c.args.tip.now e ∙ ap (λ s. made c.args.tip.now ++ event_at s c.args.pass.now (c.args.call.now ∷ c.args.more.now) ∷ []) c.requires.state)
 
 pub returns-clause-room : goal.returns-clause-room
 returns-clause-room g c =
-    let e : Event = event_at (kernel_state c.args.kernel.now) c.args.pass.now c.args.call.now in
+    let e : Event = event_at (kernel_state c.args.kernel.now) c.args.pass.now (c.args.call.now ∷ c.args.more.now) in
     let log : c.attempt.new.self ≡ c.args.tip.now ++ tried e ∷ [] = search rules in
     omega (arith, ap weight log, weight-append c.args.tip.now (tried e ∷ []), c.weight.ensures, c.if-weight.false)

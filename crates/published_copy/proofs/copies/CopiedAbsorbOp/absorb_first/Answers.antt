@@ -19,5 +19,5 @@ returns-then-weight-operation-2-clause-absorbed c =
       log_name = (saw.ensures.book i).log_name;
       cells_name = (saw.ensures.book i).cells_name;
       list = made (log i);
-      reply = c.make.ensures.reply i;
+      replies = c.make.ensures.replies i;
     }

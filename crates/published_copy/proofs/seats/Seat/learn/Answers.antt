@@ -1,6 +1,6 @@
 use Rattle.std.proofs.Common.{◌≡◌, List, refl, sym, subst, inr, rules}
 use mathlib.Core.List.{IsPrefix}
-use Rattle.kernel_rules.specs.declared.events.Event.{Event}
+use Rattle.histories.specs.Events.{Event}
 use Rattle.published_copy.specs.Turns.{IsLonger}
 use Rattle.published_copy.proofs.Prefixes.{prefix_self, prefix_trans}
 use Rattle.published_copy.proofs.seats.Seat.learn.Goals as goal

@@ -1,10 +1,9 @@
-use Rattle.std.proofs.Common.{◌≡◌, ◌∙◌, drop, fold, rules, subst, sym}
+use Rattle.std.proofs.Common.{◌≡◌, ◌∙◌, ◌∷◌, drop, fold, rules, subst, sym}
 use Rattle.core.specs.Mem.{manually_drop_value}
-use Rattle.kernel_rules.specs.declared.replies.Reply.{Reply}
 use Rattle.published_copy.specs.declared.copies.Copied.{Copied}
 use Rattle.published_copy.specs.Absorbed.{absorbed, list_of, shown_of}
 use Rattle.published_copy.specs.Entries.{made}
-use Rattle.published_copy.specs.Shares.{EndsWithReply, IsShown, copies_with}
+use Rattle.published_copy.specs.Shares.{EndsWithReplies, IsShown}
 use Rattle.published_copy.proofs.Commits.{shows_awaited, shows_own, succeeds, shown_legal}
 use Rattle.published_copy.proofs.writers.Copies.publish.Goals as goal
 
@@ -14,7 +13,7 @@ publish-requires g c y is =
     let list = made c.args.tip.now in
     let same : c.deref_mut-writer.result.now ≡ manually_drop_value c.self.inside.writer = search rules in
     let x : Copied = (manually_drop_value c.self.inside.writer).desk.shown.value in
-    let now : IsShown boot y list × EndsWithReply list y.reply = shows_awaited boot c.args.self.now x y _ list c.self.view_is c.self.invariant.0 c.requires (is ∙ (λ i. fold absorbed (shown_of (same i).desk.shown.value) (drop (same i).behind (same i).log.items))) in
+    let now : IsShown boot y list × EndsWithReplies list (y.reply ∷ y.further) = shows_awaited boot c.args.self.now x y _ list c.self.view_is c.self.invariant.0 c.requires (is ∙ (λ i. fold absorbed (shown_of (same i).desk.shown.value) (drop (same i).behind (same i).log.items))) in
     let next = succeeds boot x y (list_of x.sealed x.seen.log) list c.self.invariant.0 now.0 in
     (next.0, next.1 ∙ (λ i. (sym same i).desk.shown.value.seen.book), next.2 ∙ (λ i. (sym same i).desk.shown.value.limits))
 
@@ -25,20 +24,20 @@ invariant_of-self g c =
     let same : c.deref_mut-writer.result.now ≡ manually_drop_value c.self.inside.writer = search rules in
     let x : Copied = (manually_drop_value c.self.inside.writer).desk.shown.value in
     let y : Copied = c.publish.new.writer.desk.shown.value in
-    let now : IsShown boot y list × EndsWithReply list y.reply = shows_awaited boot c.args.self.now x y _ list c.self.view_is c.self.invariant.0 c.requires
+    let now : IsShown boot y list × EndsWithReplies list (y.reply ∷ y.further) = shows_awaited boot c.args.self.now x y _ list c.self.view_is c.self.invariant.0 c.requires
     (c.publish.ensures.shown ∙ (λ i. fold absorbed (shown_of (same i).desk.shown.value) (drop (same i).behind (same i).log.items))) in
     (shows_own boot y list now.0, λ _. c.publish.ensures.tag)
 
-pub returns-clause-shown : goal.returns-clause-shown
-returns-clause-shown g c =
+pub returns-clause-list : goal.returns-clause-list
+returns-clause-list g c =
     let boot = g.B.Naming.boot in
     let list = made c.args.tip.now in
     let same : c.deref_mut-writer.result.now ≡ manually_drop_value c.self.inside.writer = search rules in
     let x : Copied = (manually_drop_value c.self.inside.writer).desk.shown.value in
     let y : Copied = c.publish.new.writer.desk.shown.value in
-    let now : IsShown boot y list × EndsWithReply list y.reply = shows_awaited boot c.args.self.now x y _ list c.self.view_is c.self.invariant.0 c.requires
+    let now : IsShown boot y list × EndsWithReplies list (y.reply ∷ y.further) = shows_awaited boot c.args.self.now x y _ list c.self.view_is c.self.invariant.0 c.requires
     (c.publish.ensures.shown ∙ (λ i. fold absorbed (shown_of (same i).desk.shown.value) (drop (same i).behind (same i).log.items))) in
-    λ i. copies_with (now.0.list_is i) (c.publish.ensures.pending i)
+    now.0.list_is
 
 pub returns-clause-legal : goal.returns-clause-legal
 returns-clause-legal g c =
@@ -50,14 +49,12 @@ returns-clause-legal g c =
     shown_legal boot y list (shows_awaited boot c.args.self.now x y _ list c.self.view_is c.self.invariant.0 c.requires
     (c.publish.ensures.shown ∙ (λ i. fold absorbed (shown_of (same i).desk.shown.value) (drop (same i).behind (same i).log.items)))).0
 
-pub returns-clause-reply : goal.returns-clause-reply
-returns-clause-reply g c =
+pub returns-clause-replies : goal.returns-clause-replies
+returns-clause-replies g c =
     let boot = g.B.Naming.boot in
     let list = made c.args.tip.now in
     let same : c.deref_mut-writer.result.now ≡ manually_drop_value c.self.inside.writer = search rules in
     let x : Copied = (manually_drop_value c.self.inside.writer).desk.shown.value in
     let y : Copied = c.publish.new.writer.desk.shown.value in
-    let copied : c.copy_reply.new.reply ≡ y.reply = search rules in
-    subst (λ (r : Reply). EndsWithReply list r) (sym copied)
     (shows_awaited boot c.args.self.now x y _ list c.self.view_is c.self.invariant.0 c.requires
     (c.publish.ensures.shown ∙ (λ i. fold absorbed (shown_of (same i).desk.shown.value) (drop (same i).behind (same i).log.items)))).1

@@ -1,7 +1,7 @@
 use Rattle.std.proofs.Common.{◌≡◌, true, List, ℕ, subst, ◌∷◌, []}
 use Rattle.text_words.specs.Lacks.{lacks}
 use Rattle.dump_text.proofs.EventLemmas.{lacks_front, no_answer, answer_first}
-use Rattle.dump_text.proofs.events.answered.Goals as goal
+use Rattle.dump_text.proofs.events.call_and_reply.Goals as goal
 
 pub returns-in_default-clause-none : goal.returns-in_default-clause-none
 returns-in_default-clause-none c = λ call reply l e. no_answer c.args.text.now call reply c.in_default.ensures.none e
