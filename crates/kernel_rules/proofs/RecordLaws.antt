@@ -13,11 +13,8 @@ use Rattle.base.specs.declared.kinds.Kind as kind
 use Rattle.kernel_rules.specs.State.{State, lists_of, object_at, of_object, is_kind, is_kind_at}
 use Rattle.kernel_rules.specs.State.{listed, live_part}
 use Rattle.base.specs.Live.{is_live, are_live}
-use Rattle.kernel_rules.specs.Changes.{put, changed, rebyte, rethread}
+use Rattle.kernel_rules.specs.Changes.{put, changed}
 use Rattle.kernel_rules.specs.Step.{restricted}
-use Rattle.kernel_rules.specs.declared.objects.Thread as thread
-use Rattle.kernel_rules.specs.declared.objects.Body as body
-use Rattle.kernel_rules.specs.declared.objects.Body.TheVariants as is
 
 -- a comparison that says equal
 pub same_id : (o k : ℕ) → is_eq (nat_cmp o k) ≡ true → o ≡ k

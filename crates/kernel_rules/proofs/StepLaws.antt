@@ -1,12 +1,12 @@
 -- What an answer is, once it is known what refuses the call.
-use Rattle.std.proofs.Common.{◌≡◌, ℕ, true, false, Option, Some, None, is_none, Result, Ok, Err}
-use Rattle.std.proofs.Common.{OnOk, IfOk, ◌∙◌, ap}
+use Rattle.std.proofs.Common.{◌≡◌, ℕ, true, false, Option, Some, None, is_none}
+use Rattle.std.proofs.Common.{◌∙◌, ap}
 use Rattle.std.proofs.lemmas.Bool.{both_ways}
 use Rattle.base.specs.declared.refusals.Refusal.{Refusal}
 use Rattle.kernel_rules.specs.State.{State}
 use Rattle.kernel_rules.specs.Table.{refused, query_refused}
 use Rattle.kernel_rules.specs.Step.{answer, accepted, next, edit, restricted, or_refused, or_same}
-use Rattle.kernel_rules.specs.Step.{with_value, query_answer, found}
+use Rattle.kernel_rules.specs.Step.{query_answer, found}
 use Rattle.kernel_rules.specs.WellFormed.{is_well_formed}
 use Rattle.kernel_rules.specs.declared.calls.Call.{Call}
 use Rattle.kernel_rules.specs.declared.calls.Query.{Query}

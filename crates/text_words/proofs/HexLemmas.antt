@@ -5,7 +5,6 @@ use Rattle.hex.proofs.HexLemmas.{length-encode_with}
 use Rattle.hex.specs.Hex.{encode_with, encode_lower, lower_digits, IsBytes}
 use Rattle.std.proofs.lemmas.Bool.{eqb-true, eqb-false, leb-true}
 use Rattle.text_words.proofs.Split.{both_true}
-use Rattle.text_words.specs.DataWord.{data_text}
 
 -- the two digits of the byte at i
 pub record DigitsAt (text : List ℕ) (j b : ℕ) : Type 0 where

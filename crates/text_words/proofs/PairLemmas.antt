@@ -1,5 +1,5 @@
 -- The pairs of a label, one by one.
-use Rattle.std.proofs.Common.{◌≡◌, ℕ, ◌+◌, ◌<◌, ◌≤◌, true, List, [], ◌∷◌, ◌++◌, length, Option, Some, None, subst, refl, ap, ◌∙◌, sym, arith, append_assoc, length-append}
+use Rattle.std.proofs.Common.{◌≡◌, ℕ, ◌+◌, ◌<◌, ◌≤◌, true, List, [], ◌∷◌, ◌++◌, length, subst, ap, ◌∙◌, sym, arith, append_assoc, length-append}
 use Rattle.std.specs.List.{flat_map, AllByRecursion}
 use Rattle.std.proofs.lemmas.List.{append-nil}
 use Rattle.std.proofs.lemmas.Grind.{flat_map-append}
@@ -7,9 +7,8 @@ use Rattle.base.specs.declared.levels.Level.{Level}
 use Rattle.text_words.specs.declared.spoken_labels.SpokenPair.{SpokenPair}
 use Rattle.text_words.specs.Lacks.{lacks}
 use Rattle.text_words.specs.LevelWord.{level_text}
-use Rattle.text_words.specs.Label.{pair_text, IsPair, inside_text, label_text, IsLabel, LabelValue}
-use Rattle.text_words.specs.Reading.{Reads}
-use Rattle.text_words.proofs.LabelLemmas.{level_lacks_comma, pair_lacks, label_joined, before_last, fit_more}
+use Rattle.text_words.specs.Label.{pair_text, IsPair, inside_text, IsLabel, LabelValue}
+use Rattle.text_words.proofs.LabelLemmas.{level_lacks_comma, pair_lacks, label_joined, fit_more}
 use Rattle.text_words.proofs.OneLemmas.{first_part}
 use Rattle.text_words.proofs.PartLemmas.{not_in}
 

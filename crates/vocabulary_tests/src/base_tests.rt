@@ -1,4 +1,8 @@
 //! The words: each public call once, with values from the table.
+ghost use Rattle.std.specs.Prelude.{◌≡◌};
+ghost use Rattle.base.specs.Sets.{only, union};
+ghost use Rattle.base.specs.declared.kinds.Kind.TheVariants as kinds;
+
 use base::{Data, Kind, Level, Limits, Meter, ObjectId, Refusal, Rights, TypeSet, live_by_path};
 use bitflags::Flags;
 use std::test::Fail;
@@ -27,10 +31,17 @@ fn words_are_those_of_the_table(rt: HostRuntime) {
     live_by_path();
 }
 
+/// Puts threads into a set: what is put in by its bits is in the union.
+fn insert_threads(set: &mut TypeSet)
+    ensures { set.new ≡ union set.old (only kinds.Thread) }
+{
+    set.insert(TypeSet::THREAD);
+}
+
 #[test]
 fn sets_are_changed_as_sets_of_bits(rt: HostRuntime) {
     let mut set = TypeSet::SEGMENT | TypeSet::GATE;
-    set.insert(TypeSet::THREAD);
+    insert_threads(&mut set);
     set.remove(TypeSet::GATE);
     assert!(rt; set == TypeSet::SEGMENT.union(TypeSet::THREAD) && set.contains(TypeSet::SEGMENT));
     assert!(rt; set - TypeSet::SEGMENT == TypeSet::of(Kind::Thread));
