@@ -1,0 +1,79 @@
+/* Asks a kernel for random records, malformed ones too, and looks that the heap is as it was before, and that a record which
+ * asks for nothing leaves the answer as it was. The seed is stated, so each run is the same.
+ *
+ * random_records [COUNT]   ten million without COUNT */
+#include "histar.h"
+#include <inttypes.h>
+#include <malloc.h>
+#include <stdio.h>
+#include <stdlib.h>
+
+static uint64_t seed = 20261127;
+
+static uint64_t below(uint64_t n)
+{
+    seed ^= seed << 13;
+    seed ^= seed >> 7;
+    seed ^= seed << 17;
+    return seed % n;
+}
+
+/* Mostly below n, and now and then any number. */
+static uint64_t about(uint64_t n) { return below(20) ? below(n) : below(UINT64_MAX); }
+
+static void fill_label(histar_label *label)
+{
+    label->default_level = (uint8_t)(below(8) ? 1 : below(6));
+    label->count = (uint8_t)(below(3) ? 0 : below(below(10) ? 3 : 30));
+    for (int i = 0; i < 24; i++) {
+        label->levels[i] = (uint8_t)below(below(99) ? 5 : 256);
+        label->categories[i] = about(6);
+    }
+}
+
+static void fill(histar_request *r)
+{
+    r->call = (uint32_t)below(36);
+    r->len = (uint32_t)below(66);
+    r->thread = below(4) ? HISTAR_BOOT : 1 + below(20);
+    r->container = below(3) ? HISTAR_ROOT : 1 + below(12);
+    r->object = 1 + below(20);
+    r->other_container = below(2);
+    r->other_object = below(12);
+    for (int i = 0; i < 5; i++) r->numbers[i] = about(6);
+    for (int i = 0; i < 64; i++) r->bytes[i] = (uint8_t)i;
+    fill_label(&r->label);
+    fill_label(&r->clearance);
+    fill_label(&r->verify);
+}
+
+int main(int count, char **words)
+{
+    static histar k;
+    static histar_answer before;
+    uint64_t told[64] = {0};
+    long calls = count > 1 ? atol(words[1]) : 10000000;
+    int is_well = 1;
+    size_t used;
+    if (histar_open(&k, 64)) return 2;
+    used = mallinfo2().uordblks;
+    for (long i = 0; i < calls; i++) {
+        uint32_t refusal;
+        fill(&k.request);
+        before = k.answer;
+        refusal = histar_call(k.room, &k.request, &k.answer);
+        if (refusal == HISTAR_NO_CALL && memcmp(&before, &k.answer, sizeof before)) is_well = 0;
+        if (refusal >= 64) return 2;
+        told[refusal]++;
+        if (i % 5000 == 4999) {
+            histar_close(&k);
+            if (histar_open(&k, 64)) return 2;
+        }
+    }
+    is_well &= mallinfo2().uordblks == used;
+    histar_close(&k);
+    for (int i = 0; i < 64; i++)
+        if (told[i]) printf("%d:%" PRIu64 " ", i, told[i]);
+    printf("%s\n", is_well ? "well" : "NOT WELL");
+    return !is_well;
+}

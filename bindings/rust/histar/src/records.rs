@@ -1,0 +1,203 @@
+//! Calls as records, and answers as replies.
+use crate::raw::{Answer, LabelRecord, Request};
+use crate::{Call, Category, Entered, Entry, Kinds, Label, Level, Listed, Mapping, Object, Own, Quota, Reply, Rights};
+
+impl LabelRecord {
+    /// Writes a label. 25 pairs and more are no label, and the library tells so.
+    pub fn put(&mut self, label: &Label) {
+        self.default_level = label.default.number();
+        self.count = label.pairs.len().min(25) as u8;
+        for (place, (category, level)) in label.pairs.iter().take(24).enumerate() {
+            self.categories[place] = category.0;
+            self.levels[place] = level.number();
+        }
+    }
+
+    /// The label that the library wrote.
+    pub fn label(&self) -> Label {
+        let pairs = self.categories.iter().zip(self.levels).take(usize::from(self.count));
+        Label {
+            default: Level::of(self.default_level),
+            pairs: pairs.map(|(category, level)| (Category(*category), Level::of(level))).collect(),
+        }
+    }
+}
+
+fn kinds_number(kinds: &Kinds) -> u64 {
+    let flags = [kinds.container, kinds.segment, kinds.address_space, kinds.thread, kinds.gate, kinds.device];
+    flags.iter().rev().fold(0, |number, flag| 2 * number + u64::from(*flag))
+}
+
+fn rights_number(rights: &Rights) -> u64 {
+    u64::from(rights.read) + 2 * u64::from(rights.write)
+}
+
+impl Request {
+    /// Writes the number of a call, its first entry and its numbers.
+    pub fn put<const N: usize>(&mut self, call: u32, entry: &Entry, numbers: [u64; N]) {
+        self.call = call;
+        self.container = entry.container.0;
+        self.object = entry.object.0;
+        self.numbers[..N].copy_from_slice(&numbers);
+    }
+
+    /// Writes the bytes. 65 bytes and more are no call, and the library tells so.
+    pub fn put_bytes(&mut self, bytes: &[u8]) {
+        let few = bytes.len().min(64);
+        self.len = bytes.len().min(65) as u32;
+        self.bytes[..few].copy_from_slice(&bytes[..few]);
+    }
+
+    fn put_other(&mut self, entry: &Entry) {
+        self.other_container = entry.container.0;
+        self.other_object = entry.object.0;
+    }
+
+    /// Writes a new object of a container, with its quota and further numbers.
+    fn put_new<const N: usize>(&mut self, call: u32, container: &Object, label: &Label, numbers: [u64; N]) {
+        self.label.put(label);
+        self.put(call, &Entry::new(*container, Object::NONE), numbers);
+    }
+
+    /// Writes a call.
+    pub fn put_call(&mut self, call: &Call) {
+        match call {
+            Call::CatCreate => self.call = 1,
+            Call::SelfSetLabel { label } => {
+                self.label.put(label);
+                self.call = 2;
+            }
+            Call::SelfSetClearance { clearance } => {
+                self.clearance.put(clearance);
+                self.call = 3;
+            }
+            Call::SelfSetAs { space } => self.put(4, space, []),
+            Call::ContainerCreate { container, label, quota, avoid } => {
+                self.put_new(5, container, label, [u64::from(*quota), kinds_number(avoid)]);
+            }
+            Call::SegmentCreate { container, label, quota, pages } => {
+                self.put_new(6, container, label, [u64::from(*quota), u64::from(*pages)]);
+            }
+            Call::SegmentCopy { container, label, quota, source } => {
+                self.put_other(source);
+                self.put_new(7, container, label, [u64::from(*quota)]);
+            }
+            Call::AsCreate { container, label, quota } => self.put_new(8, container, label, [u64::from(*quota)]),
+            Call::ThreadCreate { container, label, quota, clearance, entry_point } => {
+                self.clearance.put(clearance);
+                self.put_new(9, container, label, [u64::from(*quota), *entry_point]);
+            }
+            Call::GateCreate { container, label, quota, clearance, space, entry_point, closure } => {
+                self.clearance.put(clearance);
+                self.put_other(space);
+                self.put_new(10, container, label, [u64::from(*quota), *entry_point, *closure]);
+            }
+            Call::Link { target, entry } => {
+                self.other_container = target.0;
+                self.put(11, entry, []);
+            }
+            Call::Unref { entry } => self.put(12, entry, []),
+            // (32 bits in two's complement)
+            Call::QuotaMove { entry, change } => self.put(13, entry, [u64::from(*change as u32)]),
+            Call::SetFixed { entry } => self.put(14, entry, []),
+            Call::SetImmutable { entry } => self.put(15, entry, []),
+            Call::MetaSet { entry, bytes } => {
+                self.put_bytes(bytes);
+                self.put(16, entry, []);
+            }
+            Call::SegmentResize { entry, pages } => self.put(17, entry, [u64::from(*pages)]),
+            Call::SegmentWrite { entry, offset, bytes } => {
+                self.put_bytes(bytes);
+                self.put(18, entry, [u64::from(*offset)]);
+            }
+            Call::AsMap { space, slot, mapping } => {
+                self.put_other(&mapping.segment);
+                let [slot, page, first, count] = [*slot, mapping.page, mapping.first, mapping.count].map(u64::from);
+                self.put(19, space, [slot, page, first, count, rights_number(&mapping.rights)]);
+            }
+            Call::AsUnmap { space, slot } => self.put(20, space, [u64::from(*slot)]),
+            Call::Store { address, bytes } => {
+                self.put_bytes(bytes);
+                self.put(21, &Entry::NONE, [*address]);
+            }
+            Call::GateEnter { gate, label, clearance, verify } => {
+                self.label.put(label);
+                self.clearance.put(clearance);
+                self.verify.put(verify);
+                self.put(22, gate, []);
+            }
+            Call::DevSend { entry, bytes } => {
+                self.put_bytes(bytes);
+                self.put(23, entry, []);
+            }
+            Call::DevRecv { entry } => self.put(24, entry, []),
+            Call::SelfGet => self.call = 25,
+            Call::ObjLabel { entry } => self.put(26, entry, []),
+            Call::ObjQuota { entry } => self.put(27, entry, []),
+            Call::ContainerList { container, from } => {
+                self.put(28, &Entry::new(*container, Object::NONE), [u64::from(*from)]);
+            }
+            Call::ContainerParent { container } => self.put(29, &Entry::new(*container, Object::NONE), []),
+            Call::SegmentLen { entry } => self.put(30, entry, []),
+            Call::SegmentRead { entry, offset, count } => {
+                self.put(31, entry, [u64::from(*offset), u64::from(*count)]);
+            }
+            Call::MetaGet { entry } => self.put(32, entry, []),
+            Call::AsGet { space, slot } => self.put(33, space, [u64::from(*slot)]),
+            Call::Load { address, count } => self.put(34, &Entry::NONE, [*address, u64::from(*count)]),
+        }
+    }
+}
+
+impl Answer {
+    /// The bytes that the library wrote.
+    pub fn data(&self) -> &[u8] {
+        &self.bytes[..self.len as usize]
+    }
+
+    fn mapping(&self) -> Option<Mapping> {
+        let n = &self.numbers;
+        (self.len == 1).then(|| Mapping {
+            page: n[0] as u32,
+            segment: Entry::new(Object(n[1]), Object(n[2])),
+            first: n[3] as u32,
+            count: n[4] as u32,
+            rights: Rights { read: n[5] == 1, write: n[6] == 1 },
+        })
+    }
+
+    fn own(&self) -> Own {
+        let n = &self.numbers;
+        Own {
+            label: self.label.label(),
+            clearance: self.clearance.label(),
+            verify: self.verify.label(),
+            space: Entry::new(Object(n[0]), Object(n[1])),
+            entry_point: n[2],
+            closure: n[3],
+        }
+    }
+
+    /// The reply that the library wrote; none for a refusal, which its number tells.
+    pub fn reply(&self) -> Option<Reply> {
+        let n = &self.numbers;
+        Some(match self.reply {
+            0 => Reply::Done,
+            1 => Reply::Category(Category(n[0])),
+            2 => Reply::Object(Object(n[0])),
+            3 => Reply::Entered(Entered { entry_point: n[0], closure: n[1] }),
+            4 => Reply::Bytes(self.data().to_vec()),
+            5 => Reply::Own(self.own()),
+            6 => Reply::Label(self.label.label()),
+            7 => Reply::Quota(Quota { quota: n[0] as u32, used: n[1] as u32, fixed: n[2] == 1, immutable: n[3] == 1 }),
+            8 => Reply::Listed(Listed {
+                length: n[0],
+                ids: n[1..][..self.len as usize].iter().map(|id| Object(*id)).collect(),
+            }),
+            9 => Reply::Parent(Object(n[0])),
+            10 => Reply::Pages(n[0] as u32),
+            11 => Reply::Mapping(self.mapping()),
+            _ => return None,
+        })
+    }
+}

@@ -1,0 +1,118 @@
+//! Why a call was refused.
+use std::fmt;
+
+/// Why a call was refused, or a kernel not booted. If several checks fail, it is the refusal with the lowest number. A
+/// refused call changes nothing.
+#[derive(Clone, Copy, PartialEq, Eq, Debug, Hash)]
+#[non_exhaustive]
+pub enum Refusal {
+    /// The caller is no live thread.
+    Halted = 1,
+    /// The container is not there, or is not observed.
+    NoAccess = 2,
+    /// The container does not list the object.
+    NoEntry = 3,
+    /// The object is of another kind.
+    WrongType = 4,
+    /// The object's label is not at most the thread's.
+    CannotObserve = 5,
+    /// The thread's label is not at most the object's.
+    CannotModify = 6,
+    /// The label is none that can be stored.
+    BadLabel = 7,
+    /// The label is outside what the thread may give.
+    LabelRange = 8,
+    /// The clearance is outside what the thread may give.
+    ClearanceRange = 9,
+    /// A label has 16 categories already.
+    LabelFull = 10,
+    /// The container avoids this kind.
+    AvoidType = 11,
+    /// The quota does not suffice.
+    NoQuota = 12,
+    /// The quota is fixed.
+    FixedQuota = 13,
+    /// The quota is not fixed.
+    NotFixed = 14,
+    /// The container lists the object already.
+    AlreadyLinked = 15,
+    /// The root stays.
+    RootKept = 16,
+    /// The object is read-only.
+    Immutable = 17,
+    /// An offset, a length or a slot is out of its range.
+    Bounds = 18,
+    /// Nothing is mapped there.
+    NotMapped = 19,
+    /// The mapping does not allow it.
+    RightsDenied = 20,
+    /// The slot or the pages are taken.
+    Overlap = 21,
+    /// The gate's rules do not hold.
+    GateDenied = 22,
+    /// 4 packets wait.
+    DeviceFull = 23,
+    /// No packet waits.
+    DeviceEmpty = 24,
+    /// No id or category is left.
+    Spent = 25,
+    /// There is no memory for a kernel.
+    Unavailable = 30,
+    /// A limit is out of its range.
+    BadLimits = 31,
+    /// The arguments make no call, as a label of 25 pairs or 65 bytes.
+    NoCall = 45,
+}
+
+/// All refusals.
+const REFUSALS: [Refusal; 28] = [
+    Refusal::Halted,
+    Refusal::NoAccess,
+    Refusal::NoEntry,
+    Refusal::WrongType,
+    Refusal::CannotObserve,
+    Refusal::CannotModify,
+    Refusal::BadLabel,
+    Refusal::LabelRange,
+    Refusal::ClearanceRange,
+    Refusal::LabelFull,
+    Refusal::AvoidType,
+    Refusal::NoQuota,
+    Refusal::FixedQuota,
+    Refusal::NotFixed,
+    Refusal::AlreadyLinked,
+    Refusal::RootKept,
+    Refusal::Immutable,
+    Refusal::Bounds,
+    Refusal::NotMapped,
+    Refusal::RightsDenied,
+    Refusal::Overlap,
+    Refusal::GateDenied,
+    Refusal::DeviceFull,
+    Refusal::DeviceEmpty,
+    Refusal::Spent,
+    Refusal::Unavailable,
+    Refusal::BadLimits,
+    Refusal::NoCall,
+];
+
+impl Refusal {
+    /// The number of the refusal, as docs/CALLS.md has it.
+    pub fn number(self) -> u32 {
+        self as u32
+    }
+
+    /// The refusal of a number; none where the number has none.
+    pub fn of(number: u32) -> Option<Refusal> {
+        REFUSALS.into_iter().find(|refusal| refusal.number() == number)
+    }
+}
+
+/// As a script prints it: `5 CannotObserve`.
+impl fmt::Display for Refusal {
+    fn fmt(&self, f: &mut fmt::Formatter<'_>) -> fmt::Result {
+        write!(f, "{} {self:?}", self.number())
+    }
+}
+
+impl std::error::Error for Refusal {}

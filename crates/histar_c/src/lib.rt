@@ -1,0 +1,13 @@
+//! The label kernel as a static library for C: boot, one call for all calls, and the end, in memory
+//! that C gives.
+//!
+//! A call makes exactly what its record asks for, and answers by the rules. What does not hold here
+//! is left to C: that the memory is what the functions ask for, and that one call at a time uses it.
+//! Nothing here waits, locks, prints or ends the program, and only boot takes memory.
+#![tactic(auto)]
+
+mod exports;
+mod held;
+
+pub use exports::{histar_boot, histar_call, histar_end, histar_size};
+pub use held::{Held, Kept};

@@ -1,0 +1,176 @@
+"""The kernel as a library for C and Rust: it is built, and programs in bindings/ are compiled against it and run. The scripts
+of examples/ print by them what is stored, random scripts what ./histar prints, and random records leave the heap as it was.
+
+What a machine lacks (compilers, cargo, valgrind, clang's runtime) is left out, with a line for each."""
+import glob
+import os
+import shutil
+import subprocess
+import tempfile
+
+from gate.plays import Script, ran
+from gate.scripts import script
+
+SEEDS = range(1, 41)
+RECORDS = 10_000_000
+FUZZ_SECONDS = int(os.environ.get("FUZZ_SECONDS", "60"))
+WARNINGS = ["-Wall", "-Wextra", "-Wpedantic", "-Werror"]
+MANIFEST = ["--offline", "--manifest-path", "bindings/rust/Cargo.toml"]
+
+
+def run(*words, env=None):
+    """Whether a command ended with 0, and all that it said."""
+    how = {"stdin": subprocess.DEVNULL, "stdout": subprocess.PIPE, "stderr": subprocess.STDOUT, "text": True, "errors": "replace"}
+    done = subprocess.run(words, env={**os.environ, **(env or {})}, **how)
+    return done.returncode == 0, done.stdout
+
+
+class Bindings:
+    """A run over the library in a folder, with a room for programs."""
+
+    def __init__(self, report, library, room, histar):
+        self.report = report
+        self.library = library
+        self.room = room
+        self.histar = histar
+
+    def leave_out(self, what, why):
+        self.report.say(f"left out: {what}: {why}")
+
+    def counts(self, text, *words, env=None):
+        """Runs a command, counts whether it went well, and shows what it said where it did not."""
+        is_well, said = run(*words, env=env)
+        if not is_well:
+            self.report.say(said[-3000:])
+        self.report.counts(is_well, text)
+        return is_well
+
+    def compile(self, compiler, source, name, *flags):
+        """A program of bindings/c, none where it is not compiled."""
+        program = f"{self.room}/{name}"
+        words = [*compiler, "-g", "-O2", *flags, "-Iinclude", f"bindings/c/{source}", "-o", program]
+        if "-x" in flags:
+            words += ["-x", "none"]
+        libraries = [f"{self.library}/libhistar_c.a", f"{self.library}/liblibc_c.a"]
+        what = f"{' '.join(compiler)} {' '.join(flags)} bindings/c/{source}"
+        return program if self.counts(what, *words, *libraries) else None
+
+    def play(self, player, name):
+        """The scripts of examples/ by a player, against what is stored."""
+        stored = [Script(it) for it in sorted(glob.glob("examples/*.histar"))]
+        stored = [it for it in stored if it.status == 0]
+        differing = [it.file for it in stored if ran(*player, it.file, *it.words) != (0, it.out)]
+        self.report.counts(not differing, f"{name}: {len(stored)} scripts of examples/ print what is stored" + "".join(f", but not {it}" for it in differing))
+
+    def play_random(self, player, name):
+        """Random scripts by a player, against the proved program."""
+        if not self.histar:
+            self.leave_out(f"{name}: random scripts", "./histar is not built")
+            return
+        differing = []
+        for seed in SEEDS:
+            file = f"{self.room}/random.histar"
+            with open(file, "w", encoding="utf-8") as it:
+                it.write(script(seed))
+            if ran(*player, file, "--pages", "512") != ran(self.histar, "run", file, "--pages", "512"):
+                differing.append(seed)
+        self.report.counts(not differing, f"{name}: {len(SEEDS)} random scripts print what ./histar prints" + "".join(f", but not seed {it}" for it in differing))
+
+    def try_header(self, compiler, standard, *flags):
+        """The header by a compiler, without a warning, and the first program."""
+        name = f"first-{compiler}-{standard}".replace("+", "p")
+        program = self.compile([compiler, f"-std={standard}"], "first_refusal.c", name, *WARNINGS, *flags)
+        if program:
+            said = ran(program)
+            self.report.counts(said == (0, "the owner reads key\nrefused 5 CannotObserve\n"), f"{name}: the first program")
+
+    def try_c(self):
+        compilers = [it for it in ("gcc", "clang") if shutil.which(it)]
+        if not compilers:
+            self.leave_out("C", "neither gcc nor clang is on the path")
+        for compiler in compilers:
+            self.try_header(compiler, "c11")
+            player = self.compile([compiler, "-std=gnu11"], "play.c", f"play-{compiler}", *WARNINGS)
+            if player:
+                self.play([player], f"C by {compiler}")
+                self.play_random([player], f"C by {compiler}")
+        for compiler in ("g++", "clang++"):
+            if shutil.which(compiler):
+                self.try_header(compiler, "c++17", "-x", "c++")
+            else:
+                self.leave_out("C++", f"{compiler} is not on the path")
+        if compilers:
+            self.try_memory(compilers[0])
+        self.try_sanitizers()
+
+    def try_memory(self, compiler):
+        """Random records, and valgrind over the scripts."""
+        records = self.compile([compiler, "-std=gnu11"], "random_records.c", "records", *WARNINGS)
+        if records:
+            self.counts(f"{RECORDS:,} random records leave the heap as it was", records, str(RECORDS))
+        self.compile([compiler, "-std=gnu11"], "bench.c", "bench", *WARNINGS)
+        if not shutil.which("valgrind"):
+            self.leave_out("valgrind", "it is not on the path")
+            return
+        checked = ["valgrind", "-q", "--error-exitcode=9", "--leak-check=full"]
+        player = f"{self.room}/play-{compiler}"
+        if os.path.isfile(player):
+            self.play([*checked, player], "C under valgrind")
+        if records:
+            self.counts("random records under valgrind", *checked, records, "20000")
+
+    def has_runtime(self, flags):
+        """Whether clang links a program with these flags."""
+        with open(f"{self.room}/empty.c", "w", encoding="utf-8") as it:
+            it.write("#include <stddef.h>\nint LLVMFuzzerTestOneInput(const unsigned char *at, size_t n) { return at == NULL && n; }\n")
+            it.write("" if "fuzzer" in flags else "int main(void) { return 0; }\n")
+        return shutil.which("clang") and run("clang", f"-fsanitize={flags}", f"{self.room}/empty.c", "-o", f"{self.room}/empty")[0]
+
+    def try_sanitizers(self):
+        if not self.has_runtime("address,undefined"):
+            self.leave_out("sanitizers", "clang or its runtime is missing")
+        else:
+            clang = ["clang", "-std=gnu11", "-fsanitize=address,undefined", "-fno-sanitize-recover=all"]
+            player = self.compile(clang, "play.c", "play-sanitized")
+            if player:
+                self.play([player], "C with sanitizers")
+                self.play_random([player], "C with sanitizers")
+        if not self.has_runtime("fuzzer,address"):
+            self.leave_out("the fuzzer", "clang or its runtime is missing")
+            return
+        fuzzer = self.compile(["clang", "-std=gnu11", "-fsanitize=fuzzer,address,undefined"], "fuzz.c", "fuzz")
+        if fuzzer:
+            words = [f"-max_total_time={FUZZ_SECONDS}", "-max_len=4096", "-seed=20261127", f"-artifact_prefix={self.room}/"]
+            self.counts(f"{FUZZ_SECONDS} seconds of clang's fuzzer find nothing", fuzzer, *words)
+
+    def try_rust(self):
+        if not shutil.which("cargo"):
+            self.leave_out("Rust", "cargo is not on the path")
+            return
+        env = {"HISTAR_LIB": os.path.realpath(self.library)}
+        self.counts("cargo test: the crate histar, with the examples of its documents", "cargo", "test", "--quiet", *MANIFEST, env=env)
+        self.counts("cargo doc without a warning", "cargo", "doc", "--no-deps", *MANIFEST, env={**env, "RUSTDOCFLAGS": "-D warnings"})
+        if self.counts("cargo build of examples and benches", "cargo", "build", "--release", "--examples", "--benches", *MANIFEST, env=env):
+            player = ["bindings/rust/target/release/examples/play"]
+            self.play(player, "Rust")
+            self.play_random(player, "Rust")
+
+
+def built(tree):
+    """The program ./histar, which is started only where it is built."""
+    places = [f"{it}/crates/histar/out/histar" for it in (tree, ".")]
+    return next((it for it in places if os.path.isfile(it)), None)
+
+
+def try_all(report, tree="."):
+    """Builds the library in a tree and tries all that the machine allows."""
+    report.heading("Bindings")
+    is_built, said = run(f"{tree}/lib")
+    report.counts(is_built, "./lib: the library is proved and built")
+    if not is_built:
+        report.say(said[-3000:])
+        return
+    with tempfile.TemporaryDirectory(prefix="bindings-") as room:
+        bindings = Bindings(report, f"{tree}/out/lib", room, built(tree))
+        bindings.try_c()
+        bindings.try_rust()
