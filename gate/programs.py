@@ -1,4 +1,4 @@
-"""./prove: the programs and the crates below them proved and built, side by side, over what earlier builds kept.
+"""./prove: the programs, or other crates, and the crates below them proved and built, side by side, over what earlier builds kept.
 
 A crate is one task with one job, so all cores are at work as long as crates are left that do not wait for each other. A
 start that is interrupted ends with all its processes; what it built stays, and the next start goes on there."""
@@ -19,7 +19,7 @@ PROGRAMS = ("histar", "histar_audit")
 LOG = "out/prove.log"
 LOCK = "out/prove.lock"
 TO_RUN = "both programs are proved and built: ./histar run examples/first.histar"
-NO_RT, NOT_PROVED, NO_ROOM, AT_WORK = 69, 70, 73, 75
+WRONG_WORDS, NO_RT, NOT_PROVED, NO_ROOM, AT_WORK = 2, 69, 70, 73, 75
 # What the disk has to have left, in MB, and what a build that fails for want of it leaves.
 WANTED, FULL = 3000, 200
 
@@ -68,13 +68,15 @@ class Progress:
 
 
 class Build:
-    """The building of one crate: a library, or a program, which then runs once on its stored input."""
+    """The building of one crate: a library, one for C, or a program, which then runs once on its stored input."""
 
     def __init__(self, rt, crate, progress):
         self.rt, self.crate, self.progress = rt, crate, progress
         self.log = f"crates/{crate.name}/{LOG}"
 
     def call(self):
+        if self.crate.is_static:
+            return self.crate.build_static(FLAGS)
         if not self.crate.is_program:
             return self.crate.build_rlib(FLAGS, anew=False)
         with open(f"crates/{self.crate.name}/stdin", "rb") as script:
@@ -124,8 +126,8 @@ def interrupted(number, _):
     end(128 + number, "interrupted: the next start goes on from here")
 
 
-def prove():
-    """Proves and builds both programs, and returns the status."""
+def prove(names=PROGRAMS):
+    """Proves and builds these crates, and returns the status."""
     if shutil.which("rt") is None:
         end(NO_RT, "rt (the Rattle toolchain) is not on the path")
     held = locked()
@@ -137,9 +139,12 @@ def prove():
     for it in (signal.SIGINT, signal.SIGTERM, signal.SIGHUP):
         signal.signal(it, interrupted)
     every = rt.rtlib.crates_below(os.getcwd())
-    wanted = {below.name for it in every if it.name in PROGRAMS for below in [it, *it.below()]}
+    for name in names:
+        if name not in [it.name for it in every]:
+            end(WRONG_WORDS, f"{name}: crates.txt names no such crate")
+    wanted = {below.name for it in every if it.name in names for below in [it, *it.below()]}
     crates = [it for it in every if it.name in wanted]
     rt.in_lanes(tasks_of(rt, crates, Progress(crates)))
-    print(f"prove: {TO_RUN}", flush=True)
+    print(f"prove: {TO_RUN if names == PROGRAMS else f'{chr(32).join(names)}: proved and built'}", flush=True)
     held.close()
     return 0
