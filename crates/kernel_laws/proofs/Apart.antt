@@ -35,13 +35,13 @@ use Rattle.kernel_rules.proofs.RowLaws.{none_hold}
 use Rattle.kernel_rules.proofs.StepLaws.{step_refused, step_done}
 
 -- at most one of the slots covers a page
-abbrev Apart : List (Option Mapping) → Type 0
+abbrev pub Apart : List (Option Mapping) → Type 0
 Apart xs =
     (page i j : ℕ) → covers page (slice_index_or xs i None) ≡ true → covers page (slice_index_or xs j None) ≡ true
     → i ≡ j
 
 -- of each object
-abbrev AllApart : List (ℕ × Object) → Type 0
+abbrev pub AllApart : List (ℕ × Object) → Type 0
 AllApart es = AllByRecursion (λ e. Apart (slots_of e.1.body)) es
 
 either : {G : Type 0} (i k : ℕ) → (i ≡ k → G) → (i ≢ k → G) → G
@@ -54,7 +54,7 @@ either {G} i k same other =
     ] refl
 
 -- a mapping that covers a page meets each slot that covers it
-both_meet : (page : ℕ) (m : Mapping) (x : Option Mapping) → covers page (Some m) ≡ true → covers page x ≡ true
+pub both_meet : (page : ℕ) (m : Mapping) (x : Option Mapping) → covers page (Some m) ≡ true → covers page x ≡ true
     → meets m x ≡ true
 both_meet page m None h g = absurd (cc)
 both_meet page m (Some n) h g =
@@ -64,7 +64,7 @@ both_meet page m (Some n) h g =
     (lt-ltb m.page (n.page + n.count) (omega (arith, leb-true m.page page a.0, ltb-true page (n.page + n.count) b.1)))
     (lt-ltb n.page (m.page + m.count) (omega (arith, leb-true n.page page b.0, ltb-true page (m.page + m.count) a.1)))
 
-none_meets : (page : ℕ) (m : Mapping) (xs : List (Option Mapping)) (j : ℕ) → covers page (Some m) ≡ true
+pub none_meets : (page : ℕ) (m : Mapping) (xs : List (Option Mapping)) (j : ℕ) → covers page (Some m) ≡ true
     → list_any (meets m) xs ≡ false → covers page (slice_index_or xs j None) ≡ true → ⊥
 none_meets page m [] j h none g = absurd (cc)
 none_meets page m (x ∷ xs) zero h none g =
@@ -85,7 +85,7 @@ other_covers : (page : ℕ) (xs : List (Option Mapping)) (k i : ℕ) (v : Option
     → covers page (slice_index_or (slice_set xs k v) i None) ≡ true → covers page (slice_index_or xs i None) ≡ true
 other_covers page xs k i v other h = subst (λ x. covers page x ≡ true) (get_or-set_other xs k i v None other) h
 
-apart_set : (xs : List (Option Mapping)) (k : ℕ) (m : Mapping) → list_any (meets m) xs ≡ false → Apart xs
+pub apart_set : (xs : List (Option Mapping)) (k : ℕ) (m : Mapping) → list_any (meets m) xs ≡ false → Apart xs
     → Apart (slice_set xs k (Some m))
 apart_set xs k m none apart page i j hi hj =
     either i k
@@ -116,10 +116,10 @@ empty_slots zero page i h = absurd (cc)
 empty_slots (suc n) page zero h = absurd (cc)
 empty_slots (suc n) page (suc i) h = empty_slots n page i h
 
-apart_empty : (n : ℕ) → Apart (replicate n None)
+pub apart_empty : (n : ℕ) → Apart (replicate n None)
 apart_empty n page i j hi hj = absurd (empty_slots n page i hi)
 
-apart_none : Apart []
+pub apart_none : Apart []
 apart_none page i j hi hj = absurd (cc)
 
 apart_put : (test : ℕ → Bool) (es : List (ℕ × Object)) (x : Object) → Apart (slots_of x.body) → AllApart es
@@ -150,7 +150,7 @@ apart_filtered test (e ∷ es) all =
       | false ↦ apart_filtered test es all.1
     ]
 
-apart_found : (o : ℕ) (es : List (ℕ × Object)) (x : Object) → AllApart es → lookup (is_at (nat_cmp o)) es ≡ Some x
+pub apart_found : (o : ℕ) (es : List (ℕ × Object)) (x : Object) → AllApart es → lookup (is_at (nat_cmp o)) es ≡ Some x
     → Apart (slots_of x.body)
 apart_found o [] x all found = absurd (cc)
 apart_found o (e ∷ es) x all found =
@@ -161,7 +161,7 @@ apart_found o (e ∷ es) x all found =
     ] found
 
 -- the mappings of each address space of a state are apart
-abbrev Sound : State → Type 0
+abbrev pub Sound : State → Type 0
 Sound s = AllApart s.objects
 
 sound_changed : (s : State) (d : ℕ) (f : Object → Object)
@@ -300,26 +300,26 @@ sound_live : (s : State) → Sound s → Sound (restricted s)
 unfolding live_part
 sound_live s sound = apart_filtered _ s.objects sound
 
-next_sound : (s : State) (t : ℕ) (c : Call) → Sound s → Sound (next s t c)
+pub next_sound : (s : State) (t : ℕ) (c : Call) → Sound s → Sound (next s t c)
 next_sound s t c sound =
     elim (refused s t c) as (λ v. refused s t c ≡ v → Sound (next s t c)) [
       | None ↦ λ h. subst (λ n. Sound n) (sym (step_done s t c h).1) (sound_live (edit s t c) (edit_sound s t c h sound))
       | Some r ↦ λ h. subst (λ n. Sound n) (sym (step_refused s t c r h).1) sound
     ] refl
 
-after_sound : (s : State) (calls : List (ℕ × Call)) → Sound s → Sound (state_after s calls)
+pub after_sound : (s : State) (calls : List (ℕ × Call)) → Sound s → Sound (state_after s calls)
 after_sound s [] sound = sound
 after_sound s (c ∷ calls) sound = after_sound (next s c.0 c.1) calls (next_sound s c.0 c.1 sound)
 
-boot_sound : (l : Limits) → Sound (booted l)
+pub boot_sound : (l : Limits) → Sound (booted l)
 boot_sound l = (apart_none, (apart_none, (apart_none, tt)))
 
-slot_read : (xs : List (Option Mapping)) (i : ℕ) → slot_in (slice_get xs i) ≡ slice_index_or xs i None
+pub slot_read : (xs : List (Option Mapping)) (i : ℕ) → slot_in (slice_get xs i) ≡ slice_index_or xs i None
 slot_read [] i = refl
 slot_read (x ∷ xs) zero = refl
 slot_read (x ∷ xs) (suc i) = slot_read xs i
 
-state_apart : (s : State) (a : ℕ) → Sound s → Apart (slots_at s a)
+pub state_apart : (s : State) (a : ℕ) → Sound s → Apart (slots_at s a)
 state_apart s a sound =
     elim (object_at s a)
     as (λ v. object_at s a ≡ v → Apart (of_object [] (λ x. slots_of x.body) v)) [

@@ -64,7 +64,7 @@ gives_next n given s r e one is xs h =
     subst (λ ys. Above (n s) (ys ++ xs)) (sym one) (omega arith, subst (λ m. Above m xs) is h)
 
 -- the calls that give an id or a category
-abbrev gives : Call → Bool
+abbrev pub gives : Call → Bool
 gives call.CatCreate = true
 gives (call.ContainerCreate n) = true
 gives (call.SegmentCreate n) = true
@@ -75,27 +75,27 @@ gives (call.GateCreate n) = true
 gives c = false
 
 -- no change of an object touches the count
-abbrev Steady : (State → ℕ) → Type 0
+abbrev pub Steady : {X : Type 0} → (State → X) → Type 0
 Steady n = (s : State) (o : ℕ) (f : Object → Object) → n (changed s o f) ≡ n s
 
 -- a count, where a value leads to a state that has it
-value_same : {X : Type 0} (n : State → ℕ) (s : State) (v : Option X) (f : X → State)
+value_same : {X Y : Type 0} (n : State → Y) (s : State) (v : Option X) (f : X → State)
     → ((x : X) → n (f x) ≡ n s) → n (with_value s v f) ≡ n s
 value_same n s None f same = refl
 value_same n s (Some x) f same = same x
 
-gate_same : (n : State → ℕ) → Steady n → (s : State) (t : ℕ) (r q v : Option LabelValue) (g : Option Gate)
+gate_same : {X : Type 0} (n : State → X) → Steady n → (s : State) (t : ℕ) (r q v : Option LabelValue) (g : Option Gate)
     → n (through_gate s t r q v g) ≡ n s
 gate_same n same s t r q v g =
     value_same n s r _ (λ l. value_same n s q _ (λ c. value_same n s v _ (λ w. value_same n s g _ (λ gate.
     same s t (entered l c w gate)))))
 
-store_same : (n : State → ℕ) → Steady n → (s : State) (p : Option Place) (bytes : List ℕ)
+store_same : {X : Type 0} (n : State → X) → Steady n → (s : State) (p : Option Place) (bytes : List ℕ)
     → n (stored_at s p bytes) ≡ n s
 store_same n same s None bytes = refl
 store_same n same s (Some p) bytes = same s p.segment _
 
-edit_same : (n : State → ℕ) → Steady n → (s : State) (t : ℕ) (c : Call) → gives c ≡ false
+pub edit_same : {X : Type 0} (n : State → X) → Steady n → (s : State) (t : ℕ) (c : Call) → gives c ≡ false
     → n (edit s t c) ≡ n s
 edit_same n same s t call.CatCreate h = absurd (cc)
 edit_same n same s t (call.SelfSetLabel x) h = value_same n s _ _ (λ l. same s t _)
@@ -184,25 +184,25 @@ run_above n given step s (c ∷ calls) =
     (run_above n given step (next s c.0 c.1) calls)
 
 -- a new object is made where its label is there
-made_next : (s : State) (d : ℕ) (x : Option LabelValue) (q : ℕ) (b : Body) (a : Option LabelValue)
+pub made_next : (s : State) (d : ℕ) (x : Option LabelValue) (q : ℕ) (b : Body) (a : Option LabelValue)
     → both below a x ≡ true → (made_of s d x q b).next_id ≡ s.next_id + 1
 made_next s d (Some l) q b a h = ap (λ k. k + 1) (next_id-changed s d (listing s.next_id))
 made_next s d None q b (Some a) h = absurd (cc)
 made_next s d None q b None h = absurd (cc)
 
-bearer_next : (s : State) (d : ℕ) (x : Option LabelValue) (q : ℕ) (y : Option LabelValue) (b : LabelValue → Body)
+pub bearer_next : (s : State) (d : ℕ) (x : Option LabelValue) (q : ℕ) (y : Option LabelValue) (b : LabelValue → Body)
     (a : Option LabelValue) → both below a x ≡ true → both below x y ≡ true
     → (made_bearer s d x q y b).next_id ≡ s.next_id + 1
 bearer_next s d x q (Some c) b a h g = made_next s d x q (b c) a h
 bearer_next s d (Some l) q None b a h g = absurd (cc)
 bearer_next s d None q None b a h g = absurd (cc)
 
-owned_id : (s : State) (t : ℕ) (l c : Option LabelValue) → (owned s t l c).next_id ≡ s.next_id
+pub owned_id : (s : State) (t : ℕ) (l c : Option LabelValue) → (owned s t l c).next_id ≡ s.next_id
 owned_id s t None c = refl
 owned_id s t (Some l) None = refl
 owned_id s t (Some l) (Some c) = next_id-changed s t (owning l c)
 
-in_range : (s : State) (t : ℕ) (x : Option LabelValue) → not (in_range_of s t x) ≡ false
+pub in_range : (s : State) (t : ℕ) (x : Option LabelValue) → not (in_range_of s t x) ≡ false
     → both below (label_at s t) x ≡ true
 in_range s t x h = (and_parts _ _ (not-false (in_range_of s t x) h)).0
 
@@ -261,24 +261,24 @@ ids_rise s calls =
     (run_above (λ z. z.next_id) new_id
     (λ s t c. stepped (λ z. z.next_id) new_id (λ r. refl) s t c (ids_done s t c)) s calls)
 
-category-changed : (s : State) (o : ℕ) (f : Object → Object) → (changed s o f).next_category ≡ s.next_category
+pub category-changed : (s : State) (o : ℕ) (f : Object → Object) → (changed s o f).next_category ≡ s.next_category
 category-changed s o f =
     elim (object_at s o) as (λ v. (of_object s (λ x. put s o (f x)) v).next_category ≡ s.next_category) [
       | None ↦ refl
       | Some x ↦ refl
     ]
 
-made_category : (s : State) (d : ℕ) (x : Option LabelValue) (q : ℕ) (b : Body)
+pub made_category : (s : State) (d : ℕ) (x : Option LabelValue) (q : ℕ) (b : Body)
     → (made_of s d x q b).next_category ≡ s.next_category
 made_category s d (Some l) q b = category-changed s d (listing s.next_id)
 made_category s d None q b = refl
 
-bearer_category : (s : State) (d : ℕ) (x : Option LabelValue) (q : ℕ) (y : Option LabelValue) (b : LabelValue → Body)
+pub bearer_category : (s : State) (d : ℕ) (x : Option LabelValue) (q : ℕ) (y : Option LabelValue) (b : LabelValue → Body)
     → (made_bearer s d x q y b).next_category ≡ s.next_category
 bearer_category s d x q (Some c) b = made_category s d x q (b c)
 bearer_category s d x q None b = refl
 
-owned_next : (s : State) (t : ℕ) (l c : Option LabelValue) → (is_none l || is_none c) ≡ false
+pub owned_next : (s : State) (t : ℕ) (l c : Option LabelValue) → (is_none l || is_none c) ≡ false
     → (owned s t l c).next_category ≡ s.next_category + 1
 owned_next s t (Some l) (Some c) h = refl
 owned_next s t (Some l) None h = absurd (cc)
