@@ -121,6 +121,7 @@ class Bindings:
         if records:
             self.counts(f"{RECORDS:,} random records leave the heap as it was", records, str(RECORDS))
         self.compile([compiler, "-std=gnu11"], "bench.c", "bench", *WARNINGS)
+        self.try_refused(compiler)
         if not shutil.which("valgrind"):
             self.leave_out("valgrind", "it is not on the path")
             return
@@ -130,6 +131,13 @@ class Bindings:
             self.play([*checked, player], "C under valgrind")
         if records:
             self.counts("random records under valgrind", *checked, records, "20000")
+
+    def try_refused(self, compiler):
+        """A kernel is opened with each request for memory refused in turn, and calls take none."""
+        wrapped = "-Wl,--wrap=malloc,--wrap=realloc,--wrap=free"
+        opener = self.compile([compiler, "-std=gnu11"], "refused_memory.c", "opener", *WARNINGS, wrapped)
+        if opener:
+            self.counts("C: a kernel is opened with each request for memory refused in turn, and calls take none", opener)
 
     def has_runtime(self, flags):
         """Whether clang links a program with these flags."""
