@@ -1,5 +1,6 @@
 """The kernel as a library for C and Rust: it is built, and programs in bindings/ are compiled against it and run. The scripts
-of examples/ print by them what is stored, random scripts what ./histar prints, and random records leave the heap as it was.
+of examples/ print by them what is stored; random scripts print what ./histar prints, and leave the tables that its dump has;
+random records leave the heap as it was.
 
 What a machine lacks (compilers, cargo, valgrind, clang's runtime) is left out, with a line for each."""
 import glob
@@ -16,6 +17,9 @@ RECORDS = 10_000_000
 FUZZ_SECONDS = int(os.environ.get("FUZZ_SECONDS", "60"))
 WARNINGS = ["-Wall", "-Wextra", "-Wpedantic", "-Werror"]
 MANIFEST = ["--offline", "--manifest-path", "bindings/rust/Cargo.toml"]
+
+
+TABLES = ("live", "use", "map", "label", "order")
 
 
 def run(*words, env=None):
@@ -46,9 +50,10 @@ class Bindings:
         return is_well
 
     def compile(self, compiler, source, name, *flags):
-        """A program of bindings/c, none where it is not compiled."""
+        """A program of a file or folder of bindings/c, none where it is not compiled."""
         program = f"{self.room}/{name}"
-        words = [*compiler, "-g", "-O2", *flags, "-Iinclude", f"bindings/c/{source}", "-o", program]
+        files = sorted(glob.glob(f"bindings/c/{source}/*.c")) or [f"bindings/c/{source}"]
+        words = [*compiler, "-g", "-O2", *flags, "-Iinclude", *files, "-o", program]
         if "-x" in flags:
             words += ["-x", "none"]
         libraries = [f"{self.library}/libhistar_c.a", f"{self.library}/liblibc_c.a"]
@@ -72,9 +77,16 @@ class Bindings:
             file = f"{self.room}/random.histar"
             with open(file, "w", encoding="utf-8") as it:
                 it.write(script(seed))
-            if ran(*player, file, "--pages", "512") != ran(self.histar, "run", file, "--pages", "512"):
+            if ran(*player, file, "--pages", "512", "--tables", "yes") != self.proved(file):
                 differing.append(seed)
-        self.report.counts(not differing, f"{name}: {len(SEEDS)} random scripts print what ./histar prints" + "".join(f", but not seed {it}" for it in differing))
+        what = f"{name}: {len(SEEDS)} random scripts print what ./histar prints, and leave the tables of its dump"
+        self.report.counts(not differing, what + "".join(f", but not seed {it}" for it in differing))
+
+    def proved(self, file):
+        """How the proved program ends with a script, and what it prints, with the tables of its dump."""
+        status, said = ran(self.histar, "run", file, "--pages", "512", "--dump", f"{self.room}/dump")
+        with open(f"{self.room}/dump", encoding="utf-8") as dump:
+            return status, said + "".join(it for it in dump if it.startswith(TABLES))
 
     def try_header(self, compiler, standard, *flags):
         """The header by a compiler, without a warning, and the first program."""
@@ -90,7 +102,7 @@ class Bindings:
             self.leave_out("C", "neither gcc nor clang is on the path")
         for compiler in compilers:
             self.try_header(compiler, "c11")
-            player = self.compile([compiler, "-std=gnu11"], "play.c", f"play-{compiler}", *WARNINGS)
+            player = self.compile([compiler, "-std=gnu11"], "play", f"play-{compiler}", *WARNINGS)
             if player:
                 self.play([player], f"C by {compiler}")
                 self.play_random([player], f"C by {compiler}")
@@ -109,6 +121,7 @@ class Bindings:
         if records:
             self.counts(f"{RECORDS:,} random records leave the heap as it was", records, str(RECORDS))
         self.compile([compiler, "-std=gnu11"], "bench.c", "bench", *WARNINGS)
+        self.try_refused(compiler)
         if not shutil.which("valgrind"):
             self.leave_out("valgrind", "it is not on the path")
             return
@@ -118,6 +131,13 @@ class Bindings:
             self.play([*checked, player], "C under valgrind")
         if records:
             self.counts("random records under valgrind", *checked, records, "20000")
+
+    def try_refused(self, compiler):
+        """A kernel is opened with each request for memory refused in turn, and calls take none."""
+        wrapped = "-Wl,--wrap=malloc,--wrap=realloc,--wrap=free"
+        opener = self.compile([compiler, "-std=gnu11"], "refused_memory.c", "opener", *WARNINGS, wrapped)
+        if opener:
+            self.counts("C: a kernel is opened with each request for memory refused in turn, and calls take none", opener)
 
     def has_runtime(self, flags):
         """Whether clang links a program with these flags."""
@@ -131,7 +151,7 @@ class Bindings:
             self.leave_out("sanitizers", "clang or its runtime is missing")
         else:
             clang = ["clang", "-std=gnu11", "-fsanitize=address,undefined", "-fno-sanitize-recover=all"]
-            player = self.compile(clang, "play.c", "play-sanitized")
+            player = self.compile(clang, "play", "play-sanitized")
             if player:
                 self.play([player], "C with sanitizers")
                 self.play_random([player], "C with sanitizers")

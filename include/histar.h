@@ -651,6 +651,73 @@ static inline uint32_t histar_load(histar *k, uint64_t thread, uint64_t address,
     return histar_takes(k, bytes);
 }
 
+/* ---- Look-ups in what the kernel keeps, for tests and audits. No thread makes them, so no label guards them. ----
+ * Each returns 0, and says in *is_there whether there is one; what it gives is written only where there is. */
+
+static inline uint32_t histar_finds(histar *k, int *is_there)
+{
+    uint32_t refusal = histar_done(k);
+    *is_there = !refusal && k->answer.len == 1;
+    return refusal;
+}
+
+/* The live id at a place, from 0, among all live ids, which rise. */
+static inline uint32_t histar_kept_live(histar *k, uint32_t place, int *is_there, uint64_t *id)
+{
+    uint32_t refusal;
+    histar_asks(k, 35, 0, histar_in(0, 0))->numbers[0] = place;
+    refusal = histar_finds(k, is_there);
+    if (!refusal && *is_there) *id = k->answer.numbers[0];
+    return refusal;
+}
+
+/* What an object uses, in pages of 256 bytes. There is one for each live id. */
+static inline uint32_t histar_kept_use(histar *k, uint64_t object, int *is_there, uint32_t *pages)
+{
+    uint32_t refusal;
+    histar_asks(k, 36, 0, histar_in(0, object));
+    refusal = histar_finds(k, is_there);
+    if (!refusal && *is_there) *pages = (uint32_t)k->answer.numbers[0];
+    return refusal;
+}
+
+/* What a slot, 0 to 15, of a live thread's address space shows: a segment, and HISTAR_READ and HISTAR_WRITE. */
+static inline uint32_t histar_kept_translation(histar *k, uint64_t thread, uint32_t slot, int *is_there,
+                                               uint64_t *segment, uint32_t *rights)
+{
+    uint32_t refusal;
+    const uint64_t *n = k->answer.numbers;
+    histar_asks(k, 37, 0, histar_in(0, thread))->numbers[0] = slot;
+    refusal = histar_finds(k, is_there);
+    if (refusal || !*is_there) return refusal;
+    *segment = n[0];
+    *rights = (uint32_t)(n[1] * HISTAR_READ + n[2] * HISTAR_WRITE);
+    return HISTAR_DONE;
+}
+
+/* The label of an index, from 0 to 65,535. Each stored label has one index. */
+static inline uint32_t histar_kept_label(histar *k, uint16_t index, int *is_there, histar_label *label)
+{
+    uint32_t refusal;
+    histar_asks(k, 38, 0, histar_in(0, 0))->numbers[0] = index;
+    refusal = histar_finds(k, is_there);
+    if (!refusal && *is_there) *label = k->answer.label;
+    return refusal;
+}
+
+/* How the label A of an index compares with the label B of another: the sum of 1 where A is at most B, 2 where it is once
+ * B's star is raised, and 4 where it is once the star of both is raised. There is one where both indexes have a label. */
+static inline uint32_t histar_kept_order(histar *k, uint16_t first, uint16_t second, int *is_there, uint32_t *bits)
+{
+    uint32_t refusal;
+    histar_request *r = histar_asks(k, 39, 0, histar_in(0, 0));
+    r->numbers[0] = first;
+    r->numbers[1] = second;
+    refusal = histar_finds(k, is_there);
+    if (!refusal && *is_there) *bits = (uint32_t)k->answer.numbers[0];
+    return refusal;
+}
+
 #ifdef __cplusplus
 }
 #endif

@@ -4,5 +4,6 @@ pub mod Maybe
 pub mod Calls
 pub mod Queries
 pub mod Told
+pub mod Lookups
 pub mod Asked
 pub mod Laws

@@ -23,6 +23,10 @@ wide_at r k = slice_index r.numbers k
 abbrev pub number_at : Request → ℕ → Option ℕ
 number_at r k = if nat_lt (wide_at r k) (2 ^ 32) then Some (wide_at r k) else None
 
+-- a number, if it has 16 bits
+abbrev pub index_at : Request → ℕ → Option ℕ
+index_at r k = if nat_lt (wide_at r k) (2 ^ 16) then Some (wide_at r k) else None
+
 -- a signed number: 32 bits in two's complement
 abbrev pub signed_at : Request → ℕ → Option ℤ
 signed_at r k = option_map (cast_signed w32) (number_at r k)

@@ -17,7 +17,7 @@ pub(crate) fn bit(flag: bool) -> u64
 
 /// Writes the number of a reply, and its numbers, of which there are at most 17.
 #[inline(always)]
-fn put(reply: u32, numbers: &[u64], answer: &mut Answer)
+pub(crate) fn put(reply: u32, numbers: &[u64], answer: &mut Answer)
     requires { length numbers.now ≤ 17 }
     ensures has { Has reply numbers.now answer.new }
     ensures rest { answer.new ≡ record answer.old { reply = reply; numbers = answer.new.numbers } }

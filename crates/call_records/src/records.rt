@@ -18,7 +18,7 @@ pub struct LabelRecord {
 #[repr(C)]
 #[derive(Clone, Copy)]
 pub struct Request {
-    /// The number of the call: 1 to 24 for a write call, 25 to 34 for a read call.
+    /// What is asked for: 1 to 24 is a write call, 25 to 34 a read call, 35 to 39 a look-up.
     pub call: u32,
     /// How many bytes there are: 0 to 64.
     pub len: u32,
@@ -28,7 +28,7 @@ pub struct Request {
     pub container: u64,
     /// The object of the first entry.
     pub object: u64,
-    /// The container of the second entry.
+    /// The container of the second entry, or where an object is linked.
     pub other_container: u64,
     /// The object of the second entry.
     pub other_object: u64,
@@ -48,9 +48,9 @@ pub struct Request {
 #[repr(C)]
 #[derive(Clone, Copy)]
 pub struct Answer {
-    /// The number of the reply: 0 to 12, in the order of `Reply`.
+    /// The number of the reply: 0 to 12, in the order of `Reply`, or 13 of a look-up.
     pub reply: u32,
-    /// How many bytes, ids or mappings there are.
+    /// How many bytes, ids or mappings there are, or what was found: 0 or 1.
     pub len: u32,
     /// The numbers of the reply, in the order in which a script prints them.
     pub numbers: [u64; 17],

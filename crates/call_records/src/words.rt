@@ -1,6 +1,6 @@
 //! The words of a request: what a call names, beside labels.
 ghost use Rattle.std.specs.Prelude.{◌≡◌, ◌<◌};
-ghost use Rattle.call_records.specs.Words.{entry_of, other_of, number_at, signed_at, kinds_of};
+ghost use Rattle.call_records.specs.Words.{entry_of, other_of, number_at, index_at, signed_at, kinds_of};
 ghost use Rattle.call_records.specs.Words.{rights_of, bytes_of};
 
 use crate::records::Request;
@@ -33,6 +33,14 @@ pub(crate) fn number_at(request: &Request, place: usize) -> Option<u32>
     ensures { result ≡ number_at request.now place }
 {
     u32::try_from(request.numbers[place]).ok()
+}
+
+/// A number, 0 to 4 by its place, if it has 16 bits.
+pub(crate) fn index_at(request: &Request, place: usize) -> Option<u16>
+    requires { place < 5 }
+    ensures { result ≡ index_at request.now place }
+{
+    u16::try_from(request.numbers[place]).ok()
 }
 
 /// A signed number, 0 to 4 by its place: 32 bits in two's complement.

@@ -34,7 +34,7 @@ pub unsafe extern "C" fn histar_call(at: *mut u8, request: &Request, answer: &mu
     ghost before: { Held }
     requires* { sem 𝓛 (lies_at HeldRow full_share at before) }
     ensures* { ∃ₛ (λ (after : Held). sem 𝓛 (lies_at HeldRow full_share at after)
-        ∗ ⌜ IsServed request.now (held_state before) (held_state after) result answer.old answer.new ⌝) }
+        ∗ ⌜ IsServed request.now before.kernel after.kernel result answer.old answer.new ⌝) }
 {
     serve(&mut *at.cast::<Held>(), request, answer)
 }

@@ -1,11 +1,14 @@
 //! What C's memory holds: a kernel, or why there is none.
-ghost use Rattle.std.specs.Prelude.{Some};
+ghost use Rattle.std.specs.Prelude.{◌≡◌, Some};
 ghost use Rattle.call_records.specs.Asked.{asked};
-ghost use Rattle.syscall_core.specs.Kernel.{kernel_state};
-ghost use Rattle.histar_c.specs.Served.{IsBoot, IsDone, IsServed, held_state, limits_of, state_in};
+ghost use Rattle.histar_c.specs.Served.{IsBoot, IsDone, IsFoundTold, IsServed, held_state};
+ghost use Rattle.histar_c.specs.Served.{limits_of, state_in};
 
+use crate::looking::look_up;
 use base::{Limits, Meter, ObjectId};
-use call_records::{Answer, Request, call_into, level_of, query_of, tell};
+use call_records::{
+    Answer, Lookup, Request, call_into, level_of, lookup_of, query_of, tell, tell_found,
+};
 use kernel_rules::{Call, Reply};
 use std::alloc::Global;
 use syscall_core::{BootRefusal, Kernel};
@@ -74,10 +77,20 @@ pub(crate) fn booted(
     }
 }
 
+/// Looks up, and tells what is found. It is out of line, so that calls don't pay for its stack frame.
+#[inline(never)]
+fn tell_look_up(kept: &mut Kept, lookup: &Lookup, answer: &mut Answer)
+    ensures kernel { kept.new.kernel ≡ kept.old.kernel }
+    ensures told { IsFoundTold kept.old.kernel lookup.now 0 answer.new }
+{
+    let found = look_up(&kept.kernel, lookup, &mut kept.meter);
+    tell_found(&found, answer, &mut kept.meter);
+}
+
 /// Does what the record asks for, and gives the number of the refusal: 0 for none, 45 where the record asks for nothing.
 fn answer_kept(kept: &mut Kept, request: &Request, answer: &mut Answer) -> u32
-    ensures { IsDone (asked request.now) request.now.thread (kernel_state kept.old.kernel)
-        (kernel_state kept.new.kernel) result answer.old answer.new }
+    ensures { IsDone (asked request.now) request.now.thread kept.old.kernel kept.new.kernel result
+        answer.old answer.new }
 {
     let thread = ObjectId::new(request.thread);
     if call_into(request, &mut kept.call).is_some() {
@@ -85,18 +98,21 @@ fn answer_kept(kept: &mut Kept, request: &Request, answer: &mut Answer) -> u32
             .step_into(thread, &kept.call, &mut kept.reply, &mut kept.meter);
         return tell(&kept.reply, answer, &mut kept.meter);
     }
-    let Some(query) = query_of(request) else {
+    if let Some(query) = query_of(request) {
+        kept.kernel
+            .ask_into(thread, &query, &mut kept.reply, &mut kept.meter);
+        return tell(&kept.reply, answer, &mut kept.meter);
+    }
+    let Some(lookup) = lookup_of(request) else {
         return 45;
     };
-    kept.kernel
-        .ask_into(thread, &query, &mut kept.reply, &mut kept.meter);
-    tell(&kept.reply, answer, &mut kept.meter)
+    tell_look_up(kept, &lookup, answer);
+    0
 }
 
 /// The same, or why there is no kernel.
 pub(crate) fn serve(held: &mut Held, request: &Request, answer: &mut Answer) -> u32
-    ensures { IsServed request.now (held_state held.old) (held_state held.new) result answer.old
-        answer.new }
+    ensures { IsServed request.now held.old.kernel held.new.kernel result answer.old answer.new }
 {
     match &mut held.kernel {
         Ok(kept) => answer_kept(kept, request, answer),

@@ -8,6 +8,7 @@
 
 mod exports;
 mod held;
+mod looking;
 
 pub use exports::{histar_boot, histar_call, histar_end, histar_size};
 pub use held::{Held, Kept};

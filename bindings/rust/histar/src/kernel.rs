@@ -4,8 +4,18 @@ use crate::{Call, Entry, Limits, Refusal, Reply, Thread};
 
 /// A label kernel. It can be sent to another thread, and one thread at a time calls it: share it by a `Mutex`, or use
 /// [`Replicas`](crate::Replicas).
+///
+/// ```
+/// fn can_be_sent<T: Send>() {}
+/// can_be_sent::<histar::Kernel>();
+/// ```
+///
+/// ```compile_fail
+/// fn can_be_shared<T: Sync>() {}
+/// can_be_shared::<histar::Kernel>();
+/// ```
 pub struct Kernel {
-    raw: Raw,
+    pub(crate) raw: Raw,
 }
 
 /// The value of a reply that the call gives.

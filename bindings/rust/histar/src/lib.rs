@@ -20,6 +20,7 @@
 
 mod call;
 mod ids;
+mod kept;
 mod kernel;
 mod label;
 mod methods;
@@ -27,10 +28,15 @@ mod raw;
 mod records;
 mod refusal;
 mod replicas;
+mod reply;
+mod words;
 
-pub use call::{Call, Entered, Kinds, Limits, Listed, Mapping, Own, Quota, Reply, Rights};
+pub use call::Call;
 pub use ids::{Category, Entry, Object, Thread};
+pub use kept::Order;
 pub use kernel::Kernel;
 pub use label::{Label, Level, NoLabel};
 pub use refusal::Refusal;
 pub use replicas::{Replicas, Seat};
+pub use reply::{Entered, Listed, Own, Quota, Reply};
+pub use words::{Kinds, Limits, Mapping, Rights};

@@ -3,7 +3,7 @@ use Rattle.histar_c.proofs.Steps.{ℕ, List, [], ◌∷◌, ◌++◌, refl, w32,
 use types.Kit.{show}
 use types.Logic.{sem}
 use base.Logic.{sep}
-use Rattle.histar_c.specs.Served.{IsServed, held_state}
+use Rattle.histar_c.specs.Served.{IsServed}
 use Rattle.histar_c.specs.contracts.held.Held.{the_row as R}
 use Rattle.call_records.specs.contracts.Request.{the_row as P}
 use Rattle.call_records.specs.contracts.Answer.{the_row as Q}
@@ -24,7 +24,7 @@ histar_call_spec 𝓤 𝓛 𝓜 𝓡 wired =
     f.Key.name code.function (code.unfolded 𝓤 𝓛.H 𝓜 𝓡 wired)
     (λ κs. (rawptr_vals, (shr_vals, (mut_vals, tt)))) (λ κs. (rawptr_Tells, (shr_Tells (named 0) κs.0 P, (mut_Tells (named 1) κs.1.0 Q, tt)))) (λ κs qs bounds a k are.
     let asked = a.1.0 in let reply = a.1.1.0 in let rb = reply.ref_ptr.0 in let ro = reply.ref_ptr.1 in let vs = mut_vals reply in
-    let Serves : R.Denot → R.Denot → Q.Denot → Q.Denot → ℕ → Type 0 = λ before after old new n. IsServed asked.now (held_state before) (held_state after) n old new in
+    let Serves : R.Denot → R.Denot → Q.Denot → Q.Denot → ℕ → Type 0 = λ before after old new n. IsServed asked.now before.kernel after.kernel n old new in
     let κ = κs.0 in let q = qs.0 in let ρ = κs.1.0 in let t = qs.1.0 in
     let Ref = λ (κ' : List ℕ) (x : MutBor Q.Denot). (MutRef (named 1) κ' Q).own_val x vs in
     let y : Ptr → W.Ghost = λ p. ((κs, qs, bounds, (p, (asked, (reply, tt))), (rawptr_vals p, (shr_vals asked, (vs, tt)))), k) in

@@ -1,0 +1,51 @@
+-- What is found in what a kernel keeps.
+use Rattle.std.specs.Prelude.{◌≡◌, ℕ, Option, Some, None, slice_get}
+use Rattle.base.specs.declared.sets.Rights.{Rights}
+use Rattle.label_lattice.specs.Label.{LabelValue}
+use Rattle.kernel_rules.specs.Scratch.{ids_of}
+use Rattle.kernel_rules.specs.State.{State, object_at, use_of}
+use Rattle.kernel_rules.specs.Translate.{translate}
+use Rattle.arena_state.specs.Kept.{label_kept, order_kept}
+use Rattle.syscall_core.specs.Kernel.{kernel_state}
+use Rattle.syscall_core.specs.declared.kernel.Kernel.{Kernel}
+use Rattle.call_records.specs.declared.lookups.Found.{Found}
+use Rattle.call_records.specs.declared.lookups.Found.TheVariants as found
+use Rattle.call_records.specs.declared.lookups.Lookup.{Lookup}
+use Rattle.call_records.specs.declared.lookups.Lookup.TheVariants as lookups
+
+-- a live id, or nothing
+abbrev pub live_found : Option ℕ → Found
+live_found (Some id) = found.Live id
+live_found None = found.Nothing
+
+-- a segment with the rights to it, or nothing
+abbrev pub shown_found : Option (ℕ × Rights) → Found
+shown_found (Some shown) = found.Shown shown.0 shown.1
+shown_found None = found.Nothing
+
+-- a label, or nothing
+abbrev pub label_found : Option LabelValue → Found
+label_found (Some label) = found.Label label
+label_found None = found.Nothing
+
+-- the bits of an order, or nothing
+abbrev pub order_found : Option ℕ → Found
+order_found (Some bits) = found.Order bits
+order_found None = found.Nothing
+
+-- what an object uses was found, or that it is not there
+abbrev pub IsUseFound : State → ℕ → Found → Type 0
+IsUseFound s id (found.Used pages) = pages ≡ use_of s id
+IsUseFound s id found.Nothing = object_at s id ≡ None
+IsUseFound s id (found.Live other) = ⊥
+IsUseFound s id (found.Shown segment rights) = ⊥
+IsUseFound s id (found.Label label) = ⊥
+IsUseFound s id (found.Order bits) = ⊥
+
+-- the look-up found what the kernel keeps, which is what its state has
+abbrev pub IsFound : Kernel → Lookup → Found → Type 0
+IsFound k (lookups.Live place) f = f ≡ live_found (slice_get (ids_of (kernel_state k).objects) place)
+IsFound k (lookups.Used id) f = IsUseFound (kernel_state k) id f
+IsFound k (lookups.Shown thread slot) f = f ≡ shown_found (translate (kernel_state k) thread slot)
+IsFound k (lookups.Label index) f = f ≡ label_found (label_kept k.state index)
+IsFound k (lookups.Order first second) f = f ≡ order_found (order_kept k.state first second)
