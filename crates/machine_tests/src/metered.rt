@@ -67,12 +67,20 @@ impl Metered {
     }
 
     /// How many labels a call of the boot thread scans, where it is not refused.
-    fn scans(&mut self, call: &Call) -> Option<u64> {
+    pub fn scans(&mut self, call: &Call) -> Option<u64> {
         let before = self.meter.scans();
         match self.step(call) {
             Reply::Refused(_) => None,
             _ => Some(self.meter.scans().saturating_sub(before)),
         }
+    }
+
+    /// How many labels a query of the boot thread scans, be it refused or not.
+    pub fn scans_asked(&mut self, query: &Query) -> u64 {
+        let before = self.meter.scans();
+        self.kernel
+            .ask_surely(boot_thread(), query, &mut self.meter);
+        self.meter.scans().saturating_sub(before)
     }
 
     /// How many cells a call of the boot thread reads, where it is not refused.

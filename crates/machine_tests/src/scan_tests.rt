@@ -2,6 +2,7 @@
 use crate::metered::Metered;
 use base::{Data, Level, Limits, ObjectId};
 use kernel_rules::{Entry, NewGate};
+use std::alloc::Global;
 use std::test::Fail;
 use syscall_core::{Call, Query};
 use test_support::{
@@ -41,6 +42,37 @@ fn few_labels_are_scanned(rt: HostRuntime) -> Result<(), Fail> {
         let (call, stores) = stored_by(place);
         assert!(rt; metered.scans_few(&call, stores)?, "call {place}");
     }
+    Ok(())
+}
+
+/// How many labels a call scans right after a boot, where it is not refused.
+fn scans_after_boot(alloc: Global, call: &Call) -> Result<Option<u64>, Fail> {
+    let mut metered = Metered::boot(alloc)?;
+    Ok(metered.scans(call))
+}
+
+// A boot stores three labels. A new thread stores three more, a new label of the caller one more, and what stores none scans
+// none.
+#[test]
+fn a_booted_kernel_scans_few_labels(rt: HostRuntime) -> Result<(), Fail> {
+    let thread = scans_after_boot(rt.alloc(), &new_thread())?;
+    assert!(rt; matches!(thread, Some(0..=156)));
+    let label = scans_after_boot(rt.alloc(), &Call::SelfSetLabel { label: plain() })?;
+    assert!(rt; matches!(label, Some(0..=60)));
+    let device = scans_after_boot(rt.alloc(), &Call::Unref { entry: in_root(3) })?;
+    assert!(rt; agree(device, Some(0)));
+    Ok(())
+}
+
+#[test]
+fn a_refused_read_scans_none(rt: HostRuntime) -> Result<(), Fail> {
+    let mut metered = Metered::boot(rt.alloc())?;
+    let read = Query::SegmentRead {
+        entry: in_root(3),
+        offset: 0,
+        count: 1,
+    };
+    assert!(rt; agree(metered.scans_asked(&read), 0));
     Ok(())
 }
 
