@@ -9,6 +9,7 @@ import shutil
 import subprocess
 import tempfile
 
+from gate.headers import wrong
 from gate.plays import Script, ran
 from gate.scripts import script
 
@@ -19,6 +20,7 @@ WARNINGS = ["-Wall", "-Wextra", "-Wpedantic", "-Werror"]
 MANIFEST = ["--offline", "--manifest-path", "bindings/rust/Cargo.toml"]
 
 
+RANDOM_WORDS = ["--pages", "512"]
 TABLES = ("live", "use", "map", "label", "order")
 
 
@@ -29,6 +31,16 @@ def run(*words, env=None):
     return done.returncode == 0, done.stdout
 
 
+def examples():
+    """The scripts of examples/ without a fault."""
+    found = [Script(it) for it in sorted(glob.glob("examples/*.histar"))]
+    return [it for it in found if it.status == 0]
+
+
+def but_not(differing):
+    return "".join(f", but not {it}" for it in differing)
+
+
 class Bindings:
     """A run over the library in a folder, with a room for programs."""
 
@@ -37,6 +49,7 @@ class Bindings:
         self.library = library
         self.room = room
         self.histar = histar
+        self.kept = {}
 
     def leave_out(self, what, why):
         self.report.say(f"left out: {what}: {why}")
@@ -49,44 +62,72 @@ class Bindings:
         self.report.counts(is_well, text)
         return is_well
 
-    def compile(self, compiler, source, name, *flags):
-        """A program of a file or folder of bindings/c, none where it is not compiled."""
-        program = f"{self.room}/{name}"
+    def words_of(self, compiler, source, program, *flags):
+        """The command that compiles a file or folder of bindings/c to a program."""
         files = sorted(glob.glob(f"bindings/c/{source}/*.c")) or [f"bindings/c/{source}"]
-        words = [*compiler, "-g", "-O2", *flags, "-Iinclude", *files, "-o", program]
+        words = [*compiler, "-g", *flags, *files, "-o", program]
         if "-x" in flags:
             words += ["-x", "none"]
-        libraries = [f"{self.library}/libhistar_c.a", f"{self.library}/liblibc_c.a"]
-        what = f"{' '.join(compiler)} {' '.join(flags)} bindings/c/{source}"
-        return program if self.counts(what, *words, *libraries) else None
+        return [*words, f"{self.library}/libhistar_c.a", f"{self.library}/liblibc_c.a"]
+
+    def compile(self, compiler, source, name, *flags):
+        """A program of bindings/c, none where it is not compiled."""
+        program = f"{self.room}/{name}"
+        what = f"{' '.join([*compiler, *flags])} bindings/c/{source}"
+        return program if self.counts(what, *self.words_of(compiler, source, program, "-O2", *flags, "-Iinclude")) else None
 
     def play(self, player, name):
         """The scripts of examples/ by a player, against what is stored."""
-        stored = [Script(it) for it in sorted(glob.glob("examples/*.histar"))]
-        stored = [it for it in stored if it.status == 0]
+        stored = examples()
         differing = [it.file for it in stored if ran(*player, it.file, *it.words) != (0, it.out)]
-        self.report.counts(not differing, f"{name}: {len(stored)} scripts of examples/ print what is stored" + "".join(f", but not {it}" for it in differing))
+        self.report.counts(not differing, f"{name}: {len(stored)} scripts of examples/ print what is stored" + but_not(differing))
 
     def play_random(self, player, name):
         """Random scripts by a player, against the proved program."""
         if not self.histar:
             self.leave_out(f"{name}: random scripts", "./histar is not built")
             return
-        differing = []
-        for seed in SEEDS:
-            file = f"{self.room}/random.histar"
+        differing = [seed for seed in SEEDS if self.differs(player, seed)]
+        what = f"{name}: {len(SEEDS)} random scripts print what ./histar prints, and leave the tables of its dump"
+        self.report.counts(not differing, what + but_not(differing))
+
+    def differs(self, player, seed):
+        """Whether a player plays a random script otherwise than the proved program does."""
+        return ran(*player, self.random_script(seed), *RANDOM_WORDS, "--tables", "yes") != self.proved(seed)
+
+    def random_script(self, seed):
+        file = f"{self.room}/{seed}.histar"
+        if not os.path.isfile(file):
             with open(file, "w", encoding="utf-8") as it:
                 it.write(script(seed))
-            if ran(*player, file, "--pages", "512", "--tables", "yes") != self.proved(file):
-                differing.append(seed)
-        what = f"{name}: {len(SEEDS)} random scripts print what ./histar prints, and leave the tables of its dump"
-        self.report.counts(not differing, what + "".join(f", but not seed {it}" for it in differing))
+        return file
 
-    def proved(self, file):
-        """How the proved program ends with a script, and what it prints, with the tables of its dump."""
-        status, said = ran(self.histar, "run", file, "--pages", "512", "--dump", f"{self.room}/dump")
-        with open(f"{self.room}/dump", encoding="utf-8") as dump:
-            return status, said + "".join(it for it in dump if it.startswith(TABLES))
+    def proved(self, seed):
+        """How the proved program ends with a random script, and what it prints, with the tables of its dump."""
+        if seed not in self.kept:
+            status, said = ran(self.histar, "run", self.random_script(seed), *RANDOM_WORDS, "--dump", f"{self.room}/dump")
+            with open(f"{self.room}/dump", encoding="utf-8") as dump:
+                self.kept[seed] = status, said + "".join(it for it in dump if it.startswith(TABLES))
+        return self.kept[seed]
+
+    def is_told(self, compiler, text):
+        """Whether a header is none that C compiles, or some script tells it from the true one."""
+        os.makedirs(f"{self.room}/wrong", exist_ok=True)
+        with open(f"{self.room}/wrong/histar.h", "w", encoding="utf-8") as it:
+            it.write(text)
+        player = f"{self.room}/wrong/play"
+        if not run(*self.words_of([compiler, "-std=gnu11"], "play", player, "-O0", f"-I{self.room}/wrong"))[0]:
+            return False
+        return any(self.differs([player], seed) for seed in SEEDS) or any(ran(player, it.file, *it.words) != (0, it.out) for it in examples())
+
+    def try_wrong_headers(self, compiler):
+        if not self.histar:
+            self.leave_out("wrong headers", "./histar is not built")
+            return
+        with open("include/histar.h", encoding="utf-8") as it:
+            tried = [(line, self.is_told(compiler, text)) for line, text in wrong(it.read())]
+        missed = [f"line {line}" for line, is_told in tried if not is_told]
+        self.report.counts(tried and not missed, f"the player tells {len(tried)} wrong headers from the true one" + but_not(missed))
 
     def try_header(self, compiler, standard, *flags):
         """The header by a compiler, without a warning, and the first program."""
@@ -113,6 +154,7 @@ class Bindings:
                 self.leave_out("C++", f"{compiler} is not on the path")
         if compilers:
             self.try_memory(compilers[0])
+            self.try_wrong_headers(compilers[0])
         self.try_sanitizers()
 
     def try_memory(self, compiler):

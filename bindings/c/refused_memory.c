@@ -1,5 +1,6 @@
 /* Opens kernels, each with another request for memory refused, the first, the second and so on, until none is: an open that
- * is refused one is told 30, and keeps nothing. No call takes memory, and a close gives all back.
+ * is refused one is told 30, and keeps nothing. No call takes memory or writes past histar_size() bytes, and a close gives
+ * all back.
  *
  * To be linked with -Wl,--wrap=malloc,--wrap=realloc,--wrap=free. */
 #include "histar.h"
@@ -37,6 +38,14 @@ void __wrap_free(void *old)
 
 static histar k;
 
+/* Whether the room past histar_size() is as histar_open left it. */
+static int rest_is_zero(void)
+{
+    for (size_t i = histar_size(); i < sizeof k.room; i++)
+        if (k.room[i]) return 0;
+    return 1;
+}
+
 /* Whether calls of many kinds are done. */
 static int calls_are_done(void)
 {
@@ -69,8 +78,9 @@ int main(void)
         if (refusal) continue;
         if (asked >= refused) return 2;
         if (!calls_are_done() || asked != at_open) return 3;
+        if (!rest_is_zero()) return 4;
         histar_close(&k);
-        if (out != 0) return 4;
+        if (out != 0) return 5;
         printf("%ld requests\n", at_open);
         return at_open == 0;
     }

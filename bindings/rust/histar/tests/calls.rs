@@ -61,6 +61,9 @@ fn each_call_answers() {
     let mapping = Mapping { page: 4, segment: entry, first: 1, count: 2, rights: Rights::READ_WRITE };
     kernel.as_map(BOOT, space, 3, mapping).unwrap();
     assert_eq!(kernel.as_get(BOOT, space, 3), Ok(Some(mapping)));
+    let shown = Mapping { page: 9, first: 0, rights: Rights::READ, ..mapping };
+    kernel.as_map(BOOT, space, 4, shown).unwrap();
+    assert_eq!(kernel.as_get(BOOT, space, 4), Ok(Some(shown)));
     kernel.self_set_as(BOOT, space).unwrap();
     kernel.store(BOOT, 4 * 256 + 9, b"stored").unwrap();
     assert_eq!(kernel.load(BOOT, 4 * 256 + 9, 6).unwrap(), b"stored");
@@ -82,6 +85,7 @@ fn each_call_answers() {
     assert_eq!((own.space, own.entry_point, own.closure), (space, 7, 9));
     kernel.set_immutable(BOOT, entry).unwrap();
     assert_eq!(kernel.segment_write(BOOT, entry, 0, b"x"), Err(Refusal::Immutable));
+    assert!(kernel.obj_quota(BOOT, entry).unwrap().immutable);
     assert_eq!(kernel.obj_label(BOOT, entry), Ok(plain));
 }
 
