@@ -86,8 +86,8 @@ pub record IsScript (bytes : List ℕ) (phases : List (List Line)) : Type 0 wher
   pub numbers : ArePhasesNumbered 1 phases
   pub spelled : Spells written_text FitsWritten next ends start bytes (lines_of phases)
 
--- Line n is the first faulty one. No script begins with the lines up to line `stop` and none fewer. The last line of a
--- batch that is open there is faulty as well, unless a line of its worker comes in the rest of the phase.
+-- Line n is the first faulty one. The bytes stop being the beginning of a script at line `stop`. The last line of a batch
+-- that is open there is faulty too, and stands before it, unless a line of its worker comes in the rest of the phase.
 pub record ScriptFaultsAt (bytes : List ℕ) (n : ℕ) : Type 0 where
   pub stop : ℕ
   pub state : Earlier

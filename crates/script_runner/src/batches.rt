@@ -1,5 +1,6 @@
 //! Batches that a worker gathers before it submits them.
 use crate::answers::Answer;
+use call_text::Value;
 use kernel_rules::Call;
 use std::alloc::{AllocError, Global};
 use text_words::Name;
@@ -41,6 +42,8 @@ impl Batch {
         answer: Option<Answer>,
         call: &Call,
     ) -> Result<(), AllocError> {
+        // For the proof alone: this names a type that an answer holds.
+        let _named: Option<Value> = None;
         if answer.is_none() {
             self.calls.push(*call)?;
         }

@@ -7,6 +7,7 @@
 #![tactic(auto)]
 
 mod answers;
+mod asking;
 mod batches;
 mod closings;
 mod desks;

@@ -2,6 +2,7 @@
 ghost use Rattle.std.specs.Iterator.{IsFinite};
 
 use crate::answers::{Answer, Answers};
+use crate::asking::{asked, submitted};
 use crate::batches::Batch;
 use crate::desks::Desk;
 use crate::faults::PlayFault;
@@ -9,7 +10,7 @@ use crate::gates::{Gate, Turn};
 use crate::names::{BoundNames, WorkerNames};
 use base::{NoMemory, Refusal};
 use call_text::{Line, Named, Phase, resolve_into};
-use kernel_rules::{Call, Query, Reply};
+use kernel_rules::{Call, Reply};
 use published_copy::{SeatRefusal, SubmitRefusal};
 use std::alloc::{AllocError, Global};
 use std::mem;
@@ -44,36 +45,6 @@ pub struct Worker {
     reply: Reply,
     /// How its lines ended.
     ended: LinesEnd,
-}
-
-/// What a call answers, whose reply is put in its place.
-fn submitted<D: Desk, R: Wait>(
-    rt: &R,
-    desk: &mut D,
-    call: &Call,
-    reply: &mut Reply,
-    answers: &mut Answers,
-    names: &WorkerNames<'_>,
-) -> Result<Answer, NoMemory> {
-    match desk.submit(rt, call, reply) {
-        Ok(()) => answers.keep(reply, names),
-        Err(SubmitRefusal::Memory) => Err(NoMemory),
-        Err(refusal) => Ok(Answer::Refused(refusal.refusal())),
-    }
-}
-
-/// What a query answers, whose reply is put in its place.
-fn asked<D: Desk>(
-    desk: &mut D,
-    query: &Query,
-    reply: &mut Reply,
-    answers: &mut Answers,
-    names: &WorkerNames<'_>,
-) -> Result<Answer, NoMemory> {
-    match desk.ask(query, reply) {
-        Ok(()) => answers.keep(reply, names),
-        Err(unread) => Ok(Answer::Refused(unread.refusal())),
-    }
 }
 
 impl Worker {
