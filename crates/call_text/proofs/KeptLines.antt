@@ -19,7 +19,7 @@ still_args args more l kept =
     ap (take (length (kinds_of l.verb))) (drop-append-le l.first args more (omega arith)) ∙ take-append-le (length (kinds_of l.verb)) (drop l.first args) more left
 
 with_args : KeptLine → List Arg → Line
-with_args l args = record { number = l.number; binds = l.binds; worker = l.worker; call = call_with l.verb args }
+with_args l args = record { number = l.number; binds = l.binds; worker = l.worker; more = l.more; call = call_with l.verb args }
 
 still_line : (args more : List Arg) (l : KeptLine) → IsKept args l → line_in (args ++ more) l ≡ line_in args l
 unfolding with_args
@@ -42,7 +42,7 @@ new_args args found l at are =
     ap (λ n. take (length (kinds_of l.verb)) (drop n (args ++ found))) at ∙ ap (take (length (kinds_of l.verb))) (drop-append_seam args found)
     ∙ ap (λ n. take n found) (same_length (kinds_of l.verb) found are) ∙ take-length found
 
-pub new_line : (args found : List Arg) (l : KeptLine) → l.first ≡ length args → AreArgs (kinds_of l.verb) found → line_in (args ++ found) l ≡ (let one : Line = record { number = l.number; binds = l.binds; worker = l.worker; call = call_with l.verb found } in one)
+pub new_line : (args found : List Arg) (l : KeptLine) → l.first ≡ length args → AreArgs (kinds_of l.verb) found → line_in (args ++ found) l ≡ (let one : Line = record { number = l.number; binds = l.binds; worker = l.worker; more = l.more; call = call_with l.verb found } in one)
 unfolding with_args
 new_line args found l at are = ap (with_args l) (new_args args found l at are)
 

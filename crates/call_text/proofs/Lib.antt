@@ -6,3 +6,4 @@ pub mod Progress
 pub mod KeptLines
 pub mod ReadSoFar
 pub mod Unbound
+pub mod OpenBatches

@@ -1,5 +1,5 @@
 -- The grammar of scripts: lines, names and phases.
-use Rattle.std.proofs.Common.{◌≡◌, ℕ, zero, suc, ◌+◌, ◌<◌, ◌≤◌, Bool, true, false, cond, not, leb, ◌||◌, List, [], ◌∷◌, ◌++◌, length, map, take, slice_get, Some, None, refl, ap, ◌∙◌, sym, arith, subst, append_assoc, length-append}
+use Rattle.std.proofs.Common.{◌≡◌, ℕ, zero, suc, ◌+◌, ◌<◌, ◌≤◌, Bool, true, false, cond, not, leb, ◌||◌, List, [], ◌∷◌, ◌++◌, length, map, take, slice_get, Option, Some, None, refl, ap, ◌∙◌, sym, arith, subst, append_assoc, length-append}
 use Rattle.std.specs.List.{list_any}
 use Rattle.std.specs.Str.{bytes_eq}
 use Rattle.std.specs.Cmp.{both_ways}
@@ -16,8 +16,11 @@ use Rattle.text_words.proofs.NameLemmas.{exact_names, name_cmp_same}
 use Rattle.call_text.specs.Line.{Written, Break, Said, written_text}
 use Rattle.call_text.specs.Text.{line, lines_text}
 use Rattle.call_text.specs.declared.phases.Line.{Line}
-use Rattle.call_text.specs.Script.{said_of, lines_of, AreNumbered, ArePhasesNumbered, is_bound, binds_of, next}
-use Rattle.call_text.specs.Names.{Holds, Admits}
+use Rattle.call_text.specs.Script.{said_of, lines_of, AreNumbered, ArePhasesNumbered, is_bound, binds_of, bind, with_both, next}
+use Rattle.call_text.specs.declared.batches.Open.{Open}
+use Rattle.call_text.specs.Batch.{opens_after}
+use Rattle.call_text.specs.Reading.{Joins}
+use Rattle.call_text.specs.Names.{Holds, names_after, Binds, Admits}
 
 equal_is : (o : Ordering) → is_eq o ≡ true → o ≡ Equal
 equal_is Less e = absurd cc
@@ -60,18 +63,11 @@ not_free lines lt = no (leb 65536 lines) refl
     no true e = let k = leb-true 65536 lines e in absurd (omega arith)
     no false e = refl
 
--- a line that binds nothing
-next_none : (lines : ℕ) (names : List (List ℕ)) (l : Written) → lines < 65536 → binds_of l ≡ None → next (record { lines = lines; bound = names }) l ≡ Some (record { lines = lines + 1; bound = names })
+-- a line with room for it
+next_is : (lines : ℕ) (names : List (List ℕ)) (batches : List Open) (l : Written) (bound : Option (List (List ℕ))) (after : Option (List Open)) → lines < 65536 → bind names (binds_of l) ≡ bound → opens_after (lines + 1) batches l ≡ after
+    → next (record { lines = lines; bound = names; open_batches = batches }) l ≡ with_both (lines + 1) bound after
 unfolding next
-next_none lines names l lt e = rw (not_free lines lt, e) refl
-
-next_new : (lines : ℕ) (names : List (List ℕ)) (l : Written) (k : List ℕ) → lines < 65536 → binds_of l ≡ Some k → is_bound k names ≡ false → next (record { lines = lines; bound = names }) l ≡ Some (record { lines = lines + 1; bound = names ++ k ∷ [] })
-unfolding next
-next_new lines names l k lt e fresh = rw (not_free lines lt, e, fresh) refl
-
-next_old : (lines : ℕ) (names : List (List ℕ)) (l : Written) (k : List ℕ) → lines < 65536 → binds_of l ≡ Some k → is_bound k names ≡ true → next (record { lines = lines; bound = names }) l ≡ None
-unfolding next
-next_old lines names l k lt e known = rw (not_free lines lt, e, known) refl
+next_is lines names batches l bound after lt b a = rw (not_free lines lt, b, a) refl
 
 full : (lines : ℕ) → 65536 ≤ lines → leb 65536 lines ≡ true
 full lines le = yes (leb 65536 lines) refl
@@ -80,29 +76,48 @@ full lines le = yes (leb 65536 lines) refl
     yes true e = refl
     yes false e = let k = leb-false 65536 lines e in absurd (omega arith)
 
-pub admits_full : (lines : ℕ) (l : Written) (old new : BTreeSet (List ℕ)) → 65536 ≤ lines → Admits lines l old new false
+pub admits_full : (lines : ℕ) (l : Written) (old new : BTreeSet (List ℕ)) (batches : List Open) → 65536 ≤ lines → Admits lines l old new batches batches false
 unfolding next
-admits_full lines l old new le names holds = rw (full lines le) refl
+admits_full lines l old new batches le = (refl, λ names holds. rw (full lines le) refl)
 
-pub admits_none : (lines : ℕ) (l : Written) (set : BTreeSet (List ℕ)) → lines < 65536 → binds_of l ≡ None → Admits lines l set set true
-admits_none lines l set lt e = (lt, λ names holds. (rw e (next_none lines names l lt e), rw e holds))
+-- a name that is bound already
+pub admits_unbound : (lines : ℕ) (l : Written) (old new : BTreeSet (List ℕ)) (batches : List Open) → lines < 65536 → Binds (binds_of l) old new false → Admits lines l old new batches batches false
+admits_unbound lines l old new batches lt binds = (refl, λ names holds. next_is lines names batches l None (opens_after (lines + 1) batches l) lt (binds names holds) refl)
 
-pub admits_name : (lines : ℕ) (l : Written) (k : List ℕ) (old new : BTreeSet (List ℕ)) (fresh : Bool) → lines < 65536 → binds_of l ≡ Some k → fresh ≡ not (contains name_cmp old k) → AddsKey old new k → Admits lines l old new fresh
-admits_name lines l k old new true lt e fresh up = (
+-- a line that binds no name twice, and comes after the open batches or not
+pub admits_joined : (lines : ℕ) (l : Written) (old new : BTreeSet (List ℕ)) (batches later : List Open) (yes : Bool) → lines < 65536 → Binds (binds_of l) old new true → Joins (lines + 1) l batches later yes → Admits lines l old new batches later yes
+admits_joined lines l old new batches later true lt binds joins = (
   lt,
   λ names holds.
-      let free : is_bound k names ≡ false = sym (holds k) ∙ flipped (contains name_cmp old k) fresh in
-      (rw e (next_new lines names l k lt e free), rw e (holds_more old new names k up holds)),
+      let b = binds names holds in
+      (next_is lines names batches l (Some (names_after names (binds_of l))) (Some later) lt b.0 joins, b.1),
 )
+admits_joined lines l old new batches later false lt binds joins = (
+  joins.1,
+  λ names holds. next_is lines names batches l (Some (names_after names (binds_of l))) None lt (binds names holds).0 joins.0,
+)
+
+pub binds_none : (name : Option (List ℕ)) (set : BTreeSet (List ℕ)) → name ≡ None → Binds name set set true
+binds_none name set e = rw e (λ names holds. (refl, holds))
+
+binds_new : (k : List ℕ) (old new : BTreeSet (List ℕ)) (fresh : Bool) → fresh ≡ not (contains name_cmp old k) → AddsKey old new k → Binds (Some k) old new fresh
+binds_new k old new true fresh up = λ names holds.
+    let free : is_bound k names ≡ false = sym (holds k) ∙ flipped (contains name_cmp old k) fresh in
+    (rw free refl, holds_more old new names k up holds)
   where
     flipped : (b : Bool) → true ≡ not b → b ≡ false
     flipped true e = absurd cc
     flipped false e = refl
-admits_name lines l k old new false lt e fresh up = λ names holds. next_old lines names l k lt e (sym (holds k) ∙ flipped (contains name_cmp old k) fresh)
+binds_new k old new false fresh up = λ names holds.
+    let known : is_bound k names ≡ true = sym (holds k) ∙ flipped (contains name_cmp old k) fresh in
+    rw known refl
   where
     flipped : (b : Bool) → false ≡ not b → b ≡ true
     flipped true e = refl
     flipped false e = absurd cc
+
+pub binds_name : (name : Option (List ℕ)) (k : List ℕ) (old new : BTreeSet (List ℕ)) (fresh : Bool) → name ≡ Some k → fresh ≡ not (contains name_cmp old k) → AddsKey old new k → Binds name old new fresh
+binds_name name k old new fresh e is up = subst (λ (o : Option (List ℕ)). Binds o old new fresh) (sym e) (binds_new k old new fresh is up)
 
 -- one more line of the last phase
 pub lines_of-line : (phases : List (List Line)) (ls : List Line) (l : Line) → lines_of (phases ++ (ls ++ l ∷ []) ∷ []) ≡ lines_of (phases ++ ls ∷ []) ++ said_of l ∷ []
@@ -167,7 +182,7 @@ onto_first l (p ∷ ps) = (l ∷ p) ∷ ps
 phases_from : ℕ → List Written → List (List Line)
 phases_from n [] = [] ∷ []
 phases_from n (Break ∷ ls) = [] ∷ phases_from (n + 1) ls
-phases_from n (Said binds worker call ∷ ls) = onto_first (record { number = n; binds = binds; worker = worker; call = call }) (phases_from (n + 1) ls)
+phases_from n (Said binds worker more call ∷ ls) = onto_first (record { number = n; binds = binds; worker = worker; more = more; call = call }) (phases_from (n + 1) ls)
 
 phases_again : (n : ℕ) (p : List Line) (ps : List (List Line)) → ArePhasesNumbered n (p ∷ ps) → phases_from n (lines_of (p ∷ ps)) ≡ p ∷ ps
 unfolding onto_first phases_from
@@ -176,8 +191,8 @@ phases_again n [] (q ∷ qs) h = let e : n + 0 + 1 ≡ n + 1 = omega arith in ap
 phases_again n (l ∷ p) ps h =
     let e : n + suc (length p) + 1 ≡ n + 1 + length p + 1 = omega arith in
     let rest = phases_again (n + 1) p ps (h.0.1, subst (λ m. ArePhasesNumbered m ps) e h.1) in
-    ap (onto_first (record { number = n; binds = l.binds; worker = l.worker; call = l.call })) rest
-    ∙ (λ i. (let m : Line = record { number = sym h.0.0 i; binds = l.binds; worker = l.worker; call = l.call } in m ∷ p) ∷ ps)
+    ap (onto_first (record { number = n; binds = l.binds; worker = l.worker; more = l.more; call = l.call })) rest
+    ∙ (λ i. (let m : Line = record { number = sym h.0.0 i; binds = l.binds; worker = l.worker; more = l.more; call = l.call } in m ∷ p) ∷ ps)
 
 -- one list of phases makes one list of lines
 pub phases_are_one : (a b : List (List Line)) → 1 ≤ length a → 1 ≤ length b → ArePhasesNumbered 1 a → ArePhasesNumbered 1 b → lines_of a ≡ lines_of b → a ≡ b

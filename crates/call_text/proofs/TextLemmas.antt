@@ -5,7 +5,7 @@ use Rattle.std.specs.List.{AllByRecursion}
 use Rattle.std.proofs.lemmas.List.{append-nil, length-append}
 use Rattle.text_words.specs.Lacks.{lacks}
 use Rattle.text_words.proofs.OneLemmas.{first_part}
-use Rattle.call_text.specs.Text.{run, line, lines_text, FaultsAt, Spells}
+use Rattle.call_text.specs.Text.{run, line, lines_text, StopsAt, FaultsAt, Spells}
 use Rattle.text_words.proofs.PartLemmas.{not_in}
 
 run_from : {S V : Type 0} (next : S → V → Option S) (s : Option S) (vs : List V) (v : V) → run next s (vs ++ v ∷ []) ≡ run next (run next s vs) (v ∷ [])
@@ -53,40 +53,44 @@ not_some : {S : Type 0} (o : Option S) → o ≡ None → IsSome o → ⊥
 not_some None e h = cc
 not_some (Some s) e h = cc
 
-pub fault_no_end : {S V : Type 0} (text : V → List ℕ) (Fits : V → Type 0) (next : S → V → Option S) (ends : S → Bool) (start : S) (bytes : List ℕ) (vs : List V) (state : S) (rest : List ℕ) (n : ℕ)
-    → Came text Fits next start bytes vs state rest → n ≡ length vs + 1 → lacks 10 rest ≡ true → (rest ≡ [] → ends state ≡ false) → FaultsAt text Fits next ends start bytes n
-fault_no_end text Fits next ends start bytes vs state rest n came count none whole = record {
+pub stop_no_end : {S V : Type 0} (text : V → List ℕ) (Fits : V → Type 0) (next : S → V → Option S) (ends : S → Bool) (start : S) (bytes : List ℕ) (vs : List V) (state : S) (rest : List ℕ) (n : ℕ)
+    → Came text Fits next start bytes vs state rest → n ≡ length vs + 1 → lacks 10 rest ≡ true → (rest ≡ [] → ends state ≡ false) → StopsAt text Fits next ends start bytes n state rest
+stop_no_end text Fits next ends start bytes vs state rest n came count none whole = record {
   before = vs;
   fit = came.fit;
-  state = state;
   ran = came.ran;
-  rest = rest;
   bytes_are = came.parts;
   number = count;
   no_more = λ v more f s e. not_in 10 (text v) more (subst (λ (x : List ℕ). lacks 10 x ≡ true) e none);
   not_whole = whole;
 }
 
-pub fault_line : {S V : Type 0} (text : V → List ℕ) (Fits : V → Type 0) (next : S → V → Option S) (ends : S → Bool) (start : S) (bytes : List ℕ) (vs : List V) (state : S) (rest : List ℕ) (n : ℕ) (l after : List ℕ)
-    → IsGrammar text Fits → Came text Fits next start bytes vs state rest → n ≡ length vs + 1 → rest ≡ l ++ 10 ∷ after → lacks 10 l ≡ true → ((v : V) → Fits v → IsSome (next state v) → l ≡ text v → ⊥) → FaultsAt text Fits next ends start bytes n
-fault_line text Fits next ends start bytes vs state rest n l after g came count h lack none = record {
+pub stop_line : {S V : Type 0} (text : V → List ℕ) (Fits : V → Type 0) (next : S → V → Option S) (ends : S → Bool) (start : S) (bytes : List ℕ) (vs : List V) (state : S) (rest : List ℕ) (n : ℕ) (l after : List ℕ)
+    → IsGrammar text Fits → Came text Fits next start bytes vs state rest → n ≡ length vs + 1 → rest ≡ l ++ 10 ∷ after → lacks 10 l ≡ true → ((v : V) → Fits v → IsSome (next state v) → l ≡ text v → ⊥) → StopsAt text Fits next ends start bytes n state rest
+stop_line text Fits next ends start bytes vs state rest n l after g came count h lack none = record {
   before = vs;
   fit = came.fit;
-  state = state;
   ran = came.ran;
-  rest = rest;
   bytes_are = came.parts;
   number = count;
   no_more = λ v more f s e. none v f s (first_part 10 l (text v) after more lack (g.lacks_end v f) (sym h ∙ e)).0;
   not_whole = λ e. absurd (empty_no_line l after rest h e);
 }
 
-pub fault_state : {S V : Type 0} (text : V → List ℕ) (Fits : V → Type 0) (next : S → V → Option S) (ends : S → Bool) (start : S) (bytes : List ℕ) (vs : List V) (state : S) (rest : List ℕ) (n : ℕ) (l after : List ℕ) (w : V)
-    → IsGrammar text Fits → Came text Fits next start bytes vs state rest → n ≡ length vs + 1 → rest ≡ l ++ 10 ∷ after → lacks 10 l ≡ true → Fits w → l ≡ text w → next state w ≡ None → FaultsAt text Fits next ends start bytes n
-fault_state text Fits next ends start bytes vs state rest n l after w g came count h lack fw is none =
-    fault_line text Fits next ends start bytes vs state rest n l after g came count h lack (λ v f s e.
+pub stop_state : {S V : Type 0} (text : V → List ℕ) (Fits : V → Type 0) (next : S → V → Option S) (ends : S → Bool) (start : S) (bytes : List ℕ) (vs : List V) (state : S) (rest : List ℕ) (n : ℕ) (l after : List ℕ) (w : V)
+    → IsGrammar text Fits → Came text Fits next start bytes vs state rest → n ≡ length vs + 1 → rest ≡ l ++ 10 ∷ after → lacks 10 l ≡ true → Fits w → l ≡ text w → next state w ≡ None → StopsAt text Fits next ends start bytes n state rest
+stop_state text Fits next ends start bytes vs state rest n l after w g came count h lack fw is none =
+    stop_line text Fits next ends start bytes vs state rest n l after g came count h lack (λ v f s e.
     let same : v ≡ w = g.one v w f fw (sym e ∙ is) in
     not_some (next state v) (ap (next state) same ∙ none) s)
+
+pub fault_no_end : {S V : Type 0} (text : V → List ℕ) (Fits : V → Type 0) (next : S → V → Option S) (ends : S → Bool) (start : S) (bytes : List ℕ) (vs : List V) (state : S) (rest : List ℕ) (n : ℕ)
+    → Came text Fits next start bytes vs state rest → n ≡ length vs + 1 → lacks 10 rest ≡ true → (rest ≡ [] → ends state ≡ false) → FaultsAt text Fits next ends start bytes n
+fault_no_end text Fits next ends start bytes vs state rest n came count none whole = (state, (rest, stop_no_end text Fits next ends start bytes vs state rest n came count none whole))
+
+pub fault_line : {S V : Type 0} (text : V → List ℕ) (Fits : V → Type 0) (next : S → V → Option S) (ends : S → Bool) (start : S) (bytes : List ℕ) (vs : List V) (state : S) (rest : List ℕ) (n : ℕ) (l after : List ℕ)
+    → IsGrammar text Fits → Came text Fits next start bytes vs state rest → n ≡ length vs + 1 → rest ≡ l ++ 10 ∷ after → lacks 10 l ≡ true → ((v : V) → Fits v → IsSome (next state v) → l ≡ text v → ⊥) → FaultsAt text Fits next ends start bytes n
+fault_line text Fits next ends start bytes vs state rest n l after g came count h lack none = (state, (rest, stop_line text Fits next ends start bytes vs state rest n l after g came count h lack none))
 
 -- what is spelled has no faulty line
 stuck : {S V : Type 0} (next : S → V → Option S) (o : Option S) (vs : List V) (t : S) → run next o vs ≡ Some t → IsSome o
@@ -111,9 +115,12 @@ never_both text Fits next ends g (Some s) (v ∷ vs) (b ∷ before) t u rest fv 
     let same : b ≡ v = sym (g.one v b fv.0 fb.0 p.0) in
     never_both text Fits next ends g (next s v) vs before t u rest fv.1 fb.1 rv end (subst (λ x. run next (next s x) before ≡ Some u) same rb) p.1 none whole
 
+pub stops_not_spelled : {S V : Type 0} (text : V → List ℕ) (Fits : V → Type 0) (next : S → V → Option S) (ends : S → Bool) (start : S) → IsGrammar text Fits → (bytes : List ℕ) (n : ℕ) (state : S) (rest : List ℕ) (vs : List V) → StopsAt text Fits next ends start bytes n state rest → Spells text Fits next ends start bytes vs → ⊥
+stops_not_spelled text Fits next ends start g bytes n state rest vs f s =
+    never_both text Fits next ends g (Some start) vs f.before s.state state rest s.fit f.fit s.ran s.ended f.ran (sym s.bytes_are ∙ f.bytes_are) f.no_more f.not_whole
+
 pub faults_not_spelled : {S V : Type 0} (text : V → List ℕ) (Fits : V → Type 0) (next : S → V → Option S) (ends : S → Bool) (start : S) → IsGrammar text Fits → (bytes : List ℕ) (n : ℕ) (vs : List V) → FaultsAt text Fits next ends start bytes n → Spells text Fits next ends start bytes vs → ⊥
-faults_not_spelled text Fits next ends start g bytes n vs f s =
-    never_both text Fits next ends g (Some start) vs f.before s.state f.state f.rest s.fit f.fit s.ran s.ended f.ran (sym s.bytes_are ∙ f.bytes_are) f.no_more f.not_whole
+faults_not_spelled text Fits next ends start g bytes n vs f s = stops_not_spelled text Fits next ends start g bytes n f.0 f.1.0 vs f.1.1 s
 
 -- one text of one list of lines
 lines_are_one : {V : Type 0} (text : V → List ℕ) (Fits : V → Type 0) → IsGrammar text Fits → (vs ws : List V) → AllByRecursion Fits vs → AllByRecursion Fits ws → lines_text text vs ≡ lines_text text ws → vs ≡ ws

@@ -1,4 +1,5 @@
 pub mod Line
+pub mod Batch
 pub mod Text
 pub mod Script
 pub mod Phase

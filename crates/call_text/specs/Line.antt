@@ -1,58 +1,73 @@
 -- The spelling of a script's line.
-use Rattle.std.specs.Prelude.{◌≡◌, ◌≤◌, ℕ, List, ◌++◌, length, codes, Option, Some, None, true}
+use Rattle.std.specs.Prelude.{◌≡◌, ◌≤◌, ℕ, List, [], ◌∷◌, ◌++◌, length, codes, Option, Some, None, Bool}
+use Rattle.std.specs.Prelude.{true, false, not, ◌||◌}
 use Rattle.text_words.specs.Name.{IsName, name_text}
 use Rattle.spoken_calls.specs.declared.args.Arg.{Arg}
 use Rattle.spoken_calls.specs.declared.verbs.Verb.{Verb}
-use Rattle.spoken_calls.specs.Verb.{makes}
+use Rattle.spoken_calls.specs.Verb.{makes, writes}
 use Rattle.spoken_calls.specs.Spoken.{Spoken, IsSpoken, spoken_text, call_with}
 use Rattle.call_text.specs.declared.lines.Outline.{Outline}
 use Rattle.call_text.specs.declared.lines.Outline.TheVariants as outlines
 
--- A line without its place: --, or a worker's call, and the name that is bound to what it makes.
+-- A line without its place: --, or the name that is bound, a worker, whether the worker's next line
+-- is of the same batch, and its call.
 pub data Written : Type 0 where
   Break : Written
-  Said : Option (List ℕ) → List ℕ → Spoken → Written
+  Said : Option (List ℕ) → List ℕ → Bool → Spoken → Written
 
 -- a line's outline with its call's arguments
 abbrev pub written_with : Outline → List Arg → Written
 written_with outlines.Break xs = Break
-written_with (outlines.Said binds worker verb) xs = Said binds worker (call_with verb xs)
+written_with (outlines.Said binds worker more verb) xs = Said binds worker more (call_with verb xs)
 
--- WORKER: CALL
-abbrev pub said_text : List ℕ × Spoken → List ℕ
-said_text said = name_text said.0 ++ codes ": " ++ spoken_text said.1
+-- what stands after a worker: a plus where its batch goes on
+abbrev pub mark : Bool → List ℕ
+mark true = codes ":+"
+mark false = codes ":"
+
+-- a worker, whether its batch goes on, and a call
+abbrev pub Saying : Type 0
+Saying = List ℕ × Bool × Spoken
+
+-- WORKER: CALL, or WORKER:+ CALL
+abbrev pub said_text : Saying → List ℕ
+said_text said = (name_text said.0 ++ mark said.1) ++ 32 ∷ spoken_text said.2
+
+-- a batch has write calls only
+abbrev pub may_go_on : Bool → Verb → Bool
+may_go_on more verb = not more || writes verb
 
 -- a name, and a call in its ranges
-abbrev pub IsSaid : List ℕ × Spoken → Type 0
-IsSaid said = IsName said.0 × IsSpoken said.1
+abbrev pub IsSaid : Saying → Type 0
+IsSaid said = IsName said.0 × IsSpoken said.2 × (may_go_on said.1 said.2.verb ≡ true)
 
 -- a worker, and a call with its arguments
-abbrev pub said_with : List ℕ × Verb → List Arg → List ℕ × Spoken
-said_with said xs = (said.0, call_with said.1 xs)
+abbrev pub said_with : List ℕ × Bool × Verb → List Arg → Saying
+said_with said xs = (said.0, said.1, call_with said.2 xs)
 
--- NAME = WORKER: CALL
-abbrev pub bound_text : List ℕ × List ℕ × Spoken → List ℕ
-bound_text bound = name_text bound.0 ++ codes " = " ++ said_text (bound.1, bound.2)
+-- NAME = WORKER: CALL, or NAME = WORKER:+ CALL
+abbrev pub bound_text : List ℕ × Saying → List ℕ
+bound_text bound = name_text bound.0 ++ codes " = " ++ said_text bound.1
 
 -- a name stands only before a call that makes something
-abbrev pub IsBound : List ℕ × List ℕ × Spoken → Type 0
-IsBound bound = IsName bound.0 × IsSaid (bound.1, bound.2) × (makes bound.2.verb ≡ true)
+abbrev pub IsBound : List ℕ × Saying → Type 0
+IsBound bound = IsName bound.0 × IsSaid bound.1 × (makes bound.1.2.verb ≡ true)
 
 -- a name, a worker, and a call with its arguments
-abbrev pub bound_with : List ℕ × List ℕ × Verb → List Arg → List ℕ × List ℕ × Spoken
-bound_with bound xs = (bound.0, bound.1, call_with bound.2 xs)
+abbrev pub bound_with : List ℕ × (List ℕ × Bool × Verb) → List Arg → List ℕ × Saying
+bound_with bound xs = (bound.0, said_with bound.1 xs)
 
 -- --, or a call with its worker, and with the name that it binds
 abbrev pub written_text : Written → List ℕ
 written_text Break = codes "--"
-written_text (Said None worker call) = said_text (worker, call)
-written_text (Said (Some name) worker call) = bound_text (name, worker, call)
+written_text (Said None worker more call) = said_text (worker, more, call)
+written_text (Said (Some name) worker more call) = bound_text (name, (worker, more, call))
 
 -- each word is in its range
 abbrev pub IsWritten : Written → Type 0
 IsWritten Break = Unit {0}
-IsWritten (Said None worker call) = IsSaid (worker, call)
-IsWritten (Said (Some name) worker call) = IsBound (name, worker, call)
+IsWritten (Said None worker more call) = IsSaid (worker, more, call)
+IsWritten (Said (Some name) worker more call) = IsBound (name, (worker, more, call))
 
 -- at most 4,096 bytes
 pub record FitsWritten (line : Written) : Type 0 where

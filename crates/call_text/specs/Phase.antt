@@ -16,6 +16,7 @@ line_in args l = record {
   number = l.number;
   binds = l.binds;
   worker = l.worker;
+  more = l.more;
   call = call_with l.verb (args_in args l);
 }
 

@@ -1,5 +1,5 @@
 -- What is read of a script.
-use Rattle.std.specs.Prelude.{◌≡◌, ℕ, List, [], ◌∷◌, ◌++◌, map, Result, Ok, Err}
+use Rattle.std.specs.Prelude.{◌≡◌, ℕ, List, [], ◌∷◌, ◌++◌, Some, None, map, Result, Ok, Err, Bool, true, false}
 use Rattle.spoken_calls.specs.declared.args.Arg.{Arg}
 use Rattle.call_text.specs.declared.lines.Outline.{Outline}
 use Rattle.call_text.specs.declared.lines.Outline.TheVariants as outlines
@@ -8,6 +8,9 @@ use Rattle.call_text.specs.declared.phases.Line.{Line}
 use Rattle.call_text.specs.declared.phases.Script.{Script}
 use Rattle.call_text.specs.declared.errors.ScriptError.{ScriptError}
 use Rattle.call_text.specs.declared.errors.ScriptError.TheVariants as errors
+use Rattle.call_text.specs.declared.batches.Open.{Open}
+use Rattle.call_text.specs.Batch.{others, opens_after, LeavesOpen, first_fault}
+use Rattle.call_text.specs.Line.{Written}
 use Rattle.call_text.specs.Phase.{line_in}
 use Rattle.call_text.specs.Script.{IsScript, ScriptFaultsAt}
 
@@ -17,11 +20,12 @@ abbrev pub AddsLine : ℕ → ℕ → Outline → List (List Line) → List Arg 
     → List (List Line) → List Arg → List KeptLine → Type 0
 AddsLine number first outlines.Break phases args lines more left last =
     (more ≡ phases ++ map (line_in args) lines ∷ []) × (left ≡ []) × (last ≡ [])
-AddsLine number first (outlines.Said binds worker verb) phases args lines more left last =
+AddsLine number first (outlines.Said binds worker goes_on verb) phases args lines more left last =
     (more ≡ phases) × (left ≡ args) × (last ≡ lines ++ record {
       number = number;
       binds = binds;
       worker = worker;
+      more = goes_on;
       verb = verb;
       first = first;
     } ∷ [])
@@ -31,3 +35,20 @@ abbrev pub ReadsScript : List ℕ → Result Script ScriptError → Type 0
 ReadsScript bytes (Ok script) = IsScript bytes script
 ReadsScript bytes (Err errors.Memory) = Unit {0}
 ReadsScript bytes (Err (errors.Line n)) = ScriptFaultsAt bytes n
+
+-- Whether the line may come after these open batches. The new ones are then those after it, and else the old ones.
+abbrev pub Joins : ℕ → Written → List Open → List Open → Bool → Type 0
+Joins number l old new true = opens_after number old l ≡ Some new
+Joins number l old new false = (opens_after number old l ≡ None) × (new ≡ old)
+
+-- the first faulty line, where the rest does not go on with a script in line `stop`
+abbrev pub TellsFault : List ℕ → List Open → ℕ → ScriptError → Type 0
+TellsFault rest batches stop errors.Memory = Unit {0}
+TellsFault rest batches stop (errors.Line n) =
+    (left : List Open) × LeavesOpen rest batches left × (n ≡ first_fault left stop)
+
+-- Whether the line ends the phase. The new open batches are the old ones with which it does not go on.
+abbrev pub GoesPast : Outline → List Open → List Open → Bool → Type 0
+GoesPast outlines.Break old new ended = (ended ≡ true) × (new ≡ old)
+GoesPast (outlines.Said binds worker more verb) old new ended =
+    (ended ≡ false) × (new ≡ others worker old)

@@ -27,17 +27,21 @@ pub record Spells {S V : Type 0} (text : V → List ℕ) (Fits : V → Type 0) (
   pub bytes_are : bytes ≡ lines_text text vs
 
 -- Line n is the first at which the bytes stop being the beginning of a text. The n - 1 lines
--- before it are the beginning of one, and no line that may stand after them comes next. Where
--- nothing comes after them they aren't a whole text.
-pub record FaultsAt {S V : Type 0} (text : V → List ℕ) (Fits : V → Type 0) (next : S → V → Option S)
-    (ends : S → Bool) (start : S) (bytes : List ℕ) (n : ℕ) : Type 0 where
+-- before it are the beginning of one, which comes to this state, and no line that may stand after them
+-- begins the rest. Where nothing comes after them they aren't a whole text.
+pub record StopsAt {S V : Type 0} (text : V → List ℕ) (Fits : V → Type 0) (next : S → V → Option S)
+    (ends : S → Bool) (start : S) (bytes : List ℕ) (n : ℕ) (state : S) (rest : List ℕ) : Type 0 where
   pub before : List V
   pub fit : AllByRecursion Fits before
-  pub state : S
   pub ran : run next (Some start) before ≡ Some state
-  pub rest : List ℕ
   pub bytes_are : bytes ≡ lines_text text before ++ rest
   pub number : n ≡ length before + 1
   pub no_more : (v : V) (more : List ℕ) → Fits v → IsSome (next state v)
       → rest ≡ text v ++ 10 ∷ more → ⊥
   pub not_whole : rest ≡ [] → ends state ≡ false
+
+-- the same, whatever the state and the rest
+abbrev pub FaultsAt : {S V : Type 0} → (V → List ℕ) → (V → Type 0) → (S → V → Option S) → (S → Bool)
+    → S → List ℕ → ℕ → Type 0
+FaultsAt {S} text Fits next ends start bytes n =
+    (state : S) × ((rest : List ℕ) × StopsAt text Fits next ends start bytes n state rest)

@@ -6,6 +6,7 @@
 #![tactic(auto)]
 
 mod asking;
+mod batches;
 mod errors;
 mod known_names;
 mod lines;

@@ -1,7 +1,8 @@
 //! A line of a script.
-ghost use Rattle.std.specs.Prelude.{◌≡◌, ◌++◌, ◌∷◌, [], ℕ, List, IfOk, IfSome, IfNone};
+ghost use Rattle.std.specs.Prelude.{◌≡◌, ◌++◌, ◌∷◌, [], ℕ, List, Bool, IfOk, IfSome, IfNone};
 ghost use Rattle.spoken_calls.specs.Spoken.{ReadsInto};
 ghost use Rattle.call_text.specs.Line.{said_with, said_text, IsSaid, bound_with, bound_text, IsBound};
+ghost use Rattle.call_text.specs.Line.{mark, may_go_on};
 ghost use Rattle.call_text.specs.Line.{written_with, written_text, FitsWritten};
 
 use spoken_calls::{Arg, Verb, read_spoken};
@@ -20,19 +21,28 @@ pub enum Outline {
     Said {
         binds: Option<Name>,
         worker: Name,
+        more: bool,
         verb: Verb,
     },
 }
 
-/// What stands before a last colon.
-fn before_colon(word: &[u8]) -> Option<&[u8]>
-    ensures some { IfSome result (λ r. word.now ≡ r.now ++ 58 ∷ []) }
-    ensures none { IfNone result ((r : List ℕ) → word.now ≡ r ++ 58 ∷ [] → ⊥) }
+/// What stands before a last colon, or before a colon and a plus, and whether the plus is there.
+fn before_mark(word: &[u8]) -> Option<(&[u8], bool)>
+    ensures some { IfSome result (λ r. word.now ≡ r.0.now ++ mark r.1) }
+    ensures none { IfNone result ((r : List ℕ) (more : Bool) → word.now ≡ r ++ mark more → ⊥) }
 {
     match word {
-        [before @ .., b':'] => Some(before),
+        [before @ .., b':'] => Some((before, false)),
+        [before @ .., b':', b'+'] => Some((before, true)),
         _ => None,
     }
+}
+
+/// Whether the call may stand in a line that says whether the worker's next line is of its batch.
+fn may_go_on(more: bool, verb: Verb) -> bool
+    ensures { result ≡ may_go_on more verb }
+{
+    !more || verb.writes()
 }
 
 /// What stands after an equals sign and a space.
@@ -46,19 +56,20 @@ fn after_equals(text: &[u8]) -> Option<&[u8]>
     }
 }
 
-/// A worker and the verb of its call, as `WORKER: CALL`. The call's arguments are added to the list; where the text is no
-/// such line nothing is added.
+/// A worker, whether its batch goes on, and the verb of its call, as `WORKER: CALL` or `WORKER:+ CALL`. The call's
+/// arguments are added to the list; where the text is no such line nothing is added.
 fn read_said(
     alloc: Global,
     text: &[u8],
     args: &mut Vec<Arg>,
-) -> Result<Option<(Name, Verb)>, AllocError>
+) -> Result<Option<(Name, bool, Verb)>, AllocError>
     ensures { IfOk result (ReadsInto said_with said_text IsSaid text.now args.old.items args.new.items) }
 {
+    let before = args.as_slice().len();
     let Some((first, words)) = parted(text, b' ') else {
         return Ok(None);
     };
-    let Some(worker) = before_colon(first) else {
+    let Some((worker, more)) = before_mark(first) else {
         return Ok(None);
     };
     let Some(worker) = read_name(worker) else {
@@ -67,16 +78,20 @@ fn read_said(
     let Some(verb) = read_spoken(alloc, words, args)? else {
         return Ok(None);
     };
-    Ok(Some((worker, verb)))
+    if !may_go_on(more, verb) {
+        args.truncate(before);
+        return Ok(None);
+    }
+    Ok(Some((worker, more, verb)))
 }
 
-/// A name, a worker and the verb of its call, as `NAME = WORKER: CALL`. The call's arguments are added to the list; where
-/// the text is no such line nothing is added.
+/// A name, and the rest of its line, as `NAME = WORKER: CALL` or `NAME = WORKER:+ CALL`. The call's arguments are added to
+/// the list; where the text is no such line nothing is added.
 fn read_bound(
     alloc: Global,
     text: &[u8],
     args: &mut Vec<Arg>,
-) -> Result<Option<(Name, Name, Verb)>, AllocError>
+) -> Result<Option<(Name, (Name, bool, Verb))>, AllocError>
     ensures { IfOk result (ReadsInto bound_with bound_text IsBound text.now args.old.items args.new.items) }
 {
     let before = args.as_slice().len();
@@ -92,12 +107,11 @@ fn read_bound(
     let Some(said) = read_said(alloc, said, args)? else {
         return Ok(None);
     };
-    if !said.1.makes() {
+    if !said.2.makes() {
         args.truncate(before);
         return Ok(None);
     }
-    let (worker, verb) = said;
-    Ok(Some((name, worker, verb)))
+    Ok(Some((name, said)))
 }
 
 /// The line that the bytes before a line's end spell, but for its call's arguments, which are added to the list; where
@@ -115,19 +129,21 @@ pub fn read_line(
     if is_same(text, b"--") {
         return Ok(Some(Outline::Break));
     }
-    if let Some((worker, verb)) = read_said(alloc, text, args)? {
+    if let Some((worker, more, verb)) = read_said(alloc, text, args)? {
         return Ok(Some(Outline::Said {
             binds: None,
             worker,
+            more,
             verb,
         }));
     }
-    let Some((name, worker, verb)) = read_bound(alloc, text, args)? else {
+    let Some((name, (worker, more, verb))) = read_bound(alloc, text, args)? else {
         return Ok(None);
     };
     Ok(Some(Outline::Said {
         binds: Some(name),
         worker,
+        more,
         verb,
     }))
 }

@@ -17,6 +17,8 @@ pub struct Line<'a> {
     pub binds: Option<Name>,
     /// The name of the worker that makes the call.
     pub worker: Name,
+    /// Whether the worker's next line of the phase is of the same batch.
+    pub more: bool,
     /// The call, as its words say it.
     pub call: SpokenCall<'a>,
 }
@@ -30,6 +32,8 @@ pub struct KeptLine {
     pub binds: Option<Name>,
     /// The name of the worker that makes the call.
     pub worker: Name,
+    /// Whether the worker's next line of the phase is of the same batch.
+    pub more: bool,
     /// The call's first word.
     pub verb: Verb,
     /// How many arguments stand in the list before the call's.
@@ -98,6 +102,7 @@ impl Phase {
             number: kept.number,
             binds: kept.binds,
             worker: kept.worker,
+            more: kept.more,
             call: SpokenCall::new(kept.verb, args),
         })
     }

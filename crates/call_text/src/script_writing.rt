@@ -1,7 +1,7 @@
 //! Writing scripts.
 ghost use Rattle.std.specs.Prelude.{◌≡◌, ◌++◌, ◌∷◌, [], map, IfOk, OnOk};
 ghost use Rattle.std.specs.List.{flat_map};
-ghost use Rattle.call_text.specs.Line.{Break, written_text};
+ghost use Rattle.call_text.specs.Line.{Break, mark, written_text};
 ghost use Rattle.call_text.specs.Text.{lines_text};
 ghost use Rattle.call_text.specs.Script.{said_of, script_text};
 
@@ -10,6 +10,18 @@ use base::NoMemory;
 use spoken_calls::put_spoken;
 use std::alloc::{AllocError, Global};
 use text_words::put_name;
+
+/// Adds what stands after a worker: a plus where its batch goes on.
+fn put_mark(out: &mut Vec<u8>, more: bool) -> Result<(), AllocError>
+    ensures { OnOk result (out.new.items ≡ out.old.items ++ mark more) }
+{
+    if more {
+        out.extend_from_slice(b":+")?;
+    } else {
+        out.push(b':')?;
+    }
+    Ok(())
+}
 
 /// Adds the line and its end.
 fn put_line(out: &mut Vec<u8>, line: &Line<'_>) -> Result<(), AllocError>
@@ -21,7 +33,8 @@ fn put_line(out: &mut Vec<u8>, line: &Line<'_>) -> Result<(), AllocError>
         out.extend_from_slice(b" = ")?;
     }
     put_name(out, &line.worker)?;
-    out.extend_from_slice(b": ")?;
+    put_mark(out, line.more)?;
+    out.push(b' ')?;
     put_spoken(out, &line.call)?;
     out.push(b'\n')?;
     Ok(())

@@ -5,10 +5,11 @@ ghost use Rattle.spoken_calls.specs.declared.args.Arg.{Arg as ArgValue};
 ghost use Rattle.call_text.specs.declared.phases.Line.{Line as LineValue};
 ghost use Rattle.call_text.specs.Script.{IsScript, ScriptFaultsAt, known_names, binds_of};
 ghost use Rattle.call_text.specs.Line.{written_with};
-ghost use Rattle.call_text.specs.Names.{Holds, Admits};
+ghost use Rattle.call_text.specs.Names.{Holds, Binds, Admits};
 ghost use Rattle.call_text.specs.Phase.{line_in, IsKept};
 ghost use Rattle.call_text.specs.Reading.{ReadsScript, AddsLine};
 
+use crate::batches::{Open, fault_at, join};
 use crate::errors::ScriptError;
 use crate::lines::{Outline, read_line};
 use crate::phases::{KeptLine, Phase, Script};
@@ -42,20 +43,37 @@ fn binds(outline: &Outline) -> Option<Name>
     }
 }
 
-/// Whether the line may stand after so many lines, whose names are bound. Binds the line's.
-#[tactic(auto, unfolding(crate::specs::Script::next))]
-fn admit(lines: u32, bound: &mut BTreeSet<Name>, outline: &Outline) -> Result<bool, AllocError>
-    ensures { IfOk result
-        (λ yes. (xs : List ArgValue) → Admits lines (written_with outline.now xs) bound.old bound.new yes) }
+/// Binds the line's name, where it has one, and tells whether no earlier line binds it.
+fn bind(bound: &mut BTreeSet<Name>, outline: &Outline) -> Result<bool, AllocError>
+    ensures { IfOk result (λ yes. (xs : List ArgValue)
+        → Binds (binds_of (written_with outline.now xs)) bound.old bound.new yes) }
 {
-    if lines >= MOST {
-        return Ok(false);
-    }
     let Some(name) = binds(outline) else {
         return Ok(true);
     };
     let fresh = bound.insert(name)?;
     Ok(fresh)
+}
+
+/// Whether the line may stand after so many lines, whose names are bound and whose batches are open. Binds the line's, and
+/// keeps the batches that are open after it; where it may not stand there, those before it.
+fn admit(
+    lines: u32,
+    bound: &mut BTreeSet<Name>,
+    batches: &mut Vec<Open>,
+    outline: &Outline,
+) -> Result<bool, AllocError>
+    ensures { IfOk result (λ yes. (xs : List ArgValue)
+        → Admits lines (written_with outline.now xs) bound.old bound.new
+            batches.old.items batches.new.items yes) }
+{
+    if lines >= MOST {
+        return Ok(false);
+    }
+    if !bind(bound, outline)? {
+        return Ok(false);
+    }
+    join(batches, lines + 1, outline)
 }
 
 /// Adds the phase of these lines, and takes them and their arguments away.
@@ -97,11 +115,13 @@ fn add(
         Outline::Said {
             binds,
             worker,
+            more,
             verb,
         } => lines.push(KeptLine {
             number,
             binds,
             worker,
+            more,
             verb,
             first,
         })?,
@@ -109,11 +129,14 @@ fn add(
     Ok(())
 }
 
-/// The one script that the bytes spell. `Line` tells the first line at which they stop being the beginning of a script.
+/// The one script that the bytes spell. `Line` tells the first faulty line: the first at which they stop being the beginning
+/// of a script, or an earlier one that says that its batch goes on, where its worker has no well-formed line after it in
+/// the phase.
 pub fn read_script(alloc: Global, bytes: &[u8]) -> Result<Script, ScriptError>
     ensures { ReadsScript bytes.now result }
 {
     let mut bound = names_at_start(alloc)?;
+    let mut batches = Vec::new(alloc);
     let mut phases = Vec::new(alloc);
     let mut args = Vec::new(alloc);
     let mut lines = Vec::new(alloc);
@@ -121,14 +144,14 @@ pub fn read_script(alloc: Global, bytes: &[u8]) -> Result<Script, ScriptError>
     let mut count = 0u32;
     while !rest.is_empty() {
         let Some((line, after)) = parted(rest, b'\n') else {
-            return Err(ScriptError::Line(count + 1));
+            return Err(fault_at(alloc, rest, &mut batches, count + 1));
         };
         let first = args.as_slice().len();
         let Some(outline) = read_line(alloc, line, &mut args)? else {
-            return Err(ScriptError::Line(count + 1));
+            return Err(fault_at(alloc, rest, &mut batches, count + 1));
         };
-        if !admit(count, &mut bound, &outline)? {
-            return Err(ScriptError::Line(count + 1));
+        if !admit(count, &mut bound, &mut batches, &outline)? {
+            return Err(fault_at(alloc, rest, &mut batches, count + 1));
         }
         count += 1;
         add(
@@ -141,6 +164,9 @@ pub fn read_script(alloc: Global, bytes: &[u8]) -> Result<Script, ScriptError>
             outline,
         )?;
         rest = after;
+    }
+    if !batches.is_empty() {
+        return Err(fault_at(alloc, rest, &mut batches, count + 1));
     }
     phases.push(Phase::new(args, lines))?;
     Ok(Script { phases })

@@ -128,6 +128,46 @@ fn events_are_read_and_written(rt: HostRuntime) -> Result<(), Fail> {
     Ok(())
 }
 
+/// The line that is told where these lines stand for the events.
+fn fault_at_events(alloc: Global, events: &str) -> Result<u64, Fail> {
+    let mut text = Vec::new(alloc);
+    text.extend_from_slice(HEAD.as_bytes())?;
+    text.extend_from_slice(events.as_bytes())?;
+    text.extend_from_slice(b"end\n")?;
+    Ok(fault(alloc, text.as_slice()))
+}
+
+// A batch is 2 to 16 calls, and has as many lines of calls as it says.
+#[test]
+fn batches_are_read(rt: HostRuntime) -> Result<(), Fail> {
+    for (events, line) in [
+        ("batch 2 1 2\ncall cat_create => cat #1\ncall unref #1 #4 => ok\n", 1_000_000),
+        ("batch 2 1 1\ncall cat_create => cat #1\n", 3),
+        ("batch 2 1 17\ncall cat_create => cat #1\n", 3),
+        ("batch 2 1 2\ncall cat_create => cat #1\n", 5),
+        ("batch 2 1 2\ncall cat_create => cat #1\nevent 2 2 cat_create => cat #2\n", 5),
+        ("batch 2 1 2\ncall cat_create => ok\ncall cat_create => ok\ncall cat_create => ok\n", 6),
+        ("call cat_create => cat #1\n", 3),
+        ("event 2 1 cat_create => cat #1\ncall cat_create => cat #2\n", 4),
+        ("batch 2 1 2\ncall self_get => ok\ncall cat_create => cat #1\n", 4),
+    ] {
+        assert_eq!(rt; fault_at_events(rt.alloc(), events)?, line, "{events}");
+    }
+    Ok(())
+}
+
+#[test]
+fn a_batch_is_written_again(rt: HostRuntime) -> Result<(), Fail> {
+    let mut text = Vec::new(rt.alloc());
+    text.extend_from_slice(HEAD.as_bytes())?;
+    text.extend_from_slice(b"batch 2 1 2\ncall cat_create => cat #1\ncall unref #1 #4 => ok\nend\n")?;
+    let dump = read_dump(rt.alloc(), text.as_slice())?;
+    assert_eq!(rt; dump.events.len(), 1);
+    let bytes = write_dump(rt.alloc(), &dump)?;
+    assert!(rt; bytes.as_slice() == text.as_slice());
+    Ok(())
+}
+
 #[test]
 fn a_dump_that_ends_early_is_faulty_where_it_ends(rt: HostRuntime) {
     let bytes = EMPTY_DUMP.as_bytes();

@@ -8,6 +8,8 @@ pub fn runs_are_tested() {}
 #[cfg(test)]
 mod auditor_tests;
 #[cfg(test)]
+mod batch_tests;
+#[cfg(test)]
 mod script_runner_dumps;
 #[cfg(test)]
 mod script_runner_names;

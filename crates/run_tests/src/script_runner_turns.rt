@@ -12,7 +12,7 @@ use test_support::are_equal;
 
 /// Whether two events are of the same call of a thread.
 fn is_as(one: &KeptEvent, other: &KeptEvent) -> bool {
-    one.thread == other.thread && one.number == other.number
+    one.thread() == other.thread() && one.number() == other.number()
 }
 
 /// Whether two runs print the same and have as many events.

@@ -6,7 +6,8 @@ use auditor::{Verdict, audit};
 use base::{NoMemory, ObjectId};
 use call_text::{NameList, put_reply, read_script};
 use histar_args::{DEFAULTS, Options};
-use kept_events::KeptEvent;
+use histories::Event;
+use kept_events::events_of;
 use kernel_rules::{Call, Reply};
 use plain_core::{PlainKernel, run};
 use script_runner::{Always, histar_on, play_all};
@@ -74,12 +75,17 @@ fn text_of(alloc: Global, reply: &Reply) -> Result<Vec<u8>, NoMemory> {
     Ok(text)
 }
 
-fn calls_of(alloc: Global, events: &[KeptEvent]) -> Result<Vec<(ObjectId, Call)>, NoMemory> {
-    let mut calls = Vec::new(alloc);
-    for event in events {
-        calls.push((event.thread, event.call.call()))?;
+/// Adds the calls of an event, each with its thread, and their replies.
+fn add_calls(
+    calls: &mut Vec<(ObjectId, Call)>,
+    replies: &mut Vec<Reply>,
+    event: &Event,
+) -> Result<(), NoMemory> {
+    for answered in &event.calls {
+        calls.push((event.thread, answered.call))?;
+        replies.push(answered.reply)?;
     }
-    Ok(calls)
+    Ok(())
 }
 
 // The write calls of a script, in the order of the journal, answer the same by `run` on a new plain
@@ -91,14 +97,17 @@ fn check_run<R: Abort + AllocGlobal + Threads + Wait + Sync>(
     let alloc = rt.alloc();
     let script = read_script(alloc, worked.text)?;
     let played = play_all(rt, alloc, &script, &worked.limits, &Always)?;
-    let calls = calls_of(alloc, played.events.as_slice())?;
+    let (mut calls, mut told) = (Vec::new(alloc), Vec::new(alloc));
+    for event in &events_of(alloc, played.events.as_slice())? {
+        add_calls(&mut calls, &mut told, event)?;
+    }
     let mut kernel = PlainKernel::boot(alloc, &worked.limits)?;
     let replies = run(alloc, &mut kernel, calls.as_slice())?;
-    assert_eq!(rt; replies.len(), played.events.len());
-    for (event, reply) in played.events.iter().zip(&replies) {
+    assert_eq!(rt; replies.len(), told.len());
+    for (earlier, reply) in told.iter().zip(&replies) {
         assert_eq!(rt;
             text_of(alloc, reply)?.as_slice(),
-            text_of(alloc, &event.reply.reply())?.as_slice()
+            text_of(alloc, earlier)?.as_slice()
         );
     }
     Ok(replies.len())

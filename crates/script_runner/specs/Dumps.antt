@@ -1,10 +1,10 @@
 -- What stands in the book at the end of a run, and the file that the run writes.
 use Rattle.std.specs.Prelude.{◌≡◌, ℕ, Bool, true, false, List, []}
 use Rattle.base.specs.declared.ranges.Limits.{Limits}
-use Rattle.kernel_rules.specs.History.{IsLegal, state_of}
+use Rattle.histories.specs.History.{IsLegal, state_of}
 use Rattle.kernel_rules.specs.Scratch.{scratch}
 use Rattle.kernel_rules.specs.Tables.{TableLists}
-use Rattle.kernel_rules.specs.declared.events.Event.{Event}
+use Rattle.histories.specs.Events.{Event}
 use Rattle.dump_text.specs.Line.{IsBootable}
 use Rattle.dump_text.specs.Whole.{IsLegalDump}
 

@@ -17,6 +17,13 @@ pub trait Desk {
         reply: &mut Reply,
     ) -> Result<(), SubmitRefusal>;
 
+    /// Makes the calls of a batch, and gives their replies. Without a seat they are out of turn.
+    fn submit_batch<R: Wait>(
+        &mut self,
+        rt: &R,
+        calls: &[Call],
+    ) -> Result<Vec<Reply>, SubmitRefusal>;
+
     /// Asks a query. Without a seat it is not read.
     fn ask(&mut self, query: &Query, reply: &mut Reply) -> Result<(), Unread>;
 }
@@ -37,6 +44,18 @@ impl<B: Naming> Desk for Option<Seat<'_, B>> {
         };
         let _placed = seat.submit_into(rt, call, reply)?;
         Ok(())
+    }
+
+    fn submit_batch<R: Wait>(
+        &mut self,
+        rt: &R,
+        calls: &[Call],
+    ) -> Result<Vec<Reply>, SubmitRefusal> {
+        let Some(seat) = self else {
+            return Err(SubmitRefusal::OutOfTurn);
+        };
+        let receipt = seat.submit_batch(rt, calls)?;
+        Ok(receipt.replies)
     }
 
     fn ask(&mut self, query: &Query, reply: &mut Reply) -> Result<(), Unread> {
@@ -72,6 +91,18 @@ impl<B: Naming> Desk for SoleDesk<B> {
         };
         let _placed = self.book.submit_into(thread, call, reply)?;
         Ok(())
+    }
+
+    fn submit_batch<R: Wait>(
+        &mut self,
+        _rt: &R,
+        calls: &[Call],
+    ) -> Result<Vec<Reply>, SubmitRefusal> {
+        let Some(thread) = self.thread else {
+            return Err(SubmitRefusal::OutOfTurn);
+        };
+        let receipt = self.book.submit_batch(thread, calls)?;
+        Ok(receipt.replies)
     }
 
     fn ask(&mut self, query: &Query, reply: &mut Reply) -> Result<(), Unread> {

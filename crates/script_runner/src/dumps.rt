@@ -3,12 +3,13 @@ ghost use Rattle.std.specs.Prelude.{◌≡◌, IfOk, OnOk};
 ghost use Rattle.dump_text.specs.Dump.{dump_text};
 ghost use Rattle.dump_text.specs.Fits.{FitsWords};
 ghost use Rattle.dump_text.specs.Whole.{whole_dump};
-ghost use Rattle.kernel_rules.specs.History.{state_of};
+ghost use Rattle.histories.specs.History.{state_of};
 ghost use Rattle.kernel_rules.specs.Scratch.{scratch};
 
 use base::{Limits, NoMemory};
 use dump_text::{dump_with, write_dump};
-use kernel_rules::{Event, Tables};
+use histories::Event;
+use kernel_rules::Tables;
 use std::alloc::Global;
 
 /// The dump of a journal, as text, with the tables of the state that it leads to from a boot with these limits. Want of

@@ -7,6 +7,8 @@
 #![tactic(auto)]
 
 mod answers;
+mod asking;
+mod batches;
 mod closings;
 mod desks;
 mod dumps;

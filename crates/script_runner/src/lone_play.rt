@@ -1,6 +1,6 @@
 //! Playing a script whose workers take turns: in one thread, on one kernel that has no copies.
 ghost use Rattle.std.specs.Prelude.{◌≡◌, IfOk};
-ghost use Rattle.kernel_rules.specs.History.{state_of};
+ghost use Rattle.histories.specs.History.{state_of};
 ghost use Rattle.kernel_rules.specs.Scratch.{scratch};
 ghost use Rattle.script_runner.specs.Dumps.{IsPlayed};
 

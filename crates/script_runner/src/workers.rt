@@ -2,17 +2,20 @@
 ghost use Rattle.std.specs.Iterator.{IsFinite};
 
 use crate::answers::{Answer, Answers};
+use crate::asking::{asked, submitted};
+use crate::batches::Batch;
 use crate::desks::Desk;
 use crate::faults::PlayFault;
 use crate::gates::{Gate, Turn};
 use crate::names::{BoundNames, WorkerNames};
 use base::{NoMemory, Refusal};
 use call_text::{Line, Named, Phase, resolve_into};
-use kernel_rules::{Call, Query, Reply};
+use kernel_rules::{Call, Reply};
 use published_copy::{SeatRefusal, SubmitRefusal};
 use std::alloc::{AllocError, Global};
 use std::mem;
 use std::sync::Wait;
+use text_words::Name;
 
 /// How a worker's lines ended.
 #[derive(Clone, Copy, PartialEq, Eq)]
@@ -34,42 +37,14 @@ pub struct Worker {
     pub own: BoundNames,
     /// What its lines answered.
     answers: Answers,
+    /// The lines of a batch that it has begun.
+    batch: Batch,
     /// Where the call of a line is written. (A call is large, and so is a reply.)
     call: Call,
     /// Where the reply to a line is put.
     reply: Reply,
     /// How its lines ended.
     ended: LinesEnd,
-}
-
-/// What a call answers, whose reply is put in its place.
-fn submitted<D: Desk, R: Wait>(
-    rt: &R,
-    desk: &mut D,
-    call: &Call,
-    reply: &mut Reply,
-    answers: &mut Answers,
-    names: &WorkerNames<'_>,
-) -> Result<Answer, NoMemory> {
-    match desk.submit(rt, call, reply) {
-        Ok(()) => answers.keep(reply, names),
-        Err(SubmitRefusal::OutOfTurn) => Ok(Answer::Refused(Refusal::OutOfTurn)),
-        Err(SubmitRefusal::Memory) => Err(NoMemory),
-    }
-}
-
-/// What a query answers, whose reply is put in its place.
-fn asked<D: Desk>(
-    desk: &mut D,
-    query: &Query,
-    reply: &mut Reply,
-    answers: &mut Answers,
-    names: &WorkerNames<'_>,
-) -> Result<Answer, NoMemory> {
-    match desk.ask(query, reply) {
-        Ok(()) => answers.keep(reply, names),
-        Err(unread) => Ok(Answer::Refused(unread.refusal())),
-    }
 }
 
 impl Worker {
@@ -79,6 +54,7 @@ impl Worker {
             refusal: None,
             own: BoundNames::none(alloc),
             answers: Answers::none(alloc),
+            batch: Batch::none(alloc),
             call: Call::CatCreate,
             reply: Reply::Done,
             ended: LinesEnd::Played,
@@ -118,12 +94,128 @@ impl Worker {
         }
     }
 
-    /// Binds the line's name to what its call made.
-    fn bind(&mut self, line: &Line<'_>, answer: &Answer) -> Result<(), AllocError> {
-        if let (Some(name), Answer::Made(made)) = (line.binds, answer) {
+    /// Keeps what a line answers, and binds its name to what its call made.
+    fn keep(
+        &mut self,
+        number: u32,
+        binds: Option<Name>,
+        answer: &Answer,
+    ) -> Result<(), AllocError> {
+        if let (Some(name), Answer::Made(made)) = (binds, answer) {
             self.own.bind(&Named { name, value: *made })?;
         }
+        self.answers.lines.push((number, *answer))?;
         Ok(())
+    }
+
+    /// Writes the call of a line of a batch, or tells what the line answers where it is left out. (The lines that a script
+    /// has in batches are write calls.)
+    fn write_call<D: Desk>(
+        &mut self,
+        desk: &D,
+        line: &Line<'_>,
+        earlier: &BoundNames,
+    ) -> Option<Answer> {
+        if !desk.is_open() {
+            return Some(self.unseated(line));
+        }
+        let names = WorkerNames {
+            own: &self.own,
+            earlier,
+        };
+        match resolve_into(&line.call, &names, &mut self.call) {
+            Err(name) => Some(Answer::Unbound(name)),
+            Ok(Some(_)) => Some(Answer::Refused(Refusal::BadBatch)),
+            Ok(None) => None,
+        }
+    }
+
+    /// Keeps the replies to the calls of the batch, as what their lines answer.
+    fn keep_replies(&mut self, replies: &[Reply], earlier: &BoundNames) -> Result<(), NoMemory> {
+        let names = WorkerNames {
+            own: &self.own,
+            earlier,
+        };
+        let mut left = replies;
+        for line in &mut self.batch.lines {
+            if line.answer.is_some() {
+                continue;
+            }
+            let [reply, more @ ..] = left else {
+                return Ok(());
+            };
+            line.answer = Some(self.answers.keep(reply, &names)?);
+            left = more;
+        }
+        Ok(())
+    }
+
+    /// Submits the calls of the batch, if there are some.
+    fn submit<D: Desk, R: Wait>(
+        &mut self,
+        rt: &R,
+        desk: &mut D,
+        earlier: &BoundNames,
+    ) -> Result<(), NoMemory> {
+        if self.batch.calls.is_empty() {
+            return Ok(());
+        }
+        match desk.submit_batch(rt, self.batch.calls.as_slice()) {
+            Ok(replies) => self.keep_replies(replies.as_slice(), earlier),
+            Err(SubmitRefusal::Memory) => Err(NoMemory),
+            Err(refusal) => {
+                self.batch.answer_all(&Answer::Refused(refusal.refusal()));
+                Ok(())
+            }
+        }
+    }
+
+    /// Keeps what the lines of the batch answer, and binds their names.
+    fn keep_batch(&mut self) -> Result<(), AllocError> {
+        for place in 0..self.batch.lines.len() {
+            let Some(line) = self.batch.lines.get(place) else {
+                return Ok(());
+            };
+            let (number, binds) = (line.number, line.binds);
+            if let Some(answer) = line.answer {
+                self.keep(number, binds, &answer)?;
+            }
+        }
+        Ok(())
+    }
+
+    /// Asks the gate once each line of the batch has its answer.
+    fn after_batch<G: Gate>(&self, gate: &G, index: usize) -> Turn {
+        let mut turn = Turn::Go;
+        for line in &self.batch.lines {
+            if gate.after(index, line.number as usize) == Turn::Stop {
+                turn = Turn::Stop;
+            }
+        }
+        turn
+    }
+
+    /// Plays a line of a batch, which is submitted at its last line. A name that a line binds is not known before that.
+    fn play_in_batch<D: Desk, R: Wait, G: Gate>(
+        &mut self,
+        rt: &R,
+        gate: &G,
+        desk: &mut D,
+        index: usize,
+        line: &Line<'_>,
+        earlier: &BoundNames,
+    ) -> Result<Turn, NoMemory> {
+        let answer = self.write_call(desk, line, earlier);
+        self.batch
+            .add(line.number, line.binds, answer, &self.call)?;
+        if line.more {
+            return Ok(Turn::Go);
+        }
+        self.submit(rt, desk, earlier)?;
+        self.keep_batch()?;
+        let turn = self.after_batch(gate, index);
+        self.batch.clear();
+        Ok(turn)
     }
 
     fn play_line<D: Desk, R: Wait, G: Gate>(
@@ -139,9 +231,11 @@ impl Worker {
         if gate.before(index, number) == Turn::Stop {
             return Ok(Turn::Stop);
         }
+        if line.more || !self.batch.lines.is_empty() {
+            return self.play_in_batch(rt, gate, desk, index, line, earlier);
+        }
         let answer = self.answer(rt, desk, line, earlier)?;
-        self.bind(line, &answer)?;
-        self.answers.lines.push((line.number, answer))?;
+        self.keep(line.number, line.binds, &answer)?;
         Ok(gate.after(index, number))
     }
 

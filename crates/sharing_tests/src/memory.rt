@@ -8,14 +8,14 @@ use crate::samples::{
 use base::ObjectId;
 use kernel_rules::{Call, Query, Reply};
 use published_copy::{
-    Blank, BootRefusal, Lent, Naming, Pass, Receipt, Seat, Shared, SubmitRefusal,
+    BatchReceipt, Blank, BootRefusal, Lent, Naming, Pass, Receipt, Seat, Shared, SubmitRefusal,
 };
 use std::alloc::Global;
 use std::marker::Brand;
 use std::process::Abort;
 use std::sync::Wait;
 use std::test::Fail;
-use test_support::{MOST_PAGES, boot_thread, in_root, new_thread};
+use test_support::{MOST_PAGES, boot_thread, in_root, is_object, new_thread};
 
 /// A call that is made again where there was no memory. None where the refusal was another one, or
 /// changed the journal.
@@ -168,6 +168,64 @@ fn boot_again(alloc: Global) -> Result<Blank, BootRefusal>
         Err(BootRefusal::Unavailable) => Blank::boot(alloc, &MOST_PAGES),
         booted => booted,
     }
+}
+
+/// A batch of two segments, made again where there was no memory. None where the refusal was another one, or changed the
+/// journal.
+fn batch_again<B: Naming, R: Wait>(
+    rt: &R,
+    shared: &Shared<B>,
+    seat: &mut Seat<'_, B>,
+) -> Option<BatchReceipt> {
+    let calls = [open_segment(), open_segment()];
+    let events = event_count(rt, shared);
+    match seat.submit_batch(rt, &calls) {
+        Err(SubmitRefusal::Memory) if event_count(rt, shared) == events => {
+            seat.submit_batch(rt, &calls).ok()
+        }
+        answer => answer.ok(),
+    }
+}
+
+/// Whether a batch, made again where there was no memory, made this object and the next as this event.
+fn is_batched<B: Naming, R: Wait>(
+    rt: &R,
+    shared: &Shared<B>,
+    seat: &mut Seat<'_, B>,
+    id: u64,
+    number: u64,
+) -> bool {
+    match batch_again(rt, shared, seat) {
+        Some(receipt) => match receipt.replies.as_slice() {
+            [one, other] => {
+                is_object(*one, id) && is_object(*other, id + 1) && receipt.number == number
+            }
+            _ => false,
+        },
+        None => false,
+    }
+}
+
+fn want_batches_at<B: Naming, R: Wait + Abort>(rt: &R, shared: &Shared<B>) -> Result<(), Fail> {
+    let mut seat = seated(rt, shared, boot_thread())?;
+    for number in 1..6u64 {
+        assert!(rt; is_batched(rt, shared, &mut seat, number * 2 + 2, number));
+    }
+    Ok(())
+}
+
+fn want_batches<B: Naming, R: Wait + Abort>(rt: &R, blank: Blank) -> Result<(), Fail>
+    requires { blank ≡ B.boot }
+{
+    let shared = blank.open::<B>();
+    want_batches_at(rt, &shared)
+}
+
+// A batch for which there is no memory changes nothing.
+#[test]
+fn want_of_memory_makes_no_batch_by_half(rt: HostRuntime) -> Result<(), Fail> {
+    let blank = boot_again(rt.alloc())?;
+    want_batches::<Brand, HostRuntime>(&rt, blank)
 }
 
 // Where an allocation is refused, nothing has changed: what is made again answers as if nothing had

@@ -6,8 +6,10 @@ use crate::samples::{
     submitted, write,
 };
 use base::{Data, Meter, ObjectId};
+use histories::Event;
+use kept_events::events_of;
 use kernel_rules::Reply;
-use published_copy::{Blank, KeptEvent, Naming, Seat, Shared};
+use published_copy::{Blank, Naming, Seat, Shared};
 use std::alloc::Global;
 use std::marker::Brand;
 use std::process::Abort;
@@ -86,11 +88,21 @@ fn read_while_writing<'s, B: Naming + Send, R: Threads + Wait + Sync>(
     })
 }
 
-/// What a thread is answered by a plain kernel that makes the first calls of a journal, so many.
+/// Whether a plain kernel makes the calls of an event.
+fn is_made(kernel: &mut PlainKernel, meter: &mut Meter, event: &Event) -> bool {
+    for answered in &event.calls {
+        if kernel.step(event.thread, &answered.call, meter).is_err() {
+            return false;
+        }
+    }
+    true
+}
+
+/// What a thread is answered by a plain kernel that makes the first events of a journal, so many.
 fn byte_after(
     kernel: &mut PlainKernel,
     meter: &mut Meter,
-    events: &[KeptEvent],
+    events: &[Event],
     length: u64,
     thread: ObjectId,
 ) -> Option<u8> {
@@ -100,10 +112,7 @@ fn byte_after(
             break;
         }
         left = left.saturating_sub(1);
-        if kernel
-            .step(event.thread, &event.call.call(), meter)
-            .is_err()
-        {
+        if !is_made(kernel, meter, event) {
             return None;
         }
     }
@@ -126,8 +135,8 @@ fn is_replayed<B: Naming, R: Wait>(
     let (length, thread) = (pass.length(), pass.thread());
     let mut meter = Meter::new(alloc)?;
     let mut kernel = PlainKernel::boot(alloc, &MOST_PAGES)?;
-    let book = shared.book(rt);
-    let byte = byte_after(&mut kernel, &mut meter, book.events(), length, thread);
+    let events = events_of(alloc, shared.book(rt).events())?;
+    let byte = byte_after(&mut kernel, &mut meter, events.as_slice(), length, thread);
     Ok(last.is_some() && byte == last)
 }
 

@@ -46,7 +46,7 @@ fn has_no_entry(receipt: &Receipt, number: u64, length: usize) -> bool {
 /// Whether the last event is the boot thread's third.
 fn ends_with_third(events: &[KeptEvent]) -> bool {
     match events.last() {
-        Some(event) => event.thread == boot_thread() && event.number == 3,
+        Some(event) => event.thread() == boot_thread() && event.number() == 3,
         None => false,
     }
 }
@@ -83,10 +83,10 @@ fn use_boot<B: Naming, R: Wait + Abort>(rt: &R, blank: Blank, meter: &mut Meter)
 fn are_three(events: &[KeptEvent]) -> bool {
     match events {
         [one, other, last] => {
-            one.number == 1
-                && other.number == 2
-                && last.thread == ObjectId::new(5)
-                && last.number == 1
+            one.number() == 1
+                && other.number() == 2
+                && last.thread() == ObjectId::new(5)
+                && last.number() == 1
         }
         _ => false,
     }

@@ -3,6 +3,8 @@ ghost use Rattle.std.specs.Prelude.{◌≡◌};
 
 use crate::samples::{is_refused, is_shown_own, seated, submitted};
 use base::{Limits, Meter, ObjectId};
+use histories::{Answered, Event};
+use kept_events::events_of;
 use kernel_rules::{Call, Reply};
 use published_copy::{Blank, KeptEvent, Naming, Seat, Shared};
 use std::alloc::Global;
@@ -81,14 +83,29 @@ fn is_same(one: &Reply, other: &Reply) -> bool {
     }
 }
 
-/// Whether a newly booted plain kernel makes or does what the events' replies say, in their order.
-fn is_replayed(kernel: &mut PlainKernel, meter: &mut Meter, events: &[KeptEvent]) -> bool {
-    for event in events {
-        let same = match kernel.step(event.thread, &event.call.call(), meter) {
-            Ok(reply) => is_same(&reply, &event.reply.reply()),
+/// Whether a plain kernel makes or does what the replies to a thread's calls say, in their order.
+fn are_made(
+    kernel: &mut PlainKernel,
+    meter: &mut Meter,
+    thread: ObjectId,
+    calls: &[Answered],
+) -> bool {
+    for answered in calls {
+        let same = match kernel.step(thread, &answered.call, meter) {
+            Ok(reply) => is_same(&reply, &answered.reply),
             Err(_) => false,
         };
         if !same {
+            return false;
+        }
+    }
+    true
+}
+
+/// Whether a newly booted plain kernel makes or does what the events' replies say, in their order.
+fn is_replayed(kernel: &mut PlainKernel, meter: &mut Meter, events: &[Event]) -> bool {
+    for event in events {
+        if !are_made(kernel, meter, event.thread, event.calls.as_slice()) {
             return false;
         }
     }
@@ -99,9 +116,9 @@ fn is_replayed(kernel: &mut PlainKernel, meter: &mut Meter, events: &[KeptEvent]
 fn is_numbered(events: &[KeptEvent], thread: ObjectId, count: u64) -> bool {
     let mut number = 0u64;
     for event in events {
-        if event.thread == thread {
+        if event.thread() == thread {
             number = number.saturating_add(1);
-            if event.number != number {
+            if event.number() != number {
                 return false;
             }
         }
@@ -176,7 +193,8 @@ fn replay<B: Naming, R: Wait + Abort>(
     let mut kernel = PlainKernel::boot(alloc, &LIMITS)?;
     let book = shared.book(rt);
     assert!(rt; are_numbered(book.events()));
-    assert!(rt; is_replayed(&mut kernel, &mut meter, book.events()));
+    let events = events_of(alloc, book.events())?;
+    assert!(rt; is_replayed(&mut kernel, &mut meter, events.as_slice()));
     Ok(())
 }
 

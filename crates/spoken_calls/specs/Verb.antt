@@ -92,6 +92,20 @@ makes verbs.ThreadCreate = true
 makes verbs.GateCreate = true
 makes _ = false
 
+-- whether it is a write call
+abbrev pub writes : Verb → Bool
+writes verbs.SelfGet = false
+writes verbs.ObjLabel = false
+writes verbs.ObjQuota = false
+writes verbs.ContainerList = false
+writes verbs.ContainerParent = false
+writes verbs.SegmentLen = false
+writes verbs.SegmentRead = false
+writes verbs.MetaGet = false
+writes verbs.AsGet = false
+writes verbs.Load = false
+writes _ = true
+
 -- the verb stands in the list
 abbrev pub IsOneOf : Verb → List Verb → Type 0
 IsOneOf v vs = (k : ℕ) × (k < length vs) × (slice_index_or vs k v ≡ v)

@@ -2,7 +2,7 @@
 ghost use Rattle.std.specs.Prelude.{◌≡◌, length};
 ghost use Rattle.text_words.specs.Reading.{Reads};
 ghost use Rattle.spoken_calls.specs.declared.verbs.Verb.{Verb};
-ghost use Rattle.spoken_calls.specs.Verb.{name_of, kinds_of, makes, IsOneOf};
+ghost use Rattle.spoken_calls.specs.Verb.{name_of, kinds_of, makes, writes, IsOneOf};
 
 use crate::args::ArgKind;
 use crate::args::ArgKind::{Data, Label, Number, Object, Rights, Signed, Types, Wide};
@@ -147,6 +147,25 @@ impl Verb {
                 | Verb::AsCreate
                 | Verb::ThreadCreate
                 | Verb::GateCreate
+        )
+    }
+
+    /// Whether it is a write call.
+    pub fn writes(self) -> bool
+        ensures { result ≡ writes self }
+    {
+        !matches!(
+            self,
+            Verb::SelfGet
+                | Verb::ObjLabel
+                | Verb::ObjQuota
+                | Verb::ContainerList
+                | Verb::ContainerParent
+                | Verb::SegmentLen
+                | Verb::SegmentRead
+                | Verb::MetaGet
+                | Verb::AsGet
+                | Verb::Load
         )
     }
 }

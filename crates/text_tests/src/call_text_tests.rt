@@ -10,9 +10,9 @@ use std::alloc::Global;
 use std::test::Fail;
 use text_words::{Name, is_same};
 
-/// A script of two phases, the second with no lines.
+/// A script of three phases: one with a batch of two lines, one with two lines, and one with none.
 const TEXT: &str =
-    "c = boot: cat_create\n--\ns = boot: segment_create root {c:3,#7:*,1} 10 2\nboot: segment_read root s 0 64\n--\n";
+    "c = boot:+ cat_create\nboot: cat_create\n--\ns = boot: segment_create root {c:3,#7:*,1} 10 2\nboot: segment_read root s 0 64\n--\n";
 
 /// The line that is told, 0 for want of memory and 1,000,000 for a script.
 fn fault(alloc: Global, text: &[u8]) -> u32 {
@@ -50,7 +50,7 @@ fn lines_have_their_numbers(rt: HostRuntime) -> Result<(), Fail> {
             sum = sum.wrapping_mul(10).wrapping_add(line.number as u64);
         }
     }
-    assert_eq!(rt; sum, 134);
+    assert_eq!(rt; sum, 1245);
     Ok(())
 }
 
@@ -74,6 +74,43 @@ fn the_first_faulty_line_is_told(rt: HostRuntime) {
     ] {
         assert_eq!(rt; fault(rt.alloc(), text.as_bytes()), line, "{text}");
     }
+}
+
+// A batch ends in its phase, and has write calls only. The last line of an open one is faulty where no well-formed line of
+// its worker comes in the rest of the phase, also after a malformed line.
+#[test]
+fn a_batch_that_goes_on_nowhere_is_told(rt: HostRuntime) {
+    for (text, line) in [
+        ("x = boot:+ cat_create\nboot: cat_create\n", 1_000_000),
+        ("boot:+ cat_create\na: self_get\nboot: cat_create\nboot: self_get\n", 1_000_000),
+        ("boot:+ cat_create\n", 1),
+        ("boot:+ cat_create\n--\nboot: cat_create\n", 1),
+        ("a:+ cat_create\nboot:+ cat_create\na: cat_create\n", 2),
+        ("boot:+ cat_create\nboot: self_get\n", 2),
+        ("boot:+ self_get\nboot: cat_create\n", 1),
+        ("boot:+ cat_create\nx\nboot: cat_create\n", 2),
+        ("boot:+ cat_create\nx\n--\nboot: cat_create\n", 1),
+        ("boot:+ cat_create\nx\nboot: cat_create", 1),
+        ("a:+ cat_create\nboot:+ cat_create\nx\na: self_get\n", 2),
+        ("boot: + cat_create\n", 1),
+    ] {
+        assert_eq!(rt; fault(rt.alloc(), text.as_bytes()), line, "{text}");
+    }
+}
+
+#[test]
+fn a_batch_has_at_most_16_lines(rt: HostRuntime) -> Result<(), Fail> {
+    let mut text = Vec::new(rt.alloc());
+    for _ in 0..15 {
+        text.extend_from_slice(b"boot:+ cat_create\n")?;
+    }
+    assert_eq!(rt; fault(rt.alloc(), text.as_slice()), 15);
+    let mut longer = text.clone()?;
+    text.extend_from_slice(b"boot: cat_create\nboot: self_get\n")?;
+    assert_eq!(rt; fault(rt.alloc(), text.as_slice()), 1_000_000);
+    longer.extend_from_slice(b"boot:+ cat_create\nboot: cat_create\n")?;
+    assert_eq!(rt; fault(rt.alloc(), longer.as_slice()), 17);
+    Ok(())
 }
 
 #[test]

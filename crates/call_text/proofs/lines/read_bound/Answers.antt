@@ -2,22 +2,21 @@ use Rattle.std.proofs.Common.{◌≡◌, true, ◌∷◌, List, ℕ, length, tak
 use Rattle.text_words.specs.Lacks.{lacks}
 use Rattle.spoken_calls.proofs.IntoLemmas.{into_is, into_not}
 use Rattle.spoken_calls.specs.declared.args.Arg.{Arg}
-use Rattle.spoken_calls.specs.Spoken.{Spoken}
 use Rattle.spoken_calls.specs.Verb.{makes}
-use Rattle.call_text.specs.Line.{said_with, said_text, IsSaid}
+use Rattle.call_text.specs.Line.{Saying, said_with, said_text, IsSaid}
 use Rattle.text_words.proofs.PartLemmas.{not_in}
 use Rattle.call_text.proofs.LineLemmas.{bound_first, bound_parts, said_is_one, makes_not}
 use Rattle.call_text.proofs.lines.read_bound.Goals as goal
 
 pub returns-in_default : goal.returns-in_default
-returns-in_default c = (refl, λ v is e. not_in 32 v.0 (61 ∷ 32 ∷ said_text (v.1, v.2)) (subst (λ (x : List ℕ). lacks 32 x ≡ true) (bound_first c.args.text.now v e) c.in_default.ensures.none))
+returns-in_default c = (refl, λ v is e. not_in 32 v.0 (61 ∷ 32 ∷ said_text v.1) (subst (λ (x : List ℕ). lacks 32 x ≡ true) (bound_first c.args.text.now v e) c.in_default.ensures.none))
 
 pub returns-in_default-after_equals : goal.returns-in_default-after_equals
 returns-in_default-after_equals c = (
   refl,
   λ v is e.
       let p = bound_parts c.args.text.now c.in-Some.name.now c.in-Some.after.now v c.in-Some.ensures.parts c.in-Some.ensures.first is e in
-      c.in_default-after_equals.ensures.none (said_text (v.1, v.2)) p.1,
+      c.in_default-after_equals.ensures.none (said_text v.1) p.1,
 )
 
 pub returns-in_default-read_name : goal.returns-in_default-read_name
@@ -34,8 +33,8 @@ returns-in_default-2 c =
       not.0,
       λ v is e.
           let p = bound_parts c.args.text.now c.in-Some.name.now c.in-Some.after.now v c.in-Some.ensures.parts c.in-Some.ensures.first is e in
-          let said : c.in-Some-after_equals.said.now ≡ said_text (v.1, v.2) = (let k = sym c.in-Some-after_equals.ensures.some ∙ p.1 in cc) in
-          not.1 (v.1, v.2) is.1 said,
+          let said : c.in-Some-after_equals.said.now ≡ said_text v.1 = (let k = sym c.in-Some-after_equals.ensures.some ∙ p.1 in cc) in
+          not.1 v.1 is.1 said,
     )
 
 pub returns-then-not-makes : goal.returns-then-not-makes
@@ -46,8 +45,8 @@ returns-then-not-makes c =
           ∙ take_at c.args.args.now.items found.0 (length c.args.args.now.items) refl,
       λ v is e.
           let p = bound_parts c.args.text.now c.in-Some.name.now c.in-Some.after.now v c.in-Some.ensures.parts c.in-Some.ensures.first is e in
-          let said : c.in-Some-after_equals.said.now ≡ said_text (v.1, v.2) = (let k = sym c.in-Some-after_equals.ensures.some ∙ p.1 in cc) in
-          let same = said_is_one told (v.1, v.2) found.2 is.1 (sym found.3 ∙ said) in
-          let verb : makes c.in-Some-2.said.1 ≡ makes v.2.verb = ap (λ (x : List ℕ × Spoken). makes x.1.verb) same in
-          makes_not c.makes.result (makes c.in-Some-2.said.1) (makes v.2.verb) c.if-not-makes.true c.makes.ensures verb is.2,
+          let said : c.in-Some-after_equals.said.now ≡ said_text v.1 = (let k = sym c.in-Some-after_equals.ensures.some ∙ p.1 in cc) in
+          let same = said_is_one told v.1 found.2 is.1 (sym found.3 ∙ said) in
+          let verb : makes c.in-Some-2.said.2 ≡ makes v.1.2.verb = ap (λ (x : Saying). makes x.2.verb) same in
+          makes_not c.makes.result (makes c.in-Some-2.said.2) (makes v.1.2.verb) c.if-not-makes.true c.makes.ensures verb is.2,
     )

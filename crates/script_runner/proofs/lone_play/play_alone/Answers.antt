@@ -1,9 +1,9 @@
 use Rattle.std.proofs.Common.{◌≡◌, ◌∙◌, List, true, sym, subst, rules}
 use Rattle.base.specs.Limits.{in_range}
 use Rattle.base.specs.declared.ranges.Limits.{Limits}
-use Rattle.kernel_rules.specs.History.{IsLegal, state_of}
+use Rattle.histories.specs.History.{IsLegal, state_of}
 use Rattle.kernel_rules.specs.Scratch.{scratch}
-use Rattle.kernel_rules.specs.declared.events.Event.{Event}
+use Rattle.histories.specs.Events.{Event}
 use Rattle.script_runner.proofs.Plays.{holds_at_ok}
 use Rattle.script_runner.proofs.lone_play.play_alone.Goals as goal
 

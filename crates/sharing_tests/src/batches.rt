@@ -1,0 +1,205 @@
+//! Batches: 1 to 16 calls that are one event, also where the thread dies among them; and a reader, which never sees a
+//! state between two calls of one.
+ghost use Rattle.std.specs.Prelude.{◌≡◌};
+
+use crate::samples::{asked, event_count, open_segment, passed, seated, submitted};
+use base::ObjectId;
+use kernel_rules::{Call, Query, Reply};
+use published_copy::{BatchReceipt, Blank, Naming, Seat, Shared, SubmitRefusal};
+use std::alloc::{AllocError, Global};
+use std::marker::Brand;
+use std::process::Abort;
+use std::sync::{Mutex, Wait};
+use std::test::Fail;
+use std::thread;
+use std::thread::Threads;
+use test_support::{
+    MOST_PAGES, boot_thread, in_root, is_done, is_number, is_object, new_container, new_thread,
+};
+
+/// What a batch through a seat answers.
+fn batched<B: Naming, R: Wait>(
+    rt: &R,
+    seat: &mut Seat<'_, B>,
+    calls: &[Call],
+) -> Result<BatchReceipt, SubmitRefusal> {
+    seat.submit_batch(rt, calls)
+}
+
+/// So many times the same call.
+fn many(alloc: Global, call: &Call, count: usize) -> Result<Vec<Call>, AllocError> {
+    let mut calls = Vec::new(alloc);
+    for _ in 0..count {
+        calls.push(*call)?;
+    }
+    Ok(calls)
+}
+
+/// Whether a seat is refused a batch of so many calls, as 45.
+fn is_bad<B: Naming, R: Wait>(
+    rt: &R,
+    alloc: Global,
+    seat: &mut Seat<'_, B>,
+    count: usize,
+) -> Result<bool, Fail> {
+    let calls = many(alloc, &open_segment(), count)?;
+    Ok(match batched(rt, seat, calls.as_slice()) {
+        Ok(_) => false,
+        Err(refusal) => refusal.refusal().number() == 45,
+    })
+}
+
+/// The calls of thread 4: the last one but 13 is by a dead thread.
+fn dying(alloc: Global) -> Result<Vec<Call>, AllocError> {
+    let mut calls = many(alloc, &open_segment(), 2)?;
+    calls.push(Call::Unref { entry: in_root(4) })?;
+    for _ in 0..13 {
+        calls.push(open_segment())?;
+    }
+    Ok(calls)
+}
+
+/// Whether two segments were made and the thread was unreferenced, and the other calls were refused, as 1.
+fn are_of_dying(replies: &[Reply]) -> bool {
+    match replies {
+        [one, other, gone, halted @ ..] => {
+            is_object(*one, 5)
+                && is_object(*other, 6)
+                && is_done(*gone)
+                && halted.len() == 13
+                && halted.iter().all(|reply| is_number(*reply, 1))
+        }
+        _ => false,
+    }
+}
+
+fn batch_at<B: Naming, R: Wait + Abort>(
+    rt: &R,
+    alloc: Global,
+    shared: &Shared<B>,
+) -> Result<(), Fail> {
+    let mut boot = seated(rt, shared, boot_thread())?;
+    assert!(rt; is_bad(rt, alloc, &mut boot, 0)? && is_bad(rt, alloc, &mut boot, 17)?);
+    submitted(rt, &mut boot, &new_thread())?;
+    let mut other = seated(rt, shared, ObjectId::new(4))?;
+    let receipt = batched(rt, &mut other, dying(alloc)?.as_slice())?;
+    assert!(rt; are_of_dying(receipt.replies.as_slice()));
+    assert!(rt; receipt.number == 1 && receipt.length == 2);
+    assert!(rt; event_count(rt, shared) == 2 && passed(other).number() == 2);
+    Ok(())
+}
+
+fn batch_boot<B: Naming, R: Wait + Abort>(rt: &R, alloc: Global, blank: Blank) -> Result<(), Fail>
+    requires { blank ≡ B.boot }
+{
+    let shared = blank.open::<B>();
+    batch_at(rt, alloc, &shared)
+}
+
+#[test]
+fn a_batch_is_an_event_of_1_to_16_calls(rt: HostRuntime) -> Result<(), Fail> {
+    let blank = Blank::boot(rt.alloc(), &MOST_PAGES)?;
+    batch_boot::<Brand, HostRuntime>(&rt, rt.alloc(), blank)
+}
+
+/// How often the reader reads, and how many batches are submitted meanwhile.
+const READS: u64 = 2000;
+
+const BATCHES: u64 = 200;
+
+/// The quota of the container whose quota is moved.
+const QUOTA: u32 = 10;
+
+/// A batch that moves a quota by one, up and down, eight times.
+fn moves() -> [Call; 16] {
+    let entry = in_root(4);
+    let up = Call::QuotaMove { entry, change: 1 };
+    let down = Call::QuotaMove { entry, change: -1 };
+    [
+        up, down, up, down, up, down, up, down, up, down, up, down, up, down, up, down,
+    ]
+}
+
+/// Whether the quota is what it is between two batches.
+fn is_between<B: Naming>(seat: &mut Seat<'_, B>) -> bool {
+    match asked(seat, &Query::ObjQuota { entry: in_root(4) }) {
+        Ok(Reply::Quota { quota, .. }) => quota == QUOTA,
+        _ => false,
+    }
+}
+
+/// A seat that reads in a thread of its own, and whether it saw no batch by half.
+#[derive(Drop)]
+struct Watcher<'a, B: Naming> {
+    seat: Seat<'a, B>,
+    saw_none: bool,
+}
+
+fn watch<B: Naming, R: Wait>(rt: &R, watcher: &Mutex<Watcher<'_, B>>) {
+    let mut watcher = watcher.lock(rt);
+    for _ in 0..READS {
+        if !is_between(&mut watcher.seat) {
+            watcher.saw_none = false;
+        }
+    }
+}
+
+/// Whether each call of a batch was done.
+fn is_moved<B: Naming, R: Wait>(rt: &R, boot: &mut Seat<'_, B>) -> bool {
+    match batched(rt, boot, &moves()) {
+        Ok(receipt) => receipt.replies.iter().all(|reply| is_done(*reply)),
+        Err(_) => false,
+    }
+}
+
+/// A seat reads in a thread of its own while the boot thread's seat submits batches. False where it can't be started or a
+/// batch is not done.
+fn watch_batches<'s, B: Naming + Send, R: Threads + Wait + Sync>(
+    rt: &R,
+    boot: &mut Seat<'s, B>,
+    watcher: &Mutex<Watcher<'s, B>>,
+) -> bool {
+    thread::scope(thread::scope_env(), rt, |scope| {
+        let mut all = scope.spawn(move || watch(rt, watcher)).is_ok();
+        for _ in 0..BATCHES {
+            if !is_moved(rt, boot) {
+                all = false;
+            }
+        }
+        all
+    })
+}
+
+fn watch_at<B: Naming + Send, R: Threads + Wait + Sync + Abort>(
+    rt: &R,
+    shared: &Shared<B>,
+) -> Result<(), Fail> {
+    let mut boot = seated(rt, shared, boot_thread())?;
+    submitted(rt, &mut boot, &new_container(QUOTA))?;
+    submitted(rt, &mut boot, &new_thread())?;
+    let mut seat = seated(rt, shared, ObjectId::new(5))?;
+    seat.learn(&boot.note());
+    let watcher = Mutex::new(Watcher {
+        seat,
+        saw_none: true,
+    });
+    assert!(rt; watch_batches(rt, &mut boot, &watcher));
+    assert!(rt; watcher.into_inner().saw_none);
+    Ok(())
+}
+
+fn watch_boot<B: Naming + Send, R: Threads + Wait + Sync + Abort>(
+    rt: &R,
+    blank: Blank,
+) -> Result<(), Fail>
+    requires { blank ≡ B.boot }
+{
+    let shared = blank.open::<B>();
+    watch_at(rt, &shared)
+}
+
+#[test]
+fn no_reader_sees_a_batch_by_half(rt: HostRuntime) -> Result<(), Fail> {
+    let blank = Blank::boot(rt.alloc(), &MOST_PAGES)?;
+    watch_boot::<Brand, HostRuntime>(&rt, blank)
+}
