@@ -97,9 +97,6 @@ admits_joined lines l old new batches later false lt binds joins = (
   λ names holds. next_is lines names batches l (Some (names_after names (binds_of l))) None lt (binds names holds).0 joins.0,
 )
 
-pub binds_none : (name : Option (List ℕ)) (set : BTreeSet (List ℕ)) → name ≡ None → Binds name set set true
-binds_none name set e = rw e (λ names holds. (refl, holds))
-
 binds_new : (k : List ℕ) (old new : BTreeSet (List ℕ)) (fresh : Bool) → fresh ≡ not (contains name_cmp old k) → AddsKey old new k → Binds (Some k) old new fresh
 binds_new k old new true fresh up = λ names holds.
     let free : is_bound k names ≡ false = sym (holds k) ∙ flipped (contains name_cmp old k) fresh in

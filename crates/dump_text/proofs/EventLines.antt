@@ -55,9 +55,6 @@ all_told owed events told none t = subst (λ (n : ℕ). AreTold n events told) n
 pub told_all : (owed : ℕ) (events : List Event) (told : List Line) → 0 ≡ owed → told ≡ flat_map event_lines events → AreTold owed events told
 told_all owed events told none t = subst (λ (n : ℕ). AreTold n events told) none t
 
-lacking : (owed n : ℕ) (events : List Event) (told : List Line) → owed ≡ suc n → AreTold owed events told → LastLacks (suc n) events told
-lacking owed n events told is t = subst (λ (m : ℕ). AreTold m events told) is t
-
 pub lacks : (n : ℕ) (events : List Event) (told : List Line) → 1 ≤ n → LastLacks n events told → AreTold n events told
 lacks zero events told some l = absurd (omega (arith, some))
 lacks (suc n) events told some l = l

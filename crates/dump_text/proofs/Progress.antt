@@ -53,11 +53,6 @@ pub fault_there : (bytes : List ℕ) (d more : DumpLists) (first : Place) (count
 fault_there bytes d more first count rest l after at parts lack t =
     fault_line line_text IsLine next ends start bytes at.lines first rest (count + 1) l after dump_grammar at.came (ap (λ n. n + 1) at.counted) parts lack t
 
--- too early an end
-pub fault_early : (bytes : List ℕ) (d : DumpLists) (first : Place) (count : ℕ) (rest : List ℕ) → Progress bytes d first count rest → rest ≡ [] → first.first ≢ 9 → DumpFaultsAt bytes (count + 1)
-fault_early bytes d first count rest at none other =
-    fault_no_end line_text IsLine next ends start bytes at.lines first rest (count + 1) at.came (ap (λ n. n + 1) at.counted) (subst (λ (x : List ℕ). lacks 10 x ≡ true) (sym none) refl) (λ e. ne_eqb first.first 9 other)
-
 nothing_left : (xs rest : List ℕ) → rest ≡ [] → xs ++ rest ≡ xs
 nothing_left xs rest e = ap (λ (x : List ℕ). xs ++ x) e ∙ append-nil xs
 

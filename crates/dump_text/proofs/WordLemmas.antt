@@ -64,14 +64,6 @@ words_fit (k ∷ ks) (w ∷ ws) e all =
     let more : map (λ x. kind_of (arg_of x)) ws ≡ ks = cc in
     (record { kind_is = first; fits = all.0 }, words_fit ks ws more all.1)
 
--- a verb with words of its kinds, each in its range
-pub spoken_fits : (verb : Verb) (ws : List Word) → map (λ w. kind_of (arg_of w)) ws ≡ kinds_of verb → AllByRecursion (λ w. FitsArg (arg_of w)) ws → IsSpoken (spoken_as verb ws)
-spoken_fits verb ws e all = words_fit (kinds_of verb) ws e all
-
--- each up to one more
-pub all_more : {V : Type 0} (P : V → Type 0) (xs : List V) (i : ℕ) (d : V) → i < length xs → AllByRecursion P (take i xs) → P (get_or xs i d) → AllByRecursion P (take (i + 1) xs)
-all_more {V} P xs i d lt all one = subst (λ (ys : List V). AllByRecursion P ys) (sym (take_more xs i d lt)) (all_append P (take i xs) (get_or xs i d ∷ []) all (one, tt))
-
 -- pairs whose categories are numbers have a spelling
 pub pairs_fit : (ps : List Pair) → AllByRecursion (λ p. IsPair (spoken_pair p)) ps → AllByRecursion IsPair (map spoken_pair ps)
 pairs_fit [] all = tt

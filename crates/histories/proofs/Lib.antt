@@ -1,3 +1,2 @@
 pub mod BatchLaws
 pub mod HistoryLaws
-pub mod LaterLaws

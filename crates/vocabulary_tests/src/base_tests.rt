@@ -1,5 +1,5 @@
 //! The words: each public call once, with values from the table.
-ghost use Rattle.std.specs.Prelude.{◌≡◌};
+ghost use Rattle.std.specs.Prelude.{◌≡◌, ◌||◌, true, false};
 ghost use Rattle.base.specs.Sets.{only, union};
 ghost use Rattle.base.specs.declared.kinds.Kind.TheVariants as kinds;
 
@@ -38,6 +38,13 @@ fn insert_threads(set: &mut TypeSet)
     set.insert(TypeSet::THREAD);
 }
 
+/// Puts writing into rights.
+fn insert_write(rights: &mut Rights)
+    ensures { rights.new ≡ record { read = rights.old.read || false; write = rights.old.write || true } }
+{
+    rights.insert(Rights::WRITE);
+}
+
 #[test]
 fn sets_are_changed_as_sets_of_bits(rt: HostRuntime) {
     let mut set = TypeSet::SEGMENT | TypeSet::GATE;
@@ -53,8 +60,13 @@ fn sets_are_changed_as_sets_of_bits(rt: HostRuntime) {
 fn rights_have_names(rt: HostRuntime) {
     assert!(rt; Rights::from_name("WRITE") == Some(Rights::WRITE));
     assert!(rt; Rights::from_name("EXEC").is_none());
-    let both = Rights::READ | Rights::WRITE;
-    assert!(rt; both.is_all() && both - Rights::READ == Rights::WRITE);
+    let mut both = Rights::READ;
+    insert_write(&mut both);
+    assert!(rt;
+        both.is_all()
+            && both == Rights::READ | Rights::WRITE
+            && both - Rights::READ == Rights::WRITE
+    );
     assert!(rt; !Rights::READ & both == Rights::WRITE && Rights::READ ^ both == Rights::WRITE);
 }
 
