@@ -16,10 +16,6 @@ calls_of-append (x ∷ xs) ys =
     ap (λ l. by x.thread (calls_in x) ++ l) (calls_of-append xs ys)
     ∙ sym (append_assoc (by x.thread (calls_in x)) (calls_of xs) (calls_of ys))
 
--- the state after two lists is that after the second, from that after the first
-pub state_from-append : (s : State) (xs ys : List Event) → state_from s (xs ++ ys) ≡ state_from (state_from s xs) ys
-state_from-append s xs ys = ap (state_after s) (calls_of-append xs ys) ∙ state_after-append s (calls_of xs) (calls_of ys)
-
 calls_of-snoc : (events : List Event) (e : Event) → calls_of (events ++ e ∷ []) ≡ calls_of events ++ by e.thread (calls_in e)
 calls_of-snoc [] e = append-nil (by e.thread (calls_in e))
 calls_of-snoc (x ∷ xs) e =
