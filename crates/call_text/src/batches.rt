@@ -66,16 +66,15 @@ fn with_line(lines: u32, verb: Verb) -> Option<u32>
 
 /// Whether the line with this number may come after the open batches, which are then those after it. Where it may not,
 /// they stay.
-pub fn join(
-    batches: &mut Vec<Open>,
-    number: u32,
-    outline: &Outline,
-) -> Result<bool, AllocError>
+pub fn join(batches: &mut Vec<Open>, number: u32, outline: &Outline) -> Result<bool, AllocError>
     ensures { IfOk result (λ yes. (xs : List ArgValue)
         → Joins number (written_with outline.now xs) batches.old.items batches.new.items yes) }
 {
     let Outline::Said {
-        worker, more, verb, ..
+        worker,
+        more,
+        verb,
+        ..
     } = outline
     else {
         return Ok(batches.is_empty());
@@ -132,12 +131,7 @@ fn keep_left(alloc: Global, rest: &[u8], batches: &mut Vec<Open>) -> Result<(), 
 
 /// The first faulty line, where line `stop` can't come: the last line of an open batch with which nothing goes on, or
 /// that line.
-pub fn fault_at(
-    alloc: Global,
-    rest: &[u8],
-    batches: &mut Vec<Open>,
-    stop: u32,
-) -> ScriptError
+pub fn fault_at(alloc: Global, rest: &[u8], batches: &mut Vec<Open>, stop: u32) -> ScriptError
     ensures { TellsFault rest.now batches.old.items stop result }
 {
     if keep_left(alloc, rest, batches).is_err() {

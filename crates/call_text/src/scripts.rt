@@ -65,7 +65,7 @@ fn admit(
 ) -> Result<bool, AllocError>
     ensures { IfOk result (λ yes. (xs : List ArgValue)
         → Admits lines (written_with outline.now xs) bound.old bound.new
-            batches.old.items batches.new.items yes) }
+        batches.old.items batches.new.items yes) }
 {
     if lines >= MOST {
         return Ok(false);

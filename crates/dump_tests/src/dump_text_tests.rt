@@ -141,15 +141,30 @@ fn fault_at_events(alloc: Global, events: &str) -> Result<u64, Fail> {
 #[test]
 fn batches_are_read(rt: HostRuntime) -> Result<(), Fail> {
     for (events, line) in [
-        ("batch 2 1 2\ncall cat_create => cat #1\ncall unref #1 #4 => ok\n", 1_000_000),
+        (
+            "batch 2 1 2\ncall cat_create => cat #1\ncall unref #1 #4 => ok\n",
+            1_000_000,
+        ),
         ("batch 2 1 1\ncall cat_create => cat #1\n", 3),
         ("batch 2 1 17\ncall cat_create => cat #1\n", 3),
         ("batch 2 1 2\ncall cat_create => cat #1\n", 5),
-        ("batch 2 1 2\ncall cat_create => cat #1\nevent 2 2 cat_create => cat #2\n", 5),
-        ("batch 2 1 2\ncall cat_create => ok\ncall cat_create => ok\ncall cat_create => ok\n", 6),
+        (
+            "batch 2 1 2\ncall cat_create => cat #1\nevent 2 2 cat_create => cat #2\n",
+            5,
+        ),
+        (
+            "batch 2 1 2\ncall cat_create => ok\ncall cat_create => ok\ncall cat_create => ok\n",
+            6,
+        ),
         ("call cat_create => cat #1\n", 3),
-        ("event 2 1 cat_create => cat #1\ncall cat_create => cat #2\n", 4),
-        ("batch 2 1 2\ncall self_get => ok\ncall cat_create => cat #1\n", 4),
+        (
+            "event 2 1 cat_create => cat #1\ncall cat_create => cat #2\n",
+            4,
+        ),
+        (
+            "batch 2 1 2\ncall self_get => ok\ncall cat_create => cat #1\n",
+            4,
+        ),
     ] {
         assert_eq!(rt; fault_at_events(rt.alloc(), events)?, line, "{events}");
     }
@@ -160,7 +175,9 @@ fn batches_are_read(rt: HostRuntime) -> Result<(), Fail> {
 fn a_batch_is_written_again(rt: HostRuntime) -> Result<(), Fail> {
     let mut text = Vec::new(rt.alloc());
     text.extend_from_slice(HEAD.as_bytes())?;
-    text.extend_from_slice(b"batch 2 1 2\ncall cat_create => cat #1\ncall unref #1 #4 => ok\nend\n")?;
+    text.extend_from_slice(
+        b"batch 2 1 2\ncall cat_create => cat #1\ncall unref #1 #4 => ok\nend\n",
+    )?;
     let dump = read_dump(rt.alloc(), text.as_slice())?;
     assert_eq!(rt; dump.events.len(), 1);
     let bytes = write_dump(rt.alloc(), &dump)?;

@@ -7,8 +7,8 @@ ghost use Rattle.dump_text.specs.Dump.{event_of};
 ghost use Rattle.dump_text.specs.Reading.{ReadsDump, Takes, added, with_call, nothing};
 
 use crate::errors::DumpError;
-use crate::line_words::Batch;
 use crate::events::Single;
+use crate::line_words::Batch;
 use crate::lines::{Line, read_line};
 use crate::tables::{Dump, DumpTables};
 use base::{Level, Limits};

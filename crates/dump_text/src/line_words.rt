@@ -95,8 +95,7 @@ impl Worded for Batch {
     fn of_args(args: &[Arg]) -> Option<Batch> {
         match args {
             [Arg::Wide(thread), Arg::Wide(number), Arg::Number(count)]
-                if 2 <= *count && *count <= 16 =>
-            {
+                if 2 <= *count && *count <= 16 => {
                 Some(Batch {
                     thread: ObjectId::new(*thread),
                     number: *number,

@@ -181,11 +181,7 @@ impl KeptEvent {
 }
 
 /// Adds an event that is kept, which there is.
-fn tell(
-    alloc: Global,
-    events: &mut Vec<Event>,
-    kept: Option<&KeptEvent>,
-) -> Result<(), NoMemory>
+fn tell(alloc: Global, events: &mut Vec<Event>, kept: Option<&KeptEvent>) -> Result<(), NoMemory>
     ensures { IfSome kept.entry (λ k. OnOk result
         (events.new.items ≡ events.old.items ++ k.now ∷ [])) }
 {

@@ -10,8 +10,8 @@ ghost use Rattle.published_copy.specs.Tallies.{IsTallied};
 ghost use Rattle.published_copy.specs.Turns.{next_turn, receipt_of, receipt_with, with_event, TellsBatch};
 
 use crate::books::make_room;
-use crate::naming::Naming;
 use crate::further::Further;
+use crate::naming::Naming;
 use crate::places::Places;
 use crate::receipts::{BatchReceipt, Placed, batch_of, replies_room, tell_last};
 use crate::refusals::{SeatRefusal, SubmitRefusal};
@@ -76,9 +76,11 @@ impl<B: Naming> SoleBook<B> {
         ensures limits { IsErrOf result BootRefusal.BadLimits ↔ (in_range limits.now ≡ false) }
     {
         let kernel = Kernel::boot(alloc, limits)?;
-        let (Ok(meter), Ok(places), Ok(further)) =
-            (Meter::new(alloc), Places::new(alloc, seats), Further::new(alloc))
-        else {
+        let (Ok(meter), Ok(places), Ok(further)) = (
+            Meter::new(alloc),
+            Places::new(alloc, seats),
+            Further::new(alloc),
+        ) else {
             return Err(BootRefusal::Unavailable);
         };
         Ok(SoleBook {

@@ -10,23 +10,28 @@ use std::test::Fail;
 use std::thread::Threads;
 
 /// A batch of three calls, of which the last is refused, and a read.
-const MADE_AND_GONE: &[u8] = b"boot:+ container_create root {1} 4 -\nboot:+ unref root #4\nboot: container_create root {1} 61 -\nboot: obj_quota root root\n";
+const MADE_AND_GONE: &[u8] =
+    b"boot:+ container_create root {1} 4 -\nboot:+ unref root #4\nboot: container_create root {1} 61 -\nboot: obj_quota root root\n";
 
 /// What it prints.
 const TOLD: &[u8] =
     b"boot 1: id #4\nboot 2: ok\nboot 3: refused 12 NoQuota\nboot 4: quota 64 4 0 0\n";
 
 /// Its dump up to the tables.
-const DUMPED: &[u8] = b"histar-dump 1\nlimits 64 1 4 1\nbatch 2 1 3\ncall container_create #1 {1} 4 - => id #4\ncall unref #1 #4 => ok\ncall container_create #1 {1} 61 - => refused 12 NoQuota\n";
+const DUMPED: &[u8] =
+    b"histar-dump 1\nlimits 64 1 4 1\nbatch 2 1 3\ncall container_create #1 {1} 4 - => id #4\ncall unref #1 #4 => ok\ncall container_create #1 {1} 61 - => refused 12 NoQuota\n";
 
 /// The same with another reply in line 4.
-const OTHER_REPLY: &[u8] = b"histar-dump 1\nlimits 64 1 4 1\nbatch 2 1 3\ncall container_create #1 {1} 4 - => id #5\ncall unref #1 #4 => ok\ncall container_create #1 {1} 61 - => refused 12 NoQuota\n";
+const OTHER_REPLY: &[u8] =
+    b"histar-dump 1\nlimits 64 1 4 1\nbatch 2 1 3\ncall container_create #1 {1} 4 - => id #5\ncall unref #1 #4 => ok\ncall container_create #1 {1} 61 - => refused 12 NoQuota\n";
 
 /// The same with another number in line 3.
-const OTHER_NUMBER: &[u8] = b"histar-dump 1\nlimits 64 1 4 1\nbatch 2 2 3\ncall container_create #1 {1} 4 - => id #4\ncall unref #1 #4 => ok\ncall container_create #1 {1} 61 - => refused 12 NoQuota\n";
+const OTHER_NUMBER: &[u8] =
+    b"histar-dump 1\nlimits 64 1 4 1\nbatch 2 2 3\ncall container_create #1 {1} 4 - => id #4\ncall unref #1 #4 => ok\ncall container_create #1 {1} 61 - => refused 12 NoQuota\n";
 
 /// The same with a call too few.
-const TOO_FEW: &[u8] = b"histar-dump 1\nlimits 64 1 4 1\nbatch 2 1 3\ncall container_create #1 {1} 4 - => id #4\ncall unref #1 #4 => ok\n";
+const TOO_FEW: &[u8] =
+    b"histar-dump 1\nlimits 64 1 4 1\nbatch 2 1 3\ncall container_create #1 {1} 4 - => id #4\ncall unref #1 #4 => ok\n";
 
 /// What the auditor says of a dump with these tables.
 fn audited(alloc: Global, events: &[u8], tables: &[u8]) -> Result<Verdict, Fail> {
@@ -61,10 +66,12 @@ fn a_batch_is_one_event_of_the_dump(rt: HostRuntime) -> Result<(), Fail> {
 
 /// Batches of two workers that take turns: a name that a line binds is not known in its batch, and a line that names it is
 /// left out; and a worker that is no thread.
-const NAMED: &[u8] = b"a = boot:+ cat_create\nboot:+ segment_create root {a:3,1} 2 1\nt = boot: thread_create root {1} 1 {2} 0\nboot: segment_create root {a:3,1} 2 1\n--\nt:+ cat_create\nt:+ unref root t\nt: cat_create\n--\nx:+ cat_create\nx: cat_create\n";
+const NAMED: &[u8] =
+    b"a = boot:+ cat_create\nboot:+ segment_create root {a:3,1} 2 1\nt = boot: thread_create root {1} 1 {2} 0\nboot: segment_create root {a:3,1} 2 1\n--\nt:+ cat_create\nt:+ unref root t\nt: cat_create\n--\nx:+ cat_create\nx: cat_create\n";
 
 /// What they print.
-const NAMES_TOLD: &[u8] = b"boot 1: cat a\nboot 2: unbound a\nboot 3: id t\nboot 4: id #5\nt 6: cat #2\nt 7: ok\nt 8: refused 1 Halted\nx 10: unbound x\nx 11: unbound x\n";
+const NAMES_TOLD: &[u8] =
+    b"boot 1: cat a\nboot 2: unbound a\nboot 3: id t\nboot 4: id #5\nt 6: cat #2\nt 7: ok\nt 8: refused 1 Halted\nx 10: unbound x\nx 11: unbound x\n";
 
 #[test]
 fn batches_are_played_alike_both_ways(rt: HostRuntime) -> Result<(), Fail> {

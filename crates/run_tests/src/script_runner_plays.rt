@@ -176,8 +176,8 @@ fn the_journal_is_that_of_the_end(rt: HostRuntime) -> Result<(), Fail> {
     let events = played.events.as_slice();
     assert_eq!(rt; events.len(), 4);
     let (first, last) = (&events[0], &events[3]);
-    assert!(rt; first.number == 1 && last.number == 2);
-    assert!(rt; last.thread == ObjectId::new(4));
+    assert!(rt; first.number() == 1 && last.number() == 2);
+    assert!(rt; last.thread() == ObjectId::new(4));
     Ok(())
 }
 

@@ -206,8 +206,7 @@ impl Worker {
         earlier: &BoundNames,
     ) -> Result<Turn, NoMemory> {
         let answer = self.write_call(desk, line, earlier);
-        self.batch
-            .add(line.number, line.binds, answer, &self.call)?;
+        self.batch.add(line.number, line.binds, answer, &self.call)?;
         if line.more {
             return Ok(Turn::Go);
         }

@@ -82,7 +82,10 @@ fn the_first_faulty_line_is_told(rt: HostRuntime) {
 fn a_batch_that_goes_on_nowhere_is_told(rt: HostRuntime) {
     for (text, line) in [
         ("x = boot:+ cat_create\nboot: cat_create\n", 1_000_000),
-        ("boot:+ cat_create\na: self_get\nboot: cat_create\nboot: self_get\n", 1_000_000),
+        (
+            "boot:+ cat_create\na: self_get\nboot: cat_create\nboot: self_get\n",
+            1_000_000,
+        ),
         ("boot:+ cat_create\n", 1),
         ("boot:+ cat_create\n--\nboot: cat_create\n", 1),
         ("a:+ cat_create\nboot:+ cat_create\na: cat_create\n", 2),

@@ -50,7 +50,10 @@ fn object_in(reply: &Reply) -> ObjectId {
 }
 
 fn count_of(events: &[KeptEvent], thread: ObjectId) -> usize {
-    events.iter().filter(|event| event.thread() == thread).count()
+    events
+        .iter()
+        .filter(|event| event.thread() == thread)
+        .count()
 }
 
 /// Both seats make a category at once.
