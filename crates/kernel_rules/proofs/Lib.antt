@@ -1,4 +1,3 @@
-pub mod HistoryLaws
 pub mod BootLaws
 pub mod BytesLaws
 pub mod CountLaws

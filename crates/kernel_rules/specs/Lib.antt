@@ -11,4 +11,3 @@ pub mod Step
 pub mod Runs
 pub mod Tables
 pub mod Scratch
-pub mod History

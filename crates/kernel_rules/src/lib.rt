@@ -7,7 +7,6 @@
 
 mod calls;
 mod creations;
-mod events;
 mod lists;
 mod metadata;
 mod objects;
@@ -18,7 +17,6 @@ mod tables;
 
 pub use calls::{Call, Entry, Query};
 pub use creations::{NewAddressSpace, NewContainer, NewCopy, NewGate, NewSegment, NewThread};
-pub use events::Event;
 pub use lists::{Bytes, IdList, Ids, Packets, Slots};
 pub use metadata::padded_data;
 pub use objects::{Body, Gate, Mapping, Object, Thread, fresh_object};

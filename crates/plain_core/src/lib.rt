@@ -9,9 +9,10 @@
 mod kernel;
 mod machine;
 
+pub use histories::{Answered, Event};
 pub use kernel::PlainKernel;
 pub use kernel_rules::{
-    Body, Call, Compared, Entry, Event, Gate, Ids, Mapping, NewAddressSpace, NewContainer, NewCopy,
+    Body, Call, Compared, Entry, Gate, Ids, Mapping, NewAddressSpace, NewContainer, NewCopy,
     NewGate, NewSegment, NewThread, Object, Query, Reply, Shown, Tables, Thread, Used,
 };
 pub use machine::{Machine, run};

@@ -12,7 +12,7 @@ mod stores;
 
 pub use kernel::Kernel;
 pub use plain_core::{
-    Body, BootRefusal, Call, Compared, Entry, Event, Gate, Ids, Machine, Mapping, NewAddressSpace,
-    NewContainer, NewCopy, NewGate, NewSegment, NewThread, Object, PlainKernel, Query, Reply,
-    Shown, Tables, Thread, Used, run,
+    Answered, Body, BootRefusal, Call, Compared, Entry, Event, Gate, Ids, Machine, Mapping,
+    NewAddressSpace, NewContainer, NewCopy, NewGate, NewSegment, NewThread, Object, PlainKernel,
+    Query, Reply, Shown, Tables, Thread, Used, run,
 };
