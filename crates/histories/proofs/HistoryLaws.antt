@@ -10,12 +10,6 @@ use Rattle.histories.specs.Events.{Event, calls_in, by}
 use Rattle.histories.specs.History.{answered, calls_of, state_from, state_of, count, is_batch, Start, boot_start, FollowsFrom, Follows, IsLegalFrom, IsLegal}
 use Rattle.histories.proofs.BatchLaws.{answered_calls, answered_length, state_after-append}
 
-calls_of-append : (xs ys : List Event) → calls_of (xs ++ ys) ≡ calls_of xs ++ calls_of ys
-calls_of-append [] ys = refl
-calls_of-append (x ∷ xs) ys =
-    ap (λ l. by x.thread (calls_in x) ++ l) (calls_of-append xs ys)
-    ∙ sym (append_assoc (by x.thread (calls_in x)) (calls_of xs) (calls_of ys))
-
 calls_of-snoc : (events : List Event) (e : Event) → calls_of (events ++ e ∷ []) ≡ calls_of events ++ by e.thread (calls_in e)
 calls_of-snoc [] e = append-nil (by e.thread (calls_in e))
 calls_of-snoc (x ∷ xs) e =

@@ -13,12 +13,6 @@ made-append p (Tried e ∷ xs) ys = made-append (Some e) xs ys
 made-append None (Made ∷ xs) ys = made-append None xs ys
 made-append (Some x) (Made ∷ xs) ys = ap (λ l. x ∷ l) (made-append None xs ys)
 
-pub last-append : (p : Option Event) (xs ys : List Entry) → last_after p (xs ++ ys) ≡ last_after (last_after p xs) ys
-last-append p [] ys = refl
-last-append p (Tried e ∷ xs) ys = last-append (Some e) xs ys
-last-append None (Made ∷ xs) ys = last-append None xs ys
-last-append (Some x) (Made ∷ xs) ys = last-append None xs ys
-
 -- what is tried makes nothing yet
 pub made-tried : (log : List Entry) (e : Event) → made (log ++ tried e ∷ []) ≡ made log
 made-tried log e = made-append None log (tried e ∷ []) ∙ append-nil (made log)
