@@ -1,9 +1,9 @@
 -- What is found in what a kernel keeps.
-use Rattle.std.specs.Prelude.{◌≡◌, ℕ, Option, Some, None, slice_get}
+use Rattle.std.specs.Prelude.{◌≡◌, ℕ, Option, Some, None, option_map, slice_get}
 use Rattle.base.specs.declared.sets.Rights.{Rights}
 use Rattle.label_lattice.specs.Label.{LabelValue}
 use Rattle.kernel_rules.specs.Scratch.{ids_of}
-use Rattle.kernel_rules.specs.State.{State, object_at, use_of}
+use Rattle.kernel_rules.specs.State.{object_at, use_of}
 use Rattle.kernel_rules.specs.Translate.{translate}
 use Rattle.arena_state.specs.Kept.{label_kept, order_kept}
 use Rattle.syscall_core.specs.Kernel.{kernel_state}
@@ -33,19 +33,15 @@ abbrev pub order_found : Option ℕ → Found
 order_found (Some bits) = found.Order bits
 order_found None = found.Nothing
 
--- what an object uses was found, or that it is not there
-abbrev pub IsUseFound : State → ℕ → Found → Type 0
-IsUseFound s id (found.Used pages) = pages ≡ use_of s id
-IsUseFound s id found.Nothing = object_at s id ≡ None
-IsUseFound s id (found.Live other) = ⊥
-IsUseFound s id (found.Shown segment rights) = ⊥
-IsUseFound s id (found.Label label) = ⊥
-IsUseFound s id (found.Order bits) = ⊥
+-- what an object uses, or nothing
+abbrev pub used_found : Option ℕ → Found
+used_found (Some pages) = found.Used pages
+used_found None = found.Nothing
 
 -- the look-up found what the kernel keeps, which is what its state has
 abbrev pub IsFound : Kernel → Lookup → Found → Type 0
 IsFound k (lookups.Live place) f = f ≡ live_found (slice_get (ids_of (kernel_state k).objects) place)
-IsFound k (lookups.Used id) f = IsUseFound (kernel_state k) id f
+IsFound k (lookups.Used id) f = f ≡ used_found (option_map (λ _. use_of (kernel_state k) id) (object_at (kernel_state k) id))
 IsFound k (lookups.Shown thread slot) f = f ≡ shown_found (translate (kernel_state k) thread slot)
-IsFound k (lookups.Label index) f = f ≡ label_found (label_kept k.state index)
-IsFound k (lookups.Order first second) f = f ≡ order_found (order_kept k.state first second)
+IsFound k (lookups.Label index) f = f ≡ label_found (label_kept k.kept.state index)
+IsFound k (lookups.Order first second) f = f ≡ order_found (order_kept k.kept.state first second)
