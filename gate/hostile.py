@@ -25,63 +25,90 @@ def put(file, text):
         it.write(text)
 
 
-class Drawn:
-    """Calls drawn from a seed, over the first ids, so that many are refused and many are accepted. No worker is killed, and few
-    raise their label, so that calls go on to the end."""
+class Worker:
+    """A worker's calls, drawn one after another: it makes objects, uses those that it made, and takes them out again. Some calls
+    name any id, so that workers meet. A name whose call was refused stays unbound, and the lines that use it are left out."""
 
-    def __init__(self, seed):
-        self.draw = random.Random(seed)
+    def __init__(self, name, draw):
+        self.name, self.draw, self.made, self.count = name, draw, {}, 0
 
-    def id(self):
-        return f"#{self.draw.choice([1, 1, 1, 2, 3, *range(4, 90)])}"
+    def any_of(self, kind):
+        """An object of a kind that it made, or any id where it has none, or now and then."""
+        if not self.made.get(kind) or self.draw.randrange(20) == 0:
+            return f"#{self.draw.randrange(1, 400)}"
+        return self.draw.choice(self.made[kind])
 
-    def no_worker(self):
-        return f"#{self.draw.randrange(4 + WORKERS, 90)}"
+    def make(self, kind, call):
+        """The line of a create: the name is the object's from then on."""
+        self.count += 1
+        name = f"{self.name}n{self.count}"
+        self.made.setdefault(kind, []).append(name)
+        return f"{name} = {self.name}: {call}"
 
-    def label(self):
-        return self.draw.choice(["{1}", "{1}", "{1}", "{2}", "{0}", "{#1:3,1}", "{#1:2,1}", "{#1:0,1}"])
+    def drop(self, kind):
+        """The line that takes out the oldest of a kind."""
+        gone = self.made[kind].pop(0)
+        return f"{self.name}: unref root {gone}"
 
-    def call(self):
-        draw, one, two = self.draw, self.id(), self.id()
+    def line(self):
+        draw = self.draw
+        kinds = {
+            "s": f"segment_create root {{1}} {draw.randrange(2, 4)} {draw.randrange(0, 2)}",
+            "c": "container_create root {1} 6 -",
+            "a": "as_create root {1} 1",
+            "t": "thread_create root {1} 1 {2} 0",
+            "g": "gate_create root {1} 1 {2} #0 #0 7 9",
+        }
+        kind = draw.choice("scatg")
+        turn = draw.randrange(4)
+        if turn == 0:
+            return self.make(kind, kinds[kind]) if len(self.made.get(kind, [])) < 2 else self.drop(kind)
+        return f"{self.name}: {self.use(self.any_of('s'), self.any_of('c'), self.any_of('a'))}"
+
+    def use(self, segment, container, space):
+        draw, page = self.draw, self.draw.randrange(0, 4)
         return draw.choice(
             [
-                f"container_create #1 {self.label()} {draw.randrange(1, 9)} -",
-                f"segment_create {one} {self.label()} {draw.randrange(1, 4)} {draw.randrange(0, 3)}",
-                f"as_create {one} {self.label()} 1",
-                f"thread_create {one} {self.label()} 1 {{2}} 0",
-                f"gate_create #1 {self.label()} 1 {{2}} #0 #0 7 9",
-                f"gate_enter #1 {two} {{1}} {{2}} {{3}}",
-                f"set_fixed #1 {two}",
-                f"link {one} #1 {two}",
-                f"unref #1 {self.no_worker()}",
-                f"unref {self.no_worker()} {self.no_worker()}",
-                f"quota_move #1 {two} {draw.choice([-1, 1, 2])}",
-                f"as_map #1 {two} {draw.randrange(0, 16)} {draw.randrange(0, 9)} #1 {self.id()} 0 1 rw",
-                f"self_set_as #1 {two}",
-                f"self_set_label {'{1}' if draw.randrange(40) else self.label()}",
-                f"segment_write #1 {two} {draw.randrange(0, 300)} 0102",
-                f"meta_set #1 {two} ff",
-                f"store {draw.randrange(0, 2000)} 05",
-                f"load {draw.randrange(0, 2000)} 1",
-                f"segment_read #1 {two} {draw.randrange(0, 300)} 2",
-                f"obj_quota #1 {two}",
-                "self_get",
+                f"segment_create {container} {{1}} 2 1",
+                f"set_fixed root {segment}",
+                f"link {container} root {segment}",
+                f"unref {container} {segment}",
+                f"quota_move root {segment} {draw.choice([-1, 1])}",
+                f"segment_resize root {segment} {draw.randrange(0, 3)}",
+                f"segment_write root {segment} {draw.randrange(0, 300)} 0102",
+                f"segment_read root {segment} {draw.randrange(0, 300)} 2",
+                f"meta_set root {container} ff",
+                f"as_map root {space} {page} {page} root {segment} 0 1 rw",
+                f"as_unmap root {space} {page}",
+                f"self_set_as root {space}",
+                f"store {256 * page} 05",
+                f"load {256 * page} 1",
+                f"gate_enter root {self.any_of('g')} {{1}} {{2}} {{3}}",
+                f"unref root #{draw.randrange(4 + WORKERS, 400)}",
+                "self_set_label {1}",
+                "dev_send root dev 01",
+                "dev_recv root dev",
+                f"obj_quota root {segment}",
             ]
         )
 
 
 def storm_script(seed):
     """A script in which so many workers call at once, and of each of their lines the worker and whether it writes."""
-    drawn = Drawn(seed)
-    names = [f"w{it}" for it in range(WORKERS)]
-    lines = [f"{it} = boot: thread_create root {{1}} 1 {{2}} 0" for it in names]
-    lines += ["c = boot: cat_create", "--"]
+    draw = random.Random(seed)
+    workers = [Worker(f"w{it}", draw) for it in range(WORKERS)]
+    lines = [f"{it.name} = boot: thread_create root {{1}} 1 {{2}} 0" for it in workers] + ["--"]
     told = {}
     for _ in range(LINES):
-        worker, call = drawn.draw.choice(names), drawn.call()
-        lines.append(f"{worker}: {call}")
-        told[len(lines)] = worker, call.split()[0] not in READS
-    return "\n".join(lines) + "\n", told, {name: 4 + number for number, name in enumerate(names)}
+        worker = draw.choice(workers)
+        lines.append(worker.line())
+        told[len(lines)] = worker.name, lines[-1].split(": ")[1].split()[0] not in READS
+    return "\n".join(lines) + "\n", told, {it.name: 4 + number for number, it in enumerate(workers)}
+
+
+def as_kept(reply):
+    """A reply without the name or number of what was made: a worker is told the name, the journal has the number."""
+    return "id" if reply.startswith("id ") else reply
 
 
 def replies_told(out, told):
@@ -89,8 +116,8 @@ def replies_told(out, told):
     replies = {}
     for number, reply in re.findall(r"^\w+ (\d+): (.*)$", out, re.M):
         worker, is_write = told.get(int(number), (None, False))
-        if is_write:
-            replies.setdefault(worker, []).append(reply)
+        if is_write and not reply.startswith("unbound "):
+            replies.setdefault(worker, []).append(as_kept(reply))
     return replies
 
 
@@ -98,7 +125,7 @@ def replies_kept(dump):
     """The replies to each thread's events, in the order of the journal."""
     replies = {}
     for thread, reply in re.findall(r"^event (\d+) \d+ .* => (.*)$", dump, re.M):
-        replies.setdefault(int(thread), []).append(reply)
+        replies.setdefault(int(thread), []).append(as_kept(reply))
     return replies
 
 
