@@ -6,7 +6,7 @@ import re
 
 # The files whose names the prover itself reads.
 READ_BY_PROVER = ("Invariants.antt", "Answers.antt", "Proof.antt")
-WORD = re.compile(r"[^\s(){}\[\],.;@\"]+")
+WORD = re.compile(r"[^\s(){}\[\],.;:@\"]+")
 MODIFIERS = ("pub", "abbrev", "unfoldable", "private")
 SIGNATURE = re.compile(rf"^ {{0,2}}(?:(?:{'|'.join(MODIFIERS)}) )*([^\s(){{}}\[\],.;:\"]+) : ")
 

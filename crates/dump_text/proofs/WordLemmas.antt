@@ -54,6 +54,16 @@ spoken_further verb ws vs =
 pub put_more : (verb : Verb) (ws vs : List Word) (out one two : List ℕ) → one ≡ out ++ spoken_text (spoken_as verb ws) → two ≡ one ++ flat_map (λ w. 32 ∷ arg_text (arg_of w)) vs → two ≡ out ++ spoken_text (spoken_as verb (ws ++ vs))
 put_more verb ws vs out one two p q = put_two out one two (spoken_text (spoken_as verb ws)) (flat_map (λ w. 32 ∷ arg_text (arg_of w)) vs) p q ∙ ap (λ (xs : List ℕ). out ++ xs) (spoken_further verb ws vs)
 
+-- words of these kinds, each in its range, are arguments of these kinds
+words_fit : (ks : List ArgKind) (ws : List Word) → map (λ w. kind_of (arg_of w)) ws ≡ ks → AllByRecursion (λ w. FitsArg (arg_of w)) ws → AreArgs ks (args_of ws)
+words_fit [] [] e all = tt
+words_fit [] (w ∷ ws) e all = absurd cc
+words_fit (k ∷ ks) [] e all = absurd cc
+words_fit (k ∷ ks) (w ∷ ws) e all =
+    let first : kind_of (arg_of w) ≡ k = cc in
+    let more : map (λ x. kind_of (arg_of x)) ws ≡ ks = cc in
+    (record { kind_is = first; fits = all.0 }, words_fit ks ws more all.1)
+
 -- pairs whose categories are numbers have a spelling
 pub pairs_fit : (ps : List Pair) → AllByRecursion (λ p. IsPair (spoken_pair p)) ps → AllByRecursion IsPair (map spoken_pair ps)
 pairs_fit [] all = tt
