@@ -64,6 +64,10 @@ words_fit (k ∷ ks) (w ∷ ws) e all =
     let more : map (λ x. kind_of (arg_of x)) ws ≡ ks = cc in
     (record { kind_is = first; fits = all.0 }, words_fit ks ws more all.1)
 
+-- a verb with words of its kinds, each in its range
+pub spoken_fits : (verb : Verb) (ws : List Word) → map (λ w. kind_of (arg_of w)) ws ≡ kinds_of verb → AllByRecursion (λ w. FitsArg (arg_of w)) ws → IsSpoken (spoken_as verb ws)
+spoken_fits verb ws e all = words_fit (kinds_of verb) ws e all
+
 -- pairs whose categories are numbers have a spelling
 pub pairs_fit : (ps : List Pair) → AllByRecursion (λ p. IsPair (spoken_pair p)) ps → AllByRecursion IsPair (map spoken_pair ps)
 pairs_fit [] all = tt
