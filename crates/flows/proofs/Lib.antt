@@ -1,0 +1,5 @@
+pub mod Lists
+pub mod Exact
+pub mod Pairing
+pub mod Placing
+pub mod Playing
