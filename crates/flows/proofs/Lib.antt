@@ -1,4 +1,8 @@
 pub mod Lists
+pub mod Taking
+pub mod Carrying
+pub mod Arriving
+pub mod Staying
 pub mod Exact
 pub mod Pairing
 pub mod Placing
