@@ -1,0 +1,10 @@
+pub mod Callers
+pub mod Chains
+pub mod Facts
+pub mod Keeping
+pub mod Levels
+pub mod Owners
+pub mod Sights
+pub mod Sound
+pub mod Source
+pub mod Ways

@@ -1,0 +1,3 @@
+pub mod Touched
+pub mod Flows
+pub mod Laws

@@ -1,0 +1,93 @@
+//! The flows of a worked run: the boot thread 2 makes category 1, two segments and a thread, and this
+//! thread reads the one segment and writes the other.
+use base::{Category, Data, Level, Limits, ObjectId};
+use flows::{FlowFault, Step, check_flows};
+use kernel_rules::{Call, NewThread, Query};
+use label_lattice::RawLabel;
+use std::alloc::Global;
+use std::test::Fail;
+use test_support::{LIMITS, boot_thread, in_root, is_true, label_with, new_segment};
+
+fn secret() -> RawLabel {
+    label_with(Level::L3, Level::L1)
+}
+
+/// A thread that is cleared for category 1 and does not own it.
+fn reader() -> Call {
+    Call::ThreadCreate(NewThread {
+        container: ObjectId::root(),
+        label: secret(),
+        quota: 1,
+        clearance: label_with(Level::L3, Level::L2),
+        entry_point: 0,
+    })
+}
+
+fn first_byte() -> Query {
+    Query::SegmentRead {
+        entry: in_root(4),
+        offset: 0,
+        count: 1,
+    }
+}
+
+fn written() -> Call {
+    Call::SegmentWrite {
+        entry: in_root(5),
+        offset: 0,
+        data: Data::from_slice(b"A"),
+    }
+}
+
+fn steps() -> [(ObjectId, Step); 6] {
+    let (boot, reading) = (boot_thread(), ObjectId::new(6));
+    [
+        (boot, Step::Write(Call::CatCreate)),
+        (boot, Step::Write(new_segment(secret()))),
+        (boot, Step::Write(new_segment(secret()))),
+        (boot, Step::Write(reader())),
+        (reading, Step::Read(first_byte())),
+        (reading, Step::Write(written())),
+    ]
+}
+
+/// The pairs, found once more where there was no memory.
+fn found_again(
+    alloc: Global,
+    limits: &Limits,
+    category: Category,
+) -> Result<Vec<(ObjectId, ObjectId)>, FlowFault> {
+    let steps = steps();
+    match check_flows(alloc, limits, &steps, category) {
+        Ok(pairs) => Ok(pairs),
+        Err(_) => check_flows(alloc, limits, &steps, category),
+    }
+}
+
+fn are_numbered(pairs: &[(ObjectId, ObjectId)], wanted: &[(u64, u64)]) -> bool {
+    pairs.len() == wanted.len()
+        && pairs.iter().zip(wanted.iter()).all(|(pair, numbers)| pair.0.number() == numbers.0
+            && pair.1.number() == numbers.1)
+}
+
+#[test]
+fn want_of_memory_tells_no_other_flows(rt: HostRuntime) -> Result<(), Fail> {
+    let guarded = [(1, 5), (4, 5), (5, 5)];
+    let Ok(pairs) = found_again(rt.alloc(), &LIMITS, Category(1)) else {
+        return Err(Fail::from("no answer"));
+    };
+    assert!(rt; is_true(are_numbered(&pairs, &guarded)));
+    let open = [(1, 1), (1, 4), (1, 5), (1, 6), (4, 5), (5, 5)];
+    let Ok(pairs) = found_again(rt.alloc(), &LIMITS, Category(2)) else {
+        return Err(Fail::from("no answer"));
+    };
+    assert!(rt; is_true(are_numbered(&pairs, &open)));
+    let few = Limits { pages: 7, ..LIMITS };
+    assert!(rt;
+        is_true(matches!(
+            found_again(rt.alloc(), &few, Category(1)),
+            Err(FlowFault::BadLimits)
+        ))
+    );
+    Ok(())
+}

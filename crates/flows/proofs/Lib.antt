@@ -1,0 +1,9 @@
+pub mod Lists
+pub mod Taking
+pub mod Carrying
+pub mod Arriving
+pub mod Staying
+pub mod Exact
+pub mod Pairing
+pub mod Placing
+pub mod Playing

@@ -1,0 +1,4 @@
+pub mod Carriers
+pub mod Looks
+pub mod Places
+pub mod Pairs
