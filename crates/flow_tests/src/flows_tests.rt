@@ -1,9 +1,10 @@
 //! The flows of a worked run: the boot thread 2 makes category 1, two segments and a thread, and this
 //! thread reads the one segment and writes the other.
 use base::{Category, Data, Level, Limits, ObjectId};
-use flows::{FlowFault, Step, check_flows};
+use flows::{FlowFault, Step, check_flows, flows_of};
 use kernel_rules::{Call, NewThread, Query};
 use label_lattice::RawLabel;
+use plain_state::PlainState;
 use std::alloc::Global;
 use std::test::Fail;
 use test_support::{LIMITS, boot_thread, in_root, is_true, label_with, new_segment};
@@ -89,5 +90,14 @@ fn want_of_memory_tells_no_other_flows(rt: HostRuntime) -> Result<(), Fail> {
             Err(FlowFault::BadLimits)
         ))
     );
+    Ok(())
+}
+
+#[test]
+fn one_object_reaches_what_was_written(rt: HostRuntime) -> Result<(), Fail> {
+    let state = PlainState::boot(rt.alloc(), &LIMITS)?;
+    let steps = steps();
+    let reached = flows_of(rt.alloc(), state, &steps, Category(1), ObjectId::new(4))?;
+    assert!(rt; is_true(reached.as_slice() == [ObjectId::new(5)].as_slice()));
     Ok(())
 }
