@@ -106,6 +106,23 @@ awaits boot copies list op log settled lists is nx saw settles = record {
   list_is = ap (λ (l : List Entry). made (l ++ Made ∷ [])) saw ∙ ap made (sym settles);
 }
 
+-- a copy that shows the same is of the same list
+pub shows_same : (boot : Boot) (x y : Copied) (journal : List Event)
+    → IsShown boot x journal → shown_of y ≡ shown_of x → IsShown boot y journal
+shows_same boot x y journal was is =
+    let lim : y.limits ≡ x.limits = ap (λ s. s.limits) is in
+    let list : list_of y.sealed y.seen.log ≡ list_of x.sealed x.seen.log = ap (λ s. s.list) is in
+    record {
+      good = record {
+        len_is = ap (λ s. s.length) is ∙ (was.good.len_is ∙ ap length (sym list));
+        legal = subst (λ (z : Limits × List Event). IsLegal z.0 z.1) (λ i. (sym lim i, sym list i)) was.good.legal;
+        kernel_is = ap (λ s. s.state) is ∙ (was.good.kernel_is ∙ (λ i. state_of (sym lim i) (sym list i)));
+      };
+      log_is = (λ i. log_from ((is i).number, ((is i).log_name, (is i).cells_name))) ∙ was.log_is;
+      limits_are = lim ∙ was.limits_are;
+      list_is = list ∙ was.list_is;
+    }
+
 -- what a copy shows is legal
 pub shown_legal : (boot : Boot) (x : Copied) (journal : List Event)
     → IsShown boot x journal → IsLegal boot.limits journal
