@@ -14,7 +14,7 @@ from concurrent.futures import ThreadPoolExecutor
 from gate.memory import library
 from gate.plays import Script as Example
 
-LINE = re.compile(r"(?:\w+ = )?[\w#]+: (\w+)")
+LINE = re.compile(r"(?:\w+ = )?[\w#]+:\+? (\w+)")
 ANSWER = re.compile(r"\S+ (\d+): (\S+)")
 CALLS = 34
 

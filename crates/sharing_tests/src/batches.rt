@@ -98,8 +98,9 @@ fn batch_boot<B: Naming, R: Wait + Abort>(rt: &R, alloc: Global, blank: Blank) -
 
 #[test]
 fn a_batch_is_an_event_of_1_to_16_calls(rt: HostRuntime) -> Result<(), Fail> {
-    let blank = Blank::boot(rt.alloc(), &MOST_PAGES)?;
-    batch_boot::<Brand, HostRuntime>(&rt, rt.alloc(), blank)
+    let alloc = rt.alloc();
+    let blank = Blank::boot(alloc, &MOST_PAGES)?;
+    batch_boot::<Brand, HostRuntime>(&rt, alloc, blank)
 }
 
 /// How often the reader reads, and how many batches are submitted meanwhile.
@@ -110,14 +111,23 @@ const BATCHES: u64 = 200;
 /// The quota of the container whose quota is moved.
 const QUOTA: u32 = 10;
 
-/// A batch that moves a quota by one, up and down, eight times.
-fn moves() -> [Call; 16] {
-    let entry = in_root(4);
-    let up = Call::QuotaMove { entry, change: 1 };
-    let down = Call::QuotaMove { entry, change: -1 };
-    [
-        up, down, up, down, up, down, up, down, up, down, up, down, up, down, up, down,
-    ]
+fn up() -> Call {
+    Call::QuotaMove {
+        entry: in_root(4),
+        change: 1,
+    }
+}
+
+fn down() -> Call {
+    Call::QuotaMove {
+        entry: in_root(4),
+        change: -1,
+    }
+}
+
+/// A batch that moves a quota by one, up and down.
+fn moves() -> [Call; 4] {
+    [up(), down(), up(), down()]
 }
 
 /// Whether the quota is what it is between two batches.

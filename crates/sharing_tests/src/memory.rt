@@ -198,7 +198,9 @@ fn is_batched<B: Naming, R: Wait>(
     match batch_again(rt, shared, seat) {
         Some(receipt) => match receipt.replies.as_slice() {
             [one, other] => {
-                is_object(*one, id) && is_object(*other, id + 1) && receipt.number == number
+                is_object(*one, id)
+                    && is_object(*other, id.saturating_add(1))
+                    && receipt.number == number
             }
             _ => false,
         },
