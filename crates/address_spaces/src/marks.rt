@@ -1,5 +1,9 @@
 //! Marks of the objects that were mapped, each at the place that the id's last binary digits name. Ids whose last digits
 //! are equal share a mark.
+//!
+//! No mapping is of an object without a mark. So a link, an unreference or an object that becomes immutable touches no row of
+//! translation then, unless it is an address space, and the walk over threads is left out. No mark is taken back: one that
+//! stays costs a walk that changes nothing.
 ghost use Rattle.std.specs.Prelude.{◌≡◌};
 ghost use Rattle.address_spaces.specs.Marks.{is_marked, mark_place, with_mark, IsMarkCount};
 

@@ -15,7 +15,7 @@ use Rattle.translation_rows.specs.Rows.{BySlot, Shows, slot_count, thread_at}
 use Rattle.arena_state.specs.Shown.{AreKept, AreKeptBut, IsRow, KeepsAllSlots, SameAt, Tells, named_by}
 use Rattle.arena_state.specs.States.{state_of}
 use Rattle.arena_state.specs.Touched.{reaches_by, touches}
-use Rattle.arena_state.specs.declared.repairs.Change.{Change}
+use Rattle.arena_state.specs.declared.rows.repairs.Change.{Change}
 use Rattle.arena_state.specs.declared.states.ArenaState.{ArenaState}
 use Rattle.arena_state.proofs.ShownLaws.{one_owner, slot_in_pool, slot_is_there}
 

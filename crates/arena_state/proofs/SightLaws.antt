@@ -8,8 +8,7 @@ use Rattle.label_intern.specs.declared.held.Held.{Held}
 use Rattle.kernel_rules.specs.State.{object_at, of_object, kind_of, label_at, is_immutable, is_fixed}
 use Rattle.kernel_rules.specs.State.{is_live_kind, page_count}
 use Rattle.kernel_rules.proofs.WellFormedLaws.{live_kind}
-use Rattle.kernel_store.specs.Sights.{kind_at, is_of, seen_of}
-use Rattle.kernel_store.specs.declared.sights.Seen.{Seen}
+use Rattle.kernel_store.specs.Sights.{kind_at, is_of}
 use Rattle.kernel_store.proofs.SightLaws.{kind_seen}
 use Rattle.arena_state.specs.declared.records.Record.{Record}
 use Rattle.arena_state.specs.declared.states.ArenaState.{ArenaState}
@@ -74,8 +73,3 @@ module _ (a : ArenaState) (id : ℕ) where
   pub live_seen : (k : kind.Kind) → is_of k (kind_at (state_of a) id) ≡ is_live_kind (state_of a) k id
   live_seen k =
       kind_seen (state_of a) k id ∙ live_kind (state_of a) k id (whole_formed a.pieces a.sound a.stocked)
-
--- what is seen of a live container is one
-pub container_seen : (a : ArenaState) (t d : ℕ) (seen : Seen) → seen ≡ seen_of (state_of a) t d
-    → is_of kinds.Container seen.kind ≡ is_live_kind (state_of a) kinds.Container d
-container_seen a t d seen is = ap (λ (z : Seen). is_of kinds.Container z.kind) is ∙ live_seen a d kinds.Container

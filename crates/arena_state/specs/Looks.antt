@@ -1,4 +1,4 @@
--- What looks at objects cost in a pool of up to 512 slots.
+-- What looks at objects cost in a pool of up to 1,024 slots.
 use Rattle.std.specs.Prelude.{ℕ, ◌+◌, ◌*◌, ◌≤◌}
 use Rattle.base.specs.Counts.{Counts}
 

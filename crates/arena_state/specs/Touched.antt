@@ -5,8 +5,8 @@ use Rattle.kernel_rules.specs.State.{State, slots_at}
 use Rattle.kernel_rules.specs.Translate.{names_none, own_space}
 use Rattle.kernel_rules.specs.declared.calls.Entry.{Entry}
 use Rattle.kernel_rules.specs.declared.objects.Mapping.{Mapping}
-use Rattle.arena_state.specs.declared.repairs.Change as change
-use Rattle.arena_state.specs.declared.repairs.Change.TheVariants as by
+use Rattle.arena_state.specs.declared.rows.repairs.Change as change
+use Rattle.arena_state.specs.declared.rows.repairs.Change.TheVariants as by
 
 -- the two entries are one
 abbrev pub is_same : Entry → Entry → Bool

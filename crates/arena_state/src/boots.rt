@@ -10,10 +10,10 @@ ghost use Rattle.kernel_rules.specs.Step.{uniform};
 ghost use Rattle.arena_state.specs.States.{state_of};
 
 use crate::holdings::Holdings;
+use crate::making::uniform;
 use crate::pieces::Pieces;
 use crate::records::{Kept, fresh_record, kept_thread};
 use crate::states::ArenaState;
-use crate::uniform::uniform;
 use address_spaces::Spaces;
 use base::{Level, Limits, Meter, NoMemory, ObjectId, TypeSet};
 use containers::Containers;

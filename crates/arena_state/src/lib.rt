@@ -7,38 +7,20 @@
 //! to the crates above.
 #![tactic(auto)]
 
-mod bearers;
-mod bearing_reads;
-mod bindings;
 mod boots;
-mod charges;
-mod content_changes;
-mod contents;
-mod copies;
-mod creations;
-mod edits;
-mod entries;
+mod changes;
 mod holdings;
-mod kept;
-mod label_tests;
-mod lists;
-mod optional_labels;
+mod locations;
+mod looks;
+mod making;
 mod pieces;
-mod placing;
-mod reads;
 mod records;
-mod remakes;
-mod repairs;
-mod sights;
-mod sites;
+mod rows;
 mod states;
-mod translations;
-mod uniform;
-mod unlinks;
-mod uses;
 
 pub use holdings::Holdings;
+pub use locations::Location;
 pub use pieces::Pieces;
 pub use records::{Kept, KeptGate, KeptThread, Record};
-pub use repairs::Change;
+pub use rows::Change;
 pub use states::ArenaState;

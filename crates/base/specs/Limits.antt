@@ -10,6 +10,6 @@ spent = 2 ^ 61
 -- each limit is in its range
 abbrev pub in_range : Limits → Bool
 in_range l =
-    nat_le 8 l.pages && nat_le l.pages 512 && not (rank_of l.device == 0)
+    nat_le 8 l.pages && nat_le l.pages 1024 && not (rank_of l.device == 0)
     && nat_le 4 l.next_id && nat_le l.next_id spent
     && nat_le 1 l.next_category && nat_le l.next_category spent

@@ -7,7 +7,7 @@ use crate::levels::Level;
 /// What a machine is booted with.
 #[derive(Clone, Copy, PartialEq, Eq, Debug)]
 pub struct Limits {
-    /// The quota of the root, in pages of 256 bytes: 8 to 512.
+    /// The quota of the root, in pages of 256 bytes: 8 to 1,024.
     pub pages: u32,
     /// The level of the device's label: any but `Star`.
     pub device: Level,
@@ -24,7 +24,7 @@ impl Limits {
     {
         let spent = 1u64 << 61;
         8 <= self.pages
-            && self.pages <= 512
+            && self.pages <= 1024
             && self.device.rank() != 0
             && 4 <= self.next_id
             && self.next_id <= spent

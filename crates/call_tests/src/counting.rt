@@ -1,14 +1,14 @@
-//! A store that counts each look.
+//! A store that counts what it looks up.
 ghost use Rattle.std.specs.Prelude.{◌≡◌};
 
-use base::{Data, Kind, Meter, NoMemory, ObjectId, Rights, Slot, TypeSet};
+use base::{Data, Kind, Meter, NoMemory, ObjectId, Rights, TypeSet};
 use kernel_rules::{Entry, Gate, Ids, Mapping, Place, Thread};
-use kernel_store::{LinkSite, Sight, Site, Spot, Store, WideSight};
+use kernel_store::{Named, Seen, Store};
 use label_lattice::Label;
 use plain_state::PlainState;
 
-/// A plain state, of which the meter counts each look: at a caller, an object, an entry, an address
-/// or bytes.
+/// A plain state, of which the meter counts what is looked up: each id that is found, each address, and each time that bytes
+/// are read.
 #[derive(Drop)]
 pub struct Counting {
     state: PlainState,
@@ -37,108 +37,81 @@ impl Store for Counting {
 
     ghost spends = { λ n a b. Unit {0} };
 
-    ghost lies = { λ s id slot. Unit {0} };
+    type Location = ObjectId;
+
+    ghost id_of = { λ id. id };
+
+    ghost stands = { λ s id. Unit {0} };
 
     type Want = NoMemory;
 
-    fn spot(&self, thread: ObjectId, entry: &Entry) -> Option<Spot> {
-        Store::spot(&self.state, thread, entry)
+    fn id(&self, at: ObjectId) -> ObjectId {
+        Store::id(&self.state, at)
     }
 
-    fn is_live_kind(&self, kind: Kind, id: ObjectId, meter: &mut Meter) -> bool {
+    fn find(&self, id: ObjectId, meter: &mut Meter) -> ObjectId {
         meter.probe();
-        Store::is_live_kind(&self.state, kind, id, meter)
+        Store::find(&self.state, id, meter)
     }
 
-    fn sight(&self, thread: ObjectId, entry: &Entry, meter: &mut Meter) -> Sight {
-        meter.probe();
-        Store::sight(&self.state, thread, entry, meter)
+    fn peek(&self, thread: ObjectId, entry: &Entry) -> Option<Named<ObjectId>> {
+        Store::peek(&self.state, thread, entry)
     }
 
-    fn wide_sight(
-        &self,
-        thread: ObjectId,
-        entry: &Entry,
-        spot: Option<Spot>,
-        meter: &mut Meter,
-    ) -> WideSight {
-        meter.probe();
-        Store::wide_sight(&self.state, thread, entry, spot, meter)
+    fn is_live(&self, kind: Kind, at: ObjectId) -> bool {
+        Store::is_live(&self.state, kind, at)
     }
 
-    fn site(
-        &self,
-        thread: ObjectId,
-        kind: Kind,
-        container: ObjectId,
-        quota: u32,
-        spot: Option<Spot>,
-        meter: &mut Meter,
-    ) -> Site {
-        meter.probe();
-        Store::site(&self.state, thread, kind, container, quota, spot, meter)
+    fn seen(&self, caller: ObjectId, at: ObjectId, meter: &mut Meter) -> Seen {
+        Store::seen(&self.state, caller, at, meter)
     }
 
-    fn link_site(
-        &self,
-        thread: ObjectId,
-        container: ObjectId,
-        entry: &Entry,
-        to_come: Option<Spot>,
-        spot: Option<Spot>,
-        meter: &mut Meter,
-    ) -> LinkSite {
-        meter.probe();
-        Store::link_site(&self.state, thread, container, entry, to_come, spot, meter)
+    fn lists(&self, container: ObjectId, object: ObjectId, meter: &mut Meter) -> bool {
+        Store::lists(&self.state, container, object, meter)
     }
 
-    fn is_there(&self, id: ObjectId, meter: &mut Meter) -> bool {
-        Store::is_there(&self.state, id, meter)
+    fn avoids(&self, kind: Kind, container: ObjectId) -> bool {
+        Store::avoids(&self.state, kind, container)
     }
 
-    fn is_cleared(&self, thread: ObjectId, id: ObjectId, meter: &mut Meter) -> bool {
-        Store::is_cleared(&self.state, thread, id, meter)
+    fn is_there(&self, at: ObjectId) -> bool {
+        Store::is_there(&self.state, at)
     }
 
-    fn label(&self, id: ObjectId, meter: &mut Meter) -> Option<&Label> {
-        Store::label(&self.state, id, meter)
+    fn is_cleared(&self, caller: ObjectId, at: ObjectId, meter: &mut Meter) -> bool {
+        Store::is_cleared(&self.state, caller, at, meter)
     }
 
-    fn clearance(&self, thread: ObjectId, meter: &mut Meter) -> Option<&Label> {
-        Store::clearance(&self.state, thread, meter)
+    fn label(&self, at: ObjectId) -> Option<&Label> {
+        Store::label(&self.state, at)
     }
 
-    fn bounds(
-        &self,
-        thread: ObjectId,
-        slot: Option<Slot>,
-        meter: &mut Meter,
-    ) -> (Option<&Label>, Option<&Label>) {
-        Store::bounds(&self.state, thread, slot, meter)
+    fn clearance(&self, thread: ObjectId) -> Option<&Label> {
+        Store::clearance(&self.state, thread)
     }
 
-    fn is_fixed(&self, id: ObjectId, meter: &mut Meter) -> bool {
-        Store::is_fixed(&self.state, id, meter)
+    fn is_fixed(&self, at: ObjectId) -> bool {
+        Store::is_fixed(&self.state, at)
     }
 
-    fn is_immutable(&self, id: ObjectId, meter: &mut Meter) -> bool {
-        Store::is_immutable(&self.state, id, meter)
+    fn is_immutable(&self, at: ObjectId) -> bool {
+        Store::is_immutable(&self.state, at)
     }
 
-    fn quota(&self, id: ObjectId, meter: &mut Meter) -> u32 {
-        Store::quota(&self.state, id, meter)
+    fn quota(&self, at: ObjectId) -> u32 {
+        Store::quota(&self.state, at)
     }
 
-    fn used_pages(&self, id: ObjectId, meter: &mut Meter) -> u32 {
-        Store::used_pages(&self.state, id, meter)
+    fn used_pages(&self, at: ObjectId) -> u32 {
+        Store::used_pages(&self.state, at)
     }
 
-    fn is_over(&self, container: ObjectId, pages: u32, meter: &mut Meter) -> bool {
-        Store::is_over(&self.state, container, pages, meter)
+    fn is_over(&self, container: ObjectId, pages: u32) -> bool {
+        Store::is_over(&self.state, container, pages)
     }
 
-    fn joined(&self, container: ObjectId, kinds: TypeSet, meter: &mut Meter) -> TypeSet {
-        Store::joined(&self.state, container, kinds, meter)
+    fn joined(&self, container: ObjectId, kinds: TypeSet) -> TypeSet {
+        Store::joined(&self.state, container, kinds)
     }
 
     fn list_len(&self, container: ObjectId, meter: &mut Meter) -> usize {
@@ -153,16 +126,9 @@ impl Store for Counting {
         Store::parent(&self.state, container, meter)
     }
 
-    fn bytes_from(
-        &self,
-        id: ObjectId,
-        slot: Option<Slot>,
-        from: usize,
-        count: u32,
-        meter: &mut Meter,
-    ) -> Data {
+    fn bytes_from(&self, at: ObjectId, from: usize, count: u32, meter: &mut Meter) -> Data {
         meter.probe();
-        Store::bytes_from(&self.state, id, slot, from, count, meter)
+        Store::bytes_from(&self.state, at, from, count, meter)
     }
 
     fn place(&self, thread: ObjectId, address: u64, meter: &mut Meter) -> Option<Place> {
@@ -170,36 +136,36 @@ impl Store for Counting {
         Store::place(&self.state, thread, address, meter)
     }
 
-    fn is_shown(&self, thread: ObjectId, id: ObjectId, meter: &mut Meter) -> bool {
-        Store::is_shown(&self.state, thread, id, meter)
+    fn is_shown(&self, caller: ObjectId, at: ObjectId, meter: &mut Meter) -> bool {
+        Store::is_shown(&self.state, caller, at, meter)
     }
 
-    fn page_count(&self, id: ObjectId, meter: &mut Meter) -> u32 {
-        Store::page_count(&self.state, id, meter)
+    fn page_count(&self, at: ObjectId) -> u32 {
+        Store::page_count(&self.state, at)
     }
 
-    fn slots(&self, id: ObjectId, meter: &mut Meter) -> &[Option<Mapping>] {
-        Store::slots(&self.state, id, meter)
+    fn slots(&self, at: ObjectId) -> &[Option<Mapping>] {
+        Store::slots(&self.state, at)
     }
 
-    fn slot(&self, id: ObjectId, slot: usize, meter: &mut Meter) -> Option<Mapping> {
-        Store::slot(&self.state, id, slot, meter)
+    fn slot(&self, at: ObjectId, slot: usize) -> Option<Mapping> {
+        Store::slot(&self.state, at, slot)
     }
 
-    fn packets(&self, id: ObjectId, meter: &mut Meter) -> &[Data] {
-        Store::packets(&self.state, id, meter)
+    fn packets(&self, at: ObjectId) -> &[Data] {
+        Store::packets(&self.state, at)
     }
 
-    fn metadata(&self, id: ObjectId, meter: &mut Meter) -> Option<Data> {
-        Store::metadata(&self.state, id, meter)
+    fn metadata(&self, at: ObjectId) -> Option<Data> {
+        Store::metadata(&self.state, at)
     }
 
-    fn gate(&self, id: ObjectId, meter: &mut Meter) -> Option<Gate> {
-        Store::gate(&self.state, id, meter)
+    fn gate(&self, at: ObjectId) -> Option<Gate> {
+        Store::gate(&self.state, at)
     }
 
-    fn thread(&self, id: ObjectId, meter: &mut Meter) -> Option<Thread> {
-        Store::thread(&self.state, id, meter)
+    fn thread(&self, at: ObjectId) -> Option<Thread> {
+        Store::thread(&self.state, at)
     }
 
     fn translate(
@@ -225,42 +191,33 @@ impl Store for Counting {
 
     fn link(
         &mut self,
-        thread: ObjectId,
+        target: ObjectId,
         container: ObjectId,
-        entry: &Entry,
-        to_come: Option<Spot>,
+        object: ObjectId,
         meter: &mut Meter,
     ) -> Result<(), NoMemory> {
-        Store::link(&mut self.state, thread, container, entry, to_come, meter)
+        Store::link(&mut self.state, target, container, object, meter)
     }
 
     fn unref(
         &mut self,
-        thread: ObjectId,
-        entry: &Entry,
-        spot: Option<Spot>,
+        container: ObjectId,
+        object: ObjectId,
         meter: &mut Meter,
     ) -> Result<(), NoMemory> {
-        Store::unref(&mut self.state, thread, entry, spot, meter)
+        Store::unref(&mut self.state, container, object, meter)
     }
 
-    fn set_fixed(&mut self, id: ObjectId, meter: &mut Meter) {
-        Store::set_fixed(&mut self.state, id, meter);
+    fn set_fixed(&mut self, at: ObjectId) {
+        Store::set_fixed(&mut self.state, at);
     }
 
-    fn quota_move(&mut self, entry: &Entry, up: u32, down: u32, meter: &mut Meter) {
-        Store::quota_move(&mut self.state, entry, up, down, meter);
+    fn quota_move(&mut self, container: ObjectId, object: ObjectId, up: u32, down: u32) {
+        Store::quota_move(&mut self.state, container, object, up, down);
     }
 
-    fn write_bytes(
-        &mut self,
-        id: ObjectId,
-        slot: Option<Slot>,
-        at: usize,
-        given: &[u8],
-        meter: &mut Meter,
-    ) {
-        Store::write_bytes(&mut self.state, id, slot, at, given, meter);
+    fn write_bytes(&mut self, segment: ObjectId, at: usize, given: &[u8], meter: &mut Meter) {
+        Store::write_bytes(&mut self.state, segment, at, given, meter);
     }
 
     fn create_container(
@@ -285,28 +242,39 @@ impl Store for Counting {
         Store::create_segment(&mut self.state, container, label, quota, pages, meter)
     }
 
-    fn resize(&mut self, id: ObjectId, pages: u32, meter: &mut Meter) -> Result<(), NoMemory> {
-        Store::resize(&mut self.state, id, pages, meter)
+    fn resize(&mut self, segment: ObjectId, pages: u32, meter: &mut Meter) -> Result<(), NoMemory> {
+        Store::resize(&mut self.state, segment, pages, meter)
     }
 
-    fn set_slot(&mut self, id: ObjectId, slot: usize, mapping: Option<Mapping>, meter: &mut Meter) {
-        Store::set_slot(&mut self.state, id, slot, mapping, meter);
+    fn set_slot(
+        &mut self,
+        space: ObjectId,
+        slot: usize,
+        mapping: Option<Mapping>,
+        meter: &mut Meter,
+    ) {
+        Store::set_slot(&mut self.state, space, slot, mapping, meter);
     }
 
-    fn dev_send(&mut self, id: ObjectId, packet: Data, meter: &mut Meter) -> Result<(), NoMemory> {
-        Store::dev_send(&mut self.state, id, packet, meter)
+    fn dev_send(
+        &mut self,
+        device: ObjectId,
+        packet: Data,
+        meter: &mut Meter,
+    ) -> Result<(), NoMemory> {
+        Store::dev_send(&mut self.state, device, packet, meter)
     }
 
-    fn dev_recv(&mut self, id: ObjectId, meter: &mut Meter) {
-        Store::dev_recv(&mut self.state, id, meter);
+    fn dev_recv(&mut self, device: ObjectId, meter: &mut Meter) {
+        Store::dev_recv(&mut self.state, device, meter);
     }
 
-    fn set_immutable(&mut self, id: ObjectId, meter: &mut Meter) {
-        Store::set_immutable(&mut self.state, id, meter);
+    fn set_immutable(&mut self, at: ObjectId, meter: &mut Meter) {
+        Store::set_immutable(&mut self.state, at, meter);
     }
 
-    fn meta_set(&mut self, id: ObjectId, given: &Data, meter: &mut Meter) {
-        Store::meta_set(&mut self.state, id, given, meter);
+    fn meta_set(&mut self, at: ObjectId, given: &Data) {
+        Store::meta_set(&mut self.state, at, given);
     }
 
     fn set_label(&mut self, thread: ObjectId, label: Option<&Label>, meter: &mut Meter) {

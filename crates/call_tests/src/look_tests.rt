@@ -1,7 +1,5 @@
-//! How many looks each call takes: one at each entry or container that its row names, which shows the
-//! caller too, and one at bytes that are read; a link looks at its entry and its container at once.
-//! An address is looked up once, and who has it mapped need not be looked at. What is asked for is
-//! answered as by the plain state itself.
+//! What each call looks up: each id that it names once, the caller's too, and bytes that are read. An address is looked up
+//! once, and then its segment; who has it mapped need not be. What is asked for is answered as by the plain state itself.
 use crate::Counting;
 use base::{Data, Meter, NoMemory, ObjectId, Refusal, Rights, TypeSet};
 use kernel_calls::{ask, step};
@@ -68,14 +66,14 @@ fn load_of_a_byte() -> Query {
 }
 
 #[test]
-fn each_entry_is_looked_at_once(rt: HostRuntime) -> Result<(), Fail> {
+fn each_id_is_found_once(rt: HostRuntime) -> Result<(), Fail> {
     let mut meter = Meter::new(rt.alloc())?;
     let mut store = Counting::new(PlainState::boot(rt.alloc(), &LIMITS)?);
     let mut twin = PlainState::boot(rt.alloc(), &LIMITS)?;
     for call in makings() {
         assert_eq!(rt;
             looks_of(&mut store, &mut twin, &call, &mut meter)?,
-            (None, 1)
+            (None, 2)
         );
     }
     let target = ObjectId::new(4);
@@ -92,13 +90,13 @@ fn each_entry_is_looked_at_once(rt: HostRuntime) -> Result<(), Fail> {
     };
     let data = Data::from_slice(&[7]);
     let calls = [
-        (Call::SetFixed { entry: segment }, 1),
+        (Call::SetFixed { entry: segment }, 3),
         (
             Call::Link {
                 target,
                 entry: segment,
             },
-            1,
+            4,
         ),
         (
             Call::SegmentWrite {
@@ -106,7 +104,7 @@ fn each_entry_is_looked_at_once(rt: HostRuntime) -> Result<(), Fail> {
                 offset: 0,
                 data,
             },
-            1,
+            3,
         ),
         (
             Call::AsMap {
@@ -114,16 +112,16 @@ fn each_entry_is_looked_at_once(rt: HostRuntime) -> Result<(), Fail> {
                 slot: 0,
                 mapping,
             },
-            2,
+            5,
         ),
-        (Call::SelfSetAs { space }, 1),
-        (Call::Store { address: 768, data }, 1),
+        (Call::SelfSetAs { space }, 3),
+        (Call::Store { address: 768, data }, 2),
         (
             Call::QuotaMove {
                 entry: in_root(4),
                 change: 1,
             },
-            1,
+            3,
         ),
     ];
     for (call, looks) in calls {
@@ -132,11 +130,11 @@ fn each_entry_is_looked_at_once(rt: HostRuntime) -> Result<(), Fail> {
             (None, looks)
         );
     }
-    assert_eq!(rt; looks_at(&store, &load_of_a_byte(), &mut meter), (None, 2));
+    assert_eq!(rt; looks_at(&store, &load_of_a_byte(), &mut meter), (None, 3));
     let unref = Call::Unref { entry: segment };
     assert_eq!(rt;
         looks_of(&mut store, &mut twin, &unref, &mut meter)?,
-        (None, 1)
+        (None, 3)
     );
     Ok(())
 }
@@ -156,14 +154,14 @@ fn a_refused_call_takes_as_many(rt: HostRuntime) -> Result<(), Fail> {
         &Call::Unref { entry: root },
         &mut meter,
     )?;
-    assert_eq!(rt; kept, (Some(Refusal::RootKept), 1));
+    assert_eq!(rt; kept, (Some(Refusal::RootKept), 3));
     let read = Query::SegmentRead {
         entry: in_root(3),
         offset: 0,
         count: 1,
     };
     let device = looks_at(&store, &read, &mut meter);
-    assert_eq!(rt; device, (Some(Refusal::WrongType), 1));
+    assert_eq!(rt; device, (Some(Refusal::WrongType), 3));
     assert_eq!(rt;
         looks_at(&store, &load_of_a_byte(), &mut meter),
         (Some(Refusal::NotMapped), 2)
@@ -171,8 +169,9 @@ fn a_refused_call_takes_as_many(rt: HostRuntime) -> Result<(), Fail> {
     Ok(())
 }
 
-// Of an accepted create the plain machine scans the labels of the thread and the container three times, once for
-// access and twice for what it sees; the new label is gathered once, and compared with the thread's and its clearance.
+// Of an accepted create the plain machine scans the labels of the thread and the container four times, twice for what it
+// sees of the container and twice for what it sees of the object, which is the container; the new label is gathered once, and
+// compared with the thread's and its clearance.
 #[test]
 fn a_said_label_is_gathered_once(rt: HostRuntime) -> Result<(), Fail> {
     let mut meter = Meter::new(rt.alloc())?;
@@ -180,6 +179,6 @@ fn a_said_label_is_gathered_once(rt: HostRuntime) -> Result<(), Fail> {
     let [container, _, _] = makings();
     let refused = answered(step(&mut state, boot_thread(), &container, &mut meter))?;
     assert_eq!(rt; refused, None);
-    assert_eq!(rt; meter.scans(), 6);
+    assert_eq!(rt; meter.scans(), 7);
     Ok(())
 }

@@ -7,7 +7,7 @@ use base::{Meter, ObjectId};
 use kernel_rules::{Query, Reply};
 use kernel_store::Store;
 use link_calls::{container_list, container_parent, obj_quota};
-use memory_calls::{as_get, load, meta_get, segment_len, segment_read};
+use memory_calls::{Span, as_get, load, meta_get, segment_len, segment_read};
 use thread_calls::{obj_label, self_get};
 
 /// One query, as `ask` says. The reply is overwritten in place, since it is large.
@@ -37,7 +37,13 @@ pub fn ask_into<S: Store>(
             entry,
             offset,
             count,
-        } => segment_read(state, thread, entry, *offset, *count, reply, meter),
+        } => {
+            let span = Span {
+                offset: *offset,
+                count: *count,
+            };
+            segment_read(state, thread, entry, span, reply, meter)
+        }
         Query::MetaGet { entry } => meta_get(state, thread, entry, reply, meter),
         Query::AsGet { space, slot } => as_get(state, thread, space, *slot, reply, meter),
         Query::Load { address, count } => load(state, thread, *address, *count, reply, meter),

@@ -8,8 +8,8 @@ use kernel_rules::{Call, Reply};
 use kernel_store::Store;
 use link_calls::{container_create, link, quota_move, set_fixed, unref};
 use memory_calls::{
-    as_create, as_map, as_unmap, dev_recv, dev_send, meta_set, segment_copy, segment_create,
-    segment_resize, segment_write, set_immutable, store,
+    Filling, Patch, as_create, as_map, as_unmap, dev_recv, dev_send, meta_set, segment_copy,
+    segment_create, segment_resize, segment_write, set_immutable, store,
 };
 use std::convert::Infallible;
 use thread_calls::{
@@ -60,12 +60,22 @@ fn step_into<S: Store>(
             entry,
             offset,
             data,
-        } => Ok(segment_write(state, thread, entry, *offset, data, reply, meter)),
+        } => {
+            let patch = Patch {
+                offset: *offset,
+                bytes: data,
+            };
+            Ok(segment_write(state, thread, entry, &patch, reply, meter))
+        }
         Call::AsMap {
             space,
             slot,
             mapping,
-        } => Ok(as_map(state, thread, space, *slot, mapping, reply, meter)),
+        } => {
+            let slot = *slot;
+            let filling = Filling { slot, mapping };
+            Ok(as_map(state, thread, space, &filling, reply, meter))
+        }
         Call::AsUnmap { space, slot } => Ok(as_unmap(state, thread, space, *slot, reply, meter)),
         Call::Store { address, data } => Ok(store(state, thread, *address, data, reply, meter)),
         Call::GateEnter {

@@ -1,4 +1,7 @@
 //! The refusal of a row of conditions.
+//!
+//! Most calls are refused by nothing. So a row's refusal is inlined into the row, where the compiler knows how many conditions
+//! there are. The comparison of two refusals is out of line (`cold`).
 ghost use Rattle.std.specs.Prelude.{◌≡◌};
 ghost use Rattle.kernel_rules.specs.Rows.{lesser_of, least_of, refusal_of};
 

@@ -2,4 +2,4 @@ pub mod Sights
 pub mod Parts
 pub mod Storing
 pub mod Named
-pub mod Spots
+pub mod Locations

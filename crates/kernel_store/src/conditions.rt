@@ -8,9 +8,9 @@ ghost use Rattle.kernel_rules.specs.Translate.{names_none};
 ghost use Rattle.kernel_store.specs.Parts.{joined};
 ghost use Rattle.kernel_store.specs.Sights.{is_of};
 
-use crate::sights::{Seen, Sight, Site};
+use crate::sights::{Seen, Sight};
 use crate::stores::Store;
-use base::{Kind, Meter, ObjectId, Refusal};
+use base::{Kind, Refusal};
 use kernel_rules::{Entry, Place, least_with};
 
 /// A refusal, and whether it is given.
@@ -30,13 +30,11 @@ pub fn refusal_of(row: &[&[Condition]]) -> Option<Refusal>
 }
 
 /// The caller is no live thread.
-pub fn halted<S: Store>(state: &S, thread: ObjectId, meter: &mut Meter) -> [Condition; 1]
-    ensures value { result ≡ halted (S.state state.now) thread }
-    ensures meter { S.kept meter.new ≡ S.kept meter.old }
-    ensures looks { S.spends 2 meter.old meter.new }
+pub fn halted<S: Store>(state: &S, caller: S::Location) -> [Condition; 1]
+    requires { S.stands state.now caller }
+    ensures { result ≡ halted (S.state state.now) (S.id_of caller) }
 {
-    let runs = state.is_live_kind(Kind::Thread, thread, meter);
-    [(Refusal::Halted, !runs)]
+    [(Refusal::Halted, !state.is_live(Kind::Thread, caller))]
 }
 
 /// The caller, who looked at an entry, is no live thread.
@@ -51,20 +49,6 @@ pub fn at_container(seen: &Sight) -> [Condition; 1]
     ensures { result ≡ (refusal.NoAccess, not seen.now.accessible) ∷ [] }
 {
     [(Refusal::NoAccess, !seen.accessible)]
-}
-
-/// The caller, who looked at a container, is no live thread.
-pub fn halted_by(site: &Site) -> [Condition; 1]
-    ensures { result ≡ (refusal.Halted, not site.now.runs) ∷ [] }
-{
-    [(Refusal::Halted, !site.runs)]
-}
-
-/// The container that was looked at is a live container that the thread observes.
-pub fn at_site(site: &Site) -> [Condition; 1]
-    ensures { result ≡ (refusal.NoAccess, not site.now.accessible) ∷ [] }
-{
-    [(Refusal::NoAccess, !site.accessible)]
 }
 
 /// The container is such a container, and the entry stands.

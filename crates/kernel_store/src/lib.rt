@@ -6,20 +6,20 @@
 
 mod conditions;
 mod labels;
+mod names;
 mod new_objects;
 mod replies;
 mod sights;
-mod spots;
 mod stores;
 
 pub use conditions::{
-    Condition, at_container, at_site, flowing, halted, halted_at, halted_by, in_container,
-    listed_in, mapped_to_read, mapped_to_write, modified, not_immutable, not_of_kind, observed,
-    of_kind, refusal_of, shaped, space_entry, within,
+    Condition, at_container, flowing, halted, halted_at, in_container, listed_in, mapped_to_read,
+    mapped_to_write, modified, not_immutable, not_of_kind, observed, of_kind, refusal_of, shaped,
+    space_entry, within,
 };
 pub use labels::stored_label;
+pub use names::{Named, find_all, find_container, find_entry, itself};
 pub use new_objects::{NewObject, good_label, is_in_range, new_bearer, new_object};
 pub use replies::{refuse, set_done, tell_done, tell_object};
-pub use sights::{LinkSite, Seen, Sight, Site, WideSight, itself};
-pub use spots::{Spot, object_slot, own_slot};
+pub use sights::{Seen, Sight, avoids_object, look, look_at};
 pub use stores::Store;

@@ -1,16 +1,17 @@
 //! What refuses a new object.
-ghost use Rattle.std.specs.Prelude.{◌≡◌, ◌≤◌, ◌+◌, ◌∷◌, [], ◌||◌, not, is_none, option_copied, IfSome};
+ghost use Rattle.std.specs.Prelude.{◌≡◌, ◌≤◌, ◌+◌, ◌∷◌, [], ◌||◌, not, is_none, option_copied};
 ghost use Rattle.base.specs.declared.refusals.Refusal.TheVariants as refusal;
 ghost use Rattle.label_lattice.specs.Raw.{all_made, is_bad_below, raw_has_star};
 ghost use Rattle.label_rules.specs.LabelRules.{both, below, between, stored};
 ghost use Rattle.kernel_rules.specs.Rows.{fitting, new_object, new_bearer, in_range_of};
 ghost use Rattle.kernel_rules.specs.State.{label_at, clearance_at};
-ghost use Rattle.kernel_store.specs.Sights.{site_of};
+ghost use Rattle.kernel_store.specs.Locations.{Stand};
 
-use crate::conditions::{Condition, at_site, modified, not_immutable};
-use crate::sights::Site;
+use crate::conditions::{Condition, at_container, modified, not_immutable};
+use crate::names::Named;
+use crate::sights::look;
 use crate::stores::Store;
-use base::{Kind, Meter, ObjectId, Refusal, Slot};
+use base::{Kind, Meter, Refusal};
 use label_lattice::{Label, RawLabel};
 use label_rules::{is_below, is_between};
 
@@ -19,41 +20,44 @@ use label_rules::{is_below, is_between};
 pub struct NewObject<'a> {
     /// What it will be.
     pub kind: Kind,
-    /// Where it is to be listed.
-    pub container: ObjectId,
     /// What it may use, in pages of 256 bytes.
     pub quota: u32,
+    /// What it uses itself, in pages of 256 bytes.
+    pub pages: u64,
     /// Its label, as it is given.
     pub label: &'a RawLabel,
+    /// Its label as it is stored, where it can be.
+    pub stored: Option<&'a Label>,
 }
 
-/// The new object, which uses so many pages itself, fits into its container, which was looked at.
+/// The new object fits into its container, which is looked at as it is named.
 #[inline(always)]
 fn fitting<S: Store>(
     state: &S,
-    thread: ObjectId,
-    site: &Site,
+    named: Named<S::Location>,
     made: &NewObject,
-    pages: u64,
+    meter: &mut Meter,
 ) -> [Condition; 8]
-    requires { site.now ≡ site_of (S.state state.now) thread
-        made.now.kind made.now.container made.now.quota }
-    ensures { result ≡ fitting (S.state state.now) thread
-        made.now.kind made.now.container made.now.quota pages }
+    requires { Stand (S.stands state.now) named }
+    ensures value { result ≡ fitting (S.state state.now) (S.id_of named.caller)
+        made.now.kind (S.id_of named.container) made.now.quota made.now.pages }
+    ensures meter { S.kept meter.new ≡ S.kept meter.old }
 {
-    let _thread = thread;
-    let [access] = at_site(site);
-    let [observed, flowing] = modified(&site.container);
-    let small = u64::from(made.quota) < pages;
-    let [immutable] = not_immutable(&site.container);
+    let seen = look(state, named, meter);
+    let [access] = at_container(&seen);
+    let [observed, flowing] = modified(&seen.container);
+    let avoided = state.avoids(made.kind, named.container);
+    let small = u64::from(made.quota) < made.pages;
+    let full = state.is_over(named.container, made.quota);
+    let [immutable] = not_immutable(&seen.container);
     let spent = 1 << 61 <= state.next_id().number();
     [
         access,
         observed,
         flowing,
-        (Refusal::AvoidType, site.avoided),
+        (Refusal::AvoidType, avoided),
         (Refusal::NoQuota, small),
-        (Refusal::NoQuota, site.full),
+        (Refusal::NoQuota, full),
         immutable,
         (Refusal::Spent, spent),
     ]
@@ -99,45 +103,35 @@ fn starless_label<S: Store>(state: &S, raw: &RawLabel, label: Option<&Label>) ->
     )]
 }
 
-/// Whether a stored label is at least the thread's, and at most its clearance. Where the thread lies is known, or is looked
-/// up.
+/// Whether a stored label is at least the caller's, and at most its clearance.
 #[inline(always)]
 pub fn is_in_range<S: Store>(
     state: &S,
-    thread: ObjectId,
-    own: Option<Slot>,
+    caller: S::Location,
     label: Option<&Label>,
     meter: &mut Meter,
 ) -> bool
-    requires { IfSome own (λ slot. S.lies state.now thread slot.0) }
+    requires { S.stands state.now caller }
     ensures value { result
-        ≡ in_range_of (S.state state.now) thread (option_copied label.entry) }
+        ≡ in_range_of (S.state state.now) (S.id_of caller) (option_copied label.entry) }
     ensures meter { S.kept meter.new ≤ S.kept meter.old + 2 }
 {
-    let (least, most) = state.bounds(thread, own, meter);
-    is_between(least, label, most, meter)
+    is_between(state.label(caller), label, state.clearance(caller), meter)
 }
 
-/// What refuses a new container, segment or address space, which uses so many pages itself. Its
-/// container was looked at, and its label is the stored one, where there is one. Where the caller lies is known, or is
-/// looked up. (It is put into the rows that ask, as `refusal_of` is.)
+/// What refuses a new container, segment or address space in the container that is named. (It is put into the rows that
+/// ask, as `refusal_of` is.)
 #[inline(always)]
 pub fn new_object<S: Store>(
     state: &S,
-    thread: ObjectId,
-    own: Option<Slot>,
-    site: &Site,
+    named: Named<S::Location>,
     made: &NewObject,
-    label: Option<&Label>,
-    pages: u64,
     meter: &mut Meter,
 ) -> [Condition; 10]
-    requires own { IfSome own (λ slot. S.lies state.now thread slot.0) }
-    requires site { site.now ≡ site_of (S.state state.now) thread
-        made.now.kind made.now.container made.now.quota }
-    requires label { option_copied label ≡ stored made.now.label.now }
-    ensures value { result ≡ new_object (S.state state.now) thread
-        made.now.kind made.now.container made.now.label.now made.now.quota pages }
+    requires named { Stand (S.stands state.now) named }
+    requires label { option_copied made.now.stored ≡ stored made.now.label.now }
+    ensures value { result ≡ new_object (S.state state.now) (S.id_of named.caller)
+        made.now.kind (S.id_of named.container) made.now.label.now made.now.quota made.now.pages }
     ensures meter { S.kept meter.new ≤ S.kept meter.old + 2 }
 {
     let [
@@ -149,9 +143,9 @@ pub fn new_object<S: Store>(
         room,
         immutable,
         spent,
-    ] = fitting(state, thread, site, made, pages);
-    let [unfit] = starless_label(state, made.label, label);
-    let in_range = is_in_range(state, thread, own, label, meter);
+    ] = fitting(state, named, made, meter);
+    let [unfit] = starless_label(state, made.label, made.stored);
+    let in_range = is_in_range(state, named.caller, made.stored, meter);
     [
         access,
         observed,
@@ -166,48 +160,51 @@ pub fn new_object<S: Store>(
     ]
 }
 
-fn is_above<S: Store>(state: &S, thread: ObjectId, label: Option<&Label>, meter: &mut Meter) -> bool
-    ensures value { result ≡ both below (label_at (S.state state.now) thread)
+fn is_above<S: Store>(
+    state: &S,
+    caller: S::Location,
+    label: Option<&Label>,
+    meter: &mut Meter,
+) -> bool
+    requires { S.stands state.now caller }
+    ensures value { result ≡ both below (label_at (S.state state.now) (S.id_of caller))
         (option_copied label.entry) }
     ensures meter { S.kept meter.new ≤ S.kept meter.old + 1 }
 {
-    let own = state.label(thread, meter);
-    is_below(own, label, meter)
+    is_below(state.label(caller), label, meter)
 }
 
 fn is_bounded<S: Store>(
     state: &S,
-    thread: ObjectId,
+    caller: S::Location,
     label: Option<&Label>,
     clearance: Option<&Label>,
     meter: &mut Meter,
 ) -> bool
+    requires { S.stands state.now caller }
     ensures value { result ≡ between (option_copied label.entry) (option_copied clearance.entry)
-        (clearance_at (S.state state.now) thread) }
+        (clearance_at (S.state state.now) (S.id_of caller)) }
     ensures meter { S.kept meter.new ≤ S.kept meter.old + 2 }
 {
-    let own = state.clearance(thread, meter);
-    is_between(label, clearance, own, meter)
+    is_between(label, clearance, state.clearance(caller), meter)
 }
 
-/// What refuses a new thread or gate of a raw clearance. Its container was looked at, and its label
-/// and clearance are the stored ones, where there are any.
+/// What refuses a new thread or gate, which uses one page itself, in the container that is named: its clearance is given
+/// raw, and stored where it can be.
 pub fn new_bearer<S: Store>(
     state: &S,
-    thread: ObjectId,
-    site: &Site,
+    named: Named<S::Location>,
     made: &NewObject,
-    label: Option<&Label>,
     raw_clearance: &RawLabel,
     clearance: Option<&Label>,
     meter: &mut Meter,
 ) -> [Condition; 12]
-    requires site { site.now ≡ site_of (S.state state.now) thread
-        made.now.kind made.now.container made.now.quota }
-    requires label { option_copied label ≡ stored made.now.label.now }
+    requires named { Stand (S.stands state.now) named }
+    requires label { option_copied made.now.stored ≡ stored made.now.label.now }
+    requires pages { made.now.pages ≡ 1 }
     requires clearance { option_copied clearance ≡ stored raw_clearance.now }
-    ensures value { result ≡ new_bearer (S.state state.now) thread
-        made.now.kind made.now.container made.now.label.now made.now.quota raw_clearance.now }
+    ensures value { result ≡ new_bearer (S.state state.now) (S.id_of named.caller)
+        made.now.kind (S.id_of named.container) made.now.label.now made.now.quota raw_clearance.now }
     ensures meter { S.kept meter.new ≤ S.kept meter.old + 3 }
 {
     let [
@@ -219,11 +216,11 @@ pub fn new_bearer<S: Store>(
         room,
         immutable,
         spent,
-    ] = fitting(state, thread, site, made, 1);
-    let [unfit] = good_label(state, made.label, label);
+    ] = fitting(state, named, made, meter);
+    let [unfit] = good_label(state, made.label, made.stored);
     let [unfit_clearance] = good_label(state, raw_clearance, clearance);
-    let above = is_above(state, thread, label, meter);
-    let bounded = is_bounded(state, thread, label, clearance, meter);
+    let above = is_above(state, named.caller, made.stored, meter);
+    let bounded = is_bounded(state, named.caller, made.stored, clearance, meter);
     [
         access,
         observed,

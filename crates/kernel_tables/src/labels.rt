@@ -88,13 +88,14 @@ fn add_gate(labels: &mut Vec<Label>, gate: &Option<Gate>, meter: &mut Meter) -> 
 fn add_own<S: Store>(
     labels: &mut Vec<Label>,
     state: &S,
-    id: ObjectId,
+    at: S::Location,
     meter: &mut Meter,
 ) -> Result<(), NoMemory>
+    requires { S.stands state.now at }
     ensures { OnOk result (labels.new.items
-        ≡ with_labels labels.old.items (label_list (label_at (S.state state.now) id))) }
+        ≡ with_labels labels.old.items (label_list (label_at (S.state state.now) (S.id_of at)))) }
 {
-    match state.label(id, meter) {
+    match state.label(at) {
         Some(label) => add(labels, label, meter),
         None => Ok(()),
     }
@@ -110,10 +111,11 @@ fn add_object<S: Store>(
     ensures { OnOk result
         (labels.new.items ≡ with_labels labels.old.items (labels_at (S.state state.now) id)) }
 {
-    add_own(labels, state, id, meter)?;
-    let thread = state.thread(id, meter);
+    let at = state.find(id, meter);
+    add_own(labels, state, at, meter)?;
+    let thread = state.thread(at);
     add_thread(labels, &thread, meter)?;
-    let gate = state.gate(id, meter);
+    let gate = state.gate(at);
     add_gate(labels, &gate, meter)
 }
 

@@ -32,9 +32,10 @@ fn uses<S: Store>(
 {
     let mut uses = Vec::new(alloc);
     for id in ids {
+        let at = state.find(*id, meter);
         uses.push(Used {
             id: *id,
-            pages: state.used_pages(*id, meter),
+            pages: state.used_pages(at),
         })?;
     }
     Ok(uses)
@@ -90,7 +91,8 @@ fn add_object<S: Store>(
 ) -> Result<(), NoMemory>
     ensures { OnOk result (shown.new.items ≡ shown.old.items ++ shown_at (S.state state.now) id) }
 {
-    if state.is_live_kind(Kind::Thread, id, meter) {
+    let at = state.find(id, meter);
+    if state.is_live(Kind::Thread, at) {
         add_slots(shown, state, id, 0, 16, meter)
     } else {
         Ok(())

@@ -1,4 +1,7 @@
 //! What walks the places of a pool, by index from 0.
+//!
+//! A new label goes to the place that lost its last owner latest, if that is free, and else to the first free one. Labels
+//! come and go in turn, so most are placed without a walk. No contract tells which free place it is.
 ghost use Rattle.std.specs.Prelude.{◌≡◌, ◌<◌, ◌+◌, ◌*◌, ◌^◌, None, IfSome, IsSome, is_some, not, length};
 ghost use Rattle.label_intern.specs.Held.{held_at, stored, fewer, raised, owners_in};
 ghost use Rattle.label_intern.specs.Fill.{IsFilled};

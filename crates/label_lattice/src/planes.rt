@@ -1,6 +1,11 @@
 //! Labels whose exceptions lie in one block of 64 categories, as bits: two of one block are compared
 //! without a walk. The categories of a block have one 64th part, as 64 that were made one after
 //! another from a multiple of 64 on.
+//!
+//! Categories are numbered as they are made, so what one user makes lies in one block or two. Two labels
+//! of one block are compared by the 25 pairs of their planes, two of different blocks by the levels that
+//! each has beside the other's default. Only where one has no planes are both lists walked. Planes are no
+//! part of a label's value. They take 56 bytes.
 ghost use Rattle.std.specs.Prelude.{◌≡◌, ◌≢◌, ℕ, ◌<◌, ◌==◌, ◌/◌, ◌↔◌, IsTrue, bit_and, if◌then◌else◌};
 ghost use Rattle.std.specs.Int.{bit_at};
 ghost use Rattle.std.specs.List.{list_all};

@@ -8,38 +8,42 @@ ghost use Rattle.kernel_rules.specs.Step.{answer, next, query_answer};
 ghost use Rattle.kernel_rules.specs.Table.{refused, query_refused};
 ghost use Rattle.kernel_rules.specs.declared.calls.Call.TheVariants as call;
 ghost use Rattle.kernel_rules.specs.declared.calls.Query.TheVariants as query;
+ghost use Rattle.kernel_store.specs.Locations.{Stand};
 ghost use Rattle.kernel_store.specs.Storing.{storing};
 
 use base::{Kind, Meter, ObjectId, Refusal};
 use kernel_rules::{NewContainer, Reply};
 use kernel_store::{
-    NewObject, Store, at_container, halted_at, halted_by, itself, new_object, refusal_of, refuse,
-    stored_label, tell_object,
+    Named, NewObject, Store, at_container, find_container, halted, halted_at, look, new_object,
+    refusal_of, refuse, stored_label, tell_object,
 };
 use label_lattice::Label;
 
 // What refuses to make a container, whose label is the stored one, where there is one.
 fn refused_container_create<S: Store>(
     state: &S,
-    thread: ObjectId,
+    named: Named<S::Location>,
     made: &NewContainer,
     label: Option<&Label>,
     meter: &mut Meter,
 ) -> Option<Refusal>
-    requires { option_copied label ≡ stored made.now.label }
-    ensures value { result ≡ refused (S.state state.now) thread (call.ContainerCreate made.now) }
+    requires named { Stand (S.stands state.now) named }
+    requires container { S.id_of named.container ≡ made.now.container }
+    requires label { option_copied label ≡ stored made.now.label }
+    ensures value { result ≡ refused (S.state state.now) (S.id_of named.caller)
+        (call.ContainerCreate made.now) }
     ensures meter { S.kept meter.new ≤ S.kept meter.old + 2 }
 {
     let object = NewObject {
         kind: Kind::Container,
-        container: made.container,
         quota: made.quota,
+        pages: 1,
         label: &made.label,
+        stored: label,
     };
-    let site = state.site(thread, object.kind, made.container, made.quota, None, meter);
     refusal_of(&[
-        &halted_by(&site),
-        &new_object(state, thread, None, &site, &object, label, 1, meter),
+        &halted(state, named.caller),
+        &new_object(state, named, &object, meter),
     ])
 }
 
@@ -59,14 +63,15 @@ pub fn container_create<S: Store>(
     ensures err { OnErr result (S.state state.new ≡ S.state state.old) }
     ensures meter { S.kept meter.new ≤ S.kept meter.old + 3 + storing 1 (S.stored state.old) }
 {
+    let named = find_container(state, thread, made.container, meter);
     let label = stored_label(state, &made.label, meter);
     let label = label.as_ref();
-    if let Some(refusal) = refused_container_create(state, thread, made, label, meter) {
+    if let Some(refusal) = refused_container_create(state, named, made, label, meter) {
         refuse(reply, refusal);
         return Ok(());
     }
-    let kinds = state.joined(made.container, made.avoid, meter);
-    let id = state.create_container(made.container, label, made.quota, kinds, meter)?;
+    let kinds = state.joined(named.container, made.avoid);
+    let id = state.create_container(named.container, label, made.quota, kinds, meter)?;
     tell_object(state, id, reply);
     Ok(())
 }
@@ -74,17 +79,17 @@ pub fn container_create<S: Store>(
 // What refuses to read a container's list.
 fn refused_container_list<S: Store>(
     state: &S,
-    thread: ObjectId,
-    container: ObjectId,
+    named: Named<S::Location>,
     from: u32,
     meter: &mut Meter,
 ) -> Option<Refusal>
-    ensures value { result ≡ query_refused (S.state state.now) thread
-        (query.ContainerList container from) }
+    requires { Stand (S.stands state.now) named }
+    ensures value { result ≡ query_refused (S.state state.now) (S.id_of named.caller)
+        (query.ContainerList (S.id_of named.container) from) }
     ensures meter { S.kept meter.new ≡ S.kept meter.old }
 {
-    let seen = state.sight(thread, &itself(container), meter);
-    let past = state.list_len(container, meter) < from as usize;
+    let seen = look(state, named, meter);
+    let past = state.list_len(named.container, meter) < from as usize;
     refusal_of(&[
         &halted_at(&seen),
         &at_container(&seen),
@@ -106,27 +111,28 @@ pub fn container_list<S: Store>(
         (query.ContainerList container from) }
     ensures meter { S.kept meter.new ≡ S.kept meter.old }
 {
-    if let Some(refusal) = refused_container_list(state, thread, container, from, meter) {
+    let named = find_container(state, thread, container, meter);
+    if let Some(refusal) = refused_container_list(state, named, from, meter) {
         return refuse(reply, refusal);
     }
     *reply = Reply::Listed {
-        count: state.list_len(container, meter) as u64,
-        ids: state.ids_from(container, from, meter),
+        count: state.list_len(named.container, meter) as u64,
+        ids: state.ids_from(named.container, from, meter),
     };
 }
 
 // What refuses to ask for a container's own container.
 fn refused_container_parent<S: Store>(
     state: &S,
-    thread: ObjectId,
-    container: ObjectId,
+    named: Named<S::Location>,
     meter: &mut Meter,
 ) -> Option<Refusal>
-    ensures value { result ≡ query_refused (S.state state.now) thread
-        (query.ContainerParent container) }
+    requires { Stand (S.stands state.now) named }
+    ensures value { result ≡ query_refused (S.state state.now) (S.id_of named.caller)
+        (query.ContainerParent (S.id_of named.container)) }
     ensures meter { S.kept meter.new ≡ S.kept meter.old }
 {
-    let seen = state.sight(thread, &itself(container), meter);
+    let seen = look(state, named, meter);
     refusal_of(&[&halted_at(&seen), &at_container(&seen)])
 }
 
@@ -143,8 +149,9 @@ pub fn container_parent<S: Store>(
         (query.ContainerParent container) }
     ensures meter { S.kept meter.new ≡ S.kept meter.old }
 {
-    if let Some(refusal) = refused_container_parent(state, thread, container, meter) {
+    let named = find_container(state, thread, container, meter);
+    if let Some(refusal) = refused_container_parent(state, named, meter) {
         return refuse(reply, refusal);
     }
-    *reply = Reply::Parent(state.parent(container, meter));
+    *reply = Reply::Parent(state.parent(named.container, meter));
 }

@@ -1,5 +1,9 @@
 //! Hints of where objects are: an id with its slot beside it, at the place that the id's last binary digits name, so
 //! that one read tests it.
+//!
+//! There are eight times as many places as the largest power of two up to the slots, so few ids meet. The first to come has
+//! a place until it goes: what lives long keeps its hint. A hint is a probe, so `find` tests one only where there are fewer
+//! ids than that power of two. Halves of the directory leave that probe then, and the bound stays.
 ghost use Rattle.std.specs.Prelude.{◌≡◌, ◌<◌, [], ◌∷◌, length, IfSome};
 ghost use Rattle.object_arena.specs.Hints.{blank, hint_at, hint_place, IsKeptHint, IsForgotten};
 ghost use Rattle.object_arena.specs.Hints.{IsHintCount};

@@ -321,7 +321,7 @@ def output_of(lines):
 
 def limits_of(options):
     """The limits of a kernel as Rust says them."""
-    named = {'8': 'EIGHT_PAGES', '512': 'MOST_PAGES'}
+    named = {'8': 'EIGHT_PAGES', '1024': 'MOST_PAGES'}
     if list(options) == ['pages'] and options['pages'] in named:
         return named[options['pages']]
     if not options:

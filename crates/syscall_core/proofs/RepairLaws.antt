@@ -25,8 +25,8 @@ use Rattle.translation_rows.specs.Rows.{BySlot}
 use Rattle.arena_state.specs.Shown.{AreKept, AreKeptBut, KeepsAllSlots}
 use Rattle.arena_state.specs.States.{state_of}
 use Rattle.arena_state.specs.Touched.{goes_by, is_same, maps, reaches, reaches_by, touches}
-use Rattle.arena_state.specs.declared.repairs.Change.{Change}
-use Rattle.arena_state.specs.declared.repairs.Change.TheVariants as change
+use Rattle.arena_state.specs.declared.rows.repairs.Change.{Change}
+use Rattle.arena_state.specs.declared.rows.repairs.Change.TheVariants as change
 use Rattle.arena_state.specs.declared.states.ArenaState.{ArenaState}
 use Rattle.arena_state.proofs.RepairedLaws.{rest_live, rest_own, rows_left}
 use Rattle.arena_state.proofs.ShownLaws.{by_own_space}

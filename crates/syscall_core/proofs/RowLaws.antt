@@ -28,17 +28,17 @@ use Rattle.syscall_core.specs.declared.kept_state.KeptState.{KeptState}
 use Rattle.arena_state.specs.declared.states.ArenaState.{ArenaState}
 use Rattle.arena_state.proofs.ShownLaws.{rows_stay, one_remade}
 
--- a pool has at most 512 pages
-pub few_pages : (l : Limits) → in_range l ≡ true → l.pages ≤ 512
+-- a pool has at most 1,024 pages
+pub few_pages : (l : Limits) → in_range l ≡ true → l.pages ≤ 1024
 few_pages l h =
-    leb-true l.pages 512
+    leb-true l.pages 1024
     (and_parts _ _
     (and_parts _ _ (and_parts _ _ (and_parts _ _ (and_parts _ _ (and_parts _ _ h).0).0).0).0).0).1
 
--- an object is found by eleven probes
-pub few_probes : (k : KeptState) → slot_count k.rows ≤ 512 → find_cost k.state ≤ 11
+-- an object is found by twelve probes
+pub few_probes : (k : KeptState) → slot_count k.rows ≤ 1024 → find_cost k.state ≤ 12
 few_probes k few =
-    let le : (state_of k.state).limits.pages ≤ 512 = omega (arith, few, k.kept.size) in
+    let le : (state_of k.state).limits.pages ≤ 1024 = omega (arith, few, k.kept.size) in
     few_find k.state le
 
 -- no change touches the limits

@@ -22,8 +22,8 @@ use Rattle.translation_rows.specs.Rows.{BySlot}
 use Rattle.arena_state.specs.Shown.{AreKept, AreKeptBut, KeepsAllSlots}
 use Rattle.arena_state.specs.States.{state_of}
 use Rattle.arena_state.specs.Touched.{IsUnmapped, goes_by, is_same, maps, reaches, reaches_by}
-use Rattle.arena_state.specs.declared.repairs.Change.{Change}
-use Rattle.arena_state.specs.declared.repairs.Change.TheVariants as change
+use Rattle.arena_state.specs.declared.rows.repairs.Change.{Change}
+use Rattle.arena_state.specs.declared.rows.repairs.Change.TheVariants as change
 use Rattle.arena_state.specs.declared.states.ArenaState.{ArenaState}
 use Rattle.arena_state.proofs.RepairedLaws.{rest_slots}
 use Rattle.kernel_store.specs.Sights.{kind_at, is_of}

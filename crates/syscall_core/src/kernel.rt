@@ -1,4 +1,7 @@
 //! The arena kernel: what it keeps equals recomputation, and no call takes memory after boot.
+//!
+//! A call has 720 bytes and a reply 688, since both can carry three labels. The compiler sets a value that a function makes to
+//! zero first. So calls have a second form that puts the reply where the caller wants it (`step_into`, `ask_into`).
 ghost use Rattle.std.specs.Prelude.{◌≡◌, ◌≤◌, ◌+◌, ◌↔◌, true, false, IfOk, IfSome, IsErrOf, IsTrue, None};
 ghost use Rattle.std.specs.Prelude.{option_copied, option_map, slice_get};
 ghost use Rattle.base.specs.Limits.{in_range};
@@ -7,7 +10,7 @@ ghost use Rattle.kernel_rules.specs.Scratch.{ids_of, scratch};
 ghost use Rattle.kernel_rules.specs.State.{is_live_kind, object_at, use_of};
 ghost use Rattle.kernel_rules.specs.Runs.{booted};
 ghost use Rattle.kernel_rules.specs.WellFormed.{is_well_formed};
-ghost use Rattle.arena_state.specs.Kept.{label_kept, order_kept, AreStored, Stores};
+ghost use Rattle.arena_state.specs.Kept.{AreStored, Stores};
 ghost use Rattle.kernel_rules.specs.Translate.{translate};
 ghost use Rattle.arena_state.specs.States.{state_of};
 
@@ -44,7 +47,7 @@ fn booted_state(alloc: Global, limits: &Limits) -> Result<KeptState, NoMemory>
 
 impl Kernel {
     ghost use Rattle.kernel_rules.specs.Runs.{booted};
-    ghost use Rattle.syscall_core.specs.Kernel.{kernel_state};
+    ghost use Rattle.syscall_core.specs.Kernel.{kernel_state, label_at, order_at};
 
     /// A newly booted kernel: the root container 1, the boot thread 2 and the device 3. All its memory
     /// is taken here. The error is `BadLimits` exactly where a limit is out of its range, and else, for
@@ -87,7 +90,7 @@ impl Kernel {
     /// A law, which does nothing when it is called: the labels of the indexes are those that the state stores. Each stored
     /// label has one index, and no other label has one.
     pub fn labels_are_kept(&self)
-        ensures { AreStored (kernel_state self.now) (label_kept self.now.kept.state) }
+        ensures { AreStored (kernel_state self.now) (label_at self.now) }
     {
         self.kept.state.labels_are_kept();
     }
@@ -95,7 +98,7 @@ impl Kernel {
     /// The label of an index, none where it has none. It is a label that the state stores; `labels_are_kept` says that each
     /// of these has one index.
     pub fn kept_label(&self, index: LabelIx) -> Option<&Label>
-        ensures value { option_copied result ≡ label_kept self.now.kept.state index.0 }
+        ensures value { option_copied result ≡ label_at self.now index.0 }
         ensures stored { IfSome result (λ label. Stores (kernel_state self.now) label.now) }
     {
         self.labels_are_kept();
@@ -105,7 +108,7 @@ impl Kernel {
     /// How the label of an index compares with that of another, none exactly where one of the two has none. No label is
     /// scanned.
     pub fn kept_order(&self, one: LabelIx, other: LabelIx) -> Option<OrderBits>
-        ensures { option_map (λ o. o.0) result ≡ order_kept self.now.kept.state one.0 other.0 }
+        ensures { option_map (λ o. o.0) result ≡ order_at self.now one.0 other.0 }
     {
         self.kept.state.kept_order(one, other)
     }

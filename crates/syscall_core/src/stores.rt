@@ -3,15 +3,15 @@
 ghost use Rattle.std.specs.Prelude.{◌≡◌, ◌||◌};
 ghost use Rattle.base.specs.declared.kinds.Kind.TheVariants as kinds;
 ghost use Rattle.arena_state.specs.Shown.{AreKept, AreKeptBut};
-ghost use Rattle.arena_state.specs.declared.repairs.Change.TheVariants as touched;
+ghost use Rattle.arena_state.specs.declared.rows.repairs.Change.TheVariants as touched;
 ghost use Rattle.kernel_store.specs.Sights.{is_of};
 ghost use Rattle.syscall_core.specs.Kernel.{cut_touches, may_be_of_kind};
 
 use crate::kept_state::KeptState;
-use arena_state::{ArenaState, Change};
-use base::{Data, Kind, Meter, ObjectId, Rights, Slot, TypeSet};
+use arena_state::{ArenaState, Change, Location};
+use base::{Data, Kind, Meter, ObjectId, Rights, TypeSet};
 use kernel_rules::{Entry, Gate, Ids, Mapping, Place, Thread};
-use kernel_store::{LinkSite, Sight, Site, Spot, Store, WideSight};
+use kernel_store::{Named, Seen, Store};
 use label_lattice::Label;
 use std::convert::Infallible;
 use translation_rows::Rows;
@@ -97,7 +97,8 @@ impl Store for KeptState {
     ghost use Rattle.arena_state.proofs.LookLaws.{no_looks, more_looks, both_looks};
     ghost use Rattle.arena_state.proofs.StockLaws.{whole_formed};
     ghost use Rattle.arena_state.specs.Looks.{Looks};
-    ghost use Rattle.arena_state.specs.States.{labels_stored, state_of, HasRow};
+    ghost use Rattle.arena_state.specs.States.{labels_stored, state_of, Stands};
+    ghost use Rattle.arena_state.specs.declared.locations.Location.{Location};
 
     ghost state = { λ k. state_of k.state };
 
@@ -107,137 +108,110 @@ impl Store for KeptState {
 
     ghost spends = { Looks };
 
-    ghost lies = { λ k. HasRow k.state };
+    type Location = Location;
+
+    ghost id_of = { λ (l : Location). l.id };
+
+    ghost stands = { λ k. Stands k.state };
 
     type Want = Infallible;
 
     #[inline(always)]
-    fn spot(&self, thread: ObjectId, entry: &Entry) -> Option<Spot> {
-        self.state.spot(thread, entry)
+    fn id(&self, at: Location) -> ObjectId {
+        at.id
     }
 
-    fn is_live_kind(&self, kind: Kind, id: ObjectId, meter: &mut Meter) -> bool {
+    #[inline(always)]
+    fn find(&self, id: ObjectId, meter: &mut Meter) -> Location {
         self.rows.few();
-        self.state.is_live_kind(kind, id, meter)
-    }
-
-    fn sight(&self, thread: ObjectId, entry: &Entry, meter: &mut Meter) -> Sight {
-        self.state.sight(thread, entry, meter)
+        self.state.find(id, meter)
     }
 
     #[inline(always)]
-    fn wide_sight(
-        &self,
-        thread: ObjectId,
-        entry: &Entry,
-        spot: Option<Spot>,
-        meter: &mut Meter,
-    ) -> WideSight {
-        self.state.wide_sight(thread, entry, spot, meter)
+    fn peek(&self, thread: ObjectId, entry: &Entry) -> Option<Named<Location>> {
+        self.state.peek_all(thread, entry)
     }
 
     #[inline(always)]
-    fn site(
-        &self,
-        thread: ObjectId,
-        kind: Kind,
-        container: ObjectId,
-        quota: u32,
-        spot: Option<Spot>,
-        meter: &mut Meter,
-    ) -> Site {
-        self.state.site(thread, kind, container, quota, spot, meter)
+    fn is_live(&self, kind: Kind, at: Location) -> bool {
+        self.state.is_live(kind, at)
     }
 
     #[inline(always)]
-    fn link_site(
-        &self,
-        thread: ObjectId,
-        container: ObjectId,
-        entry: &Entry,
-        to_come: Option<Spot>,
-        spot: Option<Spot>,
-        meter: &mut Meter,
-    ) -> LinkSite {
-        self.state
-            .link_site(thread, container, entry, to_come, spot, meter)
-    }
-
-    fn is_there(&self, id: ObjectId, meter: &mut Meter) -> bool {
-        self.state.is_there(id, meter)
-    }
-
-    fn is_cleared(&self, thread: ObjectId, id: ObjectId, meter: &mut Meter) -> bool {
-        self.state.is_cleared(thread, id, meter)
+    fn seen(&self, caller: Location, at: Location, _meter: &mut Meter) -> Seen {
+        self.state.seen(caller, at)
     }
 
     #[inline(always)]
-    fn label(&self, id: ObjectId, meter: &mut Meter) -> Option<&Label> {
-        self.state.label(id, meter)
+    fn lists(&self, container: Location, object: Location, meter: &mut Meter) -> bool {
+        self.state.lists(container, object, meter)
     }
 
     #[inline(always)]
-    fn clearance(&self, thread: ObjectId, meter: &mut Meter) -> Option<&Label> {
-        self.state.clearance(thread, meter)
+    fn avoids(&self, kind: Kind, container: Location) -> bool {
+        self.state.avoids(kind, container)
+    }
+
+    fn is_there(&self, at: Location) -> bool {
+        self.state.is_there(at)
     }
 
     #[inline(always)]
-    fn bounds(
-        &self,
-        thread: ObjectId,
-        slot: Option<Slot>,
-        meter: &mut Meter,
-    ) -> (Option<&Label>, Option<&Label>) {
-        self.state.bounds(thread, slot, meter)
+    fn is_cleared(&self, caller: Location, at: Location, _meter: &mut Meter) -> bool {
+        self.state.is_cleared(caller, at)
     }
 
-    fn is_fixed(&self, id: ObjectId, meter: &mut Meter) -> bool {
-        self.state.is_fixed(id, meter)
+    #[inline(always)]
+    fn label(&self, at: Location) -> Option<&Label> {
+        self.state.label(at)
     }
 
-    fn is_immutable(&self, id: ObjectId, meter: &mut Meter) -> bool {
-        self.state.is_immutable(id, meter)
+    #[inline(always)]
+    fn clearance(&self, thread: Location) -> Option<&Label> {
+        self.state.clearance(thread)
     }
 
-    fn quota(&self, id: ObjectId, meter: &mut Meter) -> u32 {
-        self.state.quota(id, meter)
+    fn is_fixed(&self, at: Location) -> bool {
+        self.state.is_fixed(at)
     }
 
-    fn used_pages(&self, id: ObjectId, meter: &mut Meter) -> u32 {
-        self.state.used_pages(id, meter)
+    fn is_immutable(&self, at: Location) -> bool {
+        self.state.is_immutable(at)
     }
 
-    fn is_over(&self, container: ObjectId, pages: u32, meter: &mut Meter) -> bool {
-        self.state.is_over(container, pages, meter)
+    #[inline(always)]
+    fn quota(&self, at: Location) -> u32 {
+        self.state.quota(at)
     }
 
-    fn joined(&self, container: ObjectId, kinds: TypeSet, meter: &mut Meter) -> TypeSet {
-        self.state.joined(container, kinds, meter)
+    fn used_pages(&self, at: Location) -> u32 {
+        self.state.used_pages(at)
     }
 
-    fn list_len(&self, container: ObjectId, meter: &mut Meter) -> usize {
+    #[inline(always)]
+    fn is_over(&self, container: Location, pages: u32) -> bool {
+        self.state.is_over(container, pages)
+    }
+
+    fn joined(&self, container: Location, kinds: TypeSet) -> TypeSet {
+        self.state.joined(container, kinds)
+    }
+
+    fn list_len(&self, container: Location, meter: &mut Meter) -> usize {
         self.state.list_len(container, meter)
     }
 
-    fn ids_from(&self, container: ObjectId, from: u32, meter: &mut Meter) -> Ids {
+    fn ids_from(&self, container: Location, from: u32, meter: &mut Meter) -> Ids {
         self.state.ids_from(container, from, meter)
     }
 
-    fn parent(&self, container: ObjectId, meter: &mut Meter) -> ObjectId {
-        self.state.parent(container, meter)
+    fn parent(&self, container: Location, meter: &mut Meter) -> ObjectId {
+        self.state.parent(container.id, meter)
     }
 
     #[inline(always)]
-    fn bytes_from(
-        &self,
-        id: ObjectId,
-        slot: Option<Slot>,
-        from: usize,
-        count: u32,
-        meter: &mut Meter,
-    ) -> Data {
-        self.rows.few();
-        self.state.bytes_from(id, slot, from, count, meter)
+    fn bytes_from(&self, at: Location, from: usize, count: u32, meter: &mut Meter) -> Data {
+        self.state.bytes_from(at, from, count, meter)
     }
 
     #[inline(always)]
@@ -246,36 +220,36 @@ impl Store for KeptState {
         self.state.place(thread, address, &self.rows, meter)
     }
 
-    fn is_shown(&self, thread: ObjectId, id: ObjectId, meter: &mut Meter) -> bool {
-        self.state.is_shown(thread, id, meter)
+    fn is_shown(&self, caller: Location, at: Location, _meter: &mut Meter) -> bool {
+        self.state.is_shown(caller, at)
     }
 
-    fn page_count(&self, id: ObjectId, meter: &mut Meter) -> u32 {
-        self.state.page_count(id, meter)
+    fn page_count(&self, at: Location) -> u32 {
+        self.state.page_count(at)
     }
 
-    fn slots(&self, id: ObjectId, meter: &mut Meter) -> &[Option<Mapping>] {
-        self.state.slots(id, meter)
+    fn slots(&self, at: Location) -> &[Option<Mapping>] {
+        self.state.slots(at)
     }
 
-    fn slot(&self, id: ObjectId, slot: usize, meter: &mut Meter) -> Option<Mapping> {
-        self.state.mapped(id, slot, meter)
+    fn slot(&self, at: Location, slot: usize) -> Option<Mapping> {
+        self.state.mapped(at, slot)
     }
 
-    fn packets(&self, id: ObjectId, meter: &mut Meter) -> &[Data] {
-        self.state.packets(id, meter)
+    fn packets(&self, at: Location) -> &[Data] {
+        self.state.packets(at)
     }
 
-    fn metadata(&self, id: ObjectId, meter: &mut Meter) -> Option<Data> {
-        self.state.metadata(id, meter)
+    fn metadata(&self, at: Location) -> Option<Data> {
+        self.state.metadata(at)
     }
 
-    fn gate(&self, id: ObjectId, meter: &mut Meter) -> Option<Gate> {
-        self.state.gate(id, meter)
+    fn gate(&self, at: Location) -> Option<Gate> {
+        self.state.gate(at)
     }
 
-    fn thread(&self, id: ObjectId, meter: &mut Meter) -> Option<Thread> {
-        self.state.thread(id, meter)
+    fn thread(&self, at: Location) -> Option<Thread> {
+        self.state.thread(at)
     }
 
     fn translate(
@@ -302,18 +276,17 @@ impl Store for KeptState {
     #[inline(always)]
     fn link(
         &mut self,
-        thread: ObjectId,
-        container: ObjectId,
-        entry: &Entry,
-        to_come: Option<Spot>,
+        target: Location,
+        container: Location,
+        object: Location,
         meter: &mut Meter,
     ) -> Result<(), Infallible> {
         let linked = Entry {
-            container,
-            object: entry.object,
+            container: target.id,
+            object: object.id,
         };
         let is_mapped = self.state.may_map(linked.object);
-        let kind = self.state.link(thread, container, entry, to_come, meter);
+        let kind = self.state.link(target, container, object, meter);
         if may_touch(kind, is_mapped) {
             repair_entry(&self.state, &linked, &mut self.rows, meter);
         }
@@ -323,118 +296,130 @@ impl Store for KeptState {
     #[inline(always)]
     fn unref(
         &mut self,
-        thread: ObjectId,
-        entry: &Entry,
-        spot: Option<Spot>,
+        container: Location,
+        object: Location,
         meter: &mut Meter,
     ) -> Result<(), Infallible> {
+        let entry = Entry {
+            container: container.id,
+            object: object.id,
+        };
         let is_mapped = self.state.may_map(entry.object);
-        let kind = self.state.unref(thread, entry, spot, meter);
+        let kind = self.state.unref(container, object, meter);
         if cut_may_touch(kind, is_mapped) {
             let is_container = is_container(kind);
-            repair_cut(&self.state, is_container, entry, &mut self.rows, meter);
+            repair_cut(&self.state, is_container, &entry, &mut self.rows, meter);
         }
         Ok(())
     }
 
-    fn set_fixed(&mut self, id: ObjectId, meter: &mut Meter) {
-        self.state.set_fixed(id, meter);
+    fn set_fixed(&mut self, at: Location) {
+        self.state.set_fixed(at);
     }
 
-    fn quota_move(&mut self, entry: &Entry, up: u32, down: u32, meter: &mut Meter) {
-        self.state.quota_move(entry, up, down, meter);
+    fn quota_move(&mut self, container: Location, object: Location, up: u32, down: u32) {
+        self.state.quota_move(container, object, up, down);
     }
 
     #[inline(always)]
-    fn write_bytes(
-        &mut self,
-        id: ObjectId,
-        slot: Option<Slot>,
-        at: usize,
-        given: &[u8],
-        meter: &mut Meter,
-    ) {
-        self.state.write_bytes(id, slot, at, given, meter);
+    fn write_bytes(&mut self, segment: Location, at: usize, given: &[u8], meter: &mut Meter) {
+        self.state.write_bytes(segment, at, given, meter);
     }
 
-    fn resize(&mut self, id: ObjectId, pages: u32, meter: &mut Meter) -> Result<(), Infallible> {
-        self.state.resize(id, pages, meter);
+    fn resize(
+        &mut self,
+        segment: Location,
+        pages: u32,
+        meter: &mut Meter,
+    ) -> Result<(), Infallible> {
+        self.state.resize(segment, pages, meter);
         Ok(())
     }
 
-    fn set_slot(&mut self, id: ObjectId, slot: usize, mapping: Option<Mapping>, meter: &mut Meter) {
-        self.state.set_slot(id, slot, mapping, meter);
+    fn set_slot(
+        &mut self,
+        space: Location,
+        slot: usize,
+        mapping: Option<Mapping>,
+        meter: &mut Meter,
+    ) {
+        let id = space.id;
+        self.state.set_slot(space, slot, mapping, meter);
         self.state.repair(&Change::Space(id), &mut self.rows, meter);
     }
 
     fn dev_send(
         &mut self,
-        id: ObjectId,
+        device: Location,
         packet: Data,
         meter: &mut Meter,
     ) -> Result<(), Infallible> {
-        self.state.dev_send(id, packet, meter);
+        self.state.dev_send(device, packet, meter);
         Ok(())
     }
 
-    fn dev_recv(&mut self, id: ObjectId, meter: &mut Meter) {
-        self.state.dev_recv(id, meter);
+    fn dev_recv(&mut self, device: Location, meter: &mut Meter) {
+        self.state.dev_recv(device, meter);
     }
 
-    fn set_immutable(&mut self, id: ObjectId, meter: &mut Meter) {
-        self.state.set_immutable(id, meter);
+    fn set_immutable(&mut self, at: Location, meter: &mut Meter) {
+        let id = at.id;
+        self.state.set_immutable(at);
         if self.state.may_map(id) {
             self.state
                 .repair(&Change::Object(id), &mut self.rows, meter);
         }
     }
 
-    fn meta_set(&mut self, id: ObjectId, given: &Data, meter: &mut Meter) {
-        self.state.meta_set(id, given, meter);
+    fn meta_set(&mut self, at: Location, given: &Data) {
+        self.state.meta_set(at, given);
     }
 
-    fn set_label(&mut self, thread: ObjectId, label: Option<&Label>, meter: &mut Meter) {
-        self.state.give_label(thread, label, meter);
-        self.state.remake_row(thread, &mut self.rows, meter);
+    fn set_label(&mut self, thread: Location, label: Option<&Label>, meter: &mut Meter) {
+        let id = thread.id;
+        self.state.give_label(id, label, meter);
+        self.state.remake_row(id, &mut self.rows, meter);
     }
 
-    fn set_clearance(&mut self, thread: ObjectId, clearance: Option<&Label>, meter: &mut Meter) {
-        self.state.give_clearance(thread, clearance, meter);
+    fn set_clearance(&mut self, thread: Location, clearance: Option<&Label>, meter: &mut Meter) {
+        self.state.give_clearance(thread.id, clearance, meter);
     }
 
-    fn set_space(&mut self, thread: ObjectId, space: Entry, meter: &mut Meter) {
-        self.state.set_space(thread, space, meter);
-        self.state.remake_row(thread, &mut self.rows, meter);
+    fn set_space(&mut self, thread: Location, space: Entry, meter: &mut Meter) {
+        let id = thread.id;
+        self.state.set_space(thread, space);
+        self.state.remake_row(id, &mut self.rows, meter);
     }
 
     fn own_category(
         &mut self,
-        thread: ObjectId,
+        thread: Location,
         label: Option<&Label>,
         clearance: Option<&Label>,
         meter: &mut Meter,
     ) {
-        self.state.own_category(thread, label, clearance, meter);
-        self.state.remake_row(thread, &mut self.rows, meter);
+        let id = thread.id;
+        self.state.own_category(id, label, clearance, meter);
+        self.state.remake_row(id, &mut self.rows, meter);
     }
 
     fn enter(
         &mut self,
-        thread: ObjectId,
+        thread: Location,
         label: &Label,
         clearance: &Label,
         verify: &Label,
         gate: &Gate,
         meter: &mut Meter,
     ) {
-        self.state
-            .enter(thread, label, clearance, verify, gate, meter);
-        self.state.remake_row(thread, &mut self.rows, meter);
+        let id = thread.id;
+        self.state.enter(id, label, clearance, verify, gate, meter);
+        self.state.remake_row(id, &mut self.rows, meter);
     }
 
     fn create_container(
         &mut self,
-        container: ObjectId,
+        container: Location,
         label: Option<&Label>,
         quota: u32,
         kinds: TypeSet,
@@ -449,7 +434,7 @@ impl Store for KeptState {
 
     fn create_segment(
         &mut self,
-        container: ObjectId,
+        container: Location,
         label: Option<&Label>,
         quota: u32,
         pages: u32,
@@ -464,10 +449,10 @@ impl Store for KeptState {
 
     fn create_copy(
         &mut self,
-        container: ObjectId,
+        container: Location,
         label: Option<&Label>,
         quota: u32,
-        source: ObjectId,
+        source: Location,
         meter: &mut Meter,
     ) -> Result<ObjectId, Infallible> {
         let id = self.state.make_copy(container, label, quota, source, meter);
@@ -477,7 +462,7 @@ impl Store for KeptState {
 
     fn create_space(
         &mut self,
-        container: ObjectId,
+        container: Location,
         label: Option<&Label>,
         quota: u32,
         meter: &mut Meter,
@@ -489,7 +474,7 @@ impl Store for KeptState {
 
     fn create_thread(
         &mut self,
-        container: ObjectId,
+        container: Location,
         label: Option<&Label>,
         quota: u32,
         clearance: &Label,
@@ -505,7 +490,7 @@ impl Store for KeptState {
 
     fn create_gate(
         &mut self,
-        container: ObjectId,
+        container: Location,
         label: Option<&Label>,
         quota: u32,
         gate: &Gate,

@@ -23,5 +23,5 @@ pub use limits::{EIGHT_PAGES, LIMITS, MOST_PAGES};
 pub use memory::meter_again;
 pub use objects::{boot_thread, device, in_root, no_entry};
 pub use replies::{answered, is_data, is_done, is_number, is_object, made, object_in, refusal_in};
-pub use streams::Broken;
+pub use streams::{Broken, Holding, Portions};
 pub use tables::{are_equal, is_labelled, is_shown};

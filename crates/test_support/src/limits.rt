@@ -14,6 +14,6 @@ pub const EIGHT_PAGES: Limits = Limits { pages: 8, ..LIMITS };
 
 /// The same with the most pages that there can be.
 pub const MOST_PAGES: Limits = Limits {
-    pages: 512,
+    pages: 1024,
     ..LIMITS
 };

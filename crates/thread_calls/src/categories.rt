@@ -18,48 +18,56 @@ use label_lattice::Label;
 use label_rules::with_category;
 
 /// The thread's label with the next category as its own, where it has room for it.
-fn own_label<S: Store>(state: &S, thread: ObjectId, meter: &mut Meter) -> Option<Label>
-    ensures value { result ≡ own_label (S.state state.now) thread }
+fn own_label<S: Store>(state: &S, caller: S::Location, meter: &mut Meter) -> Option<Label>
+    requires { S.stands state.now caller }
+    ensures value { result ≡ own_label (S.state state.now) (S.id_of caller) }
     ensures fit { IfSome result IsStored }
     ensures meter { S.kept meter.new ≤ S.kept meter.old + 1 }
 {
     let category = Category(state.next_category());
-    match state.label(thread, meter) {
+    match state.label(caller) {
         None => None,
         Some(label) => with_category(label, category, Level::Star, meter),
     }
 }
 
 /// Its clearance with the next category at 3, where it has room for it.
-fn own_clearance<S: Store>(state: &S, thread: ObjectId, meter: &mut Meter) -> Option<Label>
-    ensures value { result ≡ own_clearance (S.state state.now) thread }
+fn own_clearance<S: Store>(state: &S, caller: S::Location, meter: &mut Meter) -> Option<Label>
+    requires { S.stands state.now caller }
+    ensures value { result ≡ own_clearance (S.state state.now) (S.id_of caller) }
     ensures fit { IfSome result IsStored }
     ensures meter { S.kept meter.new ≤ S.kept meter.old + 1 }
 {
     let category = Category(state.next_category());
-    match state.clearance(thread, meter) {
+    match state.clearance(caller) {
         None => None,
         Some(clearance) => with_category(clearance, category, Level::L3, meter),
     }
 }
 
-fn is_full<S: Store>(state: &S, thread: ObjectId, meter: &mut Meter) -> bool
-    ensures value { result ≡ (is_none (own_label (S.state state.now) thread)
-        || is_none (own_clearance (S.state state.now) thread)) }
+fn is_full<S: Store>(state: &S, caller: S::Location, meter: &mut Meter) -> bool
+    requires { S.stands state.now caller }
+    ensures value { result ≡ (is_none (own_label (S.state state.now) (S.id_of caller))
+        || is_none (own_clearance (S.state state.now) (S.id_of caller))) }
     ensures meter { S.kept meter.new ≤ S.kept meter.old + 2 }
 {
-    own_label(state, thread, meter).is_none() || own_clearance(state, thread, meter).is_none()
+    own_label(state, caller, meter).is_none() || own_clearance(state, caller, meter).is_none()
 }
 
 // What refuses to make a category.
-fn refused_cat_create<S: Store>(state: &S, thread: ObjectId, meter: &mut Meter) -> Option<Refusal>
-    ensures value { result ≡ refused (S.state state.now) thread call.CatCreate }
+fn refused_cat_create<S: Store>(
+    state: &S,
+    caller: S::Location,
+    meter: &mut Meter,
+) -> Option<Refusal>
+    requires { S.stands state.now caller }
+    ensures value { result ≡ refused (S.state state.now) (S.id_of caller) call.CatCreate }
     ensures meter { S.kept meter.new ≤ S.kept meter.old + 2 }
 {
-    let full = is_full(state, thread, meter);
+    let full = is_full(state, caller, meter);
     let spent = 1 << 61 <= state.next_category();
     refusal_of(&[
-        &halted(state, thread, meter),
+        &halted(state, caller),
         &[(Refusal::LabelFull, full), (Refusal::Spent, spent)],
     ])
 }
@@ -88,12 +96,13 @@ pub fn cat_create<S: Store>(state: &mut S, thread: ObjectId, reply: &mut Reply, 
     ensures state { S.state state.new ≡ next (S.state state.old) thread call.CatCreate }
     ensures meter { S.kept meter.new ≤ S.kept meter.old + 4 + storing 2 (S.stored state.old) }
 {
-    if let Some(refusal) = refused_cat_create(state, thread, meter) {
+    let caller = state.find(thread, meter);
+    if let Some(refusal) = refused_cat_create(state, caller, meter) {
         return refuse(reply, refusal);
     }
     let category = Category(state.next_category());
-    let label = own_label(state, thread, meter);
-    let clearance = own_clearance(state, thread, meter);
-    state.own_category(thread, label.as_ref(), clearance.as_ref(), meter);
+    let label = own_label(state, caller, meter);
+    let clearance = own_clearance(state, caller, meter);
+    state.own_category(caller, label.as_ref(), clearance.as_ref(), meter);
     tell_category(state, category, reply);
 }

@@ -11,13 +11,15 @@ ghost use Rattle.kernel_rules.specs.Step.{answer, next, through_gate, told_by};
 ghost use Rattle.kernel_rules.specs.Table.{refused, own_bearer, gate_bearer};
 ghost use Rattle.kernel_rules.specs.declared.calls.Call.TheVariants as call;
 ghost use Rattle.kernel_rules.specs.declared.replies.Reply.TheVariants as told;
+ghost use Rattle.kernel_store.specs.Locations.{Stand, entry_of};
 ghost use Rattle.kernel_store.specs.Storing.{storing};
 
 use base::{Kind, Meter, ObjectId, Refusal};
 use kernel_rules::{Entry, Gate, NewGate, Reply};
 use kernel_store::{
-    NewObject, Store, good_label, halted_at, in_container, new_bearer, of_kind, refusal_of, refuse,
-    space_entry, stored_label, tell_done, tell_object,
+    Named, NewObject, Store, find_all, find_container, good_label, halted_at, in_container, look,
+    look_at, new_bearer, of_kind, refusal_of, refuse, space_entry, stored_label, tell_done,
+    tell_object,
 };
 use label_lattice::{Label, RawLabel};
 use label_rules::{Asked, Bearer, may_enter};
@@ -25,31 +27,73 @@ use label_rules::{Asked, Bearer, may_enter};
 // What refuses to make a gate, whose label and clearance are the stored ones, where there are any.
 fn refused_gate_create<S: Store>(
     state: &S,
-    thread: ObjectId,
+    named: Named<S::Location>,
     made: &NewGate,
     label: Option<&Label>,
     clearance: Option<&Label>,
     meter: &mut Meter,
 ) -> Option<Refusal>
+    requires named { Stand (S.stands state.now) named }
+    requires container { S.id_of named.container ≡ made.now.container }
     requires label { option_copied label ≡ stored made.now.label }
     requires clearance { option_copied clearance ≡ stored made.now.clearance }
-    ensures value { result ≡ refused (S.state state.now) thread (call.GateCreate made.now) }
+    ensures value { result ≡ refused (S.state state.now) (S.id_of named.caller)
+        (call.GateCreate made.now) }
     ensures meter { S.kept meter.new ≤ S.kept meter.old + 3 }
 {
-    let space = state.sight(thread, &made.space, meter);
+    let space = look_at(state, named.caller, &made.space, meter);
     let object = NewObject {
         kind: Kind::Gate,
-        container: made.container,
         quota: made.quota,
+        pages: 1,
         label: &made.label,
+        stored: label,
     };
-    let site = state.site(thread, object.kind, made.container, made.quota, None, meter);
-    let raw = &made.clearance;
     refusal_of(&[
         &halted_at(&space),
         &space_entry(&made.space, &space),
-        &new_bearer(state, thread, &site, &object, label, raw, clearance, meter),
+        &new_bearer(state, named, &object, &made.clearance, clearance, meter),
     ])
+}
+
+// As `gate_create` says, in the container that lies there.
+fn create_gate_in<S: Store>(
+    state: &mut S,
+    named: Named<S::Location>,
+    made: &NewGate,
+    reply: &mut Reply,
+    meter: &mut Meter,
+) -> Result<(), S::Want>
+    requires named { Stand (S.stands state.old) named }
+    requires container { S.id_of named.container ≡ made.now.container }
+    ensures reply { OnOk result (reply.new ≡ answer (S.state state.old) (S.id_of named.caller)
+        (call.GateCreate made.now)) }
+    ensures ok { OnOk result (S.state state.new ≡ next (S.state state.old) (S.id_of named.caller)
+        (call.GateCreate made.now)) }
+    ensures err { OnErr result (S.state state.new ≡ S.state state.old) }
+    ensures meter { S.kept meter.new ≤ S.kept meter.old + 5 + storing 2 (S.stored state.old) }
+{
+    let label = stored_label(state, &made.label, meter);
+    let label = label.as_ref();
+    let clearance = stored_label(state, &made.clearance, meter);
+    let clearance = clearance.as_ref();
+    if let Some(refusal) = refused_gate_create(state, named, made, label, clearance, meter) {
+        refuse(reply, refusal);
+        return Ok(());
+    }
+    let Some(clearance) = clearance else {
+        tell_object(state, state.next_id(), reply);
+        return Ok(());
+    };
+    let gate = Gate {
+        clearance: *clearance,
+        space: made.space,
+        entry_point: made.entry_point,
+        closure: made.closure,
+    };
+    let id = state.create_gate(named.container, label, made.quota, &gate, meter)?;
+    tell_object(state, id, reply);
+    Ok(())
 }
 
 /// Makes a gate, or tells what refuses to. The error is want of memory, and nothing is changed then.
@@ -68,67 +112,49 @@ pub fn gate_create<S: Store>(
     ensures err { OnErr result (S.state state.new ≡ S.state state.old) }
     ensures meter { S.kept meter.new ≤ S.kept meter.old + 5 + storing 2 (S.stored state.old) }
 {
-    let label = stored_label(state, &made.label, meter);
-    let label = label.as_ref();
-    let clearance = stored_label(state, &made.clearance, meter);
-    let clearance = clearance.as_ref();
-    if let Some(refusal) = refused_gate_create(state, thread, made, label, clearance, meter) {
-        refuse(reply, refusal);
-        return Ok(());
-    }
-    let Some(clearance) = clearance else {
-        tell_object(state, state.next_id(), reply);
-        return Ok(());
-    };
-    let gate = Gate {
-        clearance: *clearance,
-        space: made.space,
-        entry_point: made.entry_point,
-        closure: made.closure,
-    };
-    let id = state.create_gate(made.container, label, made.quota, &gate, meter)?;
-    tell_object(state, id, reply);
-    Ok(())
+    let named = find_container(state, thread, made.container, meter);
+    create_gate_in(state, named, made, reply, meter)
 }
 
-fn own_bearer<S: Store>(state: &S, thread: ObjectId, meter: &mut Meter) -> Bearer
-    ensures value { result ≡ own_bearer (S.state state.now) thread }
-    ensures meter { S.kept meter.new ≡ S.kept meter.old }
+fn own_bearer<S: Store>(state: &S, caller: S::Location) -> Bearer
+    requires { S.stands state.now caller }
+    ensures { result ≡ own_bearer (S.state state.now) (S.id_of caller) }
 {
-    let (label, clearance) = state.bounds(thread, None, meter);
     Bearer {
-        label: label.copied(),
-        clearance: clearance.copied(),
+        label: state.label(caller).copied(),
+        clearance: state.clearance(caller).copied(),
     }
 }
 
-fn gate_bearer<S: Store>(state: &S, gate: ObjectId, meter: &mut Meter) -> Bearer
-    ensures value { result ≡ gate_bearer (S.state state.now) gate }
-    ensures meter { S.kept meter.new ≡ S.kept meter.old }
+fn gate_bearer<S: Store>(state: &S, gate: S::Location) -> Bearer
+    requires { S.stands state.now gate }
+    ensures { result ≡ gate_bearer (S.state state.now) (S.id_of gate) }
 {
-    let clearance = match state.gate(gate, meter) {
+    let clearance = match state.gate(gate) {
         None => None,
         Some(gate) => Some(gate.clearance),
     };
     Bearer {
-        label: state.label(gate, meter).copied(),
+        label: state.label(gate).copied(),
         clearance,
     }
 }
 
 fn is_open<S: Store>(
     state: &S,
-    thread: ObjectId,
-    gate: ObjectId,
+    caller: S::Location,
+    gate: S::Location,
     asked: &Asked,
     meter: &mut Meter,
 ) -> bool
-    ensures value { result ≡ may_enter (own_bearer (S.state state.now) thread)
-        (gate_bearer (S.state state.now) gate) asked.now }
+    requires caller { S.stands state.now caller }
+    requires gate { S.stands state.now gate }
+    ensures value { result ≡ may_enter (own_bearer (S.state state.now) (S.id_of caller))
+        (gate_bearer (S.state state.now) (S.id_of gate)) asked.now }
     ensures meter { S.kept meter.new ≤ S.kept meter.old + 5 }
 {
-    let own = own_bearer(state, thread, meter);
-    let gate = gate_bearer(state, gate, meter);
+    let own = own_bearer(state, caller);
+    let gate = gate_bearer(state, gate);
     may_enter(&own, &gate, asked, meter)
 }
 
@@ -146,22 +172,22 @@ pub struct Entering<'a> {
 // What refuses to enter a gate by these labels, as they are stored, where they can be.
 fn refused_gate_enter<S: Store>(
     state: &S,
-    thread: ObjectId,
-    gate: &Entry,
+    named: Named<S::Location>,
     entering: &Entering,
     asked: &Asked,
     meter: &mut Meter,
 ) -> Option<Refusal>
+    requires named { Stand (S.stands state.now) named }
     requires label { asked.now.label ≡ stored entering.now.label.now }
     requires clearance { asked.now.clearance ≡ stored entering.now.clearance.now }
     requires verify { asked.now.verify ≡ stored entering.now.verify.now }
-    ensures value { result ≡ refused (S.state state.now) thread
-        (call.GateEnter gate.now entering.now.label.now
+    ensures value { result ≡ refused (S.state state.now) (S.id_of named.caller)
+        (call.GateEnter (entry_of S.id_of named) entering.now.label.now
         entering.now.clearance.now entering.now.verify.now) }
     ensures meter { S.kept meter.new ≤ S.kept meter.old + 5 }
 {
-    let seen = state.sight(thread, gate, meter);
-    let open = is_open(state, thread, gate.object, asked, meter);
+    let seen = look(state, named, meter);
+    let open = is_open(state, named.caller, named.object, asked, meter);
     refusal_of(&[
         &halted_at(&seen),
         &in_container(&seen),
@@ -175,17 +201,18 @@ fn refused_gate_enter<S: Store>(
 
 fn enter<S: Store>(
     state: &mut S,
-    thread: ObjectId,
+    thread: S::Location,
     asked: &Asked,
     gate: &Option<Gate>,
     meter: &mut Meter,
 )
-    requires thread { is_kind_at (S.state state.old) kinds.Thread thread ≡ true }
+    requires there { S.stands state.old thread }
+    requires thread { is_kind_at (S.state state.old) kinds.Thread (S.id_of thread) ≡ true }
     requires gate { (id : ℕ) × (gate.now ≡ gate_at (S.state state.old) id) }
     requires label { IfSome asked.now.label IsStored }
     requires clearance { IfSome asked.now.clearance IsStored }
     requires verify { IfSome asked.now.verify IsStored }
-    ensures state { S.state state.new ≡ through_gate (S.state state.old) thread
+    ensures state { S.state state.new ≡ through_gate (S.state state.old) (S.id_of thread)
         asked.now.label asked.now.clearance asked.now.verify gate.now }
     ensures meter { S.kept meter.new
         ≤ S.kept meter.old + storing 3 (S.stored state.old) }
@@ -214,6 +241,37 @@ fn tell(gate: &Option<Gate>, reply: &mut Reply)
     }
 }
 
+// As `gate_enter` says, of a gate that was found.
+fn enter_found<S: Store>(
+    state: &mut S,
+    named: Named<S::Location>,
+    entering: &Entering,
+    reply: &mut Reply,
+    meter: &mut Meter,
+)
+    requires { Stand (S.stands state.old) named }
+    ensures reply { reply.new ≡ answer (S.state state.old) (S.id_of named.caller)
+        (call.GateEnter (entry_of S.id_of named) entering.now.label.now
+        entering.now.clearance.now entering.now.verify.now) }
+    ensures state { S.state state.new ≡ next (S.state state.old) (S.id_of named.caller)
+        (call.GateEnter (entry_of S.id_of named) entering.now.label.now
+        entering.now.clearance.now entering.now.verify.now) }
+    ensures meter { S.kept meter.new ≤ S.kept meter.old + 8 + storing 3 (S.stored state.old) }
+{
+    let asked = Asked {
+        label: stored_label(state, entering.label, meter),
+        clearance: stored_label(state, entering.clearance, meter),
+        verify: stored_label(state, entering.verify, meter),
+    };
+    if let Some(refusal) = refused_gate_enter(state, named, entering, &asked, meter) {
+        return refuse(reply, refusal);
+    }
+    let entered = state.gate(named.object);
+    enter(state, named.caller, &asked, &entered, meter);
+    tell_done(state, reply);
+    tell(&entered, reply);
+}
+
 /// The thread enters a gate, or is told what refuses it: it has the asked labels, and the gate's address space, entry point
 /// and closure, of which the reply tells.
 #[inline(never)]
@@ -233,16 +291,6 @@ pub fn gate_enter<S: Store>(
         entering.now.clearance.now entering.now.verify.now) }
     ensures meter { S.kept meter.new ≤ S.kept meter.old + 8 + storing 3 (S.stored state.old) }
 {
-    let asked = Asked {
-        label: stored_label(state, entering.label, meter),
-        clearance: stored_label(state, entering.clearance, meter),
-        verify: stored_label(state, entering.verify, meter),
-    };
-    if let Some(refusal) = refused_gate_enter(state, thread, gate, entering, &asked, meter) {
-        return refuse(reply, refusal);
-    }
-    let entered = state.gate(gate.object, meter);
-    enter(state, thread, &asked, &entered, meter);
-    tell_done(state, reply);
-    tell(&entered, reply);
+    let named = find_all(state, thread, gate, meter);
+    enter_found(state, named, entering, reply, meter)
 }

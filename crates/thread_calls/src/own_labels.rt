@@ -20,18 +20,19 @@ use label_rules::may_clear;
 // What refuses a new own label, which is the stored one, where there is one.
 fn refused_self_set_label<S: Store>(
     state: &S,
-    thread: ObjectId,
+    caller: S::Location,
     raw: &RawLabel,
     label: Option<&Label>,
     meter: &mut Meter,
 ) -> Option<Refusal>
-    requires { option_copied label ≡ stored raw.now }
-    ensures value { result ≡ refused (S.state state.now) thread (call.SelfSetLabel raw.now) }
+    requires caller { S.stands state.now caller }
+    requires label { option_copied label ≡ stored raw.now }
+    ensures value { result ≡ refused (S.state state.now) (S.id_of caller) (call.SelfSetLabel raw.now) }
     ensures meter { S.kept meter.new ≤ S.kept meter.old + 2 }
 {
-    let in_range = is_in_range(state, thread, None, label, meter);
+    let in_range = is_in_range(state, caller, label, meter);
     refusal_of(&[
-        &halted(state, thread, meter),
+        &halted(state, caller),
         &good_label(state, raw, label),
         &[(Refusal::LabelRange, !in_range)],
     ])
@@ -53,42 +54,44 @@ pub fn self_set_label<S: Store>(
 {
     let label = stored_label(state, raw, meter);
     let label = label.as_ref();
-    if let Some(refusal) = refused_self_set_label(state, thread, raw, label, meter) {
+    let caller = state.find(thread, meter);
+    if let Some(refusal) = refused_self_set_label(state, caller, raw, label, meter) {
         return refuse(reply, refusal);
     }
-    state.set_label(thread, label, meter);
+    state.set_label(caller, label, meter);
     tell_done(state, reply);
 }
 
 fn may_clear_to<S: Store>(
     state: &S,
-    thread: ObjectId,
+    caller: S::Location,
     asked: Option<&Label>,
     meter: &mut Meter,
 ) -> bool
-    ensures value { result ≡ may_clear (label_at (S.state state.now) thread)
-        (clearance_at (S.state state.now) thread) (option_copied asked.entry) }
+    requires { S.stands state.now caller }
+    ensures value { result ≡ may_clear (label_at (S.state state.now) (S.id_of caller))
+        (clearance_at (S.state state.now) (S.id_of caller)) (option_copied asked.entry) }
     ensures meter { S.kept meter.new ≤ S.kept meter.old + 2 }
 {
-    let (label, clearance) = state.bounds(thread, None, meter);
-    may_clear(label, clearance, asked, meter)
+    may_clear(state.label(caller), state.clearance(caller), asked, meter)
 }
 
 // What refuses a new own clearance, which is the stored one, where there is one.
 fn refused_self_set_clearance<S: Store>(
     state: &S,
-    thread: ObjectId,
+    caller: S::Location,
     raw: &RawLabel,
     clearance: Option<&Label>,
     meter: &mut Meter,
 ) -> Option<Refusal>
-    requires { option_copied clearance ≡ stored raw.now }
-    ensures value { result ≡ refused (S.state state.now) thread (call.SelfSetClearance raw.now) }
+    requires caller { S.stands state.now caller }
+    requires clearance { option_copied clearance ≡ stored raw.now }
+    ensures value { result ≡ refused (S.state state.now) (S.id_of caller) (call.SelfSetClearance raw.now) }
     ensures meter { S.kept meter.new ≤ S.kept meter.old + 2 }
 {
-    let in_range = may_clear_to(state, thread, clearance, meter);
+    let in_range = may_clear_to(state, caller, clearance, meter);
     refusal_of(&[
-        &halted(state, thread, meter),
+        &halted(state, caller),
         &good_label(state, raw, clearance),
         &[(Refusal::ClearanceRange, !in_range)],
     ])
@@ -110,9 +113,10 @@ pub fn self_set_clearance<S: Store>(
 {
     let clearance = stored_label(state, raw, meter);
     let clearance = clearance.as_ref();
-    if let Some(refusal) = refused_self_set_clearance(state, thread, raw, clearance, meter) {
+    let caller = state.find(thread, meter);
+    if let Some(refusal) = refused_self_set_clearance(state, caller, raw, clearance, meter) {
         return refuse(reply, refusal);
     }
-    state.set_clearance(thread, clearance, meter);
+    state.set_clearance(caller, clearance, meter);
     tell_done(state, reply);
 }

@@ -59,7 +59,7 @@ impl Model for Rows {
     ghost view = { λ a. record { threads = a.threads.items; rows = a.rows.items } };
 
     ghost invariant = { λ a. (length a.threads.items ≡ length a.rows.items)
-        × All (λ row. length row ≡ 16) a.rows.items × (length a.rows.items ≤ 512)
+        × All (λ row. length row ≡ 16) a.rows.items × (length a.rows.items ≤ 1024)
         × ((slot : ℕ) → slot < a.first → slice_index_or a.threads.items slot None ≡ None)
         × (a.first ≤ length a.rows.items)
         × ((slot : ℕ) → slot < length a.rows.items → slice_index_or a.threads.items slot None ≡ None
@@ -70,10 +70,10 @@ impl Rows {
     ghost use Rattle.translation_rows.specs.Rows.{no_rows, shown_at, slot_count, thread_at};
     ghost use Rattle.translation_rows.specs.Rows.{walked, with_row, IsNext};
 
-    /// So many slots, up to 512, which are no threads' and whose rows show nothing. Only this takes
+    /// So many slots, up to 1,024, which are no threads' and whose rows show nothing. Only this takes
     /// memory; the error is want of it.
     pub fn boot(alloc: Global, slots: usize) -> Result<Rows, NoMemory>
-        requires { slots ≤ 512 }
+        requires { slots ≤ 1024 }
         ensures { IfOk result (λ rows. rows ≡ no_rows slots) }
     {
         let mut threads = Vec::new(alloc);
@@ -113,9 +113,9 @@ impl Rows {
         self.first
     }
 
-    /// There are at most 512 rows. Nothing is done: a caller's proof has this from a call.
+    /// There are at most 1,024 rows. Nothing is done: a caller's proof has this from a call.
     pub fn few(&self)
-        ensures { slot_count self.now ≤ 512 }
+        ensures { slot_count self.now ≤ 1024 }
     {
         let _rows = &self.rows;
     }

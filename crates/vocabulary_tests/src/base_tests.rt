@@ -109,8 +109,8 @@ fn limits_have_ranges(rt: HostRuntime) {
     let spent = 1u64 << 61;
     for (pages, device, next_id, next_category, wanted) in [
         (7, Level::L1, 4, 1, false),
-        (512, Level::L3, spent, spent, true),
-        (513, Level::L1, 4, 1, false),
+        (1024, Level::L3, spent, spent, true),
+        (1025, Level::L1, 4, 1, false),
         (64, Level::Star, 4, 1, false),
         (64, Level::L1, 3, 1, false),
         (64, Level::L1, spent + 1, 1, false),

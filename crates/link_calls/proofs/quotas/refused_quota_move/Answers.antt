@@ -9,5 +9,5 @@ returns-clause-value g c =
     let passed : to_z w32 (of_z w32 c.args.change) ≡ c.args.change =
     to_z-of_z w32 c.args.change c.ranges.change in
     let unseen = rw passed at c.observed_to_go_down.ensures in
-    let without_room = rw passed at c.is_without_room-without_room.ensures.value in
+    let without_room = rw passed at c.is_without_room-without_room.ensures in
     search rules

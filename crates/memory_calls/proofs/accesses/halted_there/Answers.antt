@@ -8,3 +8,6 @@ returns-in-Some-clause-value g c =
 
 pub returns-in-Some-clause-looks : goal.returns-in-Some-clause-looks
 returns-in-Some-clause-looks g c = g.met.S.Store.more_spent 0 2 _ _ (omega arith) (g.met.S.Store.none_spent _)
+
+pub returns-in-Some-clause-still : goal.returns-in-Some-clause-still
+returns-in-Some-clause-still g c = λ h. g.met.S.Store.none_spent _

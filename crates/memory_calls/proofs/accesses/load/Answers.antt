@@ -1,4 +1,4 @@
-use Rattle.std.proofs.Common.{sym, ◌∙◌, arith}
+use Rattle.std.proofs.Common.{sym, ap, is_some, ◌∙◌, arith}
 use Rattle.kernel_rules.proofs.StepLaws.{ask_refused, ask_found}
 use Rattle.memory_calls.proofs.accesses.load.Goals as goal
 
@@ -12,11 +12,11 @@ returns-in-Some-place-clause-value g c =
 
 pub returns-in-Some-clause-looks : goal.returns-in-Some-clause-looks
 returns-in-Some-clause-looks g c =
-    g.met.S.Store.more_spent 7 9 _ _ (omega arith)
-    (g.met.S.Store.both_spent 5 2 _ _ _ c.place-place.ensures.looks c.refused_there.ensures.looks)
+    g.met.S.Store.more_spent 8 9 _ _ (omega arith)
+    (g.met.S.Store.both_spent 6 2 _ _ _ c.place-place.ensures.looks c.refused_there.ensures.looks)
 
 pub returns-in-Some-place-clause-looks : goal.returns-in-Some-place-clause-looks
 returns-in-Some-place-clause-looks g c =
-    g.met.S.Store.both_spent 7 2 _ _ _
-    (g.met.S.Store.both_spent 5 2 _ _ _ c.place-place.ensures.looks c.refused_there.ensures.looks)
+    g.met.S.Store.both_spent 6 3 _ _ _
+    (g.met.S.Store.both_spent 6 0 _ _ _ c.place-place.ensures.looks (c.refused_there.ensures.still (ap is_some c.in-Some-place.is)))
     c.bytes_there.ensures.looks

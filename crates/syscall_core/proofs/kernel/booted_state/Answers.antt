@@ -13,4 +13,4 @@ invariant_of-result c = record {
 
 pub new_rows-requires : goal.new_rows-requires
 new_rows-requires c =
-    subst (λ (s : State). s.limits.pages ≤ 512) (sym c.in_ok-state.ensures) (few_pages c.args.limits.now c.requires)
+    subst (λ (s : State). s.limits.pages ≤ 1024) (sym c.in_ok-state.ensures) (few_pages c.args.limits.now c.requires)

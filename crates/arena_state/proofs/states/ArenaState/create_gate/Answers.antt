@@ -15,8 +15,8 @@ pub intern-label-requires : goal.intern-label-requires
 intern-label-requires c =
     omega (
       arith,
-      labels_fit c.args.self.now.pieces c.args.self.now.sound c.args.container c.args.quota c.args.label.now (is.Gate c.args.gate.now)
-          (same_fitting c.args.self.now.pieces c.args.self.now.sound c.args.self.now.stocked c.args.container c.args.quota (is.Gate c.args.gate.now) c.requires.fitting) (stored_test c.args.label.now c.requires.label),
+      labels_fit c.args.self.now.pieces c.args.self.now.sound c.args.container.id c.args.quota c.args.label.now (is.Gate c.args.gate.now)
+          (same_fitting c.args.self.now.pieces c.args.self.now.sound c.args.self.now.stocked c.args.container.id c.args.quota (is.Gate c.args.gate.now) c.requires.fitting) (stored_test c.args.label.now c.requires.label),
     )
 
 pub intern-clearance-requires : goal.intern-clearance-requires
@@ -25,48 +25,48 @@ intern-clearance-requires c =
       arith,
       c.intern-label.ensures.owners,
       c.intern-label.ensures.takes.pool,
-      labels_fit c.args.self.now.pieces c.args.self.now.sound c.args.container c.args.quota c.args.label.now (is.Gate c.args.gate.now)
-          (same_fitting c.args.self.now.pieces c.args.self.now.sound c.args.self.now.stocked c.args.container c.args.quota (is.Gate c.args.gate.now) c.requires.fitting) (stored_test c.args.label.now c.requires.label),
+      labels_fit c.args.self.now.pieces c.args.self.now.sound c.args.container.id c.args.quota c.args.label.now (is.Gate c.args.gate.now)
+          (same_fitting c.args.self.now.pieces c.args.self.now.sound c.args.self.now.stocked c.args.container.id c.args.quota (is.Gate c.args.gate.now) c.requires.fitting) (stored_test c.args.label.now c.requires.label),
     )
 
 pub place-requires-clause-rises : goal.place-requires-clause-rises
 place-requires-clause-rises c =
-    below_next c.args.self.now.pieces c.args.self.now.sound c.args.container c.args.quota c.args.label.now (is.Gate c.args.gate.now)
-    (same_fitting c.args.self.now.pieces c.args.self.now.sound c.args.self.now.stocked c.args.container c.args.quota (is.Gate c.args.gate.now) c.requires.fitting) (stored_test c.args.label.now c.requires.label)
+    below_next c.args.self.now.pieces c.args.self.now.sound c.args.container.id c.args.quota c.args.label.now (is.Gate c.args.gate.now)
+    (same_fitting c.args.self.now.pieces c.args.self.now.sound c.args.self.now.stocked c.args.container.id c.args.quota (is.Gate c.args.gate.now) c.requires.fitting) (stored_test c.args.label.now c.requires.label)
 
 pub place-requires-clause-slots : goal.place-requires-clause-slots
 place-requires-clause-slots c =
-    slot_room c.args.self.now.pieces c.args.self.now.sound c.args.container c.args.quota c.args.label.now (is.Gate c.args.gate.now)
-    (same_fitting c.args.self.now.pieces c.args.self.now.sound c.args.self.now.stocked c.args.container c.args.quota (is.Gate c.args.gate.now) c.requires.fitting) (stored_test c.args.label.now c.requires.label)
+    slot_room c.args.self.now.pieces c.args.self.now.sound c.args.container.id c.args.quota c.args.label.now (is.Gate c.args.gate.now)
+    (same_fitting c.args.self.now.pieces c.args.self.now.sound c.args.self.now.stocked c.args.container.id c.args.quota (is.Gate c.args.gate.now) c.requires.fitting) (stored_test c.args.label.now c.requires.label)
 
 pub place-requires-clause-room : goal.place-requires-clause-room
 place-requires-clause-room c =
-    link_room c.args.self.now.pieces c.args.self.now.sound c.args.container c.args.quota c.args.label.now (is.Gate c.args.gate.now)
-    (same_fitting c.args.self.now.pieces c.args.self.now.sound c.args.self.now.stocked c.args.container c.args.quota (is.Gate c.args.gate.now) c.requires.fitting) (stored_test c.args.label.now c.requires.label)
+    link_room c.args.self.now.pieces c.args.self.now.sound c.args.container.id c.args.quota c.args.label.now (is.Gate c.args.gate.now)
+    (same_fitting c.args.self.now.pieces c.args.self.now.sound c.args.self.now.stocked c.args.container.id c.args.quota (is.Gate c.args.gate.now) c.requires.fitting) (stored_test c.args.label.now c.requires.label)
 
 pub place-requires-clause-quota : goal.place-requires-clause-quota
 place-requires-clause-quota c =
     omega (
       arith,
       ap (λ (r : Record). r.quota) c.fresh_record-given.ensures,
-      enough c.args.self.now.pieces c.args.self.now.sound c.args.container c.args.quota c.args.label.now (is.Gate c.args.gate.now)
-          (same_fitting c.args.self.now.pieces c.args.self.now.sound c.args.self.now.stocked c.args.container c.args.quota (is.Gate c.args.gate.now) c.requires.fitting) (stored_test c.args.label.now c.requires.label) c.in-Some.parent.0 c.in-Some.ensures.found.has,
+      enough c.args.self.now.pieces c.args.self.now.sound c.args.container.id c.args.quota c.args.label.now (is.Gate c.args.gate.now)
+          (same_fitting c.args.self.now.pieces c.args.self.now.sound c.args.self.now.stocked c.args.container.id c.args.quota (is.Gate c.args.gate.now) c.requires.fitting) (stored_test c.args.label.now c.requires.label) c.in-Some.parent.0 c.in-Some.ensures.found.has,
     )
 
 pub invariant_of-self : goal.invariant_of-self
 invariant_of-self c = record {
-  sound = new_sound c.args.self.now.pieces c.args.self.now.sound c.args.container c.args.quota c.args.label.now (is.Gate c.args.gate.now)
-      (same_fitting c.args.self.now.pieces c.args.self.now.sound c.args.self.now.stocked c.args.container c.args.quota (is.Gate c.args.gate.now) c.requires.fitting) (stored_test c.args.label.now c.requires.label)
+  sound = new_sound c.args.self.now.pieces c.args.self.now.sound c.args.container.id c.args.quota c.args.label.now (is.Gate c.args.gate.now)
+      (same_fitting c.args.self.now.pieces c.args.self.now.sound c.args.self.now.stocked c.args.container.id c.args.quota (is.Gate c.args.gate.now) c.requires.fitting) (stored_test c.args.label.now c.requires.label)
       c.in-Some.parent.0 c.in-Some.ensures.found.has c.intern-clearance.new.self c.intern-label.result.0 (keeps.Gate (record { clearance = c.intern-clearance.result; space = c.args.gate.now.space; entry_point = c.args.gate.now.entry_point; closure = c.args.gate.now.closure }))
       c.fresh_record-given.result c.fresh_record-given.ensures c.place.new.pieces c.place.ensures.placed
       (takes_then _ _ _ _ _ c.intern-label.ensures.takes c.intern-clearance.ensures.takes) (still _ _ _ _ _ _ c.intern-label.ensures.takes c.intern-label.ensures.given c.intern-clearance.ensures.takes) (λ i. is.Gate (record c.args.gate.now { clearance = c.intern-clearance.ensures.given i })) (refl);
-  stocked = created_stocked c.args.self.now.pieces c.args.self.now.sound c.args.container c.args.quota c.args.label.now (is.Gate c.args.gate.now)
-      (same_fitting c.args.self.now.pieces c.args.self.now.sound c.args.self.now.stocked c.args.container c.args.quota (is.Gate c.args.gate.now) c.requires.fitting) (stored_test c.args.label.now c.requires.label)
+  stocked = created_stocked c.args.self.now.pieces c.args.self.now.sound c.args.container.id c.args.quota c.args.label.now (is.Gate c.args.gate.now)
+      (same_fitting c.args.self.now.pieces c.args.self.now.sound c.args.self.now.stocked c.args.container.id c.args.quota (is.Gate c.args.gate.now) c.requires.fitting) (stored_test c.args.label.now c.requires.label)
       c.in-Some.parent.0 c.in-Some.ensures.found.has c.intern-clearance.new.self c.intern-label.result.0 (keeps.Gate (record { clearance = c.intern-clearance.result; space = c.args.gate.now.space; entry_point = c.args.gate.now.entry_point; closure = c.args.gate.now.closure }))
       c.fresh_record-given.result c.fresh_record-given.ensures c.place.new.pieces c.place.ensures.placed
       (takes_then _ _ _ _ _ c.intern-label.ensures.takes c.intern-clearance.ensures.takes) (still _ _ _ _ _ _ c.intern-label.ensures.takes c.intern-label.ensures.given c.intern-clearance.ensures.takes) (λ i. is.Gate (record c.args.gate.now { clearance = c.intern-clearance.ensures.given i })) (refl) c.args.self.now.stocked
-      c.place.new.pieces.holdings.segments [] (segments_kept c.args.self.now.pieces c.args.self.now.sound c.args.container c.args.quota c.args.label.now (is.Gate c.args.gate.now)
-      (same_fitting c.args.self.now.pieces c.args.self.now.sound c.args.self.now.stocked c.args.container c.args.quota (is.Gate c.args.gate.now) c.requires.fitting) (stored_test c.args.label.now c.requires.label)
+      c.place.new.pieces.holdings.segments [] (segments_kept c.args.self.now.pieces c.args.self.now.sound c.args.container.id c.args.quota c.args.label.now (is.Gate c.args.gate.now)
+      (same_fitting c.args.self.now.pieces c.args.self.now.sound c.args.self.now.stocked c.args.container.id c.args.quota (is.Gate c.args.gate.now) c.requires.fitting) (stored_test c.args.label.now c.requires.label)
       c.in-Some.parent.0 c.in-Some.ensures.found.has c.intern-clearance.new.self c.intern-label.result.0 (keeps.Gate (record { clearance = c.intern-clearance.result; space = c.args.gate.now.space; entry_point = c.args.gate.now.entry_point; closure = c.args.gate.now.closure }))
       c.fresh_record-given.result c.fresh_record-given.ensures c.place.new.pieces c.place.ensures.placed
       (takes_then _ _ _ _ _ c.intern-label.ensures.takes c.intern-clearance.ensures.takes) (still _ _ _ _ _ _ c.intern-label.ensures.takes c.intern-label.ensures.given c.intern-clearance.ensures.takes) (λ i. is.Gate (record c.args.gate.now { clearance = c.intern-clearance.ensures.given i })) (refl) c.args.self.now.stocked) refl;
@@ -74,13 +74,13 @@ invariant_of-self c = record {
 
 pub returns-clause-state : goal.returns-clause-state
 returns-clause-state c =
-    created_whole c.args.self.now.pieces c.args.self.now.sound c.args.container c.args.quota c.args.label.now (is.Gate c.args.gate.now)
-    (same_fitting c.args.self.now.pieces c.args.self.now.sound c.args.self.now.stocked c.args.container c.args.quota (is.Gate c.args.gate.now) c.requires.fitting) (stored_test c.args.label.now c.requires.label)
+    created_whole c.args.self.now.pieces c.args.self.now.sound c.args.container.id c.args.quota c.args.label.now (is.Gate c.args.gate.now)
+    (same_fitting c.args.self.now.pieces c.args.self.now.sound c.args.self.now.stocked c.args.container.id c.args.quota (is.Gate c.args.gate.now) c.requires.fitting) (stored_test c.args.label.now c.requires.label)
     c.in-Some.parent.0 c.in-Some.ensures.found.has c.intern-clearance.new.self c.intern-label.result.0 (keeps.Gate (record { clearance = c.intern-clearance.result; space = c.args.gate.now.space; entry_point = c.args.gate.now.entry_point; closure = c.args.gate.now.closure }))
     c.fresh_record-given.result c.fresh_record-given.ensures c.place.new.pieces c.place.ensures.placed
     (takes_then _ _ _ _ _ c.intern-label.ensures.takes c.intern-clearance.ensures.takes) (still _ _ _ _ _ _ c.intern-label.ensures.takes c.intern-label.ensures.given c.intern-clearance.ensures.takes) (λ i. is.Gate (record c.args.gate.now { clearance = c.intern-clearance.ensures.given i })) (refl) c.args.self.now.stocked
-    c.place.new.pieces.holdings.segments [] (segments_kept c.args.self.now.pieces c.args.self.now.sound c.args.container c.args.quota c.args.label.now (is.Gate c.args.gate.now)
-    (same_fitting c.args.self.now.pieces c.args.self.now.sound c.args.self.now.stocked c.args.container c.args.quota (is.Gate c.args.gate.now) c.requires.fitting) (stored_test c.args.label.now c.requires.label)
+    c.place.new.pieces.holdings.segments [] (segments_kept c.args.self.now.pieces c.args.self.now.sound c.args.container.id c.args.quota c.args.label.now (is.Gate c.args.gate.now)
+    (same_fitting c.args.self.now.pieces c.args.self.now.sound c.args.self.now.stocked c.args.container.id c.args.quota (is.Gate c.args.gate.now) c.requires.fitting) (stored_test c.args.label.now c.requires.label)
     c.in-Some.parent.0 c.in-Some.ensures.found.has c.intern-clearance.new.self c.intern-label.result.0 (keeps.Gate (record { clearance = c.intern-clearance.result; space = c.args.gate.now.space; entry_point = c.args.gate.now.entry_point; closure = c.args.gate.now.closure }))
     c.fresh_record-given.result c.fresh_record-given.ensures c.place.new.pieces c.place.ensures.placed
     (takes_then _ _ _ _ _ c.intern-label.ensures.takes c.intern-clearance.ensures.takes) (still _ _ _ _ _ _ c.intern-label.ensures.takes c.intern-label.ensures.given c.intern-clearance.ensures.takes) (λ i. is.Gate (record c.args.gate.now { clearance = c.intern-clearance.ensures.given i })) (refl) c.args.self.now.stocked) refl

@@ -17,38 +17,38 @@ pub intern-label-requires : goal.intern-label-requires
 intern-label-requires c =
     omega (
       arith,
-      labels_fit c.args.self.now.pieces c.args.self.now.sound c.args.container c.args.quota c.args.label.now (is.Segment (replicate (256 * c.args.pages) 0))
-          (same_fitting c.args.self.now.pieces c.args.self.now.sound c.args.self.now.stocked c.args.container c.args.quota (is.Segment (replicate (256 * c.args.pages) 0)) c.requires.fitting) (stored_test c.args.label.now c.requires.label),
+      labels_fit c.args.self.now.pieces c.args.self.now.sound c.args.container.id c.args.quota c.args.label.now (is.Segment (replicate (256 * c.args.pages) 0))
+          (same_fitting c.args.self.now.pieces c.args.self.now.sound c.args.self.now.stocked c.args.container.id c.args.quota (is.Segment (replicate (256 * c.args.pages) 0)) c.requires.fitting) (stored_test c.args.label.now c.requires.label),
     )
 
 pub place-made-requires-clause-rises : goal.place-made-requires-clause-rises
 place-made-requires-clause-rises c =
-    below_next c.args.self.now.pieces c.args.self.now.sound c.args.container c.args.quota c.args.label.now (is.Segment (replicate (256 * c.args.pages) 0))
-    (same_fitting c.args.self.now.pieces c.args.self.now.sound c.args.self.now.stocked c.args.container c.args.quota (is.Segment (replicate (256 * c.args.pages) 0)) c.requires.fitting) (stored_test c.args.label.now c.requires.label)
+    below_next c.args.self.now.pieces c.args.self.now.sound c.args.container.id c.args.quota c.args.label.now (is.Segment (replicate (256 * c.args.pages) 0))
+    (same_fitting c.args.self.now.pieces c.args.self.now.sound c.args.self.now.stocked c.args.container.id c.args.quota (is.Segment (replicate (256 * c.args.pages) 0)) c.requires.fitting) (stored_test c.args.label.now c.requires.label)
 
 pub place-made-requires-clause-slots : goal.place-made-requires-clause-slots
 place-made-requires-clause-slots c =
-    slot_room c.args.self.now.pieces c.args.self.now.sound c.args.container c.args.quota c.args.label.now (is.Segment (replicate (256 * c.args.pages) 0))
-    (same_fitting c.args.self.now.pieces c.args.self.now.sound c.args.self.now.stocked c.args.container c.args.quota (is.Segment (replicate (256 * c.args.pages) 0)) c.requires.fitting) (stored_test c.args.label.now c.requires.label)
+    slot_room c.args.self.now.pieces c.args.self.now.sound c.args.container.id c.args.quota c.args.label.now (is.Segment (replicate (256 * c.args.pages) 0))
+    (same_fitting c.args.self.now.pieces c.args.self.now.sound c.args.self.now.stocked c.args.container.id c.args.quota (is.Segment (replicate (256 * c.args.pages) 0)) c.requires.fitting) (stored_test c.args.label.now c.requires.label)
 
 pub place-made-requires-clause-room : goal.place-made-requires-clause-room
 place-made-requires-clause-room c =
-    link_room c.args.self.now.pieces c.args.self.now.sound c.args.container c.args.quota c.args.label.now (is.Segment (replicate (256 * c.args.pages) 0))
-    (same_fitting c.args.self.now.pieces c.args.self.now.sound c.args.self.now.stocked c.args.container c.args.quota (is.Segment (replicate (256 * c.args.pages) 0)) c.requires.fitting) (stored_test c.args.label.now c.requires.label)
+    link_room c.args.self.now.pieces c.args.self.now.sound c.args.container.id c.args.quota c.args.label.now (is.Segment (replicate (256 * c.args.pages) 0))
+    (same_fitting c.args.self.now.pieces c.args.self.now.sound c.args.self.now.stocked c.args.container.id c.args.quota (is.Segment (replicate (256 * c.args.pages) 0)) c.requires.fitting) (stored_test c.args.label.now c.requires.label)
 
 pub place-made-requires-clause-quota : goal.place-made-requires-clause-quota
 place-made-requires-clause-quota c =
     omega (
       arith,
       ap (λ (r : Record). r.quota) c.fresh_record-given.ensures,
-      enough c.args.self.now.pieces c.args.self.now.sound c.args.container c.args.quota c.args.label.now (is.Segment (replicate (256 * c.args.pages) 0))
-          (same_fitting c.args.self.now.pieces c.args.self.now.sound c.args.self.now.stocked c.args.container c.args.quota (is.Segment (replicate (256 * c.args.pages) 0)) c.requires.fitting) (stored_test c.args.label.now c.requires.label) c.in-Some.parent.0 c.in-Some.ensures.found.has,
+      enough c.args.self.now.pieces c.args.self.now.sound c.args.container.id c.args.quota c.args.label.now (is.Segment (replicate (256 * c.args.pages) 0))
+          (same_fitting c.args.self.now.pieces c.args.self.now.sound c.args.self.now.stocked c.args.container.id c.args.quota (is.Segment (replicate (256 * c.args.pages) 0)) c.requires.fitting) (stored_test c.args.label.now c.requires.label) c.in-Some.parent.0 c.in-Some.ensures.found.has,
     )
 
 pub resize-requires-clause-room : goal.resize-requires-clause-room
 resize-requires-clause-room c =
-    let room = new_room c.args.self.now.pieces c.args.self.now.sound c.args.container c.args.quota c.args.label.now (is.Segment (replicate (256 * c.args.pages) 0))
-    (same_fitting c.args.self.now.pieces c.args.self.now.sound c.args.self.now.stocked c.args.container c.args.quota (is.Segment (replicate (256 * c.args.pages) 0)) c.requires.fitting) (stored_test c.args.label.now c.requires.label)
+    let room = new_room c.args.self.now.pieces c.args.self.now.sound c.args.container.id c.args.quota c.args.label.now (is.Segment (replicate (256 * c.args.pages) 0))
+    (same_fitting c.args.self.now.pieces c.args.self.now.sound c.args.self.now.stocked c.args.container.id c.args.quota (is.Segment (replicate (256 * c.args.pages) 0)) c.requires.fitting) (stored_test c.args.label.now c.requires.label)
     c.in-Some.parent.0 c.in-Some.ensures.found.has c.intern-label.new.self c.intern-label.result.0 (keeps.Segment c.args.pages)
     c.fresh_record-given.result c.fresh_record-given.ensures c.place-made.new.pieces c.place-made.ensures.placed
     (takes_as _ _ _ _ (λ i. omega arith) c.intern-label.ensures.takes) (c.intern-label.ensures.given) (refl) (segment_cost c.args.pages) c.args.self.now.stocked in
@@ -56,8 +56,8 @@ resize-requires-clause-room c =
 
 pub invariant_of-self : goal.invariant_of-self
 invariant_of-self c = record {
-  sound = stocked_sound c.args.self.now.pieces c.args.self.now.sound c.args.container c.args.quota c.args.label.now (is.Segment (replicate (256 * c.args.pages) 0))
-      (same_fitting c.args.self.now.pieces c.args.self.now.sound c.args.self.now.stocked c.args.container c.args.quota (is.Segment (replicate (256 * c.args.pages) 0)) c.requires.fitting) (stored_test c.args.label.now c.requires.label)
+  sound = stocked_sound c.args.self.now.pieces c.args.self.now.sound c.args.container.id c.args.quota c.args.label.now (is.Segment (replicate (256 * c.args.pages) 0))
+      (same_fitting c.args.self.now.pieces c.args.self.now.sound c.args.self.now.stocked c.args.container.id c.args.quota (is.Segment (replicate (256 * c.args.pages) 0)) c.requires.fitting) (stored_test c.args.label.now c.requires.label)
       c.in-Some.parent.0 c.in-Some.ensures.found.has c.intern-label.new.self c.intern-label.result.0 (keeps.Segment c.args.pages)
       c.fresh_record-given.result c.fresh_record-given.ensures c.place-made.new.pieces c.place-made.ensures.placed
       (takes_as _ _ _ _ (λ i. omega arith) c.intern-label.ensures.takes) (c.intern-label.ensures.given) (refl) (segment_cost c.args.pages) c.args.self.now.stocked
@@ -65,14 +65,14 @@ invariant_of-self c = record {
       (resized_new c.args.self.now.pieces.places.slots c.place-made.result.slot.0 c.place-made.ensures.placed.slot c.place-made.new.pieces.places.slots
       c.place-made.ensures.slot c.place-made.ensures.placed.slots c.args.self.now.pieces.holdings.segments c.place-made.new.pieces.holdings.segments
       c.place-made.ensures.placed.segments c.args.pages c.resize.new.self c.resize.ensures.after
-      (bytes_vacant c.args.self.now.pieces c.args.self.now.sound c.args.container c.args.quota c.args.label.now (is.Segment (replicate (256 * c.args.pages) 0))
-      (same_fitting c.args.self.now.pieces c.args.self.now.sound c.args.self.now.stocked c.args.container c.args.quota (is.Segment (replicate (256 * c.args.pages) 0)) c.requires.fitting) (stored_test c.args.label.now c.requires.label)
+      (bytes_vacant c.args.self.now.pieces c.args.self.now.sound c.args.container.id c.args.quota c.args.label.now (is.Segment (replicate (256 * c.args.pages) 0))
+      (same_fitting c.args.self.now.pieces c.args.self.now.sound c.args.self.now.stocked c.args.container.id c.args.quota (is.Segment (replicate (256 * c.args.pages) 0)) c.requires.fitting) (stored_test c.args.label.now c.requires.label)
       c.in-Some.parent.0 c.in-Some.ensures.found.has c.intern-label.new.self c.intern-label.result.0 (keeps.Segment c.args.pages)
       c.fresh_record-given.result c.fresh_record-given.ensures c.place-made.new.pieces c.place-made.ensures.placed
       (takes_as _ _ _ _ (λ i. omega arith) c.intern-label.ensures.takes) (c.intern-label.ensures.given) (refl) (segment_cost c.args.pages) c.args.self.now.stocked))
       (length-replicate (256 * c.args.pages) 0);
-  stocked = created_stocked c.args.self.now.pieces c.args.self.now.sound c.args.container c.args.quota c.args.label.now (is.Segment (replicate (256 * c.args.pages) 0))
-      (same_fitting c.args.self.now.pieces c.args.self.now.sound c.args.self.now.stocked c.args.container c.args.quota (is.Segment (replicate (256 * c.args.pages) 0)) c.requires.fitting) (stored_test c.args.label.now c.requires.label)
+  stocked = created_stocked c.args.self.now.pieces c.args.self.now.sound c.args.container.id c.args.quota c.args.label.now (is.Segment (replicate (256 * c.args.pages) 0))
+      (same_fitting c.args.self.now.pieces c.args.self.now.sound c.args.self.now.stocked c.args.container.id c.args.quota (is.Segment (replicate (256 * c.args.pages) 0)) c.requires.fitting) (stored_test c.args.label.now c.requires.label)
       c.in-Some.parent.0 c.in-Some.ensures.found.has c.intern-label.new.self c.intern-label.result.0 (keeps.Segment c.args.pages)
       c.fresh_record-given.result c.fresh_record-given.ensures c.place-made.new.pieces c.place-made.ensures.placed
       (takes_as _ _ _ _ (λ i. omega arith) c.intern-label.ensures.takes) (c.intern-label.ensures.given) (refl) (segment_cost c.args.pages) c.args.self.now.stocked
@@ -80,8 +80,8 @@ invariant_of-self c = record {
       (resized_new c.args.self.now.pieces.places.slots c.place-made.result.slot.0 c.place-made.ensures.placed.slot c.place-made.new.pieces.places.slots
       c.place-made.ensures.slot c.place-made.ensures.placed.slots c.args.self.now.pieces.holdings.segments c.place-made.new.pieces.holdings.segments
       c.place-made.ensures.placed.segments c.args.pages c.resize.new.self c.resize.ensures.after
-      (bytes_vacant c.args.self.now.pieces c.args.self.now.sound c.args.container c.args.quota c.args.label.now (is.Segment (replicate (256 * c.args.pages) 0))
-      (same_fitting c.args.self.now.pieces c.args.self.now.sound c.args.self.now.stocked c.args.container c.args.quota (is.Segment (replicate (256 * c.args.pages) 0)) c.requires.fitting) (stored_test c.args.label.now c.requires.label)
+      (bytes_vacant c.args.self.now.pieces c.args.self.now.sound c.args.container.id c.args.quota c.args.label.now (is.Segment (replicate (256 * c.args.pages) 0))
+      (same_fitting c.args.self.now.pieces c.args.self.now.sound c.args.self.now.stocked c.args.container.id c.args.quota (is.Segment (replicate (256 * c.args.pages) 0)) c.requires.fitting) (stored_test c.args.label.now c.requires.label)
       c.in-Some.parent.0 c.in-Some.ensures.found.has c.intern-label.new.self c.intern-label.result.0 (keeps.Segment c.args.pages)
       c.fresh_record-given.result c.fresh_record-given.ensures c.place-made.new.pieces c.place-made.ensures.placed
       (takes_as _ _ _ _ (λ i. omega arith) c.intern-label.ensures.takes) (c.intern-label.ensures.given) (refl) (segment_cost c.args.pages) c.args.self.now.stocked))
@@ -90,8 +90,8 @@ invariant_of-self c = record {
 
 pub returns-clause-state : goal.returns-clause-state
 returns-clause-state c =
-    created_whole c.args.self.now.pieces c.args.self.now.sound c.args.container c.args.quota c.args.label.now (is.Segment (replicate (256 * c.args.pages) 0))
-    (same_fitting c.args.self.now.pieces c.args.self.now.sound c.args.self.now.stocked c.args.container c.args.quota (is.Segment (replicate (256 * c.args.pages) 0)) c.requires.fitting) (stored_test c.args.label.now c.requires.label)
+    created_whole c.args.self.now.pieces c.args.self.now.sound c.args.container.id c.args.quota c.args.label.now (is.Segment (replicate (256 * c.args.pages) 0))
+    (same_fitting c.args.self.now.pieces c.args.self.now.sound c.args.self.now.stocked c.args.container.id c.args.quota (is.Segment (replicate (256 * c.args.pages) 0)) c.requires.fitting) (stored_test c.args.label.now c.requires.label)
     c.in-Some.parent.0 c.in-Some.ensures.found.has c.intern-label.new.self c.intern-label.result.0 (keeps.Segment c.args.pages)
     c.fresh_record-given.result c.fresh_record-given.ensures c.place-made.new.pieces c.place-made.ensures.placed
     (takes_as _ _ _ _ (λ i. omega arith) c.intern-label.ensures.takes) (c.intern-label.ensures.given) (refl) (segment_cost c.args.pages) c.args.self.now.stocked
@@ -99,8 +99,8 @@ returns-clause-state c =
     (resized_new c.args.self.now.pieces.places.slots c.place-made.result.slot.0 c.place-made.ensures.placed.slot c.place-made.new.pieces.places.slots
     c.place-made.ensures.slot c.place-made.ensures.placed.slots c.args.self.now.pieces.holdings.segments c.place-made.new.pieces.holdings.segments
     c.place-made.ensures.placed.segments c.args.pages c.resize.new.self c.resize.ensures.after
-    (bytes_vacant c.args.self.now.pieces c.args.self.now.sound c.args.container c.args.quota c.args.label.now (is.Segment (replicate (256 * c.args.pages) 0))
-    (same_fitting c.args.self.now.pieces c.args.self.now.sound c.args.self.now.stocked c.args.container c.args.quota (is.Segment (replicate (256 * c.args.pages) 0)) c.requires.fitting) (stored_test c.args.label.now c.requires.label)
+    (bytes_vacant c.args.self.now.pieces c.args.self.now.sound c.args.container.id c.args.quota c.args.label.now (is.Segment (replicate (256 * c.args.pages) 0))
+    (same_fitting c.args.self.now.pieces c.args.self.now.sound c.args.self.now.stocked c.args.container.id c.args.quota (is.Segment (replicate (256 * c.args.pages) 0)) c.requires.fitting) (stored_test c.args.label.now c.requires.label)
     c.in-Some.parent.0 c.in-Some.ensures.found.has c.intern-label.new.self c.intern-label.result.0 (keeps.Segment c.args.pages)
     c.fresh_record-given.result c.fresh_record-given.ensures c.place-made.new.pieces c.place-made.ensures.placed
     (takes_as _ _ _ _ (λ i. omega arith) c.intern-label.ensures.takes) (c.intern-label.ensures.given) (refl) (segment_cost c.args.pages) c.args.self.now.stocked))

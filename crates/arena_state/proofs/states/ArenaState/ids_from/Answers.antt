@@ -7,6 +7,6 @@ use Rattle.arena_state.proofs.states.ArenaState.ids_from.Goals as goal
 pub returns-in-Some-clause-value : goal.returns-in-Some-clause-value
 returns-in-Some-clause-value c =
     c.from_slice.ensures
-    ∙ window_is (list_of c.args.self.now.pieces.places.lists c.args.container) c.entries-count.new.window c.args.from
+    ∙ window_is (list_of c.args.self.now.pieces.places.lists c.args.container.id) c.entries-count.new.window c.args.from
     c.entries-count.result c.entries-count.auto.window c.entries-count.ensures.count c.entries-count.ensures.listed
-    ∙ sym (ap (λ (l : List ℕ). take 16 (drop c.args.from l)) (listed_is c.args.self.now.pieces c.args.self.now.sound c.args.container))
+    ∙ sym (ap (λ (l : List ℕ). take 16 (drop c.args.from l)) (listed_is c.args.self.now.pieces c.args.self.now.sound c.args.container.id))

@@ -19,39 +19,38 @@ use Rattle.arena_state.proofs.EditLaws.{read_is}
 use Rattle.arena_state.proofs.HeldLaws.{held_stocked, held_state, read_set, slots_by_ids}
 use Rattle.arena_state.proofs.WholeEditLaws.{relisting_apart, reuse_pages, reuse_space}
 use Rattle.arena_state.proofs.WholeLaws.{kind_bare, holds_bare, fixed_bare, listed_bare, linked_bare, none_bare}
-use Rattle.arena_state.proofs.FoundLaws.{told_row, told_none}
 use Rattle.arena_state.proofs.states.ArenaState.link.Goals as goal
 
 pub link_found-requires-clause-container : goal.link_found-requires-clause-container
-link_found-requires-clause-container c = (told_row c.args.self.now c.args.container c.or_looked_up-into.result.0 c.in-Some.parent c.in-Some.is c.or_looked_up-into.ensures.one).has
+link_found-requires-clause-container c = c.in-Some.ensures.found.has
 
 pub link_found-requires-clause-object : goal.link_found-requires-clause-object
-link_found-requires-clause-object c = (told_row c.args.self.now c.args.entry.now.object c.or_looked_up-into.result.1 c.in-Some-linked.object c.in-Some-linked.is c.or_looked_up-into.ensures.other).has
+link_found-requires-clause-object c = c.in-Some-told.ensures.found.has
 
 pub link_found-requires-clause-not_root : goal.link_found-requires-clause-not_root
-link_found-requires-clause-not_root c = not_root c.args.self.now.pieces c.args.self.now.sound c.args.container c.args.entry.now (kind_bare c.args.self.now.pieces kinds.Container c.args.container true c.requires.container) (holds_bare c.args.self.now.pieces c.args.entry.now c.requires.held) (kind_bare c.args.self.now.pieces kinds.Container c.args.entry.now.object false c.requires.plain) (fixed_bare c.args.self.now.pieces c.args.entry.now.object true c.requires.fixed) (listed_bare c.args.self.now.pieces c.args.container c.args.entry.now.object false c.requires.unlisted) (linked_bare c.args.self.now.pieces c.args.self.now.sound c.args.self.now.stocked c.args.container c.args.entry.now.object c.requires.room)
+link_found-requires-clause-not_root c = not_root c.args.self.now.pieces c.args.self.now.sound c.args.target.id (record { container = c.args.container.id; object = c.args.object.id }) (kind_bare c.args.self.now.pieces kinds.Container c.args.target.id true c.requires.container) (holds_bare c.args.self.now.pieces (record { container = c.args.container.id; object = c.args.object.id }) c.requires.held) (kind_bare c.args.self.now.pieces kinds.Container c.args.object.id false c.requires.plain) (fixed_bare c.args.self.now.pieces c.args.object.id true c.requires.fixed) (listed_bare c.args.self.now.pieces c.args.target.id c.args.object.id false c.requires.unlisted) (linked_bare c.args.self.now.pieces c.args.self.now.sound c.args.self.now.stocked c.args.target.id c.args.object.id c.requires.room)
 
 pub link_found-requires-clause-fresh : goal.link_found-requires-clause-fresh
-link_found-requires-clause-fresh c = not_linked c.args.self.now.pieces c.args.self.now.sound c.args.container c.args.entry.now (kind_bare c.args.self.now.pieces kinds.Container c.args.container true c.requires.container) (holds_bare c.args.self.now.pieces c.args.entry.now c.requires.held) (kind_bare c.args.self.now.pieces kinds.Container c.args.entry.now.object false c.requires.plain) (fixed_bare c.args.self.now.pieces c.args.entry.now.object true c.requires.fixed) (listed_bare c.args.self.now.pieces c.args.container c.args.entry.now.object false c.requires.unlisted) (linked_bare c.args.self.now.pieces c.args.self.now.sound c.args.self.now.stocked c.args.container c.args.entry.now.object c.requires.room)
+link_found-requires-clause-fresh c = not_linked c.args.self.now.pieces c.args.self.now.sound c.args.target.id (record { container = c.args.container.id; object = c.args.object.id }) (kind_bare c.args.self.now.pieces kinds.Container c.args.target.id true c.requires.container) (holds_bare c.args.self.now.pieces (record { container = c.args.container.id; object = c.args.object.id }) c.requires.held) (kind_bare c.args.self.now.pieces kinds.Container c.args.object.id false c.requires.plain) (fixed_bare c.args.self.now.pieces c.args.object.id true c.requires.fixed) (listed_bare c.args.self.now.pieces c.args.target.id c.args.object.id false c.requires.unlisted) (linked_bare c.args.self.now.pieces c.args.self.now.sound c.args.self.now.stocked c.args.target.id c.args.object.id c.requires.room)
 
 pub link_found-requires-clause-room : goal.link_found-requires-clause-room
-link_found-requires-clause-room c = link_left c.args.self.now.pieces c.args.self.now.sound c.args.container c.args.entry.now (kind_bare c.args.self.now.pieces kinds.Container c.args.container true c.requires.container) (holds_bare c.args.self.now.pieces c.args.entry.now c.requires.held) (kind_bare c.args.self.now.pieces kinds.Container c.args.entry.now.object false c.requires.plain) (fixed_bare c.args.self.now.pieces c.args.entry.now.object true c.requires.fixed) (listed_bare c.args.self.now.pieces c.args.container c.args.entry.now.object false c.requires.unlisted) (linked_bare c.args.self.now.pieces c.args.self.now.sound c.args.self.now.stocked c.args.container c.args.entry.now.object c.requires.room)
+link_found-requires-clause-room c = link_left c.args.self.now.pieces c.args.self.now.sound c.args.target.id (record { container = c.args.container.id; object = c.args.object.id }) (kind_bare c.args.self.now.pieces kinds.Container c.args.target.id true c.requires.container) (holds_bare c.args.self.now.pieces (record { container = c.args.container.id; object = c.args.object.id }) c.requires.held) (kind_bare c.args.self.now.pieces kinds.Container c.args.object.id false c.requires.plain) (fixed_bare c.args.self.now.pieces c.args.object.id true c.requires.fixed) (listed_bare c.args.self.now.pieces c.args.target.id c.args.object.id false c.requires.unlisted) (linked_bare c.args.self.now.pieces c.args.self.now.sound c.args.self.now.stocked c.args.target.id c.args.object.id c.requires.room)
 
 pub charge-requires : goal.charge-requires
-charge-requires c = enough c.args.self.now.pieces c.args.self.now.sound c.args.container c.args.entry.now (kind_bare c.args.self.now.pieces kinds.Container c.args.container true c.requires.container) (holds_bare c.args.self.now.pieces c.args.entry.now c.requires.held) (kind_bare c.args.self.now.pieces kinds.Container c.args.entry.now.object false c.requires.plain) (fixed_bare c.args.self.now.pieces c.args.entry.now.object true c.requires.fixed) (listed_bare c.args.self.now.pieces c.args.container c.args.entry.now.object false c.requires.unlisted) (linked_bare c.args.self.now.pieces c.args.self.now.sound c.args.self.now.stocked c.args.container c.args.entry.now.object c.requires.room)
-    c.in-Some.parent.0 c.in-Some-linked.object.0 (told_row c.args.self.now c.args.container c.or_looked_up-into.result.0 c.in-Some.parent c.in-Some.is c.or_looked_up-into.ensures.one).has (told_row c.args.self.now c.args.entry.now.object c.or_looked_up-into.result.1 c.in-Some-linked.object c.in-Some-linked.is c.or_looked_up-into.ensures.other).has
+charge-requires c = enough c.args.self.now.pieces c.args.self.now.sound c.args.target.id (record { container = c.args.container.id; object = c.args.object.id }) (kind_bare c.args.self.now.pieces kinds.Container c.args.target.id true c.requires.container) (holds_bare c.args.self.now.pieces (record { container = c.args.container.id; object = c.args.object.id }) c.requires.held) (kind_bare c.args.self.now.pieces kinds.Container c.args.object.id false c.requires.plain) (fixed_bare c.args.self.now.pieces c.args.object.id true c.requires.fixed) (listed_bare c.args.self.now.pieces c.args.target.id c.args.object.id false c.requires.unlisted) (linked_bare c.args.self.now.pieces c.args.self.now.sound c.args.self.now.stocked c.args.target.id c.args.object.id c.requires.room)
+    c.in-Some.parent.0 c.in-Some-told.linked.0 c.in-Some.ensures.found.has c.in-Some-told.ensures.found.has
     c.index.result.now c.index_mut-charged.result.now c.index.ensures c.index_mut-charged.ensures.value
 
 pub unreachable-requires : goal.unreachable-requires
-unreachable-requires c = no_object c.args.self.now.pieces c.args.self.now.sound c.args.container c.args.entry.now (kind_bare c.args.self.now.pieces kinds.Container c.args.container true c.requires.container) (holds_bare c.args.self.now.pieces c.args.entry.now c.requires.held) (kind_bare c.args.self.now.pieces kinds.Container c.args.entry.now.object false c.requires.plain) (fixed_bare c.args.self.now.pieces c.args.entry.now.object true c.requires.fixed) (listed_bare c.args.self.now.pieces c.args.container c.args.entry.now.object false c.requires.unlisted) (linked_bare c.args.self.now.pieces c.args.self.now.sound c.args.self.now.stocked c.args.container c.args.entry.now.object c.requires.room) (none_bare c.args.self.now.pieces c.args.entry.now.object (told_none _ c.or_looked_up-into.result.1 c.in-None-linked.is c.or_looked_up-into.ensures.not_other))
+unreachable-requires c = no_object c.args.self.now.pieces c.args.self.now.sound c.args.target.id (record { container = c.args.container.id; object = c.args.object.id }) (kind_bare c.args.self.now.pieces kinds.Container c.args.target.id true c.requires.container) (holds_bare c.args.self.now.pieces (record { container = c.args.container.id; object = c.args.object.id }) c.requires.held) (kind_bare c.args.self.now.pieces kinds.Container c.args.object.id false c.requires.plain) (fixed_bare c.args.self.now.pieces c.args.object.id true c.requires.fixed) (listed_bare c.args.self.now.pieces c.args.target.id c.args.object.id false c.requires.unlisted) (linked_bare c.args.self.now.pieces c.args.self.now.sound c.args.self.now.stocked c.args.target.id c.args.object.id c.requires.room) (none_bare c.args.self.now.pieces c.args.object.id c.in-None-told.ensures.none)
 
 pub unreachable-requires-in-None : goal.unreachable-requires-in-None
-unreachable-requires-in-None c = no_container c.args.self.now.pieces c.args.self.now.sound c.args.container c.args.entry.now (kind_bare c.args.self.now.pieces kinds.Container c.args.container true c.requires.container) (holds_bare c.args.self.now.pieces c.args.entry.now c.requires.held) (kind_bare c.args.self.now.pieces kinds.Container c.args.entry.now.object false c.requires.plain) (fixed_bare c.args.self.now.pieces c.args.entry.now.object true c.requires.fixed) (listed_bare c.args.self.now.pieces c.args.container c.args.entry.now.object false c.requires.unlisted) (linked_bare c.args.self.now.pieces c.args.self.now.sound c.args.self.now.stocked c.args.container c.args.entry.now.object c.requires.room) (none_bare c.args.self.now.pieces c.args.container (told_none _ c.or_looked_up-into.result.0 c.in-None.is c.or_looked_up-into.ensures.not_one))
+unreachable-requires-in-None c = no_container c.args.self.now.pieces c.args.self.now.sound c.args.target.id (record { container = c.args.container.id; object = c.args.object.id }) (kind_bare c.args.self.now.pieces kinds.Container c.args.target.id true c.requires.container) (holds_bare c.args.self.now.pieces (record { container = c.args.container.id; object = c.args.object.id }) c.requires.held) (kind_bare c.args.self.now.pieces kinds.Container c.args.object.id false c.requires.plain) (fixed_bare c.args.self.now.pieces c.args.object.id true c.requires.fixed) (listed_bare c.args.self.now.pieces c.args.target.id c.args.object.id false c.requires.unlisted) (linked_bare c.args.self.now.pieces c.args.self.now.sound c.args.self.now.stocked c.args.target.id c.args.object.id c.requires.room) (none_bare c.args.self.now.pieces c.args.target.id c.in-None.ensures.none)
 
 pub invariant_of-self : goal.invariant_of-self
 invariant_of-self c = record {
-  sound = sound_then c.args.self.now.pieces c.args.self.now.sound c.args.container c.args.entry.now (kind_bare c.args.self.now.pieces kinds.Container c.args.container true c.requires.container) (holds_bare c.args.self.now.pieces c.args.entry.now c.requires.held) (kind_bare c.args.self.now.pieces kinds.Container c.args.entry.now.object false c.requires.plain) (fixed_bare c.args.self.now.pieces c.args.entry.now.object true c.requires.fixed) (listed_bare c.args.self.now.pieces c.args.container c.args.entry.now.object false c.requires.unlisted) (linked_bare c.args.self.now.pieces c.args.self.now.sound c.args.self.now.stocked c.args.container c.args.entry.now.object c.requires.room)
-      c.in-Some.parent.0 c.in-Some-linked.object.0 (told_row c.args.self.now c.args.container c.or_looked_up-into.result.0 c.in-Some.parent c.in-Some.is c.or_looked_up-into.ensures.one).has (told_row c.args.self.now c.args.entry.now.object c.or_looked_up-into.result.1 c.in-Some-linked.object c.in-Some-linked.is c.or_looked_up-into.ensures.other).has
+  sound = sound_then c.args.self.now.pieces c.args.self.now.sound c.args.target.id (record { container = c.args.container.id; object = c.args.object.id }) (kind_bare c.args.self.now.pieces kinds.Container c.args.target.id true c.requires.container) (holds_bare c.args.self.now.pieces (record { container = c.args.container.id; object = c.args.object.id }) c.requires.held) (kind_bare c.args.self.now.pieces kinds.Container c.args.object.id false c.requires.plain) (fixed_bare c.args.self.now.pieces c.args.object.id true c.requires.fixed) (listed_bare c.args.self.now.pieces c.args.target.id c.args.object.id false c.requires.unlisted) (linked_bare c.args.self.now.pieces c.args.self.now.sound c.args.self.now.stocked c.args.target.id c.args.object.id c.requires.room)
+      c.in-Some.parent.0 c.in-Some-told.linked.0 c.in-Some.ensures.found.has c.in-Some-told.ensures.found.has
       c.index.result.now c.index_mut-charged.result.now c.index.ensures c.index_mut-charged.ensures.value
       _ refl refl refl (λ i. (c.link_found.ensures.linked i).lists) (λ i. (c.link_found.ensures.linked i).slots) (ap (λ t. length t.cells) c.link_found.ensures.linked) c.len-count.ensures.well_formed refl c.charge.new.given c.charge.ensures refl;
   stocked =
@@ -68,22 +67,22 @@ invariant_of-self c = record {
         spaces = refl;
         slots = λ i. (c.link_found.ensures.linked i).slots;
         ids = λ id. (λ i. row_slot (lookup (is_at (nat_cmp id)) (rows_of (c.link_found.ensures.linked i).lists (c.link_found.ensures.linked i).slots)))
-            ∙ slots_by_ids c.args.self.now.pieces.places.lists (add_lists c.args.self.now.pieces.places.lists c.args.container c.args.entry.now.object) c.args.self.now.pieces.places.slots
-            (ids_added c.args.self.now.pieces.places.lists c.args.container c.args.entry.now.object) id;
+            ∙ slots_by_ids c.args.self.now.pieces.places.lists (add_lists c.args.self.now.pieces.places.lists c.args.target.id c.args.object.id) c.args.self.now.pieces.places.slots
+            (ids_added c.args.self.now.pieces.places.lists c.args.target.id c.args.object.id) id;
         pages = read_set kept_pages c.args.self.now.pieces.holdings.records.items c.in-Some.parent.0 c.charge.new.given
-            (slot_within c.args.self.now.pieces c.args.self.now.sound c.args.container c.in-Some.parent.0 (told_row c.args.self.now c.args.container c.or_looked_up-into.result.0 c.in-Some.parent c.in-Some.is c.or_looked_up-into.ensures.one).has)
+            (slot_within c.args.self.now.pieces c.args.self.now.sound c.args.target.id c.in-Some.parent.0 c.in-Some.ensures.found.has)
             (ap (λ (r : Record). kept_pages r.body) c.charge.ensures ∙ reuse_pages (body_use c.index_mut-charged.result.now.body + c.index.result.now.quota) c.index_mut-charged.result.now.body
-            ∙ ap (λ (r : Record). kept_pages r.body) (read_is c.args.self.now.pieces c.args.self.now.sound c.args.container c.in-Some.parent.0 (told_row c.args.self.now c.args.container c.or_looked_up-into.result.0 c.in-Some.parent c.in-Some.is c.or_looked_up-into.ensures.one).has c.index_mut-charged.result.now c.index_mut-charged.ensures.value));
+            ∙ ap (λ (r : Record). kept_pages r.body) (read_is c.args.self.now.pieces c.args.self.now.sound c.args.target.id c.in-Some.parent.0 c.in-Some.ensures.found.has c.index_mut-charged.result.now c.index_mut-charged.ensures.value));
         space = read_set keeps_space c.args.self.now.pieces.holdings.records.items c.in-Some.parent.0 c.charge.new.given
-            (slot_within c.args.self.now.pieces c.args.self.now.sound c.args.container c.in-Some.parent.0 (told_row c.args.self.now c.args.container c.or_looked_up-into.result.0 c.in-Some.parent c.in-Some.is c.or_looked_up-into.ensures.one).has)
+            (slot_within c.args.self.now.pieces c.args.self.now.sound c.args.target.id c.in-Some.parent.0 c.in-Some.ensures.found.has)
             (ap (λ (r : Record). keeps_space r.body) c.charge.ensures ∙ reuse_space (body_use c.index_mut-charged.result.now.body + c.index.result.now.quota) c.index_mut-charged.result.now.body
-            ∙ ap (λ (r : Record). keeps_space r.body) (read_is c.args.self.now.pieces c.args.self.now.sound c.args.container c.in-Some.parent.0 (told_row c.args.self.now c.args.container c.or_looked_up-into.result.0 c.in-Some.parent c.in-Some.is c.or_looked_up-into.ensures.one).has c.index_mut-charged.result.now c.index_mut-charged.ensures.value));
+            ∙ ap (λ (r : Record). keeps_space r.body) (read_is c.args.self.now.pieces c.args.self.now.sound c.args.target.id c.in-Some.parent.0 c.in-Some.ensures.found.has c.index_mut-charged.result.now c.index_mut-charged.ensures.value));
       }) c.args.self.now.stocked;
 }
 
 pub returns-clause-slots : goal.returns-clause-slots
 returns-clause-slots c = λ id slot h.
-    linked_slots c.args.self.now.pieces.places c.link_found.new.self c.args.container c.args.entry.now.object c.link_found.ensures.linked id slot h
+    linked_slots c.args.self.now.pieces.places c.link_found.new.self c.args.target.id c.args.object.id c.link_found.ensures.linked id slot h
 
 pub returns-clause-state : goal.returns-clause-state
 returns-clause-state c =
@@ -100,19 +99,19 @@ returns-clause-state c =
       spaces = refl;
       slots = λ i. (c.link_found.ensures.linked i).slots;
       ids = λ id. (λ i. row_slot (lookup (is_at (nat_cmp id)) (rows_of (c.link_found.ensures.linked i).lists (c.link_found.ensures.linked i).slots)))
-          ∙ slots_by_ids c.args.self.now.pieces.places.lists (add_lists c.args.self.now.pieces.places.lists c.args.container c.args.entry.now.object) c.args.self.now.pieces.places.slots
-          (ids_added c.args.self.now.pieces.places.lists c.args.container c.args.entry.now.object) id;
+          ∙ slots_by_ids c.args.self.now.pieces.places.lists (add_lists c.args.self.now.pieces.places.lists c.args.target.id c.args.object.id) c.args.self.now.pieces.places.slots
+          (ids_added c.args.self.now.pieces.places.lists c.args.target.id c.args.object.id) id;
       pages = read_set kept_pages c.args.self.now.pieces.holdings.records.items c.in-Some.parent.0 c.charge.new.given
-          (slot_within c.args.self.now.pieces c.args.self.now.sound c.args.container c.in-Some.parent.0 (told_row c.args.self.now c.args.container c.or_looked_up-into.result.0 c.in-Some.parent c.in-Some.is c.or_looked_up-into.ensures.one).has)
+          (slot_within c.args.self.now.pieces c.args.self.now.sound c.args.target.id c.in-Some.parent.0 c.in-Some.ensures.found.has)
           (ap (λ (r : Record). kept_pages r.body) c.charge.ensures ∙ reuse_pages (body_use c.index_mut-charged.result.now.body + c.index.result.now.quota) c.index_mut-charged.result.now.body
-          ∙ ap (λ (r : Record). kept_pages r.body) (read_is c.args.self.now.pieces c.args.self.now.sound c.args.container c.in-Some.parent.0 (told_row c.args.self.now c.args.container c.or_looked_up-into.result.0 c.in-Some.parent c.in-Some.is c.or_looked_up-into.ensures.one).has c.index_mut-charged.result.now c.index_mut-charged.ensures.value));
+          ∙ ap (λ (r : Record). kept_pages r.body) (read_is c.args.self.now.pieces c.args.self.now.sound c.args.target.id c.in-Some.parent.0 c.in-Some.ensures.found.has c.index_mut-charged.result.now c.index_mut-charged.ensures.value));
       space = read_set keeps_space c.args.self.now.pieces.holdings.records.items c.in-Some.parent.0 c.charge.new.given
-          (slot_within c.args.self.now.pieces c.args.self.now.sound c.args.container c.in-Some.parent.0 (told_row c.args.self.now c.args.container c.or_looked_up-into.result.0 c.in-Some.parent c.in-Some.is c.or_looked_up-into.ensures.one).has)
+          (slot_within c.args.self.now.pieces c.args.self.now.sound c.args.target.id c.in-Some.parent.0 c.in-Some.ensures.found.has)
           (ap (λ (r : Record). keeps_space r.body) c.charge.ensures ∙ reuse_space (body_use c.index_mut-charged.result.now.body + c.index.result.now.quota) c.index_mut-charged.result.now.body
-          ∙ ap (λ (r : Record). keeps_space r.body) (read_is c.args.self.now.pieces c.args.self.now.sound c.args.container c.in-Some.parent.0 (told_row c.args.self.now c.args.container c.or_looked_up-into.result.0 c.in-Some.parent c.in-Some.is c.or_looked_up-into.ensures.one).has c.index_mut-charged.result.now c.index_mut-charged.ensures.value));
+          ∙ ap (λ (r : Record). keeps_space r.body) (read_is c.args.self.now.pieces c.args.self.now.sound c.args.target.id c.in-Some.parent.0 c.in-Some.ensures.found.has c.index_mut-charged.result.now c.index_mut-charged.ensures.value));
     })
-    c.args.self.now.sound c.args.container (listing c.args.entry.now.object) (relisting_apart (λ ids. ids ++ c.args.entry.now.object ∷ []))
-    (state_then c.args.self.now.pieces c.args.self.now.sound c.args.container c.args.entry.now (kind_bare c.args.self.now.pieces kinds.Container c.args.container true c.requires.container) (holds_bare c.args.self.now.pieces c.args.entry.now c.requires.held) (kind_bare c.args.self.now.pieces kinds.Container c.args.entry.now.object false c.requires.plain) (fixed_bare c.args.self.now.pieces c.args.entry.now.object true c.requires.fixed) (listed_bare c.args.self.now.pieces c.args.container c.args.entry.now.object false c.requires.unlisted) (linked_bare c.args.self.now.pieces c.args.self.now.sound c.args.self.now.stocked c.args.container c.args.entry.now.object c.requires.room)
-    c.in-Some.parent.0 c.in-Some-linked.object.0 (told_row c.args.self.now c.args.container c.or_looked_up-into.result.0 c.in-Some.parent c.in-Some.is c.or_looked_up-into.ensures.one).has (told_row c.args.self.now c.args.entry.now.object c.or_looked_up-into.result.1 c.in-Some-linked.object c.in-Some-linked.is c.or_looked_up-into.ensures.other).has
+    c.args.self.now.sound c.args.target.id (listing c.args.object.id) (relisting_apart (λ ids. ids ++ c.args.object.id ∷ []))
+    (state_then c.args.self.now.pieces c.args.self.now.sound c.args.target.id (record { container = c.args.container.id; object = c.args.object.id }) (kind_bare c.args.self.now.pieces kinds.Container c.args.target.id true c.requires.container) (holds_bare c.args.self.now.pieces (record { container = c.args.container.id; object = c.args.object.id }) c.requires.held) (kind_bare c.args.self.now.pieces kinds.Container c.args.object.id false c.requires.plain) (fixed_bare c.args.self.now.pieces c.args.object.id true c.requires.fixed) (listed_bare c.args.self.now.pieces c.args.target.id c.args.object.id false c.requires.unlisted) (linked_bare c.args.self.now.pieces c.args.self.now.sound c.args.self.now.stocked c.args.target.id c.args.object.id c.requires.room)
+    c.in-Some.parent.0 c.in-Some-told.linked.0 c.in-Some.ensures.found.has c.in-Some-told.ensures.found.has
     c.index.result.now c.index_mut-charged.result.now c.index.ensures c.index_mut-charged.ensures.value
     q refl refl refl (λ i. (c.link_found.ensures.linked i).lists) (λ i. (c.link_found.ensures.linked i).slots) (ap (λ t. length t.cells) c.link_found.ensures.linked) c.len-count.ensures.well_formed refl c.charge.new.given c.charge.ensures refl)

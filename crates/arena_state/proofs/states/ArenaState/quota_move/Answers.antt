@@ -12,38 +12,38 @@ use Rattle.arena_state.proofs.MovedLaws.{no_object, no_container, quota_fits, qu
 use Rattle.arena_state.proofs.states.ArenaState.quota_move.Goals as goal
 
 pub requote-requires-clause-fits : goal.requote-requires-clause-fits
-requote-requires-clause-fits c = quota_fits c.args.self.now.pieces c.args.self.now.sound c.args.entry.now c.args.up c.args.down (listed_bare c.args.self.now.pieces c.args.entry.now.container c.args.entry.now.object true c.requires.listed) (fixed_bare c.args.self.now.pieces c.args.entry.now.object false c.requires.loose) (used_bare c.args.self.now.pieces c.args.self.now.sound c.args.self.now.stocked c.args.entry.now.container c.args.up c.requires.room) (used_bare c.args.self.now.pieces c.args.self.now.sound c.args.self.now.stocked c.args.entry.now.object c.args.down c.requires.free)
-    c.in-Some.container.0 c.in-Some-slot.object.0 c.in-Some.ensures.found.has c.in-Some-slot.ensures.found.has
+requote-requires-clause-fits c = quota_fits c.args.self.now.pieces c.args.self.now.sound (record { container = c.args.container.id; object = c.args.object.id }) c.args.up c.args.down (listed_bare c.args.self.now.pieces c.args.container.id c.args.object.id true c.requires.listed) (fixed_bare c.args.self.now.pieces c.args.object.id false c.requires.loose) (used_bare c.args.self.now.pieces c.args.self.now.sound c.args.self.now.stocked c.args.container.id c.args.up c.requires.room) (used_bare c.args.self.now.pieces c.args.self.now.sound c.args.self.now.stocked c.args.object.id c.args.down c.requires.free)
+    c.in-Some.parent.0 c.in-Some-told.moved.0 c.in-Some.ensures.found.has c.in-Some-told.ensures.found.has
     c.index.result.now c.index_mut.result.now c.index.ensures c.index_mut.ensures.value
 
 pub requote-requires-clause-enough : goal.requote-requires-clause-enough
-requote-requires-clause-enough c = quota_enough c.args.self.now.pieces c.args.self.now.sound c.args.entry.now c.args.up c.args.down (listed_bare c.args.self.now.pieces c.args.entry.now.container c.args.entry.now.object true c.requires.listed) (fixed_bare c.args.self.now.pieces c.args.entry.now.object false c.requires.loose) (used_bare c.args.self.now.pieces c.args.self.now.sound c.args.self.now.stocked c.args.entry.now.container c.args.up c.requires.room) (used_bare c.args.self.now.pieces c.args.self.now.sound c.args.self.now.stocked c.args.entry.now.object c.args.down c.requires.free)
-    c.in-Some.container.0 c.in-Some-slot.object.0 c.in-Some.ensures.found.has c.in-Some-slot.ensures.found.has
+requote-requires-clause-enough c = quota_enough c.args.self.now.pieces c.args.self.now.sound (record { container = c.args.container.id; object = c.args.object.id }) c.args.up c.args.down (listed_bare c.args.self.now.pieces c.args.container.id c.args.object.id true c.requires.listed) (fixed_bare c.args.self.now.pieces c.args.object.id false c.requires.loose) (used_bare c.args.self.now.pieces c.args.self.now.sound c.args.self.now.stocked c.args.container.id c.args.up c.requires.room) (used_bare c.args.self.now.pieces c.args.self.now.sound c.args.self.now.stocked c.args.object.id c.args.down c.requires.free)
+    c.in-Some.parent.0 c.in-Some-told.moved.0 c.in-Some.ensures.found.has c.in-Some-told.ensures.found.has
     c.index.result.now c.index_mut.result.now c.index.ensures c.index_mut.ensures.value
 
 pub charge-requires : goal.charge-requires
-charge-requires c = charge_fits c.args.self.now.pieces c.args.self.now.sound c.args.entry.now c.args.up c.args.down (listed_bare c.args.self.now.pieces c.args.entry.now.container c.args.entry.now.object true c.requires.listed) (fixed_bare c.args.self.now.pieces c.args.entry.now.object false c.requires.loose) (used_bare c.args.self.now.pieces c.args.self.now.sound c.args.self.now.stocked c.args.entry.now.container c.args.up c.requires.room) (used_bare c.args.self.now.pieces c.args.self.now.sound c.args.self.now.stocked c.args.entry.now.object c.args.down c.requires.free)
-    c.in-Some.container.0 c.in-Some-slot.object.0 c.in-Some.ensures.found.has c.in-Some-slot.ensures.found.has
+charge-requires c = charge_fits c.args.self.now.pieces c.args.self.now.sound (record { container = c.args.container.id; object = c.args.object.id }) c.args.up c.args.down (listed_bare c.args.self.now.pieces c.args.container.id c.args.object.id true c.requires.listed) (fixed_bare c.args.self.now.pieces c.args.object.id false c.requires.loose) (used_bare c.args.self.now.pieces c.args.self.now.sound c.args.self.now.stocked c.args.container.id c.args.up c.requires.room) (used_bare c.args.self.now.pieces c.args.self.now.sound c.args.self.now.stocked c.args.object.id c.args.down c.requires.free)
+    c.in-Some.parent.0 c.in-Some-told.moved.0 c.in-Some.ensures.found.has c.in-Some-told.ensures.found.has
     c.index.result.now c.index_mut.result.now c.index.ensures c.index_mut.ensures.value
     c.requote.new.given c.requote.ensures c.index_mut-charged.result.now c.index_mut-charged.ensures.value
 
 pub discharge-requires : goal.discharge-requires
-discharge-requires c = charge_enough c.args.self.now.pieces c.args.self.now.sound c.args.entry.now c.args.up c.args.down (listed_bare c.args.self.now.pieces c.args.entry.now.container c.args.entry.now.object true c.requires.listed) (fixed_bare c.args.self.now.pieces c.args.entry.now.object false c.requires.loose) (used_bare c.args.self.now.pieces c.args.self.now.sound c.args.self.now.stocked c.args.entry.now.container c.args.up c.requires.room) (used_bare c.args.self.now.pieces c.args.self.now.sound c.args.self.now.stocked c.args.entry.now.object c.args.down c.requires.free)
-    c.in-Some.container.0 c.in-Some-slot.object.0 c.in-Some.ensures.found.has c.in-Some-slot.ensures.found.has
+discharge-requires c = charge_enough c.args.self.now.pieces c.args.self.now.sound (record { container = c.args.container.id; object = c.args.object.id }) c.args.up c.args.down (listed_bare c.args.self.now.pieces c.args.container.id c.args.object.id true c.requires.listed) (fixed_bare c.args.self.now.pieces c.args.object.id false c.requires.loose) (used_bare c.args.self.now.pieces c.args.self.now.sound c.args.self.now.stocked c.args.container.id c.args.up c.requires.room) (used_bare c.args.self.now.pieces c.args.self.now.sound c.args.self.now.stocked c.args.object.id c.args.down c.requires.free)
+    c.in-Some.parent.0 c.in-Some-told.moved.0 c.in-Some.ensures.found.has c.in-Some-told.ensures.found.has
     c.index.result.now c.index_mut.result.now c.index.ensures c.index_mut.ensures.value
     c.requote.new.given c.requote.ensures c.index_mut-charged.result.now c.index_mut-charged.ensures.value
     c.charge.new.given c.charge.ensures
 
 pub unreachable-requires : goal.unreachable-requires
-unreachable-requires c = no_object c.args.self.now.pieces c.args.self.now.sound c.args.entry.now c.args.up c.args.down (listed_bare c.args.self.now.pieces c.args.entry.now.container c.args.entry.now.object true c.requires.listed) (fixed_bare c.args.self.now.pieces c.args.entry.now.object false c.requires.loose) (used_bare c.args.self.now.pieces c.args.self.now.sound c.args.self.now.stocked c.args.entry.now.container c.args.up c.requires.room) (used_bare c.args.self.now.pieces c.args.self.now.sound c.args.self.now.stocked c.args.entry.now.object c.args.down c.requires.free) (none_bare c.args.self.now.pieces c.args.entry.now.object c.in-None-slot.ensures.none)
+unreachable-requires c = no_object c.args.self.now.pieces c.args.self.now.sound (record { container = c.args.container.id; object = c.args.object.id }) c.args.up c.args.down (listed_bare c.args.self.now.pieces c.args.container.id c.args.object.id true c.requires.listed) (fixed_bare c.args.self.now.pieces c.args.object.id false c.requires.loose) (used_bare c.args.self.now.pieces c.args.self.now.sound c.args.self.now.stocked c.args.container.id c.args.up c.requires.room) (used_bare c.args.self.now.pieces c.args.self.now.sound c.args.self.now.stocked c.args.object.id c.args.down c.requires.free) (none_bare c.args.self.now.pieces c.args.object.id c.in-None-told.ensures.none)
 
 pub unreachable-requires-in-None : goal.unreachable-requires-in-None
-unreachable-requires-in-None c = no_container c.args.self.now.pieces c.args.self.now.sound c.args.entry.now c.args.up c.args.down (listed_bare c.args.self.now.pieces c.args.entry.now.container c.args.entry.now.object true c.requires.listed) (fixed_bare c.args.self.now.pieces c.args.entry.now.object false c.requires.loose) (used_bare c.args.self.now.pieces c.args.self.now.sound c.args.self.now.stocked c.args.entry.now.container c.args.up c.requires.room) (used_bare c.args.self.now.pieces c.args.self.now.sound c.args.self.now.stocked c.args.entry.now.object c.args.down c.requires.free) (none_bare c.args.self.now.pieces c.args.entry.now.container c.in-None.ensures.none)
+unreachable-requires-in-None c = no_container c.args.self.now.pieces c.args.self.now.sound (record { container = c.args.container.id; object = c.args.object.id }) c.args.up c.args.down (listed_bare c.args.self.now.pieces c.args.container.id c.args.object.id true c.requires.listed) (fixed_bare c.args.self.now.pieces c.args.object.id false c.requires.loose) (used_bare c.args.self.now.pieces c.args.self.now.sound c.args.self.now.stocked c.args.container.id c.args.up c.requires.room) (used_bare c.args.self.now.pieces c.args.self.now.sound c.args.self.now.stocked c.args.object.id c.args.down c.requires.free) (none_bare c.args.self.now.pieces c.args.container.id c.in-None.ensures.none)
 
 pub invariant_of-self : goal.invariant_of-self
 invariant_of-self c = record {
-  sound = sound_then c.args.self.now.pieces c.args.self.now.sound c.args.entry.now c.args.up c.args.down (listed_bare c.args.self.now.pieces c.args.entry.now.container c.args.entry.now.object true c.requires.listed) (fixed_bare c.args.self.now.pieces c.args.entry.now.object false c.requires.loose) (used_bare c.args.self.now.pieces c.args.self.now.sound c.args.self.now.stocked c.args.entry.now.container c.args.up c.requires.room) (used_bare c.args.self.now.pieces c.args.self.now.sound c.args.self.now.stocked c.args.entry.now.object c.args.down c.requires.free)
-      c.in-Some.container.0 c.in-Some-slot.object.0 c.in-Some.ensures.found.has c.in-Some-slot.ensures.found.has
+  sound = sound_then c.args.self.now.pieces c.args.self.now.sound (record { container = c.args.container.id; object = c.args.object.id }) c.args.up c.args.down (listed_bare c.args.self.now.pieces c.args.container.id c.args.object.id true c.requires.listed) (fixed_bare c.args.self.now.pieces c.args.object.id false c.requires.loose) (used_bare c.args.self.now.pieces c.args.self.now.sound c.args.self.now.stocked c.args.container.id c.args.up c.requires.room) (used_bare c.args.self.now.pieces c.args.self.now.sound c.args.self.now.stocked c.args.object.id c.args.down c.requires.free)
+      c.in-Some.parent.0 c.in-Some-told.moved.0 c.in-Some.ensures.found.has c.in-Some-told.ensures.found.has
       c.index.result.now c.index_mut.result.now c.index.ensures c.index_mut.ensures.value
       c.requote.new.given c.requote.ensures c.index_mut-charged.result.now c.index_mut-charged.ensures.value
       c.charge.new.given c.charge.ensures
@@ -51,7 +51,7 @@ invariant_of-self c = record {
   stocked =
       let q : Pieces = record c.args.self.now.pieces {
         holdings = record c.args.self.now.pieces.holdings {
-          records = with_item (with_item c.args.self.now.pieces.holdings.records c.in-Some-slot.object.0 c.requote.new.given) c.in-Some.container.0 c.discharge.new.given;
+          records = with_item (with_item c.args.self.now.pieces.holdings.records c.in-Some-told.moved.0 c.requote.new.given) c.in-Some.parent.0 c.discharge.new.given;
         };
       } in
       held_stocked c.args.self.now.pieces q (record {
@@ -61,15 +61,15 @@ invariant_of-self c = record {
         spaces = refl;
         slots = refl;
         ids = λ id. refl;
-        pages = moved_read kept_pages reuse_pages c.args.self.now.pieces.holdings.records.items c.in-Some-slot.object.0 c.in-Some.container.0
-            (slot_within c.args.self.now.pieces c.args.self.now.sound c.args.entry.now.object c.in-Some-slot.object.0 c.in-Some-slot.ensures.found.has) (slot_within c.args.self.now.pieces c.args.self.now.sound c.args.entry.now.container c.in-Some.container.0 c.in-Some.ensures.found.has)
+        pages = moved_read kept_pages reuse_pages c.args.self.now.pieces.holdings.records.items c.in-Some-told.moved.0 c.in-Some.parent.0
+            (slot_within c.args.self.now.pieces c.args.self.now.sound c.args.object.id c.in-Some-told.moved.0 c.in-Some-told.ensures.found.has) (slot_within c.args.self.now.pieces c.args.self.now.sound c.args.container.id c.in-Some.parent.0 c.in-Some.ensures.found.has)
             c.index_mut.result.now c.requote.new.given c.index_mut-charged.result.now c.charge.new.given c.discharge.new.given
-            (read_is c.args.self.now.pieces c.args.self.now.sound c.args.entry.now.object c.in-Some-slot.object.0 c.in-Some-slot.ensures.found.has c.index_mut.result.now c.index_mut.ensures.value) _ c.requote.ensures c.index_mut-charged.ensures.value
+            (read_is c.args.self.now.pieces c.args.self.now.sound c.args.object.id c.in-Some-told.moved.0 c.in-Some-told.ensures.found.has c.index_mut.result.now c.index_mut.ensures.value) _ c.requote.ensures c.index_mut-charged.ensures.value
             _ c.charge.ensures _ c.discharge.ensures;
-        space = moved_read keeps_space reuse_space c.args.self.now.pieces.holdings.records.items c.in-Some-slot.object.0 c.in-Some.container.0
-            (slot_within c.args.self.now.pieces c.args.self.now.sound c.args.entry.now.object c.in-Some-slot.object.0 c.in-Some-slot.ensures.found.has) (slot_within c.args.self.now.pieces c.args.self.now.sound c.args.entry.now.container c.in-Some.container.0 c.in-Some.ensures.found.has)
+        space = moved_read keeps_space reuse_space c.args.self.now.pieces.holdings.records.items c.in-Some-told.moved.0 c.in-Some.parent.0
+            (slot_within c.args.self.now.pieces c.args.self.now.sound c.args.object.id c.in-Some-told.moved.0 c.in-Some-told.ensures.found.has) (slot_within c.args.self.now.pieces c.args.self.now.sound c.args.container.id c.in-Some.parent.0 c.in-Some.ensures.found.has)
             c.index_mut.result.now c.requote.new.given c.index_mut-charged.result.now c.charge.new.given c.discharge.new.given
-            (read_is c.args.self.now.pieces c.args.self.now.sound c.args.entry.now.object c.in-Some-slot.object.0 c.in-Some-slot.ensures.found.has c.index_mut.result.now c.index_mut.ensures.value) _ c.requote.ensures c.index_mut-charged.ensures.value
+            (read_is c.args.self.now.pieces c.args.self.now.sound c.args.object.id c.in-Some-told.moved.0 c.in-Some-told.ensures.found.has c.index_mut.result.now c.index_mut.ensures.value) _ c.requote.ensures c.index_mut-charged.ensures.value
             _ c.charge.ensures _ c.discharge.ensures;
       }) c.args.self.now.stocked;
 }
@@ -78,7 +78,7 @@ pub returns-clause-state : goal.returns-clause-state
 returns-clause-state c =
     let q : Pieces = record c.args.self.now.pieces {
       holdings = record c.args.self.now.pieces.holdings {
-        records = with_item (with_item c.args.self.now.pieces.holdings.records c.in-Some-slot.object.0 c.requote.new.given) c.in-Some.container.0 c.discharge.new.given;
+        records = with_item (with_item c.args.self.now.pieces.holdings.records c.in-Some-told.moved.0 c.requote.new.given) c.in-Some.parent.0 c.discharge.new.given;
       };
     } in
     held_state c.args.self.now.pieces q (record {
@@ -88,20 +88,20 @@ returns-clause-state c =
       spaces = refl;
       slots = refl;
       ids = λ id. refl;
-      pages = moved_read kept_pages reuse_pages c.args.self.now.pieces.holdings.records.items c.in-Some-slot.object.0 c.in-Some.container.0
-          (slot_within c.args.self.now.pieces c.args.self.now.sound c.args.entry.now.object c.in-Some-slot.object.0 c.in-Some-slot.ensures.found.has) (slot_within c.args.self.now.pieces c.args.self.now.sound c.args.entry.now.container c.in-Some.container.0 c.in-Some.ensures.found.has)
+      pages = moved_read kept_pages reuse_pages c.args.self.now.pieces.holdings.records.items c.in-Some-told.moved.0 c.in-Some.parent.0
+          (slot_within c.args.self.now.pieces c.args.self.now.sound c.args.object.id c.in-Some-told.moved.0 c.in-Some-told.ensures.found.has) (slot_within c.args.self.now.pieces c.args.self.now.sound c.args.container.id c.in-Some.parent.0 c.in-Some.ensures.found.has)
           c.index_mut.result.now c.requote.new.given c.index_mut-charged.result.now c.charge.new.given c.discharge.new.given
-          (read_is c.args.self.now.pieces c.args.self.now.sound c.args.entry.now.object c.in-Some-slot.object.0 c.in-Some-slot.ensures.found.has c.index_mut.result.now c.index_mut.ensures.value) _ c.requote.ensures c.index_mut-charged.ensures.value
+          (read_is c.args.self.now.pieces c.args.self.now.sound c.args.object.id c.in-Some-told.moved.0 c.in-Some-told.ensures.found.has c.index_mut.result.now c.index_mut.ensures.value) _ c.requote.ensures c.index_mut-charged.ensures.value
           _ c.charge.ensures _ c.discharge.ensures;
-      space = moved_read keeps_space reuse_space c.args.self.now.pieces.holdings.records.items c.in-Some-slot.object.0 c.in-Some.container.0
-          (slot_within c.args.self.now.pieces c.args.self.now.sound c.args.entry.now.object c.in-Some-slot.object.0 c.in-Some-slot.ensures.found.has) (slot_within c.args.self.now.pieces c.args.self.now.sound c.args.entry.now.container c.in-Some.container.0 c.in-Some.ensures.found.has)
+      space = moved_read keeps_space reuse_space c.args.self.now.pieces.holdings.records.items c.in-Some-told.moved.0 c.in-Some.parent.0
+          (slot_within c.args.self.now.pieces c.args.self.now.sound c.args.object.id c.in-Some-told.moved.0 c.in-Some-told.ensures.found.has) (slot_within c.args.self.now.pieces c.args.self.now.sound c.args.container.id c.in-Some.parent.0 c.in-Some.ensures.found.has)
           c.index_mut.result.now c.requote.new.given c.index_mut-charged.result.now c.charge.new.given c.discharge.new.given
-          (read_is c.args.self.now.pieces c.args.self.now.sound c.args.entry.now.object c.in-Some-slot.object.0 c.in-Some-slot.ensures.found.has c.index_mut.result.now c.index_mut.ensures.value) _ c.requote.ensures c.index_mut-charged.ensures.value
+          (read_is c.args.self.now.pieces c.args.self.now.sound c.args.object.id c.in-Some-told.moved.0 c.in-Some-told.ensures.found.has c.index_mut.result.now c.index_mut.ensures.value) _ c.requote.ensures c.index_mut-charged.ensures.value
           _ c.charge.ensures _ c.discharge.ensures;
     })
-    c.args.self.now.sound c.args.entry.now.object (requoted c.args.up c.args.down) (λ o x. refl)
-    (state_then c.args.self.now.pieces c.args.self.now.sound c.args.entry.now c.args.up c.args.down (listed_bare c.args.self.now.pieces c.args.entry.now.container c.args.entry.now.object true c.requires.listed) (fixed_bare c.args.self.now.pieces c.args.entry.now.object false c.requires.loose) (used_bare c.args.self.now.pieces c.args.self.now.sound c.args.self.now.stocked c.args.entry.now.container c.args.up c.requires.room) (used_bare c.args.self.now.pieces c.args.self.now.sound c.args.self.now.stocked c.args.entry.now.object c.args.down c.requires.free)
-    c.in-Some.container.0 c.in-Some-slot.object.0 c.in-Some.ensures.found.has c.in-Some-slot.ensures.found.has
+    c.args.self.now.sound c.args.object.id (requoted c.args.up c.args.down) (λ o x. refl)
+    (state_then c.args.self.now.pieces c.args.self.now.sound (record { container = c.args.container.id; object = c.args.object.id }) c.args.up c.args.down (listed_bare c.args.self.now.pieces c.args.container.id c.args.object.id true c.requires.listed) (fixed_bare c.args.self.now.pieces c.args.object.id false c.requires.loose) (used_bare c.args.self.now.pieces c.args.self.now.sound c.args.self.now.stocked c.args.container.id c.args.up c.requires.room) (used_bare c.args.self.now.pieces c.args.self.now.sound c.args.self.now.stocked c.args.object.id c.args.down c.requires.free)
+    c.in-Some.parent.0 c.in-Some-told.moved.0 c.in-Some.ensures.found.has c.in-Some-told.ensures.found.has
     c.index.result.now c.index_mut.result.now c.index.ensures c.index_mut.ensures.value
     c.requote.new.given c.requote.ensures c.index_mut-charged.result.now c.index_mut-charged.ensures.value
     c.charge.new.given c.charge.ensures

@@ -8,13 +8,13 @@ pub returns-then-is_space-clause-value : goal.returns-then-is_space-clause-value
 returns-then-is_space-clause-value c =
     let a = c.args.self.now in
     let has = c.in-Some.ensures.found.has in
-    let read = read_is a.pieces a.sound c.args.id c.in-Some.slot.0 has c.index.result.now c.index.ensures in
+    let read = read_is a.pieces a.sound c.args.at.id c.in-Some.slot.0 has c.index.result.now c.index.ensures in
     c.mappings.ensures.value
-    ∙ sym (slots_here a c.args.id c.in-Some.slot.0 has (sym (ap (λ r. keeps_space r.body) read) ∙ sym c.if-is_space.ensures))
+    ∙ sym (slots_here a c.args.at.id c.in-Some.slot.0 has (sym (ap (λ r. keeps_space r.body) read) ∙ sym c.if-is_space.ensures))
 
 pub returns-else-is_space-clause-value : goal.returns-else-is_space-clause-value
 returns-else-is_space-clause-value c =
     let a = c.args.self.now in
     let has = c.in-Some.ensures.found.has in
-    let read = read_is a.pieces a.sound c.args.id c.in-Some.slot.0 has c.index.result.now c.index.ensures in
-    sym (no_slots_here a c.args.id c.in-Some.slot.0 has (sym (ap (λ r. keeps_space r.body) read) ∙ sym c.if-is_space.ensures))
+    let read = read_is a.pieces a.sound c.args.at.id c.in-Some.slot.0 has c.index.result.now c.index.ensures in
+    sym (no_slots_here a c.args.at.id c.in-Some.slot.0 has (sym (ap (λ r. keeps_space r.body) read) ∙ sym c.if-is_space.ensures))

@@ -1,6 +1,5 @@
 use Rattle.std.proofs.Common.{arith}
-use Rattle.syscall_core.proofs.RowLaws.{few_probes}
 use Rattle.syscall_core.proofs.stores.KeptStateStore.bytes_from.Goals as goal
 
 pub returns-clause-looks : goal.returns-clause-looks
-returns-clause-looks c = omega (arith, c.bytes_from.ensures.probes, few_probes c.args.self.now c.few.ensures)
+returns-clause-looks c = omega (arith, c.bytes_from.ensures.probes)

@@ -21,11 +21,11 @@ invariant_of-self c =
     let b = c.make_copy-id.new.self in
     let new = c.remake_row.new.rows in
     record {
-      kept = row_remade k.state b k.rows new s.next_id k.kept (made_of s c.args.container (option_copied c.args.label) c.args.quota (is.Segment (bytes_at s c.args.source)))
-          c.make_copy-id.ensures.state c.make_copy-id.ensures.slots (made_limits s c.args.container (option_copied c.args.label) c.args.quota (is.Segment (bytes_at s c.args.source)))
-          (made_space s c.args.container (option_copied c.args.label) c.args.quota (is.Segment (bytes_at s c.args.source))
+      kept = row_remade k.state b k.rows new s.next_id k.kept (made_of s c.args.container.id (option_copied c.args.label) c.args.quota (is.Segment (bytes_at s c.args.source.id)))
+          c.make_copy-id.ensures.state c.make_copy-id.ensures.slots (made_limits s c.args.container.id (option_copied c.args.label) c.args.quota (is.Segment (bytes_at s c.args.source.id)))
+          (made_space s c.args.container.id (option_copied c.args.label) c.args.quota (is.Segment (bytes_at s c.args.source.id))
           (whole_formed k.state.pieces k.state.sound k.state.stocked) c.requires.fitting.container)
-          (λ q i off. created_row s c.args.container (option_copied c.args.label) c.args.quota (is.Segment (bytes_at s c.args.source)) q i
+          (λ q i off. created_row s c.args.container.id (option_copied c.args.label) c.args.quota (is.Segment (bytes_at s c.args.source.id)) q i
           (whole_formed k.state.pieces k.state.sound k.state.stocked) k.named c.requires.fitting.container off)
           c.remake_row.ensures.size
           (subst (λ (t : ℕ). (slot : ℕ) → HasSlot b.pieces.places t slot → Tells (state_of b) t new slot)
@@ -33,5 +33,5 @@ invariant_of-self c =
           (subst (λ (t : ℕ). (slot : ℕ) → (HasSlot b.pieces.places t slot → ⊥) → SameAt k.rows new slot)
           c.make_copy-id.ensures.id c.remake_row.ensures.others);
       named = subst IsNamedRightly (sym c.make_copy-id.ensures.state)
-          (named_created s c.args.container (option_copied c.args.label) c.args.quota (is.Segment (bytes_at s c.args.source)) k.named (nothing_named s (is.Segment (bytes_at s c.args.source)) refl refl));
+          (named_created s c.args.container.id (option_copied c.args.label) c.args.quota (is.Segment (bytes_at s c.args.source.id)) k.named (nothing_named s (is.Segment (bytes_at s c.args.source.id)) refl refl));
     }

@@ -20,11 +20,11 @@ invariant_of-self c =
     let b = c.make_segment-id.new.self in
     let new = c.remake_row.new.rows in
     record {
-      kept = row_remade k.state b k.rows new s.next_id k.kept (made_of s c.args.container (option_copied c.args.label) c.args.quota (is.Segment (replicate (256 * c.args.pages) 0)))
-          c.make_segment-id.ensures.state c.make_segment-id.ensures.slots (made_limits s c.args.container (option_copied c.args.label) c.args.quota (is.Segment (replicate (256 * c.args.pages) 0)))
-          (made_space s c.args.container (option_copied c.args.label) c.args.quota (is.Segment (replicate (256 * c.args.pages) 0))
+      kept = row_remade k.state b k.rows new s.next_id k.kept (made_of s c.args.container.id (option_copied c.args.label) c.args.quota (is.Segment (replicate (256 * c.args.pages) 0)))
+          c.make_segment-id.ensures.state c.make_segment-id.ensures.slots (made_limits s c.args.container.id (option_copied c.args.label) c.args.quota (is.Segment (replicate (256 * c.args.pages) 0)))
+          (made_space s c.args.container.id (option_copied c.args.label) c.args.quota (is.Segment (replicate (256 * c.args.pages) 0))
           (whole_formed k.state.pieces k.state.sound k.state.stocked) c.requires.fitting.container)
-          (λ q i off. created_row s c.args.container (option_copied c.args.label) c.args.quota (is.Segment (replicate (256 * c.args.pages) 0)) q i
+          (λ q i off. created_row s c.args.container.id (option_copied c.args.label) c.args.quota (is.Segment (replicate (256 * c.args.pages) 0)) q i
           (whole_formed k.state.pieces k.state.sound k.state.stocked) k.named c.requires.fitting.container off)
           c.remake_row.ensures.size
           (subst (λ (t : ℕ). (slot : ℕ) → HasSlot b.pieces.places t slot → Tells (state_of b) t new slot)
@@ -32,5 +32,5 @@ invariant_of-self c =
           (subst (λ (t : ℕ). (slot : ℕ) → (HasSlot b.pieces.places t slot → ⊥) → SameAt k.rows new slot)
           c.make_segment-id.ensures.id c.remake_row.ensures.others);
       named = subst IsNamedRightly (sym c.make_segment-id.ensures.state)
-          (named_created s c.args.container (option_copied c.args.label) c.args.quota (is.Segment (replicate (256 * c.args.pages) 0)) k.named (nothing_named s (is.Segment (replicate (256 * c.args.pages) 0)) refl refl));
+          (named_created s c.args.container.id (option_copied c.args.label) c.args.quota (is.Segment (replicate (256 * c.args.pages) 0)) k.named (nothing_named s (is.Segment (replicate (256 * c.args.pages) 0)) refl refl));
     }

@@ -12,6 +12,6 @@ invariant_of-self c =
     let k = c.args.self.now in
     let s = state_of k.state in
     record {
-      kept = alike_rows_stay k.state c.dev_recv.new.self k.rows c.args.id (with_body (requeue (drop 1))) k.kept c.dev_recv.ensures.places c.dev_recv.ensures.state (alike_packets (drop 1));
-      named = subst IsNamedRightly (sym c.dev_recv.ensures.state) (named_packets s c.args.id (drop 1) k.named);
+      kept = alike_rows_stay k.state c.dev_recv.new.self k.rows c.args.device.id (with_body (requeue (drop 1))) k.kept c.dev_recv.ensures.places c.dev_recv.ensures.state (alike_packets (drop 1));
+      named = subst IsNamedRightly (sym c.dev_recv.ensures.state) (named_packets s c.args.device.id (drop 1) k.named);
     }

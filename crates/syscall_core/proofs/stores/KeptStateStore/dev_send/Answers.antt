@@ -12,6 +12,6 @@ invariant_of-self c =
     let k = c.args.self.now in
     let s = state_of k.state in
     record {
-      kept = alike_rows_stay k.state c.dev_send.new.self k.rows c.args.id (with_body (requeue (λ packets. packets ++ c.args.packet ∷ []))) k.kept c.dev_send.ensures.places c.dev_send.ensures.state (alike_packets (λ packets. packets ++ c.args.packet ∷ []));
-      named = subst IsNamedRightly (sym c.dev_send.ensures.state) (named_packets s c.args.id (λ packets. packets ++ c.args.packet ∷ []) k.named);
+      kept = alike_rows_stay k.state c.dev_send.new.self k.rows c.args.device.id (with_body (requeue (λ packets. packets ++ c.args.packet ∷ []))) k.kept c.dev_send.ensures.places c.dev_send.ensures.state (alike_packets (λ packets. packets ++ c.args.packet ∷ []));
+      named = subst IsNamedRightly (sym c.dev_send.ensures.state) (named_packets s c.args.device.id (λ packets. packets ++ c.args.packet ∷ []) k.named);
     }

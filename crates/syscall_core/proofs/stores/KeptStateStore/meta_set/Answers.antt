@@ -12,6 +12,6 @@ invariant_of-self c =
     let k = c.args.self.now in
     let s = state_of k.state in
     record {
-      kept = alike_rows_stay k.state c.meta_set.new.self k.rows c.args.id (noted c.args.given.now) k.kept c.meta_set.ensures.places c.meta_set.ensures.state (alike_noted c.args.given.now);
-      named = subst IsNamedRightly (sym c.meta_set.ensures.state) (named_alike s c.args.id (noted c.args.given.now) k.named (λ x. refl) (λ x. refl) (λ x. refl));
+      kept = alike_rows_stay k.state c.meta_set.new.self k.rows c.args.at.id (noted c.args.given.now) k.kept c.meta_set.ensures.places c.meta_set.ensures.state (alike_noted c.args.given.now);
+      named = subst IsNamedRightly (sym c.meta_set.ensures.state) (named_alike s c.args.at.id (noted c.args.given.now) k.named (λ x. refl) (λ x. refl) (λ x. refl));
     }

@@ -13,7 +13,7 @@ invariant_of-self c =
     let k = c.args.self.now in
     let s = state_of k.state in
     record {
-      kept = row_remade k.state c.own_category.new.self k.rows c.remake_row.new.rows c.args.thread k.kept (owned s c.args.thread (option_copied c.args.label) (option_copied c.args.clearance)) c.own_category.ensures.state (same_slots k.state c.own_category.new.self c.args.thread c.own_category.ensures.places) (owned_limits s c.args.thread (option_copied c.args.label) (option_copied c.args.clearance)) (owned_space s c.args.thread (option_copied c.args.label) (option_copied c.args.clearance))
-          (λ q i off. owned_row s c.args.thread q i (option_copied c.args.label) (option_copied c.args.clearance) k.named c.requires.thread off) c.remake_row.ensures.size c.remake_row.ensures.row c.remake_row.ensures.others;
-      named = subst IsNamedRightly (sym c.own_category.ensures.state) (named_owned s c.args.thread (option_copied c.args.label) (option_copied c.args.clearance) k.named);
+      kept = row_remade k.state c.own_category.new.self k.rows c.remake_row.new.rows c.args.thread.id k.kept (owned s c.args.thread.id (option_copied c.args.label) (option_copied c.args.clearance)) c.own_category.ensures.state (same_slots k.state c.own_category.new.self c.args.thread.id c.own_category.ensures.places) (owned_limits s c.args.thread.id (option_copied c.args.label) (option_copied c.args.clearance)) (owned_space s c.args.thread.id (option_copied c.args.label) (option_copied c.args.clearance))
+          (λ q i off. owned_row s c.args.thread.id q i (option_copied c.args.label) (option_copied c.args.clearance) k.named c.requires.thread off) c.remake_row.ensures.size c.remake_row.ensures.row c.remake_row.ensures.others;
+      named = subst IsNamedRightly (sym c.own_category.ensures.state) (named_owned s c.args.thread.id (option_copied c.args.label) (option_copied c.args.clearance) k.named);
     }

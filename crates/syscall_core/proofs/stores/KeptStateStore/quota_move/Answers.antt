@@ -12,6 +12,6 @@ invariant_of-self c =
     let k = c.args.self.now in
     let s = state_of k.state in
     record {
-      kept = alike_rows_stay k.state c.quota_move.new.self k.rows c.args.entry.now.object (requoted c.args.up c.args.down) k.kept c.quota_move.ensures.places c.quota_move.ensures.state (alike_quota c.args.up c.args.down);
-      named = subst IsNamedRightly (sym c.quota_move.ensures.state) (named_alike s c.args.entry.now.object (requoted c.args.up c.args.down) k.named (λ x. refl) (λ x. refl) (λ x. refl));
+      kept = alike_rows_stay k.state c.quota_move.new.self k.rows c.args.object.id (requoted c.args.up c.args.down) k.kept c.quota_move.ensures.places c.quota_move.ensures.state (alike_quota c.args.up c.args.down);
+      named = subst IsNamedRightly (sym c.quota_move.ensures.state) (named_alike s c.args.object.id (requoted c.args.up c.args.down) k.named (λ x. refl) (λ x. refl) (λ x. refl));
     }

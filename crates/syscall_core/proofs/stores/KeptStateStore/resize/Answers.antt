@@ -13,6 +13,6 @@ invariant_of-self c =
     let k = c.args.self.now in
     let s = state_of k.state in
     record {
-      kept = alike_rows_stay k.state c.resize.new.self k.rows c.args.id (with_body (rebyte (resized (256 * c.args.pages)))) k.kept c.resize.ensures.places c.resize.ensures.state (alike_bytes (resized (256 * c.args.pages)));
-      named = subst IsNamedRightly (sym c.resize.ensures.state) (named_bytes s c.args.id (resized (256 * c.args.pages)) k.named);
+      kept = alike_rows_stay k.state c.resize.new.self k.rows c.args.segment.id (with_body (rebyte (resized (256 * c.args.pages)))) k.kept c.resize.ensures.places c.resize.ensures.state (alike_bytes (resized (256 * c.args.pages)));
+      named = subst IsNamedRightly (sym c.resize.ensures.state) (named_bytes s c.args.segment.id (resized (256 * c.args.pages)) k.named);
     }

@@ -11,6 +11,6 @@ invariant_of-self c =
     let k = c.args.self.now in
     let s = state_of k.state in
     record {
-      kept = clear_rows_stay k.state c.give_clearance.new.self k.rows c.args.thread (option_copied c.args.clearance) k.kept c.give_clearance.ensures.places c.give_clearance.ensures.state;
-      named = subst IsNamedRightly (sym c.give_clearance.ensures.state) (cleared_named s c.args.thread (option_copied c.args.clearance) k.named);
+      kept = clear_rows_stay k.state c.give_clearance.new.self k.rows c.args.thread.id (option_copied c.args.clearance) k.kept c.give_clearance.ensures.places c.give_clearance.ensures.state;
+      named = subst IsNamedRightly (sym c.give_clearance.ensures.state) (cleared_named s c.args.thread.id (option_copied c.args.clearance) k.named);
     }

@@ -12,6 +12,6 @@ invariant_of-self c =
     let k = c.args.self.now in
     let s = state_of k.state in
     record {
-      kept = alike_rows_stay k.state c.set_fixed.new.self k.rows c.args.id (made_fixed) k.kept c.set_fixed.ensures.places c.set_fixed.ensures.state (alike_fixed);
-      named = subst IsNamedRightly (sym c.set_fixed.ensures.state) (named_alike s c.args.id made_fixed k.named (λ x. refl) (λ x. refl) (λ x. refl));
+      kept = alike_rows_stay k.state c.set_fixed.new.self k.rows c.args.at.id (made_fixed) k.kept c.set_fixed.ensures.places c.set_fixed.ensures.state (alike_fixed);
+      named = subst IsNamedRightly (sym c.set_fixed.ensures.state) (named_alike s c.args.at.id made_fixed k.named (λ x. refl) (λ x. refl) (λ x. refl));
     }

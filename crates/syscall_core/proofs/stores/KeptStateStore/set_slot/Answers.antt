@@ -9,7 +9,7 @@ use Rattle.syscall_core.proofs.stores.KeptStateStore.set_slot.Goals as goal
 
 pub repair-requires : goal.repair-requires
 repair-requires c =
-    slot_left c.args.self.now.state c.set_slot.new.self c.args.self.now.rows c.args.id c.args.slot c.args.mapping
+    slot_left c.args.self.now.state c.set_slot.new.self c.args.self.now.rows c.args.space.id c.args.slot c.args.mapping
     c.args.self.now.kept (all_slots c.args.self.now.state c.set_slot.new.self c.set_slot.ensures.places) c.set_slot.ensures.state
 
 pub invariant_of-self : goal.invariant_of-self
@@ -18,5 +18,5 @@ invariant_of-self c =
     let s = state_of k.state in
     record {
       kept = c.repair.ensures.kept;
-      named = subst IsNamedRightly (sym c.set_slot.ensures.state) (named_slot s c.args.id c.args.slot c.args.mapping k.named (mapping_named s c.args.mapping (whole_formed k.state.pieces k.state.sound k.state.stocked) c.requires.segment));
+      named = subst IsNamedRightly (sym c.set_slot.ensures.state) (named_slot s c.args.space.id c.args.slot c.args.mapping k.named (mapping_named s c.args.mapping (whole_formed k.state.pieces k.state.sound k.state.stocked) c.requires.segment));
     }

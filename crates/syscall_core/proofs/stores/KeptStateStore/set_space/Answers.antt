@@ -13,7 +13,7 @@ invariant_of-self c =
     let k = c.args.self.now in
     let s = state_of k.state in
     record {
-      kept = row_remade k.state c.set_space.new.self k.rows c.remake_row.new.rows c.args.thread k.kept (changed s c.args.thread (spaced c.args.space)) c.set_space.ensures.state (same_slots k.state c.set_space.new.self c.args.thread c.set_space.ensures.places) (changed_limits s c.args.thread (spaced c.args.space)) (changed_space s c.args.thread (spaced c.args.space))
-          (λ q i off. spaced_lem s c.args.thread q i c.args.space c.requires.thread off) c.remake_row.ensures.size c.remake_row.ensures.row c.remake_row.ensures.others;
-      named = subst IsNamedRightly (sym c.set_space.ensures.state) (spaced_named s c.args.thread c.args.space (space_named s c.args.space (whole_formed k.state.pieces k.state.sound k.state.stocked) c.requires.space) k.named);
+      kept = row_remade k.state c.set_space.new.self k.rows c.remake_row.new.rows c.args.thread.id k.kept (changed s c.args.thread.id (spaced c.args.space)) c.set_space.ensures.state (same_slots k.state c.set_space.new.self c.args.thread.id c.set_space.ensures.places) (changed_limits s c.args.thread.id (spaced c.args.space)) (changed_space s c.args.thread.id (spaced c.args.space))
+          (λ q i off. spaced_lem s c.args.thread.id q i c.args.space c.requires.thread off) c.remake_row.ensures.size c.remake_row.ensures.row c.remake_row.ensures.others;
+      named = subst IsNamedRightly (sym c.set_space.ensures.state) (spaced_named s c.args.thread.id c.args.space (space_named s c.args.space (whole_formed k.state.pieces k.state.sound k.state.stocked) c.requires.space) k.named);
     }

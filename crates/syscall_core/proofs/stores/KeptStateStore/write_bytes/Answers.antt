@@ -13,6 +13,6 @@ invariant_of-self c =
     let k = c.args.self.now in
     let s = state_of k.state in
     record {
-      kept = alike_rows_stay k.state c.write_bytes.new.self k.rows c.args.id (with_body (rebyte (written c.args.at c.args.given.now))) k.kept c.write_bytes.ensures.places c.write_bytes.ensures.state (alike_bytes (written c.args.at c.args.given.now));
-      named = subst IsNamedRightly (sym c.write_bytes.ensures.state) (named_bytes s c.args.id (written c.args.at c.args.given.now) k.named);
+      kept = alike_rows_stay k.state c.write_bytes.new.self k.rows c.args.segment.id (with_body (rebyte (written c.args.at c.args.given.now))) k.kept c.write_bytes.ensures.places c.write_bytes.ensures.state (alike_bytes (written c.args.at c.args.given.now));
+      named = subst IsNamedRightly (sym c.write_bytes.ensures.state) (named_bytes s c.args.segment.id (written c.args.at c.args.given.now) k.named);
     }

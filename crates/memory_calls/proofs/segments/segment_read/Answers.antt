@@ -1,6 +1,0 @@
-use Rattle.std.proofs.Common.{sym, ◌∙◌}
-use Rattle.memory_calls.proofs.SegmentLaws.{read_fits}
-use Rattle.memory_calls.proofs.segments.segment_read.Goals as goal
-
-pub bytes_from-requires-clause-inside : goal.bytes_from-requires-clause-inside
-bytes_from-requires-clause-inside g c = (read_fits _ _ _ _ _ (sym c.refused_segment_read.ensures ∙ c.in_default.is)).inside
