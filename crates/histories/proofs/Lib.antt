@@ -1,2 +1,3 @@
 pub mod BatchLaws
 pub mod HistoryLaws
+pub mod LaterLaws

@@ -42,6 +42,13 @@ pub record Start : Type 0 where
 abbrev pub boot_start : Limits → Start
 boot_start limits = record { state = booted limits; first = λ _. 1 }
 
+-- where a history stands after these events
+abbrev pub later : Start → List Event → Start
+later start events = record {
+  state = state_from start.state events;
+  first = λ thread. count thread events + start.first thread;
+}
+
 -- the event may come after these: it has its thread's next number, and 1 to 16 calls, each with its answer in the state
 -- that these events and the calls before it in the event lead to
 pub record FollowsFrom (start : Start) (before : List Event) (e : Event) : Type 0 where

@@ -1,5 +1,9 @@
 //! The plain kernel: a map of records, and all else computed anew.
-ghost use Rattle.std.specs.Prelude.{◌≡◌, ◌↔◌, false, IsTrue, IfOk, IsErrOf};
+ghost use Rattle.std.specs.Prelude.{◌≡◌, ◌↔◌, true, false, IsTrue, IfOk, OnOk, IsErrOf};
+ghost use Rattle.std.specs.List.{list_all};
+ghost use Rattle.checkpoints.specs.Reached.{is_plain};
+ghost use Rattle.checkpoints.specs.Restorable.{each, is_restorable, has_slots, filled_in};
+ghost use Rattle.checkpoints.specs.Restored.{restored};
 ghost use Rattle.base.specs.Limits.{in_range};
 ghost use Rattle.kernel_rules.specs.Scratch.{scratch};
 ghost use Rattle.base.specs.declared.kinds.Kind.TheVariants as kinds;
@@ -8,10 +12,12 @@ ghost use Rattle.kernel_rules.specs.WellFormed.{is_well_formed};
 
 use crate::machine::Machine;
 use base::{Kind, Limits, Meter, NoMemory, ObjectId};
+use checkpoints::{Checkpoint, NextNumber};
 use kernel_calls::{ask, step};
 use kernel_rules::{Call, Query, Reply, Tables};
 use kernel_tables::tables;
 use plain_state::{BootRefusal, PlainState};
+use restoring::{RestoreFault, restore, write};
 use std::alloc::Global;
 
 /// A label kernel that keeps nothing but its records, and computes liveness, use and label rules
@@ -36,6 +42,43 @@ impl PlainKernel {
             Ok(state) => Ok(PlainKernel { state }),
             Err(refusal) => Err(refusal),
         }
+    }
+
+    /// A kernel in the state that a checkpoint writes down. The error is `IllFormed` only where the
+    /// checkpoint can't be restored; where it can't be, it is `IllFormed` or want of memory, and where
+    /// it can be, want of memory alone.
+    pub fn restore(
+        alloc: Global,
+        limits: &Limits,
+        checkpoint: &Checkpoint,
+    ) -> Result<PlainKernel, RestoreFault>
+        ensures state { IfOk result (λ kernel. kernel_state kernel ≡ restored limits.now checkpoint.now) }
+        ensures fit { OnOk result (is_restorable limits.now checkpoint.now ≡ true) }
+        ensures ill_formed { IsErrOf result RestoreFault.IllFormed
+            → is_restorable limits.now checkpoint.now ≡ false }
+    {
+        match restore(alloc, limits, checkpoint) {
+            Ok(state) => Ok(PlainKernel { state }),
+            Err(fault) => Err(fault),
+        }
+    }
+
+    /// The checkpoint that writes down the kernel's state, with these numbers. In the state no thread or device is read-only
+    /// for good, and no thread's metadata were set, as calls leave it. The error is want of memory.
+    pub(crate) fn write(
+        &self,
+        alloc: Global,
+        next: Vec<NextNumber>,
+        meter: &mut Meter,
+    ) -> Result<Checkpoint, NoMemory>
+        requires { each is_plain (kernel_state self.now) ≡ true }
+        ensures value { IfOk result (λ written.
+            restored (kernel_state self.now).limits written ≡ kernel_state self.now) }
+        ensures slots { IfOk result (λ written.
+            list_all (λ e. has_slots (filled_in e.object.body)) written.objects ≡ true) }
+        ensures next { IfOk result (λ written. written.next ≡ next.items) }
+    {
+        write(alloc, &self.state, next, meter)
     }
 
     /// The tables of the kernel's state, recomputed: what a machine that decides fast would keep. Want

@@ -6,9 +6,15 @@
 //! others.
 #![tactic(auto)]
 
+mod checkpointing;
 mod kernel;
 mod machine;
 
+pub use checkpointing::checkpoint;
+pub use checkpoints::{
+    Attributes, Checkpoint, FilledSlot, NextNumber, RawBody, RawGate, RawObject, RawThread,
+    Recorded, SlotList,
+};
 pub use histories::{Answered, Event};
 pub use kernel::PlainKernel;
 pub use kernel_rules::{
@@ -17,3 +23,4 @@ pub use kernel_rules::{
 };
 pub use machine::{Machine, run};
 pub use plain_state::BootRefusal;
+pub use restoring::RestoreFault;

@@ -1,0 +1,52 @@
+//! Checkpoints without memory: what is made again is what it would have been.
+use crate::played_on::begun;
+use crate::samples::{after, events_of, list_of, outcome};
+use base::{Limits, NoMemory, ObjectId};
+use plain_core::{Checkpoint, Event, RawBody};
+use std::alloc::Global;
+use std::test::Fail;
+use test_support::LIMITS;
+
+// The checkpoint, made once more where there was no memory.
+fn after_again(alloc: Global, limits: &Limits, events: &[Event]) -> Result<Checkpoint, NoMemory> {
+    match after(alloc, limits, events) {
+        Ok(made) => Ok(made),
+        Err(_) => after(alloc, limits, events),
+    }
+}
+
+// What a restore answers, asked once more where there was no memory.
+fn outcome_again(alloc: Global, limits: &Limits, checkpoint: &Checkpoint) -> u8 {
+    match outcome(alloc, limits, checkpoint) {
+        30 => outcome(alloc, limits, checkpoint),
+        told => told,
+    }
+}
+
+// The events, made once more where there was no memory.
+fn begun_again(alloc: Global) -> Result<Vec<Event>, NoMemory> {
+    match events_of(alloc, &begun()) {
+        Ok(events) => Ok(events),
+        Err(_) => events_of(alloc, &begun()),
+    }
+}
+
+#[test]
+fn want_of_memory_spoils_no_checkpoint(rt: HostRuntime) -> Result<(), Fail> {
+    let events = begun_again(rt.alloc())?;
+    let mut made = after_again(rt.alloc(), &LIMITS, events.as_slice())?;
+    assert_eq!(rt; made.objects.len(), 8);
+    assert_eq!(rt; made.next.len(), 1);
+    assert_eq!(rt; outcome_again(rt.alloc(), &LIMITS, &made), 0);
+    if let Some(root) = made.objects.get_mut(0) {
+        if let RawBody::Container(_, _, list) = &mut root.object.body {
+            *list = match list_of(rt.alloc(), &[2, 3], 1) {
+                Ok(list) => list,
+                Err(_) => list_of(rt.alloc(), &[2, 3], 1)?,
+            };
+        }
+    }
+    assert_eq!(rt; outcome_again(rt.alloc(), &LIMITS, &made), 60);
+    assert_eq!(rt; made.next_id, ObjectId::new(9).number());
+    Ok(())
+}

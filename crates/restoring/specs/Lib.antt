@@ -1,0 +1,6 @@
+pub mod Climbs
+pub mod Counted
+pub mod Written
+pub mod Keeping
+pub mod Holding
+pub mod Numbered
