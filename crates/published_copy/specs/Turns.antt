@@ -1,7 +1,7 @@
 -- What passes and seats know, and what calls make of it.
 use mathlib.Core.List.{IsPrefix}
 use Rattle.std.specs.Prelude.{◌≡◌, ℕ, ◌+◌, ◌⊎◌, Bool, true, false, ◌&&◌, ◌==◌, nat_le, List, []}
-use Rattle.std.specs.Prelude.{◌∷◌, ◌++◌, length, map}
+use Rattle.std.specs.Prelude.{◌∷◌, ◌++◌, ◌<◌, length, map, MatchBool}
 use Rattle.base.specs.declared.ranges.Limits.{Limits}
 use Rattle.histories.specs.History.{answered, state_of, count, is_batch, IsLegal}
 use Rattle.kernel_rules.specs.State.{State}
@@ -122,6 +122,10 @@ IsRead limits seat query reply after =
     (after ≡ seat_with (turn seat.pass.thread seat.pass.number after.pass.seen) seat.told)
     × IsPrefix seat.pass.seen after.pass.seen × IsLegal limits after.pass.seen
     × (reply ≡ query_answer (state_of limits after.pass.seen) seat.pass.thread query)
+
+-- of two lists of one boot the second begins the first where the first has no fewer events, and else the first the second
+abbrev pub Has : Bool → List Event → List Event → Type 0
+Has has xs ys = MatchBool has (IsPrefix ys xs) (IsPrefix xs ys × (length xs < length ys))
 
 -- the list is the longer of the two, and each of the two begins it
 abbrev pub IsLonger : List Event → List Event → List Event → Type 0

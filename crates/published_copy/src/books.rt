@@ -11,11 +11,12 @@ ghost use Rattle.published_copy.specs.Books.{places_with};
 ghost use Rattle.published_copy.specs.Seats.{seat_refused};
 ghost use Rattle.published_copy.specs.Tallies.{IsTallied};
 ghost use Rattle.published_copy.specs.Turns.{turn, is_turn, with_event, receipt_of, receipt_with};
-ghost use Rattle.published_copy.specs.Turns.{passed_on, TellsBatch};
+ghost use Rattle.published_copy.specs.Turns.{passed_on, Has, TellsBatch};
 ghost use mathlib.Core.List.{IsPrefix};
 
 use crate::lanes::Lane;
 use crate::naming::Naming;
+use crate::notes::Note;
 use crate::pairs::Pair;
 use crate::passes::Pass;
 use crate::places::Places;
@@ -126,6 +127,22 @@ impl<B: Naming> Book<B> {
         ensures legal { IsLegal B.boot.limits self.now.journal }
     {
         self.journal.as_slice()
+    }
+
+    /// Whether the journal has no fewer events than a note has, which it has in every run. Of the lists of one boot the
+    /// shorter begins the longer, so the note begins the journal.
+    pub fn has(&self, note: &Note<B>) -> bool
+        ensures { Has result self.now.journal note.now }
+    {
+        self.pair.front(self.journal.len() as u64).has(note.front())
+    }
+
+    /// Whether the journal has no fewer events than a pass has seen, which it has in every run. Then what the pass has seen
+    /// begins the journal.
+    pub fn has_seen(&self, pass: &Pass<B>) -> bool
+        ensures { Has result self.now.journal pass.now.seen }
+    {
+        self.pair.front(self.journal.len() as u64).has(pass.front())
     }
 
     /// The kernel, in the state that the journal leads to.

@@ -1,4 +1,7 @@
 //! A boot, and what threads share of it.
+//!
+//! A change of the published copy visits the place of each seat's reader, given or not. 64 of them take most of a submit's time,
+//! so a boot can be made for fewer seats.
 ghost use Rattle.core.specs.Mem.{manually_drop_value};
 ghost use Rattle.std.specs.Prelude.{◌≡◌, ◌≤◌, ◌<◌, ◌↔◌, false, IfOk, IfErr, IsErrOf};
 ghost use Rattle.base.specs.Limits.{in_range};

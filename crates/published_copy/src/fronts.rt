@@ -1,8 +1,8 @@
 //! Beginnings of the boot's one list of events.
-ghost use Rattle.std.specs.Prelude.{◌≡◌, ◌<◌, length, MatchBool};
-ghost use mathlib.Core.List.{IsPrefix};
+ghost use Rattle.std.specs.Prelude.{◌≡◌, length};
 ghost use Rattle.histories.specs.History.{IsLegal};
 ghost use Rattle.published_copy.specs.Entries.{made};
+ghost use Rattle.published_copy.specs.Turns.{Has};
 
 use crate::logs::Told;
 use crate::naming::Naming;
@@ -69,8 +69,7 @@ impl<B: Naming> Front<B> {
     /// Whether these are no fewer events than the other's. Of two beginnings of one list the
     /// shorter begins the longer.
     pub(crate) fn has(&self, other: &Front<B>) -> bool
-        ensures { MatchBool result (IsPrefix other.now self.now)
-            (IsPrefix self.now other.now × (length self.now < length other.now)) }
+        ensures { Has result self.now other.now }
     {
         let mut both = self.seen.again();
         both.learn(&other.seen);

@@ -1,5 +1,7 @@
 //! What one seat tells another.
-ghost use Rattle.std.specs.Prelude.{◌≡◌};
+ghost use Rattle.std.specs.Prelude.{◌≡◌, length};
+ghost use Rattle.histories.specs.History.{IsLegal};
+ghost use Rattle.published_copy.specs.Turns.{Has};
 
 use crate::fronts::Front;
 use crate::naming::Naming;
@@ -27,6 +29,21 @@ impl<B: Naming> Note<B> {
         ensures { result ≡ front }
     {
         Note { front }
+    }
+
+    /// How many events they are. They are a legal list.
+    pub fn length(&self) -> u64
+        ensures length { result ≡ length self.now }
+        ensures legal { IsLegal B.boot.limits self.now }
+    {
+        self.front.len()
+    }
+
+    /// Whether the note has no fewer events than another. Of the lists of one boot the shorter begins the longer.
+    pub fn has(&self, other: &Note<B>) -> bool
+        ensures { Has result self.now other.now }
+    {
+        self.front.has(&other.front)
     }
 
     /// The events.

@@ -1,10 +1,11 @@
 //! What a thread carries from call to call.
 ghost use Rattle.std.specs.Prelude.{◌≡◌, ◌+◌, ◌<◌, ◌^◌, length};
 ghost use Rattle.histories.specs.History.{IsLegal};
-ghost use Rattle.published_copy.specs.Turns.{turn};
+ghost use Rattle.published_copy.specs.Turns.{turn, Has};
 
 use crate::fronts::Front;
 use crate::naming::Naming;
+use crate::notes::Note;
 use crate::receipts::Placed;
 use base::ObjectId;
 use std::marker::Model;
@@ -58,6 +59,13 @@ impl<B: Naming> Pass<B> {
         ensures legal { IsLegal B.boot.limits self.now.seen }
     {
         self.front.len()
+    }
+
+    /// Whether it has seen no fewer events than a note has. Of the lists of one boot the shorter begins the longer.
+    pub fn has(&self, note: &Note<B>) -> bool
+        ensures { Has result self.now.seen note.now }
+    {
+        self.front.has(note.front())
     }
 
     /// The events that it has seen.

@@ -1,5 +1,7 @@
 //! A thread's place at a kernel that it shares.
 ghost use Rattle.std.specs.Prelude.{◌≡◌, ◌∷◌, [], IfOk, IfErr, OnOk, OnErr};
+ghost use mathlib.Core.List.{IsPrefix};
+ghost use Rattle.histories.specs.History.{IsLegal};
 ghost use Rattle.published_copy.specs.Turns.{IsSubmitted, IsBatchSubmitted, IsNotSubmitted, IsRead, IsLearnt};
 ghost use Rattle.published_copy.specs.Turns.{seat_with, receipt_with};
 
@@ -17,7 +19,8 @@ use std::marker::Model;
 use std::sync::{Mutex, Wait};
 
 /// A thread's place at a kernel that it shares: the thread calls and reads through it. A contract
-/// sees it as its pass and the longest list of events that it was told of.
+/// sees it as its pass and the longest list of events that it was told of. It has a reader of the published copy at all
+/// times.
 #[derive(Drop)]
 pub struct Seat<'a, B: Naming> {
     lock: &'a Mutex<Book<B>>,
@@ -29,13 +32,14 @@ pub struct Seat<'a, B: Naming> {
 
 impl<'a, B: Naming> Model for Seat<'a, B> {
     ghost use mathlib.Core.List.{IsPrefix};
+    ghost use Rattle.std.specs.Prelude.{IsSome};
     ghost use Rattle.published_copy.specs.Turns.{SeatView, seat_with};
 
     ghost Value = { SeatView };
 
     ghost view = { λ s. seat_with s.pass s.told };
 
-    ghost invariant = { λ s. IsPrefix s.told s.pass.seen };
+    ghost invariant = { λ s. IsPrefix s.told s.pass.seen × IsSome s.lane };
 }
 
 impl<'a, B: Naming> Seat<'a, B> {
@@ -159,6 +163,14 @@ impl<B: Naming> Seat<'_, B> {
         let _length = front.len();
         self.pass.see(front);
         Ok(())
+    }
+
+    /// A law, which does nothing when it is called: what the seat was told begins what it has seen, which is a legal list.
+    pub fn told_begins_seen(&self)
+        ensures begins { IsPrefix self.now.told self.now.pass.seen }
+        ensures legal { IsLegal B.boot.limits self.now.pass.seen }
+    {
+        let _length = self.pass.length();
     }
 
     /// A note of what the seat had by its opening, its submits and the notes that it learnt. What

@@ -1,4 +1,7 @@
 //! A kernel for threads of which only one calls at a time.
+//!
+//! A kernel in two copies makes each call twice, so that no reader waits. One caller who has all threads needs no copies. The
+//! contract is that of a shared book: a legal journal, the kernel in its state, seats by the same rule.
 ghost use Rattle.std.specs.Prelude.{◌≡◌, ◌↔◌, ◌+◌, ◌++◌, ◌∷◌, [], true, false, length, IfOk, OnOk, OnErr};
 ghost use Rattle.std.specs.Prelude.{IsErrOf, IfErr, Some, None};
 ghost use Rattle.base.specs.Limits.{in_range};

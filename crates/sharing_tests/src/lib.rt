@@ -24,3 +24,5 @@ mod seats;
 mod sole;
 #[cfg(test)]
 mod threads;
+#[cfg(test)]
+mod told;

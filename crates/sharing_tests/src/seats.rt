@@ -152,7 +152,7 @@ fn a_call_is_an_event(rt: HostRuntime) -> Result<(), Fail> {
 #[test]
 fn limits_are_tested(rt: HostRuntime) {
     let mut limits = MOST_PAGES;
-    limits.pages = 513;
+    limits.pages = 1025;
     match Blank::boot(rt.alloc(), &limits) {
         Ok(_) => assert!(rt; false),
         Err(refusal) => assert_eq!(rt; refusal.refusal().number(), 31),

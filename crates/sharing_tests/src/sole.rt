@@ -115,7 +115,7 @@ fn is_out_of_range<B: Naming>(alloc: Global, limits: &Limits, seats: usize) -> b
 #[test]
 fn limits_are_tested_alone(rt: HostRuntime) {
     let limits = Limits {
-        pages: 513,
+        pages: 1025,
         ..MOST_PAGES
     };
     assert!(rt; is_out_of_range::<Brand>(rt.alloc(), &limits, 1));

@@ -1,0 +1,99 @@
+//! What is told of one history.
+ghost use Rattle.std.specs.Prelude.{◌≡◌, IfOk};
+ghost use mathlib.Core.List.{IsPrefix};
+ghost use Rattle.one_history.specs.OneHistory.{IsAnswered, IsCalled, IsOneHistory};
+
+use crate::faults::Fault;
+use crate::kept::{Kept, kept_of};
+use base::{Meter, ObjectId};
+use kernel_rules::{Call, Query, Reply};
+use published_copy::{Naming, Note, Pass, Receipt, Shared};
+use std::sync::Wait;
+
+/// What is asked: a call of one thread, then a query of another, then what is kept of that one and of a live id. Neither thread
+/// has a seat or an event.
+#[derive(Clone, Copy)]
+pub struct Asked<'a> {
+    /// The thread that calls.
+    pub writer: ObjectId,
+    /// Its call.
+    pub call: &'a Call,
+    /// The thread that reads.
+    pub reader: ObjectId,
+    /// Its query.
+    pub query: &'a Query,
+    /// A slot of the reader's address space, from 0.
+    pub slot: usize,
+    /// The place of a live id among all of them, from 0.
+    pub place: usize,
+}
+
+/// What is told.
+#[derive(Clone, Copy)]
+pub struct Told {
+    /// What the call was answered, and where its event stands.
+    pub receipt: Receipt,
+    /// What the query was answered.
+    pub reply: Reply,
+    /// What the book's kernel keeps.
+    pub kept: Kept,
+}
+
+/// A thread's first call, through a seat, and the note of it.
+fn called<B: Naming, R: Wait>(
+    rt: &R,
+    shared: &Shared<B>,
+    thread: ObjectId,
+    call: &Call,
+) -> Result<(Receipt, Note<B>), Fault>
+    ensures { IfOk result (λ told. IsCalled B.boot.limits thread call.now told.0 told.1) }
+{
+    let mut seat = shared.open_seat(rt, thread)?;
+    let receipt = seat.submit(rt, call)?;
+    Ok((receipt, seat.note()))
+}
+
+/// A thread's query, through a seat that has learnt a note, and what it has seen then.
+fn answered<B: Naming, R: Wait>(
+    rt: &R,
+    shared: &Shared<B>,
+    note: &Note<B>,
+    thread: ObjectId,
+    query: &Query,
+) -> Result<(Reply, Pass<B>), Fault>
+    ensures { IfOk result (λ told. IsAnswered B.boot.limits note.now thread query.now told.0 told.1.seen) }
+{
+    let mut seat = shared.open_seat(rt, thread)?;
+    seat.learn(note);
+    let reply = seat.read(query)?;
+    Ok((reply, seat.into_pass()))
+}
+
+/// A thread calls, another one learns of it and reads, and then the book is looked at: all three are told of one legal
+/// history. It waits for the lock, and for those who read the copy that takes the call in. An error tells which step was
+/// refused; the steps before it are made.
+pub fn told_by<B: Naming, R: Wait>(
+    rt: &R,
+    shared: &Shared<B>,
+    asked: &Asked<'_>,
+    meter: &mut Meter,
+) -> Result<Told, Fault>
+    ensures { IfOk result (λ told. IsOneHistory B.boot.limits asked.now.writer asked.now.call.now
+        asked.now.reader asked.now.query.now asked.now.slot asked.now.place told.receipt told.reply
+        told.kept) }
+{
+    let (receipt, note) = called(rt, shared, asked.writer, asked.call)?;
+    let (reply, pass) = answered(rt, shared, &note, asked.reader, asked.query)?;
+    let book = shared.book(rt);
+    if !book.has_seen(&pass) {
+        return Err(Fault::Behind);
+    }
+    // For the proof alone: the journal is legal.
+    let _legal = book.events().len();
+    let kept = kept_of(book.kernel(), asked.reader, asked.slot, asked.place, meter);
+    Ok(Told {
+        receipt,
+        reply,
+        kept,
+    })
+}
