@@ -1,9 +1,14 @@
-//! The program, over a reader and two writers.
+//! The program, over a reader, a sink and a writer.
+ghost use Rattle.std.specs.Prelude.{◌≡◌, ◌<◌, [], ◌∷◌, ◌++◌, decimal, IfOk, IfSome};
+ghost use Rattle.auditor.specs.Told.{verdict_line, verdict_status, IsTold, TellsVerdict};
+
 use crate::audits::audit;
 use crate::verdicts::Verdict;
-use program_io::{Fault, bytes_of};
+use base::NoMemory;
+use program_io::{Fault, Sink, bytes_of, deliver};
 use std::alloc::Global;
 use std::io::{Read, Write};
+use text_words::put_number;
 
 /// The program's name, with which its lines on standard error begin.
 pub const NAME: &str = "histar-audit";
@@ -16,39 +21,66 @@ pub struct AuditEnd {
     pub status: u8,
 }
 
-fn put_verdict<O: Write>(out: &mut O, verdict: Verdict) -> Result<(), Fault> {
-    let written = match verdict {
-        Verdict::Clean => writeln!(out, "clean"),
-        Verdict::False(line) => writeln!(out, "false at line {line}"),
-        Verdict::Unreadable(line) => writeln!(out, "unreadable at line {line}"),
-    };
-    if written.is_err() || out.flush().is_err() {
-        return Err(Fault::Output);
-    }
-    Ok(())
-}
-
-fn run<I: Read, O: Write>(alloc: Global, dump: &mut I, out: &mut O) -> Result<u8, Fault> {
-    let bytes = bytes_of(alloc, dump)?;
-    let verdict = audit(alloc, bytes.as_slice())?;
-    put_verdict(out, verdict)?;
-    Ok(match verdict {
+/// The status that tells a verdict.
+fn status_of(verdict: Verdict) -> u8
+    ensures { result ≡ verdict_status verdict }
+{
+    match verdict {
         Verdict::Clean => 0,
         Verdict::False(_) => 1,
         Verdict::Unreadable(_) => 2,
-    })
+    }
+}
+
+/// A line that ends with a number.
+fn numbered(alloc: Global, words: &[u8], line: u64) -> Result<Vec<u8>, NoMemory>
+    ensures { IfOk result (λ text. text.items ≡ words.now ++ decimal line ++ 10 ∷ []) }
+{
+    let mut text = Vec::new(alloc);
+    text.extend_from_slice(words)?;
+    put_number(&mut text, line)?;
+    text.push(b'\n')?;
+    Ok(text)
+}
+
+/// The line that tells a verdict.
+fn line_of(alloc: Global, verdict: Verdict) -> Result<Vec<u8>, NoMemory>
+    ensures { IfOk result (λ text. text.items ≡ verdict_line verdict) }
+{
+    match verdict {
+        Verdict::Clean => Ok(b"clean\n".to_vec(alloc)?),
+        Verdict::False(line) => numbered(alloc, b"false at line ", line),
+        Verdict::Unreadable(line) => numbered(alloc, b"unreadable at line ", line),
+    }
+}
+
+fn run<I: Read, S: Sink>(alloc: Global, dump: &mut I, out: &mut S) -> Result<Verdict, Fault>
+    ensures { IfOk result (λ verdict. IfSome (I.remaining dump.old) (λ bytes.
+        IsTold (S.contents out.old) (S.contents out.new) bytes verdict)) }
+{
+    let bytes = bytes_of(alloc, dump)?;
+    let verdict = audit(alloc, bytes.as_slice())?;
+    let line = line_of(alloc, verdict)?;
+    deliver(out, line.as_slice())?;
+    Ok(verdict)
 }
 
 /// Audits the dump that a reader gives, and prints `clean`, `false at line N` or `unreadable at line N`. The faults are
-/// found in this order, the first one ending the audit with one line on `err`: reading, want of memory, writing.
-pub fn audit_on<I: Read, O: Write, E: Write>(
+/// found in this order, the first one ending the audit with one line on `err`: reading, want of memory, writing. A status
+/// below 3 is the verdict's, whose line was printed and handed on then.
+pub fn audit_on<I: Read, S: Sink, E: Write>(
     alloc: Global,
     dump: &mut I,
-    out: &mut O,
+    out: &mut S,
     err: &mut E,
-) -> AuditEnd {
+) -> AuditEnd
+    ensures { result.status < 3 → IfSome (I.remaining dump.old)
+        (TellsVerdict (S.contents out.old) (S.contents out.new) result.status) }
+{
     match run(alloc, dump, out) {
-        Ok(status) => AuditEnd { status },
+        Ok(verdict) => AuditEnd {
+            status: status_of(verdict),
+        },
         Err(fault) => AuditEnd {
             status: fault.tell(NAME, err),
         },

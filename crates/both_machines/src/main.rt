@@ -15,9 +15,10 @@ use crate::plain::{Played, play};
 use base::{Limits, NoMemory};
 use call_text::{Script, ScriptError, read_script};
 use histar_args::{DEFAULTS, read_words};
-use program_io::{Fault, bytes_of, tell_answer, words_of};
+use program_io::{Counted, Fault, bytes_of, tell_answer, words_of};
 use std::alloc::Global;
 use std::fs::File;
+use std::io;
 use std::io::{Read, Write};
 use std::process::ExitCode;
 use test_support::are_equal;
@@ -102,6 +103,7 @@ fn ended<I: Read>(rt: &HostRuntime, input: &mut I, limits: &Limits) -> u8 {
 
 fn main(rt: HostRuntime) -> ExitCode {
     let alloc = rt.alloc();
+    let mut out = Counted::new(io::writer(&rt));
     let mut err = rt.stderr();
     let words = match words_of(&rt) {
         Ok(words) => words,
@@ -112,7 +114,7 @@ fn main(rt: HostRuntime) -> ExitCode {
     }
     let told = match read_words(alloc, words.as_slice()) {
         Ok(told) => told,
-        Err(answer) => return ExitCode::from(tell_answer(&rt, NAME, &answer, &mut err)),
+        Err(answer) => return ExitCode::from(tell_answer(alloc, NAME, &answer, &mut out, &mut err)),
     };
     let Ok(mut script) = File::open(&rt, told.script) else {
         return ExitCode::from(Fault::Input.tell(NAME, &mut err));

@@ -1,4 +1,7 @@
 //! A script as a value.
+//!
+//! The arguments of all calls of a phase stand in one list, and a line keeps where its own begin. With a list for each line,
+//! each line would have memory of its own, which a reader of the lines finds in no cache.
 ghost use Rattle.std.specs.Prelude.{◌≡◌, map, length, slice_get};
 ghost use Rattle.std.specs.Option.{option_map};
 ghost use Rattle.std.specs.List.{AllByRecursion};

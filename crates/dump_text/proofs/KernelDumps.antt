@@ -83,13 +83,13 @@ digit_small Star = lit< tt
 
 limits_fit : (l : Limits) → IsBootable l → AreAllowed limits_kinds limits_words IsBootable l
 limits_fit l bootable =
-    let a = and_parts (nat_le 8 l.pages && nat_le l.pages 512 && not (rank_of l.device == 0) && nat_le 4 l.next_id && nat_le l.next_id spent && nat_le 1 l.next_category) (nat_le l.next_category spent) bootable in
-    let b = and_parts (nat_le 8 l.pages && nat_le l.pages 512 && not (rank_of l.device == 0) && nat_le 4 l.next_id && nat_le l.next_id spent) (nat_le 1 l.next_category) a.0 in
-    let c = and_parts (nat_le 8 l.pages && nat_le l.pages 512 && not (rank_of l.device == 0) && nat_le 4 l.next_id) (nat_le l.next_id spent) b.0 in
-    let d = and_parts (nat_le 8 l.pages && nat_le l.pages 512 && not (rank_of l.device == 0)) (nat_le 4 l.next_id) c.0 in
-    let e = and_parts (nat_le 8 l.pages && nat_le l.pages 512) (not (rank_of l.device == 0)) d.0 in
-    let f = and_parts (nat_le 8 l.pages) (nat_le l.pages 512) e.0 in
-    let pages : l.pages < 2 ^ 32 = omega (arith, leb-true l.pages 512 f.1) in
+    let a = and_parts (nat_le 8 l.pages && nat_le l.pages 1024 && not (rank_of l.device == 0) && nat_le 4 l.next_id && nat_le l.next_id spent && nat_le 1 l.next_category) (nat_le l.next_category spent) bootable in
+    let b = and_parts (nat_le 8 l.pages && nat_le l.pages 1024 && not (rank_of l.device == 0) && nat_le 4 l.next_id && nat_le l.next_id spent) (nat_le 1 l.next_category) a.0 in
+    let c = and_parts (nat_le 8 l.pages && nat_le l.pages 1024 && not (rank_of l.device == 0) && nat_le 4 l.next_id) (nat_le l.next_id spent) b.0 in
+    let d = and_parts (nat_le 8 l.pages && nat_le l.pages 1024 && not (rank_of l.device == 0)) (nat_le 4 l.next_id) c.0 in
+    let e = and_parts (nat_le 8 l.pages && nat_le l.pages 1024) (not (rank_of l.device == 0)) d.0 in
+    let f = and_parts (nat_le 8 l.pages) (nat_le l.pages 1024) e.0 in
+    let pages : l.pages < 2 ^ 32 = omega (arith, leb-true l.pages 1024 f.1) in
     let id : l.next_id < 2 ^ 64 = omega (arith, leb-true l.next_id spent c.1) in
     let category : l.next_category < 2 ^ 64 = omega (arith, leb-true l.next_category spent a.1) in
     ((record { kind_is = refl; fits = pages }, (record { kind_is = refl; fits = digit_small l.device }, (record { kind_is = refl; fits = id }, (record { kind_is = refl; fits = category }, tt)))), bootable)

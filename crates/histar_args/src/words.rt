@@ -65,7 +65,7 @@ fn command<'a>(alloc: Global) -> Result<Command<'a>, Error> {
         "64",
         "The quota of the root, in pages of 256 bytes",
     )
-    .value_parser(value_parser!(u64).range(8..513));
+    .value_parser(value_parser!(u64).range(8..1025));
     let device = number(alloc, "device", "1", "The level of the device's label")
         .value_name("L")
         .value_parser(value_parser!(u64).range(0..4));

@@ -3,14 +3,14 @@
 
 use audit_args::read_words;
 use auditor::{NAME, audit_on};
-use program_io::{Fault, tell_answer, words_of};
+use program_io::{Counted, Fault, tell_answer, words_of};
 use std::fs::File;
 use std::io;
 use std::process::ExitCode;
 
 fn main(rt: HostRuntime) -> ExitCode {
     let alloc = rt.alloc();
-    let mut out = io::writer(&rt);
+    let mut out = Counted::new(io::writer(&rt));
     let mut err = rt.stderr();
     let words = match words_of(&rt) {
         Ok(words) => words,
@@ -23,7 +23,7 @@ fn main(rt: HostRuntime) -> ExitCode {
     }
     let told = match read_words(alloc, words.as_slice()) {
         Ok(told) => told,
-        Err(answer) => return ExitCode::from(tell_answer(&rt, NAME, &answer, &mut err)),
+        Err(answer) => return ExitCode::from(tell_answer(alloc, NAME, &answer, &mut out, &mut err)),
     };
     let Ok(mut dump) = File::open(&rt, told.dump) else {
         return ExitCode::from(Fault::Input.tell(NAME, &mut err));

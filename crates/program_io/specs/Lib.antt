@@ -1,2 +1,3 @@
 pub mod Faults
+pub mod Sinks
 pub mod Words

@@ -7,8 +7,10 @@
 
 mod faults;
 mod inputs;
+mod sinks;
 mod words;
 
 pub use faults::Fault;
 pub use inputs::{bytes_of, input_fault};
+pub use sinks::{Counted, PutFault, Sink, deliver, put};
 pub use words::{tell_answer, words_of};

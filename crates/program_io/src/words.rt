@@ -5,10 +5,11 @@ ghost use Rattle.program_io.specs.Words.{IsStatusOf};
 
 use crate::faults::Fault;
 use crate::inputs::input_fault;
+use crate::sinks::{Sink, deliver};
 use clap::Error;
 use clap::error::ErrorKind;
+use std::alloc::Global;
 use std::env::Env;
-use std::io;
 use std::io::Write;
 
 /// The words that the program was started with, its name first. A word that is not UTF-8 is a fault of the input.
@@ -25,11 +26,13 @@ pub fn words_of<R: Env + AllocGlobal>(rt: &R) -> Result<Vec<String>, Fault>
 }
 
 /// Tells what `clap` answers to words that it doesn't take, and answers the status that the program ends with: 4 for want
-/// of memory; for help 0, or 3 where it can't be printed; and 2 for a fault of usage.
-pub fn tell_answer<R: Print + Eprint, E: Write>(
-    rt: &R,
+/// of memory; for help, which goes to `out`, 0, or 3 where it can't be printed; and for a fault of usage, which goes to
+/// `err`, 2.
+pub fn tell_answer<S: Sink, E: Write>(
+    alloc: Global,
     program: &str,
     answer: &Error,
+    out: &mut S,
     err: &mut E,
 ) -> u8
     ensures { IsStatusOf (kind_of answer.now) result }
@@ -37,12 +40,15 @@ pub fn tell_answer<R: Print + Eprint, E: Write>(
     if answer.kind() == ErrorKind::OutOfMemory {
         return Fault::Memory.tell(program, err);
     }
-    let printed = answer.print(rt);
     if answer.use_stderr() {
-        2
-    } else if printed.is_err() {
-        Fault::Output.tell(program, err)
-    } else {
-        0
+        let _ = write!(err, "{answer}");
+        return 2;
+    }
+    let Ok(text) = format!(in alloc; "{answer}") else {
+        return Fault::Memory.tell(program, err);
+    };
+    match deliver(out, text.as_bytes()) {
+        Ok(()) => 0,
+        Err(fault) => fault.tell(program, err),
     }
 }

@@ -15,21 +15,21 @@ fn reads_the_options(rt: HostRuntime) -> Result<(), Fail> {
         "run",
         "a.histar",
         "--pages",
-        "512",
+        "1024",
         "--device",
         "3",
         "--next-id",
         "2305843009213693952",
         "--next-category",
-        "2305843009213693952",
+        "2305843009213693951",
     ];
     let told = read_words(rt.alloc(), words.as_slice())?;
     let spent = 1u64 << 61;
     let limits = Limits {
-        pages: 512,
+        pages: 1024,
         device: Level::L3,
         next_id: spent,
-        next_category: spent,
+        next_category: spent - 1,
     };
     assert!(rt; told.options.limits == limits && limits.is_in_range() && !told.options.dump);
     let words = [
@@ -89,7 +89,7 @@ fn refuses_a_dump_without_a_path_or_twice(rt: HostRuntime) -> Result<(), Fail> {
 fn refuses_what_is_out_of_range(rt: HostRuntime) -> Result<(), Fail> {
     let cases = [
         ["--pages", "7"],
-        ["--pages", "513"],
+        ["--pages", "1025"],
         ["--device", "4"],
         ["--next-id", "3"],
         ["--next-id", "2305843009213693953"],
@@ -117,7 +117,7 @@ fn tells_what_is_wrong(rt: HostRuntime) -> Result<(), Fail> {
             let text = format!(in rt.alloc(); "{error}")?;
             assert_eq!(rt;
                 text.as_str(),
-                "error: invalid value '7' for '--pages <N>': 7 is not in 8..=512\n\nFor more information, try '--help'.\n"
+                "error: invalid value '7' for '--pages <N>': 7 is not in 8..=1024\n\nFor more information, try '--help'.\n"
             );
         }
     }

@@ -12,3 +12,5 @@ mod audit_args_tests;
 mod histar_args_tests;
 #[cfg(test)]
 mod program_io_tests;
+#[cfg(test)]
+mod sink_tests;

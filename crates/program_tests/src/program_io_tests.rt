@@ -1,13 +1,13 @@
 //! What the programs print at their ends, and what reading gives.
 use clap::{Command, Error};
-use program_io::{Fault, bytes_of, input_fault, tell_answer, words_of};
+use program_io::{Counted, Fault, bytes_of, input_fault, tell_answer, words_of};
 use std::alloc::{AllocError, Global};
 use std::env::{Env, FillError};
-use std::fmt::Display;
 use std::io;
 use std::io::{ErrorKind, Read};
 use std::process::Abort;
 use std::test::Fail;
+use test_support::Portions;
 
 #[test]
 fn faults_are_told(rt: HostRuntime) {
@@ -111,46 +111,6 @@ fn words_are_had(rt: HostRuntime) -> Result<(), Fail> {
     Ok(())
 }
 
-/// Standard streams that take all or nothing.
-#[derive(Drop)]
-struct Streams {
-    is_open: bool,
-}
-
-impl Streams {
-    fn put(&self) -> io::Result<()> {
-        if self.is_open {
-            Ok(())
-        } else {
-            Err(io::Error::from(ErrorKind::BrokenPipe))
-        }
-    }
-}
-
-impl Print for Streams {
-    fn print<D: Display + Drop>(&self, _value: D) -> io::Result<()> {
-        self.put()
-    }
-
-    fn println<D: Display + Drop>(&self, _value: D) -> io::Result<()> {
-        self.put()
-    }
-
-    fn write_all(&self, _bytes: &[u8]) -> io::Result<()> {
-        self.put()
-    }
-}
-
-impl Eprint for Streams {
-    fn eprint<D: Display + Drop>(&self, _value: D) -> io::Result<()> {
-        self.put()
-    }
-
-    fn eprintln<D: Display + Drop>(&self, _value: D) -> io::Result<()> {
-        self.put()
-    }
-}
-
 /// What `clap` answers to one further word where none is known, if it answers.
 fn answer_to(alloc: Global, word: &str) -> Option<Error> {
     let words = ["histar", word];
@@ -159,24 +119,41 @@ fn answer_to(alloc: Global, word: &str) -> Option<Error> {
         .err()
 }
 
-/// An answer of `clap` ends a program with this status and this line of its own.
-fn check<R: Abort + AllocGlobal>(rt: &R, word: &str, is_open: bool, status: u8, line: &[u8]) {
-    let mut err = Vec::new(rt.alloc());
-    let answer = answer_to(rt.alloc(), word).expect(rt, "no answer");
-    let streams = Streams { is_open };
-    assert_eq!(rt; tell_answer(&streams, "histar", &answer, &mut err), status);
-    assert_eq!(rt; err.as_slice(), line);
+/// How `clap`'s answer to a word ends a program, and what it leaves on both streams.
+fn told_to(alloc: Global, word: &str, out: &mut Portions, err: &mut Vec<u8>) -> Option<u8> {
+    let answer = answer_to(alloc, word)?;
+    Some(tell_answer(alloc, "histar", &answer, &mut Counted::new(out), err))
 }
 
 #[test]
-fn answers_are_told(rt: HostRuntime) {
-    check(&rt, "--help", true, 0, b"");
-    check(&rt, "--help", false, 3, b"histar: output fault\n");
-    check(&rt, "--pages", true, 2, b"");
-    check(&rt, "--pages", false, 2, b"");
-    let mut err = Vec::new(rt.alloc());
+fn help_is_printed_or_a_fault(rt: HostRuntime) {
+    let alloc = rt.alloc();
+    let mut out = Portions::before_failing(alloc, 100);
+    let mut err = Vec::new(alloc);
+    assert_eq!(rt; told_to(alloc, "--help", &mut out, &mut err), Some(0));
+    assert!(rt; out.taken.starts_with(b"Usage: histar") && err.is_empty());
+    let mut out = Portions::before_failing(alloc, 1);
+    assert_eq!(rt; told_to(alloc, "--help", &mut out, &mut err), Some(3));
+    assert_eq!(rt; out.taken.as_slice(), b"Usage: ".as_slice());
+    assert_eq!(rt; err.as_slice(), b"histar: output fault\n".as_slice());
+}
+
+#[test]
+fn faults_of_usage_go_to_the_other_stream(rt: HostRuntime) {
+    let alloc = rt.alloc();
+    let mut out = Portions::before_failing(alloc, 0);
+    let mut err = Vec::new(alloc);
+    assert_eq!(rt; told_to(alloc, "--pages", &mut out, &mut err), Some(2));
+    assert!(rt; out.taken.is_empty() && err.starts_with(b"error: "));
+    err.clear();
     let answer = Error::from(AllocError);
-    let status = tell_answer(&Streams { is_open: true }, "histar", &answer, &mut err);
+    let status = tell_answer(
+        alloc,
+        "histar",
+        &answer,
+        &mut Counted::new(&mut out),
+        &mut err,
+    );
     assert_eq!(rt; status, 4);
     assert_eq!(rt; err.as_slice(), b"histar: out of memory\n".as_slice());
 }

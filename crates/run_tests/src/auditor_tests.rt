@@ -1,10 +1,11 @@
 //! Audits of dumps.
 use auditor::{Verdict, audit, audit_on};
 use base::NoMemory;
+use program_io::Counted;
 use std::alloc::{AllocError, Global};
 use std::io::ErrorKind;
 use std::test::Fail;
-use test_support::{Broken, EMPTY_DUMP};
+use test_support::{Broken, EMPTY_DUMP, Holding, Portions};
 
 /// The dump of a run in which thread 2 made two categories and wrote to a segment, and thread 7,
 /// which there is not, made a call.
@@ -159,7 +160,7 @@ fn ends(alloc: Global, text: &[u8], status: u8, line: &[u8]) -> bool {
     let mut dump = text;
     let mut out = Vec::new(alloc);
     let mut err = Vec::new(alloc);
-    let ended = audit_on(alloc, &mut dump, &mut out, &mut err);
+    let ended = audit_on(alloc, &mut dump, &mut Counted::new(&mut out), &mut err);
     ended.status == status && out.as_slice() == line && err.is_empty()
 }
 
@@ -174,17 +175,46 @@ fn the_verdict_is_printed(rt: HostRuntime) -> Result<(), Fail> {
     Ok(())
 }
 
+// A verdict is handed on before its status is told, and where a write of it fails the audit is at fault.
+#[test]
+fn the_verdict_is_handed_on(rt: HostRuntime) {
+    let alloc = rt.alloc();
+    let mut err = Vec::new(alloc);
+    let mut dump = EMPTY_DUMP.as_bytes();
+    let mut out = Counted::new(Holding::nothing(alloc));
+    assert_eq!(rt; audit_on(alloc, &mut dump, &mut out, &mut err).status, 0);
+    assert_eq!(rt; out.into_inner().handed.as_slice(), b"clean\n".as_slice());
+    let mut dump = b"no dump\n".as_slice();
+    let mut out = Counted::new(Portions::before_failing(alloc, 2));
+    assert_eq!(rt; audit_on(alloc, &mut dump, &mut out, &mut err).status, 3);
+    assert_eq!(rt;
+        out.into_inner().taken.as_slice(),
+        b"unreadable at ".as_slice()
+    );
+    assert_eq!(rt; err.as_slice(), b"histar-audit: output fault\n".as_slice());
+}
+
 #[test]
 fn faults_of_streams(rt: HostRuntime) -> Result<(), Fail> {
     let alloc = rt.alloc();
     let mut out = Vec::new(alloc);
     let mut err = Vec::new(alloc);
-    let ended = audit_on(alloc, &mut Broken(ErrorKind::Other), &mut out, &mut err);
+    let ended = audit_on(
+        alloc,
+        &mut Broken(ErrorKind::Other),
+        &mut Counted::new(&mut out),
+        &mut err,
+    );
     assert_eq!(rt; ended.status, 3);
     assert!(rt; out.is_empty() && err.as_slice() == b"histar-audit: input fault\n".as_slice());
     let mut dump = EMPTY_DUMP.as_bytes();
     let mut told = Vec::new(alloc);
-    let ended = audit_on(alloc, &mut dump, &mut Broken(ErrorKind::Other), &mut told);
+    let ended = audit_on(
+        alloc,
+        &mut dump,
+        &mut Counted::new(Broken(ErrorKind::Other)),
+        &mut told,
+    );
     assert_eq!(rt; ended.status, 3);
     assert!(rt; told.as_slice() == b"histar-audit: output fault\n".as_slice());
     Ok(())
@@ -204,7 +234,7 @@ fn want_of_memory_changes_nothing(rt: HostRuntime) -> Result<(), Fail> {
     let mut room = [0u8; 64];
     let mut out: &mut [u8] = &mut room;
     let mut err = Vec::new(alloc);
-    let ended = audit_on(alloc, &mut dump, &mut out, &mut err);
+    let ended = audit_on(alloc, &mut dump, &mut Counted::new(&mut out), &mut err);
     assert!(rt; ended.status == 0 || ended.status == 4);
     let left = out.len();
     assert!(rt; ended.status == 0 || left == 64);

@@ -2,6 +2,7 @@
 use auditor::{Verdict, audit};
 use call_text::read_script;
 use histar_args::{DEFAULTS, Options};
+use program_io::Counted;
 use script_runner::{Always, Gate, PlayFault, Turn, histar_on, play_all, play_at_once};
 use std::alloc::Global;
 use std::process::Abort;
@@ -50,7 +51,14 @@ fn a_batch_is_one_event_of_the_dump(rt: HostRuntime) -> Result<(), Fail> {
     };
     let (mut out, mut err) = (Vec::new(alloc), Vec::new(alloc));
     let mut input = MADE_AND_GONE;
-    let ended = histar_on(&rt, alloc, &mut input, &options, &mut out, &mut err);
+    let ended = histar_on(
+        &rt,
+        alloc,
+        &mut input,
+        &options,
+        &mut Counted::new(&mut out),
+        &mut err,
+    );
     assert_eq!(rt; ended.status, 0);
     assert!(rt; out.as_slice() == TOLD);
     let dump = ended.file.as_slice();

@@ -1,5 +1,6 @@
 //! What goes to the dump's file.
 use histar_args::{DEFAULTS, Options};
+use program_io::Counted;
 use script_runner::histar_on;
 use std::io::ErrorKind;
 use std::process::Abort;
@@ -30,7 +31,14 @@ fn texts_of<R: Abort + AllocGlobal + Threads + Wait + Sync>(
     let mut output = Vec::new(alloc);
     let mut err = Vec::new(alloc);
     let mut input = script;
-    let ended = histar_on(rt, alloc, &mut input, options, &mut output, &mut err);
+    let ended = histar_on(
+        rt,
+        alloc,
+        &mut input,
+        options,
+        &mut Counted::new(&mut output),
+        &mut err,
+    );
     assert_eq!(rt; ended.status, 0);
     assert!(rt; err.is_empty());
     Texts {
@@ -73,13 +81,34 @@ fn no_dump_is_made_after_a_fault(rt: HostRuntime) -> Result<(), Fail> {
     let mut room = [0u8; 4];
     let mut full: &mut [u8] = &mut room;
     let mut script: &[u8] = b"boot: cat_create\nboot\n";
-    let ended = histar_on(&rt, alloc, &mut script, &DUMPED, &mut full, &mut err);
+    let ended = histar_on(
+        &rt,
+        alloc,
+        &mut script,
+        &DUMPED,
+        &mut Counted::new(&mut full),
+        &mut err,
+    );
     assert!(rt; ended.status == 1 && ended.file.is_empty());
     let mut script: &[u8] = b"boot: cat_create\n";
-    let ended = histar_on(&rt, alloc, &mut script, &DUMPED, &mut full, &mut err);
+    let ended = histar_on(
+        &rt,
+        alloc,
+        &mut script,
+        &DUMPED,
+        &mut Counted::new(&mut full),
+        &mut err,
+    );
     assert!(rt; ended.status == 3 && ended.file.is_empty());
     let mut script = Broken(ErrorKind::OutOfMemory);
-    let ended = histar_on(&rt, alloc, &mut script, &DUMPED, &mut full, &mut err);
+    let ended = histar_on(
+        &rt,
+        alloc,
+        &mut script,
+        &DUMPED,
+        &mut Counted::new(&mut full),
+        &mut err,
+    );
     assert!(rt; ended.status == 4 && ended.file.is_empty());
     Ok(())
 }
@@ -105,7 +134,14 @@ fn is_written<R: Abort + AllocGlobal + Threads + Wait + Sync>(rt: &R) -> bool {
     let mut told = [0u8; 64];
     let mut err: &mut [u8] = &mut told;
     let mut script = BY_ENTRY;
-    let ended = histar_on(rt, rt.alloc(), &mut script, &options, &mut out, &mut err);
+    let ended = histar_on(
+        rt,
+        rt.alloc(),
+        &mut script,
+        &options,
+        &mut Counted::new(&mut out),
+        &mut err,
+    );
     let left = out.len();
     if ended.status == 0 {
         assert_eq!(rt; ended.file.as_slice(), BY_ENTRY_DUMP);

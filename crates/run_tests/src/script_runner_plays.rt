@@ -127,6 +127,25 @@ fn a_thread_is_halted_within_a_phase(rt: HostRuntime) -> Result<(), Fail> {
     Ok(())
 }
 
+// A list is printed by the names that are bound at the end: here by one that another worker gave in the same phase.
+#[test]
+fn a_list_has_the_names_of_the_end(rt: HostRuntime) -> Result<(), Fail> {
+    let alloc = rt.alloc();
+    let text =
+        b"t = boot: thread_create root {1} 1 {2} 0\n--\ns = t: segment_create root {1} 1 0\nboot: container_list root 0\n";
+    let script = read_script(alloc, text)?;
+    let gate = InOrder {
+        answered: AtomicU64::new(0),
+        parting: 2,
+    };
+    let played = play_all(&rt, alloc, &script, &DEFAULTS.limits, &gate)?;
+    assert_eq!(rt;
+        played.output.as_slice(),
+        b"boot 1: id t\nboot 4: list 4 boot dev t s\nt 3: id s\n".as_slice()
+    );
+    Ok(())
+}
+
 /// Stops before a line of the script, and counts the lines that have their answers.
 #[derive(Drop)]
 struct StopBefore {

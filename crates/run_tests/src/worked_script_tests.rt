@@ -10,6 +10,7 @@ use histories::Event;
 use kept_events::events_of;
 use kernel_rules::{Call, Reply};
 use plain_core::{PlainKernel, run};
+use program_io::Counted;
 use script_runner::{Always, histar_on, play_all};
 use std::alloc::Global;
 use std::process::Abort;
@@ -30,7 +31,14 @@ fn check_played<R: Abort + AllocGlobal + Threads + Wait + Sync>(
     let mut out = Vec::new(alloc);
     let mut err = Vec::new(alloc);
     let mut input = worked.text;
-    let ended = histar_on(rt, alloc, &mut input, &options, &mut out, &mut err);
+    let ended = histar_on(
+        rt,
+        alloc,
+        &mut input,
+        &options,
+        &mut Counted::new(&mut out),
+        &mut err,
+    );
     assert_eq!(rt; ended.status, 0);
     assert_eq!(rt; out.as_slice(), worked.output);
     assert!(rt; err.is_empty());

@@ -1,4 +1,7 @@
 //! What the lines of a worker answered.
+//!
+//! A name is printed as it is bound at the end of the run. A reply in which no name can stand is printed when it comes, and
+//! only its text is kept: that takes less memory than the reply.
 use base::{NoMemory, Refusal};
 use call_text::{Known, Value, put_reply};
 use kernel_rules::Reply;

@@ -1,5 +1,7 @@
 //! What stands in the book at the end of a run.
 ghost use Rattle.std.specs.Prelude.{◌≡◌, IfOk};
+ghost use Rattle.histories.specs.History.{state_of};
+ghost use Rattle.kernel_rules.specs.Scratch.{scratch};
 ghost use Rattle.script_runner.specs.Dumps.{IsClosing};
 
 use base::{Meter, NoMemory};
@@ -18,7 +20,16 @@ pub struct Closing {
     pub tables: Tables,
 }
 
-/// What stands in a book that was closed: its whole journal. The copies' memory is given back.
+/// The tables of a book's kernel.
+fn tables_of<B: Naming>(alloc: Global, book: &Book<B>) -> Result<Tables, NoMemory>
+    ensures { IfOk result (λ tables. tables ≡ scratch (state_of B.boot.limits book.now.journal)) }
+{
+    let mut meter = Meter::new(alloc)?;
+    book.kernel().tables(&mut meter)
+}
+
+/// What stands in a book that was closed: its whole journal. The copies' memory is given back, also without memory for the
+/// tables.
 pub fn closing_of<B: Naming, R: Wait>(
     rt: &R,
     alloc: Global,
@@ -28,8 +39,8 @@ pub fn closing_of<B: Naming, R: Wait>(
     ensures closing { IfOk result
         (λ closing. IsClosing B.boot.limits closing.events.items closing.tables) }
 {
-    let mut meter = Meter::new(alloc)?;
-    let tables = book.kernel().tables(&mut meter)?;
+    let found = tables_of(alloc, &book);
     let events = book.into_events(rt);
+    let tables = found?;
     Ok(Closing { events, tables })
 }

@@ -1,4 +1,4 @@
-//! The program, over a reader and two writers.
+//! The program, over a reader, a sink and a writer.
 ghost use Rattle.std.specs.Prelude.{◌≡◌, ◌<◌, [], IfOk};
 ghost use Rattle.script_runner.specs.Dumps.{IsFile, IsPlayed};
 
@@ -11,7 +11,7 @@ use dump_text::legal_is_dump;
 use histar_args::Options;
 use kept_events::{KeptEvent, events_of};
 use kernel_rules::Tables;
-use program_io::{Fault, bytes_of};
+use program_io::{Fault, Sink, bytes_of, deliver};
 use std::alloc::Global;
 use std::io::{Read, Write};
 use std::mem::forget;
@@ -111,12 +111,12 @@ fn texts_of<R: Threads + Wait + Sync>(
     })
 }
 
-fn run<R: Threads + Wait + Sync, I: Read, O: Write>(
+fn run<R: Threads + Wait + Sync, I: Read, S: Sink>(
     rt: &R,
     alloc: Global,
     script: &mut I,
     options: &Options,
-    out: &mut O,
+    out: &mut S,
 ) -> Result<Vec<u8>, RunFault>
     ensures { IfOk result (λ file. IsFile options.now.dump options.now.limits file.items) }
 {
@@ -125,9 +125,7 @@ fn run<R: Threads + Wait + Sync, I: Read, O: Write>(
     let texts = texts_of(rt, alloc, &script, options);
     forget(script);
     let Texts { output, file } = texts?;
-    if out.write_all(output.as_slice()).is_err() || out.flush().is_err() {
-        return Err(RunFault::Other(Fault::Output));
-    }
+    deliver(out, output.as_slice())?;
     Ok(file)
 }
 
@@ -147,12 +145,12 @@ fn told<E: Write>(err: &mut E, fault: RunFault) -> u8
 /// the run with one line on `err`: reading, the script's, want of memory in playing and in making the texts, writing. No
 /// byte goes to `out` before the replies and the dump are whole. It waits for all threads that it starts. The lines of the
 /// script and the events are not given back: that would take as long as to read many of them, and the program ends then.
-pub fn histar_on<R: Threads + Wait + Sync, I: Read, O: Write, E: Write>(
+pub fn histar_on<R: Threads + Wait + Sync, I: Read, S: Sink, E: Write>(
     rt: &R,
     alloc: Global,
     script: &mut I,
     options: &Options,
-    out: &mut O,
+    out: &mut S,
     err: &mut E,
 ) -> Ended
     ensures ok { result.status ≡ 0

@@ -276,7 +276,7 @@ fn play_phases<'s, 'a, B: Naming + Send, R: Threads + Wait + Sync, G: Gate>(
 }
 
 /// Plays a script on a boot, closes it, and makes the output: what is told of the book is what stands in it once every
-/// seat is gone.
+/// seat is gone. It is closed after a fault too, so the copies' memory is given back.
 pub fn play_shared<B: Naming + Send, R: Threads + Wait + Sync, G: Gate>(
     rt: &R,
     alloc: Global,
@@ -289,8 +289,10 @@ pub fn play_shared<B: Naming + Send, R: Threads + Wait + Sync, G: Gate>(
     ensures { IfOk result (λ played. IsClosing B.boot.limits played.events.items played.tables) }
 {
     let shared = blank.open::<B>();
-    let answered = play_phases(rt, alloc, &shared, script, workers, gate)?;
-    let Closing { events, tables } = closing_of(rt, alloc, shared.close())?;
+    let answered = play_phases(rt, alloc, &shared, script, workers, gate);
+    let closing = closing_of(rt, alloc, shared.close());
+    let answered = answered?;
+    let Closing { events, tables } = closing?;
     let output = output_of(alloc, &answered)?;
     Ok(Played {
         output,
