@@ -10,7 +10,8 @@
  *   entry may be refused HISTAR_NO_ACCESS (its container is not there, or the thread does not observe it) and
  *   HISTAR_NO_ENTRY (the container does not list the object, and is not the object).
  * - HISTAR_NO_CALL comes where the arguments make no call: a level above 4, 25 pairs in a label, 65 bytes.
- * - It takes no memory, prints nothing and never waits. Only histar_open takes memory.
+ * - It takes no memory, prints nothing and never waits. Only histar_open takes memory, and what the log needs: a
+ *   write call after histar_log_on, which is refused HISTAR_MEMORY where there is none, and histar_dump.
  *
  * One call at a time uses a kernel. It may be called by one thread and then by another, if a lock, or the start or the
  * end of a thread, stands between the two calls. It is not to be called from a signal handler, or in the forked child
@@ -80,7 +81,9 @@ enum histar_refusal {
     HISTAR_SPENT = 25,           /* no id or category is left */
     HISTAR_UNAVAILABLE = 30,     /* there is no memory for a kernel */
     HISTAR_BAD_LIMITS = 31,      /* a limit is out of its range */
-    HISTAR_NO_CALL = 45          /* the arguments make no call */
+    HISTAR_MEMORY = 40,          /* there is no memory for the call's event in the log */
+    HISTAR_NO_CALL = 45,         /* the arguments make no call */
+    HISTAR_TEXT_MEMORY = 51      /* there is no memory for the text of a dump */
 };
 
 /* The name of a refusal, as docs/CALLS.md has it; "" for a number that is none. */
@@ -114,7 +117,9 @@ static inline const char *histar_refusal_name(uint32_t refusal)
     case HISTAR_SPENT: return "Spent";
     case HISTAR_UNAVAILABLE: return "Unavailable";
     case HISTAR_BAD_LIMITS: return "BadLimits";
+    case HISTAR_MEMORY: return "Memory";
     case HISTAR_NO_CALL: return "NoCall";
+    case HISTAR_TEXT_MEMORY: return "TextMemory";
     default: return "";
     }
 }
@@ -203,7 +208,7 @@ static inline void histar_close(histar *k)
     k->is_open = 0;
 }
 
-/* Opens a kernel with all limits: pages of 256 bytes, 8 to 512; the level of the device's label, 0 to 3; the first id
+/* Opens a kernel with all limits: pages of 256 bytes, 8 to 1,024; the level of the device's label, 0 to 3; the first id
  * that a call gives, 4 to 2^61; the first category that a call gives, 1 to 2^61. Refused HISTAR_BAD_LIMITS or
  * HISTAR_UNAVAILABLE, and the kernel is then closed. */
 static inline uint32_t histar_open_with(histar *k, uint32_t pages, uint8_t device_level, uint64_t next_id,
@@ -221,7 +226,7 @@ static inline uint32_t histar_open_with(histar *k, uint32_t pages, uint8_t devic
     return refusal;
 }
 
-/* Opens a kernel of so many pages of 256 bytes, 8 to 512, as a script does: the device's label is 1, the first id 4 and
+/* Opens a kernel of so many pages of 256 bytes, 8 to 1,024, as a script does: the device's label is 1, the first id 4 and
  * the first category 1. Refused HISTAR_BAD_LIMITS or HISTAR_UNAVAILABLE, and the kernel is then closed. */
 static inline uint32_t histar_open(histar *k, uint32_t pages)
 {
@@ -716,6 +721,38 @@ static inline uint32_t histar_kept_order(histar *k, uint16_t first, uint16_t sec
     refusal = histar_finds(k, is_there);
     if (!refusal && *is_there) *bits = (uint32_t)k->answer.numbers[0];
     return refusal;
+}
+
+/* ---- The log: each write call since histar_open, refused or not, with its answer. Its dump is the text that
+ * `./histar run --dump` writes of a run, and histar-audit tells whether its answers are those of the rules. ---- */
+
+/* Begins the log, before the first write call. From here on each write call takes memory, and is refused HISTAR_MEMORY
+ * and not made where there is none. HISTAR_NO_CALL where a write call was made already. */
+static inline uint32_t histar_log_on(histar *k)
+{
+    histar_asks(k, 40, 0, histar_in(0, 0));
+    return histar_done(k);
+}
+
+/* Writes the text of the log's dump, and its length in bytes to *needed; no zero byte ends it. HISTAR_BOUNDS where it is
+ * longer than `size`: nothing but *needed is written then. HISTAR_NO_CALL where no log was begun, HISTAR_TEXT_MEMORY
+ * where there is no memory for the text. The log stays as it is, so it may be dumped again, and calls may follow. */
+static inline uint32_t histar_dump(histar *k, void *text, size_t size, size_t *needed)
+{
+    uint32_t refusal;
+    size_t at, len;
+    histar_asks(k, 41, 0, histar_in(0, 0));
+    refusal = histar_done(k);
+    if (refusal) return refusal;
+    *needed = len = (size_t)k->answer.numbers[0];
+    if (size < len) return HISTAR_BOUNDS;
+    for (at = 0; at < len; at += 64) {
+        histar_asks(k, 42, 0, histar_in(0, 0))->numbers[0] = at;
+        refusal = histar_done(k);
+        if (refusal) return refusal;
+        memcpy((unsigned char *)text + at, k->answer.bytes, len - at < 64 ? len - at : 64);
+    }
+    return HISTAR_DONE;
 }
 
 #ifdef __cplusplus

@@ -1,5 +1,6 @@
-/* Asks a kernel for random records, malformed ones too, and looks that the heap is as it was before, and that a record which
- * asks for nothing leaves the answer as it was. The seed is stated, so each run is the same.
+/* Asks kernels for random records, malformed ones too: 5,000 of a kernel, and of each tenth kernel the log too. It looks that
+ * where no log is kept the heap is as it was after the open, and that a record which is told 40 and more leaves the answer as
+ * it was. The seed is stated, so each run is the same.
  *
  * random_records [COUNT]   ten million without COUNT */
 #include "histar.h"
@@ -31,9 +32,9 @@ static void fill_label(histar_label *label)
     }
 }
 
-static void fill(histar_request *r)
+static void fill(histar_request *r, uint32_t calls)
 {
-    r->call = (uint32_t)below(36);
+    r->call = (uint32_t)below(calls);
     r->len = (uint32_t)below(66);
     r->thread = below(4) ? HISTAR_BOOT : 1 + below(20);
     r->container = below(3) ? HISTAR_ROOT : 1 + below(12);
@@ -47,33 +48,42 @@ static void fill(histar_request *r)
     fill_label(&r->verify);
 }
 
-int main(int count, char **words)
+static histar k;
+static uint64_t told[64];
+
+/* Whether a kernel is well that so many records are asked of. */
+static int is_well(long records, int is_logged)
 {
-    static histar k;
     static histar_answer before;
-    uint64_t told[64] = {0};
-    long calls = count > 1 ? atol(words[1]) : 10000000;
-    int is_well = 1;
+    int is_same = 1;
     size_t used;
-    if (histar_open(&k, 64)) return 2;
+    if (histar_open(&k, 64) || (is_logged && histar_log_on(&k))) return 0;
     used = mallinfo2().uordblks;
-    for (long i = 0; i < calls; i++) {
+    for (long i = 0; i < records; i++) {
         uint32_t refusal;
-        fill(&k.request);
+        fill(&k.request, is_logged ? 43 : 40);
         before = k.answer;
         refusal = histar_call(k.room, &k.request, &k.answer);
-        if (refusal == HISTAR_NO_CALL && memcmp(&before, &k.answer, sizeof before)) is_well = 0;
-        if (refusal >= 64) return 2;
+        if (refusal >= HISTAR_MEMORY && memcmp(&before, &k.answer, sizeof before)) is_same = 0;
+        if (refusal >= 64) return 0;
         told[refusal]++;
-        if (i % 5000 == 4999) {
-            histar_close(&k);
-            if (histar_open(&k, 64)) return 2;
-        }
     }
-    is_well &= mallinfo2().uordblks == used;
+    if (!is_logged && mallinfo2().uordblks != used) is_same = 0;
     histar_close(&k);
+    return is_same;
+}
+
+int main(int count, char **words)
+{
+    long left = count > 1 ? atol(words[1]) : 10000000;
+    int well = 1;
+    for (long kernel = 0; left > 0 && well; kernel++) {
+        long records = left < 5000 ? left : 5000;
+        well = is_well(records, kernel % 10 == 9);
+        left -= records;
+    }
     for (int i = 0; i < 64; i++)
         if (told[i]) printf("%d:%" PRIu64 " ", i, told[i]);
-    printf("%s\n", is_well ? "well" : "NOT WELL");
-    return !is_well;
+    printf("%s\n", well ? "well" : "NOT WELL");
+    return !well;
 }

@@ -1,6 +1,7 @@
 /* Opens kernels, each with another request for memory refused, the first, the second and so on, until none is: an open that
  * is refused one is told 30, and keeps nothing. No call takes memory or writes past histar_size() bytes, and a close gives
- * all back.
+ * all back. Then the same of calls that are kept in a log, and of its dump: a call that is refused memory is told 40 and is
+ * made as ever when it is asked for again, and a dump is told 51.
  *
  * To be linked with -Wl,--wrap=malloc,--wrap=realloc,--wrap=free. */
 #include "histar.h"
@@ -66,6 +67,57 @@ static int calls_are_done(void)
     return histar_self_get(&k, HISTAR_BOOT, &self) == HISTAR_DONE;
 }
 
+/* What happens at a call: it is made again where it is told 40, which may be once. */
+static int again;
+
+static uint32_t once_more(uint32_t (*asks)(void))
+{
+    uint32_t refusal = asks();
+    if (refusal != HISTAR_MEMORY) return refusal;
+    again++;
+    return asks();
+}
+
+static uint64_t category, made;
+static uint32_t creates_category(void) { return histar_cat_create(&k, HISTAR_BOOT, &category); }
+static uint32_t creates_segment(void)
+{
+    histar_label guarded = histar_with(histar_level(1), category, 3);
+    return histar_segment_create(&k, HISTAR_BOOT, HISTAR_ROOT, &guarded, 2, 1, &made);
+}
+static uint32_t keeps_root(void) { return histar_unref(&k, HISTAR_BOOT, histar_in(HISTAR_ROOT, HISTAR_ROOT)); }
+
+/* Whether logged calls are done, each once, and their dump is the one before where there was one. */
+static int is_logged(void)
+{
+    static char text[2][4096];
+    static size_t len[2];
+    int n = len[0] != 0;
+    uint32_t refusal;
+    if (histar_log_on(&k) || once_more(creates_category) || category != 1) return 0;
+    if (once_more(creates_segment) || made != 4 || once_more(keeps_root) != HISTAR_ROOT_KEPT) return 0;
+    refusal = histar_dump(&k, text[n], sizeof text[n], &len[n]);
+    if (refusal == HISTAR_TEXT_MEMORY) again++, refusal = histar_dump(&k, text[n], sizeof text[n], &len[n]);
+    return !refusal && len[n] && (!n || (len[0] == len[1] && !memcmp(text[0], text[1], len[0])));
+}
+
+/* Whether a log is kept and dumped with each request for memory after the open refused in turn. */
+static int logs_are_kept(void)
+{
+    for (long later = 1;; later++) {
+        long at_open;
+        refused = 0;
+        asked = out = again = 0;
+        if (histar_open(&k, 8)) return 0;
+        at_open = asked;
+        refused = at_open + later;
+        if (!is_logged() || again != (asked >= refused)) return 0;
+        histar_close(&k);
+        if (out != 0) return 0;
+        if (asked < refused) return later > 3;
+    }
+}
+
 int main(void)
 {
     for (refused = 1;; refused++) {
@@ -81,6 +133,7 @@ int main(void)
         if (!rest_is_zero()) return 4;
         histar_close(&k);
         if (out != 0) return 5;
+        if (!logs_are_kept()) return 6;
         printf("%ld requests\n", at_open);
         return at_open == 0;
     }

@@ -1,9 +1,10 @@
 /* Plays a script by the functions of histar.h and prints what ./histar run prints of it. Lines are played one after
  * another, so what a script asks must not hang on the schedule of its workers. A test: a faulty script ends it with 2.
  *
- * play SCRIPT [--pages N] [--device L] [--next-id N] [--next-category N] [--tables yes]
+ * play SCRIPT [--pages N] [--device L] [--next-id N] [--next-category N] [--tables yes] [--dump FILE]
  *
- * With `--tables yes` the tables of what the kernel keeps follow, as a dump has them. */
+ * With `--tables yes` the tables of what the kernel keeps follow, as a dump has them. With `--dump FILE` calls are kept, and their
+ * dump is written to a file. The lines of a batch are calls like others, so a dump has no batch. */
 #include "play.h"
 
 histar k;
@@ -99,18 +100,33 @@ static void read_script(const char *path)
             phase++;
             continue;
         }
-        if (!(call = strstr(text, ": "))) faulty("a line without a call");
-        *call = 0;
+        if (!(call = strchr(text, ':'))) faulty("a line without a call");
+        *call++ = 0;
+        if (*call == '+') call++;
         bound = strstr(text, " = ");
         if (bound) *bound = 0;
         line->number = number;
         line->phase = phase;
         if (bound) copy_name(line->bound, text);
         copy_name(line->worker, bound ? bound + 3 : text);
-        line->call = strdup(call + 2);
+        line->call = strdup(call + 1);
         line_count++;
     }
     fclose(file);
+}
+
+/* Writes the dump of the log to a file: how long it is is asked first. */
+static void writes_dump(const char *path)
+{
+    size_t len = 0, written = 0;
+    char *text;
+    FILE *file = fopen(path, "w");
+    if (!file || histar_dump(&k, NULL, 0, &len) != HISTAR_BOUNDS) faulty("no dump");
+    text = malloc(len);
+    if (!text || histar_dump(&k, text, len - 1, &written) != HISTAR_BOUNDS || written != len) faulty("a dump in too little room");
+    if (histar_dump(&k, text, len, &written) || written != len) faulty("a dump in its room");
+    if (fwrite(text, 1, len, file) != len || fclose(file)) faulty("the dump is not written");
+    free(text);
 }
 
 int main(int count, char **given)
@@ -119,7 +135,8 @@ int main(int count, char **given)
     uint8_t device = 1;
     uint64_t next_id = 4, next_category = 1;
     int with_tables = 0;
-    if (count < 2) faulty("play SCRIPT [--pages N] [--device L] [--next-id N] [--next-category N] [--tables yes]");
+    const char *dump = NULL;
+    if (count < 2) faulty("play SCRIPT [--pages N] [--device L] [--next-id N] [--next-category N] [--tables yes] [--dump FILE]");
     for (int i = 2; i + 1 < count; i += 2) {
         uint64_t n = strtoull(given[i + 1], NULL, 10);
         if (!strcmp(given[i], "--pages")) pages = (uint32_t)n;
@@ -127,9 +144,11 @@ int main(int count, char **given)
         if (!strcmp(given[i], "--next-id")) next_id = n;
         if (!strcmp(given[i], "--next-category")) next_category = n;
         if (!strcmp(given[i], "--tables")) with_tables = 1;
+        if (!strcmp(given[i], "--dump")) dump = given[i + 1];
     }
     read_script(given[1]);
     if ((refusal = histar_open_with(&k, pages, device, next_id, next_category))) faulty(histar_refusal_name(refusal));
+    if (dump && histar_log_on(&k)) faulty("the log does not begin");
     binds("root", "", 0, 0, HISTAR_ROOT);
     binds("boot", "", 0, 0, HISTAR_BOOT);
     binds("dev", "", 0, 0, HISTAR_DEVICE);
@@ -139,6 +158,7 @@ int main(int count, char **given)
     }
     print_all();
     if (with_tables) print_tables();
+    if (dump) writes_dump(dump);
     histar_close(&k);
     for (size_t i = 0; i < line_count; i++) free(lines[i].call);
     return 0;

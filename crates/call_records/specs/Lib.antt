@@ -5,5 +5,6 @@ pub mod Calls
 pub mod Queries
 pub mod Told
 pub mod Lookups
+pub mod Logs
 pub mod Asked
 pub mod Laws

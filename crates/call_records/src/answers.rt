@@ -27,7 +27,7 @@ pub(crate) fn put(reply: u32, numbers: &[u64], answer: &mut Answer)
 }
 
 /// Writes bytes.
-fn put_bytes(data: &Data, answer: &mut Answer)
+pub(crate) fn put_bytes(data: &Data, answer: &mut Answer)
     ensures { Tells (replies.Bytes data.now) answer.new }
 {
     let bytes = data.as_slice();

@@ -18,7 +18,7 @@ pub struct LabelRecord {
 #[repr(C)]
 #[derive(Clone, Copy)]
 pub struct Request {
-    /// What is asked for: 1 to 24 is a write call, 25 to 34 a read call, 35 to 39 a look-up.
+    /// What is asked for: 1 to 24 is a write call, 25 to 34 a read call, 35 to 39 a look-up, 40 to 42 of the log.
     pub call: u32,
     /// How many bytes there are: 0 to 64.
     pub len: u32,
@@ -48,7 +48,7 @@ pub struct Request {
 #[repr(C)]
 #[derive(Clone, Copy)]
 pub struct Answer {
-    /// The number of the reply: 0 to 12, in the order of `Reply`, or 13 of a look-up.
+    /// The number of the reply: 0 to 12, in the order of `Reply`, 13 of a look-up, or 14 of a text's length.
     pub reply: u32,
     /// How many bytes, ids or mappings there are, or what was found: 0 or 1.
     pub len: u32,

@@ -5,8 +5,7 @@ use Rattle.label_lattice.specs.Label.{LabelValue}
 use Rattle.kernel_rules.specs.Scratch.{ids_of}
 use Rattle.kernel_rules.specs.State.{object_at, use_of}
 use Rattle.kernel_rules.specs.Translate.{translate}
-use Rattle.arena_state.specs.Kept.{label_kept, order_kept}
-use Rattle.syscall_core.specs.Kernel.{kernel_state}
+use Rattle.syscall_core.specs.Kernel.{kernel_state, label_at, order_at}
 use Rattle.syscall_core.specs.declared.kernel.Kernel.{Kernel}
 use Rattle.call_records.specs.declared.lookups.Found.{Found}
 use Rattle.call_records.specs.declared.lookups.Found.TheVariants as found
@@ -43,5 +42,5 @@ abbrev pub IsFound : Kernel → Lookup → Found → Type 0
 IsFound k (lookups.Live place) f = f ≡ live_found (slice_get (ids_of (kernel_state k).objects) place)
 IsFound k (lookups.Used id) f = f ≡ used_found (option_map (λ _. use_of (kernel_state k) id) (object_at (kernel_state k) id))
 IsFound k (lookups.Shown thread slot) f = f ≡ shown_found (translate (kernel_state k) thread slot)
-IsFound k (lookups.Label index) f = f ≡ label_found (label_kept k.kept.state index)
-IsFound k (lookups.Order first second) f = f ≡ order_found (order_kept k.kept.state first second)
+IsFound k (lookups.Label index) f = f ≡ label_found (label_at k index)
+IsFound k (lookups.Order first second) f = f ≡ order_found (order_at k first second)

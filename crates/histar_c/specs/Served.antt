@@ -1,13 +1,18 @@
 -- What the exports do to the kernel that C's memory holds, and what C is told.
-use Rattle.std.specs.Prelude.{◌≡◌, ◌⊎◌, ℕ, Option, Some, None, option_map, Result, Ok, Err}
+use Rattle.std.specs.Prelude.{◌≡◌, ◌⊎◌, ℕ, List, take, drop, true, Option, Some, None, option_map, Result, Ok, Err}
 use Rattle.std.specs.Bool.{MatchBool}
 use Rattle.base.specs.Limits.{in_range}
 use Rattle.base.specs.declared.ranges.Limits.{Limits}
 use Rattle.kernel_rules.specs.declared.replies.Reply.{Reply}
 use Rattle.kernel_rules.specs.Runs.{booted}
-use Rattle.kernel_rules.specs.State.{State}
-use Rattle.kernel_rules.specs.Step.{next, answer, query_answer}
-use Rattle.call_records.specs.Asked.{Asked, Write, Read, Look, Nothing, asked}
+use Rattle.kernel_rules.specs.Step.{answer, query_answer}
+use Rattle.kernel_rules.specs.declared.calls.Call.{Call}
+use Rattle.kernel_rules.specs.declared.replies.Reply.TheVariants as replies
+use Rattle.dump_text.specs.Whole.{IsLegalDump}
+use Rattle.logged_kernel.specs.Logged.{Logged, IsMade, begun, dump_of}
+use Rattle.call_records.specs.Asked.{Asked, Write, Read, Look, Log, Nothing, asked}
+use Rattle.call_records.specs.Logs.{TellsLength}
+use Rattle.call_records.specs.declared.logs.LogRequest.TheVariants as logs
 use Rattle.call_records.specs.Labels.{level_of}
 use Rattle.call_records.specs.Lookups.{TellsFound}
 use Rattle.call_records.specs.Told.{Tells, refusal_number}
@@ -21,14 +26,14 @@ use Rattle.histar_c.specs.Found.{IsFound}
 use Rattle.histar_c.specs.declared.held.Held.{Held}
 use Rattle.histar_c.specs.declared.held.Kept.{Kept}
 
--- the state of a kernel, or why there is none
-abbrev pub state_in : Result Kept ℕ → Result State ℕ
-state_in (Ok kept) = Ok (kernel_state kept.kernel)
-state_in (Err why) = Err why
+-- the kernel with its log, or why there is none
+abbrev pub kernel_in : Result Kept ℕ → Result Logged ℕ
+kernel_in (Ok kept) = Ok kept.logged
+kernel_in (Err why) = Err why
 
--- the state of the kernel that is held, or why none is
-abbrev pub held_state : Held → Result State ℕ
-held_state held = state_in held.kernel
+-- the same of what is held
+abbrev pub held_kernel : Held → Result Logged ℕ
+held_kernel held = kernel_in held.kernel
 
 -- the limits of these numbers, none where the device's level is none
 abbrev pub limits_of : ℕ → ℕ → ℕ → ℕ → Option Limits
@@ -36,11 +41,17 @@ limits_of pages device id category =
     option_map (λ level. record { pages = pages; device = level; next_id = id; next_category = category })
     (level_of device)
 
--- a kernel that is booted with these limits, or 30 for want of memory; 31 where they are out of range
-abbrev pub IsBoot : Option Limits → Result State ℕ → Type 0
+-- a new kernel that is booted with these limits, whose calls are not kept
+abbrev pub IsBooted : Limits → Result Logged ℕ → Type 0
+IsBooted limits (Ok k) =
+    (kernel_state k.kernel ≡ booted limits) × (k.limits ≡ limits) × (k.is_new ≡ true) × (k.log ≡ None)
+IsBooted limits (Err why) = ⊥
+
+-- a new kernel that is booted with these limits, or 30 for want of memory; 31 where they are out of range
+abbrev pub IsBoot : Option Limits → Result Logged ℕ → Type 0
 IsBoot None held = held ≡ Err 31
 IsBoot (Some limits) held =
-    MatchBool (in_range limits) ((held ≡ Ok (booted limits)) ⊎ (held ≡ Err 30)) (held ≡ Err 31)
+    MatchBool (in_range limits) (IsBooted limits held ⊎ (held ≡ Err 30)) (held ≡ Err 31)
 
 -- the number is that of the reply's refusal, 0 for none, and the record tells the reply
 abbrev pub IsTold : Reply → ℕ → Answer → Type 0
@@ -51,21 +62,64 @@ abbrev pub IsFoundTold : Kernel → Lookup → ℕ → Answer → Type 0
 IsFoundTold kernel lookup number told =
     (number ≡ 0) × ((found : Found) × IsFound kernel lookup found × TellsFound found told)
 
+-- the kernel, its log and the text of the last dump are as they were
+abbrev pub IsSame : Kept → Kept → Type 0
+IsSame before after = (after.logged ≡ before.logged) × (after.text.items ≡ before.text.items)
+
+-- nothing is done and nothing is told but this number
+abbrev pub IsRefused : ℕ → Kept → Kept → ℕ → Answer → Answer → Type 0
+IsRefused why before after number old told = IsSame before after × (number ≡ why) × (told ≡ old)
+
+-- a call is made and answered by the rules, and where a log is kept its event is the last; or a log is
+-- kept and there is no memory for the event, and the number is 40
+abbrev pub IsCalled : Call → ℕ → Kept → Kept → ℕ → Answer → Answer → Type 0
+IsCalled call thread before after number old told =
+    (IsMade before.logged after.logged thread call × (after.text.items ≡ before.text.items)
+    × IsTold (answer (kernel_state before.logged.kernel) thread call) number told)
+    ⊎ ((before.logged.log ≡ None → ⊥) × IsRefused 40 before after number old told)
+
+-- the log begins; or a call was made before, and the number is 45
+abbrev pub IsBegun : Kept → Kept → ℕ → Answer → Answer → Type 0
+IsBegun before after number old told =
+    MatchBool before.logged.is_new
+    ((after.logged ≡ begun before.logged) × (after.text.items ≡ before.text.items)
+    × IsTold replies.Done number told)
+    (IsRefused 45 before after number old told)
+
+-- this text is made, which is the dump of a legal list of events, and its length is told
+abbrev pub IsText : Limits → List ℕ → Kept → ℕ → Answer → Type 0
+IsText limits text after number told =
+    (after.text.items ≡ text) × IsLegalDump limits text × (number ≡ 0) × TellsLength text told
+
+-- the text of the log's dump is made, or there is no memory for it, and the number is 51; where no log
+-- is kept, the number is 45
+abbrev pub IsDumpedAs : Option (List ℕ) → Kept → Kept → ℕ → Answer → Answer → Type 0
+IsDumpedAs None before after number old told = IsRefused 45 before after number old told
+IsDumpedAs (Some text) before after number old told =
+    ((after.logged ≡ before.logged) × IsText before.logged.limits text after number told)
+    ⊎ IsRefused 51 before after number old told
+
+abbrev pub IsDumped : Kept → Kept → ℕ → Answer → Answer → Type 0
+IsDumped before after number old told = IsDumpedAs (dump_of before.logged) before after number old told
+
 -- exactly what is asked for is done, and answered by the rules; where that is nothing, nothing changes
 -- and the number is 45
-abbrev pub IsDone : Asked → ℕ → Kernel → Kernel → ℕ → Answer → Answer → Type 0
-IsDone (Write call) thread before after number old told =
-    (kernel_state after ≡ next (kernel_state before) thread call)
-    × IsTold (answer (kernel_state before) thread call) number told
+abbrev pub IsDone : Asked → ℕ → Kept → Kept → ℕ → Answer → Answer → Type 0
+IsDone (Write call) thread before after number old told = IsCalled call thread before after number old told
 IsDone (Read query) thread before after number old told =
-    (after ≡ before) × IsTold (query_answer (kernel_state before) thread query) number told
+    IsSame before after
+    × IsTold (query_answer (kernel_state before.logged.kernel) thread query) number told
 IsDone (Look lookup) thread before after number old told =
-    (after ≡ before) × IsFoundTold before lookup number told
-IsDone Nothing thread before after number old told = (after ≡ before) × (number ≡ 45) × (told ≡ old)
+    IsSame before after × IsFoundTold before.logged.kernel lookup number told
+IsDone (Log logs.Begin) thread before after number old told = IsBegun before after number old told
+IsDone (Log logs.Dump) thread before after number old told = IsDumped before after number old told
+IsDone (Log (logs.Text from)) thread before after number old told =
+    IsSame before after × IsTold (replies.Bytes (take 64 (drop from before.text.items))) number told
+IsDone Nothing thread before after number old told = IsRefused 45 before after number old told
 
 -- the same, where a kernel may be held; where none is, nothing changes and the number is why
 abbrev pub IsServed : Request → Result Kept ℕ → Result Kept ℕ → ℕ → Answer → Answer → Type 0
 IsServed request (Ok before) held number old told =
     (after : Kept) × (held ≡ Ok after)
-    × IsDone (asked request) request.thread before.kernel after.kernel number old told
+    × IsDone (asked request) request.thread before after number old told
 IsServed request (Err why) held number old told = (held ≡ Err why) × (number ≡ why) × (told ≡ old)

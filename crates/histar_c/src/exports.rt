@@ -2,7 +2,7 @@
 ghost use Rattle.std.specs.Borrow.{full_share, sem};
 ghost use Rattle.std.specs.Ptr.{lies_at, room_at};
 ghost use Rattle.histar_c.specs.contracts.held.Held.{the_row as HeldRow};
-ghost use Rattle.histar_c.specs.Served.{IsBoot, IsServed, held_state, limits_of};
+ghost use Rattle.histar_c.specs.Served.{IsBoot, IsServed, held_kernel, limits_of};
 
 use crate::held::{Held, booted, end, serve};
 use call_records::{Answer, Request};
@@ -21,14 +21,15 @@ pub unsafe extern "C" fn histar_boot(
 )
     requires* { sem 𝓛 (room_at HeldRow at) }
     ensures* { ∃ₛ (λ (held : Held). sem 𝓛 (lies_at HeldRow full_share at held)
-        ∗ ⌜ IsBoot (limits_of pages device next_id next_category) (held_state held) ⌝) }
+        ∗ ⌜ IsBoot (limits_of pages device next_id next_category) (held_kernel held) ⌝) }
 {
     at.cast::<Held>()
         .write(booted(alloc, pages, device, next_id, next_category));
 }
 
 /// Does what the record asks for, and gives the number of the refusal: 0 for none, 45 where the record asks for nothing.
-/// Where no kernel is held, it gives 30 or 31, and nothing changes.
+/// Where a log is kept, 40 is want of memory for a call's event, and 51 for a dump's text; nothing is done then. Where no
+/// kernel is held, it gives 30 or 31, and nothing changes.
 #[unsafe(no_mangle)]
 pub unsafe extern "C" fn histar_call(at: *mut u8, request: &Request, answer: &mut Answer) -> u32
     ghost before: { Held }

@@ -1,29 +1,36 @@
 //! What C's memory holds: a kernel, or why there is none.
-ghost use Rattle.std.specs.Prelude.{◌≡◌, Some};
-ghost use Rattle.call_records.specs.Asked.{asked};
-ghost use Rattle.histar_c.specs.Served.{IsBoot, IsDone, IsFoundTold, IsServed, held_state};
-ghost use Rattle.histar_c.specs.Served.{limits_of, state_in};
+ghost use Rattle.std.specs.Prelude.{◌≡◌, Some, None};
+ghost use Rattle.call_records.specs.Asked.{asked, asked_by};
+ghost use Rattle.call_records.specs.Logs.{log_request_of};
+ghost use Rattle.call_records.specs.Lookups.{lookup_of};
+ghost use Rattle.histar_c.specs.Served.{IsBoot, IsCalled, IsDone, IsFoundTold, IsSame, IsServed};
+ghost use Rattle.histar_c.specs.Served.{held_kernel, kernel_in, limits_of};
 
+use crate::logs::answer_log;
 use crate::looking::look_up;
 use base::{Limits, Meter, ObjectId};
 use call_records::{
-    Answer, Lookup, Request, call_into, level_of, lookup_of, query_of, tell, tell_found,
+    Answer, Lookup, Request, call_into, level_of, log_request_of, lookup_of, query_of, tell,
+    tell_found,
 };
 use kernel_rules::{Call, Reply};
+use logged_kernel::LoggedKernel;
 use std::alloc::Global;
-use syscall_core::{BootRefusal, Kernel};
+use syscall_core::BootRefusal;
 
 /// A kernel, with what its calls need beside it.
 #[derive(Drop)]
 pub struct Kept {
-    /// The kernel.
-    pub kernel: Kernel,
+    /// The kernel, and the log of its calls where one is kept.
+    pub logged: LoggedKernel,
     /// What its calls count on.
     pub meter: Meter,
     /// The last call. A call is large, so none is made anew.
     pub call: Call,
     /// The last reply. A reply is large, so none is made anew.
     pub reply: Reply,
+    /// The text of the dump that was made last.
+    pub text: Vec<u8>,
 }
 
 /// A kernel, or the number that tells why there is none: 30 for want of memory, 31 for limits out of range.
@@ -35,19 +42,20 @@ pub struct Held {
 
 /// A newly booted kernel, or why there is none.
 fn new_kernel(alloc: Global, limits: &Limits) -> Result<Kept, u32>
-    ensures { IsBoot (Some limits.now) (state_in result) }
+    ensures { IsBoot (Some limits.now) (kernel_in result) }
 {
-    let kernel = match Kernel::boot(alloc, limits) {
-        Ok(kernel) => kernel,
+    let logged = match LoggedKernel::boot(alloc, limits) {
+        Ok(logged) => logged,
         Err(BootRefusal::BadLimits) => return Err(31),
         Err(BootRefusal::Unavailable) => return Err(30),
     };
     match Meter::new(alloc) {
         Ok(meter) => Ok(Kept {
-            kernel,
+            logged,
             meter,
             call: Call::CatCreate,
             reply: Reply::Done,
+            text: Vec::new(alloc),
         }),
         Err(_) => Err(30),
     }
@@ -61,7 +69,7 @@ pub(crate) fn booted(
     next_id: u64,
     next_category: u64,
 ) -> Held
-    ensures { IsBoot (limits_of pages device next_id next_category) (held_state result) }
+    ensures { IsBoot (limits_of pages device next_id next_category) (held_kernel result) }
 {
     let Some(device) = level_of(device) else {
         return Held { kernel: Err(31) };
@@ -80,34 +88,58 @@ pub(crate) fn booted(
 /// Looks up, and tells what is found. It is out of line, so that calls don't pay for its stack frame.
 #[inline(never)]
 fn tell_look_up(kept: &mut Kept, lookup: &Lookup, answer: &mut Answer)
-    ensures kernel { kept.new.kernel ≡ kept.old.kernel }
-    ensures told { IsFoundTold kept.old.kernel lookup.now 0 answer.new }
+    ensures same { IsSame kept.old kept.new }
+    ensures told { IsFoundTold kept.old.logged.kernel lookup.now 0 answer.new }
 {
-    let found = look_up(&kept.kernel, lookup, &mut kept.meter);
+    let found = look_up(kept.logged.kernel(), lookup, &mut kept.meter);
     tell_found(&found, answer, &mut kept.meter);
+}
+
+/// Makes the call that stands in `kept`, and gives the number of the refusal: 0 for none, 40 where there is no memory for
+/// its event.
+fn make(kept: &mut Kept, thread: ObjectId, answer: &mut Answer) -> u32
+    ensures { IsCalled kept.old.call thread kept.old kept.new result answer.old answer.new }
+{
+    let made = kept
+        .logged
+        .step_into(thread, &kept.call, &mut kept.reply, &mut kept.meter);
+    match made {
+        Ok(()) => tell(&kept.reply, answer, &mut kept.meter),
+        Err(_) => 40,
+    }
+}
+
+/// Answers what is no call and no query, and gives the number of the refusal.
+#[inline(never)]
+fn answer_other(kept: &mut Kept, request: &Request, answer: &mut Answer) -> u32
+    ensures { IsDone (asked_by None None (lookup_of request.now) (log_request_of request.now))
+        request.now.thread kept.old kept.new result answer.old answer.new }
+{
+    if let Some(lookup) = lookup_of(request) {
+        tell_look_up(kept, &lookup, answer);
+        return 0;
+    }
+    match log_request_of(request) {
+        Some(log_request) => answer_log(kept, log_request, answer),
+        None => 45,
+    }
 }
 
 /// Does what the record asks for, and gives the number of the refusal: 0 for none, 45 where the record asks for nothing.
 fn answer_kept(kept: &mut Kept, request: &Request, answer: &mut Answer) -> u32
-    ensures { IsDone (asked request.now) request.now.thread kept.old.kernel kept.new.kernel result
+    ensures { IsDone (asked request.now) request.now.thread kept.old kept.new result
         answer.old answer.new }
 {
     let thread = ObjectId::new(request.thread);
     if call_into(request, &mut kept.call).is_some() {
-        kept.kernel
-            .step_into(thread, &kept.call, &mut kept.reply, &mut kept.meter);
-        return tell(&kept.reply, answer, &mut kept.meter);
+        return make(kept, thread, answer);
     }
     if let Some(query) = query_of(request) {
-        kept.kernel
-            .ask_into(thread, &query, &mut kept.reply, &mut kept.meter);
+        let kernel = kept.logged.kernel();
+        kernel.ask_into(thread, &query, &mut kept.reply, &mut kept.meter);
         return tell(&kept.reply, answer, &mut kept.meter);
     }
-    let Some(lookup) = lookup_of(request) else {
-        return 45;
-    };
-    tell_look_up(kept, &lookup, answer);
-    0
+    answer_other(kept, request, answer)
 }
 
 /// The same, or why there is no kernel.

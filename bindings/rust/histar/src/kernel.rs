@@ -30,7 +30,7 @@ macro_rules! expect_reply {
 pub(crate) use expect_reply;
 
 /// The refusal of a number that the library told.
-fn refusal(number: u32) -> Refusal {
+pub(crate) fn refusal(number: u32) -> Refusal {
     Refusal::of(number).unwrap_or_else(|| unreachable!("the library told no refusal: {number}"))
 }
 
@@ -41,7 +41,7 @@ impl Kernel {
         Raw::boot(limits).map(|raw| Kernel { raw }).map_err(refusal)
     }
 
-    /// A new kernel of so many pages of 256 bytes, 8 to 512, with the limits of a script.
+    /// A new kernel of so many pages of 256 bytes, 8 to 1,024, with the limits of a script.
     pub fn boot(pages: u32) -> Result<Kernel, Refusal> {
         Kernel::boot_with(&Limits::pages(pages))
     }

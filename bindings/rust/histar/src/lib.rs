@@ -23,6 +23,7 @@ mod ids;
 mod kept;
 mod kernel;
 mod label;
+mod log;
 mod methods;
 mod raw;
 mod records;

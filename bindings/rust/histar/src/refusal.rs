@@ -60,12 +60,16 @@ pub enum Refusal {
     Unavailable = 30,
     /// A limit is out of its range.
     BadLimits = 31,
+    /// There is no memory for the call's event in the log.
+    Memory = 40,
     /// The arguments make no call, as a label of 25 pairs or 65 bytes.
     NoCall = 45,
+    /// There is no memory for the text of a dump.
+    TextMemory = 51,
 }
 
 /// All refusals.
-const REFUSALS: [Refusal; 28] = [
+const REFUSALS: [Refusal; 30] = [
     Refusal::Halted,
     Refusal::NoAccess,
     Refusal::NoEntry,
@@ -93,7 +97,9 @@ const REFUSALS: [Refusal; 28] = [
     Refusal::Spent,
     Refusal::Unavailable,
     Refusal::BadLimits,
+    Refusal::Memory,
     Refusal::NoCall,
+    Refusal::TextMemory,
 ];
 
 impl Refusal {

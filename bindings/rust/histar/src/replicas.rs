@@ -35,7 +35,7 @@ pub struct Seat<'a> {
 }
 
 impl Replicas {
-    /// A kernel with the limits of a script, and so many pages of 256 bytes: 8 to 512.
+    /// A kernel with the limits of a script, and so many pages of 256 bytes: 8 to 1,024.
     pub fn new(pages: u32) -> Replicas {
         Replicas::with(Limits::pages(pages))
     }

@@ -58,7 +58,7 @@ pub struct Mapping {
 /// What a kernel is booted with.
 #[derive(Clone, Copy, PartialEq, Eq, Debug)]
 pub struct Limits {
-    /// The quota of the root, in pages of 256 bytes: 8 to 512.
+    /// The quota of the root, in pages of 256 bytes: 8 to 1,024.
     pub pages: u32,
     /// The level of the device's label: any but `Level::Star`.
     pub device: Level,

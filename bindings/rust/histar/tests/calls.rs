@@ -10,7 +10,7 @@ const BOOT: Thread = Thread::BOOT;
 const ROOT: Object = Object::ROOT;
 
 fn kernel() -> Kernel {
-    Kernel::boot(512).unwrap()
+    Kernel::boot(1024).unwrap()
 }
 
 #[test]
@@ -106,7 +106,7 @@ fn what_is_no_call_changes_nothing() {
 #[test]
 fn limits_out_of_range_boot_no_kernel() {
     assert_eq!(Kernel::boot(7).err(), Some(Refusal::BadLimits));
-    assert_eq!(Kernel::boot(513).err(), Some(Refusal::BadLimits));
+    assert_eq!(Kernel::boot(1025).err(), Some(Refusal::BadLimits));
     let star = Limits { device: Level::Star, ..Limits::pages(64) };
     assert_eq!(Kernel::boot_with(&star).err(), Some(Refusal::BadLimits));
     let mut last = Kernel::boot_with(&Limits { next_category: (1 << 61) - 1, ..Limits::pages(8) }).unwrap();

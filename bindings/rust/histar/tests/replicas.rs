@@ -23,7 +23,7 @@ fn number_in(seat: &mut Seat<'_>, entry: Entry) -> u64 {
 
 #[test]
 fn all_seats_see_what_each_wrote() {
-    let all = Replicas::new(512);
+    let all = Replicas::new(1024);
     std::thread::scope(|scope| {
         for _ in 0..4 {
             scope.spawn(|| {

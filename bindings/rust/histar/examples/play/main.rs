@@ -1,9 +1,10 @@
 //! Plays a script through the binding and prints what `./histar run` prints of it. Lines are played one after another, so
 //! what a script asks must not hang on the schedule of its workers.
 //!
-//! play SCRIPT [--pages N] [--device L] [--next-id N] [--next-category N] [--tables yes]
+//! play SCRIPT [--pages N] [--device L] [--next-id N] [--next-category N] [--tables yes] [--dump FILE]
 //!
-//! With `--tables yes` the tables of what the kernel keeps follow, as a dump has them.
+//! With `--tables yes` the tables of what the kernel keeps follow, as a dump has them. With `--dump FILE` calls are kept, and
+//! their dump is written to a file. The lines of a batch are calls like others, so a dump has no batch.
 mod names;
 mod saying;
 mod words;
@@ -32,7 +33,8 @@ fn lines(script: &str) -> Vec<Line<'_>> {
             phase += 1;
             continue;
         }
-        let (before, call) = text.split_once(": ").expect("a script without a fault");
+        let (before, call) = text.split_once(':').expect("a script without a fault");
+        let call = call.trim_start_matches('+').trim_start();
         let (bound, worker) = match before.split_once(" = ") {
             Some((bound, worker)) => (Some(bound), worker),
             None => (None, before),
@@ -100,7 +102,7 @@ fn limits(words: &[String]) -> Limits {
             "--device" => limits.device = pair[1].parse().expect("a level"),
             "--next-id" => limits.next_id = pair[1].parse().expect("an id"),
             "--next-category" => limits.next_category = pair[1].parse().expect("a category"),
-            "--tables" => {}
+            "--tables" | "--dump" => {}
             word => panic!("no word of play: {word}"),
         }
     }
@@ -111,7 +113,11 @@ fn main() {
     let words: Vec<String> = std::env::args().skip(1).collect();
     let script = std::fs::read_to_string(&words[0]).expect("the script can be read");
     let lines = lines(&script);
-    let kernel = Kernel::boot_with(&limits(&words[1..])).expect("a kernel");
+    let mut kernel = Kernel::boot_with(&limits(&words[1..])).expect("a kernel");
+    let dump = words.iter().position(|it| it == "--dump").map(|place| &words[place + 1]);
+    if dump.is_some() {
+        kernel.log_on().expect("a log");
+    }
     let mut player = Player { kernel, names: Names::default(), seated: BTreeSet::new(), turned_away: BTreeSet::new() };
     for (name, id) in [("root", Object::ROOT), ("boot", Thread::BOOT.into()), ("dev", Object::DEVICE)] {
         // (known to all from the first phase on)
@@ -141,5 +147,8 @@ fn main() {
     }
     if words.iter().any(|it| it == "--tables") {
         print_tables(&mut player.kernel);
+    }
+    if let Some(file) = dump {
+        std::fs::write(file, player.kernel.dump().expect("a dump")).expect("the dump can be written");
     }
 }

@@ -27,7 +27,7 @@ use denote.Triple.Spec.{triple_of}
 use denote.Triple.Walked.{says, Stays, walk_of, stay_dropped, Goes-dropped, ends_at}
 use denote.Triple.Table.{framed}
 use Rattle.std.proofs.raw_atomic.Walks.{proved_at}
-use Rattle.histar_c.specs.Served.{IsBoot, limits_of, held_state}
+use Rattle.histar_c.specs.Served.{IsBoot, limits_of, held_kernel}
 use Rattle.core.proofs.alloc.Calls.{Al, handle_tells}
 use Rattle.std.specs.contracts.alloc.Global as heap
 use Rattle.std.proofs.alloc.Global.TheLaws as heap_laws
@@ -54,7 +54,7 @@ histar_boot_spec 𝓤 𝓛 𝓜 𝓡 wired =
     let c = f.clauses 𝓛 𝓜.mem 𝓡.returns in let W = walk_of 𝓛 f.ended stayed c in let 𝓣 = tables 𝓤 𝓛.H 𝓜 𝓡 𝓡.env in
     proved_at 𝓛 f.ended stayed c 𝓜 𝓡 (Goes-dropped 𝓛 0 (plain (λ _. Z)) yes (λ κs x w. refl), (Goes-dropped 𝓛 0 (plain (λ _. u32)) yes (λ κs x w. refl), (Goes-dropped 𝓛 0 (plain (λ _. u8)) yes (λ κs x w. refl), (Goes-dropped 𝓛 0 (plain (λ _. u64)) yes (λ κs x w. refl), (Goes-dropped 𝓛 0 (plain (λ _. u64)) yes (λ κs x w. refl), (Goes-dropped 𝓛 0 (plain (λ _. RawPtr)) yes (λ κs x w. refl), tt))))))
     f.Key.name code.function (code.unfolded 𝓤 𝓛.H 𝓜 𝓡 wired) (λ z are.
-    let a = z.0.3.0 in let pages : ℕ = z.0.3.1.0 in let device : ℕ = z.0.3.1.1.0 in let id : ℕ = z.0.3.1.1.1.0 in let category : ℕ = z.0.3.1.1.1.1.0 in let p : Ptr = z.0.3.1.1.1.1.1.0 in let Right : R.Denot → Type 0 = λ held. IsBoot (limits_of pages device id category) (held_state held) in let Post : Val → SProp 𝓤 = W.post z in let Run : List Val → SProp 𝓤 = λ us. WpFn 𝓤 𝓛.H 𝓣.C 𝓣.Λ code.function us Post in
+    let a = z.0.3.0 in let pages : ℕ = z.0.3.1.0 in let device : ℕ = z.0.3.1.1.0 in let id : ℕ = z.0.3.1.1.1.0 in let category : ℕ = z.0.3.1.1.1.1.0 in let p : Ptr = z.0.3.1.1.1.1.1.0 in let Right : R.Denot → Type 0 = λ held. IsBoot (limits_of pages device id category) (held_kernel held) in let Post : Val → SProp 𝓤 = W.post z in let Run : List Val → SProp 𝓤 = λ us. WpFn 𝓤 𝓛.H 𝓣.C 𝓣.Λ code.function us Post in
     qed 𝓛 ((‵ ftrue ⊛ ‵ (owns (types_at f.signature.params tt) z.0.3 z.0.4)) ∷ ‵ (room_at R p) ∷ []) ∵
     split ! $ drop ! $ fsplit ! $ keep ! (0 ∷ 2 ∷ []) $ handle_tells al ! a z.0.4.0 (λ hv eh fa. move ! (1 ∷ []) $
     in_a_block ! p (λ π. room_at R π) (id⊢ 𝓤 _) (λ b o e.

@@ -1,0 +1,71 @@
+//! What is asked of the log of the calls that were made, and what is told of its dump.
+ghost use Rattle.std.specs.Prelude.{◌≡◌, take, drop};
+ghost use Rattle.kernel_rules.specs.declared.replies.Reply.TheVariants as replies;
+ghost use Rattle.call_records.specs.Logs.{log_request_of, TellsLength};
+ghost use Rattle.call_records.specs.Told.{Tells};
+
+use crate::answers::{put, put_bytes};
+use crate::records::{Answer, Request};
+use base::Data;
+
+/// What is asked of the log.
+#[derive(Clone, Copy)]
+pub enum LogRequest {
+    /// That it begins.
+    Begin,
+    /// That its dump is made, and how many bytes the text has.
+    Dump,
+    /// Up to 64 bytes of the text that was made last.
+    Text {
+        /// The place of the first, from 0.
+        from: u64,
+    },
+}
+
+/// What a record asks of the log. None where its number is not 40 to 42.
+pub fn log_request_of(request: &Request) -> Option<LogRequest>
+    ensures { result ≡ log_request_of request.now }
+{
+    Some(match request.call {
+        40 => LogRequest::Begin,
+        41 => LogRequest::Dump,
+        42 => LogRequest::Text {
+            from: request.numbers[0],
+        },
+        _ => return None,
+    })
+}
+
+/// Writes into an answer how many bytes a text has.
+pub fn tell_length(text: &[u8], answer: &mut Answer)
+    ensures { TellsLength text.now answer.new }
+{
+    put(14, &[text.len() as u64], answer);
+}
+
+/// The first 64 bytes, or all where there are fewer.
+fn first_bytes(text: &[u8]) -> Data
+    ensures { result ≡ take 64 text.now }
+{
+    if text.len() <= 64 {
+        return Data::from_slice(text);
+    }
+    Data::from_slice(&text[..64])
+}
+
+/// The bytes from a place on, none from the end on.
+fn rest_from(text: &[u8], from: u64) -> &[u8]
+    ensures { result.now ≡ drop from text.now }
+{
+    if from >= text.len() as u64 {
+        return &[];
+    }
+    &text[from as usize..]
+}
+
+/// Writes up to 64 bytes of a text into an answer, from a place on, as a reply tells bytes.
+pub fn tell_text(text: &[u8], from: u64, answer: &mut Answer)
+    ensures { Tells (replies.Bytes (take 64 (drop from text.now))) answer.new }
+{
+    put_bytes(&first_bytes(rest_from(text, from)), answer);
+}
