@@ -14,7 +14,7 @@ trap 'rm -rf "$folder"' EXIT
 cc -std=gnu11 -O2 -I"$top/include" "$top/bindings/c/bench.c" "$library/libhistar_c.a" "$library/liblibc_c.a" -o "$folder/bench"
 cargo build --quiet --release --offline --manifest-path "$top/benches/simple/Cargo.toml"
 echo "== through C"
-"$folder/bench" "$runs"
+"$folder/bench" 64 56 1 "$runs"
 echo "== through Rust"
 RUNS=$runs HISTAR_LIB=$library cargo bench --quiet --offline --manifest-path "$top/bindings/rust/Cargo.toml" | grep ' ns$'
 echo "== the simple kernel, of 64 pages"

@@ -1,6 +1,6 @@
 """The kernel as a library for C and Rust: it is built, and programs in bindings/ are compiled against it and run. The scripts
-of examples/ print by them what is stored; random scripts print what ./histar prints, and leave the tables that its dump has;
-random records leave the heap as it was.
+of examples/ print by them what is stored, and ./histar-audit finds the dumps of their logs clean; random scripts print what
+./histar prints, leave the tables that its dump has, and dump what it dumps; random records leave the heap as it was.
 
 What a machine lacks (compilers, cargo, valgrind, clang's runtime) is left out, with a line for each."""
 import glob
@@ -37,6 +37,17 @@ def examples():
     return [it for it in found if it.status == 0]
 
 
+def ran_dumping(dump, *words):
+    """How a command ended, and the dump that it wrote; none where it wrote none."""
+    if os.path.isfile(dump):
+        os.remove(dump)
+    status, said = ran(*words, "--dump", dump)
+    if not os.path.isfile(dump):
+        return status, said, None
+    with open(dump, "rb") as it:
+        return status, said, it.read()
+
+
 def but_not(differing):
     return "".join(f", but not {it}" for it in differing)
 
@@ -44,22 +55,23 @@ def but_not(differing):
 class Bindings:
     """A run over the library in a folder, with a room for programs."""
 
-    def __init__(self, report, library, room, histar):
+    def __init__(self, report, library, room, histar, auditor):
         self.report = report
         self.library = library
         self.room = room
         self.histar = histar
+        self.auditor = auditor
         self.kept = {}
 
     def leave_out(self, what, why):
         self.report.say(f"left out: {what}: {why}")
 
-    def counts(self, text, *words, env=None):
+    def counts(self, what, *words, env=None):
         """Runs a command, counts whether it went well, and shows what it said where it did not."""
         is_well, said = run(*words, env=env)
         if not is_well:
             self.report.say(said[-3000:])
-        self.report.counts(is_well, text)
+        self.report.counts(is_well, what)
         return is_well
 
     def words_of(self, compiler, source, program, *flags):
@@ -79,8 +91,18 @@ class Bindings:
     def play(self, player, name):
         """The scripts of examples/ by a player, against what is stored."""
         stored = examples()
-        differing = [it.file for it in stored if ran(*player, it.file, *it.words) != (0, it.out)]
+        dump = f"{self.room}/logged"
+        differing, unclean = [], []
+        for it in stored:
+            if ran_dumping(dump, *player, it.file, *it.words)[:2] != (0, it.out):
+                differing.append(it.file)
+            if self.auditor and ran(self.auditor, dump) != (0, "clean\n"):
+                unclean.append(it.file)
         self.report.counts(not differing, f"{name}: {len(stored)} scripts of examples/ print what is stored" + but_not(differing))
+        if self.auditor:
+            self.report.counts(not unclean, f"{name}: ./histar-audit finds the dumps of their logs clean" + but_not(unclean))
+        else:
+            self.leave_out(f"{name}: audits of logs", "./histar-audit is not built")
 
     def play_random(self, player, name):
         """Random scripts by a player, against the proved program."""
@@ -88,12 +110,13 @@ class Bindings:
             self.leave_out(f"{name}: random scripts", "./histar is not built")
             return
         differing = [seed for seed in SEEDS if self.differs(player, seed)]
-        what = f"{name}: {len(SEEDS)} random scripts print what ./histar prints, and leave the tables of its dump"
+        what = f"{name}: {len(SEEDS)} random scripts print what ./histar prints, leave the tables of its dump, and dump what it dumps"
         self.report.counts(not differing, what + but_not(differing))
 
     def differs(self, player, seed):
         """Whether a player plays a random script otherwise than the proved program does."""
-        return ran(*player, self.random_script(seed), *RANDOM_WORDS, "--tables", "yes") != self.proved(seed)
+        words = [*player, self.random_script(seed), *RANDOM_WORDS, "--tables", "yes"]
+        return ran_dumping(f"{self.room}/logged", *words) != self.proved(seed)
 
     def random_script(self, seed):
         file = f"{self.room}/{seed}.histar"
@@ -103,18 +126,19 @@ class Bindings:
         return file
 
     def proved(self, seed):
-        """How the proved program ends with a random script, and what it prints, with the tables of its dump."""
+        """How the proved program ends with a random script, what it prints, with the tables of its dump, and the dump."""
         if seed not in self.kept:
-            status, said = ran(self.histar, "run", self.random_script(seed), *RANDOM_WORDS, "--dump", f"{self.room}/dump")
-            with open(f"{self.room}/dump", encoding="utf-8") as dump:
-                self.kept[seed] = status, said + "".join(it for it in dump if it.startswith(TABLES))
+            words = [self.histar, "run", self.random_script(seed), *RANDOM_WORDS]
+            status, said, dump = ran_dumping(f"{self.room}/dump", *words)
+            tables = "".join(it for it in dump.decode().splitlines(keepends=True) if it.startswith(TABLES))
+            self.kept[seed] = status, said + tables, dump
         return self.kept[seed]
 
-    def is_told(self, compiler, text):
+    def is_told(self, compiler, header):
         """Whether a header is none that C compiles, or some script tells it from the true one."""
         os.makedirs(f"{self.room}/wrong", exist_ok=True)
         with open(f"{self.room}/wrong/histar.h", "w", encoding="utf-8") as it:
-            it.write(text)
+            it.write(header)
         player = f"{self.room}/wrong/play"
         if not run(*self.words_of([compiler, "-std=gnu11"], "play", player, "-O0", f"-I{self.room}/wrong"))[0]:
             return False
@@ -125,7 +149,7 @@ class Bindings:
             self.leave_out("wrong headers", "./histar is not built")
             return
         with open("include/histar.h", encoding="utf-8") as it:
-            tried = [(line, self.is_told(compiler, text)) for line, text in wrong(it.read())]
+            tried = [(line, self.is_told(compiler, header)) for line, header in wrong(it.read())]
         missed = [f"line {line}" for line, is_told in tried if not is_told]
         self.report.counts(tried and not missed, f"the player tells {len(tried)} wrong headers from the true one" + but_not(missed))
 
@@ -218,9 +242,9 @@ class Bindings:
             self.play_random(player, "Rust")
 
 
-def built(tree):
-    """The program ./histar, which is started only where it is built."""
-    places = [f"{it}/crates/histar/out/histar" for it in (tree, ".")]
+def built(tree, program):
+    """A program, which is started only where it is built."""
+    places = [f"{it}/crates/{program}/out/{program}" for it in (tree, ".")]
     return next((it for it in places if os.path.isfile(it)), None)
 
 
@@ -233,6 +257,6 @@ def try_all(report, tree="."):
         report.say(said[-3000:])
         return
     with tempfile.TemporaryDirectory(prefix="bindings-") as room:
-        bindings = Bindings(report, f"{tree}/out/lib", room, built(tree))
+        bindings = Bindings(report, f"{tree}/out/lib", room, built(tree, "histar"), built(tree, "histar_audit"))
         bindings.try_c()
         bindings.try_rust()

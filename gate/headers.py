@@ -5,7 +5,7 @@ import re
 # What is turned, and into what: the number of a call, a number or a label that is not written, an entry the wrong way round, and
 # a number of the answer that is taken from the next place.
 TURNS = (
-    (r"histar_asks\(k, (\d+), ", lambda it: f"histar_asks(k, {int(it[1]) % 39 + 1}, "),
+    (r"histar_asks\(k, (\d+), ", lambda it: f"histar_asks(k, {int(it[1]) % 42 + 1}, "),
     (r"r->numbers\[\d\] = \w+;", lambda it: ""),
     (r"r->(?:label|clearance|verify) = \*(\w+);", lambda it: f"(void){it[1]};"),
     (r"(r->other_\w+) = (\w+)\.container;", lambda it: f"{it[1]} = {it[2]}.object;"),

@@ -2,6 +2,7 @@
 that is loaded first, N from 1 until a run meets no Nth."""
 import glob
 import os
+import re
 import subprocess
 import tempfile
 from concurrent.futures import ThreadPoolExecutor
@@ -122,3 +123,13 @@ def refuse(report, tree, room):
     with ThreadPoolExecutor(os.cpu_count()) as pool:
         for is_well, text in pool.map(lambda case: case.tried(refusing), cases):
             report.counts(is_well, text)
+
+
+def give_back(report, tree, room):
+    """A run through seats, whose kernel stands in two copies, holds hardly anything at its end: a closed book gives back what it took."""
+    histar, holding = f"{tree}/crates/histar/out/histar", library(room, "held")
+    words = [histar, "run", "examples/workers.histar", "--pages", "512"]
+    done = subprocess.run(words, env={**os.environ, "LD_PRELOAD": holding}, stdout=subprocess.DEVNULL, stderr=subprocess.PIPE, text=True)
+    told = re.fullmatch(r"held (\d+) of (\d+)\n", done.stderr)
+    held, most = map(int, told.groups()) if told else (1, 1)
+    report.counts(100 * held < most, f"a run through seats holds {held} bytes at its end, of {most} at most")

@@ -1,5 +1,5 @@
-"""Random scripts, each of a stated seed, in which all 34 calls stand. A phase has lines of one worker, so what is printed
-does not hang on a schedule."""
+"""Random scripts, each of a stated seed, in which all 34 calls stand: large ones for many pages, and small ones that a kernel of 8
+pages has room for. A phase has lines of one worker, so what is printed does not hang on a schedule."""
 import random
 
 MAKES = ("container_create", "segment_create", "segment_copy", "as_create", "thread_create", "gate_create")
@@ -15,16 +15,27 @@ FIRST = (
     "m = boot: as_create root {1} 1",
     "t = boot: thread_create root {c:*,1} 1 {c:3,2} 7",
     "g = boot: gate_create root {c:*,d:*,1} 1 {2} root m 8 9",
+    "f = boot: segment_create root {1} 1 0",
     "boot: as_map root m 0 0 root s 0 2 rw",
     "boot: self_set_as root m",
+    "boot: set_fixed root f",
 )
+# (a part of it that 8 pages have room for, and what is named beside)
+SMALL = (
+    ("s = boot: segment_create root {c:3,1} 2 1", "m = boot: as_create root {1} 1", "boot: as_map root m 0 0 root s 0 1 rw", "boot: self_set_as root m"),
+    ("a = boot: container_create root {1} 2 -", "f = boot: segment_create root {1} 1 0", "boot: set_fixed root f", "boot: link a root f"),
+    ("t = boot: thread_create root {c:*,1} 1 {c:3,2} 7", "m = boot: as_create root {1} 1", "g = boot: gate_create root {c:*,d:*,1} 1 {2} root m 8 9"),
+    ("s = boot: segment_create root {1} 3 2", "boot: segment_write root s 300 7061727473"),
+)
+NAMED = (("category", "c"), ("category", "d"), ("container", "a"), ("segment", "s"), ("segment", "f"), ("as", "m"), ("thread", "t"), ("gate", "g"))
 
 
 class Writer:
     """Writes a script. Names are bound in it, but a line that binds one may be refused when it is played."""
 
-    def __init__(self, seed):
+    def __init__(self, seed, is_small):
         self.drawn = random.Random(seed)
+        self.is_small = is_small
         self.names = {kind: [] for kind in ("container", "segment", "as", "thread", "gate", "category")}
         self.names["container"].append("root")
         self.count = 0
@@ -65,7 +76,8 @@ class Writer:
         return "#0 #0" if self.is_rare(0.3) else self.entry("as")
 
     def arguments(self, call):
-        new = f"{'root' if self.is_rare(0.8) else self.object('container')} {self.label('0123*' if call in MAKES[4:] else '0123')} {self.one_of(1, 2, 3, 5)}"
+        quota = self.one_of(1, 2) if self.is_small else self.one_of(1, 2, 3, 5)
+        new = f"{'root' if self.is_rare(0.8) else self.object('container')} {self.label('0123*' if call in MAKES[4:] else '0123')} {quota}"
         page = self.below(4)
         return {
             "container_create": f"{new} {self.one_of('-', 's', 'ct', 'g', 'csatgd')}",
@@ -77,8 +89,8 @@ class Writer:
             "self_set_label": "{c:*,d:*,1}" if self.is_rare(0.9) else self.label("123*"),
             "self_set_clearance": "{c:3,d:3,2}" if self.is_rare(0.7) else self.label("23", "2"),
             "self_set_as": self.space(),
-            "link": f"{self.object('container')} {self.any()}",
-            "unref": self.entry(self.one_of("segment", "as", "gate", "container")) if self.is_rare(0.3) else "root #99",
+            "link": "a root f" if self.is_rare(0.7) else f"{self.object('container')} {self.any()}",
+            "unref": self.unref(),
             "quota_move": f"{self.any()} {self.drawn.randrange(-3, 5)}",
             "set_fixed": self.any(),
             "set_immutable": self.any() if self.is_rare(0.3) else "root dev",
@@ -102,6 +114,13 @@ class Writer:
             "load": f"{page * 256 + self.below(200)} {self.one_of(1, 16, 64)}",
         }.get(call, "")
 
+    def unref(self):
+        """What is unreferenced: the second link that there may be, something, or nothing."""
+        if self.is_rare(0.3):
+            return "a f"
+        kind = self.one_of("segment", "as", "gate", "container")
+        return self.entry(kind) if self.is_rare(0.5 if self.is_small else 0.3) else "root #99"
+
     def bind(self, call):
         """A new name for what the call makes, to be used by later lines."""
         self.count += 1
@@ -111,16 +130,17 @@ class Writer:
         return f"{name} = "
 
     def line(self, worker):
-        call = self.one_of(*MAKES, *MAKES, *READS, *READS, *CHANGES)
+        further = ("unref", "link", "link", "segment_copy", "load", "gate_enter", "as_map") * 2 if self.is_small else ("link", "link", "as_unmap", "store")
+        call = self.one_of(*MAKES, *MAKES, *READS, *READS, *CHANGES, *further)
         words = f"{call} {self.arguments(call)}".rstrip()
         return f"{self.bind(call) if call in MAKES or call == 'cat_create' else ''}{worker}: {words}"
 
 
-def script(seed, phases=30):
+def script(seed, phases=30, is_small=False):
     """The text of a script of so many phases."""
-    writer = Writer(seed)
-    lines = list(FIRST)
-    for kind, name in (("category", "c"), ("category", "d"), ("container", "a"), ("segment", "s"), ("as", "m"), ("thread", "t"), ("gate", "g")):
+    writer = Writer(seed, is_small)
+    lines = [*FIRST[:2], *writer.drawn.choice(SMALL)] if is_small else list(FIRST)
+    for kind, name in NAMED:
         writer.names[kind].append(name)
     for _ in range(phases):
         worker = "boot" if writer.is_rare(0.7) or not writer.names["thread"] else writer.one_of(*writer.names["thread"][-3:])

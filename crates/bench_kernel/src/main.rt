@@ -23,7 +23,7 @@ use std::rt::{Clock, Files};
 use std::time::Instant;
 
 const USAGE: &str = "bench_kernel PAGES OBJECTS CATEGORIES ROUNDS FILE
-PAGES is 8 to 512, OBJECTS how many more fill the kernel, CATEGORIES, 0 to 16, how many the labels have,
+PAGES is 8 to 1024, OBJECTS how many more fill the kernel, CATEGORIES, 0 to 16, how many the labels have,
 and FILE is written over.";
 
 /// What is to be timed: a kernel of so many pages, which so many other objects fill, whose labels have so many
@@ -212,7 +212,7 @@ fn size_in(words: &[String]) -> Option<Size> {
     let categories = number(words, 3)?;
     let rounds = number(words, 4)?;
     Some(Size {
-        pages: u32::try_from(pages).unwrap_or(512),
+        pages: u32::try_from(pages).unwrap_or(1024),
         objects,
         categories,
         rounds,

@@ -76,17 +76,16 @@ fn a_refused_read_scans_none(rt: HostRuntime) -> Result<(), Fail> {
     Ok(())
 }
 
-// A create reads the hints of the thread and the container, and the container's once more; moves a cell of two families, which
-// is thirteen reads; takes a frame for its page; and reads the hint of what it made.
+// A create looks for a link from the container to itself; moves a cell of two families, which is thirteen reads; takes a frame for
+// its page; and reads the hint of what it made. The hints of what a call names count nothing.
 #[test]
 fn a_create_counts_what_it_reads(rt: HostRuntime) -> Result<(), Fail> {
     let mut metered = Metered::boot(rt.alloc())?;
-    assert!(rt; agree(metered.probes(&new_segment(plain())), Some(18)));
+    assert!(rt; agree(metered.probes(&new_segment(plain())), Some(16)));
     Ok(())
 }
 
-// A write reads the hints of the thread, the container and the segment, the first link to the segment and its container,
-// and the page.
+// A write reads the page. The hints of what it names and the first link to the segment count nothing.
 #[test]
 fn a_write_counts_what_it_reads(rt: HostRuntime) -> Result<(), Fail> {
     let mut metered = Metered::boot(rt.alloc())?;
@@ -96,13 +95,12 @@ fn a_write_counts_what_it_reads(rt: HostRuntime) -> Result<(), Fail> {
         offset: 0,
         data: Data::from_slice(&[7; 4]),
     };
-    assert!(rt; agree(metered.probes(&write), Some(6)));
+    assert!(rt; agree(metered.probes(&write), Some(1)));
     Ok(())
 }
 
-// An arena of 64 slots has 512 places for hints, so the root has that of object 513, and a write to this goes the way of all
-// calls: it reads the hints of the thread and the container, the first link to the segment and its container, twice the hint
-// that is not the segment's, two halves and a slot, and the page.
+// An arena of 64 slots has 512 places for hints, so the root has that of object 513, and a write to this finds each id: by
+// the hints of the thread and the container, by the hint that is not the segment's, two halves and a slot. It reads the page.
 #[test]
 fn a_write_without_a_hint_counts_more(rt: HostRuntime) -> Result<(), Fail> {
     let limits = Limits {
@@ -116,12 +114,11 @@ fn a_write_without_a_hint_counts_more(rt: HostRuntime) -> Result<(), Fail> {
         offset: 0,
         data: Data::from_slice(&[7; 4]),
     };
-    assert!(rt; agree(metered.probes(&write), Some(13)));
+    assert!(rt; agree(metered.probes(&write), Some(7)));
     Ok(())
 }
 
-// A link reads four hints; the first link to the object and its container for each of the two entries, and that there is no
-// other link; and moves a cell of two families, which is thirteen reads.
+// A link reads that there is no second link to the object, and moves a cell of two families, which is thirteen reads.
 #[test]
 fn a_link_counts_what_it_reads(rt: HostRuntime) -> Result<(), Fail> {
     let mut metered = Metered::boot(rt.alloc())?;
@@ -132,7 +129,7 @@ fn a_link_counts_what_it_reads(rt: HostRuntime) -> Result<(), Fail> {
         target: ObjectId::new(4),
         entry: in_root(5),
     };
-    assert!(rt; agree(metered.probes(&link), Some(22)));
+    assert!(rt; agree(metered.probes(&link), Some(14)));
     Ok(())
 }
 
@@ -146,12 +143,12 @@ fn a_read_counts_what_it_reads(rt: HostRuntime) -> Result<(), Fail> {
         offset: 0,
         count: 4,
     };
-    assert!(rt; agree(metered.probes_asked(&read), Some(6)));
+    assert!(rt; agree(metered.probes_asked(&read), Some(1)));
     Ok(())
 }
 
-// An unreference of a second link reads three hints; the first link to the object and its container, how many there are, and the
-// last link and its container; and nineteen more to take that out of the containers.
+// An unreference of a second link reads how many links to the object there are, the last one and its container; and nineteen
+// more to take that out of the containers.
 #[test]
 fn an_unreference_counts_what_it_reads(rt: HostRuntime) -> Result<(), Fail> {
     let mut metered = Metered::boot(rt.alloc())?;
@@ -167,6 +164,6 @@ fn an_unreference_counts_what_it_reads(rt: HostRuntime) -> Result<(), Fail> {
         container: target,
         object: ObjectId::new(5),
     };
-    assert!(rt; agree(metered.probes(&Call::Unref { entry }), Some(27)));
+    assert!(rt; agree(metered.probes(&Call::Unref { entry }), Some(22)));
     Ok(())
 }

@@ -113,6 +113,17 @@ fn a_storm_at_8_pages(rt: HostRuntime) -> Result<(), Fail> {
 
 #[test]
 fn a_storm_at_512_pages(rt: HostRuntime) -> Result<(), Fail> {
+    let limits = Limits {
+        pages: 512,
+        ..MOST_PAGES
+    };
+    let done = storm(&rt, rt.alloc(), &limits, 12, 100)?;
+    assert!(rt; done.iter().all(|done| *done >= ENOUGH));
+    Ok(())
+}
+
+#[test]
+fn a_storm_at_1024_pages(rt: HostRuntime) -> Result<(), Fail> {
     let done = storm(&rt, rt.alloc(), &MOST_PAGES, 12, 100)?;
     assert!(rt; done.iter().all(|done| *done >= ENOUGH));
     Ok(())
