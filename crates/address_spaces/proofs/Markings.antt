@@ -1,6 +1,7 @@
--- Marks of the objects that are mapped, after each change.
-use Rattle.std.proofs.Common.{◌≡◌, ◌≢◌, ◌⊎◌, ℕ, ◌<◌, ◌≤◌, Bool, true, false, Option, Some, None, List, [], length, get_or, set, replicate, sym, ap, ◌∙◌, arith, inl, inr, length-set}
+-- What holds of mappings and marks after each change: each space has sixteen places, and each object that is mapped is marked.
+use Rattle.std.proofs.Common.{◌≡◌, ◌≢◌, ◌⊎◌, ℕ, ◌<◌, ◌≤◌, Bool, true, false, Option, Some, None, List, [], length, get_or, set, replicate, All, refl, sym, ap, ◌∙◌, subst, arith, inl, inr, length-set}
 use Rattle.std.proofs.lemmas.Bool.{both_ways, cases_eq, cases_lt}
+use Rattle.std.proofs.lemmas.List.Elements.{All-set, All-replicate}
 use Rattle.std.proofs.lemmas.List.{get_or-set_same, get_or-set_other, get_or_past, get_or-replicate, length-replicate}
 use Rattle.kernel_rules.specs.declared.objects.Mapping.{Mapping}
 use Rattle.address_spaces.specs.Mappings.{mapping_at, places_at, with_mapping}
@@ -76,3 +77,50 @@ module _ (ms : List (List (Option Mapping))) (space place : ℕ) (m : Option Map
       by : (m ≡ Some x) ⊎ (mapping_at ms a b ≡ Some x) → (x.entry.object ≡ w.entry.object) ⊎ (is_marked marks x.entry.object ≡ true)
       by (inl here) = let same : x ≡ w = cc (here, new) in inl (ap (λ (z : Mapping). z.entry.object) same)
       by (inr there) = inr (were a b x there)
+
+-- and so they do once a space is emptied
+pub released_marked : (ms : List (List (Option Mapping))) (space : ℕ) (marks : List Bool) → space < length ms
+    → AreMarked ms marks → AreMarked (set ms space (replicate 16 None)) marks
+released_marked ms space marks below were a b x is = elim (cases_eq a space) [
+  | inl same ↦
+      let none : get_or {A = Option Mapping} (replicate 16 None) b None ≡ Some x =
+      sym (ap (λ (row : List (Option Mapping)). get_or row b None)
+      (ap (λ (i : ℕ). get_or (set ms space (replicate 16 None)) i []) same ∙ get_or-set_same ms space (replicate 16 None) [] below)) ∙ is in
+      absurd (cc (none_at b (cases_lt b 16), none))
+  | inr apart ↦
+      were a b x (sym (ap (λ (row : List (Option Mapping)). get_or row b None) (get_or-set_other ms space a (replicate 16 None) [] apart)) ∙ is)
+]
+  where
+    none_at : (b : ℕ) → ((b < 16) ⊎ (16 ≤ b)) → get_or {A = Option Mapping} (replicate 16 None) b None ≡ None
+    none_at b (inl less) = get_or-replicate {A = Option Mapping} 16 b None None less
+    none_at b (inr le) = get_or_past (replicate {A = Option Mapping} 16 None) b None (omega (arith, le, length-replicate {A = Option Mapping} 16 None))
+
+-- what holds of all mappings and marks
+abbrev pub Holds : List (List (Option Mapping)) → List Bool → Type 0
+Holds ms marks = All (λ row. length row ≡ 16) ms × AreMarked ms marks
+
+pub holds_as : (ms ms' : List (List (Option Mapping))) (marks marks' : List Bool) → ms' ≡ ms → marks' ≡ marks → Holds ms marks → Holds ms' marks'
+holds_as ms ms' marks marks' same on h = subst (λ (rows : List (List (Option Mapping))). Holds rows marks') (sym same) (subst (Holds ms) (sym on) h)
+
+pub none_holds : (n : ℕ) (marks : List Bool) → Holds (replicate n (replicate 16 None)) marks
+none_holds n marks = (All-replicate (λ row. length row ≡ 16) n (replicate 16 None) refl, none_marked n marks)
+
+module _ (ms : List (List (Option Mapping))) (marks : List Bool) (h : Holds ms marks) (space : ℕ) (below : space < length ms) where
+  long : length (places_at ms space) ≡ 16
+  long = h.0 space [] below
+
+  pub released_holds : Holds (set ms space (replicate 16 None)) marks
+  released_holds = (All-set (λ row. length row ≡ 16) ms space (replicate 16 None) refl h.0, released_marked ms space marks below h.1)
+
+  module _ (place : ℕ) (within : place < 16) where
+    pub mapped_holds : (m : Mapping) → Holds (with_mapping ms space place (Some m)) (with_mark marks m.entry.object)
+    mapped_holds m = (
+      All-set (λ row. length row ≡ 16) ms space (set (places_at ms space) place (Some m)) (length-set (places_at ms space) place (Some m) ∙ long) h.0,
+      mapped_marked ms space place (Some m) below (omega (arith, long, within)) marks m refl h.1,
+    )
+
+    pub emptied_holds : Holds (with_mapping ms space place None) marks
+    emptied_holds = (
+      All-set (λ row. length row ≡ 16) ms space (set (places_at ms space) place None) (length-set (places_at ms space) place None ∙ long) h.0,
+      emptied_marked ms space place None below (omega (arith, long, within)) marks refl h.1,
+    )

@@ -1,5 +1,5 @@
 -- Mappings by slot of an address space and place, of which each has 16.
-use Rattle.std.specs.Prelude.{ℕ, ◌+◌, ◌*◌, List, [], Option, None, slice_index_or, slice_set}
+use Rattle.std.specs.Prelude.{ℕ, List, [], Option, None, slice_index_or, slice_set}
 use Rattle.kernel_rules.specs.declared.objects.Mapping.{Mapping}
 
 -- the places of a slot
@@ -15,7 +15,3 @@ abbrev pub with_mapping : List (List (Option Mapping)) → ℕ → ℕ → Optio
     → List (List (Option Mapping))
 with_mapping mappings space place m =
     slice_set mappings space (slice_set (places_at mappings space) place m)
-
--- the cell of a place
-abbrev pub cell_of : ℕ → ℕ → ℕ
-cell_of space place = 16 * space + place

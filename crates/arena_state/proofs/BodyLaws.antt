@@ -76,7 +76,7 @@ module _ (a : ArenaState) (id slot : ℕ) (h : HasSlot a.pieces.places id slot) 
       ]
 
   pub slots_here : keeps_space (record_in a.pieces.holdings.records.items slot).body ≡ true
-      → slots_at (state_of a) id ≡ places_at a.pieces.holdings.spaces.mappings slot
+      → slots_at (state_of a) id ≡ places_at a.pieces.holdings.spaces slot
   slots_here is =
       ap (of_object [] (λ x. slots_of x.body)) (object_whole a.pieces a.sound id slot h)
       ∙ slots_held (content_in a.pieces.holdings slot) a.pieces.holdings.labels _

@@ -83,12 +83,12 @@ pub record IsGone (v : Holdings) (dead : List Located) (w : Holdings) : Type 0 w
   pub labels : w.labels ≡ after_deaths v.records.items dead v.labels
   pub queues : w.queues ≡ v.queues
   pub segments : length w.segments ≡ length v.segments
-  pub spaces : length w.spaces.mappings ≡ length v.spaces.mappings
+  pub spaces : length w.spaces ≡ length v.spaces
   pub bytes : (x : ℕ) → bytes_in w.segments x
       ≡ cond (has (dead_slots dead) x && keeps_pages (record_in v.records.items x).body) [] (bytes_in v.segments x)
-  pub places : (x : ℕ) → x < length v.spaces.mappings → places_at w.spaces.mappings x
+  pub places : (x : ℕ) → x < length v.spaces → places_at w.spaces x
       ≡ cond (has (dead_slots dead) x && keeps_space (record_in v.records.items x).body) (replicate 16 None)
-      (places_at v.spaces.mappings x)
+      (places_at v.spaces x)
 
 no_and : (b : Bool) → (b && false) ≡ false
 no_and true = refl
@@ -217,7 +217,7 @@ told v (inr o ∷ es) w f =
       segments = t.segments ∙ ap (λ (xs : List (List ℕ)). length xs) d.segments
           ∙ bytes_long_then (slice_get v.records.items o.slot.0) o.slot.0 v.segments;
       spaces = t.spaces ∙ ap (λ (xs : List (List (Option Mapping))). length xs) d.mappings
-          ∙ places_long_then (slice_get v.records.items o.slot.0) o.slot.0 v.spaces.mappings;
+          ∙ places_long_then (slice_get v.records.items o.slot.0) o.slot.0 v.spaces;
       bytes = λ x. t.bytes x
           ∙ (λ i. cond (has (dead_slots (objects_in es)) x && keeps_pages (record_in (d.records i).items x).body) []
           ((ap (λ (xs : List (List ℕ)). bytes_in xs x) d.segments ∙ bytes_of_then v.records.items o.slot.0 x v.segments) i))
@@ -225,14 +225,14 @@ told v (inr o ∷ es) w f =
           (keeps_pages (record_in v.records.items o.slot.0).body) [] (bytes_in v.segments x)
           (λ is. ap (λ (j : ℕ). keeps_pages (record_in v.records.items j).body) (sym (eqb-true x o.slot.0 is)));
       places = λ x lt.
-          let long : length u.spaces.mappings ≡ length v.spaces.mappings
+          let long : length u.spaces ≡ length v.spaces
           = ap (λ (xs : List (List (Option Mapping))). length xs) d.mappings
-          ∙ places_long_then (slice_get v.records.items o.slot.0) o.slot.0 v.spaces.mappings in
+          ∙ places_long_then (slice_get v.records.items o.slot.0) o.slot.0 v.spaces in
           t.places x (omega (arith, lt, long))
           ∙ (λ i. cond (has (dead_slots (objects_in es)) x && keeps_space (record_in (d.records i).items x).body) (replicate 16 None)
           ((ap (λ (xs : List (List (Option Mapping))). places_at xs x) d.mappings
-          ∙ places_of_then v.records.items o.slot.0 x v.spaces.mappings lt) i))
+          ∙ places_of_then v.records.items o.slot.0 x v.spaces lt) i))
           ∙ both (has (dead_slots (objects_in es)) x) (x == o.slot.0) (keeps_space (record_in v.records.items x).body)
-          (keeps_space (record_in v.records.items o.slot.0).body) (replicate 16 None) (places_at v.spaces.mappings x)
+          (keeps_space (record_in v.records.items o.slot.0).body) (replicate 16 None) (places_at v.spaces x)
           (λ is. ap (λ (j : ℕ). keeps_space (record_in v.records.items j).body) (sym (eqb-true x o.slot.0 is)));
     }

@@ -22,8 +22,8 @@ use Rattle.arena_state.specs.Filled.{Content, filled, filled_state}
 use Rattle.arena_state.specs.Assembled.{pieces_state, record_in, blank}
 use Rattle.arena_state.specs.Stocked.{slot_of, content_at, whole_state, kept_pages, keeps_space, pages_at, is_space_at, IsStocked}
 use Rattle.segments.specs.Segments.{bytes_in}
+use Rattle.kernel_rules.specs.declared.objects.Mapping.{Mapping}
 use Rattle.address_spaces.specs.Mappings.{places_at}
-use Rattle.address_spaces.specs.View.{SpaceLists}
 use Rattle.arena_state.specs.Sound.{IsSound}
 use Rattle.arena_state.proofs.FilledLaws.{changed_filled}
 use Rattle.arena_state.proofs.RebindLaws.{with_both}
@@ -56,7 +56,7 @@ module _ (p q : Pieces) (h : IsHeld p q) where
   content_held : (id : ℕ) → content_at q id ≡ content_at p id
   content_held id = (λ i. record {
     bytes = bytes_in (h.segments i) (h.ids id i);
-    slots = places_at (h.spaces i).mappings (h.ids id i);
+    slots = places_at (h.spaces i) (h.ids id i);
     packets = get_or (h.queues i) (h.ids id i) [];
   })
 
@@ -70,12 +70,12 @@ module _ (p q : Pieces) (h : IsHeld p q) where
   held_stocked k = record {
     segments = ap (λ (xs : List (List ℕ)). length xs) h.segments ∙ k.segments ∙ ap (λ (l : Limits). l.pages) (sym h.limits);
     queues = ap (λ (xs : List (List (List ℕ))). length xs) h.queues ∙ k.queues ∙ ap (λ (l : Limits). l.pages) (sym h.limits);
-    spaces = ap (λ (v : SpaceLists). length v.mappings) h.spaces ∙ k.spaces ∙ ap (λ (l : Limits). l.pages) (sym h.limits);
+    spaces = ap (λ (v : List (List (Option Mapping))). length v) h.spaces ∙ k.spaces ∙ ap (λ (l : Limits). l.pages) (sym h.limits);
     paged = λ slot. ap (λ (xs : List (List ℕ)). length (bytes_in xs slot)) h.segments ∙ k.paged slot
         ∙ ap {B = ℕ} (λ (n : ℕ). 256 * n) (sym (pages_held slot));
-    sixteen = λ slot within. ap (λ (v : SpaceLists). length (places_at v.mappings slot)) h.spaces
+    sixteen = λ slot within. ap (λ (v : List (List (Option Mapping))). length (places_at v slot)) h.spaces
         ∙ k.sixteen slot (subst (λ (l : Limits). slot < l.pages) h.limits within);
-    unmapped = λ slot within none. ap (λ (v : SpaceLists). places_at v.mappings slot) h.spaces
+    unmapped = λ slot within none. ap (λ (v : List (List (Option Mapping))). places_at v slot) h.spaces
         ∙ k.unmapped slot (subst (λ (l : Limits). slot < l.pages) h.limits within) (sym (space_held slot) ∙ none);
     queued = λ slot. ap (λ (xs : List (List (List ℕ))). is_whole_body (is.Device (get_or xs slot []))) h.queues ∙ k.queued slot;
   }

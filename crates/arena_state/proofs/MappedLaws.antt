@@ -29,13 +29,13 @@ none_in o (v ∷ vs) off =
 
 -- so no object has it, where no slot maps it
 module _ (a : ArenaState) (o : ℕ)
-    (off : (space place : ℕ) (m : Mapping) → mapping_at a.pieces.holdings.spaces.mappings space place ≡ Some m
+    (off : (space place : ℕ) (m : Mapping) → mapping_at a.pieces.holdings.spaces space place ≡ Some m
     → m.entry.object ≢ o) where
   in_slot : (id slot : ℕ) → HasSlot a.pieces.places id slot → list_any (maps o) (slots_at (state_of a) id) ≡ false
   in_slot id slot h = elim (cases_Bool (keeps_space (record_in a.pieces.holdings.records.items slot).body)) [
     | inl is ↦
         ap (list_any (maps o)) (slots_here a id slot h is)
-        ∙ none_in o (places_at a.pieces.holdings.spaces.mappings slot) (off slot)
+        ∙ none_in o (places_at a.pieces.holdings.spaces slot) (off slot)
     | inr off ↦ ap (list_any (maps o)) (no_slots_here a id slot h off)
   ]
 

@@ -18,7 +18,6 @@ use Rattle.kernel_rules.proofs.WellFormedLaws.{soundness_of}
 use Rattle.segments.specs.Segments.{bytes_in}
 use Rattle.segments.specs.Queues.{packets_in}
 use Rattle.address_spaces.specs.Mappings.{places_at, with_mapping}
-use Rattle.address_spaces.specs.View.{SpaceLists}
 use Rattle.kernel_rules.specs.declared.objects.Mapping.{Mapping}
 use Rattle.arena_state.specs.declared.records.Kept as kept
 use Rattle.arena_state.specs.declared.records.Kept.TheVariants as keeps
@@ -161,7 +160,7 @@ module _ (p : Pieces) (s : IsSound p) (id slot : ℕ) (h : HasSlot p.places id s
         refilled p (with_queues p zs) s id slot h refl (λ i. refl)
         (λ j off. (λ i. record {
           bytes = bytes_in p.holdings.segments j;
-          slots = places_at p.holdings.spaces.mappings j;
+          slots = places_at p.holdings.spaces j;
           packets = packets_off j off i;
         }))
         (with_body (requeue f))
@@ -213,7 +212,7 @@ module _ (p : Pieces) (s : IsSound p) (id slot : ℕ) (h : HasSlot p.places id s
         refilled p (with_segments p xs) s id slot h refl (λ i. refl)
         (λ j off. (λ i. record {
           bytes = bytes_off j off i;
-          slots = places_at p.holdings.spaces.mappings j;
+          slots = places_at p.holdings.spaces j;
           packets = packets_in p.holdings.queues j;
         }))
         (with_body (rebyte f))
@@ -253,10 +252,10 @@ module _ (p : Pieces) (s : IsSound p) (id slot : ℕ) (h : HasSlot p.places id s
     }
 
 -- the pieces with other mappings
-abbrev pub with_spaces : Pieces → SpaceLists → Pieces
+abbrev pub with_spaces : Pieces → List (List (Option Mapping)) → Pieces
 with_spaces p v = record p { holdings = record p.holdings { spaces = v } }
 
-pub spaces_sound : (p : Pieces) (v : SpaceLists) → IsSound p → IsSound (with_spaces p v)
+pub spaces_sound : (p : Pieces) (v : List (List (Option Mapping))) → IsSound p → IsSound (with_spaces p v)
 spaces_sound p v s = record {
   formed = s.formed;
   tree = s.tree;
@@ -308,22 +307,22 @@ module _ (p : Pieces) (s : IsSound p) (id slot : ℕ) (h : HasSlot p.places id s
       }))
 
   -- an address space's mappings change, as many as there were
-  module _ (k : IsStocked p) (v : SpaceLists)
-      (after : v.mappings ≡ set p.holdings.spaces.mappings slot (f (places_at p.holdings.spaces.mappings slot)))
-      (long : length (f (places_at p.holdings.spaces.mappings slot)) ≡ length (places_at p.holdings.spaces.mappings slot))
+  module _ (k : IsStocked p) (v : List (List (Option Mapping)))
+      (after : v ≡ set p.holdings.spaces slot (f (places_at p.holdings.spaces slot)))
+      (long : length (f (places_at p.holdings.spaces slot)) ≡ length (places_at p.holdings.spaces slot))
       (space : keeps_space (record_in p.holdings.records.items slot).body ≡ true) where
-    space_in : slot < length p.holdings.spaces.mappings
+    space_in : slot < length p.holdings.spaces
     space_in = omega (arith, slot_within p s id slot h, s.records, k.spaces)
 
-    places_are : places_at v.mappings slot ≡ f (places_at p.holdings.spaces.mappings slot)
+    places_are : places_at v slot ≡ f (places_at p.holdings.spaces slot)
     places_are =
         ap (λ (m : List (List (Option Mapping))). get_or m slot []) after
-        ∙ get_or-set_same p.holdings.spaces.mappings slot (f (places_at p.holdings.spaces.mappings slot)) [] space_in
+        ∙ get_or-set_same p.holdings.spaces slot (f (places_at p.holdings.spaces slot)) [] space_in
 
-    places_off : (j : ℕ) → j ≢ slot → places_at v.mappings j ≡ places_at p.holdings.spaces.mappings j
+    places_off : (j : ℕ) → j ≢ slot → places_at v j ≡ places_at p.holdings.spaces j
     places_off j off =
         ap (λ (m : List (List (Option Mapping))). get_or m j []) after
-        ∙ get_or-set_other p.holdings.spaces.mappings slot j (f (places_at p.holdings.spaces.mappings slot)) [] off
+        ∙ get_or-set_other p.holdings.spaces slot j (f (places_at p.holdings.spaces slot)) [] off
 
     pub reslotted : whole_state (with_spaces p v) ≡ changed (whole_state p) id (with_body (reslot f))
     reslotted =
@@ -347,12 +346,12 @@ module _ (p : Pieces) (s : IsSound p) (id slot : ℕ) (h : HasSlot p.places id s
       segments = k.segments;
       queues = k.queues;
       spaces = ap (λ (m : List (List (Option Mapping))). length m) after
-          ∙ length-set p.holdings.spaces.mappings slot (f (places_at p.holdings.spaces.mappings slot)) ∙ k.spaces;
+          ∙ length-set p.holdings.spaces slot (f (places_at p.holdings.spaces slot)) ∙ k.spaces;
       paged = k.paged;
       sixteen = λ j within. elim (cases_eq j slot) [
         | inl same ↦
-            ap (λ (i : ℕ). length (places_at v.mappings i)) same ∙ ap (λ (m : List (Option Mapping)). length m) places_are ∙ long
-            ∙ ap (λ (i : ℕ). length (places_at p.holdings.spaces.mappings i)) (sym same) ∙ k.sixteen j within
+            ap (λ (i : ℕ). length (places_at v i)) same ∙ ap (λ (m : List (Option Mapping)). length m) places_are ∙ long
+            ∙ ap (λ (i : ℕ). length (places_at p.holdings.spaces i)) (sym same) ∙ k.sixteen j within
         | inr off ↦ ap (λ (m : List (Option Mapping)). length m) (places_off j off) ∙ k.sixteen j within
       ];
       unmapped = λ j within none. elim (cases_eq j slot) [
@@ -365,15 +364,6 @@ module _ (p : Pieces) (s : IsSound p) (id slot : ℕ) (h : HasSlot p.places id s
       ];
       queued = k.queued;
     }
-
--- a place that is emptied and then filled
-pub filled_twice : (ms : List (List (Option Mapping))) (space place : ℕ) (m : Option Mapping) → space < length ms
-    → with_mapping (with_mapping ms space place None) space place m ≡ with_mapping ms space place m
-filled_twice ms space place m within =
-    let row = set (places_at ms space) place None in
-    ap (λ r. set (set ms space row) space (set r place m)) (get_or-set_same ms space row [] within)
-    ∙ set-set ms space row (set row place m)
-    ∙ ap (set ms space) (set-set (places_at ms space) place None m)
 
 -- what is written over is as long as it was
 pub written_long : (at : ℕ) (new old : List ℕ) → at + length new ≤ length old → length (written at new old) ≡ length old

@@ -1,5 +1,5 @@
 -- Rows that are repaired after a change.
-use Rattle.std.proofs.Common.{◌≡◌, ◌≢◌, ◌⊎◌, ℕ, ◌+◌, ◌<◌, ◌≤◌, true, false, cond, List, [], Option, Some, None, refl, sym, ◌∙◌, ap, subst, length, inl, inr, arith}
+use Rattle.std.proofs.Common.{◌≡◌, ◌≢◌, ◌⊎◌, ℕ, ◌+◌, ◌<◌, ◌≤◌, ◌&&◌, not, true, false, cond, List, [], Option, Some, None, refl, sym, ◌∙◌, ap, subst, length, inl, inr, arith}
 use Rattle.std.specs.Option.{option_map, option_and_then}
 use Rattle.std.proofs.lemmas.Bool.{cases_eq, cases_lt}
 use Rattle.base.specs.Live.{is_live}
@@ -7,14 +7,14 @@ use Rattle.base.specs.declared.ranges.Limits.{Limits}
 use Rattle.containers.specs.Tree.{HasSlot}
 use Rattle.kernel_rules.specs.State.{State, lists_of, object_at, of_object, slots_at, slots_of, thread_of}
 use Rattle.kernel_rules.specs.Step.{restricted}
-use Rattle.kernel_rules.specs.Translate.{own_space, translate}
+use Rattle.kernel_rules.specs.Translate.{names_none, own_space, translate}
 use Rattle.kernel_rules.specs.declared.calls.Entry.{Entry}
 use Rattle.kernel_rules.specs.declared.objects.Object.{Object}
 use Rattle.kernel_laws.proofs.Frames.{restricted_at}
 use Rattle.translation_rows.specs.Rows.{BySlot, Shows, slot_count, thread_at}
 use Rattle.arena_state.specs.Shown.{AreKept, AreKeptBut, IsRow, KeepsAllSlots, SameAt, Tells, named_by}
 use Rattle.arena_state.specs.States.{state_of}
-use Rattle.arena_state.specs.Touched.{reaches_by, touches}
+use Rattle.arena_state.specs.Touched.{reaches, reaches_by, touches}
 use Rattle.arena_state.specs.declared.rows.repairs.Change.{Change}
 use Rattle.arena_state.specs.declared.states.ArenaState.{ArenaState}
 use Rattle.arena_state.proofs.ShownLaws.{one_owner, slot_in_pool, slot_is_there}
@@ -71,11 +71,20 @@ rows_left a b c rows k slots limits own same = record {
 -- the thread of a slot that names one, and none
 named_is : (id t : ℕ) (v : Option Entry) → named_by id v ≡ Some t → id ≡ t
 named_is id t None h = absurd (cc)
-named_is id t (Some space) h = cc
+named_is id t (Some space) h =
+    elim (names_none space) as (λ b. option_map (λ (e : Entry). id) (cond b None (Some space)) ≡ Some t → id ≡ t) [
+      | true ↦ λ g. absurd (cc)
+      | false ↦ λ g. cc
+    ] h
 
-named_none : (id : ℕ) (v : Option Entry) → named_by id v ≡ None → v ≡ None
-named_none id None h = refl
-named_none id (Some space) h = absurd (cc)
+unnamed : (s : State) (c : Change) (id : ℕ) (v : Option Entry) → named_by id v ≡ None → reaches_by s c v ≡ false
+unnamed s c id None h = refl
+unnamed s c id (Some space) h =
+    elim (names_none space)
+    as (λ b. option_map (λ (e : Entry). id) (cond b None (Some space)) ≡ None → (not b && reaches s c space) ≡ false) [
+      | true ↦ λ g. refl
+      | false ↦ λ g. absurd (cc)
+    ] h
 
 -- a slot whose row was not touched
 slot_passed : (a : ArenaState) (c : Change) (n : ℕ) (rows : BySlot) → AreKeptBut a c n rows
@@ -151,7 +160,7 @@ none_passed a c from to rows none k = record {
     | inl lt ↦ elim (cases_lt slot from) [
       | inl before ↦ k.kept id slot h (inl before)
       | inr past ↦ k.kept id slot h (inr
-          (ap (reaches_by (state_of a) c) (named_none id (own_space (state_of a) id) (sym (k.named id slot h) ∙ none slot past lt))))
+          (unnamed (state_of a) c id (own_space (state_of a) id) (sym (k.named id slot h) ∙ none slot past lt)))
     ]
     | inr untouched ↦ k.kept id slot h (inr untouched)
   ];

@@ -27,7 +27,7 @@ use Rattle.arena_state.specs.declared.states.ArenaState.{ArenaState}
 use Rattle.arena_state.specs.States.{state_of}
 use Rattle.arena_state.specs.Creations.{IsPlaced}
 use Rattle.arena_state.specs.declared.records.Record.{Record}
-use Rattle.arena_state.specs.Shown.{IsRow, AreKept, KeepsSlots, SameAt, Tells, named_by, thread_named}
+use Rattle.arena_state.specs.Shown.{IsRow, AreKept, KeepsSlots, SameAt, Tells, named_by, named_space, thread_named}
 use Rattle.arena_state.proofs.StockLaws.{object_whole}
 
 -- an object that is not there shows nothing
@@ -44,9 +44,25 @@ by_own_space s t i v is = ap (through_space s t i) is
 pub shut_shows_none : (s : State) (t i : ℕ) (e : Entry) → (not (names_none e) && opens s t e) ≡ false → None ≡ through_space s t i (Some e)
 shut_shows_none s t i e shut = sym (ap (λ (b : Bool). cond b (through s t (slot_at s e.object i)) None) shut)
 
--- what has no address space shows nothing
-pub blank_row : (s : State) (t : ℕ) → None ≡ own_space s t → IsRow s t (replicate 16 None)
-blank_row s t none i lt = get_or-replicate {A = Shows} 16 i None None lt ∙ by_own_space s t i None none
+-- what names no address space shows nothing
+nameless : (s : State) (t i : ℕ) (v : Option Entry) → None ≡ named_space v → None ≡ through_space s t i v
+nameless s t i None none = refl
+nameless s t i (Some e) none =
+    elim (names_none e)
+    as (λ b. None ≡ cond b None (Some e) → None ≡ cond (not b && opens s t e) (through s t (slot_at s e.object i)) None) [
+      | true ↦ λ h. refl
+      | false ↦ λ h. absurd (cc)
+    ] none
+
+pub blank_row : (s : State) (t : ℕ) → None ≡ named_space (own_space s t) → IsRow s t (replicate 16 None)
+blank_row s t none i lt =
+    get_or-replicate {A = Shows} 16 i None None lt ∙ nameless s t i (own_space s t) none ∙ by_own_space s t i (own_space s t) refl
+
+-- what names one is its entry
+pub named_own : (e : Entry) (v : Option Entry) → Some e ≡ named_space v → Some e ≡ v
+named_own e None h = absurd (cc)
+named_own e (Some f) h =
+    elim (names_none f) as (λ b. Some e ≡ cond b None (Some f) → Some e ≡ Some f) [ true ↦ λ g. absurd (cc) | false ↦ λ g. g ] h
 
 -- one more place of a row
 pub more_shown : (row : List Shows) (n : ℕ) (v : Shows) (f : ℕ → Shows) → n < length row → v ≡ f n

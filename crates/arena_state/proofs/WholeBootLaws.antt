@@ -27,7 +27,7 @@ module _ (p : Pieces) (s2 s3 : ℕ) (x1 x2 x3 : Record) (two : s2 < p.limits.pag
     (records : p.holdings.records.items ≡ set (set (replicate p.limits.pages x1) s2 x2) s3 x3)
     (first : kept_pages x1.body ≡ 0) (second : kept_pages x2.body ≡ 0) (third : kept_pages x3.body ≡ 0)
     (segments : p.holdings.segments ≡ replicate p.limits.pages []) (queues : p.holdings.queues ≡ replicate p.limits.pages [])
-    (spaces : p.holdings.spaces.mappings ≡ replicate p.limits.pages (replicate 16 None)) where
+    (spaces : p.holdings.spaces ≡ replicate p.limits.pages (replicate 16 None)) where
   abbrev n : ℕ
   n = p.limits.pages
 
@@ -62,7 +62,7 @@ module _ (p : Pieces) (s2 s3 : ℕ) (x1 x2 x3 : Record) (two : s2 < p.limits.pag
   no_packets : (y : ℕ) → packets_in p.holdings.queues y ≡ []
   no_packets y = ap (λ (xs : List (List (List ℕ))). packets_in xs y) queues ∙ nothing_in n y
 
-  no_mappings : (y : ℕ) → y < n → places_at p.holdings.spaces.mappings y ≡ replicate 16 None
+  no_mappings : (y : ℕ) → y < n → places_at p.holdings.spaces y ≡ replicate 16 None
   no_mappings y lt = ap (λ (xs : List (List (Option Mapping))). places_at xs y) spaces ∙ get_or-replicate n y (replicate 16 None) [] lt
 
   pub booted_stocked : IsStocked p

@@ -34,8 +34,8 @@ use Rattle.arena_state.specs.Creations.{IsPlaced}
 use Rattle.arena_state.specs.Stocked.{slot_of, content_in, content_at, whole_state, kept_pages, keeps_space, pages_at, is_space_at, IsStocked}
 use Rattle.segments.specs.Segments.{bytes_in}
 use Rattle.segments.specs.Queues.{packets_in}
+use Rattle.kernel_rules.specs.declared.objects.Mapping.{Mapping}
 use Rattle.address_spaces.specs.Mappings.{places_at}
-use Rattle.address_spaces.specs.View.{SpaceLists}
 use Rattle.arena_state.specs.Sound.{IsSound}
 use Rattle.arena_state.proofs.SoundLaws.{object_none}
 use Rattle.arena_state.proofs.FilledLaws.{same_filled}
@@ -214,7 +214,7 @@ module _ (p : Pieces) (s : IsSound p) (d quota : ℕ) (l : LabelValue) (b : Body
     bytes_old : (y : ℕ) → y ≢ c.slot → bytes_in segs y ≡ bytes_in p.holdings.segments y
     bytes_old y off = ap (λ (xs : List (List ℕ)). bytes_in xs y) segs_is ∙ get_or-set_other p.holdings.segments c.slot y bytes [] off
 
-    empty_new : places_at p.holdings.spaces.mappings c.slot ≡ replicate 16 None
+    empty_new : places_at p.holdings.spaces c.slot ≡ replicate 16 None
     empty_new = k.unmapped c.slot within
         (ap (λ (v : Bool). v && keeps_space (record_in p.holdings.records.items c.slot).body) vacant)
 
@@ -229,9 +229,9 @@ module _ (p : Pieces) (s : IsSound p) (d quota : ℕ) (l : LabelValue) (b : Body
           ap (λ (xs : List ℕ). length xs) (bytes_old y off) ∙ k.paged y ∙ ap {B = ℕ} (λ (n : ℕ). 256 * n) (sym (pages_old y off))
     ]
 
-    unmapped_now : (y : ℕ) → y < p.limits.pages → is_space_at q y ≡ false → places_at p.holdings.spaces.mappings y ≡ replicate 16 None
+    unmapped_now : (y : ℕ) → y < p.limits.pages → is_space_at q y ≡ false → places_at p.holdings.spaces y ≡ replicate 16 None
     unmapped_now y y_in none = elim (cases_eq y c.slot) [
-      | inl same ↦ subst (λ (j : ℕ). places_at p.holdings.spaces.mappings j ≡ replicate 16 None) (sym same) empty_new
+      | inl same ↦ subst (λ (j : ℕ). places_at p.holdings.spaces j ≡ replicate 16 None) (sym same) empty_new
       | inr off ↦ k.unmapped y y_in (sym (space_old y off) ∙ none)
     ]
 
@@ -244,11 +244,11 @@ module _ (p : Pieces) (s : IsSound p) (d quota : ℕ) (l : LabelValue) (b : Body
       segments = ap (λ (xs : List (List ℕ)). length xs) segs_is ∙ length-set p.holdings.segments c.slot bytes ∙ k.segments
           ∙ ap (λ (z : Limits). z.pages) (sym c.limits);
       queues = ap (λ (xs : List (List (List ℕ))). length xs) c.queues ∙ k.queues ∙ ap (λ (z : Limits). z.pages) (sym c.limits);
-      spaces = ap (λ (v : SpaceLists). length v.mappings) c.spaces ∙ k.spaces ∙ ap (λ (z : Limits). z.pages) (sym c.limits);
+      spaces = ap (λ (v : List (List (Option Mapping))). length v) c.spaces ∙ k.spaces ∙ ap (λ (z : Limits). z.pages) (sym c.limits);
       paged = paged_now;
-      sixteen = λ y y_in. ap (λ (v : SpaceLists). length (places_at v.mappings y)) c.spaces
+      sixteen = λ y y_in. ap (λ (v : List (List (Option Mapping))). length (places_at v y)) c.spaces
           ∙ k.sixteen y (subst (λ (z : Limits). y < z.pages) c.limits y_in);
-      unmapped = λ y y_in none. ap (λ (v : SpaceLists). places_at v.mappings y) c.spaces
+      unmapped = λ y y_in none. ap (λ (v : List (List (Option Mapping))). places_at v y) c.spaces
           ∙ unmapped_now y (subst (λ (z : Limits). y < z.pages) c.limits y_in) none;
       queued = λ y. ap (λ (xs : List (List (List ℕ))). is_whole_body (is.Device (packets_in xs y))) c.queues ∙ k.queued y;
     }
@@ -262,7 +262,7 @@ module _ (p : Pieces) (s : IsSound p) (d quota : ℕ) (l : LabelValue) (b : Body
         ap (content_in stocked_pieces.holdings) next_slot
         ∙ (λ i. record {
           bytes = bytes_new i;
-          slots = (ap (λ (v : SpaceLists). places_at v.mappings c.slot) c.spaces ∙ empty_new) i;
+          slots = (ap (λ (v : List (List (Option Mapping))). places_at v c.slot) c.spaces ∙ empty_new) i;
           packets = packets_in (c.queues i) c.slot;
         })
 
@@ -272,7 +272,7 @@ module _ (p : Pieces) (s : IsSound p) (d quota : ℕ) (l : LabelValue) (b : Body
         ap (content_in stocked_pieces.holdings) (old_slot i off)
         ∙ (λ j. record {
           bytes = bytes_old (slot_of p i) (old_apart i (old_there i z off found)) j;
-          slots = places_at (c.spaces j).mappings (slot_of p i);
+          slots = places_at (c.spaces j) (slot_of p i);
           packets = packets_in (c.queues j) (slot_of p i);
         })
 

@@ -154,16 +154,16 @@ module _ (p : Pieces) (s : IsSound p) (k : IsStocked p) (q : Pieces) (sq : IsSou
     bytes_stay x here = bytes_are x
         ∙ ap (λ (v : Bool). cond (v && keeps_pages (record_in p.holdings.records.items x).body) [] (bytes_in p.holdings.segments x)) (stayed x here).1
 
-    places_are : (x : ℕ) → x < p.limits.pages → places_at q.holdings.spaces.mappings x
+    places_are : (x : ℕ) → x < p.limits.pages → places_at q.holdings.spaces x
         ≡ cond (has (dead_slots dead) x && keeps_space (record_in p.holdings.records.items x).body) (replicate 16 None)
-        (places_at p.holdings.spaces.mappings x)
-    places_are x lt = (λ i. places_at (spaces i).mappings x) ∙ gone.places x (omega (arith, lt, k.spaces))
+        (places_at p.holdings.spaces x)
+    places_are x lt = (λ i. places_at (spaces i) x) ∙ gone.places x (omega (arith, lt, k.spaces))
 
     places_stay : (x : ℕ) → x < p.limits.pages → has q.places.slots x ≡ true
-        → places_at q.holdings.spaces.mappings x ≡ places_at p.holdings.spaces.mappings x
+        → places_at q.holdings.spaces x ≡ places_at p.holdings.spaces x
     places_stay x lt here = places_are x lt
         ∙ ap (λ (v : Bool). cond (v && keeps_space (record_in p.holdings.records.items x).body) (replicate 16 None)
-        (places_at p.holdings.spaces.mappings x)) (stayed x here).1
+        (places_at p.holdings.spaces x)) (stayed x here).1
 
     paged : (x : ℕ) → length (bytes_in q.holdings.segments x) ≡ 256 * pages_at q x
     paged x = elim (cases_Bool (has q.places.slots x)) [
@@ -193,7 +193,7 @@ module _ (p : Pieces) (s : IsSound p) (k : IsStocked p) (q : Pieces) (sq : IsSou
         vacated true false c same xs n long none = absurd (cc)
         vacated false true c same xs n long none = absurd (cc)
 
-    unmapped : (x : ℕ) → x < p.limits.pages → is_space_at q x ≡ false → places_at q.holdings.spaces.mappings x ≡ replicate 16 None
+    unmapped : (x : ℕ) → x < p.limits.pages → is_space_at q x ≡ false → places_at q.holdings.spaces x ≡ replicate 16 None
     unmapped x lt none = elim (cases_Bool (has q.places.slots x)) [
       | inl here ↦
           let was : is_space_at p x ≡ false
@@ -202,7 +202,7 @@ module _ (p : Pieces) (s : IsSound p) (k : IsStocked p) (q : Pieces) (sq : IsSou
       | inr off ↦
           places_are x lt
           ∙ vacated (has p.places.slots x) (has (dead_slots dead) x) (keeps_space (record_in p.holdings.records.items x).body)
-          (left x off) (places_at p.holdings.spaces.mappings x) (k.unmapped x lt)
+          (left x off) (places_at p.holdings.spaces x) (k.unmapped x lt)
     ]
       where
         vacated : (a b c : Bool) → a ≡ b → (xs : List (Option Mapping)) → ((a && c) ≡ false → xs ≡ replicate 16 None)
@@ -213,9 +213,9 @@ module _ (p : Pieces) (s : IsSound p) (k : IsStocked p) (q : Pieces) (sq : IsSou
         vacated true false c same xs none = absurd (cc)
         vacated false true c same xs none = absurd (cc)
 
-    sixteen : (x : ℕ) → x < p.limits.pages → length (places_at q.holdings.spaces.mappings x) ≡ 16
+    sixteen : (x : ℕ) → x < p.limits.pages → length (places_at q.holdings.spaces x) ≡ 16
     sixteen x lt = ap (λ (xs : List (Option Mapping)). length xs) (places_are x lt)
-        ∙ either (has (dead_slots dead) x && keeps_space (record_in p.holdings.records.items x).body) (places_at p.holdings.spaces.mappings x) (k.sixteen x lt)
+        ∙ either (has (dead_slots dead) x && keeps_space (record_in p.holdings.records.items x).body) (places_at p.holdings.spaces x) (k.sixteen x lt)
       where
         either : (b : Bool) (xs : List (Option Mapping)) → length xs ≡ 16 → length (cond b (replicate 16 None) xs) ≡ 16
         either true xs long = refl
@@ -225,7 +225,7 @@ module _ (p : Pieces) (s : IsSound p) (k : IsStocked p) (q : Pieces) (sq : IsSou
     unlinked_stocked = record {
       segments = ap (λ (xs : List (List ℕ)). length xs) segments ∙ gone.segments ∙ k.segments ∙ ap (λ (z : Limits). z.pages) (sym limits);
       queues = ap (λ (xs : List (List (List ℕ))). length xs) (queues ∙ gone.queues) ∙ k.queues ∙ ap (λ (z : Limits). z.pages) (sym limits);
-      spaces = (λ i. length (spaces i).mappings) ∙ gone.spaces ∙ k.spaces ∙ ap (λ (z : Limits). z.pages) (sym limits);
+      spaces = (λ i. length (spaces i)) ∙ gone.spaces ∙ k.spaces ∙ ap (λ (z : Limits). z.pages) (sym limits);
       paged = paged;
       sixteen = λ x lt. sixteen x (subst (λ (z : Limits). x < z.pages) limits lt);
       unmapped = λ x lt none. unmapped x (subst (λ (z : Limits). x < z.pages) limits lt) none;

@@ -71,5 +71,5 @@ pub record IsVacated (v : Holdings) (o : Located) (w : Holdings) : Type 0 where
   pub labels : w.labels ≡ forgotten v.labels (slice_get v.records.items o.slot.0)
   pub queues : w.queues ≡ v.queues
   pub segments : w.segments ≡ bytes_then (slice_get v.records.items o.slot.0) o.slot.0 v.segments
-  pub mappings : w.spaces.mappings
-      ≡ mappings_then (slice_get v.records.items o.slot.0) o.slot.0 v.spaces.mappings
+  pub mappings : w.spaces
+      ≡ mappings_then (slice_get v.records.items o.slot.0) o.slot.0 v.spaces

@@ -1,8 +1,9 @@
 -- Rows that say what is shown.
 use Rattle.std.specs.Prelude.{◌≡◌, ◌≢◌, ℕ, ◌<◌, ◌⊎◌, false, List, Option, Some, None, slice_index_or}
+use Rattle.std.specs.Prelude.{option_map, if◌then◌else◌}
 use Rattle.containers.specs.Tree.{HasSlot}
 use Rattle.kernel_rules.specs.State.{State}
-use Rattle.kernel_rules.specs.Translate.{own_space, translate}
+use Rattle.kernel_rules.specs.Translate.{names_none, own_space, translate}
 use Rattle.kernel_rules.specs.declared.calls.Entry.{Entry}
 use Rattle.translation_rows.specs.Rows.{BySlot, Shows, row_at, slot_count, thread_at}
 use Rattle.arena_state.specs.declared.rows.repairs.Change.{Change}
@@ -14,22 +15,26 @@ use Rattle.arena_state.specs.Touched.{touches}
 abbrev pub IsRow : State → ℕ → List Shows → Type 0
 IsRow s thread row = (i : ℕ) → i < 16 → slice_index_or row i None ≡ translate s thread i
 
+-- the entry, where it names an address space
+abbrev pub named_space : Option Entry → Option Entry
+named_space None = None
+named_space (Some space) = if names_none space then None else Some space
+
 -- the id, where it has an address space
 abbrev pub named_by : ℕ → Option Entry → Option ℕ
-named_by id None = None
-named_by id (Some space) = Some id
+named_by id space = option_map (λ _. id) (named_space space)
 
--- the id, if it is a thread
+-- the id, if it is a thread in an address space
 abbrev pub thread_named : State → ℕ → Option ℕ
 thread_named s id = named_by id (own_space s id)
 
--- the slot has the row of the object, and names it if it is a thread
+-- the slot has the row of the object, and names it if it is a thread in an address space
 pub record Tells (s : State) (id : ℕ) (rows : BySlot) (slot : ℕ) : Type 0 where
   pub row : IsRow s id (row_at rows slot)
   pub thread : thread_at rows slot ≡ thread_named s id
 
 -- there is a row for each slot, and that of an object's slot says what is shown to the object:
--- nothing to any but a thread, which the slot names
+-- nothing to any but a thread in an address space, which the slot names
 pub record AreKept (a : ArenaState) (rows : BySlot) : Type 0 where
   pub size : slot_count rows ≡ (state_of a).limits.pages
   pub kept : (id slot : ℕ) → HasSlot a.pieces.places id slot

@@ -28,7 +28,7 @@ slot_of p id = row_slot (lookup (is_at (nat_cmp id)) (rows_of p.places.lists p.p
 abbrev pub content_in : Holdings → ℕ → Content
 content_in h slot = record {
   bytes = bytes_in h.segments slot;
-  slots = places_at h.spaces.mappings slot;
+  slots = places_at h.spaces slot;
   packets = packets_in h.queues slot;
 }
 
@@ -74,14 +74,14 @@ pub record IsStocked (p : Pieces) : Type 0 where
   -- there are as many as slots
   pub segments : length p.holdings.segments ≡ p.limits.pages
   pub queues : length p.holdings.queues ≡ p.limits.pages
-  pub spaces : length p.holdings.spaces.mappings ≡ p.limits.pages
+  pub spaces : length p.holdings.spaces ≡ p.limits.pages
   -- a segment's slot has the bytes of its pages, and no other slot any
   pub paged : (slot : ℕ) → length (bytes_in p.holdings.segments slot)
       ≡ page_bytes * pages_at p slot
   -- each slot has sixteen mappings, all empty but those of an address space
   pub sixteen : (slot : ℕ) → slot < p.limits.pages
-      → length (places_at p.holdings.spaces.mappings slot) ≡ slot_count
+      → length (places_at p.holdings.spaces slot) ≡ slot_count
   pub unmapped : (slot : ℕ) → slot < p.limits.pages → is_space_at p slot ≡ false
-      → places_at p.holdings.spaces.mappings slot ≡ replicate slot_count None
+      → places_at p.holdings.spaces slot ≡ replicate slot_count None
   -- a device's packets are few and small
   pub queued : (slot : ℕ) → is_whole_body (is.Device (packets_in p.holdings.queues slot)) ≡ true

@@ -91,7 +91,6 @@ impl ArenaState {
         let segments = Segments::boot(alloc, pool)?;
         let queues = Queues::boot(alloc, pool)?;
         let spaces = Spaces::boot(alloc, pool)?;
-        let spare = Meter::new(alloc)?;
         Ok(ArenaState {
             pieces: Pieces {
                 limits: *limits,
@@ -102,7 +101,6 @@ impl ArenaState {
                     segments,
                     queues,
                     spaces,
-                    spare,
                 },
                 next_id: limits.next_id,
                 next_category: limits.next_category,

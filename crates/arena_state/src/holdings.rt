@@ -18,8 +18,6 @@ pub struct Holdings {
     pub segments: Segments,
     pub queues: Queues,
     pub spaces: Spaces,
-    /// Counts what is looked at as objects go, since no caller's meter is at hand then.
-    pub spare: Meter,
 }
 
 // The labels that a record names have an owner less.
@@ -39,42 +37,32 @@ fn forget(labels: &mut Labels, given: &Record)
 
 // A slot has no byte, if there is such a slot.
 fn clear_bytes(segments: &mut Segments, slot: Slot, meter: &mut Meter)
-    ensures { segments.new ≡ slice_set segments.old slot.0 [] }
+    ensures cleared { segments.new ≡ slice_set segments.old slot.0 [] }
+    ensures scans { meter.new.scans ≡ meter.old.scans }
 {
     if slot.0 < segments.slots() {
         segments.clear(slot, meter);
     }
 }
 
-// A slot has no mapping and no user, if there is such a slot.
-fn clear_mappings(spaces: &mut Spaces, slot: Slot, meter: &mut Meter)
-    ensures { spaces.new.mappings ≡ slice_set spaces.old.mappings slot.0 (replicate 16 None) }
+// A slot has no mapping, if there is such a slot.
+fn clear_mappings(spaces: &mut Spaces, slot: Slot)
+    ensures { spaces.new ≡ slice_set spaces.old slot.0 (replicate 16 None) }
 {
     if slot.0 < spaces.slots() {
-        spaces.release_space(slot, meter);
-    }
-}
-
-// No mapping is hooked to a slot.
-fn unhook_mappings(spaces: &mut Spaces, slot: Slot, meter: &mut Meter)
-    ensures { spaces.new.mappings ≡ spaces.old.mappings }
-{
-    if slot.0 < spaces.slots() {
-        spaces.release_segment(slot, meter);
+        spaces.release(slot);
     }
 }
 
 // What a slot of such a body held is gone.
 fn vacate(segments: &mut Segments, spaces: &mut Spaces, slot: Slot, body: &Kept, meter: &mut Meter)
     ensures segments { segments.new ≡ bytes_left body.now slot.0 segments.old }
-    ensures mappings { spaces.new.mappings ≡ mappings_left body.now slot.0 spaces.old.mappings }
+    ensures mappings { spaces.new ≡ mappings_left body.now slot.0 spaces.old }
+    ensures scans { meter.new.scans ≡ meter.old.scans }
 {
     match body {
-        Kept::Segment(_) => {
-            clear_bytes(segments, slot, meter);
-            unhook_mappings(spaces, slot, meter);
-        }
-        Kept::AddressSpace => clear_mappings(spaces, slot, meter),
+        Kept::Segment(_) => clear_bytes(segments, slot, meter),
+        Kept::AddressSpace => clear_mappings(spaces, slot),
         Kept::Container(_, _) | Kept::Thread(_) | Kept::Gate(_) | Kept::Device => {}
     }
 }
@@ -86,7 +74,7 @@ impl Visitor for Holdings {
 
     fn link(&mut self, _container: Located, _object: Located) {}
 
-    fn object(&mut self, object: Located) {
+    fn object(&mut self, object: Located, meter: &mut Meter) {
         match self.records.get(object.slot.0) {
             Some(record) => {
                 forget(&mut self.labels, record);
@@ -95,7 +83,7 @@ impl Visitor for Holdings {
                     &mut self.spaces,
                     object.slot,
                     &record.body,
-                    &mut self.spare,
+                    meter,
                 );
             }
             None => {}

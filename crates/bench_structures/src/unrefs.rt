@@ -2,7 +2,7 @@
 
 use crate::sizes::{MOST, print_beside_map};
 use anyhow::Result;
-use base::ObjectId;
+use base::{Meter, ObjectId};
 use bench_support::nanos_since;
 use containers::{Located, Visitor};
 use containers_twin::{Guarded, Hierarchy};
@@ -27,7 +27,7 @@ impl Visitor for Count {
         self.links = self.links.wrapping_add(1);
     }
 
-    fn object(&mut self, _object: Located) {
+    fn object(&mut self, _object: Located, _meter: &mut Meter) {
         self.objects = self.objects.wrapping_add(1);
     }
 }

@@ -2,8 +2,8 @@
 ghost use Rattle.std.specs.Prelude.{◌≡◌};
 
 use base::{Data, Kind, Meter, NoMemory, ObjectId, Rights, TypeSet};
-use kernel_rules::{Entry, Gate, Ids, Mapping, Place, Thread};
-use kernel_store::{Named, Seen, Store};
+use kernel_rules::{Entry, Gate, Ids, Mapping, Thread};
+use kernel_store::{Named, Placed, Seen, Store, ThreadLabels, ThreadStart};
 use label_lattice::Label;
 use plain_state::PlainState;
 
@@ -54,8 +54,8 @@ impl Store for Counting {
         Store::find(&self.state, id, meter)
     }
 
-    fn peek(&self, thread: ObjectId, entry: &Entry) -> Option<Named<ObjectId>> {
-        Store::peek(&self.state, thread, entry)
+    fn peek(&self, thread: ObjectId, entry: &Entry, meter: &mut Meter) -> Option<Named<ObjectId>> {
+        Store::peek(&self.state, thread, entry, meter)
     }
 
     fn is_live(&self, kind: Kind, at: ObjectId) -> bool {
@@ -131,9 +131,9 @@ impl Store for Counting {
         Store::bytes_from(&self.state, at, from, count, meter)
     }
 
-    fn place(&self, thread: ObjectId, address: u64, meter: &mut Meter) -> Option<Place> {
+    fn place(&self, caller: ObjectId, address: u64, meter: &mut Meter) -> Option<Placed<ObjectId>> {
         meter.probe();
-        Store::place(&self.state, thread, address, meter)
+        Store::place(&self.state, caller, address, meter)
     }
 
     fn is_shown(&self, caller: ObjectId, at: ObjectId, meter: &mut Meter) -> bool {
@@ -144,12 +144,12 @@ impl Store for Counting {
         Store::page_count(&self.state, at)
     }
 
-    fn slots(&self, at: ObjectId) -> &[Option<Mapping>] {
-        Store::slots(&self.state, at)
+    fn slots(&self, at: ObjectId, meter: &mut Meter) -> &[Option<Mapping>] {
+        Store::slots(&self.state, at, meter)
     }
 
-    fn slot(&self, at: ObjectId, slot: usize) -> Option<Mapping> {
-        Store::slot(&self.state, at, slot)
+    fn slot(&self, at: ObjectId, slot: usize, meter: &mut Meter) -> Option<Mapping> {
+        Store::slot(&self.state, at, slot, meter)
     }
 
     fn packets(&self, at: ObjectId) -> &[Data] {
@@ -289,24 +289,8 @@ impl Store for Counting {
         Store::set_space(&mut self.state, thread, space, meter);
     }
 
-    fn enter(
-        &mut self,
-        thread: ObjectId,
-        label: &Label,
-        clearance: &Label,
-        verify: &Label,
-        gate: &Gate,
-        meter: &mut Meter,
-    ) {
-        Store::enter(
-            &mut self.state,
-            thread,
-            label,
-            clearance,
-            verify,
-            gate,
-            meter,
-        );
+    fn enter(&mut self, thread: ObjectId, labels: &ThreadLabels, gate: &Gate, meter: &mut Meter) {
+        Store::enter(&mut self.state, thread, labels, gate, meter);
     }
 
     fn own_category(
@@ -345,19 +329,10 @@ impl Store for Counting {
         container: ObjectId,
         label: Option<&Label>,
         quota: u32,
-        clearance: &Label,
-        entry_point: u64,
+        start: &ThreadStart,
         meter: &mut Meter,
     ) -> Result<ObjectId, NoMemory> {
-        Store::create_thread(
-            &mut self.state,
-            container,
-            label,
-            quota,
-            clearance,
-            entry_point,
-            meter,
-        )
+        Store::create_thread(&mut self.state, container, label, quota, start, meter)
     }
 
     fn create_gate(

@@ -36,7 +36,7 @@ impl Visitor for Seen {
         self.links = self.links.saturating_add(1);
     }
 
-    fn object(&mut self, object: Located) {
+    fn object(&mut self, object: Located, _meter: &mut Meter) {
         if self.len < 8 {
             self.objects[self.len] = object.id.number();
             self.len += 1;
@@ -100,7 +100,7 @@ fn links_are_kept_in_order(rt: HostRuntime) -> Result<(), Fail> {
 // An id is found by halves here, 5 with two probes and the others with three. The first link and its container are two more.
 // Where that is another container, the number of links is read, and where there are several the last link and its container.
 // Where that is another one too, a walk reads the number again and the first link, then each link's container and the next
-// link. A peek at an id counts nothing.
+// link. A peek at an id is one probe.
 #[test]
 fn a_walk_counts_what_it_reads(rt: HostRuntime) -> Result<(), Fail> {
     let mut meter = Meter::new(rt.alloc())?;
@@ -116,9 +116,10 @@ fn a_walk_counts_what_it_reads(rt: HostRuntime) -> Result<(), Fail> {
     assert!(rt; agree(one.saturating_sub(before), 8));
     assert!(rt; agree(two.saturating_sub(one), 11));
     assert!(rt; agree(three.saturating_sub(two), 16));
-    assert!(rt; is_true(tree.peek(six).is_some()));
-    assert!(rt; agree(tree.peek(ObjectId::new(7)), None));
-    assert!(rt; agree(meter.probes(), three));
+    assert!(rt; is_true(tree.peek(six, &mut meter).is_some()));
+    assert!(rt; agree(tree.peek(ObjectId::new(7), &mut meter), None));
+    assert!(rt; is_true(tree.peek_three(six, five, four, &mut meter).is_some()));
+    assert!(rt; agree(meter.probes().saturating_sub(three), 5));
     Ok(())
 }
 
@@ -166,22 +167,22 @@ fn a_link_is_made_where_both_were_found(rt: HostRuntime) -> Result<(), Fail> {
     Ok(())
 }
 
-// The first link and its container are not counted; where that is another one, that there is another link is, and the last one
-// with its container.
+// The first link and its container are two probes; where that is another one, that there is another link is one more, and the
+// last link with its container two.
 #[test]
-fn a_first_link_is_looked_at_uncounted(rt: HostRuntime) -> Result<(), Fail> {
+fn a_first_link_is_two_probes(rt: HostRuntime) -> Result<(), Fail> {
     let mut meter = Meter::new(rt.alloc())?;
     let tree = family(rt.alloc(), &mut meter)?;
     let root = found(&tree, ObjectId::root(), &mut meter);
     let six = found(&tree, ObjectId::new(6), &mut meter);
     let before = meter.probes();
     assert!(rt; is_true(tree.is_linked(root, six, &mut meter)));
-    assert!(rt; agree(meter.probes(), before));
+    assert!(rt; agree(meter.probes().saturating_sub(before), 2));
     let four = found(&tree, ObjectId::new(4), &mut meter);
     let other = found(&tree, ObjectId::new(6), &mut meter);
     let before = meter.probes();
     assert!(rt; is_true(tree.is_linked(four, other, &mut meter)));
-    assert!(rt; agree(meter.probes().saturating_sub(before), 3));
+    assert!(rt; agree(meter.probes().saturating_sub(before), 5));
     Ok(())
 }
 

@@ -1,4 +1,5 @@
 //! What a visitor was handed.
+use base::Meter;
 use containers::{Located, Visitor};
 use std::process::Abort;
 
@@ -57,7 +58,7 @@ impl Visitor for Seen {
         self.link_count = self.link_count.saturating_add(1);
     }
 
-    fn object(&mut self, object: Located) {
+    fn object(&mut self, object: Located, _meter: &mut Meter) {
         if self.object_count < POOL {
             self.objects[self.object_count] = (object.id.number(), object.slot.0);
         }

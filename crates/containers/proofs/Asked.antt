@@ -44,6 +44,11 @@ module _ {T : Type 0} (size root : ℕ) (r : List Lists) (names : List ℕ) (a :
   pub entry_found : (id : ℕ) (result : Option Slot) → IfSome result (λ slot. (place : ℕ) × IsEntry a place id slot.0) → IfSome result (λ slot. HasSlot view id slot.0)
   entry_found id result found = IfSome_then result found (λ slot e. entry_slot e.0 id slot.0 e.1)
 
+  -- and of one of several ids that were found
+  pub entry_of : {A : Type 0} (id : ℕ) (result : Option A) (slot : A → Slot)
+      → IfSome result (λ s. (place : ℕ) × IsEntry a place id (slot s).0) → IfSome result (λ s. HasSlot view id (slot s).0)
+  entry_of id result slot found = IfSome_then result found (λ s e. entry_slot e.0 id (slot s).0 e.1)
+
   -- and back
   pub slot_entry : (id slot : ℕ) (h : HasSlot view id slot) → IsEntry a h.place id slot
   slot_entry id slot h =

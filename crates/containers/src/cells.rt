@@ -13,6 +13,22 @@ use base::{Meter, NoMemory, ObjectId, Slot};
 use entry_lists::Rings;
 use std::alloc::Global;
 
+/// The slots that links are between: how many there are, the root's, and of each the id of its object.
+#[derive(Clone, Copy)]
+pub struct Pool<'a> {
+    pub size: usize,
+    pub root: usize,
+    pub names: &'a [u64],
+}
+
+/// A link, by the slots of its container and of its object, and by its cell.
+#[derive(Clone, Copy)]
+pub struct Link {
+    pub container: usize,
+    pub object: usize,
+    pub cell: usize,
+}
+
 /// Rings in which each cell is spare.
 pub fn spare_rings(alloc: Global, size: usize) -> Result<Rings<2>, NoMemory>
     requires { 2 * size + 2 < 2 ^ 64 }
@@ -27,15 +43,16 @@ pub fn spare_rings(alloc: Global, size: usize) -> Result<Rings<2>, NoMemory>
     Ok(rings)
 }
 
-// Takes a cell from its list of a family to the end of another. It counts nothing.
+// Takes a cell from its list of a family to the end of another.
 #[inline(always)]
-fn shift(rings: &mut Rings<2>, family: usize, to: usize, cell: usize)
+fn shift(rings: &mut Rings<2>, family: usize, to: usize, cell: usize, meter: &mut Meter)
     requires family { family < 2 }
     requires to { to < length (family_at rings.old family).lists }
     requires from { (head : ℕ) × (head ≢ to) × Stands rings.old family head cell }
-    ensures { IsShifted rings.old rings.new family to cell }
+    ensures shifted { IsShifted rings.old rings.new family to cell }
+    ensures scans { meter.new.scans ≡ meter.old.scans }
 {
-    rings.shift(family, to, cell);
+    rings.shift(family, to, cell, meter);
 }
 
 // Makes a cell spare.
@@ -46,10 +63,8 @@ fn free(rings: &mut Rings<2>, size: usize, cell: usize, meter: &mut Meter)
     ensures freed { IsFreed size rings.old rings.new cell }
     ensures scans { meter.new.scans ≡ meter.old.scans }
 {
-    // Two cells that are moved.
-    meter.probe_many(12);
-    shift(rings, 0, size, cell);
-    shift(rings, 1, size, cell);
+    shift(rings, 0, size, cell, meter);
+    shift(rings, 1, size, cell, meter);
 }
 
 // Takes a link out of its container. The last link to a slot is kept among the dying.
@@ -64,9 +79,7 @@ fn drop_link(rings: &mut Rings<2>, size: usize, object: usize, cell: usize, mete
     ensures scans { meter.new.scans ≡ meter.old.scans }
 {
     if rings.len(1, object, meter) == 1 {
-        // A cell that is moved.
-        meter.probe_many(6);
-        shift(rings, 0, size + 1, cell);
+        shift(rings, 0, size + 1, cell, meter);
     } else {
         free(rings, size, cell, meter);
     }
@@ -96,39 +109,37 @@ fn hand_link<V: Visitor>(visitor: &mut V, names: &[u64], container: usize, objec
 // Takes out what the dying slots list, and then these slots, until none is dying. Lists the ids of these.
 fn sweep<V: Visitor>(
     rings: &mut Rings<2>,
-    size: usize,
-    root: usize,
-    names: &[u64],
+    pool: Pool,
     dead: &mut Vec<ObjectId>,
     visitor: &mut V,
     meter: &mut Meter,
 )
     ghost rank: { ℕ → ℕ }
-    requires fits { size + 2 < 2 ^ 64 }
-    requires names { length names.now ≡ size }
-    requires sweeping { IsSweeping size root rings.old rings.old [] [] }
-    requires tree { IsTree size rings.old rank }
-    requires simple { IsSimple size rings.old }
-    requires full { sum_by length (family_at rings.old 0).lists ≡ size }
+    requires fits { pool.size + 2 < 2 ^ 64 }
+    requires names { length pool.names.now ≡ pool.size }
+    requires sweeping { IsSweeping pool.size pool.root rings.old rings.old [] [] }
+    requires tree { IsTree pool.size rings.old rank }
+    requires simple { IsSimple pool.size rings.old }
+    requires full { sum_by length (family_at rings.old 0).lists ≡ pool.size }
     requires none { dead.old.items ≡ [] }
-    requires room { size ≤ vec_capacity dead.old }
+    requires room { pool.size ≤ vec_capacity dead.old }
     ensures swept { (links : _) × (objects : _)
-        × IsSwept size root rings.old rings.new links objects
+        × IsSwept pool.entry.size pool.entry.root rings.old rings.new links objects
         × IsTold V.link_gives V.object_gives visitor.old visitor.new
-        (named names.now links) (named_one names.now objects)
-        × (dead.new.items ≡ object_ids (named_one names.now objects)) }
+        (named pool.entry.names.now links) (named_one pool.entry.names.now objects)
+        × (dead.new.items ≡ object_ids (named_one pool.entry.names.now objects)) }
     ensures room { vec_capacity dead.new ≡ vec_capacity dead.old }
     ensures scans { meter.new.scans ≡ meter.old.scans }
 {
-    // For the proof alone: the loop's invariant names the root.
-    let _root = root;
-    // That at last none is dying.
-    meter.probe();
-    while let Some(last) = rings.peek_first(0, size + 1) {
-        let object = rings.peek_head_of(1, last);
-        // The first of the dying, whose link it was, and what that lists first.
-        meter.probe_many(3);
-        match rings.peek_first(0, object) {
+    // The root is for the proof alone: the loop's invariant names it.
+    let Pool {
+        size,
+        root: _root,
+        names,
+    } = pool;
+    while let Some(last) = rings.first(0, size + 1, meter) {
+        let object = rings.head_of(1, last, meter);
+        match rings.first(0, object, meter) {
             Some(cell) => {
                 let entry = rings.head_of(1, cell, meter);
                 drop_link(rings, size, entry, cell, meter);
@@ -138,13 +149,13 @@ fn sweep<V: Visitor>(
                 free(rings, size, last, meter);
                 let gone = place(names, object);
                 dead.push_reserved(gone.id);
-                visitor.object(gone);
+                visitor.object(gone, meter);
             }
         }
     }
 }
 
-// This cell of a link to an object, where the link is this container's. It counts nothing.
+// This cell of a link to an object, where the link is this container's.
 #[inline(always)]
 fn if_held(
     rings: &Rings<2>,
@@ -152,6 +163,7 @@ fn if_held(
     container: usize,
     object: usize,
     cell: Option<usize>,
+    meter: &mut Meter,
 ) -> Option<usize>
     requires paired { IsPaired size rings.now }
     requires container { container < size }
@@ -160,10 +172,18 @@ fn if_held(
     ensures found { IfSome result (λ c. IsLink size rings.now container object c) }
     ensures another { IfNone result ((c : ℕ) → IsLink size rings.now container object c
         → cell ≢ Some c) }
+    ensures scans { meter.new.scans ≡ meter.old.scans }
 {
     match cell {
-        Some(cell) if rings.peek_head_of(0, cell) == container => Some(cell),
-        _ => None,
+        Some(cell) => {
+            let holder = rings.head_of(0, cell, meter);
+            if holder == container {
+                Some(cell)
+            } else {
+                None
+            }
+        }
+        None => None,
     }
 }
 
@@ -185,22 +205,18 @@ fn walked_link(
     ensures scans { meter.new.scans ≡ meter.old.scans }
 {
     let len = rings.len(1, object, meter);
-    let mut next = rings.peek_first(1, object);
-    for place in 0..len {
+    let mut next = rings.first(1, object, meter);
+    for _ in 0..len {
         match next {
             Some(cell) => {
-                if rings.peek_head_of(0, cell) == container {
-                    // The first link, two reads for each that was passed, and the holder of this one.
-                    meter.probe_many((place as u64).saturating_mul(2).saturating_add(2));
+                if rings.head_of(0, cell, meter) == container {
                     return Some(cell);
                 }
-                next = rings.peek_next(1, cell);
+                next = rings.next(1, cell, meter);
             }
             None => unreachable!(),
         }
     }
-    // The first link, and two reads for each that was passed.
-    meter.probe_many((len as u64).saturating_mul(2).saturating_add(1));
     None
 }
 
@@ -224,10 +240,8 @@ fn later_link(
     if rings.len(1, object, meter) < 2 {
         return None;
     }
-    let last = rings.peek_last(1, object);
-    let held = if_held(rings, size, container, object, last);
-    // The last link and its holder.
-    meter.probe_many(2);
+    let last = rings.last(1, object, meter);
+    let held = if_held(rings, size, container, object, last, meter);
     if let Some(cell) = held {
         return Some(cell);
     }
@@ -235,8 +249,7 @@ fn later_link(
 }
 
 /// The cell by which a container lists an object, if it does. Most objects have one link, and most links that go are an
-/// object's first or its last, so these are looked at before the walk over all. The first link and its holder are not
-/// counted: whoever asks counts them.
+/// object's first or its last, so these are looked at before the walk over all.
 #[inline(always)]
 pub fn find_link(
     rings: &Rings<2>,
@@ -252,8 +265,8 @@ pub fn find_link(
     ensures absent { IfNone result (Lists' size rings.now container object → ⊥) }
     ensures scans { meter.new.scans ≡ meter.old.scans }
 {
-    let first = rings.peek_first(1, object);
-    match if_held(rings, size, container, object, first) {
+    let first = rings.first(1, object, meter);
+    match if_held(rings, size, container, object, first, meter) {
         Some(cell) => Some(cell),
         None => later_link(rings, size, container, object, meter),
     }
@@ -275,12 +288,10 @@ pub fn add_link(
     ensures added { IsAdded size rings.old rings.new container object }
     ensures scans { meter.new.scans ≡ meter.old.scans }
 {
-    // The first spare cell, which is moved in two families.
-    meter.probe_many(13);
-    match rings.peek_first(0, size) {
+    match rings.first(0, size, meter) {
         Some(cell) => {
-            shift(rings, 0, container, cell);
-            shift(rings, 1, object, cell);
+            shift(rings, 0, container, cell, meter);
+            shift(rings, 1, object, cell, meter);
         }
         None => unreachable!(),
     }
@@ -289,36 +300,33 @@ pub fn add_link(
 /// Takes a link out of its container, by its cell, and then all that no path leads to any more, whose ids it lists.
 pub fn cut_link<V: Visitor>(
     rings: &mut Rings<2>,
-    size: usize,
-    root: usize,
-    names: &[u64],
-    container: usize,
-    object: usize,
-    cell: usize,
+    pool: Pool,
+    link: Link,
     dead: &mut Vec<ObjectId>,
     visitor: &mut V,
     meter: &mut Meter,
 )
     ghost rank: { ℕ → ℕ }
-    requires fits { size + 2 < 2 ^ 64 }
-    requires names { length names.now ≡ size }
-    requires sound { IsSound size root rings.old }
-    requires calm { (o : ℕ) → IsDying size rings.old o → ⊥ }
-    requires tree { IsTree size rings.old rank }
-    requires simple { IsSimple size rings.old }
-    requires full { sum_by length (family_at rings.old 0).lists ≡ size }
-    requires link { IsLink size rings.old container object cell }
+    requires fits { pool.size + 2 < 2 ^ 64 }
+    requires names { length pool.names.now ≡ pool.size }
+    requires sound { IsSound pool.size pool.root rings.old }
+    requires calm { (o : ℕ) → IsDying pool.size rings.old o → ⊥ }
+    requires tree { IsTree pool.size rings.old rank }
+    requires simple { IsSimple pool.size rings.old }
+    requires full { sum_by length (family_at rings.old 0).lists ≡ pool.size }
+    requires link { IsLink pool.size rings.old link.container link.object link.cell }
     requires none { dead.old.items ≡ [] }
-    requires room { size ≤ vec_capacity dead.old }
+    requires room { pool.size ≤ vec_capacity dead.old }
     ensures cut { (links : _) × (objects : _)
-        × IsCut size root rings.old rings.new container object links objects
+        × IsCut pool.entry.size pool.entry.root rings.old rings.new link.container link.object links objects
         × IsTold V.link_gives V.object_gives visitor.old visitor.new
-        (named names.now ((container, object) ∷ links)) (named_one names.now objects)
-        × (dead.new.items ≡ object_ids (named_one names.now objects)) }
+        (named pool.entry.names.now ((link.container, link.object) ∷ links))
+        (named_one pool.entry.names.now objects)
+        × (dead.new.items ≡ object_ids (named_one pool.entry.names.now objects)) }
     ensures room { vec_capacity dead.new ≡ vec_capacity dead.old }
     ensures scans { meter.new.scans ≡ meter.old.scans }
 {
-    drop_link(rings, size, object, cell, meter);
-    hand_link(visitor, names, container, object);
-    sweep(rings, size, root, names, dead, visitor, meter);
+    drop_link(rings, pool.size, link.object, link.cell, meter);
+    hand_link(visitor, pool.names, link.container, link.object);
+    sweep(rings, pool, dead, visitor, meter);
 }

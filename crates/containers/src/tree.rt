@@ -8,7 +8,7 @@ ghost use Rattle.base.specs.Counts.{probed, ProbesAtMost};
 ghost use Rattle.object_arena.specs.Objects.{binary_digits};
 ghost use Rattle.base.specs.Live.{has, links};
 
-use crate::cells::{add_link, cut_link, find_link, spare_rings};
+use crate::cells::{Link, Pool, add_link, cut_link, find_link, spare_rings};
 use crate::visitor::{Located, Visitor};
 use crate::windows::fill_window;
 use base::{Meter, NoMemory, ObjectId, Slot};
@@ -120,14 +120,31 @@ impl<T: Drop> Containers<T> {
         self.arena.find(id, meter)
     }
 
-    /// The slot of an id by its hint; none where no hint is of it, though an object may have it. Counts nothing: whoever
-    /// looks several ids up counts a probe for each at once.
+    /// The slot of an id by its hint; none where no hint is of it, though an object may have it. One probe.
     #[inline(always)]
-    pub fn peek(&self, id: ObjectId) -> Option<Slot>
+    pub fn peek(&self, id: ObjectId, meter: &mut Meter) -> Option<Slot>
         ensures found { IfSome result (λ slot. HasSlot self.now id slot.0) }
         ensures there { IfSome result (λ slot. IsSome (record_at self.now slot.0)) }
+        ensures counted { meter.new ≡ probed 1 meter.old }
     {
-        self.arena.peek(id)
+        self.arena.peek(id, meter)
+    }
+
+    /// The slots of three ids by their hints; none where no hint is of one of them. Three probes.
+    #[inline(always)]
+    pub fn peek_three(
+        &self,
+        one: ObjectId,
+        two: ObjectId,
+        three: ObjectId,
+        meter: &mut Meter,
+    ) -> Option<(Slot, Slot, Slot)>
+        ensures one { IfSome result (λ slots. HasSlot self.now one slots.0.0) }
+        ensures two { IfSome result (λ slots. HasSlot self.now two slots.1.0) }
+        ensures three { IfSome result (λ slots. HasSlot self.now three slots.2.0) }
+        ensures counted { meter.new ≡ probed 3 meter.old }
+    {
+        self.arena.peek_three(one, two, three, meter)
     }
 
     /// The record in a slot that has one.
@@ -196,15 +213,14 @@ impl<T: Drop> Containers<T> {
         ensures scans { meter.new.scans ≡ meter.old.scans }
     {
         match self.arena.find(container, meter) {
-            Some(d) => fill_window(
-                &self.rings,
-                self.size,
-                &self.names,
-                d.0,
-                from,
-                window,
-                meter,
-            ),
+            Some(d) => {
+                let pool = Pool {
+                    size: self.size,
+                    root: self.root,
+                    names: &self.names,
+                };
+                fill_window(&self.rings, pool, d.0, from, window, meter)
+            }
             None => unreachable!(),
         }
     }
@@ -216,19 +232,14 @@ impl<T: Drop> Containers<T> {
     {
         match self.arena.find(container, meter) {
             Some(d) => match self.arena.find(object, meter) {
-                Some(o) => {
-                    // The first link to the object, and its holder.
-                    meter.probe_many(2);
-                    find_link(&self.rings, self.size, d.0, o.0, meter).is_some()
-                }
+                Some(o) => find_link(&self.rings, self.size, d.0, o.0, meter).is_some(),
                 None => false,
             },
             None => false,
         }
     }
 
-    /// Whether a container lists an object, where both were found: no id is looked up. The two cells of the first link, which
-    /// tells most often, are not counted: whoever asks counts them.
+    /// Whether a container lists an object, where both were found: no id is looked up.
     #[inline(always)]
     pub fn is_linked(&self, container: Located, object: Located, meter: &mut Meter) -> bool
         requires container { HasSlot self.now container.id container.slot.0 }
@@ -413,23 +424,19 @@ impl<T: Drop> Containers<T> {
         ensures scans { meter.new.scans ≡ meter.old.scans }
     {
         let (d, o) = (container.slot.0, object.slot.0);
-        let found = find_link(&self.rings, self.size, d, o, meter);
-        // The first link to the object, and its holder.
-        meter.probe_many(2);
-        match found {
+        match find_link(&self.rings, self.size, d, o, meter) {
             Some(cell) => {
-                cut_link(
-                    &mut self.rings,
-                    self.size,
-                    self.root,
-                    &self.names,
-                    d,
-                    o,
+                let pool = Pool {
+                    size: self.size,
+                    root: self.root,
+                    names: &self.names,
+                };
+                let link = Link {
+                    container: d,
+                    object: o,
                     cell,
-                    &mut self.dead,
-                    visitor,
-                    meter,
-                );
+                };
+                cut_link(&mut self.rings, pool, link, &mut self.dead, visitor, meter);
                 self.arena.remove_all(&self.dead, meter);
                 self.dead.clear();
                 true

@@ -1,7 +1,8 @@
 //! Who is told of what goes.
+ghost use Rattle.std.specs.Prelude.{◌≡◌};
 ghost use Rattle.containers.specs.declared.visitor.Located.{Located};
 
-use base::{ObjectId, Slot};
+use base::{Meter, ObjectId, Slot};
 
 /// Where an object lies: its id and its slot.
 #[derive(Clone, Copy, PartialEq, Eq, Debug)]
@@ -23,7 +24,8 @@ pub trait Visitor {
     fn link(&mut self, container: Located, object: Located)
         ensures { link_gives self.old container object self.new };
 
-    /// An object went, and listed nothing any more.
-    fn object(&mut self, object: Located)
-        ensures { object_gives self.old object self.new };
+    /// An object went, and listed nothing any more. What cells are read then is counted, and no label is scanned.
+    fn object(&mut self, object: Located, meter: &mut Meter)
+        ensures gives { object_gives self.old object self.new }
+        ensures scans { meter.new.scans ≡ meter.old.scans };
 }

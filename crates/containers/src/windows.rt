@@ -5,6 +5,7 @@ ghost use Rattle.entry_lists.specs.Lists.{family_at, cells_at};
 ghost use Rattle.containers.specs.Cells.{IsPaired};
 ghost use Rattle.containers.specs.View.{ids_of};
 
+use crate::cells::Pool;
 use base::{Meter, ObjectId};
 use entry_lists::Rings;
 
@@ -17,15 +18,13 @@ fn cell_at(rings: &Rings<2>, slot: usize, from: usize, meter: &mut Meter) -> Opt
     if rings.len(0, slot, meter) <= from {
         return None;
     }
-    let mut next = rings.peek_first(0, slot);
+    let mut next = rings.first(0, slot, meter);
     for _ in 0..from {
         match next {
-            Some(cell) => next = rings.peek_next(0, cell),
+            Some(cell) => next = rings.next(0, cell, meter),
             None => unreachable!(),
         }
     }
-    // The first cell, and one read for each that was passed.
-    meter.probe_many(from as u64 + 1);
     next
 }
 
@@ -33,38 +32,35 @@ fn cell_at(rings: &Rings<2>, slot: usize, from: usize, meter: &mut Meter) -> Opt
 /// of the window stays.
 pub fn fill_window(
     rings: &Rings<2>,
-    size: usize,
-    names: &[u64],
+    pool: Pool,
     slot: usize,
     from: usize,
     window: &mut [ObjectId],
     meter: &mut Meter,
 ) -> usize
-    requires paired { IsPaired size rings.now }
-    requires slot { slot < size }
-    requires names { length names.now ≡ size }
+    requires paired { IsPaired pool.size rings.now }
+    requires slot { slot < pool.size }
+    requires names { length pool.names.now ≡ pool.size }
     ensures count { result ≡ min (length window.old) (length (cells_at rings.now 0 slot) - from) }
     ensures listed { (k : ℕ) → k < result
-        → slice_index window.new k ≡ slice_index (ids_of rings.now names.now slot) (from + k) }
+        → slice_index window.new k
+        ≡ slice_index (ids_of rings.now pool.entry.names.now slot) (from + k) }
     ensures rest { (k : ℕ) → result ≤ k → slice_index window.new k ≡ slice_index window.old k }
     ensures scans { meter.new.scans ≡ meter.old.scans }
 {
-    // For the proof alone: the loop's invariant names the size.
-    let _size = size;
+    let names = pool.names;
     let mut next = cell_at(rings, slot, from, meter);
     let len = rings.len(0, slot, meter);
     let count = window.len().min(len.saturating_sub(from));
     for place in 0..count {
         match next {
             Some(cell) => {
-                let object = rings.peek_head_of(1, cell);
+                let object = rings.head_of(1, cell, meter);
                 window[place] = ObjectId::new(names[object]);
-                next = rings.peek_next(0, cell);
+                next = rings.next(0, cell, meter);
             }
             None => unreachable!(),
         }
     }
-    // Two reads for each cell.
-    meter.probe_many(2 * count as u64);
     count
 }

@@ -1,7 +1,7 @@
 //! The plain twin.
 
 use crate::hierarchy::{Hierarchy, is_container};
-use base::{NoMemory, ObjectId, Slot};
+use base::{Meter, NoMemory, ObjectId, Slot};
 use containers::{Located, Visitor};
 use std::alloc::Global;
 use std::mem;
@@ -86,12 +86,13 @@ impl Twin {
                 visitor.link(place(link.container), place(link.object));
             }
         }
+        let mut meter = Meter::new(self.alloc)?;
         let mut ids = Vec::new(self.alloc);
         for id in &self.ids {
             if live.contains(id) {
                 ids.push(*id)?;
             } else {
-                visitor.object(place(*id));
+                visitor.object(place(*id), &mut meter);
             }
         }
         self.links = links;

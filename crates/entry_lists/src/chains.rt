@@ -52,6 +52,13 @@ fn each_below(alloc: Global, len: usize) -> Result<Vec<usize>, NoMemory>
     Ok(v)
 }
 
+// A cell, and the head of the list at whose end it is put.
+#[derive(Clone, Copy)]
+struct Put {
+    head: usize,
+    cell: usize,
+}
+
 // Puts a cell that stands in no list at the end of a head's list, by the nodes alone.
 #[inline(always)]
 fn put_last(
@@ -60,18 +67,18 @@ fn put_last(
     prev: &mut [usize],
     heads: &mut [usize],
     lens: &mut [usize],
-    head: usize,
-    cell: usize,
+    put: Put,
 )
     ghost lists: { List (List ℕ) }
     requires laid { IsLaidOut cells next.old prev.old heads.old lens.old lists }
-    requires head { head < length lists }
-    requires cell { cell < cells }
-    requires free { (other place : ℕ) → StandsAt (slice_index_or lists other []) place cell → ⊥ }
-    requires last { slice_index prev.old (cells + head) < length next.old }
+    requires head { put.head < length lists }
+    requires cell { put.cell < cells }
+    requires free { (other place : ℕ) → StandsAt (slice_index_or lists other []) place put.cell → ⊥ }
+    requires last { slice_index prev.old (cells + put.head) < length next.old }
     ensures { IsLaidOut cells next.new prev.new heads.new lens.new
-        (slice_set lists head (slice_index_or lists head [] ++ cell ∷ [])) }
+        (slice_set lists put.head (slice_index_or lists put.head [] ++ put.cell ∷ [])) }
 {
+    let Put { head, cell } = put;
     let sentinel = cells + head;
     let last = prev[sentinel];
     let len = lens[head];
@@ -120,18 +127,19 @@ fn shift(
     prev: &mut [usize],
     heads: &mut [usize],
     lens: &mut [usize],
-    to: usize,
-    cell: usize,
+    put: Put,
 )
     ghost lists: { List (List ℕ) }
     requires laid { IsLaidOut cells next.old prev.old heads.old lens.old lists }
-    requires to { to < length lists }
-    requires linked { (head : ℕ) × (place : ℕ) × StandsAt (slice_index_or lists head []) place cell }
-    ensures { (head place : ℕ) → StandsAt (slice_index_or lists head []) place cell
-        → IsLaidOut cells next.new prev.new heads.new lens.new (shifted lists head place to cell) }
+    requires to { put.head < length lists }
+    requires linked { (head : ℕ) × (place : ℕ)
+        × StandsAt (slice_index_or lists head []) place put.cell }
+    ensures { (head place : ℕ) → StandsAt (slice_index_or lists head []) place put.cell
+        → IsLaidOut cells next.new prev.new heads.new lens.new
+        (shifted lists head place put.head put.cell) }
 {
-    take_out(cells, next, prev, heads, lens, cell);
-    put_last(cells, next, prev, heads, lens, to, cell);
+    take_out(cells, next, prev, heads, lens, put.cell);
+    put_last(cells, next, prev, heads, lens, put);
 }
 
 impl Chains {
@@ -156,9 +164,8 @@ impl Chains {
         })
     }
 
-    /// The first cell of a head's list, none where the list is empty. Counts nothing: whoever walks adds up what it
-    /// reads at once.
-    pub fn peek_first(&self, head: usize) -> Option<usize>
+    // The first cell of a head's list, none where the list is empty. Whoever asks counts it.
+    fn peek_first(&self, head: usize) -> Option<usize>
         requires { head < length self.now.lists }
         ensures value { result ≡ slice_get (list_at self.now head) 0 }
     {
@@ -176,8 +183,8 @@ impl Chains {
         self.peek_first(head)
     }
 
-    /// The last cell of a head's list, none where the list is empty. Counts nothing: whoever looks counts what it reads.
-    pub fn peek_last(&self, head: usize) -> Option<usize>
+    // The last cell of a head's list, none where the list is empty. Whoever asks counts it.
+    fn peek_last(&self, head: usize) -> Option<usize>
         requires { head < length self.now.lists }
         ensures value { result
             ≡ slice_get (list_at self.now head) (length (list_at self.now head) - 1) }
@@ -186,9 +193,19 @@ impl Chains {
         if node < self.cells { Some(node) } else { None }
     }
 
-    /// The cell after a cell that stands in a list, none where it is the last. Counts nothing: whoever walks adds up
-    /// what it reads at once.
-    pub fn peek_next(&self, cell: usize) -> Option<usize>
+    /// The last cell of a head's list, none where the list is empty.
+    pub fn last(&self, head: usize, meter: &mut Meter) -> Option<usize>
+        requires { head < length self.now.lists }
+        ensures value { result
+            ≡ slice_get (list_at self.now head) (length (list_at self.now head) - 1) }
+        ensures counted { meter.new ≡ probed 1 meter.old }
+    {
+        meter.probe();
+        self.peek_last(head)
+    }
+
+    // The cell after a cell that stands in a list, none where it is the last. Whoever asks counts it.
+    fn peek_next(&self, cell: usize) -> Option<usize>
         requires { IsLinked self.now cell }
         ensures value { (head place : ℕ) → StandsAt (list_at self.now head) place cell
             → result ≡ slice_get (list_at self.now head) (place + 1) }
@@ -219,8 +236,8 @@ impl Chains {
         self.lens[head]
     }
 
-    /// The head in whose list a cell stands. Counts nothing: whoever walks adds up what it reads at once.
-    pub fn peek_head_of(&self, cell: usize) -> usize
+    // The head in whose list a cell stands. Whoever asks counts it.
+    fn peek_head_of(&self, cell: usize) -> usize
         requires { IsLinked self.now cell }
         ensures value { (head place : ℕ) → StandsAt (list_at self.now head) place cell
             → result ≡ head }
@@ -258,8 +275,7 @@ impl Chains {
             &mut self.prev,
             &mut self.heads,
             &mut self.lens,
-            head,
-            cell,
+            Put { head, cell },
         );
     }
 
@@ -284,24 +300,24 @@ impl Chains {
         );
     }
 
-    /// Takes a cell out of its list and puts it at the end of a head's list, which may be the same. Counts
-    /// nothing: whoever moves cells adds up what is read at once, six a cell.
-    pub fn shift(&mut self, to: usize, cell: usize)
+    /// Takes a cell out of its list and puts it at the end of a head's list, which may be the same.
+    pub fn shift(&mut self, to: usize, cell: usize, meter: &mut Meter)
         requires to { to < length self.old.lists }
         requires linked { IsLinked self.old cell }
         ensures shifted { (head place : ℕ) → StandsAt (list_at self.old head) place cell
             → self.new ≡ shifted_lists self.old head place to cell }
         ensures was_well_formed { IsWellFormed self.old }
         ensures well_formed { IsWellFormed self.new }
+        ensures counted { meter.new ≡ probed 6 meter.old }
     {
+        meter.probe_many(6);
         shift(
             self.cells,
             &mut self.next,
             &mut self.prev,
             &mut self.heads,
             &mut self.lens,
-            to,
-            cell,
+            Put { head: to, cell },
         );
     }
 }

@@ -49,16 +49,6 @@ impl<const FAMILIES: usize> Rings<FAMILIES> {
         Ok(Rings { families })
     }
 
-    /// The first cell of a head's list, none where the list is empty. Counts nothing: whoever walks adds up what it
-    /// reads at once.
-    pub fn peek_first(&self, family: usize, head: usize) -> Option<usize>
-        requires family { family < FAMILIES }
-        requires head { head < length (family_at self.now family).lists }
-        ensures value { result ≡ slice_get (cells_at self.now family head) 0 }
-    {
-        self.families[family].peek_first(head)
-    }
-
     /// The first cell of a head's list, none where the list is empty. One probe.
     pub fn first(&self, family: usize, head: usize, meter: &mut Meter) -> Option<usize>
         requires family { family < FAMILIES }
@@ -69,25 +59,15 @@ impl<const FAMILIES: usize> Rings<FAMILIES> {
         self.families[family].first(head, meter)
     }
 
-    /// The last cell of a head's list, none where the list is empty. Counts nothing: whoever looks counts what it reads.
-    pub fn peek_last(&self, family: usize, head: usize) -> Option<usize>
+    /// The last cell of a head's list, none where the list is empty. One probe.
+    pub fn last(&self, family: usize, head: usize, meter: &mut Meter) -> Option<usize>
         requires family { family < FAMILIES }
         requires head { head < length (family_at self.now family).lists }
         ensures value { result
             ≡ slice_get (cells_at self.now family head) (length (cells_at self.now family head) - 1) }
+        ensures counted { meter.new ≡ probed 1 meter.old }
     {
-        self.families[family].peek_last(head)
-    }
-
-    /// The cell after a cell that stands in a list of the family, none where it is the last. Counts nothing: whoever
-    /// walks adds up what it reads at once.
-    pub fn peek_next(&self, family: usize, cell: usize) -> Option<usize>
-        requires family { family < FAMILIES }
-        requires linked { IsLinked (family_at self.now family) cell }
-        ensures value { (head place : ℕ) → StandsAt (cells_at self.now family head) place cell
-            → result ≡ slice_get (cells_at self.now family head) (place + 1) }
-    {
-        self.families[family].peek_next(cell)
+        self.families[family].last(head, meter)
     }
 
     /// The cell after a cell that stands in a list of the family, none where it is the last. One probe.
@@ -111,17 +91,6 @@ impl<const FAMILIES: usize> Rings<FAMILIES> {
         ensures well_formed { IsWellFormed (family_at self.now family) }
     {
         self.families[family].len(head, meter)
-    }
-
-    /// The head in whose list of the family a cell stands. Counts nothing: whoever walks adds up what it reads at once.
-    pub fn peek_head_of(&self, family: usize, cell: usize) -> usize
-        requires family { family < FAMILIES }
-        requires linked { IsLinked (family_at self.now family) cell }
-        ensures value { (head place : ℕ) → StandsAt (cells_at self.now family head) place cell
-            → result ≡ head }
-        ensures within { result < length (family_at self.now family).lists }
-    {
-        self.families[family].peek_head_of(cell)
     }
 
     /// The head in whose list of the family a cell stands. One probe.
@@ -172,9 +141,8 @@ impl<const FAMILIES: usize> Rings<FAMILIES> {
     }
 
     /// Takes a cell out of its list of the family and puts it at the end of a head's list, which may be the same; the order
-    /// of the others stays, and so do all other lists. Counts nothing: whoever moves cells adds up what is read at once, six a
-    /// cell.
-    pub fn shift(&mut self, family: usize, to: usize, cell: usize)
+    /// of the others stays, and so do all other lists. Six probes.
+    pub fn shift(&mut self, family: usize, to: usize, cell: usize, meter: &mut Meter)
         requires family { family < FAMILIES }
         requires to { to < length (family_at self.old family).lists }
         requires linked { IsLinked (family_at self.old family) cell }
@@ -184,8 +152,9 @@ impl<const FAMILIES: usize> Rings<FAMILIES> {
         ensures families { length self.old ≡ FAMILIES }
         ensures was_well_formed { IsWellFormed (family_at self.old family) }
         ensures well_formed { IsWellFormed (family_at self.new family) }
+        ensures counted { meter.new ≡ probed 6 meter.old }
     {
         let lists = &mut self.families[family];
-        lists.shift(to, cell);
+        lists.shift(to, cell, meter);
     }
 }

@@ -4,24 +4,13 @@ use Rattle.std.proofs.Common.{◌∙◌, ap}
 use Rattle.std.proofs.lemmas.Bool.{both_ways}
 use Rattle.base.specs.declared.refusals.Refusal.{Refusal}
 use Rattle.kernel_rules.specs.State.{State}
-use Rattle.kernel_rules.specs.Table.{refused, query_refused}
+use Rattle.kernel_rules.specs.Table.{refused}
 use Rattle.kernel_rules.specs.Step.{answer, accepted, next, edit, restricted, or_refused, or_same}
-use Rattle.kernel_rules.specs.Step.{query_answer, found}
 use Rattle.kernel_rules.specs.WellFormed.{is_well_formed}
 use Rattle.kernel_rules.specs.declared.calls.Call.{Call}
-use Rattle.kernel_rules.specs.declared.calls.Query.{Query}
 use Rattle.kernel_rules.specs.declared.replies.Reply.TheVariants.{Refused}
 use Rattle.kernel_rules.proofs.RecordLaws.{restricted_live}
 use Rattle.kernel_rules.proofs.WellFormedLaws.{soundness_of}
-
-pub ask_refused : (s : State) (t : ℕ) (q : Query) (r : Refusal) → query_refused s t q ≡ Some r
-    → query_answer s t q ≡ Refused r
-unfolding query_answer
-ask_refused s t q r h = ap (λ o. or_refused o (found s t q)) h
-
-pub ask_found : (s : State) (t : ℕ) (q : Query) → query_refused s t q ≡ None → query_answer s t q ≡ found s t q
-unfolding query_answer
-ask_found s t q h = ap (λ o. or_refused o (found s t q)) h
 
 pub step_refused : (s : State) (t : ℕ) (c : Call) (r : Refusal) → refused s t c ≡ Some r
     → (answer s t c ≡ Refused r) × (next s t c ≡ s)

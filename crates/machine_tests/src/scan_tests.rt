@@ -76,16 +76,16 @@ fn a_refused_read_scans_none(rt: HostRuntime) -> Result<(), Fail> {
     Ok(())
 }
 
-// A create looks for a link from the container to itself; moves a cell of two families, which is thirteen reads; takes a frame for
-// its page; and reads the hint of what it made. The hints of what a call names count nothing.
+// A create reads three hints; looks for a link from the container to itself, which has none, by two reads; moves a cell of two
+// families, which is thirteen; takes a frame for its page; and reads the hint of what it made, and that its slot names no thread.
 #[test]
 fn a_create_counts_what_it_reads(rt: HostRuntime) -> Result<(), Fail> {
     let mut metered = Metered::boot(rt.alloc())?;
-    assert!(rt; agree(metered.probes(&new_segment(plain())), Some(16)));
+    assert!(rt; agree(metered.probes(&new_segment(plain())), Some(21)));
     Ok(())
 }
 
-// A write reads the page. The hints of what it names and the first link to the segment count nothing.
+// A write reads three hints, the first link to the segment with its container, and the page.
 #[test]
 fn a_write_counts_what_it_reads(rt: HostRuntime) -> Result<(), Fail> {
     let mut metered = Metered::boot(rt.alloc())?;
@@ -95,12 +95,13 @@ fn a_write_counts_what_it_reads(rt: HostRuntime) -> Result<(), Fail> {
         offset: 0,
         data: Data::from_slice(&[7; 4]),
     };
-    assert!(rt; agree(metered.probes(&write), Some(1)));
+    assert!(rt; agree(metered.probes(&write), Some(6)));
     Ok(())
 }
 
-// An arena of 64 slots has 512 places for hints, so the root has that of object 513, and a write to this finds each id: by
-// the hints of the thread and the container, by the hint that is not the segment's, two halves and a slot. It reads the page.
+// An arena of 64 slots has 512 places for hints, so the root has that of object 513. A write to this reads three hints, and
+// finds each id then: by the hints of the thread and the container, by the hint that is not the segment's, two halves and a slot.
+// It reads the first link to the segment with its container, and the page.
 #[test]
 fn a_write_without_a_hint_counts_more(rt: HostRuntime) -> Result<(), Fail> {
     let limits = Limits {
@@ -114,11 +115,13 @@ fn a_write_without_a_hint_counts_more(rt: HostRuntime) -> Result<(), Fail> {
         offset: 0,
         data: Data::from_slice(&[7; 4]),
     };
-    assert!(rt; agree(metered.probes(&write), Some(7)));
+    assert!(rt; agree(metered.probes(&write), Some(12)));
     Ok(())
 }
 
-// A link reads that there is no second link to the object, and moves a cell of two families, which is thirteen reads.
+// A link reads three hints for its container and three for what it names; the first link to the object with its container, once
+// for each of the two; that there is no second link; and the object's mark. It moves a cell of two families, which is thirteen
+// reads.
 #[test]
 fn a_link_counts_what_it_reads(rt: HostRuntime) -> Result<(), Fail> {
     let mut metered = Metered::boot(rt.alloc())?;
@@ -129,7 +132,7 @@ fn a_link_counts_what_it_reads(rt: HostRuntime) -> Result<(), Fail> {
         target: ObjectId::new(4),
         entry: in_root(5),
     };
-    assert!(rt; agree(metered.probes(&link), Some(14)));
+    assert!(rt; agree(metered.probes(&link), Some(25)));
     Ok(())
 }
 
@@ -143,12 +146,12 @@ fn a_read_counts_what_it_reads(rt: HostRuntime) -> Result<(), Fail> {
         offset: 0,
         count: 4,
     };
-    assert!(rt; agree(metered.probes_asked(&read), Some(1)));
+    assert!(rt; agree(metered.probes_asked(&read), Some(6)));
     Ok(())
 }
 
-// An unreference of a second link reads how many links to the object there are, the last one and its container; and nineteen
-// more to take that out of the containers.
+// An unreference of a second link reads three hints; the first link to the object with its container, how many links there are,
+// the last one and its container; the object's mark; and nineteen more to take the link out of the containers.
 #[test]
 fn an_unreference_counts_what_it_reads(rt: HostRuntime) -> Result<(), Fail> {
     let mut metered = Metered::boot(rt.alloc())?;
@@ -164,6 +167,6 @@ fn an_unreference_counts_what_it_reads(rt: HostRuntime) -> Result<(), Fail> {
         container: target,
         object: ObjectId::new(5),
     };
-    assert!(rt; agree(metered.probes(&Call::Unref { entry }), Some(22)));
+    assert!(rt; agree(metered.probes(&Call::Unref { entry }), Some(28)));
     Ok(())
 }

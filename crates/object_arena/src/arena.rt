@@ -107,10 +107,9 @@ impl<T: Drop> Arena<T> {
         ObjectId::new(self.ids[place])
     }
 
-    /// The slot of an id by its hint; none where no hint is of it, though an object may have it. Counts nothing: whoever
-    /// looks several ids up counts a probe for each at once.
+    // The slot of an id by its hint; none where no hint is of it, though an object may have it. Whoever asks counts it.
     #[inline(always)]
-    pub fn peek(&self, id: ObjectId) -> Option<Slot>
+    fn hint(&self, id: ObjectId) -> Option<Slot>
         ensures found { IfSome result (λ slot. (place : ℕ) × IsEntry self.now place id slot.0) }
         ensures there { IfSome result (λ slot. IsSome (object_at self.now slot.0)) }
     {
@@ -118,6 +117,35 @@ impl<T: Drop> Arena<T> {
             Some(slot) => Some(Slot(slot)),
             None => None,
         }
+    }
+
+    /// The slot of an id by its hint; none where no hint is of it, though an object may have it. One probe.
+    #[inline(always)]
+    pub fn peek(&self, id: ObjectId, meter: &mut Meter) -> Option<Slot>
+        ensures found { IfSome result (λ slot. (place : ℕ) × IsEntry self.now place id slot.0) }
+        ensures there { IfSome result (λ slot. IsSome (object_at self.now slot.0)) }
+        ensures counted { meter.new ≡ probed 1 meter.old }
+    {
+        meter.probe();
+        self.hint(id)
+    }
+
+    /// The slots of three ids by their hints; none where no hint is of one of them. Three probes.
+    #[inline(always)]
+    pub fn peek_three(
+        &self,
+        one: ObjectId,
+        two: ObjectId,
+        three: ObjectId,
+        meter: &mut Meter,
+    ) -> Option<(Slot, Slot, Slot)>
+        ensures one { IfSome result (λ slots. (place : ℕ) × IsEntry self.now place one slots.0.0) }
+        ensures two { IfSome result (λ slots. (place : ℕ) × IsEntry self.now place two slots.1.0) }
+        ensures three { IfSome result (λ slots. (place : ℕ) × IsEntry self.now place three slots.2.0) }
+        ensures counted { meter.new ≡ probed 3 meter.old }
+    {
+        meter.probe_many(3);
+        Some((self.hint(one)?, self.hint(two)?, self.hint(three)?))
     }
 
     // The slot that is hinted of an id, which is one probe. It is left out where a search could then take one too many.
@@ -132,8 +160,7 @@ impl<T: Drop> Arena<T> {
         if self.ids.len() >= self.hints.len() / 8 {
             return None;
         }
-        meter.probe();
-        self.peek(id)
+        self.peek(id, meter)
     }
 
     // The slot of an id, none where no object has it, looked for by halves. (Hints tell most slots, so it is kept out of

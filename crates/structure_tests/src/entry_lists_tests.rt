@@ -48,17 +48,14 @@ fn cells_stand_in_one_list_of_each_family(rt: HostRuntime) -> Result<(), Fail> {
 }
 
 #[test]
-fn a_peek_counts_nothing(rt: HostRuntime) -> Result<(), Fail> {
+fn each_end_of_a_list_is_one_probe(rt: HostRuntime) -> Result<(), Fail> {
     let mut meter = Meter::new(rt.alloc())?;
     let mut rings = Rings::<2>::new(rt.alloc(), &[2, 3], 4)?;
     link_three(&mut rings, &mut meter);
-    assert!(rt; agree(rings.peek_first(0, 1), Some(3)));
-    assert!(rt; agree(rings.peek_first(0, 0), None));
-    assert!(rt; agree(rings.peek_last(0, 1), Some(0)));
-    assert!(rt; agree(rings.peek_last(0, 0), None));
-    assert!(rt; agree(rings.peek_next(0, 3), Some(0)));
-    assert!(rt; agree(rings.peek_head_of(1, 3), 2));
-    assert!(rt; agree(meter.probes(), 6));
+    assert!(rt; agree(rings.first(0, 0, &mut meter), None));
+    assert!(rt; agree(rings.last(0, 1, &mut meter), Some(0)));
+    assert!(rt; agree(rings.last(0, 0, &mut meter), None));
+    assert!(rt; agree(meter.probes(), 9));
     Ok(())
 }
 
@@ -80,11 +77,12 @@ fn a_cell_goes_to_the_end_of_a_list(rt: HostRuntime) -> Result<(), Fail> {
     let mut meter = Meter::new(rt.alloc())?;
     let mut rings = Rings::<2>::new(rt.alloc(), &[2, 3], 4)?;
     link_three(&mut rings, &mut meter);
-    rings.shift(0, 1, 3);
-    assert!(rt; agree(rings.peek_first(0, 1), Some(0)));
-    assert!(rt; agree(rings.peek_last(0, 1), Some(3)));
-    assert!(rt; agree(rings.peek_first(1, 2), Some(3)));
-    assert!(rt; agree(meter.probes(), 6));
+    rings.shift(0, 1, 3, &mut meter);
+    assert!(rt; agree(meter.probes(), 12));
+    assert!(rt; agree(rings.first(0, 1, &mut meter), Some(0)));
+    assert!(rt; agree(rings.last(0, 1, &mut meter), Some(3)));
+    assert!(rt; agree(rings.first(1, 2, &mut meter), Some(3)));
+    assert!(rt; agree(meter.probes(), 15));
     Ok(())
 }
 

@@ -54,10 +54,13 @@ fn an_id_is_found_by_its_hint_or_by_halves(rt: HostRuntime) -> Result<(), Fail> 
     let second = arena.insert(ObjectId::new(37), 'b');
     let third = arena.insert(ObjectId::new(69), 'c');
     assert!(rt; agree(arena.find(ObjectId::new(5), &mut meter), Some(first)));
-    assert!(rt; agree(arena.peek(ObjectId::new(5)), Some(first)));
-    assert!(rt; agree(arena.peek(ObjectId::new(37)), None));
-    // A hint is one read, and a peek counts nothing.
-    assert!(rt; agree(meter.probes(), 1));
+    assert!(rt; agree(arena.peek(ObjectId::new(5), &mut meter), Some(first)));
+    assert!(rt; agree(arena.peek(ObjectId::new(37), &mut meter), None));
+    // A hint is one read.
+    assert!(rt; agree(meter.probes(), 3));
+    let five = ObjectId::new(5);
+    assert!(rt; is_true(arena.peek_three(five, five, five, &mut meter).is_some()));
+    assert!(rt; agree(meter.probes(), 6));
     assert!(rt; agree(arena.find(ObjectId::new(37), &mut meter), Some(second)));
     assert!(rt; agree(arena.find(ObjectId::new(69), &mut meter), Some(third)));
 

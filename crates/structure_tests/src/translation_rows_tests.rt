@@ -57,8 +57,9 @@ fn a_slot_that_is_cleared_shows_nothing(rt: HostRuntime) -> Result<(), Fail> {
         ObjectId::new(7),
         [Some((ObjectId::new(9), READING)); 16],
     );
-    rows.clear(Slot(2));
-    rows.clear(Slot(0));
+    rows.clear(Slot(2), &mut meter);
+    rows.clear(Slot(0), &mut meter);
+    assert!(rt; agree(meter.probes(), 2));
     assert!(rt; agree(rows.shown(Slot(2), 15, &mut meter), None));
     assert!(rt; is_true(rows.next_thread(0, &mut meter).is_none()));
     Ok(())

@@ -10,8 +10,8 @@ ghost use Rattle.syscall_core.specs.Kernel.{cut_touches, may_be_of_kind};
 use crate::kept_state::KeptState;
 use arena_state::{ArenaState, Change, Location};
 use base::{Data, Kind, Meter, ObjectId, Rights, TypeSet};
-use kernel_rules::{Entry, Gate, Ids, Mapping, Place, Thread};
-use kernel_store::{Named, Seen, Store};
+use kernel_rules::{Entry, Gate, Ids, Mapping, Thread};
+use kernel_store::{Named, Placed, Seen, Store, ThreadLabels, ThreadStart};
 use label_lattice::Label;
 use std::convert::Infallible;
 use translation_rows::Rows;
@@ -128,8 +128,8 @@ impl Store for KeptState {
     }
 
     #[inline(always)]
-    fn peek(&self, thread: ObjectId, entry: &Entry) -> Option<Named<Location>> {
-        self.state.peek_all(thread, entry)
+    fn peek(&self, thread: ObjectId, entry: &Entry, meter: &mut Meter) -> Option<Named<Location>> {
+        self.state.peek_all(thread, entry, meter)
     }
 
     #[inline(always)]
@@ -215,9 +215,9 @@ impl Store for KeptState {
     }
 
     #[inline(always)]
-    fn place(&self, thread: ObjectId, address: u64, meter: &mut Meter) -> Option<Place> {
+    fn place(&self, caller: Location, address: u64, meter: &mut Meter) -> Option<Placed<Location>> {
         self.rows.few();
-        self.state.place(thread, address, &self.rows, meter)
+        self.state.place(caller, address, &self.rows, meter)
     }
 
     fn is_shown(&self, caller: Location, at: Location, _meter: &mut Meter) -> bool {
@@ -228,12 +228,12 @@ impl Store for KeptState {
         self.state.page_count(at)
     }
 
-    fn slots(&self, at: Location) -> &[Option<Mapping>] {
-        self.state.slots(at)
+    fn slots(&self, at: Location, meter: &mut Meter) -> &[Option<Mapping>] {
+        self.state.slots(at, meter)
     }
 
-    fn slot(&self, at: Location, slot: usize) -> Option<Mapping> {
-        self.state.mapped(at, slot)
+    fn slot(&self, at: Location, slot: usize, meter: &mut Meter) -> Option<Mapping> {
+        self.state.mapped(at, slot, meter)
     }
 
     fn packets(&self, at: Location) -> &[Data] {
@@ -285,7 +285,7 @@ impl Store for KeptState {
             container: target.id,
             object: object.id,
         };
-        let is_mapped = self.state.may_map(linked.object);
+        let is_mapped = self.state.may_map(linked.object, meter);
         let kind = self.state.link(target, container, object, meter);
         if may_touch(kind, is_mapped) {
             repair_entry(&self.state, &linked, &mut self.rows, meter);
@@ -304,7 +304,7 @@ impl Store for KeptState {
             container: container.id,
             object: object.id,
         };
-        let is_mapped = self.state.may_map(entry.object);
+        let is_mapped = self.state.may_map(entry.object, meter);
         let kind = self.state.unref(container, object, meter);
         if cut_may_touch(kind, is_mapped) {
             let is_container = is_container(kind);
@@ -344,7 +344,7 @@ impl Store for KeptState {
         meter: &mut Meter,
     ) {
         let id = space.id;
-        self.state.set_slot(space, slot, mapping, meter);
+        self.state.set_slot(space, slot, mapping);
         self.state.repair(&Change::Space(id), &mut self.rows, meter);
     }
 
@@ -365,7 +365,7 @@ impl Store for KeptState {
     fn set_immutable(&mut self, at: Location, meter: &mut Meter) {
         let id = at.id;
         self.state.set_immutable(at);
-        if self.state.may_map(id) {
+        if self.state.may_map(id, meter) {
             self.state
                 .repair(&Change::Object(id), &mut self.rows, meter);
         }
@@ -403,17 +403,9 @@ impl Store for KeptState {
         self.state.remake_row(id, &mut self.rows, meter);
     }
 
-    fn enter(
-        &mut self,
-        thread: Location,
-        label: &Label,
-        clearance: &Label,
-        verify: &Label,
-        gate: &Gate,
-        meter: &mut Meter,
-    ) {
+    fn enter(&mut self, thread: Location, labels: &ThreadLabels, gate: &Gate, meter: &mut Meter) {
         let id = thread.id;
-        self.state.enter(id, label, clearance, verify, gate, meter);
+        self.state.enter(id, labels, gate, meter);
         self.state.remake_row(id, &mut self.rows, meter);
     }
 
@@ -477,13 +469,12 @@ impl Store for KeptState {
         container: Location,
         label: Option<&Label>,
         quota: u32,
-        clearance: &Label,
-        entry_point: u64,
+        start: &ThreadStart,
         meter: &mut Meter,
     ) -> Result<ObjectId, Infallible> {
         let id = self
             .state
-            .make_thread(container, label, quota, clearance, entry_point, meter);
+            .make_thread(container, label, quota, start, meter);
         self.state.remake_row(id, &mut self.rows, meter);
         Ok(id)
     }

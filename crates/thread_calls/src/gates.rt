@@ -17,9 +17,9 @@ ghost use Rattle.kernel_store.specs.Storing.{storing};
 use base::{Kind, Meter, ObjectId, Refusal};
 use kernel_rules::{Entry, Gate, NewGate, Reply};
 use kernel_store::{
-    Named, NewObject, Store, find_all, find_container, good_label, halted_at, in_container, look,
-    look_at, new_bearer, of_kind, refusal_of, refuse, space_entry, stored_label, tell_done,
-    tell_object,
+    Named, NewObject, Store, ThreadLabels, find_all, find_container, good_label, halted_at,
+    in_container, look, look_at, new_bearer, of_kind, refusal_of, refuse, space_entry,
+    stored_label, tell_done, tell_object,
 };
 use label_lattice::{Label, RawLabel};
 use label_rules::{Asked, Bearer, may_enter};
@@ -221,7 +221,12 @@ fn enter<S: Store>(
         if let Some(clearance) = &asked.clearance {
             if let Some(verify) = &asked.verify {
                 if let Some(gate) = gate {
-                    state.enter(thread, label, clearance, verify, gate, meter);
+                    let labels = ThreadLabels {
+                        label,
+                        clearance,
+                        verify,
+                    };
+                    state.enter(thread, &labels, gate, meter);
                 }
             }
         }

@@ -13,8 +13,9 @@ ghost use Rattle.kernel_store.specs.Storing.{storing};
 use base::{Kind, Meter, ObjectId, Refusal};
 use kernel_rules::{Entry, NewThread, Reply};
 use kernel_store::{
-    Named, NewObject, Store, find_all, find_container, halted, halted_at, in_container, look,
-    new_bearer, refusal_of, refuse, space_entry, stored_label, tell_done, tell_object,
+    Named, NewObject, Store, ThreadStart, find_all, find_container, halted, halted_at,
+    in_container, look, new_bearer, refusal_of, refuse, space_entry, stored_label, tell_done,
+    tell_object,
 };
 use label_lattice::Label;
 
@@ -116,14 +117,11 @@ fn create_thread_in<S: Store>(
         tell_object(state, state.next_id(), reply);
         return Ok(());
     };
-    let id = state.create_thread(
-        named.container,
-        label,
-        made.quota,
+    let start = ThreadStart {
         clearance,
-        made.entry_point,
-        meter,
-    )?;
+        entry_point: made.entry_point,
+    };
+    let id = state.create_thread(named.container, label, made.quota, &start, meter)?;
     tell_object(state, id, reply);
     Ok(())
 }

@@ -143,12 +143,14 @@ impl Rows {
     }
 
     /// A slot is no thread's, and shows nothing. All other slots stay. Nothing is written where it is
-    /// so already.
-    pub fn clear(&mut self, slot: Slot)
+    /// so already. One probe.
+    pub fn clear(&mut self, slot: Slot, meter: &mut Meter)
         requires { slot.0 < slot_count self.old }
         ensures all { self.new ≡ with_row self.old slot.0 None (replicate 16 None) }
         ensures named { thread_at self.new slot.0 ≡ None }
+        ensures counted { meter.new ≡ probed 1 meter.old }
     {
+        meter.probe();
         if self.threads[slot.0].is_some() {
             self.threads[slot.0] = None;
             self.rows[slot.0] = [None; 16];

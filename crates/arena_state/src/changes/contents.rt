@@ -15,66 +15,31 @@ use address_spaces::Spaces;
 use base::{Data, Meter, Slot};
 use kernel_rules::Mapping;
 
-// A place of an address space has this mapping, which is hooked to a segment, or none.
-fn fill(
-    spaces: &mut Spaces,
-    space: Slot,
-    place: usize,
-    mapping: Option<Mapping>,
-    segment: Slot,
-    meter: &mut Meter,
-)
-    requires space { space.0 < length spaces.old.mappings }
+// A place of an address space has this mapping, or none.
+fn fill(spaces: &mut Spaces, space: Slot, place: usize, mapping: Option<Mapping>)
+    requires space { space.0 < length spaces.old }
     requires place { place < 16 }
-    requires segment { segment.0 < length spaces.old.mappings }
-    ensures mappings { spaces.new.mappings
-        ≡ with_mapping spaces.old.mappings space.0 place mapping }
-    ensures scans { meter.new.scans ≡ meter.old.scans }
+    ensures { spaces.new ≡ with_mapping spaces.old space.0 place mapping }
 {
-    spaces.unmap(space, place, meter);
-    if let Some(mapping) = mapping {
-        spaces.map(space, place, mapping, segment, meter);
+    match mapping {
+        Some(mapping) => spaces.map(space, place, mapping),
+        None => spaces.unmap(space, place),
     }
 }
 
 impl ArenaState {
-    // The slot of the segment of a mapping, and another one where there is none.
-    fn segment_of(&self, mapping: &Option<Mapping>, otherwise: Slot, meter: &mut Meter) -> Slot
-        requires { otherwise.0 < length self.now.pieces.holdings.records.items }
-        ensures within { result.0 < length self.now.pieces.holdings.records.items }
-        ensures scans { meter.new.scans ≡ meter.old.scans }
-    {
-        match mapping {
-            Some(mapping) => match self.slot(mapping.entry.object, meter) {
-                Some(segment) => segment,
-                None => otherwise,
-            },
-            None => otherwise,
-        }
-    }
-
-    /// A slot of an address space is filled or emptied. A mapping is hooked to its segment; one that names no object
-    /// is hooked to its own space.
-    pub fn set_slot(
-        &mut self,
-        space: Location,
-        place: usize,
-        mapping: Option<Mapping>,
-        meter: &mut Meter,
-    )
+    /// A slot of an address space is filled or emptied.
+    pub fn set_slot(&mut self, space: Location, place: usize, mapping: Option<Mapping>)
         requires there { Stands self.old space }
         requires place { place < 16 }
         ensures state { state_of self.new ≡ changed (state_of self.old) space.id
             (with_body (reslot (λ slots. slice_set slots place mapping))) }
         ensures places { self.new.pieces.places ≡ self.old.pieces.places }
-        ensures scans { meter.new.scans ≡ meter.old.scans }
     {
         match self.told(space) {
             Some(slot) => {
                 if self.pieces.holdings.records[slot.0].body.is_space() {
-                    let segment = self.segment_of(&mapping, slot, meter);
-                    let spaces = &mut self.pieces.holdings.spaces;
-                    fill(spaces, slot, place, mapping, segment, meter);
+                    fill(&mut self.pieces.holdings.spaces, slot, place, mapping);
                 }
             }
             None => {}

@@ -9,25 +9,17 @@ use crate::records::{Kept, KeptThread, rebind};
 use crate::states::ArenaState;
 use base::{Meter, ObjectId};
 use kernel_rules::Gate;
-use label_lattice::Label;
+use kernel_store::ThreadLabels;
 
 impl ArenaState {
     /// A thread gets these labels, and what a gate hands on; any other object gets the label alone. It takes no memory:
     /// three indexes of labels are free for those that one call stores.
-    pub fn enter(
-        &mut self,
-        thread: ObjectId,
-        label: &Label,
-        clearance: &Label,
-        verify: &Label,
-        gate: &Gate,
-        meter: &mut Meter,
-    )
-        requires label { IsStored label.now }
-        requires clearance { IsStored clearance.now }
-        requires verify { IsStored verify.now }
+    pub fn enter(&mut self, thread: ObjectId, labels: &ThreadLabels, gate: &Gate, meter: &mut Meter)
+        requires label { IsStored labels.now.label.now }
+        requires clearance { IsStored labels.now.clearance.now }
+        requires verify { IsStored labels.now.verify.now }
         ensures state { state_of self.new ≡ changed (state_of self.old) thread
-            (entered label.now clearance.now verify.now gate.now) }
+            (entered labels.now.label.now labels.now.clearance.now labels.now.verify.now gate.now) }
         ensures scans { meter.new.scans
             ≤ meter.old.scans + storing 3 (labels_stored self.old) }
         ensures places { self.new.pieces.places ≡ self.old.pieces.places }
@@ -38,9 +30,9 @@ impl ArenaState {
                 let body = self.pieces.holdings.records[slot.0].body;
                 match body {
                     Kept::Thread(old) => {
-                        let own = self.pieces.holdings.labels.intern(label, meter);
-                        let high = self.pieces.holdings.labels.intern(clearance, meter);
-                        let shown = self.pieces.holdings.labels.intern(verify, meter);
+                        let own = self.pieces.holdings.labels.intern(labels.label, meter);
+                        let high = self.pieces.holdings.labels.intern(labels.clearance, meter);
+                        let shown = self.pieces.holdings.labels.intern(labels.verify, meter);
                         let new = KeptThread {
                             clearance: high,
                             verify: shown,
@@ -53,7 +45,7 @@ impl ArenaState {
                         self.pieces.holdings.labels.let_go(old.clearance);
                         self.pieces.holdings.labels.let_go(old.verify);
                     }
-                    _ => self.set_label(thread, label, meter),
+                    _ => self.set_label(thread, labels.label, meter),
                 }
             }
             None => {}

@@ -1,6 +1,7 @@
 //! What is read of the contents of objects: a segment's bytes, the slots of an address space, a device's packets. No
 //! label is scanned.
 ghost use Rattle.std.specs.Prelude.{◌≡◌, ◌≤◌, ◌+◌, false, length, slice_range};
+ghost use Rattle.base.specs.Counts.{probed};
 ghost use Rattle.kernel_rules.specs.State.{bytes_at, packets_at, page_count, slots_at};
 ghost use Rattle.kernel_rules.specs.Translate.{slot_at};
 ghost use Rattle.arena_state.specs.Contents.{keeps_device};
@@ -89,16 +90,18 @@ impl ArenaState {
         }
     }
 
-    /// The sixteen slots of an address space, and none for any other object.
-    pub fn slots(&self, at: Location) -> &[Option<Mapping>]
+    /// The sixteen slots of an address space, and none for any other object. At most sixteen probes.
+    pub fn slots(&self, at: Location, meter: &mut Meter) -> &[Option<Mapping>]
         requires { Stands self.now at }
         ensures value { result.now ≡ slots_at (state_of self.now) at.id }
         ensures few { length result.now ≤ 16 }
+        ensures scans { meter.new.scans ≡ meter.old.scans }
+        ensures probes { meter.new.probes ≤ meter.old.probes + 16 }
     {
         match self.told(at) {
             Some(slot) => {
                 if self.pieces.holdings.records[slot.0].body.is_space() {
-                    self.pieces.holdings.spaces.mappings(slot)
+                    self.pieces.holdings.spaces.mappings(slot, meter)
                 } else {
                     &[]
                 }
@@ -107,12 +110,14 @@ impl ArenaState {
         }
     }
 
-    /// What a slot of an address space maps, if anything.
-    pub fn mapped(&self, at: Location, place: usize) -> Option<Mapping>
+    /// What a slot of an address space maps, if anything. At most sixteen probes.
+    pub fn mapped(&self, at: Location, place: usize, meter: &mut Meter) -> Option<Mapping>
         requires { Stands self.now at }
-        ensures { result ≡ slot_at (state_of self.now) at.id place }
+        ensures value { result ≡ slot_at (state_of self.now) at.id place }
+        ensures scans { meter.new.scans ≡ meter.old.scans }
+        ensures probes { meter.new.probes ≤ meter.old.probes + 16 }
     {
-        match self.slots(at).get(place) {
+        match self.slots(at, meter).get(place) {
             None => None,
             Some(mapping) => *mapping,
         }
@@ -120,11 +125,12 @@ impl ArenaState {
 
     /// Whether an address space may map an object: where the answer is no, none does. It may be yes though none does:
     /// ids whose last binary digits are equal answer as one, and a mapping that is gone counts on. No object is looked
-    /// up.
-    pub fn may_map(&self, object: ObjectId) -> bool
-        ensures { result ≡ false → IsUnmapped (state_of self.now) object }
+    /// up. One probe.
+    pub fn may_map(&self, object: ObjectId, meter: &mut Meter) -> bool
+        ensures none { result ≡ false → IsUnmapped (state_of self.now) object }
+        ensures counted { meter.new ≡ probed 1 meter.old }
     {
-        self.pieces.holdings.spaces.may_map(object)
+        self.pieces.holdings.spaces.may_map(object, meter)
     }
 
     /// A device's packets, the first one first, and none for any other object.

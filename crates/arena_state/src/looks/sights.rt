@@ -57,7 +57,7 @@ impl ArenaState {
         }
     }
 
-    /// Whether a container's list has an object. The two cells of the first link are not counted.
+    /// Whether a container's list has an object.
     #[inline(always)]
     pub fn lists(&self, container: Location, object: Location, meter: &mut Meter) -> bool
         requires container { Stands self.now container }

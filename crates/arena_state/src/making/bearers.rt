@@ -16,6 +16,7 @@ use crate::records::{Kept, KeptGate, fresh_record, kept_thread};
 use crate::states::ArenaState;
 use base::{Level, Meter, ObjectId};
 use kernel_rules::Gate;
+use kernel_store::ThreadStart;
 use label_lattice::Label;
 
 impl ArenaState {
@@ -26,17 +27,17 @@ impl ArenaState {
         container: Location,
         label: &Label,
         quota: u32,
-        clearance: &Label,
-        entry_point: u64,
+        start: &ThreadStart,
         meter: &mut Meter,
     ) -> ObjectId
         requires there { Stands self.old container }
         requires fitting { IsFitting (state_of self.old) container.id quota
-            (new_thread clearance.now entry_point) }
+            (new_thread start.now.clearance.now start.now.entry_point) }
         requires label { IsStored label.now }
         ensures id { result ≡ (state_of self.old).next_id }
         ensures state { state_of self.new ≡ made (state_of self.old) container.id
-            (fresh_object label.now quota (new_thread clearance.now entry_point)) }
+            (fresh_object label.now quota
+            (new_thread start.now.clearance.now start.now.entry_point)) }
         ensures scans { meter.new.scans
             ≤ meter.old.scans + storing 3 (labels_stored self.old) }
         ensures slots { KeepsSlots self.old self.new (state_of self.old).next_id }
@@ -46,9 +47,9 @@ impl ArenaState {
             Some(parent) => {
                 let top = uniform(Level::L3, meter);
                 let label = self.pieces.holdings.labels.intern(label, meter);
-                let clearance = self.pieces.holdings.labels.intern(clearance, meter);
+                let clearance = self.pieces.holdings.labels.intern(start.clearance, meter);
                 let verify = self.pieces.holdings.labels.intern(&top, meter);
-                let thread = kept_thread(clearance, verify, entry_point);
+                let thread = kept_thread(clearance, verify, start.entry_point);
                 let given = fresh_record(label, quota, Kept::Thread(thread));
                 place(&mut self.pieces, id, parent, given, meter).id
             }

@@ -15,6 +15,7 @@ use crate::locations::Location;
 use crate::states::ArenaState;
 use base::{Meter, ObjectId, TypeSet};
 use kernel_rules::Gate;
+use kernel_store::ThreadStart;
 use label_lattice::Label;
 
 impl ArenaState {
@@ -128,25 +129,22 @@ impl ArenaState {
         container: Location,
         label: Option<&Label>,
         quota: u32,
-        clearance: &Label,
-        entry_point: u64,
+        start: &ThreadStart,
         meter: &mut Meter,
     ) -> ObjectId
         requires there { Stands self.old container }
         requires fitting { IsFitting (state_of self.old) container.id quota
-            (new_thread clearance.now entry_point) }
+            (new_thread start.now.clearance.now start.now.entry_point) }
         requires label { IfSome (option_copied label) IsStored }
         ensures id { result ≡ (state_of self.old).next_id }
         ensures state { state_of self.new ≡ made_of (state_of self.old) container.id (option_copied label.entry) quota
-            (new_thread clearance.now entry_point) }
+            (new_thread start.now.clearance.now start.now.entry_point) }
         ensures scans { meter.new.scans
             ≤ meter.old.scans + storing 3 (labels_stored self.old) }
         ensures slots { KeepsSlots self.old self.new (state_of self.old).next_id }
     {
         match label {
-            Some(label) => {
-                self.create_thread(container, label, quota, clearance, entry_point, meter)
-            }
+            Some(label) => self.create_thread(container, label, quota, start, meter),
             None => self.next_id(),
         }
     }

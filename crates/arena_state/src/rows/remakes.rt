@@ -1,16 +1,17 @@
 //! Rows of translation that are remade: what the sixteen slots of an object's address space show,
 //! recomputed by what a thread sees of entries. No label is scanned.
 ghost use Rattle.std.specs.Prelude.{◌≡◌, ℕ, ◌<◌, ◌≤◌, true, not, ◌&&◌, Some, None};
-ghost use Rattle.std.specs.Prelude.{slice_get, slice_index_or, IfOk};
+ghost use Rattle.std.specs.Prelude.{slice_get, slice_index_or, option_copied, IfOk};
 ghost use Rattle.containers.specs.Tree.{HasSlot};
 ghost use Rattle.kernel_rules.specs.Translate.{names_none, opens, own_space, slot_in};
 ghost use Rattle.kernel_rules.specs.Translate.{through, through_space};
 ghost use Rattle.kernel_store.specs.Sights.{seen_of};
 ghost use Rattle.translation_rows.specs.Rows.{slot_count, thread_at, with_row};
-ghost use Rattle.arena_state.specs.Shown.{AreKept, IsRow, SameAt, Tells};
-ghost use Rattle.arena_state.specs.States.{state_of};
+ghost use Rattle.arena_state.specs.Shown.{named_space, AreKept, IsRow, SameAt, Tells};
+ghost use Rattle.arena_state.specs.States.{state_of, Finds};
 
 use crate::locations::Location;
+use crate::records::Record;
 use crate::states::ArenaState;
 use base::{Kind, Meter, NoMemory, ObjectId, Rights, Slot};
 use kernel_rules::{Entry, Mapping};
@@ -113,7 +114,7 @@ impl ArenaState {
         ensures scans { meter.new.scans ≡ meter.old.scans }
     {
         let at = self.find(space.object, meter);
-        let slots = self.slots(at);
+        let slots = self.slots(at, meter);
         let mut row = [None; 16];
         for place in 0..16 {
             row[place] = self.through(thread, &mapping_in(slots, place), meter);
@@ -139,6 +140,17 @@ impl ArenaState {
         }
     }
 
+    // The entry of a thread's address space by the record that was found, where it names one; none for any other object.
+    fn named_space_in(&self, thread: ObjectId, found: Option<&Record>) -> Option<Entry>
+        requires { Finds self.now thread (option_copied found) }
+        ensures { result ≡ named_space (own_space (state_of self.now) thread) }
+    {
+        match self.space_in(thread, found) {
+            Some(space) => { if is_named(&space) { Some(space) } else { None } }
+            None => None,
+        }
+    }
+
     // The slot of a thread whose address space has this entry is the thread's, and its row says what its slots show. All
     // other slots stay. (In a function of its own, since a row is large: each value that a function makes is set to zero
     // where the function begins, be it needed or not.)
@@ -156,7 +168,7 @@ impl ArenaState {
     }
 
     /// The row of an object, if there is such an object, says what its slots show, and its slot
-    /// names it if it is a thread. All other slots stay.
+    /// names it if it is a thread in an address space. All other slots stay.
     #[inline(always)]
     pub fn remake_row(&self, thread: ObjectId, rows: &mut Rows, meter: &mut Meter)
         requires { slot_count rows.old ≡ (state_of self.now).limits.pages }
@@ -173,9 +185,9 @@ impl ArenaState {
                     id: thread,
                     slot: Some(slot),
                 };
-                match self.space_in(thread, self.record(at)) {
+                match self.named_space_in(thread, self.record(at)) {
                     Some(space) => self.show(slot, thread, &space, rows, meter),
-                    None => rows.clear(slot),
+                    None => rows.clear(slot, meter),
                 }
             }
             None => {}

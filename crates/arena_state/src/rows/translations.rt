@@ -1,18 +1,21 @@
 //! What a thread's address space shows, and where an address lies, by the row that is kept for the
 //! thread. No label is looked at.
-ghost use Rattle.std.specs.Prelude.{◌≡◌, ◌≤◌, ◌<◌, ◌+◌, ◌*◌, ◌/◌, [], true, length, option_copied};
+ghost use Rattle.std.specs.Prelude.{◌≡◌, ◌≤◌, ◌<◌, ◌+◌, ◌*◌, ◌/◌, [], true, length, IfSome, option_copied, option_map};
 ghost use Rattle.containers.specs.Tree.{HasSlot};
 ghost use Rattle.kernel_rules.specs.Translate.{translate, own_space, slots_through};
 ghost use Rattle.kernel_rules.specs.Translate.{covers, place_at, place_by, place_among, place_of};
+ghost use Rattle.kernel_store.specs.Locations.{place_in};
+ghost use Rattle.arena_state.specs.declared.locations.Location.{Location};
 ghost use Rattle.arena_state.specs.Shown.{AreKept};
-ghost use Rattle.arena_state.specs.States.{state_of, find_cost, Finds};
+ghost use Rattle.arena_state.specs.States.{state_of, find_cost, Finds, Stands};
 
 use crate::locations::Location;
 use crate::records::{Kept, Record};
 use crate::states::ArenaState;
 use base::{Meter, ObjectId, Rights};
 use containers::Located;
-use kernel_rules::{Entry, Mapping, Place};
+use kernel_rules::{Entry, Mapping};
+use kernel_store::Placed;
 use translation_rows::Rows;
 
 // Whether a mapping covers a virtual page.
@@ -75,17 +78,20 @@ impl ArenaState {
         page: u64,
         shown: (ObjectId, Rights),
         meter: &mut Meter,
-    ) -> Option<Place>
-        ensures value { result ≡ place_at (state_of self.now) address page shown }
+    ) -> Option<Placed<Location>>
+        ensures value { option_map (place_in (λ (l : Location). l.id)) result
+            ≡ place_at (state_of self.now) address page shown }
+        ensures segment { IfSome result (λ p. Stands self.now p.segment) }
         ensures scans { meter.new.scans ≡ meter.old.scans }
         ensures probes { meter.new.probes ≤ meter.old.probes + find_cost self.now }
     {
-        let segment = self.find(shown.0, meter);
-        if page < u64::from(self.page_count(segment)) {
-            Some(Place {
-                segment: shown.0,
+        let (id, rights) = shown;
+        let slot = self.slot(id, meter);
+        if page < u64::from(self.page_count(Location { id, slot })) {
+            Some(Placed {
+                segment: Location { id, slot },
                 offset: 256 * page + address % 256,
-                rights: shown.1,
+                rights,
             })
         } else {
             None
@@ -100,9 +106,11 @@ impl ArenaState {
         mapping: &Option<Mapping>,
         shown: Option<(ObjectId, Rights)>,
         meter: &mut Meter,
-    ) -> Option<Place>
+    ) -> Option<Placed<Location>>
         requires { covers (address / 256) mapping.now ≡ true }
-        ensures value { result ≡ place_by (state_of self.now) address mapping.now shown }
+        ensures value { option_map (place_in (λ (l : Location). l.id)) result
+            ≡ place_by (state_of self.now) address mapping.now shown }
+        ensures segment { IfSome result (λ p. Stands self.now p.segment) }
         ensures scans { meter.new.scans ≡ meter.old.scans }
         ensures probes { meter.new.probes ≤ meter.old.probes + find_cost self.now }
     {
@@ -127,11 +135,13 @@ impl ArenaState {
         slots: &[Option<Mapping>],
         rows: &Rows,
         meter: &mut Meter,
-    ) -> Option<Place>
+    ) -> Option<Placed<Location>>
         requires thread { HasSlot self.now.pieces.places thread.id thread.slot.0 }
         requires rows { AreKept self.now rows.now }
         requires few { length slots.now ≤ 16 }
-        ensures value { result ≡ place_among (state_of self.now) thread.id address 0 slots.now }
+        ensures value { option_map (place_in (λ (l : Location). l.id)) result
+            ≡ place_among (state_of self.now) thread.id address 0 slots.now }
+        ensures segment { IfSome result (λ p. Stands self.now p.segment) }
         ensures scans { meter.new.scans ≡ meter.old.scans }
         ensures probes { meter.new.probes ≤ meter.old.probes + find_cost self.now + 1 }
     {
@@ -150,13 +160,13 @@ impl ArenaState {
         ensures value { result.now ≡ slots_through (state_of self.now) space.now }
         ensures few { length result.now ≤ 16 }
         ensures scans { meter.new.scans ≡ meter.old.scans }
-        ensures probes { meter.new.probes ≤ meter.old.probes + find_cost self.now }
+        ensures probes { meter.new.probes ≤ meter.old.probes + find_cost self.now + 16 }
     {
         match space {
             None => &[],
             Some(space) => {
                 let at = self.find(space.object, meter);
-                self.slots(at)
+                self.slots(at, meter)
             }
         }
     }
@@ -167,17 +177,21 @@ impl ArenaState {
     #[tactic(auto, unfolding(kernel_rules::specs::Translate::place_of))]
     pub fn place(
         &self,
-        thread: ObjectId,
+        caller: Location,
         address: u64,
         rows: &Rows,
         meter: &mut Meter,
-    ) -> Option<Place>
-        requires { AreKept self.now rows.now }
-        ensures value { result ≡ place_of (state_of self.now) thread address }
+    ) -> Option<Placed<Location>>
+        requires caller { Stands self.now caller }
+        requires rows { AreKept self.now rows.now }
+        ensures value { option_map (place_in (λ (l : Location). l.id)) result
+            ≡ place_of (state_of self.now) caller.id address }
+        ensures segment { IfSome result (λ p. Stands self.now p.segment) }
         ensures scans { meter.new.scans ≡ meter.old.scans }
-        ensures probes { meter.new.probes ≤ meter.old.probes + 3 * find_cost self.now + 1 }
+        ensures probes { meter.new.probes ≤ meter.old.probes + 2 * find_cost self.now + 17 }
     {
-        match self.slot(thread, meter) {
+        let thread = caller.id;
+        match self.told(caller) {
             Some(slot) => {
                 let at = Location {
                     id: thread,

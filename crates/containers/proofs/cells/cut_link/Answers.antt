@@ -14,13 +14,13 @@ sweep-requires g c κs within =
         (
           c.requires.1.1.0,
           (
-            start_cut c.args.size c.args.root c.args.rings.now c.drop_link.new.rings c.args.container c.args.object c.args.cell sound link dropped,
+            start_cut c.args.pool.size c.args.pool.root c.args.rings.now c.drop_link.new.rings c.args.link.container c.args.link.object c.args.link.cell sound link dropped,
             (
-              tree_cut c.args.size c.args.root c.args.rings.now c.drop_link.new.rings c.args.container c.args.object c.args.cell sound link dropped g.rank c.requires.1.1.1.1.1.0,
+              tree_cut c.args.pool.size c.args.pool.root c.args.rings.now c.drop_link.new.rings c.args.link.container c.args.link.object c.args.link.cell sound link dropped g.rank c.requires.1.1.1.1.1.0,
               (
-                simple_cut c.args.size c.args.root c.args.rings.now c.drop_link.new.rings c.args.container c.args.object c.args.cell sound link dropped c.requires.1.1.1.1.1.1.0,
+                simple_cut c.args.pool.size c.args.pool.root c.args.rings.now c.drop_link.new.rings c.args.link.container c.args.link.object c.args.link.cell sound link dropped c.requires.1.1.1.1.1.1.0,
                 (
-                  total_cut c.args.size c.args.root c.args.rings.now c.drop_link.new.rings c.args.container c.args.object c.args.cell sound link dropped ∙ c.requires.1.1.1.1.1.1.1.0,
+                  total_cut c.args.pool.size c.args.pool.root c.args.rings.now c.drop_link.new.rings c.args.link.container c.args.link.object c.args.link.cell sound link dropped ∙ c.requires.1.1.1.1.1.1.1.0,
                   (
                     c.requires.1.1.1.1.1.1.1.1.1.0,
                     c.requires.1.1.1.1.1.1.1.1.1.1,
@@ -39,7 +39,7 @@ returns-clause-cut g c =
     let swept = c.sweep.ensures.swept in (
       swept.0,
       swept.1,
-      cut_of c.args.size c.args.root c.args.rings.now c.drop_link.new.rings c.args.container c.args.object c.args.cell sound c.requires.1.1.1.1.1.1.1.1.0 c.drop_link.ensures.dropped c.sweep.new.rings swept.0 swept.1 c.requires.1.1.1.1.1.1.0 swept.2,
-      told_first g.V.Visitor.link_gives g.V.Visitor.object_gives c.args.names.now swept.0 swept.1 _ _ _ c.args.container c.args.object _ _ refl refl c.hand_link.ensures swept.3,
+      cut_of c.args.pool.size c.args.pool.root c.args.rings.now c.drop_link.new.rings c.args.link.container c.args.link.object c.args.link.cell sound c.requires.1.1.1.1.1.1.1.1.0 c.drop_link.ensures.dropped c.sweep.new.rings swept.0 swept.1 c.requires.1.1.1.1.1.1.0 swept.2,
+      told_first g.V.Visitor.link_gives g.V.Visitor.object_gives c.args.pool.names.now swept.0 swept.1 _ _ _ c.args.link.container c.args.link.object _ _ refl refl c.hand_link.ensures swept.3,
       swept.4,
     )

@@ -6,7 +6,7 @@ use Rattle.containers.proofs.cells.later_link.Goals as goal
 pub if_held-held-requires-clause-names : goal.if_held-held-requires-clause-names
 if_held-held-requires-clause-names c =
     some_stands c.args.rings.now 1 c.args.object (length (cells_at c.args.rings.now 1 c.args.object) - 1)
-    c.peek_last-last.result c.peek_last-last.ensures.value
+    c.last-last.result c.last-last.ensures.value
 
 pub returns-then-len-lt2-clause-absent : goal.returns-then-len-lt2-clause-absent
 returns-then-len-lt2-clause-absent c l =

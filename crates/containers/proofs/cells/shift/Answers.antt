@@ -12,8 +12,8 @@ shift-requires c =
     let s = c.requires.from.2 in
     (lit< tt, (c.requires.family, (c.requires.to, (c.requires.from.0, s.place, s.stands))))
 
-pub returns : goal.returns
-returns c =
+pub returns-clause-shifted : goal.returns-clause-shifted
+returns-clause-shifted c =
     let from = c.requires.from.0 in
     let s = c.requires.from.2 in
     let r = c.args.rings.now in

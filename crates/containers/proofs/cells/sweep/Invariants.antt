@@ -6,12 +6,12 @@ use Rattle.containers.proofs.Measures.{work}
 use Rattle.containers.proofs.cells.sweep.Given as goal
 
 abbrev pub invariant-loop-last : goal.invariant-loop-last
-invariant-loop-last g l = (links : List (ℕ × ℕ)) × (objects : List ℕ) × IsSweeping l.size l.root l.initial.rings l.rings links objects
-    × IsTold g.V.Visitor.link_gives g.V.Visitor.object_gives l.initial.visitor l.visitor (named l.names links) (named_one l.names objects)
+invariant-loop-last g l = (links : List (ℕ × ℕ)) × (objects : List ℕ) × IsSweeping l.pool.size l.pool.root l.initial.rings l.rings links objects
+    × IsTold g.V.Visitor.link_gives g.V.Visitor.object_gives l.initial.visitor l.visitor (named l.pool.names.now links) (named_one l.pool.names.now objects)
     × (l.meter.scans ≡ l.initial.meter.scans)
-    × (l.dead.items ≡ object_ids (named_one l.names objects))
+    × (l.dead.items ≡ object_ids (named_one l.pool.names.now objects))
     × (vec_capacity l.dead ≡ vec_capacity l.initial.dead)
-    × (length l.dead.items ≤ length (cells_at l.rings 0 l.size))
+    × (length l.dead.items ≤ length (cells_at l.rings 0 l.pool.size))
 
 abbrev pub decreases-loop-last : goal.decreases-loop-last
-decreases-loop-last g l = work l.size l.rings
+decreases-loop-last g l = work l.pool.size l.rings

@@ -4,4 +4,7 @@ use Rattle.entry_lists.specs.Lists.{cells_at}
 use Rattle.containers.proofs.windows.cell_at.Given as goal
 
 abbrev pub invariant-loop : goal.invariant-loop
-invariant-loop l = l.next ≡ slice_get (cells_at l.rings 0 l.slot) l.counter
+invariant-loop l = record {
+  next : l.next ≡ slice_get (cells_at l.rings 0 l.slot) l.counter;
+  scans : l.meter.scans ≡ l.initial.meter.scans;
+}

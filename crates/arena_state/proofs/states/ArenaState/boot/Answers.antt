@@ -4,6 +4,7 @@ use Rattle.std.proofs.lemmas.List.{length-replicate}
 use Rattle.containers.specs.Tree.{add_lists}
 use Rattle.label_intern.specs.declared.held.Held.{Held}
 use Rattle.label_intern.specs.Held.{held_at, owners_in}
+use Rattle.kernel_rules.specs.declared.objects.Mapping.{Mapping}
 use Rattle.arena_state.specs.declared.pieces.Pieces.{Pieces}
 use Rattle.arena_state.specs.declared.records.Kept.TheVariants as keeps
 use Rattle.arena_state.specs.Assembled.{fresh_record}
@@ -11,7 +12,6 @@ use Rattle.arena_state.proofs.BootLaws.{booted_sound, booted_state, empty_first}
 use Rattle.arena_state.proofs.WholeBootLaws.{booted_stocked, booted_whole}
 use Rattle.arena_state.specs.declared.records.Record.{Record}
 use Rattle.arena_state.specs.Stocked.{kept_pages}
-use Rattle.address_spaces.specs.View.{SpaceLists}
 use Rattle.arena_state.proofs.states.ArenaState.boot.Goals as goal
 
 two_in : {T : Type 0} (n root : ℕ) (cells : List (Option T)) (x : Option T) (s : ℕ) → cells ≡ set (replicate n None) root x
@@ -45,7 +45,6 @@ invariant_of-result c =
         segments = c.in_ok-segments.segments;
         queues = c.in_ok-queues.queues;
         spaces = c.in_ok-spaces.spaces;
-        spare = c.in_ok-spare.spare;
       };
       next_id = l.next_id;
       next_category = l.next_category;
@@ -81,7 +80,7 @@ invariant_of-result c =
           (ap (λ (r : Record). kept_pages r.body) c.fresh_record-root.ensures)
           (ap (λ (r : Record). kept_pages r.body) c.fresh_record-boot_thread.ensures)
           (ap (λ (r : Record). kept_pages r.body) c.fresh_record-boot_device.ensures)
-          c.in_ok-segments.ensures c.in_ok-queues.ensures (ap (λ (v : SpaceLists). v.mappings) c.in_ok-spaces.ensures);
+          c.in_ok-segments.ensures c.in_ok-queues.ensures c.in_ok-spaces.ensures;
     }
 
 pub returns : goal.returns
@@ -103,7 +102,6 @@ returns c =
         segments = c.in_ok-segments.segments;
         queues = c.in_ok-queues.queues;
         spaces = c.in_ok-spaces.spaces;
-        spare = c.in_ok-spare.spare;
       };
       next_id = l.next_id;
       next_category = l.next_category;
@@ -123,7 +121,7 @@ returns c =
     (ap (λ (r : Record). kept_pages r.body) c.fresh_record-root.ensures)
     (ap (λ (r : Record). kept_pages r.body) c.fresh_record-boot_thread.ensures)
     (ap (λ (r : Record). kept_pages r.body) c.fresh_record-boot_device.ensures)
-    c.in_ok-segments.ensures c.in_ok-queues.ensures (ap (λ (v : SpaceLists). v.mappings) c.in_ok-spaces.ensures)
+    c.in_ok-segments.ensures c.in_ok-queues.ensures c.in_ok-spaces.ensures
     (booted_state p f.result.root.0 f.result.thread.0 f.result.clearance.0 f.result.verify.0 f.result.device.0 root.slot s2 s3
     c.requires refl refl with_device
     (c.create-device.ensures.slots ∙ ap (λ (xs : List ℕ). xs ++ s3 ∷ []) (c.create-thread.ensures.slots ∙ ap (λ (xs : List ℕ). xs ++ s2 ∷ []) root.slots))

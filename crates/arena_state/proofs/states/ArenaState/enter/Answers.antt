@@ -38,7 +38,7 @@ pub invariant_of-self : goal.invariant_of-self
 invariant_of-self c = record {
   sound = subst (λ (r : Record). IsSound (with_both c.args.self.now.pieces c.in-Some.slot.0 r c.let_go-in-Thread-2.new.self)) (sym c.rebind.ensures)
       (entered_sound c.args.self.now.pieces c.args.self.now.sound c.args.thread c.in-Some.slot.0 c.in-Some.ensures.found.has
-      c.intern-own.result.0 c.intern-high.result.0 c.intern-shown.result.0 c.args.label.now c.args.clearance.now c.args.verify.now c.args.gate.now
+      c.intern-own.result.0 c.intern-high.result.0 c.intern-shown.result.0 c.args.labels.now.label.now c.args.labels.now.clearance.now c.args.labels.now.verify.now c.args.gate.now
       c.requires.label c.requires.clearance c.requires.verify c.intern-shown.new.self c.let_go-in-Thread-2.new.self
       (takes_as _ _ _ _ (λ i. omega arith) (takes_then _ _ _ _ _ c.intern-own.ensures.takes (takes_then _ _ _ _ _ c.intern-high.ensures.takes c.intern-shown.ensures.takes)))
       (still _ _ _ _ _ _ c.intern-own.ensures.takes c.intern-own.ensures.given (takes_then _ _ _ _ _ c.intern-high.ensures.takes c.intern-shown.ensures.takes))
@@ -62,12 +62,12 @@ returns-in-Thread-clause-state c =
     c.rebind.new.given c.let_go-in-Thread-2.new.self
     (ap (λ (r : Record). kept_pages r.body) c.rebind.ensures ∙ sym (ap kept_pages (sym (ap (λ (r : Record). r.body) (read_is c.args.self.now.pieces c.args.self.now.sound c.args.thread c.in-Some.slot.0 c.in-Some.ensures.found.has c.index-in-Some.result.now c.index-in-Some.ensures)) ∙ c.in-Thread.is)))
     (ap (λ (r : Record). keeps_space r.body) c.rebind.ensures ∙ sym (ap keeps_space (sym (ap (λ (r : Record). r.body) (read_is c.args.self.now.pieces c.args.self.now.sound c.args.thread c.in-Some.slot.0 c.in-Some.ensures.found.has c.index-in-Some.result.now c.index-in-Some.ensures)) ∙ c.in-Thread.is))))
-    c.args.self.now.sound c.args.thread (entered c.args.label.now c.args.clearance.now c.args.verify.now c.args.gate.now)
-    (entered_apart c.args.label.now c.args.clearance.now c.args.verify.now c.args.gate.now)
+    c.args.self.now.sound c.args.thread (entered c.args.labels.now.label.now c.args.labels.now.clearance.now c.args.labels.now.verify.now c.args.gate.now)
+    (entered_apart c.args.labels.now.label.now c.args.labels.now.clearance.now c.args.labels.now.verify.now c.args.gate.now)
     (subst (λ (r : Record). pieces_state (with_both c.args.self.now.pieces c.in-Some.slot.0 r c.let_go-in-Thread-2.new.self)
-    ≡ changed (pieces_state c.args.self.now.pieces) c.args.thread (entered c.args.label.now c.args.clearance.now c.args.verify.now c.args.gate.now)) (sym c.rebind.ensures)
+    ≡ changed (pieces_state c.args.self.now.pieces) c.args.thread (entered c.args.labels.now.label.now c.args.labels.now.clearance.now c.args.labels.now.verify.now c.args.gate.now)) (sym c.rebind.ensures)
     (entered_state c.args.self.now.pieces c.args.self.now.sound c.args.thread c.in-Some.slot.0 c.in-Some.ensures.found.has
-    c.intern-own.result.0 c.intern-high.result.0 c.intern-shown.result.0 c.args.label.now c.args.clearance.now c.args.verify.now c.args.gate.now
+    c.intern-own.result.0 c.intern-high.result.0 c.intern-shown.result.0 c.args.labels.now.label.now c.args.labels.now.clearance.now c.args.labels.now.verify.now c.args.gate.now
     c.requires.label c.requires.clearance c.requires.verify c.intern-shown.new.self c.let_go-in-Thread-2.new.self
     (takes_as _ _ _ _ (λ i. omega arith) (takes_then _ _ _ _ _ c.intern-own.ensures.takes (takes_then _ _ _ _ _ c.intern-high.ensures.takes c.intern-shown.ensures.takes)))
     (still _ _ _ _ _ _ c.intern-own.ensures.takes c.intern-own.ensures.given (takes_then _ _ _ _ _ c.intern-high.ensures.takes c.intern-shown.ensures.takes))
@@ -80,9 +80,9 @@ returns-in-Thread-clause-state c =
 pub returns-in_default-clause-state : goal.returns-in_default-clause-state
 returns-in_default-clause-state c =
     c.set_label.ensures.state
-    ∙ sym (whole_changed c.args.self.now.pieces c.args.self.now.sound c.args.thread (labelled c.args.label.now) (λ o x. refl))
+    ∙ sym (whole_changed c.args.self.now.pieces c.args.self.now.sound c.args.thread (labelled c.args.labels.now.label.now) (λ o x. refl))
     ∙ ap (filled_state (content_at c.args.self.now.pieces)) (entered_other c.args.self.now.pieces c.args.self.now.sound c.args.thread c.in-Some.slot.0 c.in-Some.ensures.found.has
-    c.args.label.now c.args.clearance.now c.args.verify.now c.args.gate.now
+    c.args.labels.now.label.now c.args.labels.now.clearance.now c.args.labels.now.verify.now c.args.gate.now
     (λ t e. c.in_default.not-Thread t (ap (λ (r : Record). r.body) (read_is c.args.self.now.pieces c.args.self.now.sound c.args.thread c.in-Some.slot.0 c.in-Some.ensures.found.has c.index-in-Some.result.now c.index-in-Some.ensures) ∙ e)))
-    ∙ whole_changed c.args.self.now.pieces c.args.self.now.sound c.args.thread (entered c.args.label.now c.args.clearance.now c.args.verify.now c.args.gate.now)
-    (entered_apart c.args.label.now c.args.clearance.now c.args.verify.now c.args.gate.now)
+    ∙ whole_changed c.args.self.now.pieces c.args.self.now.sound c.args.thread (entered c.args.labels.now.label.now c.args.labels.now.clearance.now c.args.labels.now.verify.now c.args.gate.now)
+    (entered_apart c.args.labels.now.label.now c.args.labels.now.clearance.now c.args.labels.now.verify.now c.args.gate.now)

@@ -14,7 +14,7 @@ invariant_of-self c =
     record {
       sound = spaces_sound a.pieces c.fill.new.spaces a.sound;
       stocked = reslotted_stocked a.pieces a.sound c.args.space.id c.in-Some.slot.0 has (λ slots. set slots c.args.place c.args.mapping) a.stocked
-          c.fill.new.spaces c.fill.ensures.mappings (length-set _ c.args.place c.args.mapping) space;
+          c.fill.new.spaces c.fill.ensures (length-set _ c.args.place c.args.mapping) space;
     }
 
 pub returns-then-is_space-clause-state : goal.returns-then-is_space-clause-state
@@ -24,7 +24,7 @@ returns-then-is_space-clause-state c =
     let read = read_is a.pieces a.sound c.args.space.id c.in-Some.slot.0 has c.index.result.now c.index.ensures in
     let space = sym (ap (λ r. keeps_space r.body) read) ∙ sym c.if-is_space.ensures in
     reslotted a.pieces a.sound c.args.space.id c.in-Some.slot.0 has (λ slots. set slots c.args.place c.args.mapping) a.stocked
-    c.fill.new.spaces c.fill.ensures.mappings (length-set _ c.args.place c.args.mapping) space
+    c.fill.new.spaces c.fill.ensures (length-set _ c.args.place c.args.mapping) space
 
 pub returns-else-is_space-clause-state : goal.returns-else-is_space-clause-state
 returns-else-is_space-clause-state c =

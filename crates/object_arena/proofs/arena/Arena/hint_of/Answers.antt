@@ -21,7 +21,7 @@ less g c =
     (digit_less (length ids) (length hints) (length c.self.inside.cells.items) c.self.invariant.5 below)
 
 pub returns-clause-cost : goal.returns-clause-cost
-returns-clause-cost g c = probes_few c.args.meter.now c.probe.new.self 1 _ c.probe.ensures (omega (arith, less g c))
+returns-clause-cost g c = probes_few c.args.meter.now c.peek.new.meter 1 _ c.peek.ensures.counted (omega (arith, less g c))
 
 pub returns-clause-fewer : goal.returns-clause-fewer
 returns-clause-fewer g c = omega (arith, less g c)

@@ -20,11 +20,11 @@ invariant_of-self c =
     let b = c.make_thread-id.new.self in
     let new = c.remake_row.new.rows in
     record {
-      kept = row_remade k.state b k.rows new s.next_id k.kept (made_of s c.args.container.id (option_copied c.args.label) c.args.quota (new_thread c.args.clearance.now c.args.entry_point))
-          c.make_thread-id.ensures.state c.make_thread-id.ensures.slots (made_limits s c.args.container.id (option_copied c.args.label) c.args.quota (new_thread c.args.clearance.now c.args.entry_point))
-          (made_space s c.args.container.id (option_copied c.args.label) c.args.quota (new_thread c.args.clearance.now c.args.entry_point)
+      kept = row_remade k.state b k.rows new s.next_id k.kept (made_of s c.args.container.id (option_copied c.args.label) c.args.quota (new_thread c.args.start.now.clearance.now c.args.start.now.entry_point))
+          c.make_thread-id.ensures.state c.make_thread-id.ensures.slots (made_limits s c.args.container.id (option_copied c.args.label) c.args.quota (new_thread c.args.start.now.clearance.now c.args.start.now.entry_point))
+          (made_space s c.args.container.id (option_copied c.args.label) c.args.quota (new_thread c.args.start.now.clearance.now c.args.start.now.entry_point)
           (whole_formed k.state.pieces k.state.sound k.state.stocked) c.requires.fitting.container)
-          (λ q i off. created_row s c.args.container.id (option_copied c.args.label) c.args.quota (new_thread c.args.clearance.now c.args.entry_point) q i
+          (λ q i off. created_row s c.args.container.id (option_copied c.args.label) c.args.quota (new_thread c.args.start.now.clearance.now c.args.start.now.entry_point) q i
           (whole_formed k.state.pieces k.state.sound k.state.stocked) k.named c.requires.fitting.container off)
           c.remake_row.ensures.size
           (subst (λ (t : ℕ). (slot : ℕ) → HasSlot b.pieces.places t slot → Tells (state_of b) t new slot)
@@ -32,5 +32,5 @@ invariant_of-self c =
           (subst (λ (t : ℕ). (slot : ℕ) → (HasSlot b.pieces.places t slot → ⊥) → SameAt k.rows new slot)
           c.make_thread-id.ensures.id c.remake_row.ensures.others);
       named = subst IsNamedRightly (sym c.make_thread-id.ensures.state)
-          (named_created s c.args.container.id (option_copied c.args.label) c.args.quota (new_thread c.args.clearance.now c.args.entry_point) k.named (thread_named s c.args.clearance.now c.args.entry_point));
+          (named_created s c.args.container.id (option_copied c.args.label) c.args.quota (new_thread c.args.start.now.clearance.now c.args.start.now.entry_point) k.named (thread_named s c.args.start.now.clearance.now c.args.start.now.entry_point));
     }

@@ -13,9 +13,9 @@ invariant_of-self c =
     let k = c.args.self.now in
     let s = state_of k.state in
     record {
-      kept = row_remade k.state c.enter.new.self k.rows c.remake_row.new.rows c.args.thread.id k.kept (changed s c.args.thread.id (entered c.args.label.now c.args.clearance.now c.args.verify.now c.args.gate.now)) c.enter.ensures.state (same_slots k.state c.enter.new.self c.args.thread.id c.enter.ensures.places) (changed_limits s c.args.thread.id (entered c.args.label.now c.args.clearance.now c.args.verify.now c.args.gate.now)) (changed_space s c.args.thread.id (entered c.args.label.now c.args.clearance.now c.args.verify.now c.args.gate.now))
-          (λ q i off. labels_row s (changed s c.args.thread.id (entered c.args.label.now c.args.clearance.now c.args.verify.now c.args.gate.now)) c.args.thread.id q i k.named c.requires.thread off
-          (entered_own s c.args.thread.id q c.args.label.now c.args.clearance.now c.args.verify.now c.args.gate.now off)
-          (λ law. law.entered c.args.label.now c.args.clearance.now c.args.verify.now c.args.gate.now)) c.remake_row.ensures.size c.remake_row.ensures.row c.remake_row.ensures.others;
-      named = subst IsNamedRightly (sym c.enter.ensures.state) (entered_named s c.args.thread.id c.requires.gate.0 c.args.label.now c.args.clearance.now c.args.verify.now c.args.gate.now c.requires.gate.1 k.named);
+      kept = row_remade k.state c.enter.new.self k.rows c.remake_row.new.rows c.args.thread.id k.kept (changed s c.args.thread.id (entered c.args.labels.now.label.now c.args.labels.now.clearance.now c.args.labels.now.verify.now c.args.gate.now)) c.enter.ensures.state (same_slots k.state c.enter.new.self c.args.thread.id c.enter.ensures.places) (changed_limits s c.args.thread.id (entered c.args.labels.now.label.now c.args.labels.now.clearance.now c.args.labels.now.verify.now c.args.gate.now)) (changed_space s c.args.thread.id (entered c.args.labels.now.label.now c.args.labels.now.clearance.now c.args.labels.now.verify.now c.args.gate.now))
+          (λ q i off. labels_row s (changed s c.args.thread.id (entered c.args.labels.now.label.now c.args.labels.now.clearance.now c.args.labels.now.verify.now c.args.gate.now)) c.args.thread.id q i k.named c.requires.thread off
+          (entered_own s c.args.thread.id q c.args.labels.now.label.now c.args.labels.now.clearance.now c.args.labels.now.verify.now c.args.gate.now off)
+          (λ law. law.entered c.args.labels.now.label.now c.args.labels.now.clearance.now c.args.labels.now.verify.now c.args.gate.now)) c.remake_row.ensures.size c.remake_row.ensures.row c.remake_row.ensures.others;
+      named = subst IsNamedRightly (sym c.enter.ensures.state) (entered_named s c.args.thread.id c.requires.gate.0 c.args.labels.now.label.now c.args.labels.now.clearance.now c.args.labels.now.verify.now c.args.gate.now c.requires.gate.1 k.named);
     }

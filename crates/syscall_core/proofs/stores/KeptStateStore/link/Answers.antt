@@ -25,6 +25,6 @@ invariant_of-self-else-may_touch c =
     let k = c.args.self.now in
     let s = state_of k.state in
     record {
-      kept = link_kept k.state c.link-kind.new.self k.rows c.args.target.id c.args.object.id k.kept c.link-kind.ensures.slots c.link-kind.ensures.state (entry_off s (record { container = c.args.target.id; object = c.args.object.id }) c.link-kind.result c.may_map-is_mapped.result k.named c.link-kind.ensures.kind c.may_map-is_mapped.ensures (sym c.may_touch.ensures ∙ c.if-may_touch.false));
+      kept = link_kept k.state c.link-kind.new.self k.rows c.args.target.id c.args.object.id k.kept c.link-kind.ensures.slots c.link-kind.ensures.state (entry_off s (record { container = c.args.target.id; object = c.args.object.id }) c.link-kind.result c.may_map-is_mapped.result k.named c.link-kind.ensures.kind c.may_map-is_mapped.ensures.none (sym c.may_touch.ensures ∙ c.if-may_touch.false));
       named = subst IsNamedRightly (sym c.link-kind.ensures.state) (named_lists s c.args.target.id (λ ids. ids ++ c.args.object.id ∷ []) k.named);
     }

@@ -27,6 +27,6 @@ invariant_of-self-else-may_map c =
     let k = c.args.self.now in
     let s = state_of k.state in
     record {
-      kept = immutable_kept k.state c.set_immutable.new.self k.rows c.args.at.id k.kept (all_slots k.state c.set_immutable.new.self c.set_immutable.ensures.places) c.set_immutable.ensures.state (c.may_map.ensures c.if-may_map.false);
+      kept = immutable_kept k.state c.set_immutable.new.self k.rows c.args.at.id k.kept (all_slots k.state c.set_immutable.new.self c.set_immutable.ensures.places) c.set_immutable.ensures.state (c.may_map.ensures.none c.if-may_map.false);
       named = subst IsNamedRightly (sym c.set_immutable.ensures.state) (named_alike s c.args.at.id made_immutable k.named (λ x. refl) (λ x. refl) (λ x. refl));
     }

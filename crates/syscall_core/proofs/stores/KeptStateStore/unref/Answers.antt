@@ -39,6 +39,6 @@ invariant_of-self-else-cut_may_touch c =
     let e : Entry = record { container = c.args.container.id; object = c.args.object.id } in
     let found = ap (is_of kinds.Container) c.unref-kind.ensures.kind ∙ kind_seen s kinds.Container e.object in
     record {
-      kept = unref_kept k.state c.unref-kind.new.self k.rows e.container e.object k.kept c.unref-kind.ensures.slots c.unref-kind.ensures.state (subst (λ (v : Bool). IsUntouched s (cut_touches v e)) found (cut_off s e c.unref-kind.result c.may_map-is_mapped.result k.named c.unref-kind.ensures.kind c.may_map-is_mapped.ensures (sym c.cut_may_touch.ensures ∙ c.if-cut_may_touch.false)));
+      kept = unref_kept k.state c.unref-kind.new.self k.rows e.container e.object k.kept c.unref-kind.ensures.slots c.unref-kind.ensures.state (subst (λ (v : Bool). IsUntouched s (cut_touches v e)) found (cut_off s e c.unref-kind.result c.may_map-is_mapped.result k.named c.unref-kind.ensures.kind c.may_map-is_mapped.ensures.none (sym c.cut_may_touch.ensures ∙ c.if-cut_may_touch.false)));
       named = subst IsNamedRightly (sym c.unref-kind.ensures.state) (named_rest (changed s c.args.container.id (delisting c.args.object.id)) (named_lists s c.args.container.id (without c.args.object.id) k.named));
     }
