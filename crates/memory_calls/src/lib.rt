@@ -18,4 +18,4 @@ pub use devices::{dev_recv, dev_send};
 pub use lengths::{segment_copy, segment_len, segment_resize};
 pub use metadata::{meta_get, meta_set, set_immutable};
 pub use segments::{Patch, Span, segment_create, segment_read, segment_write};
-pub use spaces::{Filling, as_create, as_get, as_map, as_unmap};
+pub use spaces::{Filling, as_create, as_get, as_map, as_unmap, meets_any};

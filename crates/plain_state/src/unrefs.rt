@@ -1,70 +1,58 @@
 //! An id that is taken out of a list, and the objects that are gone with it.
-ghost use Rattle.std.specs.Prelude.{◌≡◌, IfOk, OnOk, OnErr};
+ghost use Rattle.std.specs.Prelude.{◌≡◌, ℕ, true, IfOk, OnOk, OnErr};
 ghost use Rattle.std.specs.Ordering.{nat_cmp};
 ghost use Rattle.std.specs.Map.{remove_entry};
 ghost use Rattle.std.specs.BTreeMap.{is_at};
-ghost use Rattle.base.specs.Live.{has, reached, is_live};
 ghost use Rattle.kernel_rules.specs.Changes.{changed, delisting, without};
-ghost use Rattle.kernel_rules.specs.State.{lists_of};
+ghost use Rattle.kernel_rules.specs.State.{object_at};
 ghost use Rattle.kernel_rules.specs.Step.{restricted};
-ghost use Rattle.plain_state.specs.Dead.{first_dead};
+ghost use Rattle.kernel_rules.specs.WellFormed.{ids_rise, is_well_formed};
+ghost use Rattle.plain_state.specs.Settled.{is_listed, is_settled, Pruned};
 ghost use Rattle.plain_state.specs.Recorded.{records_state};
 
-use crate::link_reads::has_listed;
+use crate::link_reads::{has_listed, list_of};
 use crate::records::Records;
 use base::{NoMemory, ObjectId};
 use kernel_rules::{Body, IdList, Object};
 use std::alloc::Global;
 
-/// Whether a path of at most so many entries leads to an id from the root.
-fn is_reached(records: &Records, id: ObjectId, entries: usize) -> bool
-    ensures { result ≡ has (reached entries (lists_of (records_state records.now).objects)) id }
+/// Whether some object's list has an id.
+fn is_listed(records: &Records, id: ObjectId) -> bool
+    ensures { result ≡ is_listed (records_state records.now).objects id }
 {
-    if id == ObjectId::root() {
-        return true;
-    }
-    if entries == 0 {
-        return false;
-    }
-    for (lister, object) in records.objects.iter() {
-        if has_listed(object, id) && is_reached(records, *lister, entries - 1) {
+    for (_, object) in records.objects.iter() {
+        if has_listed(object, id) {
             return true;
         }
     }
     false
 }
 
-fn is_live(records: &Records, id: ObjectId) -> bool
-    ensures { result ≡ is_live (lists_of (records_state records.now).objects) id }
-{
-    is_reached(records, id, records.objects.len() + 1)
-}
-
-fn first_dead(records: &Records) -> Option<ObjectId>
-    ensures { result ≡ first_dead (records_state records.now).objects }
-{
-    for (id, _) in records.objects.iter() {
-        if !is_live(records, *id) {
-            return Some(*id);
-        }
-    }
-    None
-}
-
-fn remove(records: &mut Records, id: ObjectId)
-    ensures { records_state records.new ≡ record (records_state records.old) {
+fn remove(records: &mut Records, id: ObjectId) -> Option<Object>
+    ensures state { records_state records.new ≡ record (records_state records.old) {
       objects = remove_entry (is_at (nat_cmp id)) (records_state records.old).objects;
     } }
+    ensures object { result ≡ object_at (records_state records.old) id }
 {
-    let _ = records.objects.remove(&id);
+    records.objects.remove(&id)
 }
 
-/// Drops the records that are not live.
-fn drop_dead(records: &mut Records)
-    ensures { records_state records.new ≡ restricted (records_state records.old) }
+/// Drops the record of an id that no list has, and then each one that its list alone had. Nothing is changed where the id
+/// is the root's, or is in a list.
+fn drop_unlisted(records: &mut Records, id: ObjectId)
+    requires { ids_rise (records_state records.old).objects ≡ true }
+    ensures pruned { Pruned (records_state records.old) (records_state records.new) }
+    ensures settled { is_settled (records_state records.new).objects id ≡ true }
+    ensures stay { (q : ℕ) → is_settled (records_state records.old).objects q ≡ true
+        → is_settled (records_state records.new).objects q ≡ true }
 {
-    while let Some(id) = first_dead(records) {
-        remove(records, id);
+    if id == ObjectId::root() || is_listed(records, id) {
+        return;
+    }
+    if let Some(object) = remove(records, id) {
+        for listed in list_of(&object) {
+            drop_unlisted(records, *listed);
+        }
     }
 }
 
@@ -107,19 +95,20 @@ fn delist_in(
     }
 }
 
-/// An id is taken out of a container's list, and what is not live then is gone. Without memory
-/// nothing is changed.
+/// An id is taken out of a container's list, and what is not live then is gone: what no list has, since lists of records
+/// that are well formed lead round in no circle. Without memory nothing is changed.
 pub fn unref(
     records: &mut Records,
     alloc: Global,
     container: ObjectId,
     id: ObjectId,
 ) -> Result<(), NoMemory>
+    requires { is_well_formed (records_state records.old) ≡ true }
     ensures ok { OnOk result (records_state records.new
         ≡ restricted (changed (records_state records.old) container (delisting id))) }
     ensures err { OnErr result (records_state records.new ≡ records_state records.old) }
 {
     delist_in(records, alloc, container, id)?;
-    drop_dead(records);
+    drop_unlisted(records, id);
     Ok(())
 }

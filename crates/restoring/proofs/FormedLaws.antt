@@ -12,7 +12,7 @@ use Rattle.kernel_rules.proofs.WellFormedLaws.{soundness_of, well_formed_from}
 use Rattle.restoring.specs.Counted.{CountsListers, count_in}
 use Rattle.restoring.specs.Keeping.{is_held}
 use Rattle.restoring.proofs.CountLaws.{rightly_capped}
-use Rattle.restoring.proofs.QuotaLive.{live_by_quotas}
+use Rattle.plain_state.proofs.QuotaLive.{live_by_quotas}
 
 -- tests that hold together are the same
 pub alike : (a b : Bool) → (a ≡ true → b ≡ true) → (b ≡ true → a ≡ true) → a ≡ b

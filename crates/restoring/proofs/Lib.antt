@@ -1,4 +1,3 @@
-pub mod QuotaLive
 pub mod ClimbLaws
 pub mod CountLaws
 pub mod BuildLaws

@@ -10,10 +10,10 @@ ghost use Rattle.restoring.specs.Keeping.{is_held};
 
 use crate::counts::{count_listers, counted, is_listed_rightly};
 use crate::tests_of_names::are_recorded;
-use crate::tests_of_uses::{is_whole, used};
+use crate::tests_of_sizes::is_whole;
 use base::{Meter, NoMemory, ObjectId};
 use kernel_rules::{Body, Object};
-use plain_state::Records;
+use plain_state::{Records, used};
 use std::alloc::Global;
 use std::collections::BTreeMap;
 

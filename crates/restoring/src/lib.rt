@@ -14,7 +14,7 @@ mod tests_of_names;
 mod tests_of_objects;
 mod tests_of_order;
 mod tests_of_records;
-mod tests_of_uses;
+mod tests_of_sizes;
 mod writing;
 
 pub use building::build;
@@ -31,5 +31,5 @@ pub use tests_of_order::{are_threads_given, has_slots, ids_rise, is_ordered};
 pub use tests_of_records::{
     are_entries_whole, are_starless, counters_within, has_root, list_rightly, map_rightly,
 };
-pub use tests_of_uses::{is_whole, used};
+pub use tests_of_sizes::is_whole;
 pub use writing::write;

@@ -1,7 +1,6 @@
 //! Tests of one object of a checkpoint.
 ghost use Rattle.std.specs.Prelude.{◌≡◌};
-ghost use Rattle.std.specs.List.{list_all, list_any};
-ghost use Rattle.kernel_rules.specs.Rows.{meets};
+ghost use Rattle.std.specs.List.{list_all};
 ghost use Rattle.checkpoints.specs.Restorable.{is_within, is_in_bounds, is_starless};
 ghost use Rattle.checkpoints.specs.Restorable.{is_whole_entry, may_hold, avoid_of, lie_apart};
 ghost use Rattle.checkpoints.specs.Restorable.{maps_rightly};
@@ -9,6 +8,7 @@ ghost use Rattle.kernel_rules.specs.State.{slots_of};
 
 use base::{Meter, TypeSet};
 use kernel_rules::{Body, Entry, Mapping, Object};
+use memory_calls::meets_any;
 
 /// Whether each kind of the first set is in the second.
 pub fn is_within(a: TypeSet, b: TypeSet) -> bool
@@ -76,26 +76,6 @@ pub fn may_hold(avoid: TypeSet, object: &Object) -> bool
     }
 }
 
-/// Whether a mapping's range of virtual pages meets that of a slot.
-fn meets(mapping: Mapping, slot: Option<Mapping>) -> bool
-    ensures { result ≡ meets mapping slot }
-{
-    match slot {
-        None => false,
-        Some(other) => {
-            (mapping.page as u64) < other.page as u64 + other.count as u64
-                && (other.page as u64) < mapping.page as u64 + mapping.count as u64
-        }
-    }
-}
-
-/// Whether a mapping's range meets that of any of these slots.
-fn meets_any(mapping: Mapping, slots: &[Option<Mapping>]) -> bool
-    ensures { result ≡ list_any (meets mapping) slots.now }
-{
-    slots.iter().any(|slot| meets(mapping, *slot))
-}
-
 /// Whether no two of the mappings meet.
 fn lie_apart(slots: &[Option<Mapping>]) -> bool
     ensures { result ≡ lie_apart slots.now }
@@ -103,7 +83,7 @@ fn lie_apart(slots: &[Option<Mapping>]) -> bool
     match slots.split_first() {
         None => true,
         Some((None, rest)) => lie_apart(rest),
-        Some((Some(mapping), rest)) => { !meets_any(*mapping, rest) && lie_apart(rest) }
+        Some((Some(mapping), rest)) => { !meets_any(mapping, rest) && lie_apart(rest) }
     }
 }
 

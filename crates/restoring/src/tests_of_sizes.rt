@@ -1,47 +1,11 @@
-//! Tests of what the objects of a checkpoint use, and of their sizes.
-ghost use Rattle.std.specs.Prelude.{◌≡◌, ◌==◌, ◌≤◌, ◌<◌, ◌*◌, ◌^◌, length, sum_by, nat_le, ◌&&◌};
+//! Tests of the sizes of a checkpoint's objects.
+ghost use Rattle.std.specs.Prelude.{◌≡◌, ◌==◌, length, nat_le, ◌&&◌};
 ghost use Rattle.std.specs.List.{list_all};
-ghost use Rattle.kernel_rules.specs.State.{quota_at, own_cost, use_of};
 ghost use Rattle.kernel_rules.specs.WellFormed.{is_whole_body, is_whole, is_stored};
-ghost use Rattle.plain_state.specs.Recorded.{records_state};
 
-use base::{Data, Meter, ObjectId};
+use base::{Data, Meter};
 use kernel_rules::{Body, Mapping, Object};
 use label_lattice::Label;
-use plain_state::Records;
-
-fn quota(records: &Records, id: ObjectId) -> u32
-    ensures { result ≡ quota_at (records_state records.now) id }
-{
-    match records.objects.get(&id) {
-        None => 0,
-        Some(object) => object.quota,
-    }
-}
-
-/// The declared quotas of these together.
-fn quotas(records: &Records, ids: &[ObjectId]) -> u128
-    ensures sum { result ≡ sum_by (quota_at (records_state records.now)) ids.now }
-    ensures small { result ≤ 2 ^ 32 * length ids.now }
-{
-    let mut total = 0u128;
-    for id in ids {
-        total += u128::from(quota(records, *id));
-    }
-    total
-}
-
-/// What an object costs for itself, in pages of 256 bytes.
-fn own_cost(object: &Object) -> u64
-    ensures value { result ≡ own_cost object.now.body }
-    ensures small { result < 2 ^ 63 }
-{
-    match &object.body {
-        Body::Device(_) => 2,
-        Body::Segment(bytes) => 1 + (bytes.as_slice().len() / 256) as u64,
-        _ => 1,
-    }
-}
 
 /// Whether a label is a stored one, as each of its type is.
 #[tactic(auto, using(kernel_rules::proofs::StoredLaws::stored_test))]
@@ -99,17 +63,4 @@ pub fn is_whole(object: &Object, meter: &mut Meter) -> bool
     is_stored(&object.label, meter)
         && object.metadata.as_slice().len() == 64
         && is_whole_body(object, meter)
-}
-
-/// What an object uses, in pages of 256 bytes, of which no record has to be well formed.
-pub fn used(records: &Records, id: ObjectId) -> u128
-    ensures { result ≡ use_of (records_state records.now) id }
-{
-    match records.objects.get(&id) {
-        None => 0,
-        Some(object) => match &object.body {
-            Body::Container(_, list) => 1 + quotas(records, list.as_slice()),
-            _ => u128::from(own_cost(object)),
-        },
-    }
 }
