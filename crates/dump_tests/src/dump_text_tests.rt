@@ -203,9 +203,10 @@ fn a_dump_that_ends_early_is_faulty_where_it_ends(rt: HostRuntime) {
 #[test]
 fn the_first_faulty_line_is_told(rt: HostRuntime) -> Result<(), Fail> {
     for (line, other, told) in [
-        (1, "histar-dump 2", 1),
+        (1, "histar-dump 2", 3),
+        (1, "histar-dump 3", 1),
         (2, "limits 7 1 4 1", 2),
-        (2, "limits 1025 1 4 1", 2),
+        (2, "limits 513 1 4 1", 2),
         (2, "limits 8 * 4 1", 2),
         (2, "limits 8 4 4 1", 2),
         (2, "limits 8 1 3 1", 2),
@@ -213,7 +214,7 @@ fn the_first_faulty_line_is_told(rt: HostRuntime) -> Result<(), Fail> {
         (2, "limits 8 1 2305843009213693953 1", 2),
         (
             2,
-            "limits 1024 3 2305843009213693952 2305843009213693952",
+            "limits 512 3 2305843009213693952 2305843009213693952",
             1_000_000,
         ),
         (3, "live 01", 3),

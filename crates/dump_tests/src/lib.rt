@@ -7,3 +7,5 @@ pub fn dumps_are_tested() {}
 
 #[cfg(test)]
 mod dump_text_tests;
+#[cfg(test)]
+mod format_2_tests;

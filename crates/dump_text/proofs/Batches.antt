@@ -1,14 +1,14 @@
 -- The events of a dump have 1 to 16 calls each.
-use Rattle.std.proofs.Common.{◌≡◌, ℕ, ◌≤◌, true, ◌&&◌, nat_le, List, [], ◌∷◌, ◌++◌, length, refl, arith}
+use Rattle.std.proofs.Common.{◌≡◌, ℕ, ◌≤◌, true, List, [], ◌∷◌, ◌++◌, length, refl, arith}
 use Rattle.std.specs.List.{AllByRecursion, flat_map}
 use Rattle.std.proofs.lemmas.Bool.{le-leb}
 use Rattle.histories.specs.Events.{Event}
 use Rattle.histories.specs.History.{is_batch}
 use Rattle.histories.specs.declared.events.Answered.{Answered}
-use Rattle.dump_text.specs.declared.lines.Line.{Line}
 use Rattle.dump_text.specs.declared.lines.Line.TheVariants as lines
 use Rattle.dump_text.specs.Lists.{DumpLists}
 use Rattle.dump_text.specs.Line.{IsLine}
+use Rattle.dump_text.specs.CheckpointLines.{start_lines}
 use Rattle.dump_text.specs.Dump.{lines_with, event_lines, lines_of, table_lines}
 
 all_front : {X : Type 0} (P : X → Type 0) (xs ys : List X) → AllByRecursion P (xs ++ ys) → AllByRecursion P xs
@@ -36,6 +36,8 @@ events_batches (e ∷ es) fit = (
 
 pub lines_batches : (d : DumpLists) → AllByRecursion IsLine (lines_of d) → AllByRecursion (λ (e : Event). is_batch e.calls ≡ true) d.events
 lines_batches d fit =
+    let body = flat_map event_lines d.events ++ table_lines d.tables in
     events_batches d.events
     (all_front IsLine (flat_map event_lines d.events) (table_lines d.tables)
-    (all_front IsLine (flat_map event_lines d.events ++ table_lines d.tables) (lines.End ∷ []) fit.1.1))
+    (all_behind IsLine (start_lines d.checkpoint) body
+    (all_front IsLine (start_lines d.checkpoint ++ body) (lines.End ∷ []) fit.1.1)))

@@ -1,5 +1,5 @@
 -- The text of the dump of legal events is a dump's, where each value fits its word.
-use Rattle.std.proofs.Common.{lit<, ◌≡◌, ℕ, ◌≤◌, ◌<◌, ◌^◌, true, ◌&&◌, not, nat_le, ◌==◌, List, [], ◌∷◌, ◌++◌, map, length, refl, sym, ◌∙◌, subst, arith, append_assoc}
+use Rattle.std.proofs.Common.{lit<, ◌≡◌, ℕ, ◌≤◌, ◌<◌, ◌^◌, true, ◌&&◌, not, nat_le, ◌==◌, List, [], ◌∷◌, ◌++◌, map, length, Option, Some, None, refl, sym, ◌∙◌, subst, arith, append_assoc}
 use Rattle.std.specs.List.{AllByRecursion, flat_map}
 use Rattle.std.proofs.lemmas.Bool.{and_parts, leb-true}
 use Rattle.std.proofs.lemmas.List.{length-map}
@@ -11,7 +11,9 @@ use Rattle.base.specs.declared.levels.Level.{Level}
 use Rattle.base.specs.declared.levels.Level.TheVariants.{Star, L0, L1, L2, L3}
 use Rattle.histories.specs.Events.{Event, calls_in}
 use Rattle.histories.specs.declared.events.Answered.{Answered}
-use Rattle.histories.specs.History.{answered, is_batch, IsLegal, Follows, state_of}
+use Rattle.histories.specs.History.{Start, answered, is_batch, IsLegalFrom, FollowsFrom, state_from}
+use Rattle.checkpoints.specs.Checkpoint.{Checkpoint}
+use Rattle.dump_text.specs.declared.places.Pending.TheVariants as pendings
 use Rattle.kernel_rules.specs.Scratch.{scratch, stored_labels, compared_from}
 use Rattle.kernel_rules.specs.State.{State, live_part}
 use Rattle.kernel_rules.specs.Step.{next as then}
@@ -21,14 +23,16 @@ use Rattle.dump_text.specs.declared.lines.Line.TheVariants as lines
 use Rattle.text_words.specs.Label.{IsLabel}
 use Rattle.dump_text.specs.Word.{spoken_label}
 use Rattle.dump_text.specs.Event.{IsAnswered}
-use Rattle.dump_text.specs.Report.{IsReport}
-use Rattle.dump_text.specs.Line.{IsLine, IsBootable, digit_of, AreAllowed, limits_kinds, limits_words}
+use Rattle.dump_text.specs.Allowed.{AreAllowed}
+use Rattle.dump_text.specs.CheckpointLines.{start_lines}
+use Rattle.dump_text.specs.Line.{IsLine, IsBootable, digit_of, limits_kinds, limits_words}
 use Rattle.dump_text.specs.Dump.{IsDump, dump_text, lines_with, event_lines, lines_of, table_lines}
-use Rattle.dump_text.specs.Fits.{FitsAnswered, FitsEvent, FitsReply, FitsWords}
-use Rattle.dump_text.specs.Whole.{whole_dump, placed, placed_from}
+use Rattle.dump_text.specs.Fits.{FitsAnswered, FitsEvent, FitsLine, FitsWords}
+use Rattle.dump_text.specs.Whole.{start_with, whole_dump, placed, placed_from, CanBegin}
 use Rattle.dump_text.proofs.KernelReplies.{answer_report}
-use Rattle.dump_text.proofs.Places.{labels_fit, orders_fit, labels_few, all_append}
-use Rattle.dump_text.proofs.Sequence.{dump_runs}
+use Rattle.dump_text.proofs.LabelPlaces.{labels_fit, orders_fit, labels_few, all_append}
+use Rattle.dump_text.proofs.RestorableLines.{checkpoint_fit, objects_whole, objects_paged}
+use Rattle.dump_text.proofs.Sequence.{CanCome, dump_runs}
 
 all_map : {V : Type 0} (make : V → Line) (P : V → Type 0) → ((v : V) → P v → IsLine (make v)) → (vs : List V) → AllByRecursion P vs → AllByRecursion IsLine (map make vs)
 all_map make P gives [] all = tt
@@ -59,20 +63,20 @@ lines_are t n (a ∷ b ∷ cs) ft fn size all =
     )
 
 -- an event that follows legal ones
-follows_fits : (limits : Limits) (before : List Event) (e : Event) → Follows limits before e → FitsEvent e → AllByRecursion IsLine (event_lines e)
-follows_fits limits before e follows fits =
+follows_fits : (start : Start) (before : List Event) (e : Event) → FollowsFrom start before e → FitsEvent e → AllByRecursion IsLine (event_lines e)
+follows_fits start before e follows fits =
     lines_are e.thread e.number e.calls fits.thread fits.number follows.size
     (subst (λ (cs : List Answered). AllByRecursion IsAnswered cs) (sym follows.replies)
-    (answers_fit (state_of limits before) e.thread (calls_in e)
+    (answers_fit (state_from start.state before) e.thread (calls_in e)
     (subst (λ (cs : List Answered). AllByRecursion FitsAnswered cs) follows.replies fits.calls)))
 
 -- the events after the first ones
-events_fit : (limits : Limits) (events : List Event) → IsLegal limits events → (before es : List Event) → events ≡ before ++ es → AllByRecursion FitsEvent es → AllByRecursion IsLine (flat_map event_lines es)
-events_fit limits events legal before [] is all = tt
-events_fit limits events legal before (e ∷ es) is all =
+events_fit : (start : Start) (events : List Event) → IsLegalFrom start events → (before es : List Event) → events ≡ before ++ es → AllByRecursion FitsEvent es → AllByRecursion IsLine (flat_map event_lines es)
+events_fit start events legal before [] is all = tt
+events_fit start events legal before (e ∷ es) is all =
     all_append IsLine (event_lines e) (flat_map event_lines es)
-    (follows_fits limits before e (legal before es e is) all.0)
-    (events_fit limits events legal (before ++ e ∷ []) es (is ∙ sym (append_assoc before (e ∷ []) es)) all.1)
+    (follows_fits start before e (legal before es e is) all.0)
+    (events_fit start events legal (before ++ e ∷ []) es (is ∙ sym (append_assoc before (e ∷ []) es)) all.1)
 
 digit_small : (level : Level) → digit_of level < 2 ^ 32
 digit_small L0 = lit< tt
@@ -114,28 +118,48 @@ orders_of_state s few =
 live_fits : (id : ℕ) → id < 2 ^ 64 → IsLine (lines.Live id)
 live_fits id lt = ((record { kind_is = refl; fits = lt }, tt), tt)
 
+-- the state at the end
+abbrev reached : Limits → Option Checkpoint → List Event → State
+reached limits c events = state_from (start_with limits c).state events
+
 -- the lines of the tables
-tables_fit : (limits : Limits) (events : List Event) → FitsWords (whole_dump limits events) → AllByRecursion IsLine (table_lines (placed (scratch (state_of limits events))))
-tables_fit limits events fits =
-    let t = placed (scratch (state_of limits events)) in
+tables_fit : (limits : Limits) (c : Option Checkpoint) (events : List Event) → FitsWords (whole_dump limits c events) → AllByRecursion IsLine (table_lines (placed (scratch (reached limits c events))))
+tables_fit limits c events fits =
+    let t = placed (scratch (reached limits c events)) in
     all_append IsLine (map lines.Live t.live) _ (all_map lines.Live _ live_fits t.live fits.tables.live)
     (all_append IsLine (map lines.Use t.uses) _ (all_map lines.Use _ (λ u fits. (fits, tt)) t.uses fits.tables.uses)
     (all_append IsLine (map lines.Map t.maps) _ (all_map lines.Map _ (λ x fits. (fits, tt)) t.maps fits.tables.maps)
-    (all_append IsLine (map lines.Label t.labels) (map lines.Order t.orders) (labels_of_state (state_of limits events) fits.tables.labels fits.tables.few)
-    (orders_of_state (state_of limits events) fits.tables.few))))
+    (all_append IsLine (map lines.Label t.labels) (map lines.Order t.orders) (labels_of_state (reached limits c events) fits.tables.labels fits.tables.few)
+    (orders_of_state (reached limits c events) fits.tables.few))))
+
+-- the lines of the checkpoint
+start_fit : (limits : Limits) (c : Option Checkpoint) → CanBegin limits c → AllByRecursion FitsLine (start_lines c) → AllByRecursion IsLine (start_lines c)
+start_fit limits None can fits = tt
+start_fit limits (Some c) can fits = checkpoint_fit limits c can fits
+
+can_come : (limits : Limits) (c : Option Checkpoint) → CanBegin limits c → CanCome limits c
+can_come limits None can = can
+can_come limits (Some c) can = objects_paged c.objects (objects_whole limits c can)
 
 -- all lines
-lines_fit : (limits : Limits) (events : List Event) → IsBootable limits → IsLegal limits events → FitsWords (whole_dump limits events) → AllByRecursion IsLine (lines_of (whole_dump limits events))
-lines_fit limits events bootable legal fits =
-    let t = placed (scratch (state_of limits events)) in
-    let told = events_fit limits events legal [] events refl fits.events in
-    (tt, (limits_fit limits bootable, all_append IsLine (flat_map event_lines events ++ table_lines t) (lines.End ∷ []) (all_append IsLine (flat_map event_lines events) (table_lines t) told (tables_fit limits events fits)) (tt, tt)))
+lines_fit : (limits : Limits) (c : Option Checkpoint) (events : List Event) → IsBootable limits → CanBegin limits c → IsLegalFrom (start_with limits c) events → FitsWords (whole_dump limits c events) → AllByRecursion IsLine (lines_of (whole_dump limits c events))
+lines_fit limits c events bootable can legal fits =
+    let t = placed (scratch (reached limits c events)) in
+    let told = events_fit (start_with limits c) events legal [] events refl fits.events in
+    let body = all_append IsLine (flat_map event_lines events) (table_lines t) told (tables_fit limits c events fits) in (
+      tt,
+      (
+        limits_fit limits bootable,
+        all_append IsLine (start_lines c ++ (flat_map event_lines events ++ table_lines t)) (lines.End ∷ [])
+            (all_append IsLine (start_lines c) (flat_map event_lines events ++ table_lines t) (start_fit limits c can fits.start) body) (tt, tt),
+      ),
+    )
 
-pub legal_dump : (limits : Limits) (events : List Event) → IsBootable limits → IsLegal limits events → FitsWords (whole_dump limits events) → IsDump (dump_text (whole_dump limits events)) (whole_dump limits events)
-legal_dump limits events bootable legal fits = record {
-  fit = lines_fit limits events bootable legal fits;
-  state = record { first = 9; owed = 0 };
-  ran = dump_runs (whole_dump limits events);
+pub legal_dump : (limits : Limits) (c : Option Checkpoint) (events : List Event) → IsBootable limits → CanBegin limits c → IsLegalFrom (start_with limits c) events → FitsWords (whole_dump limits c events) → IsDump (dump_text (whole_dump limits c events)) (whole_dump limits c events)
+legal_dump limits c events bootable can legal fits = record {
+  fit = lines_fit limits c events bootable can legal fits;
+  state = record { first = 13; pending = pendings.Nothing };
+  ran = dump_runs (whole_dump limits c events) (can_come limits c can);
   ended = refl;
   bytes_are = refl;
 }

@@ -1,50 +1,46 @@
 -- Lines: no two have one spelling, and none holds a line's end.
-use Rattle.std.proofs.Common.{lit<, ◌≡◌, ℕ, ◌<◌, cond, eqb, true, List, [], ◌++◌, length, get_or, refl, ap, ◌∙◌, sym, arith}
+use Rattle.std.proofs.Common.{lit<, ◌≡◌, ℕ, cond, eqb, true, List, get_or, refl, ap, ◌∙◌, sym}
 use Rattle.std.specs.Prelude.{codes}
 use Rattle.base.specs.declared.levels.Level.{Level}
 use Rattle.base.specs.declared.levels.Level.TheVariants.{Star, L0, L1, L2, L3}
 use Rattle.base.specs.declared.ranges.Limits.{Limits}
 use Rattle.text_words.specs.Lacks.{lacks}
-use Rattle.text_words.specs.Label.{LabelValue}
 use Rattle.text_words.proofs.LackLemmas.{lacks-append}
-use Rattle.spoken_calls.specs.declared.args.ArgKind.{ArgKind}
-use Rattle.spoken_calls.specs.Spoken.{AreArgs}
-use Rattle.spoken_calls.proofs.SpokenLemmas.{arguments_are_one, arguments_lack_end}
-use Rattle.call_text.specs.Place.{raw_of}
 use Rattle.call_text.proofs.TextLemmas.{IsGrammar}
 use Rattle.kernel_rules.specs.declared.tables.Used.{Used}
 use Rattle.kernel_rules.specs.declared.tables.Shown.{Shown}
 use Rattle.dump_text.specs.declared.tables.Stored.{Stored}
 use Rattle.kernel_rules.specs.declared.tables.Compared.{Compared}
-use Rattle.dump_text.specs.declared.words.Word.{Word}
 use Rattle.dump_text.specs.declared.line_words.Batch.{Batch}
 use Rattle.dump_text.specs.declared.lines.Line.{Line}
 use Rattle.dump_text.specs.declared.lines.Line.TheVariants as lines
 use Rattle.dump_text.specs.Event.{answered_text, single_text}
-use Rattle.dump_text.specs.Word.{args_of, words_text, spoken_label}
-use Rattle.dump_text.specs.Line.{digit_of, limits_words, batch_words, live_words, use_words, map_words, label_words, order_words, limits_kinds, batch_kinds, live_kinds, use_kinds, map_kinds, label_kinds, order_kinds, line_text, IsLine}
+use Rattle.dump_text.specs.Word.{args_of, spoken_label}
+use Rattle.dump_text.specs.Line.{digit_of, limits_words, batch_words, use_words, map_words, label_words, order_words, limits_kinds, batch_kinds, use_kinds, map_kinds, label_kinds, order_kinds, version_digit, line_text, IsLine}
+use Rattle.dump_text.specs.StateLine.{id_words, id_kinds}
+use Rattle.dump_text.specs.declared.lines.Format.{Format}
+use Rattle.dump_text.specs.declared.lines.Format.TheVariants as formats
+use Rattle.dump_text.specs.declared.state_lines.Part.TheVariants as parts
+use Rattle.dump_text.specs.declared.state_lines.StateLine.TheVariants as states
+use Rattle.dump_text.proofs.HeadLemmas.{words_lack_end, words_same, raw_is_one, apart}
+use Rattle.dump_text.proofs.StateLemmas.{mark, id_is_one, state_lacks_end, state_is_one}
 use Rattle.dump_text.proofs.Readings.{cancel}
-use Rattle.dump_text.proofs.CallLemmas.{label_again}
 use Rattle.dump_text.proofs.EventLemmas.{answered_is_one, answered_lacks_end, single_is_one, single_lacks_end}
 
-words_lack_end : (ks : List ArgKind) (b : List ℕ) (ws : List Word) → 0 < length ks → lacks 10 b ≡ true → AreArgs ks (args_of ws) → lacks 10 (b ++ words_text ws) ≡ true
-words_lack_end ks b ws some l is = lacks-append 10 b (words_text ws) l (arguments_lack_end ks (args_of ws) some is)
-
 line_lacks_end : (l : Line) → IsLine l → lacks 10 (line_text l) ≡ true
-line_lacks_end lines.Version is = refl
+line_lacks_end (lines.Version formats.One) is = refl
+line_lacks_end (lines.Version formats.Two) is = refl
 line_lacks_end (lines.Limits l) is = words_lack_end limits_kinds (codes "limits ") (limits_words l) (lit< tt) refl is.0
+line_lacks_end (lines.State s) is = state_lacks_end s is
 line_lacks_end (lines.Event e) is = lacks-append 10 (codes "event ") (single_text e) refl (single_lacks_end e is)
 line_lacks_end (lines.Batch b) is = words_lack_end batch_kinds (codes "batch ") (batch_words b) (lit< tt) refl is.0
 line_lacks_end (lines.Call a) is = lacks-append 10 (codes "call ") (answered_text a) refl (answered_lacks_end a is)
-line_lacks_end (lines.Live o) is = words_lack_end live_kinds (codes "live ") (live_words o) (lit< tt) refl is.0
+line_lacks_end (lines.Live o) is = words_lack_end id_kinds (codes "live ") (id_words o) (lit< tt) refl is.0
 line_lacks_end (lines.Use u) is = words_lack_end use_kinds (codes "use ") (use_words u) (lit< tt) refl is.0
 line_lacks_end (lines.Map s) is = words_lack_end map_kinds (codes "map ") (map_words s) (lit< tt) refl is.0
 line_lacks_end (lines.Label s) is = words_lack_end label_kinds (codes "label ") (label_words s) (lit< tt) refl is.0
 line_lacks_end (lines.Order o) is = words_lack_end order_kinds (codes "order ") (order_words o) (lit< tt) refl is.0
 line_lacks_end lines.End is = refl
-
-words_same : (ks : List ArgKind) (b : List ℕ) (xs ys : List Word) → 0 < length ks → AreArgs ks (args_of xs) → AreArgs ks (args_of ys) → b ++ words_text xs ≡ b ++ words_text ys → args_of xs ≡ args_of ys
-words_same ks b xs ys some ix iy e = arguments_are_one ks (args_of xs) (args_of ys) some ix iy (cancel b (words_text xs) (words_text ys) e)
 
 level_back : ℕ → Level
 level_back n = cond (eqb n 0) L0 (cond (eqb n 1) L1 (cond (eqb n 2) L2 (cond (eqb n 3) L3 Star)))
@@ -76,9 +72,6 @@ batch_is_one a b e =
     let r : a.count ≡ b.count = cc in
     (λ i. record { thread = p i; number = q i; count = r i })
 
-live_is_one : (a b : ℕ) → args_of (live_words a) ≡ args_of (live_words b) → a ≡ b
-live_is_one a b e = cc
-
 use_is_one : (a b : Used) → args_of (use_words a) ≡ args_of (use_words b) → a ≡ b
 use_is_one a b e =
     let p : a.id ≡ b.id = cc in
@@ -97,7 +90,7 @@ label_is_one : (a b : Stored) → args_of (label_words a) ≡ args_of (label_wor
 label_is_one a b e =
     let p : a.index ≡ b.index = cc in
     let q : spoken_label a.label ≡ spoken_label b.label = cc in
-    let r : a.label ≡ b.label = sym (label_again a.label) ∙ ap (λ (l : LabelValue). raw_of l []) q ∙ label_again b.label in
+    let r = raw_is_one a.label b.label q in
     (λ i. record { index = p i; label = r i })
 
 order_is_one : (a b : Compared) → args_of (order_words a) ≡ args_of (order_words b) → a ≡ b
@@ -107,128 +100,73 @@ order_is_one a b e =
     let r : a.bits ≡ b.bits = cc in
     (λ i. record { first = p i; second = q i; bits = r i })
 
+-- which line a text is, by its first three bytes
+kind_in : List ℕ → ℕ
+kind_in text =
+    cond (eqb (mark text) (mark (codes "sta"))) 0
+    (cond (eqb (mark text) (mark (codes "obj"))) 0
+    (cond (eqb (mark text) (mark (codes "nex"))) 0
+    (cond (eqb (mark text) (mark (codes "ent"))) 0
+    (cond (eqb (mark text) (mark (codes "byt"))) 0
+    (cond (eqb (mark text) (mark (codes "slo"))) 0
+    (cond (eqb (mark text) (mark (codes "pac"))) 0 (mark text)))))))
+
+kind : Line → ℕ
+kind (lines.Version f) = mark (codes "his")
+kind (lines.Limits l) = mark (codes "lim")
+kind (lines.State s) = 0
+kind (lines.Event e) = mark (codes "eve")
+kind (lines.Batch b) = mark (codes "bat")
+kind (lines.Call a) = mark (codes "cal")
+kind (lines.Live o) = mark (codes "liv")
+kind (lines.Use u) = mark (codes "use")
+kind (lines.Map s) = mark (codes "map")
+kind (lines.Label s) = mark (codes "lab")
+kind (lines.Order o) = mark (codes "ord")
+kind lines.End = mark (codes "end")
+
+kind_is : (l : Line) → kind_in (line_text l) ≡ kind l
+unfolding mark kind_in kind
+kind_is (lines.Version f) = refl
+kind_is (lines.Limits l) = refl
+kind_is (lines.State (states.Counters c)) = refl
+kind_is (lines.State (states.Object o)) = refl
+kind_is (lines.State (states.Next n)) = refl
+kind_is (lines.State (states.Part (parts.Entry id))) = refl
+kind_is (lines.State (states.Part (parts.Row r))) = refl
+kind_is (lines.State (states.Part (parts.Slot f))) = refl
+kind_is (lines.State (states.Part (parts.Packet d))) = refl
+kind_is (lines.Event e) = refl
+kind_is (lines.Batch b) = refl
+kind_is (lines.Call a) = refl
+kind_is (lines.Live o) = refl
+kind_is (lines.Use u) = refl
+kind_is (lines.Map s) = refl
+kind_is (lines.Label s) = refl
+kind_is (lines.Order o) = refl
+kind_is lines.End = refl
+
+version_is_one : (f g : Format) → version_digit f ≡ version_digit g → f ≡ g
+version_is_one formats.One formats.One e = refl
+version_is_one formats.One formats.Two e = absurd (apart 49 50 refl e)
+version_is_one formats.Two formats.One e = absurd (apart 50 49 refl e)
+version_is_one formats.Two formats.Two e = refl
+
 line_is_one : (a b : Line) → IsLine a → IsLine b → line_text a ≡ line_text b → a ≡ b
-line_is_one lines.Version lines.Version ia ib same = refl
-line_is_one lines.Version (lines.Limits l') ia ib same = absurd (let h : ◌≡◌ {A = ℕ} 104 108 = ap (λ (x : List ℕ). get_or x 0 0) same in omega (arith, h))
-line_is_one lines.Version (lines.Event e') ia ib same = absurd (let h : ◌≡◌ {A = ℕ} 104 101 = ap (λ (x : List ℕ). get_or x 0 0) same in omega (arith, h))
-line_is_one lines.Version (lines.Batch b') ia ib same = absurd (let h : ◌≡◌ {A = ℕ} 104 98 = ap (λ (x : List ℕ). get_or x 0 0) same in omega (arith, h))
-line_is_one lines.Version (lines.Call a') ia ib same = absurd (let h : ◌≡◌ {A = ℕ} 104 99 = ap (λ (x : List ℕ). get_or x 0 0) same in omega (arith, h))
-line_is_one lines.Version (lines.Live o') ia ib same = absurd (let h : ◌≡◌ {A = ℕ} 104 108 = ap (λ (x : List ℕ). get_or x 0 0) same in omega (arith, h))
-line_is_one lines.Version (lines.Use u') ia ib same = absurd (let h : ◌≡◌ {A = ℕ} 104 117 = ap (λ (x : List ℕ). get_or x 0 0) same in omega (arith, h))
-line_is_one lines.Version (lines.Map s') ia ib same = absurd (let h : ◌≡◌ {A = ℕ} 104 109 = ap (λ (x : List ℕ). get_or x 0 0) same in omega (arith, h))
-line_is_one lines.Version (lines.Label s') ia ib same = absurd (let h : ◌≡◌ {A = ℕ} 104 108 = ap (λ (x : List ℕ). get_or x 0 0) same in omega (arith, h))
-line_is_one lines.Version (lines.Order o') ia ib same = absurd (let h : ◌≡◌ {A = ℕ} 104 111 = ap (λ (x : List ℕ). get_or x 0 0) same in omega (arith, h))
-line_is_one lines.Version lines.End ia ib same = absurd (let h : ◌≡◌ {A = ℕ} 104 101 = ap (λ (x : List ℕ). get_or x 0 0) same in omega (arith, h))
-line_is_one (lines.Limits l) lines.Version ia ib same = absurd (let h : ◌≡◌ {A = ℕ} 108 104 = ap (λ (x : List ℕ). get_or x 0 0) same in omega (arith, h))
-line_is_one (lines.Limits l) (lines.Limits l') ia ib same = ap lines.Limits (limits_are_one l l' (words_same limits_kinds (codes "limits ") (limits_words l) (limits_words l') (lit< tt) ia.0 ib.0 same))
-line_is_one (lines.Limits l) (lines.Event e') ia ib same = absurd (let h : ◌≡◌ {A = ℕ} 108 101 = ap (λ (x : List ℕ). get_or x 0 0) same in omega (arith, h))
-line_is_one (lines.Limits l) (lines.Batch b') ia ib same = absurd (let h : ◌≡◌ {A = ℕ} 108 98 = ap (λ (x : List ℕ). get_or x 0 0) same in omega (arith, h))
-line_is_one (lines.Limits l) (lines.Call a') ia ib same = absurd (let h : ◌≡◌ {A = ℕ} 108 99 = ap (λ (x : List ℕ). get_or x 0 0) same in omega (arith, h))
-line_is_one (lines.Limits l) (lines.Live o') ia ib same = absurd (let h : ◌≡◌ {A = ℕ} 109 118 = ap (λ (x : List ℕ). get_or x 2 0) same in omega (arith, h))
-line_is_one (lines.Limits l) (lines.Use u') ia ib same = absurd (let h : ◌≡◌ {A = ℕ} 108 117 = ap (λ (x : List ℕ). get_or x 0 0) same in omega (arith, h))
-line_is_one (lines.Limits l) (lines.Map s') ia ib same = absurd (let h : ◌≡◌ {A = ℕ} 108 109 = ap (λ (x : List ℕ). get_or x 0 0) same in omega (arith, h))
-line_is_one (lines.Limits l) (lines.Label s') ia ib same = absurd (let h : ◌≡◌ {A = ℕ} 105 97 = ap (λ (x : List ℕ). get_or x 1 0) same in omega (arith, h))
-line_is_one (lines.Limits l) (lines.Order o') ia ib same = absurd (let h : ◌≡◌ {A = ℕ} 108 111 = ap (λ (x : List ℕ). get_or x 0 0) same in omega (arith, h))
-line_is_one (lines.Limits l) lines.End ia ib same = absurd (let h : ◌≡◌ {A = ℕ} 108 101 = ap (λ (x : List ℕ). get_or x 0 0) same in omega (arith, h))
-line_is_one (lines.Event e) lines.Version ia ib same = absurd (let h : ◌≡◌ {A = ℕ} 101 104 = ap (λ (x : List ℕ). get_or x 0 0) same in omega (arith, h))
-line_is_one (lines.Event e) (lines.Limits l') ia ib same = absurd (let h : ◌≡◌ {A = ℕ} 101 108 = ap (λ (x : List ℕ). get_or x 0 0) same in omega (arith, h))
-line_is_one (lines.Event e) (lines.Event e') ia ib same = ap lines.Event (single_is_one e e' ia ib (cancel (codes "event ") (single_text e) (single_text e') same))
-line_is_one (lines.Event e) (lines.Batch b') ia ib same = absurd (let h : ◌≡◌ {A = ℕ} 101 98 = ap (λ (x : List ℕ). get_or x 0 0) same in omega (arith, h))
-line_is_one (lines.Event e) (lines.Call a') ia ib same = absurd (let h : ◌≡◌ {A = ℕ} 101 99 = ap (λ (x : List ℕ). get_or x 0 0) same in omega (arith, h))
-line_is_one (lines.Event e) (lines.Live o') ia ib same = absurd (let h : ◌≡◌ {A = ℕ} 101 108 = ap (λ (x : List ℕ). get_or x 0 0) same in omega (arith, h))
-line_is_one (lines.Event e) (lines.Use u') ia ib same = absurd (let h : ◌≡◌ {A = ℕ} 101 117 = ap (λ (x : List ℕ). get_or x 0 0) same in omega (arith, h))
-line_is_one (lines.Event e) (lines.Map s') ia ib same = absurd (let h : ◌≡◌ {A = ℕ} 101 109 = ap (λ (x : List ℕ). get_or x 0 0) same in omega (arith, h))
-line_is_one (lines.Event e) (lines.Label s') ia ib same = absurd (let h : ◌≡◌ {A = ℕ} 101 108 = ap (λ (x : List ℕ). get_or x 0 0) same in omega (arith, h))
-line_is_one (lines.Event e) (lines.Order o') ia ib same = absurd (let h : ◌≡◌ {A = ℕ} 101 111 = ap (λ (x : List ℕ). get_or x 0 0) same in omega (arith, h))
-line_is_one (lines.Event e) lines.End ia ib same = absurd (let h : ◌≡◌ {A = ℕ} 118 110 = ap (λ (x : List ℕ). get_or x 1 0) same in omega (arith, h))
-line_is_one (lines.Batch b) lines.Version ia ib same = absurd (let h : ◌≡◌ {A = ℕ} 98 104 = ap (λ (x : List ℕ). get_or x 0 0) same in omega (arith, h))
-line_is_one (lines.Batch b) (lines.Limits l') ia ib same = absurd (let h : ◌≡◌ {A = ℕ} 98 108 = ap (λ (x : List ℕ). get_or x 0 0) same in omega (arith, h))
-line_is_one (lines.Batch b) (lines.Event e') ia ib same = absurd (let h : ◌≡◌ {A = ℕ} 98 101 = ap (λ (x : List ℕ). get_or x 0 0) same in omega (arith, h))
-line_is_one (lines.Batch b) (lines.Batch b') ia ib same = ap lines.Batch (batch_is_one b b' (words_same batch_kinds (codes "batch ") (batch_words b) (batch_words b') (lit< tt) ia.0 ib.0 same))
-line_is_one (lines.Batch b) (lines.Call a') ia ib same = absurd (let h : ◌≡◌ {A = ℕ} 98 99 = ap (λ (x : List ℕ). get_or x 0 0) same in omega (arith, h))
-line_is_one (lines.Batch b) (lines.Live o') ia ib same = absurd (let h : ◌≡◌ {A = ℕ} 98 108 = ap (λ (x : List ℕ). get_or x 0 0) same in omega (arith, h))
-line_is_one (lines.Batch b) (lines.Use u') ia ib same = absurd (let h : ◌≡◌ {A = ℕ} 98 117 = ap (λ (x : List ℕ). get_or x 0 0) same in omega (arith, h))
-line_is_one (lines.Batch b) (lines.Map s') ia ib same = absurd (let h : ◌≡◌ {A = ℕ} 98 109 = ap (λ (x : List ℕ). get_or x 0 0) same in omega (arith, h))
-line_is_one (lines.Batch b) (lines.Label s') ia ib same = absurd (let h : ◌≡◌ {A = ℕ} 98 108 = ap (λ (x : List ℕ). get_or x 0 0) same in omega (arith, h))
-line_is_one (lines.Batch b) (lines.Order o') ia ib same = absurd (let h : ◌≡◌ {A = ℕ} 98 111 = ap (λ (x : List ℕ). get_or x 0 0) same in omega (arith, h))
-line_is_one (lines.Batch b) lines.End ia ib same = absurd (let h : ◌≡◌ {A = ℕ} 98 101 = ap (λ (x : List ℕ). get_or x 0 0) same in omega (arith, h))
-line_is_one (lines.Call a) lines.Version ia ib same = absurd (let h : ◌≡◌ {A = ℕ} 99 104 = ap (λ (x : List ℕ). get_or x 0 0) same in omega (arith, h))
-line_is_one (lines.Call a) (lines.Limits l') ia ib same = absurd (let h : ◌≡◌ {A = ℕ} 99 108 = ap (λ (x : List ℕ). get_or x 0 0) same in omega (arith, h))
-line_is_one (lines.Call a) (lines.Event e') ia ib same = absurd (let h : ◌≡◌ {A = ℕ} 99 101 = ap (λ (x : List ℕ). get_or x 0 0) same in omega (arith, h))
-line_is_one (lines.Call a) (lines.Batch b') ia ib same = absurd (let h : ◌≡◌ {A = ℕ} 99 98 = ap (λ (x : List ℕ). get_or x 0 0) same in omega (arith, h))
-line_is_one (lines.Call a) (lines.Call a') ia ib same = ap lines.Call (answered_is_one a a' ia ib (cancel (codes "call ") (answered_text a) (answered_text a') same))
-line_is_one (lines.Call a) (lines.Live o') ia ib same = absurd (let h : ◌≡◌ {A = ℕ} 99 108 = ap (λ (x : List ℕ). get_or x 0 0) same in omega (arith, h))
-line_is_one (lines.Call a) (lines.Use u') ia ib same = absurd (let h : ◌≡◌ {A = ℕ} 99 117 = ap (λ (x : List ℕ). get_or x 0 0) same in omega (arith, h))
-line_is_one (lines.Call a) (lines.Map s') ia ib same = absurd (let h : ◌≡◌ {A = ℕ} 99 109 = ap (λ (x : List ℕ). get_or x 0 0) same in omega (arith, h))
-line_is_one (lines.Call a) (lines.Label s') ia ib same = absurd (let h : ◌≡◌ {A = ℕ} 99 108 = ap (λ (x : List ℕ). get_or x 0 0) same in omega (arith, h))
-line_is_one (lines.Call a) (lines.Order o') ia ib same = absurd (let h : ◌≡◌ {A = ℕ} 99 111 = ap (λ (x : List ℕ). get_or x 0 0) same in omega (arith, h))
-line_is_one (lines.Call a) lines.End ia ib same = absurd (let h : ◌≡◌ {A = ℕ} 99 101 = ap (λ (x : List ℕ). get_or x 0 0) same in omega (arith, h))
-line_is_one (lines.Live o) lines.Version ia ib same = absurd (let h : ◌≡◌ {A = ℕ} 108 104 = ap (λ (x : List ℕ). get_or x 0 0) same in omega (arith, h))
-line_is_one (lines.Live o) (lines.Limits l') ia ib same = absurd (let h : ◌≡◌ {A = ℕ} 118 109 = ap (λ (x : List ℕ). get_or x 2 0) same in omega (arith, h))
-line_is_one (lines.Live o) (lines.Event e') ia ib same = absurd (let h : ◌≡◌ {A = ℕ} 108 101 = ap (λ (x : List ℕ). get_or x 0 0) same in omega (arith, h))
-line_is_one (lines.Live o) (lines.Batch b') ia ib same = absurd (let h : ◌≡◌ {A = ℕ} 108 98 = ap (λ (x : List ℕ). get_or x 0 0) same in omega (arith, h))
-line_is_one (lines.Live o) (lines.Call a') ia ib same = absurd (let h : ◌≡◌ {A = ℕ} 108 99 = ap (λ (x : List ℕ). get_or x 0 0) same in omega (arith, h))
-line_is_one (lines.Live o) (lines.Live o') ia ib same = ap lines.Live (live_is_one o o' (words_same live_kinds (codes "live ") (live_words o) (live_words o') (lit< tt) ia.0 ib.0 same))
-line_is_one (lines.Live o) (lines.Use u') ia ib same = absurd (let h : ◌≡◌ {A = ℕ} 108 117 = ap (λ (x : List ℕ). get_or x 0 0) same in omega (arith, h))
-line_is_one (lines.Live o) (lines.Map s') ia ib same = absurd (let h : ◌≡◌ {A = ℕ} 108 109 = ap (λ (x : List ℕ). get_or x 0 0) same in omega (arith, h))
-line_is_one (lines.Live o) (lines.Label s') ia ib same = absurd (let h : ◌≡◌ {A = ℕ} 105 97 = ap (λ (x : List ℕ). get_or x 1 0) same in omega (arith, h))
-line_is_one (lines.Live o) (lines.Order o') ia ib same = absurd (let h : ◌≡◌ {A = ℕ} 108 111 = ap (λ (x : List ℕ). get_or x 0 0) same in omega (arith, h))
-line_is_one (lines.Live o) lines.End ia ib same = absurd (let h : ◌≡◌ {A = ℕ} 108 101 = ap (λ (x : List ℕ). get_or x 0 0) same in omega (arith, h))
-line_is_one (lines.Use u) lines.Version ia ib same = absurd (let h : ◌≡◌ {A = ℕ} 117 104 = ap (λ (x : List ℕ). get_or x 0 0) same in omega (arith, h))
-line_is_one (lines.Use u) (lines.Limits l') ia ib same = absurd (let h : ◌≡◌ {A = ℕ} 117 108 = ap (λ (x : List ℕ). get_or x 0 0) same in omega (arith, h))
-line_is_one (lines.Use u) (lines.Event e') ia ib same = absurd (let h : ◌≡◌ {A = ℕ} 117 101 = ap (λ (x : List ℕ). get_or x 0 0) same in omega (arith, h))
-line_is_one (lines.Use u) (lines.Batch b') ia ib same = absurd (let h : ◌≡◌ {A = ℕ} 117 98 = ap (λ (x : List ℕ). get_or x 0 0) same in omega (arith, h))
-line_is_one (lines.Use u) (lines.Call a') ia ib same = absurd (let h : ◌≡◌ {A = ℕ} 117 99 = ap (λ (x : List ℕ). get_or x 0 0) same in omega (arith, h))
-line_is_one (lines.Use u) (lines.Live o') ia ib same = absurd (let h : ◌≡◌ {A = ℕ} 117 108 = ap (λ (x : List ℕ). get_or x 0 0) same in omega (arith, h))
-line_is_one (lines.Use u) (lines.Use u') ia ib same = ap lines.Use (use_is_one u u' (words_same use_kinds (codes "use ") (use_words u) (use_words u') (lit< tt) ia.0 ib.0 same))
-line_is_one (lines.Use u) (lines.Map s') ia ib same = absurd (let h : ◌≡◌ {A = ℕ} 117 109 = ap (λ (x : List ℕ). get_or x 0 0) same in omega (arith, h))
-line_is_one (lines.Use u) (lines.Label s') ia ib same = absurd (let h : ◌≡◌ {A = ℕ} 117 108 = ap (λ (x : List ℕ). get_or x 0 0) same in omega (arith, h))
-line_is_one (lines.Use u) (lines.Order o') ia ib same = absurd (let h : ◌≡◌ {A = ℕ} 117 111 = ap (λ (x : List ℕ). get_or x 0 0) same in omega (arith, h))
-line_is_one (lines.Use u) lines.End ia ib same = absurd (let h : ◌≡◌ {A = ℕ} 117 101 = ap (λ (x : List ℕ). get_or x 0 0) same in omega (arith, h))
-line_is_one (lines.Map s) lines.Version ia ib same = absurd (let h : ◌≡◌ {A = ℕ} 109 104 = ap (λ (x : List ℕ). get_or x 0 0) same in omega (arith, h))
-line_is_one (lines.Map s) (lines.Limits l') ia ib same = absurd (let h : ◌≡◌ {A = ℕ} 109 108 = ap (λ (x : List ℕ). get_or x 0 0) same in omega (arith, h))
-line_is_one (lines.Map s) (lines.Event e') ia ib same = absurd (let h : ◌≡◌ {A = ℕ} 109 101 = ap (λ (x : List ℕ). get_or x 0 0) same in omega (arith, h))
-line_is_one (lines.Map s) (lines.Batch b') ia ib same = absurd (let h : ◌≡◌ {A = ℕ} 109 98 = ap (λ (x : List ℕ). get_or x 0 0) same in omega (arith, h))
-line_is_one (lines.Map s) (lines.Call a') ia ib same = absurd (let h : ◌≡◌ {A = ℕ} 109 99 = ap (λ (x : List ℕ). get_or x 0 0) same in omega (arith, h))
-line_is_one (lines.Map s) (lines.Live o') ia ib same = absurd (let h : ◌≡◌ {A = ℕ} 109 108 = ap (λ (x : List ℕ). get_or x 0 0) same in omega (arith, h))
-line_is_one (lines.Map s) (lines.Use u') ia ib same = absurd (let h : ◌≡◌ {A = ℕ} 109 117 = ap (λ (x : List ℕ). get_or x 0 0) same in omega (arith, h))
-line_is_one (lines.Map s) (lines.Map s') ia ib same = ap lines.Map (map_is_one s s' (words_same map_kinds (codes "map ") (map_words s) (map_words s') (lit< tt) ia.0 ib.0 same))
-line_is_one (lines.Map s) (lines.Label s') ia ib same = absurd (let h : ◌≡◌ {A = ℕ} 109 108 = ap (λ (x : List ℕ). get_or x 0 0) same in omega (arith, h))
-line_is_one (lines.Map s) (lines.Order o') ia ib same = absurd (let h : ◌≡◌ {A = ℕ} 109 111 = ap (λ (x : List ℕ). get_or x 0 0) same in omega (arith, h))
-line_is_one (lines.Map s) lines.End ia ib same = absurd (let h : ◌≡◌ {A = ℕ} 109 101 = ap (λ (x : List ℕ). get_or x 0 0) same in omega (arith, h))
-line_is_one (lines.Label s) lines.Version ia ib same = absurd (let h : ◌≡◌ {A = ℕ} 108 104 = ap (λ (x : List ℕ). get_or x 0 0) same in omega (arith, h))
-line_is_one (lines.Label s) (lines.Limits l') ia ib same = absurd (let h : ◌≡◌ {A = ℕ} 97 105 = ap (λ (x : List ℕ). get_or x 1 0) same in omega (arith, h))
-line_is_one (lines.Label s) (lines.Event e') ia ib same = absurd (let h : ◌≡◌ {A = ℕ} 108 101 = ap (λ (x : List ℕ). get_or x 0 0) same in omega (arith, h))
-line_is_one (lines.Label s) (lines.Batch b') ia ib same = absurd (let h : ◌≡◌ {A = ℕ} 108 98 = ap (λ (x : List ℕ). get_or x 0 0) same in omega (arith, h))
-line_is_one (lines.Label s) (lines.Call a') ia ib same = absurd (let h : ◌≡◌ {A = ℕ} 108 99 = ap (λ (x : List ℕ). get_or x 0 0) same in omega (arith, h))
-line_is_one (lines.Label s) (lines.Live o') ia ib same = absurd (let h : ◌≡◌ {A = ℕ} 97 105 = ap (λ (x : List ℕ). get_or x 1 0) same in omega (arith, h))
-line_is_one (lines.Label s) (lines.Use u') ia ib same = absurd (let h : ◌≡◌ {A = ℕ} 108 117 = ap (λ (x : List ℕ). get_or x 0 0) same in omega (arith, h))
-line_is_one (lines.Label s) (lines.Map s') ia ib same = absurd (let h : ◌≡◌ {A = ℕ} 108 109 = ap (λ (x : List ℕ). get_or x 0 0) same in omega (arith, h))
-line_is_one (lines.Label s) (lines.Label s') ia ib same = ap lines.Label (label_is_one s s' (words_same label_kinds (codes "label ") (label_words s) (label_words s') (lit< tt) ia.0 ib.0 same))
-line_is_one (lines.Label s) (lines.Order o') ia ib same = absurd (let h : ◌≡◌ {A = ℕ} 108 111 = ap (λ (x : List ℕ). get_or x 0 0) same in omega (arith, h))
-line_is_one (lines.Label s) lines.End ia ib same = absurd (let h : ◌≡◌ {A = ℕ} 108 101 = ap (λ (x : List ℕ). get_or x 0 0) same in omega (arith, h))
-line_is_one (lines.Order o) lines.Version ia ib same = absurd (let h : ◌≡◌ {A = ℕ} 111 104 = ap (λ (x : List ℕ). get_or x 0 0) same in omega (arith, h))
-line_is_one (lines.Order o) (lines.Limits l') ia ib same = absurd (let h : ◌≡◌ {A = ℕ} 111 108 = ap (λ (x : List ℕ). get_or x 0 0) same in omega (arith, h))
-line_is_one (lines.Order o) (lines.Event e') ia ib same = absurd (let h : ◌≡◌ {A = ℕ} 111 101 = ap (λ (x : List ℕ). get_or x 0 0) same in omega (arith, h))
-line_is_one (lines.Order o) (lines.Batch b') ia ib same = absurd (let h : ◌≡◌ {A = ℕ} 111 98 = ap (λ (x : List ℕ). get_or x 0 0) same in omega (arith, h))
-line_is_one (lines.Order o) (lines.Call a') ia ib same = absurd (let h : ◌≡◌ {A = ℕ} 111 99 = ap (λ (x : List ℕ). get_or x 0 0) same in omega (arith, h))
-line_is_one (lines.Order o) (lines.Live o') ia ib same = absurd (let h : ◌≡◌ {A = ℕ} 111 108 = ap (λ (x : List ℕ). get_or x 0 0) same in omega (arith, h))
-line_is_one (lines.Order o) (lines.Use u') ia ib same = absurd (let h : ◌≡◌ {A = ℕ} 111 117 = ap (λ (x : List ℕ). get_or x 0 0) same in omega (arith, h))
-line_is_one (lines.Order o) (lines.Map s') ia ib same = absurd (let h : ◌≡◌ {A = ℕ} 111 109 = ap (λ (x : List ℕ). get_or x 0 0) same in omega (arith, h))
-line_is_one (lines.Order o) (lines.Label s') ia ib same = absurd (let h : ◌≡◌ {A = ℕ} 111 108 = ap (λ (x : List ℕ). get_or x 0 0) same in omega (arith, h))
-line_is_one (lines.Order o) (lines.Order o') ia ib same = ap lines.Order (order_is_one o o' (words_same order_kinds (codes "order ") (order_words o) (order_words o') (lit< tt) ia.0 ib.0 same))
-line_is_one (lines.Order o) lines.End ia ib same = absurd (let h : ◌≡◌ {A = ℕ} 111 101 = ap (λ (x : List ℕ). get_or x 0 0) same in omega (arith, h))
-line_is_one lines.End lines.Version ia ib same = absurd (let h : ◌≡◌ {A = ℕ} 101 104 = ap (λ (x : List ℕ). get_or x 0 0) same in omega (arith, h))
-line_is_one lines.End (lines.Limits l') ia ib same = absurd (let h : ◌≡◌ {A = ℕ} 101 108 = ap (λ (x : List ℕ). get_or x 0 0) same in omega (arith, h))
-line_is_one lines.End (lines.Event e') ia ib same = absurd (let h : ◌≡◌ {A = ℕ} 110 118 = ap (λ (x : List ℕ). get_or x 1 0) same in omega (arith, h))
-line_is_one lines.End (lines.Batch b') ia ib same = absurd (let h : ◌≡◌ {A = ℕ} 101 98 = ap (λ (x : List ℕ). get_or x 0 0) same in omega (arith, h))
-line_is_one lines.End (lines.Call a') ia ib same = absurd (let h : ◌≡◌ {A = ℕ} 101 99 = ap (λ (x : List ℕ). get_or x 0 0) same in omega (arith, h))
-line_is_one lines.End (lines.Live o') ia ib same = absurd (let h : ◌≡◌ {A = ℕ} 101 108 = ap (λ (x : List ℕ). get_or x 0 0) same in omega (arith, h))
-line_is_one lines.End (lines.Use u') ia ib same = absurd (let h : ◌≡◌ {A = ℕ} 101 117 = ap (λ (x : List ℕ). get_or x 0 0) same in omega (arith, h))
-line_is_one lines.End (lines.Map s') ia ib same = absurd (let h : ◌≡◌ {A = ℕ} 101 109 = ap (λ (x : List ℕ). get_or x 0 0) same in omega (arith, h))
-line_is_one lines.End (lines.Label s') ia ib same = absurd (let h : ◌≡◌ {A = ℕ} 101 108 = ap (λ (x : List ℕ). get_or x 0 0) same in omega (arith, h))
-line_is_one lines.End (lines.Order o') ia ib same = absurd (let h : ◌≡◌ {A = ℕ} 101 111 = ap (λ (x : List ℕ). get_or x 0 0) same in omega (arith, h))
+unfolding mark kind
+line_is_one (lines.Version a) (lines.Version b) ia ib same = ap lines.Version (version_is_one a b (ap (λ (x : List ℕ). get_or x 12 0) same))
+line_is_one (lines.Limits a) (lines.Limits b) ia ib same = ap lines.Limits (limits_are_one a b (words_same limits_kinds (codes "limits ") (limits_words a) (limits_words b) (lit< tt) ia.0 ib.0 same))
+line_is_one (lines.State a) (lines.State b) ia ib same = ap lines.State (state_is_one a b ia ib same)
+line_is_one (lines.Event a) (lines.Event b) ia ib same = ap lines.Event (single_is_one a b ia ib (cancel (codes "event ") (single_text a) (single_text b) same))
+line_is_one (lines.Batch a) (lines.Batch b) ia ib same = ap lines.Batch (batch_is_one a b (words_same batch_kinds (codes "batch ") (batch_words a) (batch_words b) (lit< tt) ia.0 ib.0 same))
+line_is_one (lines.Call a) (lines.Call b) ia ib same = ap lines.Call (answered_is_one a b ia ib (cancel (codes "call ") (answered_text a) (answered_text b) same))
+line_is_one (lines.Live a) (lines.Live b) ia ib same = ap lines.Live (id_is_one a b (words_same id_kinds (codes "live ") (id_words a) (id_words b) (lit< tt) ia.0 ib.0 same))
+line_is_one (lines.Use a) (lines.Use b) ia ib same = ap lines.Use (use_is_one a b (words_same use_kinds (codes "use ") (use_words a) (use_words b) (lit< tt) ia.0 ib.0 same))
+line_is_one (lines.Map a) (lines.Map b) ia ib same = ap lines.Map (map_is_one a b (words_same map_kinds (codes "map ") (map_words a) (map_words b) (lit< tt) ia.0 ib.0 same))
+line_is_one (lines.Label a) (lines.Label b) ia ib same = ap lines.Label (label_is_one a b (words_same label_kinds (codes "label ") (label_words a) (label_words b) (lit< tt) ia.0 ib.0 same))
+line_is_one (lines.Order a) (lines.Order b) ia ib same = ap lines.Order (order_is_one a b (words_same order_kinds (codes "order ") (order_words a) (order_words b) (lit< tt) ia.0 ib.0 same))
 line_is_one lines.End lines.End ia ib same = refl
+line_is_one a b ia ib same = absurd (apart (kind a) (kind b) refl (sym (kind_is a) ∙ ap kind_in same ∙ kind_is b))
 
 pub dump_grammar : IsGrammar line_text IsLine
 dump_grammar = record { lacks_end = line_lacks_end; one = line_is_one }

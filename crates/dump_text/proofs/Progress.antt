@@ -1,24 +1,24 @@
 -- How far a dump has been read.
-use Rattle.std.proofs.Common.{◌≡◌, ◌≢◌, ℕ, ◌+◌, ◌<◌, ◌≤◌, ◌==◌, Bool, true, List, [], ◌∷◌, ◌++◌, length, Option, Some, None, refl, ap, ◌∙◌, sym, arith, subst, length-append}
+use Rattle.std.proofs.Common.{◌≡◌, ℕ, ◌+◌, ◌<◌, ◌≤◌, Bool, true, List, [], ◌∷◌, ◌++◌, length, Option, Some, None, refl, ap, ◌∙◌, sym, arith, subst, length-append}
 use Rattle.std.specs.Prelude.{IsSome}
-use Rattle.std.proofs.lemmas.Bool.{ne_eqb}
 use Rattle.std.proofs.lemmas.List.{append-nil}
 use Rattle.text_words.specs.Lacks.{lacks}
 use Rattle.call_text.proofs.TextLemmas.{Came, came_more, fault_no_end, fault_line}
-use Rattle.dump_text.specs.declared.dumps.Place.{Place}
+use Rattle.dump_text.specs.declared.places.Place.{Place}
 use Rattle.dump_text.specs.declared.lines.Line.{Line}
 use Rattle.dump_text.specs.Lists.{DumpLists}
 use Rattle.dump_text.specs.Line.{line_text, IsLine}
-use Rattle.dump_text.specs.Dump.{next, ends, start, dump_text, IsDump, DumpFaultsAt}
+use Rattle.dump_text.specs.Dump.{next, ends, start, lines_of, dump_text, IsDump, DumpFaultsAt}
 use Rattle.dump_text.specs.Making.{Fills}
-use Rattle.dump_text.specs.Reading.{nothing, Takes}
+use Rattle.dump_text.specs.Reading.{nothing, added, Takes}
 use Rattle.dump_text.proofs.LineLemmas.{dump_grammar}
-use Rattle.dump_text.proofs.Ordering.{Shows, shows_nothing, shows_more, shows_all}
+use Rattle.dump_text.proofs.Told.{told, told_push, told_dump}
+use Rattle.dump_text.proofs.Relined.{all_spelled}
 
 pub record Progress (bytes : List ℕ) (d : DumpLists) (place : Place) (count : ℕ) (rest : List ℕ) : Type 0 where
   pub lines : List Line
   pub came : Came line_text IsLine next start bytes lines place rest
-  pub shows : Shows place d lines
+  pub tells : d ≡ told lines nothing
   pub counted : count ≡ length lines
   pub short : count + length rest ≤ length bytes
 
@@ -27,7 +27,7 @@ pub progress_start : (bytes : List ℕ) (d : DumpLists) → d ≡ nothing → Pr
 progress_start bytes d e = record {
   lines = [];
   came = record { fit = tt; ran = refl; parts = refl };
-  shows = subst (λ (x : DumpLists). Shows start x []) (sym e) shows_nothing;
+  tells = e;
   counted = refl;
   short = omega arith;
 }
@@ -38,7 +38,7 @@ pub progress_more : (bytes : List ℕ) (d more : DumpLists) (first later : Place
 progress_more bytes d more first later count rest l after at parts shorter t = record {
   lines = at.lines ++ t.0 ∷ [];
   came = came_more line_text IsLine next start bytes at.lines first rest l after t.0 later at.came parts t.1 t.2 t.3;
-  shows = subst (λ (x : DumpLists). Shows later x (at.lines ++ t.0 ∷ [])) (sym t.4) (shows_more first later t.0 d at.lines t.1 t.3 at.shows);
+  tells = t.4 ∙ ap (added t.0) at.tells ∙ sym (told_push at.lines t.0 nothing);
   counted = (let n = at.counted in omega (arith, n, length-append at.lines (t.0 ∷ [])));
   short = (let n = at.short in omega (arith, n, shorter));
 }
@@ -57,15 +57,17 @@ nothing_left : (xs rest : List ℕ) → rest ≡ [] → xs ++ rest ≡ xs
 nothing_left xs rest e = ap (λ (x : List ℕ). xs ++ x) e ∙ append-nil xs
 
 -- all was read
-pub progress_end : (bytes : List ℕ) (d : DumpLists) (first : Place) (count : ℕ) (rest : List ℕ) → Progress bytes d first count rest → rest ≡ [] → first.first ≡ 9 → IsDump bytes d
+pub progress_end : (bytes : List ℕ) (d : DumpLists) (first : Place) (count : ℕ) (rest : List ℕ) → Progress bytes d first count rest → rest ≡ [] → ends first ≡ true → IsDump bytes d
 progress_end bytes d first count rest at none e =
-    let all = shows_all first d at.lines e at.shows in
-    let came = subst (λ (vs : List Line). Came line_text IsLine next start bytes vs first rest) all at.came in
+    let all = all_spelled at.lines first at.came.fit at.came.ran e in
+    let same : all.dump ≡ d = sym (told_dump all.dump) ∙ sym (ap (λ (vs : List Line). told vs nothing) all.is) ∙ sym at.tells in
+    let lines_are : at.lines ≡ lines_of d = all.is ∙ ap lines_of same in
+    let came = subst (λ (vs : List Line). Came line_text IsLine next start bytes vs first rest) lines_are at.came in
     record {
       fit = came.fit;
       state = first;
       ran = came.ran;
-      ended = ap (λ (n : ℕ). n == 9) e;
+      ended = e;
       bytes_are = came.parts ∙ nothing_left (dump_text d) rest none;
     }
 

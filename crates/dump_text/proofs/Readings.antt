@@ -9,7 +9,7 @@ use Rattle.spoken_calls.proofs.SpokenLemmas.{arguments_are_one}
 use Rattle.dump_text.specs.declared.words.Word.{Word}
 use Rattle.dump_text.specs.Word.{args_of, words_text}
 use Rattle.dump_text.specs.Making.{Makes, Fills}
-use Rattle.dump_text.specs.Line.{AreAllowed}
+use Rattle.dump_text.specs.Allowed.{AreAllowed}
 
 -- what comes after one beginning
 pub cancel : (b x y : List ℕ) → b ++ x ≡ b ++ y → x ≡ y

@@ -1,99 +1,181 @@
 -- The lines of a dump stand in the order of the kinds.
-use Rattle.std.proofs.Common.{lit≤, append_assoc, ◌≡◌, ℕ, zero, suc, ◌≤◌, ◌+◌, ◌-◌, true, leb, List, [], ◌∷◌, ◌++◌, map, length, Option, Some, refl, ap, ◌∙◌, sym, arith}
-use Rattle.std.specs.List.{flat_map}
+use Rattle.std.proofs.Common.{lit≤, append_assoc, ◌≡◌, ℕ, zero, suc, ◌≤◌, ◌+◌, ◌-◌, ◌*◌, ◌/◌, true, nat_le, ◌&&◌, ◌==◌, List, [], ◌∷◌, ◌++◌, map, length, drop, Option, Some, None, refl, ap, ◌∙◌, arith}
+use Rattle.std.specs.List.{flat_map, AllByRecursion}
 use Rattle.std.proofs.lemmas.Bool.{le-leb}
 use Rattle.call_text.specs.Text.{run}
+use Rattle.base.specs.declared.ranges.Limits.{Limits}
+use Rattle.checkpoints.specs.Checkpoint.{Checkpoint}
+use Rattle.checkpoints.specs.declared.checkpoints.RawBody.{RawBody}
+use Rattle.checkpoints.specs.declared.checkpoints.RawBody.TheVariants as bodies
+use Rattle.checkpoints.specs.declared.checkpoints.Recorded.{Recorded}
 use Rattle.histories.specs.Events.{Event}
 use Rattle.histories.specs.declared.events.Answered.{Answered}
-use Rattle.dump_text.specs.declared.dumps.Place.{Place}
+use Rattle.dump_text.specs.declared.heads.Common.{Common}
 use Rattle.dump_text.specs.declared.lines.Line.{Line}
 use Rattle.dump_text.specs.declared.lines.Line.TheVariants as lines
-use Rattle.base.specs.declared.ranges.Limits.{Limits}
+use Rattle.dump_text.specs.declared.places.Pending.{Pending}
+use Rattle.dump_text.specs.declared.places.Pending.TheVariants as pendings
+use Rattle.dump_text.specs.declared.places.Place.{Place}
+use Rattle.dump_text.specs.declared.state_lines.StateLine.TheVariants as states
+use Rattle.dump_text.specs.CheckpointLines.{rows, rows_of, head_with, common_of, entry_line, row_line, slot_line, packet_line, next_line, part_lines, object_lines, start_lines}
 use Rattle.dump_text.specs.Lists.{DumpLists, TableLists}
-use Rattle.dump_text.specs.Dump.{lines_with, event_lines, lines_of, table_lines, rank_of, start, is_due, owed_after, next}
+use Rattle.dump_text.specs.Dump.{format_of, lines_with, event_lines, lines_of, comes, after, owed, is_due, pending_after, start, next}
+use Rattle.dump_text.proofs.Told.{flat}
 
--- the first kind that may come, and calls that are owed
-abbrev at : ℕ → ℕ → Place
-at first owed = record { first = first; owed = owed }
+-- the first kind that may come, and what is pending
+abbrev at : ℕ → Pending → Place
+at first o = record { first = first; pending = o }
 
--- a line of a kind that any number may have, after lines of no later kind
-next_of : (first owed : ℕ) (l : Line) → is_due owed l ≡ true → 2 ≤ first → first ≤ rank_of l → rank_of l ≤ 7 → next (at first owed) l ≡ Some (at (rank_of l) (owed_after owed l))
+abbrev end : Option Place
+end = Some (at 13 pendings.Nothing)
+
+next_of : (first : ℕ) (o : Pending) (l : Line) → is_due o l ≡ true → comes first l ≡ true → next (at first o) l ≡ Some (at (after first l) (pending_after o l))
 unfolding next
-next_of first owed l due low le high =
-    let a : leb 2 first ≡ true = le-leb 2 first low in
-    let b : leb first (rank_of l) ≡ true = le-leb first (rank_of l) le in
-    let c : leb 2 (rank_of l) ≡ true = le-leb 2 (rank_of l) (omega (arith, low, le)) in
-    let d : leb (rank_of l) 7 ≡ true = le-leb (rank_of l) 7 high in
-    rw (due, a, b, c, d) refl
+next_of first o l due may = rw (due, may) refl
 
-next_end : (first : ℕ) → 2 ≤ first → first ≤ 7 → next (at first 0) lines.End ≡ Some (at 9 0)
-unfolding next
-next_end first low high =
-    let a : leb 2 first ≡ true = le-leb 2 first low in
-    let b : leb first 8 ≡ true = le-leb first 8 (omega (arith, high)) in
-    rw (a, b) refl
+-- a line of a later kind may come
+later : (first rank : ℕ) → 4 ≤ first → first ≤ rank → (nat_le 4 first && nat_le first rank) ≡ true
+later first rank low le = rw (le-leb 4 first low, le-leb first rank le) refl
 
--- after kinds up to this one, the lines lead to the end
+-- after kinds up to this one, of which nothing is owed, the lines lead to the end
 abbrev EndFrom : ℕ → List Line → Type 0
-EndFrom rank ls = (first : ℕ) → 2 ≤ first → first ≤ rank → run next (Some (at first 0)) ls ≡ Some (at 9 0)
+EndFrom rank ls = (first : ℕ) (o : Pending) → owed o ≡ 0 → 4 ≤ first → first ≤ rank → run next (Some (at first o)) ls ≡ end
+
+idle : (o : Pending) → owed o ≡ 0 → (owed o == 0) ≡ true
+idle o none = ap (λ (n : ℕ). n == 0) none
+
+-- one line of the kind, after which nothing is owed
+step : (first rank : ℕ) (o p : Pending) (l : Line) (ls : List Line) → EndFrom rank ls → is_due o l ≡ true → comes first l ≡ true → after first l ≡ rank → pending_after o l ≡ p → owed p ≡ 0 → 4 ≤ rank → run next (Some (at first o)) (l ∷ ls) ≡ end
+step first rank o p l ls ends due may is leaves none low =
+    ap (λ (x : Option Place). run next x ls) (next_of first o l due may ∙ (λ i. Some (at (is i) (leaves i)))) ∙ ends rank p none low (omega arith)
+
+-- lines of one kind that tell nothing inside of others
+record Plain {V : Type 0} (make : V → Line) (rank : ℕ) : Type 0 where
+  due : (v : V) (o : Pending) → is_due o (make v) ≡ (owed o == 0)
+  may : (v : V) (first : ℕ) → comes first (make v) ≡ (nat_le 4 first && nat_le first rank)
+  is : (v : V) (first : ℕ) → after first (make v) ≡ rank
+  leaves : (v : V) (o : Pending) → pending_after o (make v) ≡ pendings.Nothing
 
 -- lines of one kind, and then others
-run_kind : {V : Type 0} (make : V → Line) (rank : ℕ) (ls : List Line) → ((v : V) → rank_of (make v) ≡ rank) → ((v : V) → is_due 0 (make v) ≡ true) → ((v : V) → owed_after 0 (make v) ≡ 0) → 2 ≤ rank → rank ≤ 7 → EndFrom rank ls → (vs : List V) → EndFrom rank (map make vs ++ ls)
-run_kind make rank ls is due owes low high ends [] first from to = ends first from to
-run_kind make rank ls is due owes low high ends (v ∷ vs) first from to =
-    let same : rank_of (make v) ≡ rank = is v in
-    let step : next (at first 0) (make v) ≡ Some (at rank 0) =
-    next_of first 0 (make v) (due v) from (omega (arith, to, same)) (omega (arith, high, same)) ∙ (λ i. Some (at (same i) (owes v i))) in
-    ap (λ (o : Option Place). run next o (map make vs ++ ls)) step ∙ run_kind make rank ls is due owes low high ends vs rank low (omega arith)
+run_kind : {V : Type 0} (make : V → Line) (rank : ℕ) (ls : List Line) → Plain make rank → 4 ≤ rank → EndFrom rank ls → (vs : List V) → EndFrom rank (map make vs ++ ls)
+run_kind make rank ls plain low ends [] first o none from to = ends first o none from to
+run_kind make rank ls plain low ends (v ∷ vs) first o none from to =
+    step first rank o pendings.Nothing (make v) (map make vs ++ ls) (run_kind make rank ls plain low ends vs) (plain.due v o ∙ idle o none) (plain.may v first ∙ later first rank from to) (plain.is v first) (plain.leaves v o) refl low
 
 -- after kinds up to an earlier one too
 earlier : (rank less : ℕ) (ls : List Line) → less ≤ rank → EndFrom rank ls → EndFrom less ls
-earlier rank less ls le ends first from to = ends first from (omega (arith, le, to))
+earlier rank less ls le ends first o none from to = ends first o none from (omega (arith, le, to))
 
-end_from : EndFrom 7 (lines.End ∷ [])
-end_from first from to = ap (λ (o : Option Place). run next o []) (next_end first from to)
-
-first_two : (l : Limits) (ls : List Line) → run next (Some start) (lines.Version ∷ lines.Limits l ∷ ls) ≡ run next (Some (at 2 0)) ls
-unfolding next
-first_two l ls = refl
+-- lines of several things
+run_units : {X : Type 0} (of : X → List Line) (P : X → Type 0) (rank : ℕ) (ls : List Line) → ((x : X) (ms : List Line) → P x → EndFrom rank ms → EndFrom rank (of x ++ ms)) → EndFrom rank ls → (xs : List X) → AllByRecursion P xs → EndFrom rank (flat_map of xs ++ ls)
+run_units of P rank ls one ends [] all first o none from to = ends first o none from to
+run_units of P rank ls one ends (x ∷ xs) all first o none from to =
+    ap (λ (ms : List Line). run next (Some (at first o)) ms) (append_assoc (of x) (flat_map of xs) ls)
+    ∙ one x (flat_map of xs ++ ls) all.0 (run_units of P rank ls one ends xs all.1) first o none from to
 
 -- as many calls as are owed
-run_calls : (cs : List Answered) (owed : ℕ) (ls : List Line) → owed ≡ length cs → run next (Some (at 2 owed)) (map lines.Call cs ++ ls) ≡ run next (Some (at 2 0)) ls
-run_calls [] owed ls is = ap (λ (n : ℕ). run next (Some (at 2 n)) ls) is
-run_calls (a ∷ cs) owed ls is =
-    let some : leb 1 owed ≡ true = le-leb 1 owed (omega (arith, is)) in
-    ap (λ (o : Option Place). run next o (map lines.Call cs ++ ls)) (next_of 2 owed (lines.Call a) some (lit≤ tt) (lit≤ tt) (lit≤ tt))
-    ∙ run_calls cs (owed - 1) ls (omega (arith, is))
+run_calls : (cs : List Answered) (n : ℕ) (ls : List Line) → n ≡ length cs → EndFrom 6 ls → run next (Some (at 6 (pendings.Calls n))) (map lines.Call cs ++ ls) ≡ end
+run_calls [] n ls is ends = ends 6 (pendings.Calls n) is (lit≤ tt) (lit≤ tt)
+run_calls (a ∷ cs) n ls is ends =
+    ap (λ (x : Option Place). run next x (map lines.Call cs ++ ls)) (next_of 6 (pendings.Calls n) (lines.Call a) (le-leb 1 n (omega (arith, is))) refl)
+    ∙ run_calls cs (n - 1) ls (omega (arith, is)) ends
 
 -- the lines of an event
-run_event : (t n : ℕ) (cs : List Answered) (ls : List Line) → run next (Some (at 2 0)) (lines_with t n cs ++ ls) ≡ run next (Some (at 2 0)) ls
+run_event : (t n : ℕ) (cs : List Answered) (ls : List Line) → EndFrom 6 ls → EndFrom 6 (lines_with t n cs ++ ls)
+run_event t n [] ls ends first o none from to =
+    step first 6 o (pendings.Calls 0) (lines.Batch (record { thread = t; number = n; count = 0 })) ls ends (idle o none) (later first 6 from to) refl refl refl (lit≤ tt)
+run_event t n (a ∷ []) ls ends first o none from to =
+    step first 6 o pendings.Nothing (lines.Event (record { thread = t; number = n; answered = a })) ls ends (idle o none) (later first 6 from to) refl refl refl (lit≤ tt)
+run_event t n (a ∷ b ∷ cs) ls ends first o none from to =
+    ap (λ (x : Option Place). run next x (map lines.Call (a ∷ b ∷ cs) ++ ls)) (next_of first o (lines.Batch (record { thread = t; number = n; count = length (a ∷ b ∷ cs) })) (idle o none) (later first 6 from to))
+    ∙ run_calls (a ∷ b ∷ cs) (length (a ∷ b ∷ cs)) ls refl ends
+
+-- parts of one kind, of which there may be any number
+run_parts : {V : Type 0} (make : V → Line) (o : Pending) (ls : List Line) → ((v : V) → next (at 4 o) (make v) ≡ Some (at 4 o)) → owed o ≡ 0 → EndFrom 4 ls → (vs : List V) → run next (Some (at 4 o)) (map make vs ++ ls) ≡ end
+run_parts make o ls stays none ends [] = ends 4 o none (lit≤ tt) (lit≤ tt)
+run_parts make o ls stays none ends (v ∷ vs) = ap (λ (x : Option Place). run next x (map make vs ++ ls)) (stays v) ∙ run_parts make o ls stays none ends vs
+
+-- as many rows as are owed
+run_rows : (rs : List (List ℕ)) (n : ℕ) (ls : List Line) → n ≡ length rs → EndFrom 4 ls → run next (Some (at 4 (pendings.Rows n))) (map row_line rs ++ ls) ≡ end
+run_rows [] n ls is ends = ends 4 (pendings.Rows n) is (lit≤ tt) (lit≤ tt)
+run_rows (r ∷ rs) n ls is ends =
+    ap (λ (x : Option Place). run next x (map row_line rs ++ ls)) (next_of 4 (pendings.Rows n) (row_line r) (le-leb 1 n (omega (arith, is))) refl)
+    ∙ run_rows rs (n - 1) ls (omega (arith, is)) ends
+
+rows_length : (n : ℕ) (bytes : List ℕ) → length (rows n bytes) ≡ n
+rows_length zero bytes = refl
+rows_length (suc n) bytes = ap suc (rows_length n (drop 64 bytes))
+
+-- a segment's bytes are whole pages
+abbrev pub HasPages : RawBody → Type 0
+HasPages (bodies.Segment a bytes) = length bytes ≡ 256 * (length bytes / 256)
+HasPages body = Unit {0}
+
+abbrev head_line : ℕ → Common → RawBody → Line
+head_line id c body = lines.State (states.Object (record { id = id; head = head_with c body }))
+
+-- the lines of an object
+run_body : (id : ℕ) (c : Common) (body : RawBody) (ls : List Line) → HasPages body → EndFrom 4 ls → EndFrom 4 (head_line id c body ∷ (part_lines body ++ ls))
 unfolding next
-run_event t n [] ls = refl
-run_event t n (a ∷ []) ls = refl
-run_event t n (a ∷ b ∷ cs) ls = run_calls (a ∷ b ∷ cs) (length (a ∷ b ∷ cs)) ls refl
+run_body id c (bodies.Container a avoid list) ls whole ends first o none from to =
+    ap (λ (x : Option Place). run next x (map entry_line list ++ ls)) (next_of first o (head_line id c (bodies.Container a avoid list)) (idle o none) (later first 4 from to))
+    ∙ run_parts entry_line pendings.Entries ls (λ v. refl) refl ends list
+run_body id c (bodies.Segment a bytes) ls whole ends first o none from to =
+    let count : 4 * (length bytes / 256) ≡ length (rows_of bytes) = omega (arith, whole, rows_length ((length bytes + 63) / 64) bytes) in
+    ap (λ (x : Option Place). run next x (map row_line (rows_of bytes) ++ ls)) (next_of first o (head_line id c (bodies.Segment a bytes)) (idle o none) (later first 4 from to))
+    ∙ run_rows (rows_of bytes) (4 * (length bytes / 256)) ls count ends
+run_body id c (bodies.AddressSpace a slots) ls whole ends first o none from to =
+    ap (λ (x : Option Place). run next x (map slot_line slots ++ ls)) (next_of first o (head_line id c (bodies.AddressSpace a slots)) (idle o none) (later first 4 from to))
+    ∙ run_parts slot_line pendings.Slots ls (λ v. refl) refl ends slots
+run_body id c (bodies.Thread t) ls whole ends first o none from to =
+    step first 4 o pendings.Nothing (head_line id c (bodies.Thread t)) ls ends (idle o none) (later first 4 from to) refl refl refl (lit≤ tt)
+run_body id c (bodies.Gate a g) ls whole ends first o none from to =
+    step first 4 o pendings.Nothing (head_line id c (bodies.Gate a g)) ls ends (idle o none) (later first 4 from to) refl refl refl (lit≤ tt)
+run_body id c (bodies.Device m packets) ls whole ends first o none from to =
+    ap (λ (x : Option Place). run next x (map packet_line packets ++ ls)) (next_of first o (head_line id c (bodies.Device m packets)) (idle o none) (later first 4 from to))
+    ∙ run_parts packet_line pendings.Packets ls (λ v. refl) refl ends packets
 
-run_events : (es : List Event) (ls : List Line) → run next (Some (at 2 0)) (flat_map event_lines es ++ ls) ≡ run next (Some (at 2 0)) ls
-run_events [] ls = refl
-run_events (e ∷ es) ls =
-    ap (λ (xs : List Line). run next (Some (at 2 0)) xs) (append_assoc (event_lines e) (flat_map event_lines es) ls)
-    ∙ run_event e.thread e.number e.calls (flat_map event_lines es ++ ls) ∙ run_events es ls
+-- what stands before the events can come: the pages of format 1 are few, and the bytes of segments whole pages
+abbrev pub CanCome : Limits → Option Checkpoint → Type 0
+CanCome l None = l.pages ≤ 512
+CanCome l (Some c) = AllByRecursion (λ (r : Recorded). HasPages r.object.body) c.objects
 
--- all lines after the first two
-after_two : (es : List Event) (t : TableLists) → run next (Some (at 2 0)) (flat_map event_lines es ++ (map lines.Live t.live ++ (map lines.Use t.uses ++ (map lines.Map t.maps ++ (map lines.Label t.labels ++ (map lines.Order t.orders ++ lines.End ∷ [])))))) ≡ Some (at 9 0)
-after_two es t =
-    let orders = run_kind lines.Order 7 (lines.End ∷ []) (λ o. refl) (λ o. refl) (λ o. refl) (lit≤ tt) (lit≤ tt) end_from t.orders in
-    let labels = run_kind lines.Label 6 _ (λ s. refl) (λ s. refl) (λ s. refl) (lit≤ tt) (lit≤ tt) (earlier 7 6 _ (lit≤ tt) orders) t.labels in
-    let maps = run_kind lines.Map 5 _ (λ s. refl) (λ s. refl) (λ s. refl) (lit≤ tt) (lit≤ tt) (earlier 6 5 _ (lit≤ tt) labels) t.maps in
-    let uses = run_kind lines.Use 4 _ (λ u. refl) (λ u. refl) (λ u. refl) (lit≤ tt) (lit≤ tt) (earlier 5 4 _ (lit≤ tt) maps) t.uses in
-    let live = run_kind lines.Live 3 _ (λ id. refl) (λ id. refl) (λ id. refl) (lit≤ tt) (lit≤ tt) (earlier 4 3 _ (lit≤ tt) uses) t.live in
-    run_events es _ ∙ live 2 (lit≤ tt) (lit≤ tt)
+end_from : EndFrom 11 (lines.End ∷ [])
+end_from first o none from to =
+    ap (λ (x : Option Place). run next x []) (next_of first o lines.End (idle o none) (later first 12 from (omega (arith, to))))
 
-flat : (a l u m b o e : List Line) → (a ++ (l ++ (u ++ (m ++ (b ++ o))))) ++ e ≡ a ++ (l ++ (u ++ (m ++ (b ++ (o ++ e)))))
-flat a l u m b o e = simp append_assoc
+-- events and tables
+after_start : (es : List Event) (t : TableLists) → EndFrom 6 (flat_map event_lines es ++ (map lines.Live t.live ++ (map lines.Use t.uses ++ (map lines.Map t.maps ++ (map lines.Label t.labels ++ (map lines.Order t.orders ++ lines.End ∷ []))))))
+after_start es t =
+    let orders = run_kind lines.Order 11 (lines.End ∷ []) (record { due = λ v o. refl; may = λ v f. refl; is = λ v f. refl; leaves = λ v o. refl }) (lit≤ tt) end_from t.orders in
+    let labels = run_kind lines.Label 10 _ (record { due = λ v o. refl; may = λ v f. refl; is = λ v f. refl; leaves = λ v o. refl }) (lit≤ tt) (earlier 11 10 _ (lit≤ tt) orders) t.labels in
+    let maps = run_kind lines.Map 9 _ (record { due = λ v o. refl; may = λ v f. refl; is = λ v f. refl; leaves = λ v o. refl }) (lit≤ tt) (earlier 10 9 _ (lit≤ tt) labels) t.maps in
+    let uses = run_kind lines.Use 8 _ (record { due = λ v o. refl; may = λ v f. refl; is = λ v f. refl; leaves = λ v o. refl }) (lit≤ tt) (earlier 9 8 _ (lit≤ tt) maps) t.uses in
+    let live = run_kind lines.Live 7 _ (record { due = λ v o. refl; may = λ v f. refl; is = λ v f. refl; leaves = λ v o. refl }) (lit≤ tt) (earlier 8 7 _ (lit≤ tt) uses) t.live in
+    run_units event_lines (λ e. Unit {0}) 6 _ (λ e ms one ends. run_event e.thread e.number e.calls ms ends) (earlier 7 6 _ (lit≤ tt) live) es (any es)
+  where
+    any : (xs : List Event) → AllByRecursion (λ (e : Event). Unit {0}) xs
+    any [] = tt
+    any (x ∷ xs) = (tt, any xs)
+
+-- the lines of a checkpoint after its counters
+after_counters : (c : Checkpoint) (ls : List Line) → AllByRecursion (λ (r : Recorded). HasPages r.object.body) c.objects → EndFrom 6 ls → EndFrom 4 ((flat_map object_lines c.objects ++ map next_line c.next) ++ ls)
+after_counters c ls whole ends first o none from to =
+    let numbers = run_kind next_line 5 ls (record { due = λ v o. refl; may = λ v f. refl; is = λ v f. refl; leaves = λ v o. refl }) (lit≤ tt) (earlier 6 5 _ (lit≤ tt) ends) c.next in
+    ap (λ (ms : List Line). run next (Some (at first o)) ms) (append_assoc (flat_map object_lines c.objects) (map next_line c.next) ls)
+    ∙ run_units object_lines (λ (r : Recorded). HasPages r.object.body) 4 _ (λ r ms one. run_body r.id (common_of r.object) r.object.body ms one) (earlier 5 4 _ (lit≤ tt) numbers) c.objects whole first o none from to
+
+-- the first lines, and those of the checkpoint
+first_lines : (l : Limits) (c : Option Checkpoint) (ls : List Line) → CanCome l c → EndFrom 6 ls → run next (Some start) (lines.Version (format_of c) ∷ lines.Limits l ∷ (start_lines c ++ ls)) ≡ end
+unfolding next
+first_lines l None ls can ends =
+    ap (λ (x : Option Place). run next x ls) (next_of 1 pendings.Nothing (lines.Limits l) refl (rw (le-leb l.pages 512 can) refl))
+    ∙ ends 6 pendings.Nothing refl (lit≤ tt) (lit≤ tt)
+first_lines l (Some c) ls can ends = after_counters c ls can ends 4 pendings.Nothing refl (lit≤ tt) (lit≤ tt)
 
 -- the lines of a dump may stand so
-pub dump_runs : (d : DumpLists) → run next (Some start) (lines_of d) ≡ Some (record { first = 9; owed = 0 })
-dump_runs d =
-    first_two d.limits ((flat_map event_lines d.events ++ table_lines d.tables) ++ lines.End ∷ [])
-    ∙ ap (λ (ls : List Line). run next (Some (at 2 0)) ls) (flat (flat_map event_lines d.events) (map lines.Live d.tables.live) (map lines.Use d.tables.uses) (map lines.Map d.tables.maps) (map lines.Label d.tables.labels) (map lines.Order d.tables.orders) (lines.End ∷ []))
-    ∙ after_two d.events d.tables
+pub dump_runs : (d : DumpLists) → CanCome d.limits d.checkpoint → run next (Some start) (lines_of d) ≡ Some (record { first = 13; pending = pendings.Nothing })
+dump_runs d can =
+    ap (λ (ls : List Line). run next (Some start) (lines.Version (format_of d.checkpoint) ∷ lines.Limits d.limits ∷ ls))
+    (flat (start_lines d.checkpoint) (flat_map event_lines d.events) (map lines.Live d.tables.live) (map lines.Use d.tables.uses) (map lines.Map d.tables.maps) (map lines.Label d.tables.labels) (map lines.Order d.tables.orders) (lines.End ∷ []))
+    ∙ first_lines d.limits d.checkpoint _ can (after_start d.events d.tables)

@@ -1,7 +1,7 @@
 -- Labels whose categories are numbers.
-use Rattle.std.proofs.Common.{◌≡◌, ℕ, zero, suc, ◌+◌, ◌<◌, List, [], ◌∷◌, ◌++◌, length, get_or, take, map, refl, ap, ◌∙◌, sym, arith, append_assoc, subst}
+use Rattle.std.proofs.Common.{◌≡◌, ℕ, zero, suc, ◌<◌, List, [], ◌∷◌, ◌++◌, length, get_or, map, refl, ap, ◌∙◌, sym, arith, append_assoc}
 use Rattle.std.specs.List.{flat_map, join_with_byte, AllByRecursion}
-use Rattle.std.proofs.lemmas.List.{append-nil, take_more}
+use Rattle.std.proofs.lemmas.List.{append-nil}
 use Rattle.label_lattice.specs.declared.pairings.Pair.{Pair}
 use Rattle.text_words.specs.declared.references.Reference.TheVariants as references
 use Rattle.text_words.specs.declared.spoken_labels.SpokenPair.{SpokenPair}
@@ -14,7 +14,6 @@ use Rattle.dump_text.specs.declared.words.Word.{Word}
 use Rattle.dump_text.specs.Word.{spoken_pair, arg_of, args_of}
 use Rattle.text_words.specs.Label.{IsPair}
 use Rattle.dump_text.specs.Call.{spoken_as}
-use Rattle.dump_text.proofs.Places.{all_append}
 
 -- no category among them is a name
 pub no_name : (ps : List SpokenPair) (i : ℕ) (p : SpokenPair) (name : List ℕ) (qs : List Pair) → i < length ps → p ≡ get_or ps i p → p.category ≡ references.Name name → ps ≡ map spoken_pair qs → ⊥

@@ -9,7 +9,13 @@ use Rattle.text_words.specs.DataWord.{IsData}
 use Rattle.text_words.specs.Label.{IsLabel}
 use Rattle.dump_text.specs.Word.{spoken_label}
 use Rattle.dump_text.specs.Call.{IsCall}
-use Rattle.dump_text.specs.Line.{AreWords, use_kinds, use_words, map_kinds, map_words}
+use Rattle.dump_text.specs.Allowed.{AreWords}
+use Rattle.dump_text.specs.CheckpointLines.{start_lines}
+use Rattle.dump_text.specs.Head.{HasHeadWords}
+use Rattle.dump_text.specs.Line.{use_kinds, use_words, map_kinds, map_words}
+use Rattle.dump_text.specs.StateLine.{pair_kinds, counters_words, next_words, HasPartWords}
+use Rattle.dump_text.specs.declared.state_lines.StateLine.{StateLine}
+use Rattle.dump_text.specs.declared.state_lines.StateLine.TheVariants as states
 use Rattle.dump_text.specs.Lists.{TableLists, DumpLists}
 use Rattle.dump_text.specs.declared.events.Single.{Single}
 use Rattle.dump_text.specs.declared.lines.Line.{Line}
@@ -40,9 +46,18 @@ pub record FitsEvent (e : Event) : Type 0 where
   pub number : e.number < 2 ^ 64
   pub calls : AllByRecursion FitsAnswered e.calls
 
--- the values of a line of events or tables fit their words. Nothing is asked of the limits, of how
+-- the values of a line of a checkpoint fit their words. Nothing is asked of how many pages a segment
+-- has, or of how many bytes metadata or a line of bytes have
+abbrev pub FitsState : StateLine → Type 0
+FitsState (states.Counters c) = AreWords pair_kinds (counters_words c)
+FitsState (states.Object o) = (o.id < 2 ^ 64) × HasHeadWords o.head
+FitsState (states.Part p) = HasPartWords p
+FitsState (states.Next n) = AreWords pair_kinds (next_words n)
+
+-- the values of a line of a checkpoint, of events or tables fit their words. Nothing is asked of the limits, of how
 -- many calls a batch has, of the places of labels, or of what an order says
 abbrev pub FitsLine : Line → Type 0
+FitsLine (lines.State s) = FitsState s
 FitsLine (lines.Event e) = FitsSingle e
 FitsLine (lines.Batch b) = (b.thread < 2 ^ 64) × (b.number < 2 ^ 64)
 FitsLine (lines.Call a) = FitsAnswered a
@@ -60,7 +75,8 @@ pub record FitTables (t : TableLists) : Type 0 where
   pub labels : AllByRecursion (λ s. FitsLine (lines.Label s)) t.labels
   pub few : length t.orders < 2 ^ 64
 
--- the events and the tables fit their words
+-- the checkpoint, the events and the tables fit their words
 pub record FitsWords (d : DumpLists) : Type 0 where
+  pub start : AllByRecursion FitsLine (start_lines d.checkpoint)
   pub events : AllByRecursion FitsEvent d.events
   pub tables : FitTables d.tables

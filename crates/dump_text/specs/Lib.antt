@@ -4,9 +4,14 @@ pub mod Call
 pub mod Report
 pub mod Event
 pub mod Lists
+pub mod Allowed
+pub mod Head
+pub mod StateLine
 pub mod Line
+pub mod CheckpointLines
 pub mod Dump
 pub mod Whole
+pub mod Boot
 pub mod Fits
 pub mod Reading
 pub mod Refused

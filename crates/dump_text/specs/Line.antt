@@ -6,7 +6,6 @@ use Rattle.base.specs.declared.ranges.Limits.{Limits}
 use Rattle.base.specs.Limits.{in_range}
 use Rattle.spoken_calls.specs.declared.args.ArgKind.{ArgKind}
 use Rattle.spoken_calls.specs.declared.args.ArgKind.TheVariants as kinds
-use Rattle.spoken_calls.specs.Spoken.{AreArgs}
 use Rattle.dump_text.specs.declared.words.Word.{Word}
 use Rattle.dump_text.specs.declared.words.Word.TheVariants as words
 use Rattle.kernel_rules.specs.declared.tables.Used.{Used}
@@ -16,7 +15,11 @@ use Rattle.kernel_rules.specs.declared.tables.Compared.{Compared}
 use Rattle.dump_text.specs.declared.line_words.Batch.{Batch}
 use Rattle.dump_text.specs.declared.lines.Line.{Line}
 use Rattle.dump_text.specs.declared.lines.Line.TheVariants as lines
-use Rattle.dump_text.specs.Word.{args_of, words_text}
+use Rattle.dump_text.specs.declared.lines.Format.{Format}
+use Rattle.dump_text.specs.declared.lines.Format.TheVariants as formats
+use Rattle.dump_text.specs.Word.{words_text}
+use Rattle.dump_text.specs.Allowed.{AreAllowed, Anything}
+use Rattle.dump_text.specs.StateLine.{id_words, id_kinds, state_text, IsStateLine}
 use Rattle.dump_text.specs.Event.{answered_text, IsAnswered, single_text, IsSingle}
 
 -- a level of a label that no star is in, as a digit
@@ -36,10 +39,6 @@ limits_words l =
 -- THREAD NUMBER COUNT
 abbrev pub batch_words : Batch → List Word
 batch_words b = words.Wide b.thread ∷ words.Wide b.number ∷ words.Number b.count ∷ []
-
--- ID
-abbrev pub live_words : ℕ → List Word
-live_words id = words.Wide id ∷ []
 
 -- ID PAGES
 abbrev pub use_words : Used → List Word
@@ -64,9 +63,6 @@ limits_kinds = kinds.Number ∷ kinds.Number ∷ kinds.Wide ∷ kinds.Wide ∷ [
 abbrev pub batch_kinds : List ArgKind
 batch_kinds = kinds.Wide ∷ kinds.Wide ∷ kinds.Number ∷ []
 
-abbrev pub live_kinds : List ArgKind
-live_kinds = kinds.Wide ∷ []
-
 abbrev pub use_kinds : List ArgKind
 use_kinds = kinds.Wide ∷ kinds.Number ∷ []
 
@@ -78,10 +74,6 @@ label_kinds = kinds.Number ∷ kinds.Label ∷ []
 
 abbrev pub order_kinds : List ArgKind
 order_kinds = kinds.Number ∷ kinds.Number ∷ kinds.Number ∷ []
-
--- words of these kinds, each in its range
-abbrev pub AreWords : List ArgKind → List Word → Type 0
-AreWords ks ws = AreArgs ks (args_of ws)
 
 -- limits that a machine boots with
 abbrev pub IsBootable : Limits → Type 0
@@ -95,22 +87,20 @@ HasSeveral b = (2 ≤ b.count) × (b.count ≤ 16)
 abbrev pub HasThreeBits : Compared → Type 0
 HasThreeBits o = o.bits ≤ 7
 
--- whatever it is
-abbrev pub Anything : {V : Type 0} → V → Type 0
-Anything v = Unit {0}
-
--- a value whose words are of these kinds, each in its range, and that is allowed
-abbrev pub AreAllowed : {V : Type 0} → List ArgKind → (V → List Word) → (V → Type 0) → V → Type 0
-AreAllowed ks words Allows v = AreWords ks (words v) × Allows v
+-- the digit of the format: 1 or 2
+abbrev pub version_digit : Format → ℕ
+version_digit formats.One = 49
+version_digit formats.Two = 50
 
 -- a line's one spelling
 abbrev pub line_text : Line → List ℕ
-line_text lines.Version = codes "histar-dump 1"
+line_text (lines.Version f) = codes "histar-dump " ++ version_digit f ∷ []
 line_text (lines.Limits l) = codes "limits " ++ words_text (limits_words l)
+line_text (lines.State s) = state_text s
 line_text (lines.Event e) = codes "event " ++ single_text e
 line_text (lines.Batch b) = codes "batch " ++ words_text (batch_words b)
 line_text (lines.Call a) = codes "call " ++ answered_text a
-line_text (lines.Live id) = codes "live " ++ words_text (live_words id)
+line_text (lines.Live id) = codes "live " ++ words_text (id_words id)
 line_text (lines.Use u) = codes "use " ++ words_text (use_words u)
 line_text (lines.Map s) = codes "map " ++ words_text (map_words s)
 line_text (lines.Label s) = codes "label " ++ words_text (label_words s)
@@ -119,12 +109,13 @@ line_text lines.End = codes "end"
 
 -- each word is in its range
 abbrev pub IsLine : Line → Type 0
-IsLine lines.Version = Unit {0}
+IsLine (lines.Version f) = Unit {0}
 IsLine (lines.Limits l) = AreAllowed limits_kinds limits_words IsBootable l
+IsLine (lines.State s) = IsStateLine s
 IsLine (lines.Event e) = IsSingle e
 IsLine (lines.Batch b) = AreAllowed batch_kinds batch_words HasSeveral b
 IsLine (lines.Call a) = IsAnswered a
-IsLine (lines.Live id) = AreAllowed live_kinds live_words Anything id
+IsLine (lines.Live id) = AreAllowed id_kinds id_words Anything id
 IsLine (lines.Use u) = AreAllowed use_kinds use_words Anything u
 IsLine (lines.Map s) = AreAllowed map_kinds map_words Anything s
 IsLine (lines.Label s) = AreAllowed label_kinds label_words Anything s

@@ -1,6 +1,7 @@
 -- What a dump has, as lists.
-use Rattle.std.specs.Prelude.{ℕ, List}
+use Rattle.std.specs.Prelude.{ℕ, List, Option}
 use Rattle.base.specs.declared.ranges.Limits.{Limits}
+use Rattle.checkpoints.specs.Checkpoint.{Checkpoint}
 use Rattle.histories.specs.Events.{Event}
 use Rattle.kernel_rules.specs.declared.tables.Used.{Used}
 use Rattle.kernel_rules.specs.declared.tables.Shown.{Shown}
@@ -15,8 +16,18 @@ pub record TableLists : Type 0 where
   pub labels : List Stored
   pub orders : List Compared
 
--- the limits, the events and the tables
+-- the limits, the checkpoint, which format 1 has none of, the events and the tables
 pub record DumpLists : Type 0 where
   pub limits : Limits
+  pub checkpoint : Option Checkpoint
   pub events : List Event
   pub tables : TableLists
+
+-- the dump with these parts
+abbrev pub dump_with : Limits → Option Checkpoint → List Event → TableLists → DumpLists
+dump_with limits checkpoint events tables = record {
+  limits = limits;
+  checkpoint = checkpoint;
+  events = events;
+  tables = tables;
+}

@@ -4,7 +4,7 @@ use Rattle.std.specs.Prelude.{Err}
 use Rattle.base.specs.declared.levels.Level.TheVariants.{L1}
 use Rattle.histories.specs.Events.{Event}
 use Rattle.histories.specs.declared.events.Answered.{Answered}
-use Rattle.dump_text.specs.declared.dumps.Place.{Place}
+use Rattle.dump_text.specs.declared.places.Place.{Place}
 use Rattle.dump_text.specs.declared.lines.Line.{Line}
 use Rattle.dump_text.specs.declared.lines.Line.TheVariants as lines
 use Rattle.dump_text.specs.Lists.{DumpLists}
@@ -12,12 +12,14 @@ use Rattle.dump_text.specs.declared.tables.Dump.{Dump}
 use Rattle.dump_text.specs.declared.errors.DumpError.{DumpError}
 use Rattle.dump_text.specs.declared.errors.DumpError.TheVariants as errors
 use Rattle.dump_text.specs.Line.{line_text, IsLine}
+use Rattle.dump_text.specs.CheckpointLines.{with_state}
 use Rattle.dump_text.specs.Dump.{IsDump, DumpFaultsAt, event_of, next}
 
 -- lines of no kind, and limits that nothing told yet
 abbrev pub nothing : DumpLists
 nothing = record {
   limits = record { pages = 8; device = L1; next_id = 4; next_category = 1 };
+  checkpoint = None;
   events = [];
   tables = record { live = []; uses = []; maps = []; labels = []; orders = [] };
 }
@@ -30,8 +32,9 @@ with_call a (e ∷ f ∷ es) = e ∷ with_call a (f ∷ es)
 
 -- with what one more line tells. A batch has no call before their lines come
 abbrev pub added : Line → DumpLists → DumpLists
-added lines.Version d = d
+added (lines.Version f) d = d
 added (lines.Limits l) d = record d { limits = l }
+added (lines.State s) d = record d { checkpoint = with_state s d.checkpoint }
 added (lines.Event e) d = record d { events = d.events ++ event_of e ∷ [] }
 added (lines.Batch b) d = record d {
   events = d.events ++ record { thread = b.thread; number = b.number; calls = [] } ∷ [];

@@ -1,15 +1,15 @@
 //! Reading dumps.
 ghost use Rattle.std.specs.Prelude.{◌≡◌, ◌<◌, ◌++◌, ◌∷◌, [], ℕ, List, IfOk, OnOk};
 ghost use Rattle.dump_text.specs.Lists.{DumpLists};
-ghost use Rattle.dump_text.specs.Dump.{IsDump, DumpFaultsAt, rank_of, after_rank, may_come};
-ghost use Rattle.dump_text.specs.Dump.{is_due, owed_after, next};
-ghost use Rattle.dump_text.specs.Dump.{event_of};
+ghost use Rattle.dump_text.specs.Dump.{IsDump, DumpFaultsAt, event_of};
 ghost use Rattle.dump_text.specs.Reading.{ReadsDump, Takes, added, with_call, nothing};
 
+use crate::checkpoint_lines::with_state;
 use crate::errors::DumpError;
 use crate::events::Single;
 use crate::line_words::Batch;
 use crate::lines::{Line, read_line};
+use crate::places::{Place, START, ends, next};
 use crate::tables::{Dump, DumpTables};
 use base::{Level, Limits};
 use call_text::parted;
@@ -27,6 +27,7 @@ fn nothing(alloc: Global) -> Dump
             next_id: 4,
             next_category: 1,
         },
+        checkpoint: None,
         events: Vec::new(alloc),
         tables: DumpTables {
             live: Vec::new(alloc),
@@ -36,95 +37,6 @@ fn nothing(alloc: Global) -> Dump
             orders: Vec::new(alloc),
         },
     }
-}
-
-/// Where a reader stands after some lines.
-#[derive(Clone, Copy)]
-pub struct Place {
-    /// The first kind of line that may come, by its place in the order of the kinds.
-    pub first: u8,
-    /// How many calls of a batch are still to come, before any other line.
-    pub owed: usize,
-}
-
-/// The kind of a line, by its place in the order of the kinds.
-fn rank_of(line: &Line) -> u8
-    ensures { result ≡ rank_of line.now }
-{
-    match line {
-        Line::Version => 0,
-        Line::Limits(_) => 1,
-        Line::Event(_) => 2,
-        Line::Batch(_) => 2,
-        Line::Call(_) => 2,
-        Line::Live(_) => 3,
-        Line::Use(_) => 4,
-        Line::Map(_) => 5,
-        Line::Label(_) => 6,
-        Line::Order(_) => 7,
-        Line::End => 8,
-    }
-}
-
-/// The first kind that may come after a line of the kind.
-fn after_rank(rank: u8) -> u8
-    requires { rank < 9 }
-    ensures { result ≡ after_rank rank }
-{
-    if 2 <= rank && rank <= 7 {
-        return rank;
-    }
-    rank + 1
-}
-
-/// Whether a line of the kind may come where that kind is the first that may come.
-fn may_come(first: u8, rank: u8) -> bool
-    ensures { result ≡ may_come first rank }
-{
-    if 2 <= first {
-        first <= rank
-    } else {
-        first == rank
-    }
-}
-
-/// Whether the line may come where so many calls are owed: a call where some are, and any other where none is.
-fn is_due(owed: usize, line: &Line) -> bool
-    ensures { result ≡ is_due owed line.now }
-{
-    match line {
-        Line::Call(_) => owed >= 1,
-        _ => owed == 0,
-    }
-}
-
-/// How many calls are owed after the line.
-fn owed_after(owed: usize, line: &Line) -> usize
-    ensures { result ≡ owed_after owed line.now }
-{
-    match line {
-        Line::Batch(batch) => batch.count,
-        Line::Call(_) => owed.saturating_sub(1),
-        _ => 0,
-    }
-}
-
-/// Where the reader stands after the line, where that one may come.
-#[tactic(auto, unfolding(crate::specs::Dump::next))]
-fn next(place: Place, line: &Line) -> Option<Place>
-    ensures { result ≡ next place line.now }
-{
-    let rank = rank_of(line);
-    if !is_due(place.owed, line) {
-        return None;
-    }
-    if !may_come(place.first, rank) {
-        return None;
-    }
-    Some(Place {
-        first: after_rank(rank),
-        owed: owed_after(place.owed, line),
-    })
 }
 
 /// Adds an item at the end.
@@ -178,8 +90,11 @@ fn add(alloc: Global, dump: &mut Dump, line: &Line) -> Result<(), AllocError>
     ensures { OnOk result (dump.new ≡ added line.now dump.old) }
 {
     match line {
-        Line::Version => {}
+        Line::Version(_) => {}
         Line::Limits(limits) => dump.limits = *limits,
+        Line::State(line) => {
+            dump.checkpoint = with_state(alloc, line, dump.checkpoint.take())?;
+        }
         Line::Event(single) => add_single(alloc, &mut dump.events, single)?,
         Line::Batch(batch) => add_batch(alloc, &mut dump.events, batch)?,
         Line::Call(answered) => add_call(&mut dump.events, answered)?,
@@ -219,7 +134,7 @@ pub fn read_dump(alloc: Global, bytes: &[u8]) -> Result<Dump, DumpError>
     ensures { ReadsDump bytes.now result }
 {
     let mut dump = nothing(alloc);
-    let mut place = Place { first: 0, owed: 0 };
+    let mut place = START;
     let mut rest = bytes;
     let mut count = 0u64;
     while !rest.is_empty() {
@@ -233,7 +148,7 @@ pub fn read_dump(alloc: Global, bytes: &[u8]) -> Result<Dump, DumpError>
         rest = more;
         count += 1;
     }
-    if place.first != 9 {
+    if !ends(place) {
         return Err(DumpError::Line(count + 1));
     }
     Ok(dump)

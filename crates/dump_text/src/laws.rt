@@ -1,18 +1,32 @@
 //! Laws of the dumps of legal events.
-ghost use Rattle.std.specs.Prelude.{List};
+ghost use Rattle.std.specs.Prelude.{List, Option};
 ghost use Rattle.base.specs.declared.ranges.Limits.{Limits as Booted};
-ghost use Rattle.histories.specs.History.{IsLegal};
+ghost use Rattle.checkpoints.specs.Checkpoint.{Checkpoint as Written};
+ghost use Rattle.histories.specs.History.{IsLegal, IsLegalFrom};
 ghost use Rattle.histories.specs.Events.{Event as Done};
+ghost use Rattle.dump_text.specs.Boot.{boot_dump};
 ghost use Rattle.dump_text.specs.Dump.{dump_text, IsDump};
 ghost use Rattle.dump_text.specs.Fits.{FitsWords};
 ghost use Rattle.dump_text.specs.Line.{IsBootable};
-ghost use Rattle.dump_text.specs.Whole.{whole_dump};
+ghost use Rattle.dump_text.specs.Whole.{start_with, whole_dump, CanBegin};
 
-/// A law, which does nothing when it is called: the text of the dump of legal events, after a boot with limits in range,
-/// is a dump's, where each value in it fits its word. The rules give the rest: the replies are those of write calls and
-/// the refusals a kernel's, the places of labels are below 2^32, an order has three bits, and the lines stand in order.
+/// A law, which does nothing when it is called: the text of the dump of events that are legal from a checkpoint that can
+/// be restored, or from a boot with at most 512 pages, is a dump's, where the limits are in range and each value in it
+/// fits its word. The rules give the rest: the replies are those of write calls and the refusals a kernel's, the places
+/// of labels are below 2^32, an order has three bits, and the lines stand in order.
 pub fn legal_is_dump()
+    ensures { (limits : Booted) (checkpoint : Option Written) (events : List Done)
+        → IsBootable limits → CanBegin limits checkpoint
+        → IsLegalFrom (start_with limits checkpoint) events
+        → FitsWords (whole_dump limits checkpoint events)
+        → IsDump (dump_text (whole_dump limits checkpoint events))
+        (whole_dump limits checkpoint events) }
+{}
+
+/// A law, which does nothing when it is called: the text of the dump of legal events after a boot is a dump's, where the
+/// limits are in range and each value in it fits its word.
+pub fn legal_boot_is_dump()
     ensures { (limits : Booted) (events : List Done) → IsBootable limits → IsLegal limits events
-        → FitsWords (whole_dump limits events)
-        → IsDump (dump_text (whole_dump limits events)) (whole_dump limits events) }
+        → FitsWords (boot_dump limits events)
+        → IsDump (dump_text (boot_dump limits events)) (boot_dump limits events) }
 {}

@@ -1,19 +1,32 @@
-//! Dumps as text, in format 1: what a run was booted with, what was done, and the tables of what was left.
+//! Dumps as text: what a run was booted with, in format 2 the state that its events begin from, the events, and the tables
+//! of what was left.
 //!
 //! A dump has one spelling. It is read as that value, or the first line at which the bytes stop being the beginning of a
 //! dump is told, and it is written as those bytes again. Which kind of line stands where is the grammar's; whether the
-//! numbers in the lines are true, and how many lines there are, is left to who audits.
+//! numbers in the lines are true, and how many lines there are, is left to who audits. Two formats share one grammar:
+//! format 1 has no checkpoint, and at most 512 pages.
 #![tactic(auto)]
 
 mod calls;
+mod checkpoint_lines;
+mod checkpoint_writing;
 mod dumps;
 mod errors;
 mod events;
+mod head_words;
+mod heads;
 mod labels;
 mod laws;
 mod line_words;
+mod line_writing;
 mod lines;
+mod migrating;
+mod part_words;
+mod places;
 mod reports;
+mod state_lines;
+mod state_reading;
+mod state_writing;
 mod stripping;
 mod tables;
 mod whole;
@@ -22,7 +35,8 @@ mod writing;
 
 pub use dumps::{one_reading, read_dump};
 pub use errors::DumpError;
-pub use laws::legal_is_dump;
+pub use laws::{legal_boot_is_dump, legal_is_dump};
+pub use migrating::{MigrateFault, boot_checkpoint, boots_can_begin, migrate};
 pub use tables::{Dump, DumpTables, Stored};
-pub use whole::dump_with;
+pub use whole::{dump_of, dump_with};
 pub use writing::write_dump;

@@ -1,17 +1,23 @@
 //! What stands in the lines of the tables, and in those that head batches.
-ghost use Rattle.std.specs.Prelude.{◌≡◌, IfSome, IfNone};
+ghost use Rattle.std.specs.Prelude.{◌≡◌, ◌<◌, ◌++◌, length, IfOk, IfSome, IfNone};
+ghost use Rattle.text_words.specs.Reading.{Reads};
 ghost use Rattle.base.specs.declared.levels.Level.{Level as LevelValue};
 ghost use Rattle.base.specs.declared.levels.Level.TheVariants.{Star};
 ghost use Rattle.dump_text.specs.Making.{Makes};
-ghost use Rattle.dump_text.specs.Line.{digit_of, limits_words, live_words, use_words, map_words};
+ghost use Rattle.dump_text.specs.Allowed.{AreAllowed, Anything};
+ghost use Rattle.dump_text.specs.Word.{words_text};
+ghost use Rattle.dump_text.specs.Line.{digit_of, limits_words, use_words, map_words};
 ghost use Rattle.dump_text.specs.Line.{batch_words, label_words, order_words};
-ghost use Rattle.dump_text.specs.Line.{IsBootable, HasSeveral, HasThreeBits, Anything};
+ghost use Rattle.dump_text.specs.Line.{IsBootable, HasSeveral, HasThreeBits};
+ghost use Rattle.dump_text.specs.StateLine.{id_words};
 
 use crate::labels::numbered;
+use crate::stripping::after;
 use crate::tables::Stored;
 use base::{Level, Limits, ObjectId};
 use kernel_rules::{Compared, Shown, Used};
-use spoken_calls::Arg;
+use spoken_calls::{Arg, ArgKind, read_arguments};
+use std::alloc::{AllocError, Global};
 
 /// The head of a batch of several calls, whose lines come after it.
 #[derive(Clone, Copy)]
@@ -52,6 +58,26 @@ pub trait Worded: Sized {
     /// The value that has these words.
     fn of_args(args: &[Arg]) -> Option<Self>
         ensures { Makes words Allows args.now result };
+}
+
+/// The value that the text spells by a beginning and words of these kinds after it.
+pub fn read_worded<V: Worded>(
+    alloc: Global,
+    text: &[u8],
+    beginning: &[u8],
+    kinds: &[ArgKind],
+) -> Result<Option<V>, AllocError>
+    requires { 0 < length kinds.now }
+    ensures { IfOk result (λ found. Reads (λ v. beginning.now ++ words_text (V.words v))
+        (AreAllowed kinds.now V.words V.Allows) text.now found) }
+{
+    let Some(rest) = after(text, beginning) else {
+        return Ok(None);
+    };
+    let Some(args) = read_arguments(alloc, kinds, rest)? else {
+        return Ok(None);
+    };
+    Ok(V::of_args(args.as_slice()))
 }
 
 /// Limits that a machine boots with.
@@ -107,9 +133,9 @@ impl Worded for Batch {
     }
 }
 
-/// A live id.
+/// A live id, or one that a container lists.
 impl Worded for ObjectId {
-    ghost words = { live_words };
+    ghost words = { id_words };
 
     ghost Allows = { Anything };
 

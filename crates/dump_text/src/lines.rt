@@ -1,31 +1,43 @@
 //! The lines of dumps.
-ghost use Rattle.std.specs.Prelude.{◌≡◌, ◌<◌, ◌++◌, codes, length, IfOk};
-ghost use Rattle.text_words.specs.Reading.{Reads};
+ghost use Rattle.std.specs.Prelude.{◌≡◌, ◌++◌, codes, IfOk};
 ghost use Rattle.dump_text.specs.Making.{Fills};
 ghost use Rattle.dump_text.specs.Event.{answered_text, IsAnswered, single_text, IsSingle};
-ghost use Rattle.dump_text.specs.Word.{words_text};
 ghost use Rattle.dump_text.specs.Line.{line_text, IsLine};
-ghost use Rattle.dump_text.specs.Line.{AreAllowed};
+ghost use Rattle.dump_text.specs.CheckpointLines.{slot_line, packet_line, next_line};
 ghost use Rattle.dump_text.specs.declared.lines.Line.TheVariants as told;
 
 use crate::events::{Single, read_answered, read_single};
-use crate::line_words::{Batch, Worded};
+use crate::line_words::{Batch, read_worded};
+use crate::state_lines::{Part, StateLine};
+use crate::state_reading::read_state_line;
 use crate::stripping::after;
 use crate::tables::Stored;
-use base::{Limits, ObjectId};
+use base::{Data, Limits, ObjectId};
+use checkpoints::{FilledSlot, NextNumber};
 use histories::Answered;
 use kernel_rules::{Call, Compared, Reply, Shown, Used};
-use spoken_calls::{ArgKind, read_arguments};
+use spoken_calls::ArgKind;
 use std::alloc::{AllocError, Global};
 use text_words::is_same;
+
+/// A format of dumps.
+#[derive(Clone, Copy, PartialEq, Eq)]
+pub enum Format {
+    /// The events of a run from its boot on.
+    One,
+    /// A checkpoint, and the events after it.
+    Two,
+}
 
 /// A line of a dump.
 #[derive(Clone, Copy)]
 pub enum Line {
-    /// `histar-dump 1`.
-    Version,
+    /// `histar-dump 1` or `histar-dump 2`.
+    Version(Format),
     /// What the machine was booted with.
     Limits(Limits),
+    /// A line of the checkpoint.
+    State(StateLine),
     /// An event of one call.
     Event(Single),
     /// The head of an event of several calls.
@@ -41,26 +53,6 @@ pub enum Line {
     Order(Compared),
     /// `end`.
     End,
-}
-
-/// The value that the text spells by a beginning and words of these kinds after it.
-fn read_worded<V: Worded>(
-    alloc: Global,
-    text: &[u8],
-    beginning: &[u8],
-    kinds: &[ArgKind],
-) -> Result<Option<V>, AllocError>
-    requires { 0 < length kinds.now }
-    ensures { IfOk result (λ found. Reads (λ v. beginning.now ++ words_text (V.words v))
-        (AreAllowed kinds.now V.words V.Allows) text.now found) }
-{
-    let Some(rest) = after(text, beginning) else {
-        return Ok(None);
-    };
-    let Some(args) = read_arguments(alloc, kinds, rest)? else {
-        return Ok(None);
-    };
-    Ok(V::of_args(args.as_slice()))
 }
 
 /// What fills a line.
@@ -80,6 +72,30 @@ impl AsLine for Answered {
 
     fn as_line(&self) -> Line {
         Line::Call(*self)
+    }
+}
+
+impl AsLine for FilledSlot {
+    ghost line = { slot_line };
+
+    fn as_line(&self) -> Line {
+        Line::State(StateLine::Part(Part::Slot(*self)))
+    }
+}
+
+impl AsLine for Data {
+    ghost line = { packet_line };
+
+    fn as_line(&self) -> Line {
+        Line::State(StateLine::Part(Part::Packet(*self)))
+    }
+}
+
+impl AsLine for NextNumber {
+    ghost line = { next_line };
+
+    fn as_line(&self) -> Line {
+        Line::State(StateLine::Next(*self))
     }
 }
 
@@ -167,7 +183,11 @@ pub fn read_line(alloc: Global, text: &[u8], line: &mut Line) -> Result<bool, Al
     ensures { IfOk result (λ yes. Fills line_text IsLine text.now line.new yes) }
 {
     if is_same(text, b"histar-dump 1") {
-        *line = Line::Version;
+        *line = Line::Version(Format::One);
+        return Ok(true);
+    }
+    if is_same(text, b"histar-dump 2") {
+        *line = Line::Version(Format::Two);
         return Ok(true);
     }
     if is_same(text, b"end") {
@@ -248,9 +268,13 @@ pub fn read_line(alloc: Global, text: &[u8], line: &mut Line) -> Result<bool, Al
         return Ok(true);
     }
     let mut event = no_event();
-    if !read_event_line(alloc, text, &mut event)? {
-        return Ok(false);
+    if read_event_line(alloc, text, &mut event)? {
+        *line = Line::Event(event);
+        return Ok(true);
     }
-    *line = Line::Event(event);
+    let Some(state) = read_state_line(alloc, text)? else {
+        return Ok(false);
+    };
+    *line = Line::State(state);
     Ok(true)
 }

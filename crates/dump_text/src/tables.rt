@@ -1,6 +1,7 @@
 //! A dump as a value.
 
 use base::{Limits, ObjectId};
+use checkpoints::Checkpoint;
 use histories::Event;
 use kernel_rules::{Compared, Shown, Used};
 use label_lattice::RawLabel;
@@ -44,12 +45,14 @@ impl Model for DumpTables {
     } };
 }
 
-/// What a run was booted with, the journal, and the tables at the end. A contract sees the lists.
+/// What a run was booted with, where its events begin, the events, and the tables at the end. A contract sees the lists.
 #[derive(Drop)]
 pub struct Dump {
     /// What the run was booted with.
     pub limits: Limits,
-    /// The journal, the oldest event first.
+    /// The state that the events begin from, where that isn't the boot's. Format 1 has none.
+    pub checkpoint: Option<Checkpoint>,
+    /// The events, the oldest first.
     pub events: Vec<Event>,
     /// The tables at the end.
     pub tables: DumpTables,
@@ -60,5 +63,10 @@ impl Model for Dump {
 
     ghost Value = { DumpLists };
 
-    ghost view = { λ d. record { limits = d.limits; events = d.events.items; tables = d.tables } };
+    ghost view = { λ d. record {
+      limits = d.limits;
+      checkpoint = d.checkpoint;
+      events = d.events.items;
+      tables = d.tables;
+    } };
 }

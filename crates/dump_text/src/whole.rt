@@ -1,9 +1,16 @@
 //! The dump of a list of events.
 ghost use Rattle.std.specs.Prelude.{◌≡◌, ◌<◌, ◌+◌, ◌^◌, ◌++◌, IfOk, OnOk, length};
-ghost use Rattle.dump_text.specs.Whole.{placed_from, placed};
+ghost use Rattle.dump_text.specs.Lists.{dump_with};
+ghost use Rattle.dump_text.specs.Dump.{dump_text};
+ghost use Rattle.dump_text.specs.Fits.{FitsWords};
+ghost use Rattle.dump_text.specs.Whole.{placed_from, placed, start_with, whole_dump};
+ghost use Rattle.histories.specs.History.{state_from};
+ghost use Rattle.kernel_rules.specs.Scratch.{scratch};
 
 use crate::tables::{Dump, DumpTables, Stored};
+use crate::writing::write_dump;
 use base::{Limits, NoMemory};
+use checkpoints::Checkpoint;
 use histories::Event;
 use kernel_rules::Tables as Kept;
 use label_lattice::RawLabel;
@@ -26,21 +33,23 @@ fn place(out: &mut Vec<Stored>, first: usize, labels: &[RawLabel]) -> Result<(),
     }
 }
 
-/// A dump with these limits, these events, and the tables of a kernel, each label with its place. Want of memory is the
+/// A dump with these limits, this checkpoint, these events, and the tables of a kernel, each label with its place. Want of memory is the
 /// only error.
 pub fn dump_with(
     alloc: Global,
     limits: &Limits,
+    checkpoint: Option<Checkpoint>,
     events: Vec<Event>,
     tables: Kept,
 ) -> Result<Dump, NoMemory>
     ensures { IfOk result (λ dump. dump
-        ≡ record { limits = limits.now; events = events.items; tables = placed tables }) }
+        ≡ dump_with limits.now checkpoint events.items (placed tables)) }
 {
     let mut labels = Vec::new(alloc);
     place(&mut labels, 0, tables.labels.as_slice())?;
     Ok(Dump {
         limits: *limits,
+        checkpoint,
         events,
         tables: DumpTables {
             live: tables.live,
@@ -50,4 +59,23 @@ pub fn dump_with(
             orders: tables.orders,
         },
     })
+}
+
+/// The text of the dump of events that begin at the checkpoint, or at a boot with these limits where there is none, with the
+/// tables of the state that they lead to. Want of memory is the only error.
+pub fn dump_of(
+    alloc: Global,
+    limits: &Limits,
+    checkpoint: Option<Checkpoint>,
+    events: Vec<Event>,
+    tables: Kept,
+) -> Result<Vec<u8>, NoMemory>
+    requires { tables ≡ scratch (state_from (start_with limits.now checkpoint).state events.items) }
+    ensures text { IfOk result (λ text. text.items
+        ≡ dump_text (whole_dump limits.now checkpoint events.items)) }
+    ensures fits { OnOk result (FitsWords (whole_dump limits.now checkpoint events.items)) }
+{
+    let dump = dump_with(alloc, limits, checkpoint, events, tables)?;
+    let text = write_dump(alloc, &dump)?;
+    Ok(text)
 }

@@ -6,7 +6,7 @@ ghost use Rattle.text_words.specs.Label.{pair_text, label_text, IsPair, IsLabel}
 ghost use Rattle.spoken_calls.specs.Arg.{arg_text, FitsArg};
 ghost use Rattle.spoken_calls.specs.Spoken.{spoken_text};
 ghost use Rattle.dump_text.specs.Call.{spoken_as};
-ghost use Rattle.dump_text.specs.Word.{arg_of, spoken_pair, spoken_label};
+ghost use Rattle.dump_text.specs.Word.{arg_of, spoken_pair, spoken_label, words_text};
 
 use base::{Data, ObjectId, Rights, TypeSet};
 use label_lattice::{Pair, RawLabel};
@@ -117,5 +117,23 @@ pub fn put_spoken(out: &mut Vec<u8>, verb: Verb, words: &[Word]) -> Result<(), A
 {
     out.extend_from_slice(verb.name().as_bytes())?;
     put_further(out, words)?;
+    Ok(())
+}
+
+/// Adds the beginning, and after it the words, parted by single spaces.
+pub fn put_words(
+    out: &mut Vec<u8>,
+    beginning: &[u8],
+    first: &Word,
+    more: &[Word],
+) -> Result<(), AllocError>
+    ensures text { OnOk result (out.new.items
+        ≡ out.old.items ++ (beginning.now ++ words_text (first.now ∷ more.now))) }
+    ensures fits { OnOk result
+        (AllByRecursion (λ w. FitsArg (arg_of w)) (first.now ∷ more.now)) }
+{
+    out.extend_from_slice(beginning)?;
+    put_word(out, first)?;
+    put_further(out, more)?;
     Ok(())
 }

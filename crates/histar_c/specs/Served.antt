@@ -8,7 +8,7 @@ use Rattle.kernel_rules.specs.Runs.{booted}
 use Rattle.kernel_rules.specs.Step.{answer, query_answer}
 use Rattle.kernel_rules.specs.declared.calls.Call.{Call}
 use Rattle.kernel_rules.specs.declared.replies.Reply.TheVariants as replies
-use Rattle.dump_text.specs.Whole.{IsLegalDump}
+use Rattle.dump_text.specs.Boot.{IsBootDump}
 use Rattle.logged_kernel.specs.Logged.{Logged, IsMade, begun, dump_of}
 use Rattle.call_records.specs.Asked.{Asked, Write, Read, Look, Log, Nothing, asked}
 use Rattle.call_records.specs.Logs.{TellsLength}
@@ -89,7 +89,7 @@ IsBegun before after number old told =
 -- this text is made, which is the dump of a legal list of events, and its length is told
 abbrev pub IsText : Limits → List ℕ → Kept → ℕ → Answer → Type 0
 IsText limits text after number told =
-    (after.text.items ≡ text) × IsLegalDump limits text × (number ≡ 0) × TellsLength text told
+    (after.text.items ≡ text) × IsBootDump limits text × (number ≡ 0) × TellsLength text told
 
 -- the text of the log's dump is made, or there is no memory for it, and the number is 51; where no log
 -- is kept, the number is 45

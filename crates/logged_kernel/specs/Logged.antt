@@ -9,7 +9,7 @@ use Rattle.kernel_rules.specs.State.{State}
 use Rattle.kernel_rules.specs.Step.{answer, next}
 use Rattle.kernel_rules.specs.declared.calls.Call.{Call}
 use Rattle.dump_text.specs.Dump.{dump_text}
-use Rattle.dump_text.specs.Whole.{whole_dump}
+use Rattle.dump_text.specs.Boot.{boot_dump}
 use Rattle.syscall_core.specs.Kernel.{kernel_state}
 use Rattle.syscall_core.specs.declared.kernel.Kernel.{Kernel}
 use Rattle.logged_kernel.specs.declared.logging.EventLog.{EventLog}
@@ -71,4 +71,4 @@ begun k =
 
 -- the text of the dump of the events that are kept
 abbrev pub dump_of : Logged → Option (List ℕ)
-dump_of k = option_map (λ (events : List Event). dump_text (whole_dump k.limits events)) k.log
+dump_of k = option_map (λ (events : List Event). dump_text (boot_dump k.limits events)) k.log

@@ -3,13 +3,13 @@ ghost use Rattle.std.specs.Prelude.{◌≡◌, ◌↔◌, false, true, IfOk, OnO
 ghost use Rattle.base.specs.Limits.{in_range};
 ghost use Rattle.kernel_rules.specs.Runs.{booted};
 ghost use Rattle.kernel_rules.specs.Step.{answer};
-ghost use Rattle.dump_text.specs.Whole.{IsLegalDump};
+ghost use Rattle.dump_text.specs.Boot.{IsBootDump};
 ghost use Rattle.syscall_core.specs.Kernel.{kernel_state};
 ghost use Rattle.logged_kernel.specs.Logged.{IsMade, begun, dump_of};
 
 use crate::logging::{EventLog, make_kept, text_of};
 use base::{Limits, Meter, NoMemory, ObjectId};
-use dump_text::legal_is_dump;
+use dump_text::legal_boot_is_dump;
 use kernel_rules::{Call, Reply};
 use std::alloc::Global;
 use std::marker::Model;
@@ -114,10 +114,10 @@ impl LoggedKernel {
         ensures text { IfOk result
             (λ text. option_map (λ t. t.items) text ≡ dump_of self.now) }
         ensures legal { IfOk result
-            (λ text. IfSome text (λ t. IsLegalDump self.now.limits t.items)) }
+            (λ text. IfSome text (λ t. IsBootDump self.now.limits t.items)) }
         ensures sure { self.now.log ≡ None → OnErr result ⊥ }
     {
-        legal_is_dump();
+        legal_boot_is_dump();
         let Some(log) = &self.log else {
             return Ok(None);
         };

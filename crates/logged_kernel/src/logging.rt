@@ -2,7 +2,7 @@
 ghost use Rattle.std.specs.Prelude.{◌≡◌, ◌+◌, ◌<◌, ◌++◌, ◌∷◌, [], IfOk, OnOk, OnErr, vec_len, vec_capacity};
 ghost use Rattle.dump_text.specs.Dump.{dump_text};
 ghost use Rattle.dump_text.specs.Fits.{FitsWords};
-ghost use Rattle.dump_text.specs.Whole.{whole_dump};
+ghost use Rattle.dump_text.specs.Boot.{boot_dump};
 ghost use Rattle.histories.specs.Events.{told};
 ghost use Rattle.histories.specs.History.{count, state_of};
 ghost use Rattle.kernel_rules.specs.Scratch.{scratch};
@@ -11,7 +11,7 @@ ghost use Rattle.syscall_core.specs.Kernel.{kernel_state};
 ghost use Rattle.logged_kernel.specs.Logged.{AreNumbered};
 
 use base::{Limits, Meter, NoMemory, ObjectId};
-use dump_text::{dump_with, write_dump};
+use dump_text::{boot_checkpoint, dump_of};
 use kept_events::{KeptCalls, KeptEvent, KeptReply, call_answers, events_of};
 use kernel_rules::{Call, Reply, Tables};
 use std::alloc::Global;
@@ -85,13 +85,14 @@ pub(crate) fn make_kept(
 
 /// The dump of the events after a boot with these limits, as text, with the tables of the state that they lead to. Want of
 /// memory is the only error.
+#[tactic(auto, unfolding(dump_text::specs::Boot::boot_dump))]
 pub(crate) fn text_of(log: &EventLog, limits: &Limits, tables: Tables) -> Result<Vec<u8>, NoMemory>
     requires { tables ≡ scratch (state_of limits.now log.now.events.items) }
     ensures text { IfOk result (λ text. text.items
-        ≡ dump_text (whole_dump limits.now log.now.events.items)) }
-    ensures fits { OnOk result (FitsWords (whole_dump limits.now log.now.events.items)) }
+        ≡ dump_text (boot_dump limits.now log.now.events.items)) }
+    ensures fits { OnOk result (FitsWords (boot_dump limits.now log.now.events.items)) }
 {
     let events = events_of(log.alloc, log.events.as_slice())?;
-    let dump = dump_with(log.alloc, limits, events, tables)?;
-    write_dump(log.alloc, &dump)
+    let checkpoint = boot_checkpoint(log.alloc, limits)?;
+    dump_of(log.alloc, limits, Some(checkpoint), events, tables)
 }

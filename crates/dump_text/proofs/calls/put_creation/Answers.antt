@@ -1,7 +1,7 @@
 use Rattle.spoken_calls.specs.Arg.{FitsArg}
 use Rattle.dump_text.specs.Call.{creation_words}
 use Rattle.dump_text.specs.Word.{arg_of}
-use Rattle.dump_text.proofs.Places.{all_append}
+use Rattle.dump_text.proofs.LabelPlaces.{all_append}
 use Rattle.dump_text.proofs.WordLemmas.{put_more}
 use Rattle.dump_text.proofs.calls.put_creation.Goals as goal
 

@@ -5,7 +5,7 @@ use Rattle.spoken_calls.specs.Spoken.{spoken_text}
 use Rattle.dump_text.specs.Call.{spoken_as}
 use Rattle.dump_text.specs.Word.{arg_of}
 use Rattle.dump_text.specs.declared.words.Word.{Word}
-use Rattle.dump_text.proofs.Places.{all_append}
+use Rattle.dump_text.proofs.LabelPlaces.{all_append}
 use Rattle.dump_text.proofs.WordLemmas.{put_more}
 use Rattle.dump_text.proofs.calls.put_on_entry.Goals as goal
 

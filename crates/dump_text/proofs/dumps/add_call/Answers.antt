@@ -1,7 +1,7 @@
-use Rattle.std.proofs.Common.{◌≡◌, ◌++◌, ◌∷◌, [], ap, sym, ◌∙◌}
+use Rattle.std.proofs.Common.{◌++◌, ◌∷◌, [], ap, sym, ◌∙◌}
 use Rattle.histories.specs.Events.{Event}
 use Rattle.dump_text.specs.Reading.{with_call}
-use Rattle.dump_text.proofs.EventLines.{call_push}
+use Rattle.dump_text.proofs.Told.{call_push}
 use Rattle.dump_text.proofs.dumps.add_call.Goals as goal
 
 pub returns-in_ok-push-2 : goal.returns-in_ok-push-2

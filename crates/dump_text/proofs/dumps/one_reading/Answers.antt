@@ -1,7 +1,7 @@
 use Rattle.dump_text.specs.Line.{line_text, IsLine}
 use Rattle.dump_text.specs.Dump.{next, ends, start, lines_of}
 use Rattle.dump_text.proofs.LineLemmas.{dump_grammar}
-use Rattle.dump_text.proofs.Gathering.{lines_are_one}
+use Rattle.dump_text.proofs.Told.{lines_are_one}
 use Rattle.call_text.proofs.TextLemmas.{faults_not_spelled, spelled_once}
 use Rattle.call_text.proofs.Faults.{faults_once}
 use Rattle.dump_text.proofs.dumps.one_reading.Goals as goal

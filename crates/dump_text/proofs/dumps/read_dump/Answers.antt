@@ -1,4 +1,4 @@
-use Rattle.std.proofs.Common.{Some, None}
+use Rattle.std.proofs.Common.{Some, None, sym, ◌∙◌}
 use Rattle.call_text.proofs.Progress.{not_empty, all_read}
 use Rattle.dump_text.proofs.Progress.{progress_start, progress_more, progress_end, fault_at_end, fault_there, taken}
 use Rattle.dump_text.proofs.dumps.read_dump.Goals as goal
@@ -24,4 +24,4 @@ loop-rest-preserved c =
 pub returns : goal.returns
 returns c =
     progress_end c.args.bytes.now c.loop-rest.dump c.loop-rest.place c.loop-rest.count c.loop-rest.rest.now c.loop-rest.invariant
-    (all_read c.loop-rest.rest.now c.is_empty.result c.loop-rest-test.false c.is_empty.ensures) c.if-place-ne9.false
+    (all_read c.loop-rest.rest.now c.is_empty.result c.loop-rest-test.false c.is_empty.ensures) (sym c.ends.ensures ∙ c.if-not-ends.false)

@@ -2,7 +2,7 @@ use Rattle.std.proofs.Common.{◌++◌, List, ℕ, ◌∙◌, ap}
 use Rattle.spoken_calls.specs.Arg.{arg_text}
 use Rattle.dump_text.specs.Word.{arg_of}
 use Rattle.dump_text.proofs.WordLemmas.{words_after, put_three}
-use Rattle.dump_text.proofs.writing.put_words.Goals as goal
+use Rattle.dump_text.proofs.words.put_words.Goals as goal
 
 pub returns-clause-text : goal.returns-clause-text
 returns-clause-text c =

@@ -14,7 +14,8 @@ use Rattle.kernel_rules.specs.Scratch.{compared_with, compared_from}
 use Rattle.kernel_rules.specs.declared.tables.Compared.{Compared}
 use Rattle.dump_text.specs.declared.tables.Stored.{Stored}
 use Rattle.dump_text.specs.Word.{spoken_label}
-use Rattle.dump_text.specs.Line.{AreAllowed, label_kinds, label_words, order_kinds, order_words, Anything, HasThreeBits}
+use Rattle.dump_text.specs.Allowed.{AreAllowed, Anything}
+use Rattle.dump_text.specs.Line.{label_kinds, label_words, order_kinds, order_words, HasThreeBits}
 use Rattle.dump_text.specs.Whole.{placed_from}
 
 abbrev IsLabelLine : Stored → Type 0
