@@ -1,4 +1,4 @@
-//! The words that the auditor is started with: the path of a dump.
+//! The words that the auditor is started with: the path of a dump, and where to write it in format 2.
 //!
 //! `clap` reads them and writes what it has to say of them. Words that are taken name a file; which texts are written is
 //! shown by tests.
@@ -6,4 +6,4 @@
 
 mod words;
 
-pub use words::{Told, read_words};
+pub use words::{AuditOptions, DEFAULTS, Told, read_words};

@@ -1,16 +1,16 @@
 -- Counting the events of threads in a map.
-use Rattle.std.proofs.Common.{◌≡◌, ℕ, ◌+◌, ◌≤◌, true, false, ◌==◌, if◌then◌else◌, length, map}
+use Rattle.std.proofs.Common.{◌≡◌, ℕ, ◌+◌, true, false, ◌==◌, if◌then◌else◌, map}
 use Rattle.std.proofs.Common.{List, [], ◌∷◌, ◌++◌, Some, refl, sym, ap, ◌∙◌, subst, arith}
 use Rattle.std.specs.BTreeMap.{BTreeMap, get, is_at, Updates}
 use Rattle.std.specs.Option.{unwrap_or}
 use Rattle.std.specs.Ordering.{nat_cmp}
 use Rattle.std.proofs.lemmas.Bool.{eqb-true, eq-eqb}
 use Rattle.std.proofs.lemmas.List.{map_push}
-use Rattle.histories.proofs.HistoryLaws.{count-snoc, count_within, state_of-snoc}
+use Rattle.histories.proofs.HistoryLaws.{count-snoc, state_from-snoc}
 use Rattle.kernel_rules.proofs.RecordLaws.{same_id}
 use Rattle.histories.proofs.BatchLaws.{answered_calls, answered-snoc, by-snoc, state_after-snoc}
 use Rattle.histories.specs.Events.{Event, calls_in, by, told}
-use Rattle.histories.specs.History.{answered, state_of, count}
+use Rattle.histories.specs.History.{Start, answered, state_from, count}
 use Rattle.histories.specs.declared.events.Answered.{Answered}
 use Rattle.kernel_rules.specs.Runs.{state_after}
 use Rattle.kernel_rules.specs.State.{State}
@@ -18,17 +18,10 @@ use Rattle.kernel_rules.specs.Step.{answer, next}
 use Rattle.kernel_rules.specs.declared.calls.Call.{Call}
 use Rattle.kernel_rules.specs.declared.replies.Reply.{Reply}
 use Rattle.plain_core.specs.Kernel.{kernel_state}
-use Rattle.auditor.specs.Replay.{true_event, IsCounted, IsReplay}
+use Rattle.auditor.specs.Replay.{true_event, IsCounted, IsReplay, Takes}
 use Rattle.auditor.specs.declared.replays.Replay.{Replay}
 
--- a thread has no more events than there are
-pub found_within : (counts : BTreeMap ℕ ℕ) (events : List Event) (thread n : ℕ) → IsCounted counts events
-    → get nat_cmp counts thread ≡ Some n → n ≤ length events
-found_within counts events thread n counted found =
-    let is : n ≡ count thread events = sym (ap (λ o. unwrap_or o 0) found) ∙ counted thread in
-    omega (arith, is, count_within thread events)
-
-not_at : (t q : ℕ) → (t == q) ≡ false → is_at (nat_cmp t) q ≡ false
+pub not_at : (t q : ℕ) → (t == q) ≡ false → is_at (nat_cmp t) q ≡ false
 not_at t q differ =
     elim (is_at (nat_cmp t) q) as (λ v. is_at (nat_cmp t) q ≡ v → v ≡ false) [
       | true ↦ λ h.
@@ -38,53 +31,64 @@ not_at t q differ =
       | false ↦ λ h. refl
     ] refl
 
-counted_more : (old new : BTreeMap ℕ ℕ) (events : List Event) (e : Event) → IsCounted old events
-    → Updates nat_cmp old new e.thread (Some (count e.thread events + 1)) → IsCounted new (events ++ e ∷ [])
-counted_more old new events e counted updates q =
-    let told : unwrap_or (get nat_cmp new q) 0 ≡ count q events + (if e.thread == q then 1 else 0) =
+counted_more : (start : Start) (old new : BTreeMap ℕ ℕ) (events : List Event) (e : Event) (n : ℕ)
+    → IsCounted start old events → n ≡ count e.thread events + start.first e.thread
+    → Updates nat_cmp old new e.thread (Some n) → IsCounted start new (events ++ e ∷ [])
+counted_more start old new events e n counted n_is updates q =
+    let told : unwrap_or (get nat_cmp new q) 0 + 1
+    ≡ (count q events + (if e.thread == q then 1 else 0)) + start.first q =
     elim (e.thread == q) as (λ b. (e.thread == q) ≡ b
-    → unwrap_or (get nat_cmp new q) 0 ≡ count q events + (if b then 1 else 0)) [
+    → unwrap_or (get nat_cmp new q) 0 + 1 ≡ (count q events + (if b then 1 else 0)) + start.first q) [
       | true ↦ λ is.
-          subst (λ t. unwrap_or (get nat_cmp new t) 0 ≡ count t events + 1) (eqb-true e.thread q is)
-          (ap (λ o. unwrap_or o 0) updates.1)
+          subst (λ t. unwrap_or (get nat_cmp new t) 0 + 1 ≡ (count t events + 1) + start.first t)
+          (eqb-true e.thread q is)
+          (ap (λ o. unwrap_or o 0 + 1) updates.1 ∙ one_more n (count e.thread events) (start.first e.thread) n_is)
       | false ↦ λ is.
-          let kept = ap (λ o. unwrap_or o 0) (updates.2 q (not_at e.thread q is)) ∙ counted q in
-          omega (arith, kept)
+          ap (λ o. unwrap_or o 0 + 1) (updates.2 q (not_at e.thread q is)) ∙ counted q
+          ∙ none_more (count q events) (start.first q)
     ] refl in
-    told ∙ sym (count-snoc q events e)
+    told ∙ ap (λ k. k + start.first q) (sym (count-snoc q events e))
+  where
+    one_more : (n a b : ℕ) → n ≡ a + b → n + 1 ≡ (a + 1) + b
+    one_more n a b h = omega arith
+
+    none_more : (a b : ℕ) → a + b ≡ (a + 0) + b
+    none_more a b = omega arith
 
 -- after one event more the kernel is in the state of the events, and they are counted
-pub replay_more : (old new : Replay) (e : Event) (key n : ℕ) → IsReplay old → new.limits ≡ old.limits
-    → key ≡ e.thread → n ≡ count e.thread old.events.items
-    → Updates nat_cmp old.counts new.counts key (Some (n + 1))
+pub replay_more : (start : Start) (old new : Replay) (e : Event) (key n : ℕ) → IsReplay start old
+    → key ≡ e.thread → n ≡ unwrap_or (get nat_cmp old.counts e.thread) 0 + 1
+    → Updates nat_cmp old.counts new.counts key (Some n)
     → kernel_state new.kernel ≡ state_after (kernel_state old.kernel) (by e.thread (calls_in e))
-    → new.events.items ≡ old.events.items ++ true_event old.limits old.events.items e ∷ []
-    → IsReplay new
-replay_more old new e key n was limits_are key_is n_is updates stepped events_are =
-    let x = true_event old.limits old.events.items e in
-    let at : Updates nat_cmp old.counts new.counts e.thread (Some (count e.thread old.events.items + 1)) =
-    subst (λ (p : ℕ × ℕ). Updates nat_cmp old.counts new.counts p.0 (Some (p.1 + 1)))
-    (λ i. (key_is i, n_is i)) updates in
-    let there : kernel_state new.kernel ≡ state_of old.limits (old.events.items ++ x ∷ []) =
+    → new.events.items ≡ old.events.items ++ true_event start old.events.items e ∷ []
+    → Takes start old e new
+replay_more start old new e key n was key_is n_is updates stepped events_are =
+    let x = true_event start old.events.items e in
+    let at : Updates nat_cmp old.counts new.counts e.thread (Some n) =
+    subst (λ (k : ℕ). Updates nat_cmp old.counts new.counts k (Some n)) key_is updates in
+    let there : kernel_state new.kernel ≡ state_from start.state (old.events.items ++ x ∷ []) =
     stepped ∙ ap (λ s. state_after s (by e.thread (calls_in e))) was.state
-    ∙ ap (λ (cs : List Call). state_after (state_of old.limits old.events.items) (by e.thread cs))
-    (sym (answered_calls (state_of old.limits old.events.items) e.thread (calls_in e)))
-    ∙ sym (state_of-snoc old.limits old.events.items x) in
+    ∙ ap (λ (cs : List Call). state_after (state_from start.state old.events.items) (by e.thread cs))
+    (sym (answered_calls (state_from start.state old.events.items) e.thread (calls_in e)))
+    ∙ sym (state_from-snoc start.state old.events.items x) in
     record {
-      state = there ∙ (λ i. state_of (sym limits_are i) (sym events_are i));
-      counted = subst (λ (l : List Event). IsCounted new.counts l) (sym events_are)
-          (counted_more old.counts new.counts old.events.items x was.counted at);
+      replay = record {
+        state = there ∙ ap (state_from start.state) (sym events_are);
+        counted = subst (λ (l : List Event). IsCounted start new.counts l) (sym events_are)
+            (counted_more start old.counts new.counts old.events.items x n was.counted
+            (n_is ∙ was.counted e.thread) at);
+      };
+      event = events_are;
     }
 
 -- an event with the next number and the kernel's answers is true
-pub true_is : (r : Replay) (e : Event) (n : ℕ) (made : List Answered) → IsReplay r
-    → n ≡ count e.thread r.events.items
+pub true_is : (start : Start) (r : Replay) (e : Event) (n : ℕ) (made : List Answered) → IsReplay start r
+    → n ≡ unwrap_or (get nat_cmp r.counts e.thread) 0 + 1
     → made ≡ answered (kernel_state r.kernel) e.thread (calls_in e)
-    → record { thread = e.thread; number = n + 1; calls = made }
-    ≡ true_event r.limits r.events.items e
-true_is r e n made is n_is made_is = λ i. record {
+    → record { thread = e.thread; number = n; calls = made } ≡ true_event start r.events.items e
+true_is start r e n made is n_is made_is = λ i. record {
   thread = e.thread;
-  number = n_is i + 1;
+  number = (n_is ∙ is.counted e.thread) i;
   calls = (made_is ∙ ap (λ s. answered s e.thread (calls_in e)) is.state) i;
 }
 

@@ -3,3 +3,6 @@ pub mod ReplayLaws
 pub mod DifferenceLaws
 pub mod VerdictLaws
 pub mod LineLaws
+pub mod MigratedLaws
+pub mod StartLaws
+pub mod ToldLaws

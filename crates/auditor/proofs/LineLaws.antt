@@ -1,10 +1,11 @@
 -- The first line in which two dumps differ.
-use Rattle.std.proofs.Common.{◌≡◌, ℕ, suc, ◌+◌, true, false, ◌==◌, List, [], ◌∷◌, ◌++◌}
+use Rattle.std.proofs.Common.{◌≡◌, ℕ, suc, ◌+◌, Bool, true, false, if◌then◌else◌, ◌==◌, List, [], ◌∷◌, ◌++◌, length, Option}
 use Rattle.std.proofs.Common.{Some, refl, sym, ap, ◌∙◌, subst, arith, append_assoc, ◌⊎◌, inl, inr}
 use Rattle.std.specs.List.{AllByRecursion}
 use Rattle.std.proofs.lemmas.Bool.Decides.{eqb_tells}
 use Rattle.base.specs.declared.ranges.Limits.{Limits}
-use Rattle.histories.specs.History.{IsLegal}
+use Rattle.checkpoints.specs.Checkpoint.{Checkpoint}
+use Rattle.histories.specs.History.{IsLegalFrom}
 use Rattle.histories.specs.Events.{Event}
 use Rattle.text_words.specs.Lacks.{lacks}
 use Rattle.text_words.proofs.Split.{cond_false}
@@ -13,14 +14,15 @@ use Rattle.dump_text.specs.Dump.{lines_of, dump_text, IsDump}
 use Rattle.dump_text.specs.Fits.{FitsWords}
 use Rattle.dump_text.specs.Line.{line_text, IsLine, IsBootable}
 use Rattle.dump_text.specs.Lists.{DumpLists}
-use Rattle.dump_text.specs.Whole.{whole_dump}
+use Rattle.dump_text.specs.Whole.{CanBegin, start_with, whole_dump}
 use Rattle.dump_text.specs.declared.lines.Line.{Line}
 use Rattle.dump_text.proofs.LineLemmas.{dump_grammar}
 use Rattle.dump_text.proofs.Batches.{lines_batches}
 use Rattle.auditor.specs.Replay.{replayed}
-use Rattle.auditor.specs.Verdict.{true_dump, first_difference, false_line, DifferAt, TellsFalse}
+use Rattle.auditor.specs.Verdict.{true_dump, begins, first_difference, false_line, DifferAt, TellsFalse}
 use Rattle.auditor.specs.declared.verdicts.Verdict.TheVariants as is
 use Rattle.auditor.proofs.ReplayLaws.{replayed_legal}
+use Rattle.auditor.proofs.VerdictLaws.{begins_can}
 
 -- two texts that begin with these lines: the lines are the same and the rest is compared, or they are the difference
 abbrev Compared : ℕ → List ℕ → List ℕ → List ℕ → List ℕ → Type 0
@@ -76,6 +78,35 @@ text_more : (x : Line) (xs : List Line)
     → lines_text line_text (x ∷ xs) ≡ line_text x ++ 10 ∷ lines_text line_text xs
 text_more x xs = append_assoc (line_text x) (10 ∷ []) (lines_text line_text xs)
 
+-- a line that both texts begin with
+after_same : (m : ℕ) (l : Line) (xs ys : List Line) → IsLine l
+    → first_difference m (lines_text line_text (l ∷ xs)) (lines_text line_text (l ∷ ys))
+    ≡ first_difference (m + 1) (lines_text line_text xs) (lines_text line_text ys)
+after_same m l xs ys fit =
+    let p = lines_text line_text xs in
+    let q = lines_text line_text ys in
+    let ends = dump_grammar.lacks_end l fit in
+    (λ i. first_difference m (text_more l xs i) (text_more l ys i))
+    ∙ elim (compared m (line_text l) (line_text l) p q ends ends)
+    as (λ _. first_difference m (line_text l ++ 10 ∷ p) (line_text l ++ 10 ∷ q) ≡ first_difference (m + 1) p q) [
+      | inl same ↦ same.1
+      | inr other ↦ absurd (other.0 refl)
+    ]
+
+-- texts that begin with the same lines differ where the rest does
+pub after_all : (m : ℕ) (ls xs ys : List Line) → AllByRecursion IsLine (ls ++ xs)
+    → first_difference m (lines_text line_text (ls ++ xs)) (lines_text line_text (ls ++ ys))
+    ≡ first_difference (m + length ls) (lines_text line_text xs) (lines_text line_text ys)
+after_all m [] xs ys fit =
+    let none : m ≡ m + 0 = omega arith in
+    ap (λ (k : ℕ). first_difference k (lines_text line_text xs) (lines_text line_text ys)) none
+after_all m (l ∷ ls) xs ys fit =
+    after_same m l (ls ++ xs) (ls ++ ys) fit.0 ∙ after_all (m + 1) ls xs ys fit.1
+    ∙ ap (λ (k : ℕ). first_difference k (lines_text line_text xs) (lines_text line_text ys)) (one_first m (length ls))
+  where
+    one_first : (m k : ℕ) → (m + 1) + k ≡ m + suc k
+    one_first m k = omega arith
+
 none_left : (m n : ℕ) (a p : List ℕ) → first_difference m [] (a ++ 10 ∷ p) ≡ Some n → n ≡ m + 0
 none_left m n [] p h = let k : m ≡ n = cc in omega arith
 none_left m n (z ∷ a) p h = let k : m ≡ n = cc in omega arith
@@ -119,17 +150,32 @@ differ m n (x ∷ xs) (y ∷ ys) fx fy e =
 
 -- that the dump of legal events is a dump, where its values fit their words
 abbrev pub LegalIsDump : Type 0
-LegalIsDump = (limits : Limits) (events : List Event) → IsBootable limits → IsLegal limits events
-    → FitsWords (whole_dump limits events)
-    → IsDump (dump_text (whole_dump limits events)) (whole_dump limits events)
+LegalIsDump = (limits : Limits) (c : Option Checkpoint) (events : List Event) → IsBootable limits → CanBegin limits c
+    → IsLegalFrom (start_with limits c) events → FitsWords (whole_dump limits c events)
+    → IsDump (dump_text (whole_dump limits c events)) (whole_dump limits c events)
 
--- a false line is the first that isn't the true dump's
-pub false_told : (bytes : List ℕ) (d : DumpLists) (n : ℕ) → LegalIsDump → IsDump bytes d
-    → FitsWords (true_dump d) → false_line bytes d ≡ Some n → TellsFalse bytes (is.False n)
-false_told bytes d n law is_dump fits e =
-    let true_is = law d.limits (replayed d.limits d.events) (is_dump.fit.1.0.1) (replayed_legal d.limits d.events (lines_batches d is_dump.fit)) fits in
+-- a false line after a beginning that can be is the first that isn't the true dump's
+differs : (bytes : List ℕ) (d : DumpLists) (n : ℕ) → LegalIsDump → IsDump bytes d → begins d ≡ true
+    → FitsWords (true_dump d) → first_difference 1 bytes (dump_text (true_dump d)) ≡ Some n
+    → (i : ℕ) × (n ≡ i + 1) × DifferAt i (lines_of d) (lines_of (true_dump d))
+differs bytes d n law is_dump can fits e =
+    let start = start_with d.limits d.checkpoint in
+    let true_is = law d.limits d.checkpoint (replayed start d.events) (is_dump.fit.1.0.1) (begins_can bytes d is_dump can)
+    (replayed_legal start d.events (lines_batches d is_dump.fit)) fits in
     let h : first_difference 1 (lines_text line_text (lines_of d)) (lines_text line_text (lines_of (true_dump d))) ≡ Some n =
     subst (λ (t : List ℕ). first_difference 1 t (dump_text (true_dump d)) ≡ Some n) is_dump.bytes_are e in
     let found = differ 1 n (lines_of d) (lines_of (true_dump d)) is_dump.fit true_is.fit h in
     let place = found.1 in
-    (d, is_dump, (found.0, omega arith, found.2))
+    (found.0, omega arith, found.2)
+
+-- a false line is the third, of a checkpoint that can't be restored, or the first that isn't the true dump's
+pub false_told : (bytes : List ℕ) (d : DumpLists) (n : ℕ) → LegalIsDump → IsDump bytes d
+    → (begins d ≡ true → FitsWords (true_dump d)) → false_line bytes d ≡ Some n → TellsFalse bytes (is.False n)
+false_told bytes d n law is_dump fits e = (d, is_dump, at (begins d) refl e)
+  where
+    at : (b : Bool) → begins d ≡ b
+        → (if b then first_difference 1 bytes (dump_text (true_dump d)) else Some 3) ≡ Some n
+        → ((begins d ≡ false) × (n ≡ 3))
+        ⊎ ((i : ℕ) × (n ≡ i + 1) × DifferAt i (lines_of d) (lines_of (true_dump d)))
+    at true is f = inr (differs bytes d n law is_dump is (fits is) f)
+    at false is f = inl (is, cc)

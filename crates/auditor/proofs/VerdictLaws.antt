@@ -1,14 +1,25 @@
 -- What bytes with a verdict are.
-use Rattle.std.proofs.Common.{◌≡◌, ℕ, List, Option, Some, None, refl, sym, ap, ◌∙◌}
+use Rattle.std.proofs.Common.{◌≡◌, ◌≤◌, ℕ, Bool, true, false, if◌then◌else◌, nat_le, List, [], ◌∷◌, ◌++◌, Option, Some, None}
+use Rattle.std.proofs.Common.{refl, sym, ap, ◌∙◌, subst}
+use Rattle.std.proofs.lemmas.Bool.{leb-true}
 use Rattle.base.specs.declared.ranges.Limits.{Limits}
-use Rattle.histories.specs.History.{IsLegal}
+use Rattle.call_text.specs.Text.{run}
+use Rattle.checkpoints.specs.Checkpoint.{Checkpoint}
+use Rattle.histories.specs.History.{IsLegalFrom}
 use Rattle.histories.specs.Events.{Event}
-use Rattle.dump_text.specs.Dump.{dump_text, IsDump, DumpFaultsAt}
+use Rattle.std.specs.List.{flat_map}
+use Rattle.dump_text.specs.CheckpointLines.{start_lines}
+use Rattle.dump_text.specs.Dump.{dump_text, event_lines, table_lines, format_of, next, start, IsDump, DumpFaultsAt}
+use Rattle.dump_text.specs.declared.lines.Format.TheVariants as formats
+use Rattle.dump_text.specs.declared.lines.Line.{Line}
+use Rattle.dump_text.specs.declared.lines.Line.TheVariants as lines
+use Rattle.dump_text.specs.declared.places.Pending.TheVariants as pendings
+use Rattle.dump_text.specs.declared.places.Place.{Place}
 use Rattle.dump_text.specs.Lists.{DumpLists}
-use Rattle.dump_text.specs.Whole.{whole_dump}
+use Rattle.dump_text.specs.Whole.{CanBegin, start_with, whole_dump}
 use Rattle.dump_text.proofs.Batches.{lines_batches}
 use Rattle.auditor.specs.Replay.{replayed}
-use Rattle.auditor.specs.Verdict.{true_dump, false_line, IsVerdict, IsLegalText}
+use Rattle.auditor.specs.Verdict.{true_dump, can_begin, begins, false_line, first_difference, IsVerdict, IsLegalText}
 use Rattle.auditor.specs.declared.verdicts.Verdict.{Verdict}
 use Rattle.auditor.specs.declared.verdicts.Verdict.TheVariants as is
 use Rattle.auditor.proofs.ReplayLaws.{replayed_legal, replayed_same}
@@ -39,27 +50,73 @@ module _ (bytes : List ℕ) (one : OneReading bytes) where
   verdicts_same (is.Unreadable n) (is.False m) a b = absurd (one.fault n b.0 a b.1)
   verdicts_same (is.Unreadable n) (is.Unreadable m) a b = ap is.Unreadable (one.line n m a b)
 
+-- the limits of format 1 may not come where they have more than 512 pages
+not_next : (limits : Limits) → nat_le limits.pages 512 ≡ false
+    → next (record { first = 1; pending = pendings.Nothing }) (lines.Limits limits) ≡ None
+unfolding next
+not_next limits many = rw many refl
+
+-- a dump of format 1 has at most 512 pages
+few_pages : (limits : Limits) (ls : List Line) (state : Place)
+    → run next (Some start) (lines.Version formats.One ∷ lines.Limits limits ∷ ls) ≡ Some state → limits.pages ≤ 512
+unfolding next
+few_pages limits ls state ran = go (nat_le limits.pages 512) refl
+  where
+    go : (v : Bool) → nat_le limits.pages 512 ≡ v → limits.pages ≤ 512
+    go true is = leb-true limits.pages 512 is
+    go false is =
+        let bad : None ≡ Some state =
+        subst (λ (x : Option Place). run next x ls ≡ Some state) (not_next limits is) ran in
+        absurd (cc bad)
+
+-- where a dump's events can begin, its checkpoint can be restored, or its pages are few
+pub begins_can : (bytes : List ℕ) (d : DumpLists) → IsDump bytes d → begins d ≡ true → CanBegin d.limits d.checkpoint
+begins_can bytes d is_dump h = at d.checkpoint refl h
+  where
+    at : (c : Option Checkpoint) → d.checkpoint ≡ c → can_begin d.limits c ≡ true → CanBegin d.limits c
+    at None is b =
+        few_pages d.limits ((start_lines d.checkpoint ++ (flat_map event_lines d.events ++ table_lines d.tables)) ++ lines.End ∷ [])
+        is_dump.state
+        (subst (λ (c : Option Checkpoint). run next (Some start) (lines.Version (format_of c) ∷ lines.Limits d.limits
+        ∷ (start_lines d.checkpoint ++ (flat_map event_lines d.events ++ table_lines d.tables)) ++ lines.End ∷ [])
+        ≡ Some is_dump.state) is is_dump.ran)
+    at (Some c) is b = b
+
+pub can_begins : (limits : Limits) (c : Option Checkpoint) → CanBegin limits c → can_begin limits c ≡ true
+can_begins limits None h = refl
+can_begins limits (Some c) h = h
+
+no_line : (b : Bool) (x : Option ℕ) → (if b then x else Some 3) ≡ None → (b ≡ true) × (x ≡ None)
+no_line true x h = (refl, h)
+no_line false x h = absurd (cc h)
+
 -- a dump that differs nowhere from the true one is that one, whose events are legal
 pub clean_legal : (bytes : List ℕ) → IsVerdict bytes is.Clean → IsLegalText bytes
 clean_legal bytes v =
-    let d = v.0 in (
+    let d = v.0 in
+    let true_is = no_line (begins d) (first_difference 1 bytes (dump_text (true_dump d))) v.2 in (
       d.limits,
-      replayed d.limits d.events,
-      replayed_legal d.limits d.events (lines_batches d v.1.fit),
-      none_same 1 bytes (dump_text (true_dump d)) v.2,
+      d.checkpoint,
+      replayed (start_with d.limits d.checkpoint) d.events,
+      begins_can bytes d v.1 true_is.0,
+      replayed_legal (start_with d.limits d.checkpoint) d.events (lines_batches d v.1.fit),
+      none_same 1 bytes (dump_text (true_dump d)) true_is.1,
     )
 
-true_same : (limits : Limits) (events : List Event) → IsLegal limits events
-    → true_dump (whole_dump limits events) ≡ whole_dump limits events
-true_same limits events legal = ap (whole_dump limits) (replayed_same limits events legal)
+true_same : (limits : Limits) (c : Option Checkpoint) (events : List Event)
+    → IsLegalFrom (start_with limits c) events
+    → true_dump (whole_dump limits c events) ≡ whole_dump limits c events
+true_same limits c events legal = ap (whole_dump limits c) (replayed_same (start_with limits c) events legal)
 
 -- the dump of legal events is the true one
-pub legal_clean : (bytes : List ℕ) (limits : Limits) (events : List Event) → IsLegal limits events
-    → IsDump bytes (whole_dump limits events) → IsVerdict bytes is.Clean
-legal_clean bytes limits events legal is_dump =
-    let same : bytes ≡ dump_text (true_dump (whole_dump limits events)) =
-    is_dump.bytes_are ∙ sym (ap dump_text (true_same limits events legal)) in (
-      whole_dump limits events,
+pub legal_clean : (bytes : List ℕ) (limits : Limits) (c : Option Checkpoint) (events : List Event) → CanBegin limits c
+    → IsLegalFrom (start_with limits c) events → IsDump bytes (whole_dump limits c events) → IsVerdict bytes is.Clean
+legal_clean bytes limits c events can legal is_dump =
+    let same : bytes ≡ dump_text (true_dump (whole_dump limits c events)) =
+    is_dump.bytes_are ∙ sym (ap dump_text (true_same limits c events legal)) in (
+      whole_dump limits c events,
       is_dump,
-      equal_none 1 bytes (dump_text (true_dump (whole_dump limits events))) same,
+      ap (λ (b : Bool). if b then first_difference 1 bytes (dump_text (true_dump (whole_dump limits c events))) else Some 3)
+          (can_begins limits c can)
+          ∙ equal_none 1 bytes (dump_text (true_dump (whole_dump limits c events))) same,
     )

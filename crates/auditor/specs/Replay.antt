@@ -3,37 +3,46 @@ use Rattle.std.specs.Prelude.{◌≡◌, ℕ, ◌+◌, List, [], ◌∷◌, ◌+
 use Rattle.std.specs.BTreeMap.{BTreeMap, get}
 use Rattle.std.specs.Option.{unwrap_or}
 use Rattle.std.specs.Ordering.{nat_cmp}
-use Rattle.base.specs.declared.ranges.Limits.{Limits}
 use Rattle.histories.specs.Events.{Event, calls_in}
-use Rattle.histories.specs.History.{answered, state_of, count}
+use Rattle.histories.specs.History.{Start, answered, state_from, count}
 use Rattle.plain_core.specs.Kernel.{kernel_state}
 use Rattle.auditor.specs.declared.replays.Replay.{Replay}
 
 -- the event with its thread's next number after these events, and each of its calls with its answer in
 -- the state that they and the calls before it lead to
-abbrev pub true_event : Limits → List Event → Event → Event
-true_event limits before e = record {
+abbrev pub true_event : Start → List Event → Event → Event
+true_event start before e = record {
   thread = e.thread;
-  number = count e.thread before + 1;
-  calls = answered (state_of limits before) e.thread (calls_in e);
+  number = count e.thread before + start.first e.thread;
+  calls = answered (state_from start.state before) e.thread (calls_in e);
 }
 
 -- these events, and after them others with their true numbers and replies
-abbrev pub replayed_after : Limits → List Event → List Event → List Event
-replayed_after limits before [] = before
-replayed_after limits before (e ∷ es) =
-    replayed_after limits (before ++ true_event limits before e ∷ []) es
+abbrev pub replayed_after : Start → List Event → List Event → List Event
+replayed_after start before [] = before
+replayed_after start before (e ∷ es) =
+    replayed_after start (before ++ true_event start before e ∷ []) es
 
 -- events with their true numbers and replies
-abbrev pub replayed : Limits → List Event → List Event
-replayed limits events = replayed_after limits [] events
+abbrev pub replayed : Start → List Event → List Event
+replayed start events = replayed_after start [] events
 
--- the map gives each thread as many events as it has
-abbrev pub IsCounted : BTreeMap ℕ ℕ → List Event → Type 0
-IsCounted counts events =
-    (thread : ℕ) → unwrap_or (get nat_cmp counts thread) 0 ≡ count thread events
+-- the map gives each thread the number of its last event, 0 where it had none
+abbrev pub IsCounted : Start → BTreeMap ℕ ℕ → List Event → Type 0
+IsCounted start counts events =
+    (thread : ℕ) → unwrap_or (get nat_cmp counts thread) 0 + 1 ≡ count thread events + start.first thread
 
--- the kernel is in the state of the events, and they are counted
-pub record IsReplay (r : Replay) : Type 0 where
-  pub state : kernel_state r.kernel ≡ state_of r.limits r.events.items
-  pub counted : IsCounted r.counts r.events.items
+-- the kernel is in the state that the events lead to from the start, and they are counted
+pub record IsReplay (start : Start) (r : Replay) : Type 0 where
+  pub state : kernel_state r.kernel ≡ state_from start.state r.events.items
+  pub counted : IsCounted start r.counts r.events.items
+
+-- the replay took the calls of an event again
+pub record Takes (start : Start) (old : Replay) (e : Event) (new : Replay) : Type 0 where
+  pub replay : IsReplay start new
+  pub event : new.events.items ≡ old.events.items ++ true_event start old.events.items e ∷ []
+
+-- the replay took the calls of these events again, from the start on
+pub record TakesAll (start : Start) (events : List Event) (r : Replay) : Type 0 where
+  pub replay : IsReplay start r
+  pub all : r.events.items ≡ replayed start events

@@ -1,30 +1,55 @@
 //! Auditing dumps.
-ghost use Rattle.std.specs.Prelude.{◌≡◌, ℕ, List, IfOk, OnOk};
+ghost use Rattle.std.specs.Prelude.{◌≡◌, ℕ, ◌+◌, List, Option, IfOk, IfSome, OnOk, is_some, true};
 ghost use Rattle.base.specs.declared.ranges.Limits.{Limits as Booted};
+ghost use Rattle.checkpoints.specs.Checkpoint.{Checkpoint as Written};
 ghost use Rattle.dump_text.specs.Dump.{dump_text};
 ghost use Rattle.dump_text.specs.Fits.{FitsWords};
 ghost use Rattle.dump_text.specs.Whole.{IsLegalDump};
 ghost use Rattle.auditor.specs.declared.verdicts.Verdict.{Verdict as Found};
-ghost use Rattle.auditor.specs.declared.verdicts.Verdict.TheVariants.{Clean as Legal};
-ghost use Rattle.auditor.specs.Verdict.{true_dump, IsVerdict, IsLegalText, TellsFalse};
+ghost use Rattle.auditor.specs.declared.verdicts.Verdict.TheVariants.{Clean as Legal, False as FalseAt};
+ghost use Rattle.auditor.specs.Told.{IsMigrated};
+ghost use Rattle.auditor.specs.Verdict.{begins, false_line, true_dump, IsVerdict, IsLegalText, TellsFalse};
 
 use crate::differences::first_difference;
-use crate::replays::take_all;
+use crate::replays::Replay;
 use crate::verdicts::Verdict;
 use base::NoMemory;
 use dump_text::{Dump, DumpError, dump_with, legal_is_dump, one_reading, read_dump, write_dump};
 use std::alloc::Global;
 
-/// The text of the true dump: that of the dump's own limits and calls, with the numbers, the replies and the tables of
-/// the rules.
-fn true_text(alloc: Global, dump: &Dump) -> Result<Vec<u8>, NoMemory>
-    ensures text { IfOk result (λ text. text.items ≡ dump_text (true_dump dump.now)) }
-    ensures fits { OnOk result (FitsWords (true_dump dump.now)) }
+/// The text of the true dump: that of the dump's own limits, checkpoint and calls, with the numbers, the replies and the
+/// tables of the rules. There is one exactly where the checkpoint, if there is one, can be restored.
+fn true_text(alloc: Global, dump: Dump) -> Result<Option<Vec<u8>>, NoMemory>
+    ensures test { IfOk result (λ text. is_some text ≡ begins dump) }
+    ensures text { IfOk result (λ text. IfSome text (λ t. t.items ≡ dump_text (true_dump dump))) }
+    ensures fits { IfOk result (λ text. IfSome text (λ t. FitsWords (true_dump dump))) }
 {
-    let mut replay = take_all(alloc, &dump.limits, dump.events.as_slice())?;
+    let Dump {
+        limits,
+        checkpoint,
+        events,
+        tables: _,
+    } = dump;
+    let Some(mut replay) = Replay::begin(alloc, &limits, &checkpoint)? else {
+        return Ok(None);
+    };
+    if !replay.take_all(alloc, events.as_slice())? {
+        return Err(NoMemory);
+    }
     let tables = replay.kernel.tables(&mut replay.meter)?;
-    let told = dump_with(alloc, &dump.limits, replay.events, tables)?;
-    write_dump(alloc, &told)
+    let told = dump_with(alloc, &limits, checkpoint, replay.events, tables)?;
+    Ok(Some(write_dump(alloc, &told)?))
+}
+
+/// The first line of a dump that is not true.
+fn false_line(alloc: Global, bytes: &[u8], dump: Dump) -> Result<Option<u64>, NoMemory>
+    ensures line { IfOk result (λ line. line ≡ false_line bytes.now dump) }
+    ensures fits { OnOk result (begins dump ≡ true → FitsWords (true_dump dump)) }
+{
+    match true_text(alloc, dump)? {
+        None => Ok(Some(3)),
+        Some(text) => Ok(first_difference(bytes, text.as_slice())),
+    }
 }
 
 /// What the bytes are: the dump of a legal list of events; a dump with a first line that is not true; or no dump from some
@@ -39,8 +64,7 @@ pub fn audit(alloc: Global, bytes: &[u8]) -> Result<Verdict, NoMemory>
         Err(DumpError::Line(line)) => return Ok(Verdict::Unreadable(line)),
         Err(DumpError::Memory) => return Err(NoMemory),
     };
-    let text = true_text(alloc, &dump)?;
-    match first_difference(bytes, text.as_slice()) {
+    match false_line(alloc, bytes, dump)? {
         None => Ok(Verdict::Clean),
         Some(line) => Ok(Verdict::False(line)),
     }
@@ -57,6 +81,16 @@ pub fn one_verdict()
 /// is clean, as a run of `histar` writes it.
 pub fn clean_is_legal()
     ensures legal { (bytes : List ℕ) → IsVerdict bytes Legal → IsLegalText bytes }
-    ensures clean { (bytes : List ℕ) (limits : Booted) → IsLegalDump limits bytes
-        → IsVerdict bytes Legal }
+    ensures clean { (bytes : List ℕ) (limits : Booted) (checkpoint : Option Written)
+        → IsLegalDump limits checkpoint bytes → IsVerdict bytes Legal }
 {}
+
+/// A law, which does nothing when it is called: a dump of format 1 that is written in format 2 is clean where it was clean,
+/// and false six lines further down where it was false, since the checkpoint has six lines.
+pub fn migrated_verdicts()
+    ensures clean { (bytes out : List ℕ) → IsMigrated bytes out → IsVerdict bytes Legal → IsVerdict out Legal }
+    ensures false_line { (bytes out : List ℕ) (n : ℕ) → IsMigrated bytes out → IsVerdict bytes (FalseAt n)
+        → IsVerdict out (FalseAt (n + 6)) }
+{
+    one_reading();
+}

@@ -6,8 +6,9 @@ mod audits;
 mod differences;
 mod program;
 mod replays;
+mod starts;
 mod verdicts;
 
-pub use audits::{audit, clean_is_legal, one_verdict};
+pub use audits::{audit, clean_is_legal, migrated_verdicts, one_verdict};
 pub use program::{AuditEnd, NAME, audit_on};
 pub use verdicts::Verdict;

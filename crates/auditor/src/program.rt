@@ -1,10 +1,12 @@
 //! The program, over a reader, a sink and a writer.
 ghost use Rattle.std.specs.Prelude.{◌≡◌, ◌<◌, [], ◌∷◌, ◌++◌, decimal, IfOk, IfSome};
-ghost use Rattle.auditor.specs.Told.{verdict_line, verdict_status, IsTold, TellsVerdict};
+ghost use Rattle.auditor.specs.Told.{verdict_line, verdict_status, IsMigration, IsTold, TellsVerdict};
 
 use crate::audits::audit;
 use crate::verdicts::Verdict;
+use audit_args::AuditOptions;
 use base::NoMemory;
+use dump_text::{MigrateFault, migrate};
 use program_io::{Fault, Sink, bytes_of, deliver};
 use std::alloc::Global;
 use std::io::{Read, Write};
@@ -14,11 +16,23 @@ use text_words::put_number;
 pub const NAME: &str = "histar-audit";
 
 /// How an audit ended.
-#[derive(Clone, Copy, PartialEq, Eq, Debug)]
+#[derive(PartialEq, Eq, Debug, Drop)]
 pub struct AuditEnd {
     /// 0 where the dump is clean, 1 where a line of it is not true, 2 where it is unreadable, 3 where it can't be read or
     /// the answer can't be written, 4 where there was no memory. (A fault of usage is 2 too; of that the words tell.)
     pub status: u8,
+    /// What goes to the migrated dump's file: where that is asked for, and the dump is clean and of format 1, the dump in
+    /// format 2, and else nothing.
+    pub file: Vec<u8>,
+}
+
+/// What an audit tells.
+#[derive(Drop)]
+struct Audited {
+    /// The verdict.
+    verdict: Verdict,
+    /// What goes to the migrated dump's file.
+    file: Vec<u8>,
 }
 
 /// The status that tells a verdict.
@@ -54,15 +68,41 @@ fn line_of(alloc: Global, verdict: Verdict) -> Result<Vec<u8>, NoMemory>
     }
 }
 
-fn run<I: Read, S: Sink>(alloc: Global, dump: &mut I, out: &mut S) -> Result<Verdict, Fault>
-    ensures { IfOk result (λ verdict. IfSome (I.remaining dump.old) (λ bytes.
-        IsTold (S.contents out.old) (S.contents out.new) bytes verdict)) }
+/// The dump in format 2, where that is asked for, and the dump is clean and of format 1.
+fn file_of(
+    alloc: Global,
+    options: &AuditOptions,
+    bytes: &[u8],
+    verdict: Verdict,
+) -> Result<Vec<u8>, NoMemory>
+    ensures { IfOk result (λ file. IsMigration options.now.migrate bytes.now verdict file.items) }
+{
+    if !options.migrate || verdict != Verdict::Clean {
+        return Ok(Vec::new(alloc));
+    }
+    match migrate(alloc, bytes) {
+        Ok(text) => Ok(text),
+        Err(MigrateFault::NotFormat1(_)) => Ok(Vec::new(alloc)),
+        Err(MigrateFault::Memory) => Err(NoMemory),
+    }
+}
+
+fn run<I: Read, S: Sink>(
+    alloc: Global,
+    dump: &mut I,
+    options: &AuditOptions,
+    out: &mut S,
+) -> Result<Audited, Fault>
+    ensures { IfOk result (λ audited. IfSome (I.remaining dump.old) (λ bytes.
+        IsTold (S.contents out.old) (S.contents out.new) bytes audited.verdict
+        × IsMigration options.now.migrate bytes audited.verdict audited.file.items)) }
 {
     let bytes = bytes_of(alloc, dump)?;
     let verdict = audit(alloc, bytes.as_slice())?;
+    let file = file_of(alloc, options, bytes.as_slice(), verdict)?;
     let line = line_of(alloc, verdict)?;
     deliver(out, line.as_slice())?;
-    Ok(verdict)
+    Ok(Audited { verdict, file })
 }
 
 /// Audits the dump that a reader gives, and prints `clean`, `false at line N` or `unreadable at line N`. The faults are
@@ -71,18 +111,21 @@ fn run<I: Read, S: Sink>(alloc: Global, dump: &mut I, out: &mut S) -> Result<Ver
 pub fn audit_on<I: Read, S: Sink, E: Write>(
     alloc: Global,
     dump: &mut I,
+    options: &AuditOptions,
     out: &mut S,
     err: &mut E,
 ) -> AuditEnd
     ensures { result.status < 3 → IfSome (I.remaining dump.old)
-        (TellsVerdict (S.contents out.old) (S.contents out.new) result.status) }
+        (TellsVerdict (S.contents out.old) (S.contents out.new) options.now.migrate result.status result.file.items) }
 {
-    match run(alloc, dump, out) {
-        Ok(verdict) => AuditEnd {
+    match run(alloc, dump, options, out) {
+        Ok(Audited { verdict, file }) => AuditEnd {
             status: status_of(verdict),
+            file,
         },
         Err(fault) => AuditEnd {
             status: fault.tell(NAME, err),
+            file: Vec::new(alloc),
         },
     }
 }

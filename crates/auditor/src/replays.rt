@@ -1,12 +1,15 @@
 //! Playing calls again.
-ghost use Rattle.std.specs.Prelude.{◌≡◌, ◌+◌, ◌++◌, ◌∷◌, ◌≤◌, [], map, IfOk, OnOk, length};
+ghost use Rattle.std.specs.Prelude.{◌≡◌, ◌++◌, ◌∷◌, [], map, IfOk, OnOk, true};
+ghost use Rattle.std.specs.BTreeMap.{get};
+ghost use Rattle.std.specs.Option.{unwrap_or};
+ghost use Rattle.std.specs.Ordering.{nat_cmp};
 ghost use Rattle.kernel_rules.specs.Runs.{state_after};
 ghost use Rattle.histories.specs.Events.{by, told};
-ghost use Rattle.histories.specs.History.{answered, count};
+ghost use Rattle.histories.specs.History.{Start, answered};
 ghost use Rattle.plain_core.specs.Kernel.{kernel_state};
-ghost use Rattle.auditor.specs.Replay.{true_event, replayed, IsCounted, IsReplay};
+ghost use Rattle.auditor.specs.Replay.{IsReplay, Takes, TakesAll};
 
-use base::{Limits, Meter, NoMemory, ObjectId};
+use base::{Meter, NoMemory, ObjectId};
 use histories::{Answered, Event};
 use kernel_rules::{Call, Mapping, Reply};
 use plain_core::{Machine, PlainKernel};
@@ -16,27 +19,23 @@ use std::collections::BTreeMap;
 /// A kernel that takes calls again, with the events that they are by the rules.
 #[derive(Drop)]
 pub struct Replay {
-    /// What the kernel was booted with.
-    pub limits: Limits,
     /// The kernel, in the state of the events.
     pub kernel: PlainKernel,
     /// What counts the kernel's work.
     pub meter: Meter,
     /// The events so far.
     pub events: Vec<Event>,
-    /// How many events each thread has.
+    /// The number of each thread's last event.
     pub counts: BTreeMap<u64, u64>,
 }
 
-/// How many events a thread has.
-fn count_of(counts: &BTreeMap<u64, u64>, events: &[Event], thread: ObjectId) -> u64
-    requires { IsCounted counts.now events.now }
-    ensures count { result ≡ count thread events.now }
-    ensures within { result ≤ length events.now }
+/// The number of a thread's last event, 0 where it had none.
+fn last_of(counts: &BTreeMap<u64, u64>, thread: ObjectId) -> u64
+    ensures { result ≡ unwrap_or (get nat_cmp counts.now thread) 0 }
 {
     match counts.get(&thread.number()) {
         None => 0,
-        Some(count) => *count,
+        Some(number) => *number,
     }
 }
 
@@ -76,34 +75,15 @@ fn make(
 }
 
 impl Replay {
-    /// A newly booted kernel, with no event.
-    fn start(alloc: Global, limits: &Limits) -> Result<Replay, NoMemory>
-        ensures replay { IfOk result IsReplay }
-        ensures limits { IfOk result (λ r. r.limits ≡ limits.now) }
-        ensures empty { IfOk result (λ r. r.events.items ≡ []) }
-    {
-        let Ok(kernel) = PlainKernel::boot(alloc, limits) else {
-            return Err(NoMemory);
-        };
-        Ok(Replay {
-            limits: *limits,
-            kernel,
-            meter: Meter::new(alloc)?,
-            events: Vec::new(alloc),
-            counts: BTreeMap::new(alloc),
-        })
-    }
-
-    /// Takes an event's calls again.
-    fn take(&mut self, alloc: Global, event: &Event) -> Result<(), NoMemory>
-        requires { IsReplay self.old }
-        ensures replay { OnOk result (IsReplay self.new) }
-        ensures limits { OnOk result (self.new.limits ≡ self.old.limits) }
-        ensures event { OnOk result (self.new.events.items ≡ self.old.events.items
-            ++ true_event self.old.limits self.old.events.items event.now ∷ []) }
+    /// Takes an event's calls again, where its thread has a next number below 2^64. The error is want of memory.
+    fn take(&mut self, alloc: Global, event: &Event) -> Result<bool, NoMemory>
+        ensures { IfOk result (λ taken. taken ≡ true → (start : Start) → IsReplay start self.old
+            → Takes start self.old event.now self.new) }
     {
         let thread = event.thread;
-        let number = count_of(&self.counts, self.events.as_slice(), thread) + 1;
+        let Some(number) = last_of(&self.counts, thread).checked_add(1) else {
+            return Ok(false);
+        };
         let calls = make(
             alloc,
             &mut self.kernel,
@@ -117,19 +97,19 @@ impl Replay {
             calls,
         })?;
         self.counts.insert(thread.number(), number)?;
-        Ok(())
+        Ok(true)
     }
-}
 
-/// Takes the calls of events again, from a boot with these limits.
-pub fn take_all(alloc: Global, limits: &Limits, events: &[Event]) -> Result<Replay, NoMemory>
-    ensures replay { IfOk result IsReplay }
-    ensures limits { IfOk result (λ r. r.limits ≡ limits.now) }
-    ensures events { IfOk result (λ r. r.events.items ≡ replayed limits.now events.now) }
-{
-    let mut replay = Replay::start(alloc, limits)?;
-    for event in events {
-        replay.take(alloc, event)?;
+    /// Takes the calls of events again, up to one whose thread has no next number below 2^64. The error is want of memory.
+    pub fn take_all(&mut self, alloc: Global, events: &[Event]) -> Result<bool, NoMemory>
+        ensures { IfOk result (λ taken. taken ≡ true → (start : Start) → IsReplay start self.old
+            → self.old.events.items ≡ [] → TakesAll start events.now self.new) }
+    {
+        for event in events {
+            if !self.take(alloc, event)? {
+                return Ok(false);
+            }
+        }
+        Ok(true)
     }
-    Ok(replay)
 }

@@ -13,10 +13,13 @@ pub struct Options {
     pub limits: Limits,
     /// Whether a dump of the run is made.
     pub dump: bool,
+    /// How many of the run's first events a dump tells by the state that they lead to, in place of one by one; all where
+    /// it has fewer.
+    pub checkpoint: u32,
 }
 
-/// The options of a run that is told none: 64 pages, a device of level 1, the first id 4 and the first category 1, and no
-/// dump.
+/// The options of a run that is told none: 64 pages, a device of level 1, the first id 4 and the first category 1, no
+/// dump, and no event told by a state.
 pub const DEFAULTS: Options = Options {
     limits: Limits {
         pages: 64,
@@ -25,6 +28,7 @@ pub const DEFAULTS: Options = Options {
         next_category: 1,
     },
     dump: false,
+    checkpoint: 0,
 };
 
 /// What the words say.
@@ -52,6 +56,16 @@ fn dump<'a>(alloc: Global) -> Arg<'a> {
         .value_name("FILE")
         .action(ArgAction::Set)
         .help("Where to write the write calls of the run and the tables of what is left")
+}
+
+fn checkpoint<'a>(alloc: Global) -> Arg<'a> {
+    number(
+        alloc,
+        "checkpoint",
+        "0",
+        "How many of the first write calls the dump tells by the state that they lead to",
+    )
+    .value_parser(value_parser!(u64).range(0..4294967296))
 }
 
 fn command<'a>(alloc: Global) -> Result<Command<'a>, Error> {
@@ -86,7 +100,8 @@ fn command<'a>(alloc: Global) -> Result<Command<'a>, Error> {
         .arg(device)?
         .arg(next_id)?
         .arg(next_category)?
-        .arg(dump(alloc))?;
+        .arg(dump(alloc))?
+        .arg(checkpoint(alloc))?;
     Ok(
         Command::new(alloc, "histar")
             .about("A kernel of labels, containers, segments, address spaces, threads and gates")
@@ -114,6 +129,11 @@ fn limits_of(run: &ArgMatches<'_>) -> Limits {
     }
 }
 
+fn checkpoint_of(run: &ArgMatches<'_>) -> u32 {
+    let events = run.get_one::<u64>("checkpoint").unwrap_or(0);
+    u32::try_from(events).unwrap_or(0)
+}
+
 /// What the words say, the first of them being the program's name, or what `clap` answers to them: help, a fault of
 /// usage, or want of memory.
 pub fn read_words<'a, S: AsStr>(alloc: Global, words: &'a [S]) -> Result<Told<'a>, Error>
@@ -132,6 +152,7 @@ pub fn read_words<'a, S: AsStr>(alloc: Global, words: &'a [S]) -> Result<Told<'a
         options: Options {
             limits: limits_of(run),
             dump: dump.is_some(),
+            checkpoint: checkpoint_of(run),
         },
         script: run.get_str("SCRIPT").unwrap_or(""),
         dump,

@@ -1,12 +1,31 @@
-//! `histar-audit FILE`. Without words it audits its standard input.
+//! `histar-audit FILE`, with a clean dump of format 1 written anew in format 2 where that is asked for. Without words it
+//! audits its standard input.
 #![tactic(auto)]
 
-use audit_args::read_words;
-use auditor::{NAME, audit_on};
-use program_io::{Counted, Fault, tell_answer, words_of};
+use audit_args::{DEFAULTS, Told, read_words};
+use auditor::{AuditEnd, NAME, audit_on};
+use program_io::{Counted, Fault, beside, put_file, tell_answer, words_of};
 use std::fs::File;
 use std::io;
+use std::io::Write;
 use std::process::ExitCode;
+
+/// Ends an audit: writes the dump in format 2 where there is one to write. The answer is the status.
+fn ended_with<E: Write>(
+    rt: &HostRuntime,
+    told: &Told<'_>,
+    beside: &str,
+    ended: &AuditEnd,
+    err: &mut E,
+) -> u8 {
+    let path = told.migrate.unwrap_or("");
+    if told.options.migrate && !ended.file.is_empty() {
+        if let Err(fault) = put_file(rt, path, beside, ended.file.as_slice()) {
+            return fault.tell(NAME, err);
+        }
+    }
+    ended.status
+}
 
 fn main(rt: HostRuntime) -> ExitCode {
     let alloc = rt.alloc();
@@ -18,7 +37,7 @@ fn main(rt: HostRuntime) -> ExitCode {
     };
     if words.len() <= 1 {
         let mut dump = rt.reader();
-        let ended = audit_on(alloc, &mut dump, &mut out, &mut err);
+        let ended = audit_on(alloc, &mut dump, &DEFAULTS, &mut out, &mut err);
         return ExitCode::from(ended.status);
     }
     let told = match read_words(alloc, words.as_slice()) {
@@ -28,6 +47,9 @@ fn main(rt: HostRuntime) -> ExitCode {
     let Ok(mut dump) = File::open(&rt, told.dump) else {
         return ExitCode::from(Fault::Input.tell(NAME, &mut err));
     };
-    let ended = audit_on(alloc, &mut dump, &mut out, &mut err);
-    ExitCode::from(ended.status)
+    let Ok(beside) = beside(alloc, told.migrate.unwrap_or("")) else {
+        return ExitCode::from(Fault::Memory.tell(NAME, &mut err));
+    };
+    let ended = audit_on(alloc, &mut dump, &told.options, &mut out, &mut err);
+    ExitCode::from(ended_with(&rt, &told, beside.as_str(), &ended, &mut err))
 }

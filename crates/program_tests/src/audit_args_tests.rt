@@ -1,5 +1,5 @@
 //! What the command line of the auditor takes and refuses.
-use audit_args::read_words;
+use audit_args::{DEFAULTS, read_words};
 use clap::error::ErrorKind;
 use std::alloc::Global;
 use std::test::Fail;
@@ -23,7 +23,7 @@ fn reads_the_path(rt: HostRuntime) -> Result<(), Fail> {
     ];
     for (words, dump) in cases {
         let told = read_words(alloc, words.as_slice())?;
-        assert!(rt; told.dump == dump, "{dump}");
+        assert!(rt; told.dump == dump && told.options == DEFAULTS, "{dump}");
     }
     let words = ["histar-audit", "--", "--help"];
     let told = read_words(alloc, words.as_slice())?;
@@ -34,6 +34,35 @@ fn reads_the_path(rt: HostRuntime) -> Result<(), Fail> {
     ]?;
     let told = read_words(alloc, owned.as_slice())?;
     assert!(rt; told.dump == "a.dump");
+    Ok(())
+}
+
+#[test]
+fn reads_the_path_of_the_migrated_dump(rt: HostRuntime) -> Result<(), Fail> {
+    let alloc = rt.alloc();
+    let words = ["histar-audit", "a.dump", "--migrate", "b.dump"];
+    let told = read_words(alloc, words.as_slice())?;
+    assert!(rt; told.dump == "a.dump" && told.migrate == Some("b.dump") && told.options.migrate);
+    let words = ["histar-audit", "--migrate=", "a.dump"];
+    let told = read_words(alloc, words.as_slice())?;
+    assert!(rt; told.dump == "a.dump" && told.migrate == Some("") && told.options.migrate);
+    Ok(())
+}
+
+#[test]
+fn refuses_a_migration_without_a_path_or_twice(rt: HostRuntime) -> Result<(), Fail> {
+    let unread: [&[&str]; 4] = [
+        &["histar-audit", "a.dump", "--migrate"],
+        &["histar-audit", "--migrate", "a.dump"],
+        &["histar-audit", "--migrate", "--", "a.dump"],
+        &["histar-audit", "a.dump", "--migrate", "b", "--migrate", "c"],
+    ];
+    for words in unread {
+        match read_words(rt.alloc(), words) {
+            Ok(_) => assert!(rt; false, "{words:?}"),
+            Err(error) => assert!(rt; error.exit_code() == 2 && error.use_stderr(), "{words:?}"),
+        }
+    }
     Ok(())
 }
 
@@ -69,13 +98,13 @@ fn tells_what_is_wrong(rt: HostRuntime) -> Result<(), Fail> {
     let text = text_of(alloc, words.as_slice())?;
     assert_eq!(rt;
         text.as_str(),
-        "error: unexpected argument 'b.dump' found\n\nUsage: histar-audit <FILE>\n\nFor more information, try '--help'.\n"
+        "error: unexpected argument 'b.dump' found\n\nUsage: histar-audit [OPTIONS] <FILE>\n\nFor more information, try '--help'.\n"
     );
     let words = ["histar-audit", "--pages", "a.dump"];
     let text = text_of(alloc, words.as_slice())?;
     assert_eq!(rt;
         text.as_str(),
-        "error: unexpected argument '--pages' found\n\n  tip: to pass '--pages' as a value, use '-- --pages'\n\nUsage: histar-audit <FILE>\n\nFor more information, try '--help'.\n"
+        "error: unexpected argument '--pages' found\n\n  tip: to pass '--pages' as a value, use '-- --pages'\n\nUsage: histar-audit [OPTIONS] <FILE>\n\nFor more information, try '--help'.\n"
     );
     Ok(())
 }
@@ -91,7 +120,7 @@ fn tells_help(rt: HostRuntime) -> Result<(), Fail> {
                 let text = format!(in rt.alloc(); "{error}")?;
                 assert_eq!(rt;
                     text.as_str(),
-                    "Says whether a dump is that of a run by the rules\n\nUsage: histar-audit <FILE>\n\nArguments:\n  <FILE>  The dump to audit\n\nOptions:\n  -h, --help  Print help\n"
+                    "Says whether a dump is that of a run by the rules\n\nUsage: histar-audit [OPTIONS] <FILE>\n\nArguments:\n  <FILE>  The dump to audit\n\nOptions:\n      --migrate <OUT>  Where to write the dump in format 2, where it is clean and of format 1\n  -h, --help           Print help\n"
                 );
             }
         }

@@ -70,6 +70,21 @@ fn reads_the_path_of_the_dump(rt: HostRuntime) -> Result<(), Fail> {
 }
 
 #[test]
+fn reads_the_checkpoint(rt: HostRuntime) -> Result<(), Fail> {
+    let words = ["histar", "run", "a.histar", "--checkpoint", "4294967295"];
+    let told = read_words(rt.alloc(), words.as_slice())?;
+    assert_eq!(rt; told.options.checkpoint, u32::MAX);
+    assert!(rt; told.options.limits == DEFAULTS.limits && !told.options.dump);
+    let words = ["histar", "run", "--checkpoint=3", "a.histar", "--dump", "d"];
+    let told = read_words(rt.alloc(), words.as_slice())?;
+    assert!(rt; told.options.checkpoint == 3 && told.options.dump && told.script == "a.histar");
+    let words = ["histar", "run", "a.histar", "--dump", "d"];
+    let told = read_words(rt.alloc(), words.as_slice())?;
+    assert_eq!(rt; told.options.checkpoint, 0);
+    Ok(())
+}
+
+#[test]
 fn refuses_a_dump_without_a_path_or_twice(rt: HostRuntime) -> Result<(), Fail> {
     let unread: [&[&str]; 3] = [
         &["histar", "run", "a.histar", "--dump"],
@@ -95,6 +110,9 @@ fn refuses_what_is_out_of_range(rt: HostRuntime) -> Result<(), Fail> {
         ["--next-id", "2305843009213693953"],
         ["--next-category", "0"],
         ["--next-category", "2305843009213693953"],
+        ["--checkpoint", "4294967296"],
+        ["--checkpoint", "-1"],
+        ["--checkpoint", "x"],
         ["--pages", "x"],
         ["--dumps", "d"],
     ];

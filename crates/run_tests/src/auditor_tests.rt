@@ -1,4 +1,5 @@
 //! Audits of dumps.
+use audit_args::{AuditOptions, DEFAULTS};
 use auditor::{Verdict, audit, audit_on};
 use base::NoMemory;
 use program_io::Counted;
@@ -120,7 +121,7 @@ fn lines_too_few_and_too_many(rt: HostRuntime) -> Result<(), Fail> {
 #[test]
 fn what_is_no_dump_is_unreadable(rt: HostRuntime) -> Result<(), Fail> {
     let cases = [
-        (1, "histar-dump 2"),
+        (1, "histar-dump 3"),
         (2, "limits 7 1 4 1"),
         (2, "limits 8 1 4"),
         (6, "use 1 04"),
@@ -160,7 +161,13 @@ fn ends(alloc: Global, text: &[u8], status: u8, line: &[u8]) -> bool {
     let mut dump = text;
     let mut out = Vec::new(alloc);
     let mut err = Vec::new(alloc);
-    let ended = audit_on(alloc, &mut dump, &mut Counted::new(&mut out), &mut err);
+    let ended = audit_on(
+        alloc,
+        &mut dump,
+        &DEFAULTS,
+        &mut Counted::new(&mut out),
+        &mut err,
+    );
     ended.status == status && out.as_slice() == line && err.is_empty()
 }
 
@@ -182,11 +189,17 @@ fn the_verdict_is_handed_on(rt: HostRuntime) {
     let mut err = Vec::new(alloc);
     let mut dump = EMPTY_DUMP.as_bytes();
     let mut out = Counted::new(Holding::nothing(alloc));
-    assert_eq!(rt; audit_on(alloc, &mut dump, &mut out, &mut err).status, 0);
+    assert_eq!(rt;
+        audit_on(alloc, &mut dump, &DEFAULTS, &mut out, &mut err).status,
+        0
+    );
     assert_eq!(rt; out.into_inner().handed.as_slice(), b"clean\n".as_slice());
     let mut dump = b"no dump\n".as_slice();
     let mut out = Counted::new(Portions::before_failing(alloc, 2));
-    assert_eq!(rt; audit_on(alloc, &mut dump, &mut out, &mut err).status, 3);
+    assert_eq!(rt;
+        audit_on(alloc, &mut dump, &DEFAULTS, &mut out, &mut err).status,
+        3
+    );
     assert_eq!(rt;
         out.into_inner().taken.as_slice(),
         b"unreadable at ".as_slice()
@@ -202,6 +215,7 @@ fn faults_of_streams(rt: HostRuntime) -> Result<(), Fail> {
     let ended = audit_on(
         alloc,
         &mut Broken(ErrorKind::Other),
+        &DEFAULTS,
         &mut Counted::new(&mut out),
         &mut err,
     );
@@ -212,6 +226,7 @@ fn faults_of_streams(rt: HostRuntime) -> Result<(), Fail> {
     let ended = audit_on(
         alloc,
         &mut dump,
+        &DEFAULTS,
         &mut Counted::new(Broken(ErrorKind::Other)),
         &mut told,
     );
@@ -234,9 +249,88 @@ fn want_of_memory_changes_nothing(rt: HostRuntime) -> Result<(), Fail> {
     let mut room = [0u8; 64];
     let mut out: &mut [u8] = &mut room;
     let mut err = Vec::new(alloc);
-    let ended = audit_on(alloc, &mut dump, &mut Counted::new(&mut out), &mut err);
+    let ended = audit_on(
+        alloc,
+        &mut dump,
+        &DEFAULTS,
+        &mut Counted::new(&mut out),
+        &mut err,
+    );
     assert!(rt; ended.status == 0 || ended.status == 4);
     let left = out.len();
     assert!(rt; ended.status == 0 || left == 64);
+    Ok(())
+}
+
+/// The beginning of what `EMPTY_DUMP` is in format 2, up to the metadata of the root.
+const BOOT: &[u8] =
+    b"histar-dump 2\nlimits 8 1 4 1\nstate 4 1\nobject 1 container 8 0 0 {1} - 0000";
+
+/// The file of an audit that migrates what is clean.
+fn migrated(alloc: Global, text: &[u8]) -> Vec<u8> {
+    let mut dump = text;
+    let (mut out, mut err) = (Vec::new(alloc), Vec::new(alloc));
+    let options = AuditOptions { migrate: true };
+    audit_on(
+        alloc,
+        &mut dump,
+        &options,
+        &mut Counted::new(&mut out),
+        &mut err,
+    )
+    .file
+}
+
+// What is clean and of format 1 is migrated, six lines longer, and the same lines are untrue in it. Nothing else is migrated.
+#[test]
+fn clean_dumps_of_format_1_are_migrated(rt: HostRuntime) -> Result<(), Fail> {
+    let alloc = rt.alloc();
+    let file = migrated(alloc, EMPTY_DUMP.as_bytes());
+    assert!(rt; file.starts_with(BOOT) && file.ends_with(b"order 2 2 7\nend\n"));
+    assert_eq!(rt; audit(alloc, file.as_slice())?, Verdict::Clean);
+    let text = str::from_utf8(file.as_slice())?;
+    assert_eq!(rt; text.lines().count(), 27);
+    assert_eq!(rt; changed(alloc, text, 12, "use 1 5")?, Verdict::False(12));
+    assert_eq!(rt; changed(alloc, text, 6, "entry 2")?, Verdict::False(3));
+    assert_eq!(rt; changed(alloc, text, 3, "state 3 1")?, Verdict::False(3));
+    let calls = migrated(alloc, CALLS.as_bytes());
+    assert_eq!(rt; audit(alloc, calls.as_slice())?, Verdict::Clean);
+    assert!(rt; migrated(alloc, file.as_slice()).is_empty());
+    let untrue = with_line(alloc, EMPTY_DUMP, 6, "use 1 5")?;
+    assert!(rt; migrated(alloc, untrue.as_slice()).is_empty());
+    Ok(())
+}
+
+// A checkpoint that breaks one condition can't be restored, which is told of its first line.
+#[test]
+fn what_cannot_be_restored_is_untrue(rt: HostRuntime) -> Result<(), Fail> {
+    let alloc = rt.alloc();
+    let file = migrated(alloc, EMPTY_DUMP.as_bytes());
+    let text = str::from_utf8(file.as_slice())?;
+    let cases = [
+        (3, "state 3 1"),
+        (3, "state 4 0"),
+        (3, "state 2305843009213693953 1"),
+        (3, "state 4 2305843009213693953"),
+        (5, "entry 4"),
+        (5, "entry 1"),
+        (6, "entry 2"),
+        (7, "object 0 thread 1 0 {1} {2} {3} 0 0 0 0"),
+        (7, "object 4 thread 1 0 {1} {2} {3} 0 0 0 0"),
+        (7, "object 2 thread 0 0 {1} {2} {3} 0 0 0 0"),
+        (7, "object 2 thread 6 0 {1} {2} {3} 0 0 0 0"),
+        (7, "object 2 thread 1 0 {#1:*,1} {2} {3} 0 0 0 0"),
+        (7, "object 2 thread 1 0 {1} {#1:2,2} {3} 0 0 0 0"),
+        (7, "object 2 thread 1 0 {1} {2} {3} 0 1 0 0"),
+        (7, "object 2 thread 1 0 {1} {2} {3} 1 4 0 0"),
+        (7, "object 2 thread 1 0 {1} {2} {3} 1 3 0 0"),
+    ];
+    for (line, other) in cases {
+        assert_eq!(rt;
+            changed(alloc, text, line, other)?,
+            Verdict::False(3),
+            "{other}"
+        );
+    }
     Ok(())
 }

@@ -1,4 +1,5 @@
 //! What goes to the dump's file.
+use auditor::{Verdict, audit};
 use histar_args::{DEFAULTS, Options};
 use program_io::Counted;
 use script_runner::histar_on;
@@ -13,6 +14,7 @@ use test_support::{Broken, EIGHT_PAGES, EMPTY_DUMP};
 const DUMPED: Options = Options {
     limits: EIGHT_PAGES,
     dump: true,
+    checkpoint: 0,
 };
 
 /// The output and the file of a run that goes well.
@@ -47,19 +49,68 @@ fn texts_of<R: Abort + AllocGlobal + Threads + Wait + Sync>(
     }
 }
 
+/// Whether a dump of format 2 has the events and the tables of this one of format 1, whose limits end after so many bytes.
+fn is_as(dump: &[u8], first: &[u8], limits: usize) -> bool {
+    dump.starts_with(b"histar-dump 2\nlimits ") && dump.ends_with(&first[limits..])
+}
+
 #[test]
 fn an_empty_script_is_dumped(rt: HostRuntime) {
     let texts = texts_of(&rt, b"", &DUMPED);
     assert!(rt; texts.output.is_empty());
-    assert_eq!(rt; texts.file.as_slice(), EMPTY_DUMP.as_bytes());
+    assert!(rt; is_as(texts.file.as_slice(), EMPTY_DUMP.as_bytes(), 29));
+}
+
+/// Whether a text has these lines, each at its number from 1.
+fn has_lines(text: &str, wanted: &[(usize, &str)]) -> bool {
+    for (index, line) in text.lines().enumerate() {
+        for (number, other) in wanted {
+            if *number == index.saturating_add(1) && line != *other {
+                return false;
+            }
+        }
+    }
+    true
+}
+
+#[test]
+fn the_first_events_are_folded_into_the_checkpoint(rt: HostRuntime) -> Result<(), Fail> {
+    let options = Options {
+        checkpoint: 1,
+        ..DUMPED
+    };
+    let texts = texts_of(&rt, b"boot: cat_create\nboot: cat_create\n", &options);
+    let wanted = [
+        (3, "state 4 2"),
+        (7, "object 2 thread 1 0 {#1:*,1} {#1:3,2} {3} 0 0 0 0"),
+        (9, "next 2 2"),
+        (10, "event 2 2 cat_create => cat #2"),
+        (11, "live 1"),
+    ];
+    assert!(rt; has_lines(str::from_utf8(texts.file.as_slice())?, wanted.as_slice()));
+    assert_eq!(rt; audit(rt.alloc(), texts.file.as_slice())?, Verdict::Clean);
+    let past = Options {
+        checkpoint: u32::MAX,
+        ..DUMPED
+    };
+    let texts = texts_of(&rt, b"boot: cat_create\nboot: cat_create\n", &past);
+    let wanted = [(3, "state 4 3"), (9, "next 2 3"), (10, "live 1")];
+    assert!(rt; has_lines(str::from_utf8(texts.file.as_slice())?, wanted.as_slice()));
+    assert_eq!(rt; audit(rt.alloc(), texts.file.as_slice())?, Verdict::Clean);
+    Ok(())
 }
 
 #[test]
 fn events_are_dumped_in_order(rt: HostRuntime) -> Result<(), Fail> {
     let texts = texts_of(&rt, b"boot: cat_create\nboot: cat_create\n", &DUMPED);
-    let beginning =
-        b"histar-dump 1\nlimits 8 1 4 1\nevent 2 1 cat_create => cat #1\nevent 2 2 cat_create => cat #2\nlive 1\n";
-    assert!(rt; texts.file.starts_with(beginning));
+    let wanted = [
+        (1, "histar-dump 2"),
+        (2, "limits 8 1 4 1"),
+        (9, "event 2 1 cat_create => cat #1"),
+        (10, "event 2 2 cat_create => cat #2"),
+        (11, "live 1"),
+    ];
+    assert!(rt; has_lines(str::from_utf8(texts.file.as_slice())?, wanted.as_slice()));
     assert_eq!(rt;
         texts.output.as_slice(),
         b"boot 1: cat #1\nboot 2: cat #2\n".as_slice()
@@ -144,7 +195,7 @@ fn is_written<R: Abort + AllocGlobal + Threads + Wait + Sync>(rt: &R) -> bool {
     );
     let left = out.len();
     if ended.status == 0 {
-        assert_eq!(rt; ended.file.as_slice(), BY_ENTRY_DUMP);
+        assert!(rt; is_as(ended.file.as_slice(), BY_ENTRY_DUMP, 30));
         assert!(rt;
             left.saturating_add(BY_ENTRY_OUTPUT.len()) == 1024 && room.starts_with(BY_ENTRY_OUTPUT)
         );

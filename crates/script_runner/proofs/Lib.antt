@@ -1,3 +1,4 @@
 pub mod NameLemmas
 pub mod Plays
 pub mod WorkerLemmas
+pub mod DumpLaws

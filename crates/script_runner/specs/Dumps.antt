@@ -1,12 +1,16 @@
 -- What stands in the book at the end of a run, and the file that the run writes.
-use Rattle.std.specs.Prelude.{◌≡◌, ℕ, Bool, true, false, List, []}
+use Rattle.std.specs.Prelude.{◌≡◌, ℕ, Bool, true, false, if◌then◌else◌, nat_lt, List, [], Some, take, drop}
+use Rattle.std.specs.List.{list_all}
 use Rattle.base.specs.declared.ranges.Limits.{Limits}
+use Rattle.checkpoints.specs.Checkpoint.{Checkpoint}
+use Rattle.checkpoints.specs.Starts.{IsCheckpointOf}
 use Rattle.histories.specs.History.{IsLegal, state_of}
 use Rattle.kernel_rules.specs.Scratch.{scratch}
 use Rattle.kernel_rules.specs.Tables.{TableLists}
 use Rattle.histories.specs.Events.{Event}
+use Rattle.dump_text.specs.Dump.{IsDump}
 use Rattle.dump_text.specs.Line.{IsBootable}
-use Rattle.dump_text.specs.Whole.{IsLegalDump}
+use Rattle.dump_text.specs.Whole.{IsLegalDump, whole_dump}
 
 -- a legal journal after a boot with these limits, and the tables of the state that it leads to
 abbrev pub IsClosing : Limits → List Event → TableLists → Type 0
@@ -17,7 +21,26 @@ IsClosing limits events tables =
 abbrev pub IsPlayed : Limits → List Event → TableLists → Type 0
 IsPlayed limits events tables = IsBootable limits × IsClosing limits events tables
 
--- the bytes of a run's file: the dump of a legal journal where one is asked for, and else none
-abbrev pub IsFile : Bool → Limits → List ℕ → Type 0
-IsFile true limits bytes = IsLegalDump limits bytes
-IsFile false limits bytes = bytes ≡ []
+-- whether each of these events is of a thread that was given by their end, as each event through a seat is
+abbrev pub are_given : Limits → List Event → Bool
+are_given limits events = list_all (λ e. nat_lt e.thread (state_of limits events).next_id) events
+
+-- how many of the first events are told by a checkpoint: as many as are asked for, and none where one of
+-- them is of a thread that was never given
+abbrev pub folded : Limits → ℕ → List Event → ℕ
+folded limits n events = if are_given limits (take n events) then n else 0
+
+-- the bytes are the dump of a legal journal whose first events, n or all, are told by their checkpoint
+pub record IsRunDump (limits : Limits) (n : ℕ) (bytes : List ℕ) : Type 0 where
+  pub events : List Event
+  pub checkpoint : Checkpoint
+  pub legal : IsLegal limits events
+  pub made : IsCheckpointOf limits (take (folded limits n events) events) checkpoint
+  pub told : IsDump bytes (whole_dump limits (Some checkpoint) (drop (folded limits n events) events))
+  pub dump : IsLegalDump limits (Some checkpoint) bytes
+
+-- the bytes of a run's file: the dump of a legal journal where one is asked for, with the checkpoint of
+-- its first n events, and else none
+abbrev pub IsFile : Bool → ℕ → Limits → List ℕ → Type 0
+IsFile true n limits bytes = IsRunDump limits n bytes
+IsFile false n limits bytes = bytes ≡ []

@@ -7,9 +7,8 @@ use crate::gates::Always;
 use crate::play::{Played, play_all};
 use base::NoMemory;
 use call_text::{Script, ScriptError, read_script};
-use dump_text::legal_is_dump;
 use histar_args::Options;
-use kept_events::{KeptEvent, events_of};
+use kept_events::KeptEvent;
 use kernel_rules::Tables;
 use program_io::{Fault, Sink, bytes_of, deliver};
 use std::alloc::Global;
@@ -76,13 +75,12 @@ fn file_of(
     tables: Tables,
 ) -> Result<Vec<u8>, NoMemory>
     requires { IsPlayed options.now.limits events.now tables }
-    ensures { IfOk result (λ file. IsFile options.now.dump options.now.limits file.items) }
+    ensures { IfOk result (λ file. IsFile options.now.dump options.now.checkpoint options.now.limits file.items) }
 {
     if !options.dump {
         return Ok(Vec::new(alloc));
     }
-    legal_is_dump();
-    dump_of(alloc, &options.limits, events_of(alloc, events)?, tables)
+    dump_of(alloc, &options.limits, options.checkpoint, events, tables)
 }
 
 /// Plays a script, and makes all that the run writes.
@@ -93,7 +91,7 @@ fn texts_of<R: Threads + Wait + Sync>(
     options: &Options,
 ) -> Result<Texts, RunFault>
     ensures { IfOk result
-        (λ texts. IsFile options.now.dump options.now.limits texts.file.items) }
+        (λ texts. IsFile options.now.dump options.now.checkpoint options.now.limits texts.file.items) }
 {
     let Ok(played) = play_all(rt, alloc, script, &options.limits, &Always) else {
         return Err(RunFault::Other(Fault::Memory));
@@ -118,7 +116,7 @@ fn run<R: Threads + Wait + Sync, I: Read, S: Sink>(
     options: &Options,
     out: &mut S,
 ) -> Result<Vec<u8>, RunFault>
-    ensures { IfOk result (λ file. IsFile options.now.dump options.now.limits file.items) }
+    ensures { IfOk result (λ file. IsFile options.now.dump options.now.checkpoint options.now.limits file.items) }
 {
     let bytes = bytes_of(alloc, script)?;
     let script = script_of(alloc, bytes.as_slice())?;
@@ -154,7 +152,7 @@ pub fn histar_on<R: Threads + Wait + Sync, I: Read, S: Sink, E: Write>(
     err: &mut E,
 ) -> Ended
     ensures ok { result.status ≡ 0
-        → IsFile options.now.dump options.now.limits result.file.items }
+        → IsFile options.now.dump options.now.checkpoint options.now.limits result.file.items }
     ensures fault { 0 < result.status → result.file.items ≡ [] }
 {
     match run(rt, alloc, script, options, out) {

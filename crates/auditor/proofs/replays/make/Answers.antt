@@ -1,8 +1,6 @@
-use Rattle.std.proofs.Common.{◌≡◌, ◌+◌, ◌++◌, ◌∷◌, [], take, map, add-one, ap, sym, ◌∙◌, subst, List}
+use Rattle.std.proofs.Common.{◌≡◌, ◌+◌, ◌++◌, ◌∷◌, [], take, add-one, ap, sym, ◌∙◌, subst, List}
 use Rattle.std.proofs.Math.Seq.{take-suc}
-use Rattle.std.proofs.lemmas.List.{take_all}
 use Rattle.histories.specs.declared.events.Answered.{Answered}
-use Rattle.histories.specs.Events.{told}
 use Rattle.plain_core.specs.Kernel.{kernel_state}
 use Rattle.auditor.proofs.CountLaws.{IsMade, made_more}
 use Rattle.auditor.proofs.replays.make.Goals as goal

@@ -1,0 +1,99 @@
+-- The verdict on a dump that is migrated: six lines more come before its events.
+use Rattle.std.proofs.Common.{◌≡◌, ℕ, ◌+◌, Bool, if◌then◌else◌, List, [], ◌∷◌, ◌++◌}
+use Rattle.std.proofs.Common.{Option, Some, None, sym, ap, ◌∙◌, subst}
+use Rattle.std.specs.Prelude.{option_map}
+use Rattle.std.specs.List.{flat_map}
+use Rattle.base.specs.declared.ranges.Limits.{Limits}
+use Rattle.histories.specs.Events.{Event}
+use Rattle.histories.specs.History.{Start, boot_start, state_from}
+use Rattle.kernel_rules.specs.Scratch.{scratch}
+use Rattle.call_text.specs.Text.{lines_text}
+use Rattle.dump_text.specs.Boot.{boot_checkpoint, migrated}
+use Rattle.dump_text.specs.CheckpointLines.{start_lines}
+use Rattle.dump_text.specs.Dump.{event_lines, table_lines, dump_text, IsDump}
+use Rattle.dump_text.specs.Line.{line_text}
+use Rattle.dump_text.specs.Lists.{TableLists, DumpLists, dump_with}
+use Rattle.dump_text.specs.Whole.{placed}
+use Rattle.dump_text.specs.declared.lines.Format.TheVariants as formats
+use Rattle.dump_text.specs.declared.lines.Line.{Line}
+use Rattle.dump_text.specs.declared.lines.Line.TheVariants as lines
+use Rattle.dump_text.proofs.Migration.{boot_state, boot_restorable}
+use Rattle.auditor.specs.Replay.{replayed}
+use Rattle.auditor.specs.Told.{IsMigrated}
+use Rattle.auditor.specs.Verdict.{true_dump, first_difference, false_line, IsVerdict}
+use Rattle.auditor.specs.declared.verdicts.Verdict.TheVariants as is
+use Rattle.auditor.proofs.DifferenceLaws.{differ_later}
+use Rattle.auditor.proofs.LineLaws.{after_all}
+
+-- the lines of events and tables, to the end
+abbrev later_lines : List Event → TableLists → List Line
+later_lines events tables = (flat_map event_lines events ++ table_lines tables) ++ lines.End ∷ []
+
+-- those of the calls of these events from a start, by the rules
+abbrev true_lines : Start → List Event → List Line
+true_lines start events =
+    later_lines (replayed start events) (placed (scratch (state_from start.state (replayed start events))))
+
+-- the first line in which the events and the tables, which begin in line n, are not those of the rules after a boot
+abbrev difference_from : ℕ → DumpLists → Option ℕ
+difference_from n d =
+    first_difference n (lines_text line_text (later_lines d.events d.tables))
+    (lines_text line_text (true_lines (boot_start d.limits) d.events))
+
+-- the dump in format 1
+abbrev in_first_format : DumpLists → DumpLists
+in_first_format d = dump_with d.limits None d.events d.tables
+
+-- the false line of a dump of format 1, whose events begin in line 3
+first_format_line : (bytes : List ℕ) (d : DumpLists) → IsDump bytes (in_first_format d)
+    → false_line bytes (in_first_format d) ≡ difference_from 3 d
+first_format_line bytes d is =
+    ap (λ (t : List ℕ). first_difference 1 t (dump_text (true_dump (in_first_format d)))) is.bytes_are
+    ∙ after_all 1 (lines.Version formats.One ∷ lines.Limits d.limits ∷ []) (later_lines d.events d.tables)
+    (true_lines (boot_start d.limits) d.events) is.fit
+
+-- what stands before the events of a dump that begins at the checkpoint of the boot
+abbrev first_lines : Limits → List Line
+first_lines l = lines.Version formats.Two ∷ lines.Limits l ∷ start_lines (Some (boot_checkpoint l))
+
+-- its false line, where its events begin in line 9
+migrated_line : (out : List ℕ) (d : DumpLists) → IsDump out (migrated d)
+    → false_line out (migrated d) ≡ difference_from 9 d
+migrated_line out d is =
+    ap (λ (b : Bool). if b then first_difference 1 out (dump_text (true_dump (migrated d))) else Some 3)
+    (boot_restorable d.limits is.fit.1.0.1)
+    ∙ ap (λ (t : List ℕ). first_difference 1 t (dump_text (true_dump (migrated d)))) is.bytes_are
+    ∙ ap (λ (s : Start). first_difference 1
+    (lines_text line_text (first_lines d.limits ++ later_lines d.events d.tables))
+    (lines_text line_text (first_lines d.limits ++ true_lines s d.events))) (boot_state d.limits)
+    ∙ after_all 1 (first_lines d.limits) (later_lines d.events d.tables)
+    (true_lines (boot_start d.limits) d.events) is.fit
+
+-- bytes spell one dump
+abbrev pub SpellOne : List ℕ → Type 0
+SpellOne bytes = (a b : DumpLists) → IsDump bytes a → IsDump bytes b → a ≡ b
+
+-- the migrated dump's false line is that of the bytes, six lines further down
+false_later : (bytes out : List ℕ) (line : Option ℕ) (d e : DumpLists) → SpellOne bytes → d.checkpoint ≡ None
+    → IsDump bytes d → IsDump out (migrated d) → IsDump bytes e → false_line bytes e ≡ line
+    → false_line out (migrated d) ≡ option_map (λ (n : ℕ). n + 6) line
+false_later bytes out line d e one none is out_is e_is e_line =
+    let first : d ≡ in_first_format d = λ i. dump_with d.limits (none i) d.events d.tables in
+    let same : e ≡ in_first_format d = one e d e_is is ∙ first in
+    let first_is : IsDump bytes (in_first_format d) = subst (λ (x : DumpLists). IsDump bytes x) first is in
+    migrated_line out d out_is
+    ∙ differ_later 6 3 (lines_text line_text (later_lines d.events d.tables))
+    (lines_text line_text (true_lines (boot_start d.limits) d.events))
+    ∙ ap (option_map (λ (n : ℕ). n + 6)) (sym (first_format_line bytes d first_is) ∙ ap (false_line bytes) (sym same) ∙ e_line)
+
+-- clean where it was clean
+pub migrated_clean : (bytes out : List ℕ) → SpellOne bytes → IsMigrated bytes out → IsVerdict bytes is.Clean
+    → IsVerdict out is.Clean
+migrated_clean bytes out one m v =
+    (migrated m.0, m.3, false_later bytes out None m.0 v.0 one m.1 m.2 m.3 v.1 v.2)
+
+-- false six lines further down where it was false
+pub migrated_false : (bytes out : List ℕ) (n : ℕ) → SpellOne bytes → IsMigrated bytes out
+    → IsVerdict bytes (is.False n) → IsVerdict out (is.False (n + 6))
+migrated_false bytes out n one m v =
+    (migrated m.0, m.3, false_later bytes out (Some n) m.0 v.0 one m.1 m.2 m.3 v.1 v.2)
