@@ -13,6 +13,7 @@ use Rattle.kernel_rules.specs.declared.replies.Reply.{Reply}
 use Rattle.histories.specs.Events.{Event, by}
 use Rattle.published_copy.specs.declared.receipts.BatchReceipt.{BatchReceipt}
 use Rattle.published_copy.specs.declared.receipts.Placed.{Placed}
+use Rattle.published_copy.specs.declared.receipts.ReadReceipt.{ReadReceipt}
 use Rattle.published_copy.specs.declared.receipts.Receipt.{Receipt}
 use Rattle.published_copy.specs.declared.refusals.SubmitRefusal as submit
 use Rattle.published_copy.specs.declared.refusals.SubmitRefusal.TheVariants as no_submit
@@ -122,6 +123,12 @@ IsRead limits seat query reply after =
     (after ≡ seat_with (turn seat.pass.thread seat.pass.number after.pass.seen) seat.told)
     × IsPrefix seat.pass.seen after.pass.seen × IsLegal limits after.pass.seen
     × (reply ≡ query_answer (state_of limits after.pass.seen) seat.pass.thread query)
+
+-- it is such a read, and the receipt has its reply, and how many events the seat has then seen
+abbrev pub IsReadAt : Limits → SeatView → Query → ReadReceipt → SeatView → Type 0
+IsReadAt limits seat query receipt after =
+    IsRead limits seat query receipt.reply after
+    × (receipt.length ≡ length after.pass.seen)
 
 -- of two lists of one boot the second begins the first where the first has no fewer events, and else the first the second
 abbrev pub Has : Bool → List Event → List Event → Type 0

@@ -39,7 +39,7 @@ pub use lending::Lent;
 pub use naming::Naming;
 pub use notes::Note;
 pub use passes::Pass;
-pub use receipts::{BatchReceipt, Placed, Receipt};
+pub use receipts::{BatchReceipt, Placed, ReadReceipt, Receipt};
 pub use refusals::{SeatRefusal, SubmitRefusal, Unread};
 pub use seats::Seat;
 pub use sole::SoleBook;

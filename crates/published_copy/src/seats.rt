@@ -2,7 +2,7 @@
 ghost use Rattle.std.specs.Prelude.{◌≡◌, ◌∷◌, [], IfOk, IfErr, OnOk, OnErr};
 ghost use mathlib.Core.List.{IsPrefix};
 ghost use Rattle.histories.specs.History.{IsLegal};
-ghost use Rattle.published_copy.specs.Turns.{IsSubmitted, IsBatchSubmitted, IsNotSubmitted, IsRead, IsLearnt};
+ghost use Rattle.published_copy.specs.Turns.{IsSubmitted, IsBatchSubmitted, IsNotSubmitted, IsRead, IsReadAt, IsLearnt};
 ghost use Rattle.published_copy.specs.Turns.{seat_with, receipt_with};
 
 use crate::books::Book;
@@ -11,7 +11,7 @@ use crate::lanes::Lane;
 use crate::naming::Naming;
 use crate::notes::Note;
 use crate::passes::Pass;
-use crate::receipts::{BatchReceipt, Placed, Receipt};
+use crate::receipts::{BatchReceipt, Placed, ReadReceipt, Receipt};
 use crate::refusals::{SubmitRefusal, Unread};
 use base::Meter;
 use kernel_rules::{Call, Query, Reply};
@@ -140,6 +140,17 @@ impl<B: Naming> Seat<'_, B> {
         let mut reply = Reply::Done;
         self.read_into(query, &mut reply)?;
         Ok(reply)
+    }
+
+    /// Asks as `read` does, and tells how many events the seat has then seen, in the state after which the reply is.
+    pub fn read_at(&mut self, query: &Query) -> Result<ReadReceipt, Unread>
+        ensures done { IfOk result
+            (λ receipt. IsReadAt B.boot.limits self.old query.now receipt self.new) }
+        ensures kept { OnErr result (self.new ≡ self.old) }
+    {
+        let reply = self.read(query)?;
+        let length = self.pass.length() as usize;
+        Ok(ReadReceipt { reply, length })
     }
 
     /// Asks as `read` does, with the answer put where the caller wants it.

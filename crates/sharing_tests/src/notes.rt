@@ -1,7 +1,9 @@
 //! What notes carry from seat to seat.
 ghost use Rattle.std.specs.Prelude.{◌≡◌};
 
-use crate::samples::{first_byte, is_at, make_two, open_segment, passed, seated, submitted, write};
+use crate::samples::{
+    first_byte, is_at, length_of_read, make_two, open_segment, passed, seated, submitted, write,
+};
 use base::{Data, ObjectId};
 use published_copy::{Blank, Naming, Note, Seat, Shared};
 use std::marker::Brand;
@@ -95,7 +97,7 @@ fn hand_on_to<B: Naming, R: Wait + Abort>(
 ) -> Result<(), Fail> {
     let early = boot.note();
     submitted(rt, boot, &open_segment())?;
-    assert!(rt; first_byte(&mut one, 6) == Some(0));
+    assert!(rt; length_of_read(&mut one, 6) == Some(3));
     other.learn(&one.note());
     assert!(rt; is_at(&passed(other), 1, 2));
     one.learn(&boot.note());

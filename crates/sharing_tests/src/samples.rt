@@ -115,6 +115,15 @@ pub fn first_byte<B: Naming>(seat: &mut Seat<'_, B>, id: u64) -> Option<u8> {
     }
 }
 
+/// How many events a seat has seen with a read of the first byte of a segment in the root, where that is 0.
+pub fn length_of_read<B: Naming>(seat: &mut Seat<'_, B>, id: u64) -> Option<usize> {
+    let receipt = seat.read_at(&first_bytes(id, 1)).ok()?;
+    match first_in(&receipt.reply) {
+        Some(0) => Some(receipt.length),
+        _ => None,
+    }
+}
+
 /// The pass of a seat that is used no more.
 pub fn passed<B: Naming>(seat: Seat<'_, B>) -> Pass<B> {
     seat.into_pass()
