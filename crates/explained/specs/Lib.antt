@@ -1,0 +1,7 @@
+pub mod Sides
+pub mod Failing
+pub mod Parts
+pub mod Words
+pub mod Explained
+pub mod Laws
+pub mod Compared
