@@ -9,6 +9,7 @@ import shutil
 import subprocess
 import tempfile
 
+from gate import confine
 from gate.headers import wrong
 from gate.plays import Script, ran
 from gate.scripts import script
@@ -260,3 +261,4 @@ def try_all(report, tree="."):
         bindings = Bindings(report, f"{tree}/out/lib", room, built(tree, "histar"), built(tree, "histar_audit"))
         bindings.try_c()
         bindings.try_rust()
+    confine.try_all(report, f"{tree}/out/lib", is_long=True)

@@ -31,7 +31,14 @@ FAULTS = [
     Fault("./histar", ["run", "script", "--dump", "nowhere/dump"], 3, "histar: output fault\n"),
     Fault("./histar-audit", ["nothing"], 3, "histar-audit: input fault\n"),
     Fault("./histar-audit", ["dump"], 3, "histar-audit: output fault\n", out="/dev/full"),
+    Fault("./histar-audit", ["old", "--migrate", "nowhere/new"], 3, "histar-audit: output fault\n"),
+    Fault("./histar-audit", ["old", "--migrate", "/dev/full"], 3, "histar-audit: output fault\n"),
+    Fault("./histar-audit", ["dump", "--migrate", "dump"], 2, ""),
+    Fault("./histar-audit", ["nothing", "--migrate", "dump"], 3, "histar-audit: input fault\n"),
 ]
+
+# A dump of format 1, which is clean.
+FIRST_FORMAT = "examples/dumps/two_categories.dump"
 
 
 def put(file, text):
@@ -48,6 +55,7 @@ def files_in(folder):
     put(f"{folder}/script", SCRIPT)
     put(f"{folder}/faulty", "boot: no_call\n")
     put(f"{folder}/dump", OLD)
+    put(f"{folder}/old", text(FIRST_FORMAT))
 
 
 def try_fault(report, fault):
@@ -55,7 +63,7 @@ def try_fault(report, fault):
     with tempfile.TemporaryDirectory(prefix="fault-") as folder:
         files_in(folder)
         status, said = fault.run(folder)
-        is_well = (status, said, text(f"{folder}/dump"), len(os.listdir(folder))) == (fault.status, fault.line, OLD, 3)
+        is_well = (status, said, text(f"{folder}/dump"), len(os.listdir(folder))) == (fault.status, fault.line, OLD, 4)
         report.counts(is_well, f"{fault.name()}: status {status}, {said.strip()}")
 
 
@@ -69,8 +77,28 @@ def try_left_over(report):
         report.counts(is_well, f"a dump beside a left-over of an earlier run: status {status}, {said.strip()}")
 
 
+def begins(file, words):
+    return text(file).startswith(words)
+
+
+def try_migrations(report):
+    """A dump takes its own place in format 2, once, and stays clean; a checkpoint of more events than there are has all."""
+    with tempfile.TemporaryDirectory(prefix="fault-") as folder:
+        files_in(folder)
+        for before in ("histar-dump 1\n", "histar-dump 2\n"):
+            is_well = begins(f"{folder}/old", before)
+            status, said = Fault("./histar-audit", ["old", "--migrate", "old"], 0, "").run(folder)
+            is_well = is_well and (status, said) == (0, "") and begins(f"{folder}/old", "histar-dump 2\n")
+            report.counts(is_well, f"a dump that begins {before.strip()} is migrated to its own file: status {status}, {said.strip()}")
+        status, said = Fault("./histar", ["run", "script", "--dump", "dump", "--checkpoint", "1000"], 0, "").run(folder)
+        audited, _ = Fault("./histar-audit", ["dump"], 0, "").run(folder)
+        is_well = (status, said, audited) == (0, "", 0) and "\nevent " not in text(f"{folder}/dump")
+        report.counts(is_well, f"a checkpoint past the events: status {status}, audited {audited}, {said.strip()}")
+
+
 def fail(report):
     report.heading("Faults")
     for fault in FAULTS:
         try_fault(report, fault)
     try_left_over(report)
+    try_migrations(report)

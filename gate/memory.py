@@ -7,6 +7,8 @@ import subprocess
 import tempfile
 from concurrent.futures import ThreadPoolExecutor
 
+from gate.faults import FIRST_FORMAT
+
 LIMIT = 60
 TESTS = "want_of_memory_"
 
@@ -109,9 +111,11 @@ def program_cases(tree, room):
     histar, audit = (f"{tree}/crates/{it}/out/{it}" for it in ("histar", "histar_audit"))
     subprocess.run([histar, "run", script, "--dump", dump], check=True, stdout=subprocess.DEVNULL)
     yield program_case(histar, ["run", script, "--dump", "dump"])
+    yield program_case(histar, ["run", script, "--dump", "dump", "--checkpoint", "3"])
     yield program_case(histar, ["run", script, "--pages", "7"])
     yield program_case(histar, ["--help"])
     yield program_case(audit, [dump])
+    yield program_case(audit, [os.path.abspath(FIRST_FORMAT), "--migrate", "dump"])
     yield program_case(audit, ["--help"])
 
 
