@@ -204,7 +204,7 @@ def texts(report, room):
     changes = {
         "without a line": ([*lines[:19], *lines[20:]], "false at line 20"),
         "with an end too many": ([*lines, "end\n"], f"unreadable at line {len(lines) + 1}"),
-        "with a zero before a number": ([it.replace("use 1 4", "use 1 04") for it in lines], "unreadable at line 6"),
+        "with a zero before a number": ([it.replace("use 1 4", "use 1 04") for it in lines], "unreadable at line 12"),
     }
     for name, (changed, verdict) in changes.items():
         put(f"{room}/changed", "".join(changed))
