@@ -205,7 +205,7 @@ fn refusal(alloc: Global, text: &[u8]) -> u8 {
 
 // The boot thread owns category 1 from its first call on, and nobody observes segment 4.
 #[test]
-fn want_of_memory_traces_the_same(rt: HostRuntime) -> Result<(), Fail> {
+fn a_worked_dump_is_traced(rt: HostRuntime) -> Result<(), Fail> {
     let text = WRITTEN.as_bytes();
     assert!(rt; is_true(reaches(rt.alloc(), text, 1, 1, &[5])));
     assert!(rt; is_true(reaches(rt.alloc(), text, 4, 1, &[])));
