@@ -2,7 +2,7 @@
 mod bearers;
 mod copies;
 mod creations;
-mod optional_labels;
+mod new_objects;
 mod placing;
 mod uniform;
 

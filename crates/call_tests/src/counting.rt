@@ -3,7 +3,7 @@ ghost use Rattle.std.specs.Prelude.{◌≡◌};
 
 use base::{Data, Kind, Meter, NoMemory, ObjectId, Rights, TypeSet};
 use kernel_rules::{Entry, Gate, Ids, Mapping, Thread};
-use kernel_store::{Named, Placed, Seen, Store, ThreadLabels, ThreadStart};
+use kernel_store::{Named, NewBody, Placed, Seen, Store, ThreadLabels};
 use label_lattice::Label;
 use plain_state::PlainState;
 
@@ -220,28 +220,6 @@ impl Store for Counting {
         Store::write_bytes(&mut self.state, segment, at, given, meter);
     }
 
-    fn create_container(
-        &mut self,
-        container: ObjectId,
-        label: Option<&Label>,
-        quota: u32,
-        kinds: TypeSet,
-        meter: &mut Meter,
-    ) -> Result<ObjectId, NoMemory> {
-        Store::create_container(&mut self.state, container, label, quota, kinds, meter)
-    }
-
-    fn create_segment(
-        &mut self,
-        container: ObjectId,
-        label: Option<&Label>,
-        quota: u32,
-        pages: u32,
-        meter: &mut Meter,
-    ) -> Result<ObjectId, NoMemory> {
-        Store::create_segment(&mut self.state, container, label, quota, pages, meter)
-    }
-
     fn resize(&mut self, segment: ObjectId, pages: u32, meter: &mut Meter) -> Result<(), NoMemory> {
         Store::resize(&mut self.state, segment, pages, meter)
     }
@@ -303,47 +281,15 @@ impl Store for Counting {
         Store::own_category(&mut self.state, thread, label, clearance, meter);
     }
 
-    fn create_copy(
+    fn create(
         &mut self,
         container: ObjectId,
         label: Option<&Label>,
         quota: u32,
-        source: ObjectId,
+        body: &NewBody<ObjectId>,
         meter: &mut Meter,
     ) -> Result<ObjectId, NoMemory> {
-        Store::create_copy(&mut self.state, container, label, quota, source, meter)
-    }
-
-    fn create_space(
-        &mut self,
-        container: ObjectId,
-        label: Option<&Label>,
-        quota: u32,
-        meter: &mut Meter,
-    ) -> Result<ObjectId, NoMemory> {
-        Store::create_space(&mut self.state, container, label, quota, meter)
-    }
-
-    fn create_thread(
-        &mut self,
-        container: ObjectId,
-        label: Option<&Label>,
-        quota: u32,
-        start: &ThreadStart,
-        meter: &mut Meter,
-    ) -> Result<ObjectId, NoMemory> {
-        Store::create_thread(&mut self.state, container, label, quota, start, meter)
-    }
-
-    fn create_gate(
-        &mut self,
-        container: ObjectId,
-        label: Option<&Label>,
-        quota: u32,
-        gate: &Gate,
-        meter: &mut Meter,
-    ) -> Result<ObjectId, NoMemory> {
-        Store::create_gate(&mut self.state, container, label, quota, gate, meter)
+        Store::create(&mut self.state, container, label, quota, body, meter)
     }
 
     ghost sound = { λ s. s.state.well_formed };

@@ -3,3 +3,4 @@ pub mod Parts
 pub mod Storing
 pub mod Named
 pub mod Locations
+pub mod NewBodies

@@ -8,6 +8,7 @@ mod bearers;
 mod conditions;
 mod labels;
 mod names;
+mod new_bodies;
 mod new_objects;
 mod places;
 mod replies;
@@ -22,6 +23,7 @@ pub use conditions::{
 };
 pub use labels::stored_label;
 pub use names::{Named, find_all, find_container, find_entry, itself};
+pub use new_bodies::NewBody;
 pub use new_objects::{NewObject, good_label, is_in_range, new_bearer, new_object};
 pub use places::{Placed, named_place};
 pub use replies::{refuse, set_done, tell_done, tell_object};

@@ -14,8 +14,8 @@ ghost use Rattle.kernel_store.specs.Storing.{storing};
 use base::{Kind, Meter, ObjectId, Refusal};
 use kernel_rules::{NewContainer, Reply};
 use kernel_store::{
-    Named, NewObject, Store, at_container, find_container, halted, halted_at, look, new_object,
-    refusal_of, refuse, stored_label, tell_object,
+    Named, NewBody, NewObject, Store, at_container, find_container, halted, halted_at, look,
+    new_object, refusal_of, refuse, stored_label, tell_object,
 };
 use label_lattice::Label;
 
@@ -71,7 +71,8 @@ pub fn container_create<S: Store>(
         return Ok(());
     }
     let kinds = state.joined(named.container, made.avoid);
-    let id = state.create_container(named.container, label, made.quota, kinds, meter)?;
+    let body = NewBody::Container(kinds);
+    let id = state.create(named.container, label, made.quota, &body, meter)?;
     tell_object(state, id, reply);
     Ok(())
 }

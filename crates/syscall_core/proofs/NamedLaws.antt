@@ -1,11 +1,11 @@
 -- Entries name rightly after each change of a state in which they do.
-use Rattle.std.proofs.Common.{◌≡◌, ℕ, true, Option, Some, refl, subst, inl, inr, IfSome}
+use Rattle.std.proofs.Common.{◌≡◌, ℕ, ◌*◌, [], true, Option, None, Some, refl, replicate, subst, inl, inr, IfSome}
 use Rattle.std.proofs.lemmas.Bool.{and_parts, both_ways, or_cases}
 use Rattle.label_lattice.specs.Label.{LabelValue}
 use Rattle.base.specs.declared.kinds.Kind as kind
 use Rattle.base.specs.declared.kinds.Kind.TheVariants as kinds
 use Rattle.kernel_rules.specs.Changes.{changed, cleared, entered, labelled, spaced}
-use Rattle.kernel_rules.specs.State.{State, gate_at, is_kind_at}
+use Rattle.kernel_rules.specs.State.{State, bytes_at, gate_at, is_kind_at}
 use Rattle.kernel_rules.specs.Step.{new_thread, with_value}
 use Rattle.kernel_rules.specs.Translate.{names_none}
 use Rattle.kernel_rules.specs.WellFormed.{is_well_formed}
@@ -14,8 +14,11 @@ use Rattle.kernel_rules.specs.declared.objects.Gate.{Gate}
 use Rattle.kernel_rules.specs.declared.objects.Mapping.{Mapping}
 use Rattle.kernel_rules.specs.declared.objects.Body.TheVariants as is
 use Rattle.kernel_store.specs.Named.{names, names_space}
+use Rattle.kernel_store.specs.NewBodies.{new_body, IsSourced}
+use Rattle.kernel_store.specs.declared.new_bodies.NewBody.{NewBody}
+use Rattle.kernel_store.specs.declared.new_bodies.NewBody.TheVariants as new
 use Rattle.translation_laws.specs.Names.{NamesKind, NamesSpace, NamesRightly, IsNamedRightly}
-use Rattle.translation_laws.proofs.Names.{given_kind, named_value, named_alike, named_thread, old_space, gate_space, nameless}
+use Rattle.translation_laws.proofs.Names.{given_kind, named_value, named_alike, named_thread, old_space, gate_space, nameless, nothing_named, empty_slots}
 
 -- what a store is handed
 pub kind_named : (s : State) (k : kind.Kind) (e : Entry) → is_well_formed s ≡ true → names s k e ≡ true → NamesKind s k e
@@ -82,3 +85,14 @@ thread_named s c entry_point =
     let none : Entry = record { container = 0; object = 0 } in
     let same : none ≡ e = cc in
     subst (λ (a : Entry). NamesSpace s a) same (λ some. absurd (both_ways true some refl))) (λ i. refl)
+
+-- a new object
+pub new_named : {L : Type 0} (id : L → ℕ) (stands : L → Type 0) (s : State) (b : NewBody L) → is_well_formed s ≡ true
+    → IsSourced stands s b → NamesRightly s (new_body id s b)
+new_named id stands s (new.Container kinds) wf h = nothing_named s (is.Container kinds []) refl refl
+new_named id stands s (new.Segment pages) wf h = nothing_named s (is.Segment (replicate (256 * pages) 0)) refl refl
+new_named id stands s (new.Copy source) wf h = nothing_named s (is.Segment (bytes_at s (id source))) refl refl
+new_named id stands s new.AddressSpace wf h =
+    nameless s (is.AddressSpace (record { slots = replicate 16 None })) (λ e on. absurd (cc)) (empty_slots 16)
+new_named id stands s (new.Thread start) wf h = thread_named s start.clearance.now start.entry_point
+new_named id stands s (new.Gate gate) wf h = gate_named s gate.now (space_named s gate.now.space wf h)

@@ -11,7 +11,7 @@ use crate::kept_state::KeptState;
 use arena_state::{ArenaState, Change, Location};
 use base::{Data, Kind, Meter, ObjectId, Rights, TypeSet};
 use kernel_rules::{Entry, Gate, Ids, Mapping, Thread};
-use kernel_store::{Named, Placed, Seen, Store, ThreadLabels, ThreadStart};
+use kernel_store::{Named, NewBody, Placed, Seen, Store, ThreadLabels};
 use label_lattice::Label;
 use std::convert::Infallible;
 use translation_rows::Rows;
@@ -409,85 +409,15 @@ impl Store for KeptState {
         self.state.remake_row(id, &mut self.rows, meter);
     }
 
-    fn create_container(
+    fn create(
         &mut self,
         container: Location,
         label: Option<&Label>,
         quota: u32,
-        kinds: TypeSet,
+        body: &NewBody<Location>,
         meter: &mut Meter,
     ) -> Result<ObjectId, Infallible> {
-        let id = self
-            .state
-            .make_container(container, label, quota, kinds, meter);
-        self.state.remake_row(id, &mut self.rows, meter);
-        Ok(id)
-    }
-
-    fn create_segment(
-        &mut self,
-        container: Location,
-        label: Option<&Label>,
-        quota: u32,
-        pages: u32,
-        meter: &mut Meter,
-    ) -> Result<ObjectId, Infallible> {
-        let id = self
-            .state
-            .make_segment(container, label, quota, pages, meter);
-        self.state.remake_row(id, &mut self.rows, meter);
-        Ok(id)
-    }
-
-    fn create_copy(
-        &mut self,
-        container: Location,
-        label: Option<&Label>,
-        quota: u32,
-        source: Location,
-        meter: &mut Meter,
-    ) -> Result<ObjectId, Infallible> {
-        let id = self.state.make_copy(container, label, quota, source, meter);
-        self.state.remake_row(id, &mut self.rows, meter);
-        Ok(id)
-    }
-
-    fn create_space(
-        &mut self,
-        container: Location,
-        label: Option<&Label>,
-        quota: u32,
-        meter: &mut Meter,
-    ) -> Result<ObjectId, Infallible> {
-        let id = self.state.make_space(container, label, quota, meter);
-        self.state.remake_row(id, &mut self.rows, meter);
-        Ok(id)
-    }
-
-    fn create_thread(
-        &mut self,
-        container: Location,
-        label: Option<&Label>,
-        quota: u32,
-        start: &ThreadStart,
-        meter: &mut Meter,
-    ) -> Result<ObjectId, Infallible> {
-        let id = self
-            .state
-            .make_thread(container, label, quota, start, meter);
-        self.state.remake_row(id, &mut self.rows, meter);
-        Ok(id)
-    }
-
-    fn create_gate(
-        &mut self,
-        container: Location,
-        label: Option<&Label>,
-        quota: u32,
-        gate: &Gate,
-        meter: &mut Meter,
-    ) -> Result<ObjectId, Infallible> {
-        let id = self.state.make_gate(container, label, quota, gate, meter);
+        let id = self.state.create(container, label, quota, body, meter);
         self.state.remake_row(id, &mut self.rows, meter);
         Ok(id)
     }

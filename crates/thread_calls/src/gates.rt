@@ -17,8 +17,8 @@ ghost use Rattle.kernel_store.specs.Storing.{storing};
 use base::{Kind, Meter, ObjectId, Refusal};
 use kernel_rules::{Entry, Gate, NewGate, Reply};
 use kernel_store::{
-    Named, NewObject, Store, ThreadLabels, find_all, find_container, good_label, halted_at,
-    in_container, look, look_at, new_bearer, of_kind, refusal_of, refuse, space_entry,
+    Named, NewBody, NewObject, Store, ThreadLabels, find_all, find_container, good_label,
+    halted_at, in_container, look, look_at, new_bearer, of_kind, refusal_of, refuse, space_entry,
     stored_label, tell_done, tell_object,
 };
 use label_lattice::{Label, RawLabel};
@@ -91,7 +91,8 @@ fn create_gate_in<S: Store>(
         entry_point: made.entry_point,
         closure: made.closure,
     };
-    let id = state.create_gate(named.container, label, made.quota, &gate, meter)?;
+    let body = NewBody::Gate(&gate);
+    let id = state.create(named.container, label, made.quota, &body, meter)?;
     tell_object(state, id, reply);
     Ok(())
 }

@@ -13,7 +13,7 @@ ghost use Rattle.kernel_store.specs.Storing.{storing};
 use base::{Kind, Meter, ObjectId, Refusal};
 use kernel_rules::{Entry, NewThread, Reply};
 use kernel_store::{
-    Named, NewObject, Store, ThreadStart, find_all, find_container, halted, halted_at,
+    Named, NewBody, NewObject, Store, ThreadStart, find_all, find_container, halted, halted_at,
     in_container, look, new_bearer, refusal_of, refuse, space_entry, stored_label, tell_done,
     tell_object,
 };
@@ -117,11 +117,11 @@ fn create_thread_in<S: Store>(
         tell_object(state, state.next_id(), reply);
         return Ok(());
     };
-    let start = ThreadStart {
+    let body = NewBody::Thread(ThreadStart {
         clearance,
         entry_point: made.entry_point,
-    };
-    let id = state.create_thread(named.container, label, made.quota, &start, meter)?;
+    });
+    let id = state.create(named.container, label, made.quota, &body, meter)?;
     tell_object(state, id, reply);
     Ok(())
 }

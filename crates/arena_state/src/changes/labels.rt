@@ -2,7 +2,7 @@
 ghost use Rattle.std.specs.Prelude.{◌≡◌, ◌≤◌, ◌+◌, ◌<◌, ◌^◌, IfSome, option_copied};
 ghost use Rattle.label_lattice.specs.Label.{IsStored};
 ghost use Rattle.kernel_rules.specs.Changes.{changed, cleared, labelled, owning};
-ghost use Rattle.kernel_rules.specs.Step.{owned};
+ghost use Rattle.kernel_rules.specs.Step.{owned, with_value};
 ghost use Rattle.kernel_store.specs.Storing.{storing};
 ghost use Rattle.arena_state.specs.States.{state_of, labels_stored};
 
@@ -56,6 +56,35 @@ impl ArenaState {
             None => {}
         }
     }
+
+    /// A thread gets this label, where it is there; else nothing changes.
+    pub fn give_label(&mut self, thread: ObjectId, label: Option<&Label>, meter: &mut Meter)
+        requires { IfSome (option_copied label) IsStored }
+        ensures state { state_of self.new ≡ with_value (state_of self.old) (option_copied label.entry)
+            (λ l. changed (state_of self.old) thread (labelled l)) }
+        ensures scans { meter.new.scans
+            ≤ meter.old.scans + storing 1 (labels_stored self.old) }
+        ensures places { self.new.pieces.places ≡ self.old.pieces.places }
+    {
+        if let Some(given) = label {
+            self.set_label(thread, given, meter);
+        }
+    }
+
+    /// A thread gets this clearance, where it is there; else nothing changes.
+    pub fn give_clearance(&mut self, thread: ObjectId, clearance: Option<&Label>, meter: &mut Meter)
+        requires { IfSome (option_copied clearance) IsStored }
+        ensures state { state_of self.new ≡ with_value (state_of self.old) (option_copied clearance.entry)
+            (λ c. changed (state_of self.old) thread (cleared c)) }
+        ensures scans { meter.new.scans
+            ≤ meter.old.scans + storing 1 (labels_stored self.old) }
+        ensures places { self.new.pieces.places ≡ self.old.pieces.places }
+    {
+        if let Some(given) = clearance {
+            self.set_clearance(thread, given, meter);
+        }
+    }
+
     // A thread gets this label and this clearance; any other object gets the label alone.
     fn own(&mut self, thread: ObjectId, label: &Label, clearance: &Label, meter: &mut Meter)
         requires label { IsStored label.now }

@@ -20,9 +20,9 @@ use kernel_store::ThreadStart;
 use label_lattice::Label;
 
 impl ArenaState {
-    /// A new thread of a label and a clearance, without an address space, gets the next id, as a container does. It
-    /// takes no memory: there are three indexes of labels for each object.
-    pub fn create_thread(
+    // A new thread of a label and a clearance, without an address space, gets the next id, as a container does. It
+    // takes no memory: there are three indexes of labels for each object.
+    pub(crate) fn create_thread(
         &mut self,
         container: Location,
         label: &Label,
@@ -57,8 +57,8 @@ impl ArenaState {
         }
     }
 
-    /// A new gate of a label that hands this on gets the next id, as a container does.
-    pub fn create_gate(
+    // A new gate of a label that hands this on gets the next id, as a container does.
+    pub(crate) fn create_gate(
         &mut self,
         container: Location,
         label: &Label,

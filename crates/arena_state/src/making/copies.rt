@@ -35,9 +35,9 @@ fn copy_bytes(segments: &mut Segments, from: Option<Slot>, to: Slot, meter: &mut
 }
 
 impl ArenaState {
-    /// A new segment with the bytes of another, and without a page where the source is no segment, gets the next id, as a
-    /// container does. It takes no memory: there are frames for the pages that its quota admitted.
-    pub fn create_copy(
+    // A new segment with the bytes of another, and without a page where the source is no segment, gets the next id, as a
+    // container does. It takes no memory: there are frames for the pages that its quota admitted.
+    pub(crate) fn create_copy(
         &mut self,
         container: Location,
         label: &Label,

@@ -16,9 +16,9 @@ use base::{Meter, ObjectId, TypeSet};
 use label_lattice::Label;
 
 impl ArenaState {
-    /// A new container of a label gets the next id, last in a container's list, and its id is told. It takes no memory:
-    /// the slot, the link and the label's index are there, since its quota was admitted.
-    pub fn create_container(
+    // A new container of a label gets the next id, last in a container's list, and its id is told. It takes no memory:
+    // the slot, the link and the label's index are there, since its quota was admitted.
+    pub(crate) fn create_container(
         &mut self,
         container: Location,
         label: &Label,
@@ -47,8 +47,8 @@ impl ArenaState {
         }
     }
 
-    /// A new segment of so many pages of 0 gets the next id, as a container does.
-    pub fn create_segment(
+    // A new segment of so many pages of 0 gets the next id, as a container does.
+    pub(crate) fn create_segment(
         &mut self,
         container: Location,
         label: &Label,
@@ -83,8 +83,8 @@ impl ArenaState {
         }
     }
 
-    /// A new address space of sixteen empty slots gets the next id, as a container does.
-    pub fn create_space(
+    // A new address space of sixteen empty slots gets the next id, as a container does.
+    pub(crate) fn create_space(
         &mut self,
         container: Location,
         label: &Label,

@@ -9,8 +9,8 @@ use Rattle.kernel_store.proofs.CallLaws.{next_done}
 use Rattle.memory_calls.proofs.LengthLaws.{copy_fits}
 use Rattle.memory_calls.proofs.lengths.copy_in.Goals as goal
 
-pub create_copy-requires-clause-fitting : goal.create_copy-requires-clause-fitting
-create_copy-requires-clause-fitting g c =
+pub create-requires-clause-fitting : goal.create-requires-clause-fitting
+create-requires-clause-fitting g c =
     let s = g.S.Store.state c.args.state.now in
     subst (λ (d : ℕ). IsFitting s d c.args.made.now.quota (is.Segment (bytes_at s (g.S.Store.id_of c.args.source.object)))) (sym c.requires.container)
     (subst (λ (o : ℕ). IsFitting s c.args.made.now.container c.args.made.now.quota (is.Segment (bytes_at s o))) (sym c.requires.object)

@@ -4,8 +4,8 @@ use Rattle.kernel_rules.specs.Step.{new_thread}
 use Rattle.thread_calls.proofs.BearerLaws.{thread_fits}
 use Rattle.thread_calls.proofs.threads.create_thread_in.Goals as goal
 
-pub create_thread-requires-clause-fitting : goal.create_thread-requires-clause-fitting
-create_thread-requires-clause-fitting g c =
+pub create-requires-clause-fitting : goal.create-requires-clause-fitting
+create-requires-clause-fitting g c =
     let s = g.S.Store.state c.args.state.now in
     subst (λ (d : ℕ). IsFitting s d c.args.made.now.quota (new_thread c.in-Some-clearance.clearance.now c.args.made.now.entry_point)) (sym c.requires.container)
     (thread_fits s (g.S.Store.id_of c.args.named.caller) c.args.made.now
