@@ -1,4 +1,5 @@
 //! The same writes and reads of a kernel of its own, under a lock that readers share.
+use crate::pauses::has_stopped;
 use crate::rooms::Roomy;
 use crate::samples::{LIMITS, boot_thread, new_segment, read, shows_bytes, write};
 use anyhow::Result;
@@ -42,6 +43,36 @@ fn read_all<R: Wait>(
         }
     }
     done.fetch_add(found, Ordering::SeqCst);
+}
+
+fn read_seldom_until<R: Wait>(
+    rt: &R,
+    kernel: &RwLock<Kernel>,
+    meter: &Roomy<Mutex<Meter>>,
+    stop: &AtomicBool,
+) {
+    let query = read();
+    let mut meter = meter.value.lock(rt);
+    let mut reply = Reply::Done;
+    for _ in rt.forever() {
+        if has_stopped(stop) {
+            return;
+        }
+        kernel
+            .read(rt)
+            .ask_into(boot_thread(), &query, &mut reply, &mut meter);
+    }
+}
+
+fn write_all<R: Wait>(rt: &R, locked: &Locked, rounds: u64) {
+    let call = write();
+    let mut meter = locked.writer.lock(rt);
+    for _ in 0..rounds {
+        locked
+            .kernel
+            .write(rt)
+            .step_surely(boot_thread(), &call, &mut meter);
+    }
 }
 
 fn write_until<R: Wait>(rt: &R, locked: &Locked, stop: &AtomicBool) {
@@ -113,6 +144,27 @@ impl Locked {
         thread::scope(thread::scope_env(), rt, |scope| {
             let _ = scope.spawn(move || write_until(rt, self, stop));
             let taken = self.time_reads(rt, readers, rounds, done);
+            stop.store(true, Ordering::SeqCst);
+            taken
+        })
+    }
+
+    /// The nanoseconds in which one thread writes so often, while so many readers read a twentieth of their time.
+    pub fn time_writes_beside<R: Threads + Wait + Clock + Sync>(
+        &self,
+        rt: &R,
+        readers: usize,
+        rounds: u64,
+    ) -> Result<u64> {
+        let stop = AtomicBool::new(false);
+        let stop = &stop;
+        thread::scope(thread::scope_env(), rt, |scope| {
+            for meter in self.meters.iter().take(readers) {
+                let _ = scope.spawn(move || read_seldom_until(rt, &self.kernel, meter, stop));
+            }
+            let start = Instant::now(rt)?;
+            write_all(rt, self, rounds);
+            let taken = nanos_since(rt, start);
             stop.store(true, Ordering::SeqCst);
             taken
         })

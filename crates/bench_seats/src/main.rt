@@ -5,9 +5,11 @@
 
 ghost use Rattle.std.specs.Prelude.{◌≡◌};
 
+mod batches;
 mod files;
 mod kernels;
 mod locks;
+mod pauses;
 mod rooms;
 mod samples;
 mod seats;
@@ -131,6 +133,50 @@ fn crowd<'s, B: Naming + Send, R: Threads + Wait + Clock + Print + Sync>(
     Ok(())
 }
 
+/// What a write takes while more and more threads read a twentieth of their time: through a seat, and of a kernel under a
+/// lock that readers share.
+fn crowd_seldom<'s, B: Naming + Send, R: Threads + Wait + Clock + Print + Sync>(
+    rt: &R,
+    seats: &[Desk<'s, B>],
+    locked: &Locked,
+    rounds: u64,
+) -> Result<()> {
+    let (writer, workers) = (first(seats, 1), rest(seats));
+    let done = AtomicU64::new(0);
+    let alone = seats::time_submits(rt, writer, rounds, &done)?;
+    for readers in CROWDS {
+        let readers = first(workers, readers);
+        let count = readers.len();
+        let taken = seats::time_submits_beside_seldom(rt, writer, readers, rounds, &done)?;
+        let under = locked.time_writes_beside(rt, count, rounds)?;
+        println!(rt; "beside {count} who read a twentieth of their time")?;
+        print_ratio(rt, "submit", "alone", rounds, taken, alone)?;
+        print_ratio(rt, "submit", "under a shared lock", rounds, taken, under)?;
+    }
+    Ok(())
+}
+
+/// Sixteen creations and as many ends as two batches, beside the same call by call.
+fn batch<'s, B: Naming + Send, R: Wait + Clock + Print>(
+    rt: &R,
+    alloc: Global,
+    seats: &[Desk<'s, B>],
+    rounds: u64,
+) -> Result<()> {
+    let Some(seat) = seats.first() else {
+        return Ok(());
+    };
+    let (together, apart) = batches::time_both(rt, alloc, seat, rounds)?;
+    print_ratio(
+        rt,
+        "32 calls in two batches",
+        "one by one",
+        rounds,
+        together,
+        apart,
+    )
+}
+
 /// What one, two and four threads do at once, and how reads grow with their threads.
 fn compare_few_beside<'s, B: Naming + Send, R: Threads + Wait + Clock + Print + Sync>(
     rt: &R,
@@ -167,7 +213,8 @@ fn compare_all_beside<'s, B: Naming + Send, R: Threads + Wait + Clock + Print + 
     rounds: u64,
 ) -> Result<()> {
     compare_at(rt, seats, locked, file, 1, rounds)?;
-    crowd(rt, seats, rounds / 400)
+    crowd(rt, seats, rounds / 400)?;
+    crowd_seldom(rt, seats, locked, rounds / 40)
 }
 
 fn compare_all<B: Naming + Send, R: Threads + Wait + Clock + Print + Sync>(
@@ -178,8 +225,9 @@ fn compare_all<B: Naming + Send, R: Threads + Wait + Clock + Print + Sync>(
     rounds: u64,
 ) -> Result<()> {
     let seats = seats::seats(rt, alloc, shared, ALL)?;
-    let locked = Locked::new(alloc, 1)?;
-    compare_all_beside(rt, seats.as_slice(), &locked, file, rounds)
+    let locked = Locked::new(alloc, ALL)?;
+    compare_all_beside(rt, seats.as_slice(), &locked, file, rounds)?;
+    batch(rt, alloc, seats.as_slice(), rounds / 40)
 }
 
 /// At a boot for few seats.

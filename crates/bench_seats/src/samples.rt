@@ -51,6 +51,16 @@ pub fn new_thread() -> Call {
     })
 }
 
+/// The end of an object of this number that the root lists.
+pub fn unref(number: u64) -> Call {
+    Call::Unref {
+        entry: Entry {
+            container: ObjectId::root(),
+            object: ObjectId::new(number),
+        },
+    }
+}
+
 pub fn write() -> Call {
     Call::SegmentWrite {
         entry: segment(),

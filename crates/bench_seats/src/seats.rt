@@ -1,4 +1,5 @@
 //! Writes and reads of 64 bytes of a segment, each through its thread's seat.
+use crate::pauses::has_stopped;
 use crate::rooms::Roomy;
 use crate::samples::{boot_thread, new_segment, new_thread, read, shows_bytes, write};
 use anyhow::{Result, bail};
@@ -84,6 +85,18 @@ fn read_until<B: Naming, R: Wait>(rt: &R, worker: &Desk<'_, B>, stop: &AtomicBoo
             return;
         }
         let _ = seat.read(&query);
+    }
+}
+
+fn read_seldom_until<B: Naming, R: Wait>(rt: &R, worker: &Desk<'_, B>, stop: &AtomicBool) {
+    let query = read();
+    let mut seat = worker.value.lock(rt);
+    let mut reply = Reply::Done;
+    for _ in rt.forever() {
+        if has_stopped(stop) {
+            return;
+        }
+        let _ = seat.read_into(&query, &mut reply);
     }
 }
 
@@ -208,6 +221,26 @@ pub fn time_reads_beside<'s, B: Naming + Send, R: Threads + Wait + Clock + Sync>
             let _ = scope.spawn(move || submit_until(rt, writer, stop));
         }
         let taken = time_reads(rt, workers, rounds, done);
+        stop.store(true, Ordering::SeqCst);
+        taken
+    })
+}
+
+/// The nanoseconds in which the writers at once write so often each, while all workers read a twentieth of their time.
+pub fn time_submits_beside_seldom<'s, B: Naming + Send, R: Threads + Wait + Clock + Sync>(
+    rt: &R,
+    writers: &[Desk<'s, B>],
+    workers: &[Desk<'s, B>],
+    rounds: u64,
+    done: &AtomicU64,
+) -> Result<u64> {
+    let stop = AtomicBool::new(false);
+    let stop = &stop;
+    thread::scope(thread::scope_env(), rt, |scope| {
+        for worker in workers {
+            let _ = scope.spawn(move || read_seldom_until(rt, worker, stop));
+        }
+        let taken = time_submits(rt, writers, rounds, done);
         stop.store(true, Ordering::SeqCst);
         taken
     })

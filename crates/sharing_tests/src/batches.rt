@@ -104,9 +104,9 @@ fn a_batch_is_an_event_of_1_to_16_calls(rt: HostRuntime) -> Result<(), Fail> {
 }
 
 /// How often the reader reads, and how many batches are submitted meanwhile.
-const READS: u64 = 2000;
+const READS: u64 = 1_000_000;
 
-const BATCHES: u64 = 200;
+const BATCHES: u64 = 5000;
 
 /// The quota of the container whose quota is moved.
 const QUOTA: u32 = 10;
@@ -125,9 +125,14 @@ fn down() -> Call {
     }
 }
 
-/// A batch that moves a quota by one, up and down.
-fn moves() -> [Call; 4] {
-    [up(), down(), up(), down()]
+/// A batch of sixteen calls that moves a quota by one, up and down.
+fn moves(alloc: Global) -> Result<Vec<Call>, AllocError> {
+    let mut calls = Vec::with_capacity(alloc, 16)?;
+    for _ in 0..8 {
+        calls.push(up())?;
+        calls.push(down())?;
+    }
+    Ok(calls)
 }
 
 /// Whether the quota is what it is between two batches.
@@ -155,8 +160,8 @@ fn watch<B: Naming, R: Wait>(rt: &R, watcher: &Mutex<Watcher<'_, B>>) {
 }
 
 /// Whether each call of a batch was done.
-fn is_moved<B: Naming, R: Wait>(rt: &R, boot: &mut Seat<'_, B>) -> bool {
-    match batched(rt, boot, &moves()) {
+fn is_moved<B: Naming, R: Wait>(rt: &R, boot: &mut Seat<'_, B>, calls: &[Call]) -> bool {
+    match batched(rt, boot, calls) {
         Ok(receipt) => receipt.replies.iter().all(|reply| is_done(*reply)),
         Err(_) => false,
     }
@@ -167,12 +172,13 @@ fn is_moved<B: Naming, R: Wait>(rt: &R, boot: &mut Seat<'_, B>) -> bool {
 fn watch_batches<'s, B: Naming + Send, R: Threads + Wait + Sync>(
     rt: &R,
     boot: &mut Seat<'s, B>,
+    calls: &[Call],
     watcher: &Mutex<Watcher<'s, B>>,
 ) -> bool {
     thread::scope(thread::scope_env(), rt, |scope| {
         let mut all = scope.spawn(move || watch(rt, watcher)).is_ok();
         for _ in 0..BATCHES {
-            if !is_moved(rt, boot) {
+            if !is_moved(rt, boot, calls) {
                 all = false;
             }
         }
@@ -182,8 +188,10 @@ fn watch_batches<'s, B: Naming + Send, R: Threads + Wait + Sync>(
 
 fn watch_at<B: Naming + Send, R: Threads + Wait + Sync + Abort>(
     rt: &R,
+    alloc: Global,
     shared: &Shared<B>,
 ) -> Result<(), Fail> {
+    let calls = moves(alloc)?;
     let mut boot = seated(rt, shared, boot_thread())?;
     submitted(rt, &mut boot, &new_container(QUOTA))?;
     submitted(rt, &mut boot, &new_thread())?;
@@ -193,23 +201,25 @@ fn watch_at<B: Naming + Send, R: Threads + Wait + Sync + Abort>(
         seat,
         saw_none: true,
     });
-    assert!(rt; watch_batches(rt, &mut boot, &watcher));
+    assert!(rt; watch_batches(rt, &mut boot, calls.as_slice(), &watcher));
     assert!(rt; watcher.into_inner().saw_none);
     Ok(())
 }
 
 fn watch_boot<B: Naming + Send, R: Threads + Wait + Sync + Abort>(
     rt: &R,
+    alloc: Global,
     blank: Blank,
 ) -> Result<(), Fail>
     requires { blank ≡ B.boot }
 {
     let shared = blank.open::<B>();
-    watch_at(rt, &shared)
+    watch_at(rt, alloc, &shared)
 }
 
 #[test]
 fn no_reader_sees_a_batch_by_half(rt: HostRuntime) -> Result<(), Fail> {
-    let blank = Blank::boot(rt.alloc(), &MOST_PAGES)?;
-    watch_boot::<Brand, HostRuntime>(&rt, blank)
+    let alloc = rt.alloc();
+    let blank = Blank::boot(alloc, &MOST_PAGES)?;
+    watch_boot::<Brand, HostRuntime>(&rt, alloc, blank)
 }
