@@ -5,4 +5,3 @@ pub mod VerdictLaws
 pub mod LineLaws
 pub mod MigratedLaws
 pub mod StartLaws
-pub mod ToldLaws

@@ -19,7 +19,7 @@ use Rattle.dump_text.specs.declared.lines.Line.{Line}
 use Rattle.dump_text.specs.declared.lines.Line.TheVariants as lines
 use Rattle.dump_text.proofs.Migration.{boot_state, boot_restorable}
 use Rattle.auditor.specs.Replay.{replayed}
-use Rattle.auditor.specs.Told.{IsMigrated}
+use Rattle.auditor.specs.Migrated.{IsMigrated}
 use Rattle.auditor.specs.Verdict.{true_dump, first_difference, false_line, IsVerdict}
 use Rattle.auditor.specs.declared.verdicts.Verdict.TheVariants as is
 use Rattle.auditor.proofs.DifferenceLaws.{differ_later}

@@ -7,7 +7,7 @@ ghost use Rattle.dump_text.specs.Fits.{FitsWords};
 ghost use Rattle.dump_text.specs.Whole.{IsLegalDump};
 ghost use Rattle.auditor.specs.declared.verdicts.Verdict.{Verdict as Found};
 ghost use Rattle.auditor.specs.declared.verdicts.Verdict.TheVariants.{Clean as Legal, False as FalseAt};
-ghost use Rattle.auditor.specs.Told.{IsMigrated};
+ghost use Rattle.auditor.specs.Migrated.{IsMigrated};
 ghost use Rattle.auditor.specs.Verdict.{begins, false_line, true_dump, IsVerdict, IsLegalText, TellsFalse};
 
 use crate::differences::first_difference;

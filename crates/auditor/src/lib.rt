@@ -4,11 +4,11 @@
 
 mod audits;
 mod differences;
-mod program;
+mod lines;
 mod replays;
 mod starts;
 mod verdicts;
 
 pub use audits::{audit, clean_is_legal, migrated_verdicts, one_verdict};
-pub use program::{AuditEnd, NAME, audit_on};
+pub use lines::{put_numbered, put_verdict};
 pub use verdicts::Verdict;

@@ -5,4 +5,8 @@
 pub fn traces_are_tested() {}
 
 #[cfg(test)]
+mod audits;
+#[cfg(test)]
+mod hidden_audits;
+#[cfg(test)]
 mod worked_dumps;

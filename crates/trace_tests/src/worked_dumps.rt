@@ -1,12 +1,13 @@
 //! What flows from an object reach in worked dumps.
 use base::{Category, ObjectId};
+use clean_dumps::DumpFault;
 use std::alloc::Global;
 use std::test::Fail;
 use test_support::is_true;
-use tracing::{TraceFault, trace};
+use tracing::trace;
 
 /// The boot thread 2 makes category 1, two segments and a thread that is cleared for it, and this thread writes to segment 5.
-const WRITTEN: &str = "histar-dump 1
+pub const WRITTEN: &str = "histar-dump 1
 limits 64 1 4 1
 event 2 1 cat_create => cat #1
 event 2 2 segment_create #1 {#1:3,1} 2 1 => id #4
@@ -172,12 +173,12 @@ fn traced(
     text: &[u8],
     from: u64,
     category: u64,
-) -> Result<Vec<ObjectId>, TraceFault> {
+) -> Result<Vec<ObjectId>, DumpFault> {
     let (start, category) = (ObjectId::new(from), Category(category));
     match trace(alloc, text, start, category) {
         Ok(ids) => Ok(ids),
-        Err(TraceFault::NoMemory) => trace(alloc, text, start, category),
-        Err(TraceFault::NotClean) => Err(TraceFault::NotClean),
+        Err(DumpFault::NoMemory) => trace(alloc, text, start, category),
+        Err(DumpFault::NotClean) => Err(DumpFault::NotClean),
     }
 }
 
@@ -233,6 +234,15 @@ fn flows_begin_at_the_checkpoint(rt: HostRuntime) -> Result<(), Fail> {
     Ok(())
 }
 
+// The one request that is refused may be any: what is asked again then is answered as ever.
+#[test]
+fn want_of_memory_tells_no_other_trace(rt: HostRuntime) -> Result<(), Fail> {
+    assert!(rt; is_true(reaches(rt.alloc(), WRITTEN.as_bytes(), 1, 1, &[5])));
+    assert!(rt; is_true(reaches(rt.alloc(), WRITTEN.as_bytes(), 1, 2, &[1, 4, 5, 6])));
+    assert!(rt; is_true(refusal(rt.alloc(), b"no dump\n") == 62));
+    Ok(())
+}
+
 #[test]
 fn what_is_not_clean_is_not_traced(rt: HostRuntime) -> Result<(), Fail> {
     assert!(rt; is_true(refusal(rt.alloc(), WRITTEN.as_bytes()) == 0));
@@ -247,6 +257,6 @@ fn what_is_not_clean_is_not_traced(rt: HostRuntime) -> Result<(), Fail> {
         let text = with_line(rt.alloc(), WRITTEN, line, other)?;
         assert!(rt; is_true(refusal(rt.alloc(), text.as_slice()) == 62));
     }
-    assert!(rt; is_true(TraceFault::NoMemory.refusal().number() == 51));
+    assert!(rt; is_true(DumpFault::NoMemory.refusal().number() == 51));
     Ok(())
 }

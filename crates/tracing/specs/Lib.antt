@@ -1,3 +1,2 @@
-pub mod Refused
 pub mod Steps
 pub mod Traces

@@ -4,10 +4,7 @@
 //! observed is no part of a flow here; covert channels, refusals and deaths are none either.
 #![tactic(auto)]
 
-mod faults;
-mod starts;
 mod steps;
 mod traces;
 
-pub use faults::TraceFault;
 pub use traces::trace;

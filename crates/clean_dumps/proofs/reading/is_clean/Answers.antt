@@ -1,6 +1,6 @@
 use Rattle.std.proofs.Common.{sym, ◌∙◌}
-use Rattle.tracing.proofs.Cleaning.{other_unclean}
-use Rattle.tracing.proofs.traces.is_clean.Goals as goal
+use Rattle.clean_dumps.proofs.Cleaning.{other_unclean}
+use Rattle.clean_dumps.proofs.reading.is_clean.Goals as goal
 
 pub returns-in-False-clause-unclean : goal.returns-in-False-clause-unclean
 returns-in-False-clause-unclean c = λ no clean.

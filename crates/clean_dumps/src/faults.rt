@@ -1,14 +1,14 @@
-//! Why a dump is not traced.
+//! Why a dump is not read.
 ghost use Rattle.std.specs.Prelude.{◌≡◌};
-ghost use Rattle.tracing.specs.Refused.{refusal_of};
-ghost use Rattle.tracing.specs.declared.faults.TraceFault.TheVariants.{NoMemory as OutOfMemory};
+ghost use Rattle.clean_dumps.specs.Refused.{refusal_of};
+ghost use Rattle.clean_dumps.specs.declared.faults.DumpFault.TheVariants.{NoMemory as OutOfMemory};
 
 use base::{NoMemory, Refusal};
 use thiserror::Error;
 
-/// Why a dump is not traced.
+/// Why a dump is not read.
 #[derive(Clone, Copy, PartialEq, Eq, Debug, Error)]
-pub enum TraceFault {
+pub enum DumpFault {
     /// 62: the text is no clean dump.
     #[error("not a clean dump")]
     NotClean,
@@ -17,22 +17,22 @@ pub enum TraceFault {
     NoMemory,
 }
 
-impl TraceFault {
+impl DumpFault {
     /// 62 for a text that is no clean dump, 51 for want of memory.
     pub fn refusal(self) -> Refusal
         ensures { result ≡ refusal_of self }
     {
         match self {
-            TraceFault::NotClean => Refusal::NotClean,
-            TraceFault::NoMemory => Refusal::TextMemory,
+            DumpFault::NotClean => Refusal::NotClean,
+            DumpFault::NoMemory => Refusal::TextMemory,
         }
     }
 }
 
-impl From<NoMemory> for TraceFault {
+impl From<NoMemory> for DumpFault {
     ghost from_gives = { λ _ e. e ≡ OutOfMemory };
 
-    fn from(_: NoMemory) -> TraceFault {
-        TraceFault::NoMemory
+    fn from(_: NoMemory) -> DumpFault {
+        DumpFault::NoMemory
     }
 }

@@ -1,5 +1,5 @@
-use Rattle.tracing.proofs.Cleaning.{clean_begins}
-use Rattle.tracing.proofs.traces.clean_dump.Goals as goal
+use Rattle.clean_dumps.proofs.Cleaning.{clean_begins}
+use Rattle.clean_dumps.proofs.reading.clean_dump.Goals as goal
 
 pub returns-in-Ok-clause-begins : goal.returns-in-Ok-clause-begins
 returns-in-Ok-clause-begins c =

@@ -1,10 +1,10 @@
--- The refusals of traces.
+-- The refusals of what is no clean dump.
 use Rattle.base.specs.declared.refusals.Refusal.{Refusal}
 use Rattle.base.specs.declared.refusals.Refusal.TheVariants.{NotClean, TextMemory}
-use Rattle.tracing.specs.declared.faults.TraceFault.{TraceFault}
-use Rattle.tracing.specs.declared.faults.TraceFault.TheVariants as faults
+use Rattle.clean_dumps.specs.declared.faults.DumpFault.{DumpFault}
+use Rattle.clean_dumps.specs.declared.faults.DumpFault.TheVariants as faults
 
 -- 62 for a text that is no clean dump, 51 for want of memory
-abbrev pub refusal_of : TraceFault → Refusal
+abbrev pub refusal_of : DumpFault → Refusal
 refusal_of faults.NotClean = NotClean
 refusal_of faults.NoMemory = TextMemory
