@@ -1,6 +1,7 @@
 #!/usr/bin/env bash
 # Times the audit of dumps of 1,000, 10,000 and 100,000 events at 64 pages, and prints how the time grows, as ratios of one
-# run. Not a test: it ends zero whatever the times are, but not where a dump isn't clean.
+# run. The same of an audit that tells what flows from the root reach: it plays the calls once more, with what each observes and
+# modifies. Not a test: it ends zero whatever the times are, but not where a dump isn't clean.
 set -eu
 top=$(cd "$(dirname "$0")/.." && pwd)
 program=$top/crates/histar_audit/out/histar_audit
@@ -29,12 +30,12 @@ lengthen() {
         { print }'
 }
 
-# The microseconds of the fastest of three audits of a dump, which is clean.
+# The microseconds of the fastest of three audits of a dump, which is clean, with further words.
 fastest() {
     local best='' began took
     for _ in 1 2 3; do
         began=${EPOCHREALTIME/[.,]/}
-        "$program" "$1" >"$folder/said" || { echo "audit: $1: $(cat "$folder/said")" >&2; exit 1; }
+        "$program" "$@" >"$folder/said" || { echo "audit: $1: $(cat "$folder/said")" >&2; exit 1; }
         took=$((${EPOCHREALTIME/[.,]/} - began))
         if [ -z "$best" ] || [ "$took" -lt "$best" ]; then best=$took; fi
     done
@@ -47,8 +48,10 @@ before=''
 for events in 4 1000 10000 100000; do
     lengthen "$events" <"$folder/short.dump" >"$folder/long.dump"
     took=$(fastest "$folder/long.dump")
-    awk -v events="$events" -v took="$took" -v before="$before" 'BEGIN {
+    traced=$(fastest "$folder/long.dump" --from 1 --category 2)
+    awk -v events="$events" -v took="$took" -v traced="$traced" -v before="$before" 'BEGIN {
         printf "audit of %d events: %.1f ms, %.2f us an event", events, took / 1000, took / events
+        printf "; with flows %.1f ms, %.2f times that", traced / 1000, traced / took
         if (before != "") printf ", ratio %.2f to the one before", took / before
         print ""
     }'

@@ -3,8 +3,10 @@
 #![tactic(auto)]
 
 use audit_args::{DEFAULTS, Told, read_words};
-use auditor::{AuditEnd, NAME, audit_on};
+use audit_program::{AuditEnd, NAME, audit_on, read_label};
+use label_lattice::Label;
 use program_io::{Counted, Fault, beside, put_file, tell_answer, words_of};
+use std::alloc::Global;
 use std::fs::File;
 use std::io;
 use std::io::Write;
@@ -27,6 +29,22 @@ fn ended_with<E: Write>(
     ended.status
 }
 
+/// The label of the observer who is told of, if any. A label that there is not is a fault of usage, told in one line, and no
+/// memory is told as ever: the error is the status.
+fn observer_of<E: Write>(alloc: Global, told: &Told<'_>, err: &mut E) -> Result<Option<Label>, u8> {
+    let Some(text) = told.hidden else {
+        return Ok(None);
+    };
+    match read_label(alloc, text.as_bytes()) {
+        Ok(Some(label)) => Ok(Some(label)),
+        Ok(None) => {
+            let _ = writeln!(err, "error: invalid value '{text}' for '--hidden <LABEL>'");
+            Err(2)
+        }
+        Err(_) => Err(Fault::Memory.tell(NAME, err)),
+    }
+}
+
 fn main(rt: HostRuntime) -> ExitCode {
     let alloc = rt.alloc();
     let mut out = Counted::new(io::writer(&rt));
@@ -37,12 +55,16 @@ fn main(rt: HostRuntime) -> ExitCode {
     };
     if words.len() <= 1 {
         let mut dump = rt.reader();
-        let ended = audit_on(alloc, &mut dump, &DEFAULTS, &mut out, &mut err);
+        let ended = audit_on(alloc, &mut dump, &DEFAULTS, None, &mut out, &mut err);
         return ExitCode::from(ended.status);
     }
     let told = match read_words(alloc, words.as_slice()) {
         Ok(told) => told,
         Err(answer) => return ExitCode::from(tell_answer(alloc, NAME, &answer, &mut out, &mut err)),
+    };
+    let hidden = match observer_of(alloc, &told, &mut err) {
+        Ok(hidden) => hidden,
+        Err(status) => return ExitCode::from(status),
     };
     let Ok(mut dump) = File::open(&rt, told.dump) else {
         return ExitCode::from(Fault::Input.tell(NAME, &mut err));
@@ -50,6 +72,6 @@ fn main(rt: HostRuntime) -> ExitCode {
     let Ok(beside) = beside(alloc, told.migrate.unwrap_or("")) else {
         return ExitCode::from(Fault::Memory.tell(NAME, &mut err));
     };
-    let ended = audit_on(alloc, &mut dump, &told.options, &mut out, &mut err);
+    let ended = audit_on(alloc, &mut dump, &told.options, hidden, &mut out, &mut err);
     ExitCode::from(ended_with(&rt, &told, beside.as_str(), &ended, &mut err))
 }

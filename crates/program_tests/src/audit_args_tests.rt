@@ -1,5 +1,6 @@
 //! What the command line of the auditor takes and refuses.
 use audit_args::{DEFAULTS, read_words};
+use base::{Category, ObjectId};
 use clap::error::ErrorKind;
 use std::alloc::Global;
 use std::test::Fail;
@@ -66,6 +67,109 @@ fn refuses_a_migration_without_a_path_or_twice(rt: HostRuntime) -> Result<(), Fa
     Ok(())
 }
 
+// Both numbers are of 64 bits, as `clap` reads them.
+#[test]
+fn reads_what_flows_are_asked_for(rt: HostRuntime) -> Result<(), Fail> {
+    let alloc = rt.alloc();
+    let words = [
+        "histar-audit",
+        "a.dump",
+        "--from",
+        "4",
+        "--category",
+        "18446744073709551615",
+    ];
+    let told = read_words(alloc, words.as_slice())?;
+    assert!(rt; told.options.flow == Some((ObjectId::new(4), Category(u64::MAX))));
+    assert!(rt; told.dump == "a.dump" && !told.options.migrate);
+    let words = [
+        "histar-audit",
+        "--category=01",
+        "--from=0",
+        "--migrate=b",
+        "a.dump",
+    ];
+    let told = read_words(alloc, words.as_slice())?;
+    assert!(rt; told.options.flow == Some((ObjectId::new(0), Category(1))));
+    assert!(rt; told.dump == "a.dump" && told.options.migrate);
+    Ok(())
+}
+
+// The label is told as it stands: whether it is one is found out later.
+#[test]
+fn reads_the_label_of_an_observer(rt: HostRuntime) -> Result<(), Fail> {
+    let alloc = rt.alloc();
+    let words = ["histar-audit", "a.dump", "--hidden", "{#1:3,1}"];
+    let told = read_words(alloc, words.as_slice())?;
+    assert!(rt; told.dump == "a.dump" && told.hidden == Some("{#1:3,1}"));
+    assert!(rt; told.options == DEFAULTS && told.migrate == None);
+    let words = ["histar-audit", "--hidden=no label", "a.dump"];
+    let told = read_words(alloc, words.as_slice())?;
+    assert!(rt; told.dump == "a.dump" && told.hidden == Some("no label"));
+    let words = ["histar-audit", "a.dump"];
+    assert!(rt; read_words(alloc, words.as_slice())?.hidden == None);
+    let unread: [&[&str]; 2] = [
+        &["histar-audit", "a.dump", "--hidden"],
+        &[
+            "histar-audit",
+            "a.dump",
+            "--hidden",
+            "{1}",
+            "--hidden",
+            "{1}",
+        ],
+    ];
+    for words in unread {
+        match read_words(alloc, words) {
+            Ok(_) => assert!(rt; false, "{words:?}"),
+            Err(error) => assert!(rt; error.exit_code() == 2 && error.use_stderr(), "{words:?}"),
+        }
+    }
+    Ok(())
+}
+
+#[test]
+fn refuses_flows_that_are_not_asked_for_whole(rt: HostRuntime) -> Result<(), Fail> {
+    let unread: [&[&str]; 7] = [
+        &["histar-audit", "a.dump", "--from", "4"],
+        &["histar-audit", "a.dump", "--category", "1"],
+        &["histar-audit", "--from", "4", "--category", "1"],
+        &["histar-audit", "a.dump", "--from", "#4", "--category", "1"],
+        &["histar-audit", "a.dump", "--from", "-4", "--category", "1"],
+        &[
+            "histar-audit",
+            "a.dump",
+            "--from",
+            "4",
+            "--category",
+            "18446744073709551616",
+        ],
+        &[
+            "histar-audit",
+            "a.dump",
+            "--from",
+            "4",
+            "--from",
+            "4",
+            "--category",
+            "1",
+        ],
+    ];
+    for words in unread {
+        match read_words(rt.alloc(), words) {
+            Ok(_) => assert!(rt; false, "{words:?}"),
+            Err(error) => assert!(rt; error.exit_code() == 2 && error.use_stderr(), "{words:?}"),
+        }
+    }
+    let words = ["histar-audit", "a.dump", "--from", "4"];
+    let text = text_of(rt.alloc(), words.as_slice())?;
+    assert_eq!(rt;
+        text.as_str(),
+        "error: the following required arguments were not provided:\n  --category <N>\n\nUsage: histar-audit --from <ID> --category <N> <FILE>\n\nFor more information, try '--help'.\n"
+    );
+    Ok(())
+}
+
 #[test]
 fn refuses_other_words(rt: HostRuntime) -> Result<(), Fail> {
     let cases = [
@@ -120,7 +224,7 @@ fn tells_help(rt: HostRuntime) -> Result<(), Fail> {
                 let text = format!(in rt.alloc(); "{error}")?;
                 assert_eq!(rt;
                     text.as_str(),
-                    "Says whether a dump is that of a run by the rules\n\nUsage: histar-audit [OPTIONS] <FILE>\n\nArguments:\n  <FILE>  The dump to audit\n\nOptions:\n      --migrate <OUT>  Where to write the dump in format 2, where it is clean and of format 1\n  -h, --help           Print help\n"
+                    "Says whether a dump is that of a run by the rules\n\nUsage: histar-audit [OPTIONS] <FILE>\n\nArguments:\n  <FILE>  The dump to audit\n\nOptions:\n      --migrate <OUT>   Where to write the dump in format 2, where it is clean and of format 1\n      --from <ID>       Of a clean dump, tell which objects flows from this one reach\n      --category <N>    The category outside of which these flows are: none goes on by an owner of it\n      --hidden <LABEL>  Of a clean dump, tell which replies differ without the calls of threads that LABEL doesn't observe\n  -h, --help            Print help\n"
                 );
             }
         }

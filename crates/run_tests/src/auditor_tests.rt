@@ -1,6 +1,7 @@
 //! Audits of dumps.
 use audit_args::{AuditOptions, DEFAULTS};
-use auditor::{Verdict, audit, audit_on};
+use audit_program::audit_on;
+use auditor::{Verdict, audit, clean_is_legal, migrated_verdicts, one_verdict};
 use base::NoMemory;
 use program_io::Counted;
 use std::alloc::{AllocError, Global};
@@ -165,6 +166,7 @@ fn ends(alloc: Global, text: &[u8], status: u8, line: &[u8]) -> bool {
         alloc,
         &mut dump,
         &DEFAULTS,
+        None,
         &mut Counted::new(&mut out),
         &mut err,
     );
@@ -174,6 +176,8 @@ fn ends(alloc: Global, text: &[u8], status: u8, line: &[u8]) -> bool {
 #[test]
 fn the_verdict_is_printed(rt: HostRuntime) -> Result<(), Fail> {
     let alloc = rt.alloc();
+    one_verdict();
+    clean_is_legal();
     assert!(rt; ends(alloc, EMPTY_DUMP.as_bytes(), 0, b"clean\n"));
     let untrue = with_line(alloc, EMPTY_DUMP, 6, "use 1 5")?;
     assert!(rt; ends(alloc, untrue.as_slice(), 1, b"false at line 6\n"));
@@ -190,14 +194,14 @@ fn the_verdict_is_handed_on(rt: HostRuntime) {
     let mut dump = EMPTY_DUMP.as_bytes();
     let mut out = Counted::new(Holding::nothing(alloc));
     assert_eq!(rt;
-        audit_on(alloc, &mut dump, &DEFAULTS, &mut out, &mut err).status,
+        audit_on(alloc, &mut dump, &DEFAULTS, None, &mut out, &mut err).status,
         0
     );
     assert_eq!(rt; out.into_inner().handed.as_slice(), b"clean\n".as_slice());
     let mut dump = b"no dump\n".as_slice();
     let mut out = Counted::new(Portions::before_failing(alloc, 2));
     assert_eq!(rt;
-        audit_on(alloc, &mut dump, &DEFAULTS, &mut out, &mut err).status,
+        audit_on(alloc, &mut dump, &DEFAULTS, None, &mut out, &mut err).status,
         3
     );
     assert_eq!(rt;
@@ -216,6 +220,7 @@ fn faults_of_streams(rt: HostRuntime) -> Result<(), Fail> {
         alloc,
         &mut Broken(ErrorKind::Other),
         &DEFAULTS,
+        None,
         &mut Counted::new(&mut out),
         &mut err,
     );
@@ -227,6 +232,7 @@ fn faults_of_streams(rt: HostRuntime) -> Result<(), Fail> {
         alloc,
         &mut dump,
         &DEFAULTS,
+        None,
         &mut Counted::new(Broken(ErrorKind::Other)),
         &mut told,
     );
@@ -253,6 +259,7 @@ fn want_of_memory_changes_nothing(rt: HostRuntime) -> Result<(), Fail> {
         alloc,
         &mut dump,
         &DEFAULTS,
+        None,
         &mut Counted::new(&mut out),
         &mut err,
     );
@@ -270,11 +277,15 @@ const BOOT: &[u8] =
 fn migrated(alloc: Global, text: &[u8]) -> Vec<u8> {
     let mut dump = text;
     let (mut out, mut err) = (Vec::new(alloc), Vec::new(alloc));
-    let options = AuditOptions { migrate: true };
+    let options = AuditOptions {
+        migrate: true,
+        ..DEFAULTS
+    };
     audit_on(
         alloc,
         &mut dump,
         &options,
+        None,
         &mut Counted::new(&mut out),
         &mut err,
     )
@@ -285,6 +296,7 @@ fn migrated(alloc: Global, text: &[u8]) -> Vec<u8> {
 #[test]
 fn clean_dumps_of_format_1_are_migrated(rt: HostRuntime) -> Result<(), Fail> {
     let alloc = rt.alloc();
+    migrated_verdicts();
     let file = migrated(alloc, EMPTY_DUMP.as_bytes());
     assert!(rt; file.starts_with(BOOT) && file.ends_with(b"order 2 2 7\nend\n"));
     assert_eq!(rt; audit(alloc, file.as_slice())?, Verdict::Clean);

@@ -1,0 +1,33 @@
+-- The line that tells a reply which hidden threads changed.
+use Rattle.std.specs.Prelude.{ℕ, List, [], ◌∷◌, ◌++◌, codes, decimal}
+use Rattle.call_text.specs.Reply.{reply_text}
+use Rattle.hidden_replies.specs.declared.differences.Channel.{Channel}
+use Rattle.hidden_replies.specs.declared.differences.Channel.TheVariants as channel
+use Rattle.hidden_replies.specs.declared.differences.Difference.{Difference}
+use Rattle.kernel_rules.specs.declared.replies.Reply.{Reply}
+
+-- the name of a channel
+abbrev pub channel_name : Channel → List ℕ
+channel_name channel.NextId = codes "next id"
+channel_name channel.NextCategory = codes "next category"
+channel_name channel.Untold = codes "untold"
+channel_name channel.NotOpen = codes "not open"
+channel_name channel.Shown = codes "shown"
+channel_name channel.Owner = codes "owner"
+
+-- where a call stands in the dump, and who called
+abbrev pub place_text : ℕ → ℕ → ℕ → List ℕ
+place_text event place thread =
+    codes "differs at event " ++ decimal event ++ codes ", call " ++ decimal place
+    ++ codes ", thread #" ++ decimal thread
+
+-- both replies, as dumps spell them
+abbrev pub replies_text : Reply → Reply → List ℕ
+replies_text reply otherwise =
+    codes ": " ++ reply_text [] reply ++ codes ", else " ++ reply_text [] otherwise
+
+-- the line of a reply that differs
+abbrev pub difference_line : Difference → List ℕ
+difference_line d =
+    place_text d.event d.place d.thread ++ replies_text d.reply d.otherwise
+    ++ codes ", by " ++ channel_name d.channel ++ 10 ∷ []
