@@ -1,0 +1,5 @@
+pub mod Apart
+pub mod Itself
+pub mod Exact
+pub mod Keeping
+pub mod Telling

@@ -1,0 +1,6 @@
+pub mod Replies
+pub mod Exceptions
+pub mod Hidden
+pub mod Places
+pub mod RunsOf
+pub mod Told
