@@ -1,0 +1,10 @@
+//! Tests of what is shown of dumps, and of the words that it is asked for with.
+#![tactic(auto)]
+
+/// This crate has tests alone.
+pub fn shows_are_tested() {}
+
+#[cfg(test)]
+mod why_tests;
+#[cfg(test)]
+mod words_tests;

@@ -1,0 +1,4 @@
+pub mod CallLaws
+pub mod LineLaws
+pub mod PlaceLaws
+pub mod ShownLaws

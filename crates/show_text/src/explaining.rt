@@ -1,0 +1,216 @@
+//! Why calls of a dump are answered as they are.
+ghost use Rattle.std.specs.Prelude.{◌≡◌, ◌+◌, ◌^◌, ◌<◌, ◌≤◌, ◌++◌, ◌∷◌, [], map, take, length, codes, Some, IfOk, OnOk};
+ghost use Rattle.std.specs.List.{flat_map};
+ghost use Rattle.std.specs.Option.{option_map};
+ghost use Rattle.call_text.specs.Reply.{reply_text};
+ghost use Rattle.explained.specs.Explained.{explained};
+ghost use Rattle.histories.specs.Events.{by, calls_in};
+ghost use Rattle.histories.specs.History.{state_from};
+ghost use Rattle.kernel_rules.specs.Runs.{state_after};
+ghost use Rattle.kernel_rules.specs.Step.{answer, next};
+ghost use Rattle.plain_state.specs.StateOf.{state_of};
+ghost use Rattle.show_text.specs.Explained.{call_head, call_explained, calls_explained, event_explained, place_explained, IsWhy};
+ghost use Rattle.show_text.specs.Parts.{finding_text};
+
+use crate::faults::WhyFault;
+use crate::lines::{after_lines, first_line};
+use crate::parts::{put_bare, put_findings};
+use crate::places::{Place, place_at};
+use base::{Meter, NoMemory, ObjectId};
+use clean_dumps::begin;
+use dump_text::{Dump, DumpError, read_dump};
+use explained::explain;
+use histories::{Answered, Event};
+use kernel_calls::step;
+use kernel_rules::{Call, Mapping, Reply};
+use label_lattice::Label;
+use plain_state::PlainState;
+use std::alloc::Global;
+
+/// Makes calls of a thread.
+fn make(
+    state: &mut PlainState,
+    thread: ObjectId,
+    calls: &[Answered],
+    meter: &mut Meter,
+) -> Result<(), NoMemory>
+    ensures { OnOk result (state_of state.new
+        ≡ state_after (state_of state.old) (by thread (map (λ a. a.call) calls.now))) }
+{
+    for answered in calls {
+        step(state, thread, &answered.call, meter)?;
+    }
+    Ok(())
+}
+
+/// Makes the calls of an event.
+fn make_event(state: &mut PlainState, event: &Event, meter: &mut Meter) -> Result<(), NoMemory>
+    ensures { OnOk result (state_of state.new
+        ≡ state_after (state_of state.old) (by event.now.thread (calls_in event.now))) }
+{
+    make(state, event.thread, event.calls.as_slice(), meter)?;
+    Ok(())
+}
+
+/// Makes the calls of events.
+fn make_all(state: &mut PlainState, events: &[Event], meter: &mut Meter) -> Result<(), NoMemory>
+    ensures { OnOk result (state_of state.new ≡ state_from (state_of state.old) events.now) }
+{
+    for event in events {
+        make_event(state, event, meter)?;
+    }
+    Ok(())
+}
+
+/// The conditions of a call in words.
+fn findings_text(
+    state: &PlainState,
+    thread: ObjectId,
+    call: &Call,
+    meter: &mut Meter,
+) -> Result<Vec<u8>, NoMemory>
+    ensures { IfOk result (λ text. text.items
+        ≡ flat_map finding_text (explained (state_of state.now) thread call.now)) }
+{
+    // (types that a finding has, which the proof of its drop names)
+    let _label: Option<Label> = None;
+    let _mapping: Option<Mapping> = None;
+    let found = explain(state, thread, call)?;
+    let mut text = Vec::new(state.alloc());
+    put_findings(&mut text, found.as_slice(), meter)?;
+    Ok(text)
+}
+
+/// Adds the line that tells a call, and the rules' answer.
+fn put_head(out: &mut Vec<u8>, line: &[u8], reply: &Reply) -> Result<(), NoMemory>
+    ensures { OnOk result (out.new.items ≡ out.old.items ++ call_head line.now reply.now) }
+{
+    out.extend_from_slice(line)?;
+    out.extend_from_slice(b"\nthe rules answer: ")?;
+    put_bare(out, reply)?;
+    out.push(b'\n')?;
+    Ok(())
+}
+
+/// Adds why a call is answered as it is, after the line that tells it, and makes the call.
+fn put_call(
+    out: &mut Vec<u8>,
+    line: &[u8],
+    state: &mut PlainState,
+    thread: ObjectId,
+    call: &Call,
+    meter: &mut Meter,
+) -> Result<(), NoMemory>
+    ensures text { OnOk result (out.new.items
+        ≡ out.old.items ++ call_explained line.now (state_of state.old) thread call.now) }
+    ensures state { OnOk result (state_of state.new ≡ next (state_of state.old) thread call.now) }
+{
+    // (a type that a reply has, which the proof names)
+    let _mapping: Option<Mapping> = None;
+    let told = findings_text(state, thread, call, meter)?;
+    let reply = step(state, thread, call, meter)?;
+    put_head(out, line, &reply)?;
+    out.extend_from_slice(told.as_slice())?;
+    Ok(())
+}
+
+/// Adds why calls are answered as they are, which the lines of a text tell from its first on, and makes them.
+fn put_calls(
+    out: &mut Vec<u8>,
+    text: &[u8],
+    state: &mut PlainState,
+    thread: ObjectId,
+    calls: &[Answered],
+    meter: &mut Meter,
+) -> Result<(), NoMemory>
+    ensures { OnOk result (out.new.items ≡ out.old.items
+        ++ calls_explained text.now (state_of state.old) thread calls.now) }
+{
+    let mut rest = text;
+    for answered in calls {
+        let parts = first_line(rest);
+        put_call(out, parts.0, state, thread, &answered.call, meter)?;
+        rest = parts.1;
+    }
+    Ok(())
+}
+
+/// Why the calls of an event that a place names are answered as they are. The lines of the text tell them from its first on.
+#[tactic(auto, using(std::proofs::lemmas::List::take_min, std::proofs::lemmas::List::drop_min))]
+fn event_explained(
+    text: &[u8],
+    state: PlainState,
+    place: &Place,
+    event: &Event,
+    meter: &mut Meter,
+) -> Result<Vec<u8>, NoMemory>
+    ensures { IfOk result (λ told. told.items
+        ≡ event_explained text.now (state_of state) place.now event.now) }
+{
+    let mut state = state;
+    let calls = event.calls.as_slice();
+    let (before, rest) = calls.split_at(place.first.min(calls.len()));
+    let (asked, _) = rest.split_at(place.count.min(rest.len()));
+    make(&mut state, event.thread, before, meter)?;
+    let mut out = Vec::new(state.alloc());
+    put_calls(&mut out, text, &mut state, event.thread, asked, meter)?;
+    Ok(out)
+}
+
+/// Why the calls that a line tells are answered as they are, from the state that the events before theirs lead to.
+#[tactic(auto, using(std::proofs::lemmas::List::take_min))]
+fn place_explained(
+    text: &[u8],
+    line: u64,
+    state: PlainState,
+    events: &[Event],
+    place: &Place,
+    meter: &mut Meter,
+) -> Result<Option<Vec<u8>>, NoMemory>
+    ensures { IfOk result (λ told. option_map (λ t. t.items) told
+        ≡ place_explained text.now line (state_of state) events.now (Some place.now)) }
+{
+    let Some(event) = events.get(place.event) else {
+        return Ok(None);
+    };
+    let mut state = state;
+    let (before, _) = events.split_at(place.event.min(events.len()));
+    make_all(&mut state, before, meter)?;
+    let above = if place.is_batch {
+        line
+    } else {
+        line.saturating_sub(1)
+    };
+    let told = event_explained(after_lines(above, text), state, place, event, meter)?;
+    Ok(Some(told))
+}
+
+/// Why the calls of a line of a dump are answered as they are. The lines of the text count from 1. The errors come in this
+/// order: the text is no dump, its checkpoint can't be restored, the line tells no call; or there is no memory.
+pub fn why(alloc: Global, text: &[u8], line: u64) -> Result<Vec<u8>, WhyFault>
+    ensures { IsWhy text.now line result }
+{
+    let dump = match read_dump(alloc, text) {
+        Ok(dump) => dump,
+        Err(DumpError::Line(line)) => return Err(WhyFault::Unreadable(line)),
+        Err(DumpError::Memory) => return Err(WhyFault::Memory),
+    };
+    let Dump {
+        limits,
+        checkpoint,
+        events,
+        tables: _,
+    } = dump;
+    let Some(state) = begin(alloc, &limits, &checkpoint)? else {
+        return Err(WhyFault::IllFormed);
+    };
+    let events = events.as_slice();
+    let Some(place) = place_at(&checkpoint, events, line) else {
+        return Err(WhyFault::NoCall);
+    };
+    let mut meter = Meter::new(alloc)?;
+    match place_explained(text, line, state, events, &place, &mut meter)? {
+        Some(told) => Ok(told),
+        None => Err(WhyFault::NoCall),
+    }
+}

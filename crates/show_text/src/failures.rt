@@ -1,0 +1,104 @@
+//! Where comparisons of labels fail, in words.
+ghost use Rattle.std.specs.Prelude.{◌≡◌, ◌≤◌, ◌++◌, ◌∷◌, [], OnOk};
+ghost use Rattle.std.specs.List.{flat_map};
+ghost use Rattle.std.specs.Option.{option_map, option_and_then};
+ghost use Rattle.explained.specs.Compared.{sides, named_of, rest_of};
+ghost use Rattle.show_text.specs.Parts.{rank_text, ranks_text, failure_text, named_text, rest_text, failing_text};
+
+use base::{Meter, NoMemory};
+use explained::{Comparison, Failing, Failure, Part, Ranks};
+use text_words::put_number;
+
+/// Adds a rank as a level.
+fn put_rank(out: &mut Vec<u8>, rank: u8) -> Result<(), NoMemory>
+    ensures { OnOk result (out.new.items ≡ out.old.items ++ rank_text rank) }
+{
+    match rank {
+        0 => Ok(out.extend_from_slice(b"*")?),
+        5 => Ok(out.extend_from_slice(b"J")?),
+        rank => Ok(put_number(out, u64::from(rank - 1))?),
+    }
+}
+
+/// Adds the level that is too high, and the one that it is to be at most.
+fn put_ranks(out: &mut Vec<u8>, ranks: Ranks) -> Result<(), NoMemory>
+    ensures { OnOk result (out.new.items ≡ out.old.items ++ ranks_text ranks) }
+{
+    put_rank(out, ranks.left)?;
+    out.extend_from_slice(b" above ")?;
+    put_rank(out, ranks.right)?;
+    out.push(b'\n')?;
+    Ok(())
+}
+
+/// Adds a category at which a comparison fails.
+fn put_failure(out: &mut Vec<u8>, failure: Failure) -> Result<(), NoMemory>
+    ensures { OnOk result (out.new.items ≡ out.old.items ++ failure_text failure) }
+{
+    out.extend_from_slice(b"          #")?;
+    put_number(out, failure.category.0)?;
+    out.extend_from_slice(b": ")?;
+    put_ranks(out, failure.ranks)
+}
+
+/// Adds categories at which a comparison fails.
+fn put_failures(out: &mut Vec<u8>, failures: &[Failure]) -> Result<(), NoMemory>
+    ensures { OnOk result (out.new.items ≡ out.old.items ++ flat_map failure_text failures.now) }
+{
+    for failure in failures {
+        put_failure(out, *failure)?;
+    }
+    Ok(())
+}
+
+/// Adds all other categories, where a comparison fails there.
+fn put_rest(out: &mut Vec<u8>, rest: Option<Ranks>) -> Result<(), NoMemory>
+    ensures { OnOk result (out.new.items ≡ out.old.items ++ rest_text rest) }
+{
+    match rest {
+        None => Ok(()),
+        Some(ranks) => {
+            out.extend_from_slice(b"          all others: ")?;
+            put_ranks(out, ranks)
+        }
+    }
+}
+
+/// Adds where a comparison fails, of which this was found.
+fn put_found(out: &mut Vec<u8>, found: &Option<Failing>) -> Result<(), NoMemory>
+    ensures { OnOk result (out.new.items ≡ out.old.items
+        ++ (named_text (option_map (λ f. f.named.items) found.now)
+        ++ rest_text (option_and_then (λ f. f.rest) found.now))) }
+{
+    match found {
+        None => Ok(()),
+        Some(failing) => {
+            put_failures(out, failing.named.as_slice())?;
+            put_rest(out, failing.rest)
+        }
+    }
+}
+
+/// Adds where a comparison of labels fails.
+fn put_compared(out: &mut Vec<u8>, labels: &Comparison, meter: &mut Meter) -> Result<(), NoMemory>
+    ensures { OnOk result (out.new.items ≡ out.old.items
+        ++ (named_text (named_of (sides labels.now)) ++ rest_text (rest_of (sides labels.now)))) }
+{
+    let found = labels.failing(*out.allocator(), meter)?;
+    put_found(out, &found)
+}
+
+/// Adds where a part's comparison fails, if it has one.
+pub fn put_failing(out: &mut Vec<u8>, part: &Part, meter: &mut Meter) -> Result<(), NoMemory>
+    ensures { OnOk result (out.new.items ≡ out.old.items ++ failing_text part.now) }
+{
+    match part {
+        Part::Fact(_, _) => Ok(()),
+        Part::Compared(labels) => put_compared(out, labels, meter),
+        Part::AtLeast(_, _) => Ok(()),
+        Part::AtMost(_, _) => Ok(()),
+        Part::Sum(_, _, _) => Ok(()),
+        Part::Empty(_, _) => Ok(()),
+        Part::Apart(_, _, _) => Ok(()),
+    }
+}

@@ -1,0 +1,59 @@
+//! What is shown of a line, or of the first false one.
+ghost use Rattle.std.specs.Prelude.{◌≡◌, ◌++◌, IfOk};
+ghost use Rattle.show_text.specs.Shown.{IsShown, IsWhyOrNone};
+ghost use Rattle.auditor.specs.Lines.{verdict_line};
+ghost use Rattle.auditor.specs.declared.verdicts.Verdict.TheVariants.{Clean as Legal, False as FalseAt};
+
+use crate::explaining::why;
+use crate::faults::WhyFault;
+use auditor::{Verdict, audit, put_verdict};
+use base::NoMemory;
+use std::alloc::Global;
+
+/// Why the calls of a line are answered as they are, and nothing where it tells none.
+fn why_or_none(alloc: Global, text: &[u8], line: u64) -> Result<Vec<u8>, WhyFault>
+    ensures { IsWhyOrNone text.now line result }
+{
+    match why(alloc, text, line) {
+        Err(WhyFault::NoCall) => Ok(Vec::new(alloc)),
+        Err(WhyFault::IllFormed) => Ok(Vec::new(alloc)),
+        told => told,
+    }
+}
+
+/// The line of a clean dump's verdict.
+fn clean_shown(alloc: Global) -> Result<Vec<u8>, NoMemory>
+    ensures { IfOk result (λ text. text.items ≡ verdict_line Legal) }
+{
+    let mut told = Vec::new(alloc);
+    put_verdict(&mut told, Verdict::Clean)?;
+    Ok(told)
+}
+
+/// The line of a false dump's verdict, and more.
+fn false_shown(alloc: Global, line: u64, more: &[u8]) -> Result<Vec<u8>, NoMemory>
+    ensures { IfOk result (λ text. text.items ≡ verdict_line (FalseAt line) ++ more.now) }
+{
+    let mut told = Vec::new(alloc);
+    put_verdict(&mut told, Verdict::False(line))?;
+    told.extend_from_slice(more)?;
+    Ok(told)
+}
+
+/// Why the calls of a line are answered as they are, or, where no line is named, the verdict on the dump, and of a false one
+/// why the calls of its first false line are answered as they are by the rules.
+pub fn why_or_false(alloc: Global, text: &[u8], line: Option<u64>) -> Result<Vec<u8>, WhyFault>
+    ensures { IsShown line text.now result }
+{
+    if let Some(line) = line {
+        return why(alloc, text, line);
+    }
+    match audit(alloc, text)? {
+        Verdict::Clean => Ok(clean_shown(alloc)?),
+        Verdict::False(line) => {
+            let more = why_or_none(alloc, text, line)?;
+            Ok(false_shown(alloc, line, more.as_slice())?)
+        }
+        Verdict::Unreadable(line) => Err(WhyFault::Unreadable(line)),
+    }
+}

@@ -1,0 +1,36 @@
+"""What the documents say that a command prints, against what it prints. In these documents a line `$ COMMAND` of a block has
+the command's whole output below it."""
+import difflib
+
+from gate.plays import ran, text
+
+MARGIN = "    "
+FILES = ["docs/SHOW.md", "docs/COOKBOOK.md"]
+
+
+def commands_in(document):
+    """The commands of a document, each with the output that stands below it."""
+    found = []
+    is_inside = False
+    for line in document.split("\n"):
+        if line.startswith(f"{MARGIN}$ "):
+            found.append((line.removeprefix(f"{MARGIN}$ "), []))
+            is_inside = True
+        elif is_inside and line.startswith(MARGIN):
+            found[-1][1].append(line.removeprefix(MARGIN) + "\n")
+        else:
+            is_inside = False
+    return [(command, "".join(lines)) for command, lines in found]
+
+
+def compare(report):
+    """Runs each command of the documents. A document without one fails."""
+    report.heading("Documents")
+    for file in FILES:
+        commands = commands_in(text(file))
+        report.counts(bool(commands), f"{file} has {len(commands)} commands")
+        for command, wanted in commands:
+            _, said = ran("sh", "-c", command)
+            if said != wanted:
+                report.say("\n".join(difflib.unified_diff(wanted.split("\n"), said.split("\n"), file, "printed", lineterm="")))
+            report.counts(said == wanted, f"{command}: {'as' if said == wanted else 'not as'} in {file}")
