@@ -1,7 +1,8 @@
 """./prove: the programs, or other crates, and the crates below them proved and built, side by side, over what earlier builds kept.
 
-A crate is one task with one job, so all cores are at work as long as crates are left that do not wait for each other. A
-start that is interrupted ends with all its processes; what it built stays, and the next start goes on there."""
+A crate is one task, so all cores are at work as long as crates are left that do not wait for each other. A large crate that
+nothing else waits beside gets a job for each core that is idle. A start that is interrupted ends with all its processes; what
+it built stays, and the next start goes on there."""
 import fcntl
 import os
 import shutil
@@ -13,15 +14,17 @@ import time
 
 from gate import times
 from gate.report import minutes
-from gate.toolchain import FLAGS, SECONDS, library_task, toolchain
+from gate.toolchain import SECONDS, WIDE, library_task, toolchain
 
-PROGRAMS = ("histar", "histar_audit")
+PROGRAMS = ("histar", "histar_audit", "histar_show")
 LOG = "out/prove.log"
 LOCK = "out/prove.lock"
-TO_RUN = "both programs are proved and built: ./histar run examples/first.histar"
+TO_RUN = "all programs are proved and built: ./histar run examples/first.histar"
 WRONG_WORDS, NO_RT, NOT_PROVED, NO_ROOM, AT_WORK = 2, 69, 70, 73, 75
 # What the disk has to have left, in MB, and what a build that fails for want of it leaves.
 WANTED, FULL = 3000, 200
+# The seconds of a crate's check for which one more job pays its start.
+WORTH_A_JOB = 60
 
 
 def end(status, text):
@@ -74,21 +77,23 @@ class Build:
         self.rt, self.crate, self.progress = rt, crate, progress
         self.log = f"crates/{crate.name}/{LOG}"
 
-    def call(self):
+    def call(self, jobs):
+        flags = ["--jobs", str(jobs)]
         if self.crate.is_static:
-            return self.crate.build_static(FLAGS)
+            return self.crate.build_static(flags)
         if not self.crate.is_program:
-            return self.crate.build_rlib(FLAGS, anew=False)
+            return self.crate.build_rlib(flags, anew=False)
         with open(f"crates/{self.crate.name}/stdin", "rb") as script:
-            words = [*self.rt.rtlib.guarded(), "rt", "run", *FLAGS]
+            words = [*self.rt.rtlib.guarded(), "rt", "run", *flags]
             return subprocess.run(words, cwd=self.crate.folder, stdin=script, stdout=self.crate.out, stderr=self.crate.out).returncode
 
-    def run(self, *_):
-        began = time.monotonic()
+    def run(self, _, idle):
+        """Builds it, with up to as many jobs as there are processors that nothing else waits for."""
+        began, worth = time.monotonic(), self.progress.expects(self.crate.name) // WORTH_A_JOB
         try:
             os.makedirs(os.path.dirname(self.log), exist_ok=True)
             with open(self.log, "w", encoding="utf-8") as self.crate.out:
-                status = self.call()
+                status = self.call(max(1, min(idle, worth)))
             if self.crate.is_program and not status:
                 os.utime(f"crates/{self.crate.name}/out/{self.crate.name}")
         except OSError as fault:
@@ -103,7 +108,7 @@ def tasks_of(rt, crates, progress):
     """For rt's scheduler: each library, and each program after all below it."""
     tasks = {}
     for crate in crates:
-        key, task = library_task(rt, crate, progress.expects(crate.name), Build(rt, crate, progress).run)
+        key, task = library_task(rt, crate, progress.expects(crate.name), Build(rt, crate, progress).run, WIDE)
         tasks[key] = task
     return tasks
 

@@ -7,6 +7,9 @@ import shutil
 
 # One job for each crate: crates side by side cost less than several jobs in one.
 FLAGS = ["--jobs", "1"]
+# How the scheduler calls a task that waits for other libraries alone, and one that it gives the processors which nothing else
+# waits for.
+LIBRARY, WIDE = "library", "proof"
 SECONDS = "gate/seconds"
 # What the largest check takes, in bytes.
 LARGEST = 5_000_000_000
@@ -26,7 +29,7 @@ def lanes(rt):
     return max(1, min(rt.processors(), rt.free() // LARGEST))
 
 
-def library_task(rt, crate, weight, build):
+def library_task(rt, crate, weight, build, kind=LIBRARY):
     """The scheduler's task of building a crate's library once those below it are built: its key and its parts."""
-    below = [(it.name, "library") for it in crate.below()]
-    return (crate.name, "library"), (below, weight, rt.need(crate), build)
+    below = [(it.name, kind) for it in crate.below()]
+    return (crate.name, kind), (below, weight, rt.need(crate), build)
