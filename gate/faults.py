@@ -24,6 +24,17 @@ class Fault:
         return f"{self.program} {' '.join(self.words)}" + ("" if self.out == "/dev/null" else f" >{self.out}")
 
 
+def missing(word):
+    """What `clap` answers where one of two words is told without the other."""
+    usage = "Usage: histar-audit --from <ID> --category <N> <FILE>"
+    return f"error: the following required arguments were not provided:\n  {word}\n\n{usage}\n\nFor more information, try '--help'.\n"
+
+
+def no_label(text):
+    """What is answered to a text that is no label which can be stored."""
+    return f"error: invalid value '{text}' for '--hidden <LABEL>'\n"
+
+
 FAULTS = [
     Fault("./histar", ["run", "nothing"], 3, "histar: input fault\n"),
     Fault("./histar", ["run", "faulty", "--dump", "dump"], 1, "histar: line 1: script fault\n"),
@@ -34,7 +45,16 @@ FAULTS = [
     Fault("./histar-audit", ["old", "--migrate", "nowhere/new"], 3, "histar-audit: output fault\n"),
     Fault("./histar-audit", ["old", "--migrate", "/dev/full"], 3, "histar-audit: output fault\n"),
     Fault("./histar-audit", ["dump", "--migrate", "dump"], 2, ""),
+    Fault("./histar-audit", ["old", "--from", "1"], 2, missing("--category <N>")),
+    Fault("./histar-audit", ["old", "--category", "1"], 2, missing("--from <ID>")),
+    Fault("./histar-audit", ["old", "--from", "1", "--category", "2"], 3, "histar-audit: output fault\n", out="/dev/full"),
+    Fault("./histar-audit", ["old", "--hidden", "{c:3,1}"], 2, no_label("{c:3,1}")),
+    Fault("./histar-audit", ["nothing", "--hidden", "{*}"], 2, no_label("{*}")),
     Fault("./histar-audit", ["nothing", "--migrate", "dump"], 3, "histar-audit: input fault\n"),
+    Fault("./histar-show", ["why", "nothing"], 3, "histar-show: input fault\n"),
+    Fault("./histar-show", ["why", "dump"], 2, "histar-show: unreadable at line 1\n"),
+    Fault("./histar-show", ["why", "old", "1"], 2, "histar-show: no call at this line\n"),
+    Fault("./histar-show", ["why", "old"], 3, "histar-show: output fault\n", out="/dev/full"),
 ]
 
 # A dump of format 1, which is clean.

@@ -14,7 +14,7 @@ import time
 from gate import plays
 from gate.report import Report
 
-CRATES = "low:\nhistar: low\nhistar_audit: low\n"
+CRATES = "low:\nhistar: low\nhistar_audit: low\nhistar_show: low\n"
 PROVABLE = "//! A number.\n#![tactic(auto)]\n\n/// Gives one more.\npub fn more(n: u8) -> u8\nwhere\n    requires { n.now < 255 },\n{\n    n + 1\n}\n"
 WRONG = PROVABLE.replace("n.now < 255", "n.now < 256")
 MAIN = "//! Prints nothing.\n#![tactic(auto)]\n\nfn main(_rt: HostRuntime) {}\n"
@@ -36,13 +36,13 @@ class Tree:
     def __init__(self, room):
         self.top, self.commands = f"{room}/tree", f"{room}/commands"
         os.makedirs(f"{self.top}/gate")
-        for it in ("histar", "histar-audit", "start.sh", "prove", "HANDLES"):
+        for it in ("histar", "histar-audit", "histar-show", "start.sh", "prove", "HANDLES"):
             shutil.copy2(it, f"{self.top}/{it}")
         for it in ("programs", "report", "times", "toolchain"):
             shutil.copy2(f"gate/{it}.py", f"{self.top}/gate/{it}.py")
         write(f"{self.top}/crates.txt", CRATES)
         write(f"{self.top}/crates/low/src/lib.rt", PROVABLE)
-        for it in ("histar", "histar_audit"):
+        for it in ("histar", "histar_audit", "histar_show"):
             write(f"{self.top}/crates/{it}/src/main.rt", MAIN)
             write(f"{self.top}/crates/{it}/stdin", "")
         self.stand_in(ANSWERED)
@@ -71,7 +71,7 @@ def expect(report, name, got, wanted):
 
 
 def try_programs(report, tree):
-    """The two programs, without and with what ./prove builds."""
+    """The programs, without and with what ./prove builds."""
     write(f"{tree.top}/script", "")
     given = f"try --data script.histar={os.path.realpath(tree.top)}/script -- run"
     played = (1, f"{given} script.histar --pages 8\n", UNPROVED)
@@ -83,14 +83,17 @@ def try_programs(report, tree):
     expect(report, "./histar without rt", tree.start("./histar", "run", "script", has_rt=False), no_rt)
     expect(report, "./histar --dump unproved", tree.start("./histar", "run", "script", "--dump", "d"), (78, "", f"histar: --dump {NEEDS}"))
     expect(report, "./histar-audit unproved", tree.start("./histar-audit", "script"), (78, "", f"histar-audit: this {NEEDS}"))
+    expect(report, "./histar-show unproved", tree.start("./histar-show", "why", "dump"), (78, "", f"histar-show: this {NEEDS}"))
     tree.stand_in("run=none proved=no")
     no_answer = f"{UNPROVED}histar: the unproved run gave no answer: run=none proved=no\n"
     expect(report, "./histar unproved, no answer", tree.start("./histar", "run", "none"), (70, "try -- run none\n", no_answer))
     tree.stand_in(ANSWERED)
     tree.prove_by_hand("histar")
     tree.prove_by_hand("histar_audit")
+    tree.prove_by_hand("histar_show")
     expect(report, "./histar proved", tree.start("./histar", "run", "script", "--dump", "d"), (0, "proved run script --dump d\n", ""))
     expect(report, "./histar-audit proved", tree.start("./histar-audit", "d"), (0, "proved d\n", ""))
+    expect(report, "./histar-show proved", tree.start("./histar-show", "why", "d"), (0, "proved why d\n", ""))
     later = time.time() + 60
     os.utime(f"{tree.top}/crates/low/src/lib.rt", (later, later))
     expect(report, "./histar older than a source", tree.start("./histar", "run", "none"), (1, "try -- run none\n", UNPROVED))
