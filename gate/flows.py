@@ -43,6 +43,22 @@ ROWS = {
     "dev_send": ((0, 1), (1,)),
     "dev_recv": ((0, 1), (1,)),
 }
+# The same of each query, which modifies nothing. A label of a thread is looked at by who asks for it, that of another object isn't.
+QUERIES = {
+    "self_get": (),
+    "obj_label": (0,),
+    "obj_quota": (0, 1),
+    "container_list": (0,),
+    "container_parent": (0,),
+    "segment_len": (0, 1),
+    "segment_read": (0, 1),
+    "meta_get": (0, 1),
+    "as_get": (0, 1),
+}
+
+
+# How many words stand before the call in a line of each kind.
+BEFORE_CALL = {"event": 3, "call": 1, "read": 2}
 
 
 def number(word):
@@ -63,17 +79,17 @@ class Event:
 
 
 class Dump:
-    """The calls of a dump that begins at a boot, as events."""
+    """The calls and the reads of a dump that begins at a boot, as events."""
 
     def __init__(self, lines):
         self.owners, self.gates, self.spaces, self.slots, self.events = {2: set()}, {}, {2: (0, 0)}, {}, []
         thread = 0
         for line in lines:
             words = line.split(" ")
-            if words[0] in ("event", "batch"):
+            if words[0] in ("event", "batch", "read"):
                 thread = int(words[1])
-            if words[0] in ("event", "call"):
-                told = line.split(" ", 3)[3] if words[0] == "event" else line.split(" ", 1)[1]
+            if words[0] in BEFORE_CALL:
+                told = line.split(" ", BEFORE_CALL[words[0]])[-1]
                 call, reply = told.split(" => ")
                 self.take(thread, call.split(" "), reply)
 
@@ -90,12 +106,17 @@ class Dump:
         self.change(thread, call, args, reply, made)
 
     def touched(self, thread, call, args):
-        if call == "store":
+        if call in ("store", "load"):
             container, space = self.spaces[thread]
             page = int(args[0]) // 256
             first = min(slot for slot, it in self.slots[space].items() if it[0] <= page < it[0] + it[3])
             _, listed, segment, _ = self.slots[space][first]
-            return {container, space, listed, segment}, {segment}
+            return {container, space, listed, segment}, {segment} if call == "store" else set()
+        if call in QUERIES:
+            observed = {number(args[it]) for it in QUERIES[call]}
+            if call == "obj_label" and number(args[1]) in self.owners:
+                observed.add(number(args[1]))
+            return observed, set()
         observes, modifies = ROWS[call]
         observed = {number(args[it]) for it in observes} - {0}
         if call == "quota_move" and args[2].startswith("-"):
@@ -156,10 +177,15 @@ class Case:
     def __init__(self, file, words, draw):
         self.file, self.words, self.draw = file, words, draw
 
-    def tried(self, room, histar, auditor):
-        """How many questions were asked, how many of them had an answer with objects in it, and the first that was answered otherwise."""
+    def made(self, room, histar):
+        """The dump of the script's run."""
         dump = f"{room}/{os.path.basename(self.file)}.dump"
         subprocess.run([*histar, "run", self.file, *self.words, "--dump", dump], check=True, stdout=subprocess.DEVNULL)
+        return dump
+
+    def tried(self, room, histar, auditor):
+        """How many questions were asked, how many of them had an answer with objects in it, and the first that was answered otherwise."""
+        dump = self.made(room, histar)
         told = Dump(text(dump).split("\n"))
         starts = sorted({1, 2, 3}.union(*(it.observed | it.modified for it in told.events)))
         asked = flowing = 0
@@ -170,8 +196,17 @@ class Case:
                 asked, flowing = asked + 1, flowing + bool(wanted)
                 if (done.returncode, done.stdout) != (0, "".join(["clean\n", *(f"reaches {it}\n" for it in wanted)])):
                     return asked, flowing, f"{self.file}, from {start} in category {category}: {done.stdout.split()}, wanted {wanted}"
-        os.remove(dump)
         return asked, flowing, None
+
+
+class Stored(Case):
+    """A stored dump, of which all objects are traced."""
+
+    def __init__(self, file):
+        super().__init__(file, [], None)
+
+    def made(self, room, histar):
+        return self.file
 
 
 def drawn(room, count):
@@ -189,7 +224,8 @@ def trace(report, count, histar=("./histar",), auditor=("./histar-audit",)):
     report.heading("Flows")
     with tempfile.TemporaryDirectory(prefix="flows-") as room, ThreadPoolExecutor(os.cpu_count()) as pool:
         stored = [Case(it, text(f"{it.removesuffix('.histar')}.words").split(), None) for it in sorted(glob.glob("examples/*.histar"))]
-        for name, cases in (("the scripts of examples/", stored), (f"{count} drawn scripts, seed {SEED}", list(drawn(room, count)))):
+        dumps = [Stored(it) for it in sorted(glob.glob("examples/dumps/read*.dump")) if text(f"{it.removesuffix('.dump')}.verdict") == "clean\n"]
+        for name, cases in (("the scripts of examples/", stored), ("stored dumps with reads", dumps), (f"{count} drawn scripts, seed {SEED}", list(drawn(room, count)))):
             told = list(pool.map(lambda it: it.tried(room, histar, auditor), cases))
             asked, flowing = sum(it[0] for it in told), sum(it[1] for it in told)
             for wrong in [it[2] for it in told if it[2]][:3]:

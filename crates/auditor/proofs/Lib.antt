@@ -1,5 +1,6 @@
 pub mod CountLaws
 pub mod ReplayLaws
+pub mod ReadLaws
 pub mod DifferenceLaws
 pub mod VerdictLaws
 pub mod LineLaws

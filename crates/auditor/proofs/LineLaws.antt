@@ -14,13 +14,16 @@ use Rattle.dump_text.specs.Dump.{lines_of, dump_text, IsDump}
 use Rattle.dump_text.specs.Fits.{FitsWords}
 use Rattle.dump_text.specs.Line.{line_text, IsLine, IsBootable}
 use Rattle.dump_text.specs.Lists.{DumpLists}
-use Rattle.dump_text.specs.Whole.{CanBegin, start_with, whole_dump}
+use Rattle.dump_text.specs.Reads.{have_places}
+use Rattle.dump_text.specs.Whole.{CanBegin, IsAnsweredRightly, start_with, whole_dump}
+use Rattle.dump_text.specs.declared.tables.PlacedRead.{PlacedRead}
 use Rattle.dump_text.specs.declared.lines.Line.{Line}
 use Rattle.dump_text.proofs.LineLemmas.{dump_grammar}
 use Rattle.dump_text.proofs.Batches.{lines_batches}
-use Rattle.auditor.specs.Replay.{replayed}
+use Rattle.auditor.specs.Replay.{replayed, true_reads}
 use Rattle.auditor.specs.Verdict.{true_dump, begins, first_difference, false_line, DifferAt, TellsFalse}
 use Rattle.auditor.specs.declared.verdicts.Verdict.TheVariants as is
+use Rattle.auditor.proofs.ReadLaws.{right_after, true_placed}
 use Rattle.auditor.proofs.ReplayLaws.{replayed_legal}
 use Rattle.auditor.proofs.VerdictLaws.{begins_can}
 
@@ -148,11 +151,13 @@ differ m n (x ∷ xs) (y ∷ ys) fx fy e =
           (0, omega (arith, place), (refl, (λ k. other.0 (let line : x ≡ y = cc in ap line_text line))))
     ]
 
--- that the dump of legal events is a dump, where its values fit their words
+-- that the dump of legal events, and of reads that the rules answer so, is a dump, where its values fit their words
 abbrev pub LegalIsDump : Type 0
-LegalIsDump = (limits : Limits) (c : Option Checkpoint) (events : List Event) → IsBootable limits → CanBegin limits c
-    → IsLegalFrom (start_with limits c) events → FitsWords (whole_dump limits c events)
-    → IsDump (dump_text (whole_dump limits c events)) (whole_dump limits c events)
+LegalIsDump = (limits : Limits) (c : Option Checkpoint) (events : List Event) (reads : List PlacedRead) → IsBootable limits
+    → CanBegin limits c → IsLegalFrom (start_with limits c) events
+    → AllByRecursion (IsAnsweredRightly (start_with limits c) events) reads → have_places c events reads ≡ true
+    → FitsWords (whole_dump limits c events reads)
+    → IsDump (dump_text (whole_dump limits c events reads)) (whole_dump limits c events reads)
 
 -- a false line after a beginning that can be is the first that isn't the true dump's
 differs : (bytes : List ℕ) (d : DumpLists) (n : ℕ) → LegalIsDump → IsDump bytes d → begins d ≡ true
@@ -160,11 +165,13 @@ differs : (bytes : List ℕ) (d : DumpLists) (n : ℕ) → LegalIsDump → IsDum
     → (i : ℕ) × (n ≡ i + 1) × DifferAt i (lines_of d) (lines_of (true_dump d))
 differs bytes d n law is_dump can fits e =
     let start = start_with d.limits d.checkpoint in
-    let true_is = law d.limits d.checkpoint (replayed start d.events) (is_dump.fit.1.0.1) (begins_can bytes d is_dump can)
-    (replayed_legal start d.events (lines_batches d is_dump.fit)) fits in
+    let true_is = law d.limits d.checkpoint (replayed start d.events) (true_reads start d.events d.reads)
+    (is_dump.spelled.fit.1.0.1) (begins_can bytes d is_dump can)
+    (replayed_legal start d.events (lines_batches d is_dump.spelled.fit)) (right_after start d.events 0 0 d.reads)
+    (true_placed start d.checkpoint d.events d.reads is_dump.placed) fits in
     let h : first_difference 1 (lines_text line_text (lines_of d)) (lines_text line_text (lines_of (true_dump d))) ≡ Some n =
-    subst (λ (t : List ℕ). first_difference 1 t (dump_text (true_dump d)) ≡ Some n) is_dump.bytes_are e in
-    let found = differ 1 n (lines_of d) (lines_of (true_dump d)) is_dump.fit true_is.fit h in
+    subst (λ (t : List ℕ). first_difference 1 t (dump_text (true_dump d)) ≡ Some n) is_dump.spelled.bytes_are e in
+    let found = differ 1 n (lines_of d) (lines_of (true_dump d)) is_dump.spelled.fit true_is.spelled.fit h in
     let place = found.1 in
     (found.0, omega arith, found.2)
 

@@ -1,5 +1,5 @@
 -- The verdict on a dump that is migrated: six lines more come before its events.
-use Rattle.std.proofs.Common.{◌≡◌, ℕ, ◌+◌, Bool, if◌then◌else◌, List, [], ◌∷◌, ◌++◌}
+use Rattle.std.proofs.Common.{◌≡◌, ℕ, ◌+◌, Bool, true, if◌then◌else◌, List, [], ◌∷◌, ◌++◌}
 use Rattle.std.proofs.Common.{Option, Some, None, sym, ap, ◌∙◌, subst}
 use Rattle.std.specs.Prelude.{option_map}
 use Rattle.std.specs.List.{flat_map}
@@ -8,6 +8,7 @@ use Rattle.histories.specs.Events.{Event}
 use Rattle.histories.specs.History.{Start, boot_start, state_from}
 use Rattle.kernel_rules.specs.Scratch.{scratch}
 use Rattle.call_text.specs.Text.{lines_text}
+use Rattle.checkpoints.specs.Checkpoint.{Checkpoint}
 use Rattle.dump_text.specs.Boot.{boot_checkpoint, migrated}
 use Rattle.dump_text.specs.CheckpointLines.{start_lines}
 use Rattle.dump_text.specs.Dump.{event_lines, table_lines, dump_text, IsDump}
@@ -17,7 +18,9 @@ use Rattle.dump_text.specs.Whole.{placed}
 use Rattle.dump_text.specs.declared.lines.Format.TheVariants as formats
 use Rattle.dump_text.specs.declared.lines.Line.{Line}
 use Rattle.dump_text.specs.declared.lines.Line.TheVariants as lines
+use Rattle.dump_text.specs.Reads.{have_places}
 use Rattle.dump_text.proofs.Migration.{boot_state, boot_restorable}
+use Rattle.dump_text.proofs.Placing.{first_unread}
 use Rattle.auditor.specs.Replay.{replayed}
 use Rattle.auditor.specs.Migrated.{IsMigrated}
 use Rattle.auditor.specs.Verdict.{true_dump, first_difference, false_line, IsVerdict}
@@ -42,15 +45,15 @@ difference_from n d =
 
 -- the dump in format 1
 abbrev in_first_format : DumpLists → DumpLists
-in_first_format d = dump_with d.limits None d.events d.tables
+in_first_format d = dump_with d.limits None d.events [] d.tables
 
 -- the false line of a dump of format 1, whose events begin in line 3
 first_format_line : (bytes : List ℕ) (d : DumpLists) → IsDump bytes (in_first_format d)
     → false_line bytes (in_first_format d) ≡ difference_from 3 d
 first_format_line bytes d is =
-    ap (λ (t : List ℕ). first_difference 1 t (dump_text (true_dump (in_first_format d)))) is.bytes_are
+    ap (λ (t : List ℕ). first_difference 1 t (dump_text (true_dump (in_first_format d)))) is.spelled.bytes_are
     ∙ after_all 1 (lines.Version formats.One ∷ lines.Limits d.limits ∷ []) (later_lines d.events d.tables)
-    (true_lines (boot_start d.limits) d.events) is.fit
+    (true_lines (boot_start d.limits) d.events) is.spelled.fit
 
 -- what stands before the events of a dump that begins at the checkpoint of the boot
 abbrev first_lines : Limits → List Line
@@ -61,13 +64,13 @@ migrated_line : (out : List ℕ) (d : DumpLists) → IsDump out (migrated d)
     → false_line out (migrated d) ≡ difference_from 9 d
 migrated_line out d is =
     ap (λ (b : Bool). if b then first_difference 1 out (dump_text (true_dump (migrated d))) else Some 3)
-    (boot_restorable d.limits is.fit.1.0.1)
-    ∙ ap (λ (t : List ℕ). first_difference 1 t (dump_text (true_dump (migrated d)))) is.bytes_are
+    (boot_restorable d.limits is.spelled.fit.1.0.1)
+    ∙ ap (λ (t : List ℕ). first_difference 1 t (dump_text (true_dump (migrated d)))) is.spelled.bytes_are
     ∙ ap (λ (s : Start). first_difference 1
     (lines_text line_text (first_lines d.limits ++ later_lines d.events d.tables))
     (lines_text line_text (first_lines d.limits ++ true_lines s d.events))) (boot_state d.limits)
     ∙ after_all 1 (first_lines d.limits) (later_lines d.events d.tables)
-    (true_lines (boot_start d.limits) d.events) is.fit
+    (true_lines (boot_start d.limits) d.events) is.spelled.fit
 
 -- bytes spell one dump
 abbrev pub SpellOne : List ℕ → Type 0
@@ -78,7 +81,8 @@ false_later : (bytes out : List ℕ) (line : Option ℕ) (d e : DumpLists) → S
     → IsDump bytes d → IsDump out (migrated d) → IsDump bytes e → false_line bytes e ≡ line
     → false_line out (migrated d) ≡ option_map (λ (n : ℕ). n + 6) line
 false_later bytes out line d e one none is out_is e_is e_line =
-    let first : d ≡ in_first_format d = λ i. dump_with d.limits (none i) d.events d.tables in
+    let unread = first_unread d.events d.reads (subst (λ (c : Option Checkpoint). have_places c d.events d.reads ≡ true) none is.placed) in
+    let first : d ≡ in_first_format d = λ i. dump_with d.limits (none i) d.events (unread i) d.tables in
     let same : e ≡ in_first_format d = one e d e_is is ∙ first in
     let first_is : IsDump bytes (in_first_format d) = subst (λ (x : DumpLists). IsDump bytes x) first is in
     migrated_line out d out_is

@@ -7,23 +7,24 @@ use Rattle.call_text.specs.Text.{run}
 use Rattle.checkpoints.specs.Checkpoint.{Checkpoint}
 use Rattle.histories.specs.History.{IsLegalFrom}
 use Rattle.histories.specs.Events.{Event}
-use Rattle.std.specs.List.{flat_map}
 use Rattle.dump_text.specs.CheckpointLines.{start_lines}
-use Rattle.dump_text.specs.Dump.{dump_text, event_lines, table_lines, format_of, next, start, IsDump, DumpFaultsAt}
+use Rattle.dump_text.specs.Dump.{dump_text, history_lines, table_lines, format_of, next, start, IsDump, DumpFaultsAt}
 use Rattle.dump_text.specs.declared.lines.Format.TheVariants as formats
 use Rattle.dump_text.specs.declared.lines.Line.{Line}
 use Rattle.dump_text.specs.declared.lines.Line.TheVariants as lines
 use Rattle.dump_text.specs.declared.places.Pending.TheVariants as pendings
 use Rattle.dump_text.specs.declared.places.Place.{Place}
 use Rattle.dump_text.specs.Lists.{DumpLists}
-use Rattle.dump_text.specs.Whole.{CanBegin, start_with, whole_dump}
+use Rattle.dump_text.specs.Whole.{AreRead, CanBegin, start_with, whole_dump}
+use Rattle.dump_text.specs.declared.tables.PlacedRead.{PlacedRead}
 use Rattle.dump_text.proofs.Batches.{lines_batches}
-use Rattle.auditor.specs.Replay.{replayed}
+use Rattle.auditor.specs.Replay.{replayed, true_reads}
 use Rattle.auditor.specs.Verdict.{true_dump, can_begin, begins, false_line, first_difference, IsVerdict, IsLegalText}
 use Rattle.auditor.specs.declared.verdicts.Verdict.{Verdict}
 use Rattle.auditor.specs.declared.verdicts.Verdict.TheVariants as is
 use Rattle.auditor.proofs.ReplayLaws.{replayed_legal, replayed_same}
 use Rattle.auditor.proofs.DifferenceLaws.{none_same, equal_none}
+use Rattle.auditor.proofs.ReadLaws.{reads_same, true_are, true_placed}
 
 -- that bytes spell one dump, that what spells one has no faulty line, and that the first faulty line is one
 pub record OneReading (bytes : List ℕ) : Type 0 where
@@ -75,11 +76,11 @@ begins_can bytes d is_dump h = at d.checkpoint refl h
   where
     at : (c : Option Checkpoint) → d.checkpoint ≡ c → can_begin d.limits c ≡ true → CanBegin d.limits c
     at None is b =
-        few_pages d.limits ((start_lines d.checkpoint ++ (flat_map event_lines d.events ++ table_lines d.tables)) ++ lines.End ∷ [])
-        is_dump.state
+        few_pages d.limits ((start_lines d.checkpoint ++ (history_lines d.events d.reads ++ table_lines d.tables)) ++ lines.End ∷ [])
+        is_dump.spelled.state
         (subst (λ (c : Option Checkpoint). run next (Some start) (lines.Version (format_of c) ∷ lines.Limits d.limits
-        ∷ (start_lines d.checkpoint ++ (flat_map event_lines d.events ++ table_lines d.tables)) ++ lines.End ∷ [])
-        ≡ Some is_dump.state) is is_dump.ran)
+        ∷ (start_lines d.checkpoint ++ (history_lines d.events d.reads ++ table_lines d.tables)) ++ lines.End ∷ [])
+        ≡ Some is_dump.spelled.state) is is_dump.spelled.ran)
     at (Some c) is b = b
 
 pub can_begins : (limits : Limits) (c : Option Checkpoint) → CanBegin limits c → can_begin limits c ≡ true
@@ -98,25 +99,30 @@ clean_legal bytes v =
       d.limits,
       d.checkpoint,
       replayed (start_with d.limits d.checkpoint) d.events,
+      true_reads (start_with d.limits d.checkpoint) d.events d.reads,
       begins_can bytes d v.1 true_is.0,
-      replayed_legal (start_with d.limits d.checkpoint) d.events (lines_batches d v.1.fit),
+      replayed_legal (start_with d.limits d.checkpoint) d.events (lines_batches d v.1.spelled.fit),
+      true_are (start_with d.limits d.checkpoint) d.events d.reads,
+      true_placed (start_with d.limits d.checkpoint) d.checkpoint d.events d.reads v.1.placed,
       none_same 1 bytes (dump_text (true_dump d)) true_is.1,
     )
 
-true_same : (limits : Limits) (c : Option Checkpoint) (events : List Event)
-    → IsLegalFrom (start_with limits c) events
-    → true_dump (whole_dump limits c events) ≡ whole_dump limits c events
-true_same limits c events legal = ap (whole_dump limits c) (replayed_same (start_with limits c) events legal)
+true_same : (limits : Limits) (c : Option Checkpoint) (events : List Event) (reads : List PlacedRead)
+    → IsLegalFrom (start_with limits c) events → AreRead (start_with limits c) events reads
+    → true_dump (whole_dump limits c events reads) ≡ whole_dump limits c events reads
+true_same limits c events reads legal are = λ i.
+    whole_dump limits c (replayed_same (start_with limits c) events legal i) (reads_same (start_with limits c) events reads are i)
 
--- the dump of legal events is the true one
-pub legal_clean : (bytes : List ℕ) (limits : Limits) (c : Option Checkpoint) (events : List Event) → CanBegin limits c
-    → IsLegalFrom (start_with limits c) events → IsDump bytes (whole_dump limits c events) → IsVerdict bytes is.Clean
-legal_clean bytes limits c events can legal is_dump =
-    let same : bytes ≡ dump_text (true_dump (whole_dump limits c events)) =
-    is_dump.bytes_are ∙ sym (ap dump_text (true_same limits c events legal)) in (
-      whole_dump limits c events,
+-- the dump of legal events, and of reads that the rules answer so, is the true one
+pub legal_clean : (bytes : List ℕ) (limits : Limits) (c : Option Checkpoint) (events : List Event) (reads : List PlacedRead)
+    → CanBegin limits c → IsLegalFrom (start_with limits c) events → AreRead (start_with limits c) events reads
+    → IsDump bytes (whole_dump limits c events reads) → IsVerdict bytes is.Clean
+legal_clean bytes limits c events reads can legal are is_dump =
+    let same : bytes ≡ dump_text (true_dump (whole_dump limits c events reads)) =
+    is_dump.spelled.bytes_are ∙ sym (ap dump_text (true_same limits c events reads legal are)) in (
+      whole_dump limits c events reads,
       is_dump,
-      ap (λ (b : Bool). if b then first_difference 1 bytes (dump_text (true_dump (whole_dump limits c events))) else Some 3)
+      ap (λ (b : Bool). if b then first_difference 1 bytes (dump_text (true_dump (whole_dump limits c events reads))) else Some 3)
           (can_begins limits c can)
-          ∙ equal_none 1 bytes (dump_text (true_dump (whole_dump limits c events))) same,
+          ∙ equal_none 1 bytes (dump_text (true_dump (whole_dump limits c events reads))) same,
     )

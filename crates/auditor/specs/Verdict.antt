@@ -9,15 +9,19 @@ use Rattle.histories.specs.Events.{Event}
 use Rattle.dump_text.specs.Dump.{lines_of, dump_text, IsDump, DumpFaultsAt}
 use Rattle.dump_text.specs.Lists.{DumpLists}
 use Rattle.dump_text.specs.declared.lines.Line.{Line}
-use Rattle.dump_text.specs.Whole.{CanBegin, start_with, whole_dump}
-use Rattle.auditor.specs.Replay.{replayed}
+use Rattle.dump_text.specs.declared.tables.PlacedRead.{PlacedRead}
+use Rattle.dump_text.specs.Reads.{have_places}
+use Rattle.dump_text.specs.Whole.{AreRead, CanBegin, start_with, whole_dump}
+use Rattle.auditor.specs.Replay.{replayed, true_reads}
 use Rattle.auditor.specs.declared.verdicts.Verdict.{Verdict}
 use Rattle.auditor.specs.declared.verdicts.Verdict.TheVariants as is
 
--- the dump of a dump's own limits, checkpoint and calls, with the numbers, the replies and the tables
--- of the rules
+-- the dump of a dump's own limits, checkpoint, calls and queries, with the numbers, the replies and the
+-- tables of the rules, and with threads of reads that rise at each place
 abbrev pub true_dump : DumpLists → DumpLists
-true_dump d = whole_dump d.limits d.checkpoint (replayed (start_with d.limits d.checkpoint) d.events)
+true_dump d =
+    whole_dump d.limits d.checkpoint (replayed (start_with d.limits d.checkpoint) d.events)
+    (true_reads (start_with d.limits d.checkpoint) d.events d.reads)
 
 -- whether events can begin there: a boot can, and a checkpoint where it can be restored
 abbrev pub can_begin : Limits → Option Checkpoint → Bool
@@ -38,7 +42,8 @@ first_difference n [] (y ∷ ys) = Some n
 -- Line 3, with which a checkpoint begins, where it can't be restored. Else the first line in which the
 -- bytes differ from the text of the true dump. Each event keeps its thread and its calls there, so the
 -- line with its number differs where that is not the rules', and the line of a call where its reply is
--- not.
+-- not. The line of a read differs where its reply is not the rules', or where its thread is less than
+-- that of the read line directly before it.
 abbrev pub false_line : List ℕ → DumpLists → Option ℕ
 false_line bytes d =
     if begins d then first_difference 1 bytes (dump_text (true_dump d)) else Some 3
@@ -56,7 +61,8 @@ DifferAt i xs ys = (take i xs ≡ take i ys) × (slice_get xs i ≡ slice_get ys
 
 -- What false at line n means: it is the third, and the checkpoint can't be restored. Or it is the first
 -- line that isn't the true dump's: where it is an event's, its number or its reply is not the rules',
--- and else the tables' lines are others.
+-- where it is a read's, its reply is not, or its thread is less than that of the read line directly
+-- before it, and else the tables' lines are others.
 abbrev pub TellsFalse : List ℕ → Verdict → Type 0
 TellsFalse bytes (is.False n) =
     (d : DumpLists) × IsDump bytes d
@@ -65,9 +71,12 @@ TellsFalse bytes (is.False n) =
 TellsFalse bytes v = Unit {0}
 
 -- the bytes are the text of the dump of a list of events that is legal from the boot, or from a
--- checkpoint that can be restored
+-- checkpoint that can be restored, and of reads at their places among them, as the rules answer them
 abbrev pub IsLegalText : List ℕ → Type 0
 IsLegalText bytes =
     (limits : Limits) × (checkpoint : Option Checkpoint) × (events : List Event)
+    × (reads : List PlacedRead)
     × CanBegin limits checkpoint × IsLegalFrom (start_with limits checkpoint) events
-    × (bytes ≡ dump_text (whole_dump limits checkpoint events))
+    × AreRead (start_with limits checkpoint) events reads
+    × (have_places checkpoint events reads ≡ true)
+    × (bytes ≡ dump_text (whole_dump limits checkpoint events reads))

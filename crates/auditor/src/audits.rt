@@ -1,9 +1,10 @@
 //! Auditing dumps.
-ghost use Rattle.std.specs.Prelude.{◌≡◌, ℕ, ◌+◌, List, Option, IfOk, IfSome, OnOk, is_some, true};
+ghost use Rattle.std.specs.Prelude.{◌≡◌, ℕ, ◌+◌, List, length, Option, IfOk, IfSome, OnOk, is_some, true};
 ghost use Rattle.base.specs.declared.ranges.Limits.{Limits as Booted};
 ghost use Rattle.checkpoints.specs.Checkpoint.{Checkpoint as Written};
 ghost use Rattle.dump_text.specs.Dump.{dump_text};
 ghost use Rattle.dump_text.specs.Fits.{FitsWords};
+ghost use Rattle.dump_text.specs.Reads.{are_placed};
 ghost use Rattle.dump_text.specs.Whole.{IsLegalDump};
 ghost use Rattle.auditor.specs.declared.verdicts.Verdict.{Verdict as Found};
 ghost use Rattle.auditor.specs.declared.verdicts.Verdict.TheVariants.{Clean as Legal, False as FalseAt};
@@ -17,32 +18,49 @@ use base::NoMemory;
 use dump_text::{Dump, DumpError, dump_with, legal_is_dump, one_reading, read_dump, write_dump};
 use std::alloc::Global;
 
-/// The text of the true dump: that of the dump's own limits, checkpoint and calls, with the numbers, the replies and the
-/// tables of the rules. There is one exactly where the checkpoint, if there is one, can be restored.
-fn true_text(alloc: Global, dump: Dump) -> Result<Option<Vec<u8>>, NoMemory>
-    ensures test { IfOk result (λ text. is_some text ≡ begins dump) }
-    ensures text { IfOk result (λ text. IfSome text (λ t. t.items ≡ dump_text (true_dump dump))) }
-    ensures fits { IfOk result (λ text. IfSome text (λ t. FitsWords (true_dump dump))) }
+/// The true dump: that of the dump's own limits, checkpoint, calls and queries, with the numbers, the replies and the tables of
+/// the rules, and with threads of reads that rise at each place. There is one exactly where the checkpoint, if there is one,
+/// can be restored.
+fn true_dump(alloc: Global, dump: Dump) -> Result<Option<Dump>, NoMemory>
+    requires { are_placed 0 (length dump.events) dump.reads ≡ true }
+    ensures test { IfOk result (λ told. is_some told ≡ begins dump) }
+    ensures dump { IfOk result (λ told. IfSome told (λ d. d ≡ true_dump dump)) }
 {
     let Dump {
         limits,
         checkpoint,
         events,
+        reads,
         tables: _,
     } = dump;
     let Some(mut replay) = Replay::begin(alloc, &limits, &checkpoint)? else {
         return Ok(None);
     };
-    if !replay.take_all(alloc, events.as_slice())? {
+    let Some(told) = replay.take_all(alloc, events.as_slice(), reads.as_slice())? else {
         return Err(NoMemory);
-    }
+    };
     let tables = replay.kernel.tables(&mut replay.meter)?;
-    let told = dump_with(alloc, &limits, checkpoint, replay.events, tables)?;
-    Ok(Some(write_dump(alloc, &told)?))
+    let whole = dump_with(alloc, &limits, checkpoint, replay.events, told, tables)?;
+    Ok(Some(whole))
+}
+
+/// The text of the true dump, where there is one.
+fn true_text(alloc: Global, dump: Dump) -> Result<Option<Vec<u8>>, NoMemory>
+    requires { are_placed 0 (length dump.events) dump.reads ≡ true }
+    ensures test { IfOk result (λ text. is_some text ≡ begins dump) }
+    ensures text { IfOk result (λ text. IfSome text (λ t. t.items ≡ dump_text (true_dump dump))) }
+    ensures fits { IfOk result (λ text. IfSome text (λ t. FitsWords (true_dump dump))) }
+{
+    let Some(told) = true_dump(alloc, dump)? else {
+        return Ok(None);
+    };
+    let text = write_dump(alloc, &told)?;
+    Ok(Some(text))
 }
 
 /// The first line of a dump that is not true.
 fn false_line(alloc: Global, bytes: &[u8], dump: Dump) -> Result<Option<u64>, NoMemory>
+    requires { are_placed 0 (length dump.events) dump.reads ≡ true }
     ensures line { IfOk result (λ line. line ≡ false_line bytes.now dump) }
     ensures fits { OnOk result (begins dump ≡ true → FitsWords (true_dump dump)) }
 {
@@ -52,8 +70,8 @@ fn false_line(alloc: Global, bytes: &[u8], dump: Dump) -> Result<Option<u64>, No
     }
 }
 
-/// What the bytes are: the dump of a legal list of events; a dump with a first line that is not true; or no dump from some
-/// line on. Want of memory is the only error.
+/// What the bytes are: the dump of a legal list of events and of reads among them, as the rules answer them; a dump with a
+/// first line that is not true; or no dump from some line on. Want of memory is the only error.
 pub fn audit(alloc: Global, bytes: &[u8]) -> Result<Verdict, NoMemory>
     ensures verdict { IfOk result (λ verdict. IsVerdict bytes.now verdict) }
     ensures line { IfOk result (λ verdict. TellsFalse bytes.now verdict) }
@@ -77,8 +95,8 @@ pub fn one_verdict()
     one_reading();
 }
 
-/// A law, which does nothing when it is called: what is clean is the dump of a legal list of events, and each dump of one
-/// is clean, as a run of `histar` writes it.
+/// A law, which does nothing when it is called: what is clean is the dump of a legal list of events and of reads among them,
+/// as the rules answer them, and each such dump is clean, as a run of `histar` writes it.
 pub fn clean_is_legal()
     ensures legal { (bytes : List ℕ) → IsVerdict bytes Legal → IsLegalText bytes }
     ensures clean { (bytes : List ℕ) (limits : Booted) (checkpoint : Option Written)

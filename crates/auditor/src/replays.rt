@@ -1,5 +1,5 @@
 //! Playing calls again.
-ghost use Rattle.std.specs.Prelude.{◌≡◌, ◌++◌, ◌∷◌, [], map, IfOk, OnOk, true};
+ghost use Rattle.std.specs.Prelude.{◌≡◌, ◌≤◌, ◌++◌, ◌∷◌, [], length, map, take, IfOk, OnOk, IfSome, List, true};
 ghost use Rattle.std.specs.BTreeMap.{get};
 ghost use Rattle.std.specs.Option.{unwrap_or};
 ghost use Rattle.std.specs.Ordering.{nat_cmp};
@@ -7,9 +7,12 @@ ghost use Rattle.kernel_rules.specs.Runs.{state_after};
 ghost use Rattle.histories.specs.Events.{by, told};
 ghost use Rattle.histories.specs.History.{Start, answered};
 ghost use Rattle.plain_core.specs.Kernel.{kernel_state};
-ghost use Rattle.auditor.specs.Replay.{IsReplay, Takes, TakesAll};
+ghost use Rattle.dump_text.specs.Reads.{are_placed};
+ghost use Rattle.histories.specs.Events.{Event as Happened};
+ghost use Rattle.auditor.specs.Replay.{IsReplay, Takes, TakesAll, thread_after, true_read, true_reads};
 
 use base::{Meter, NoMemory, ObjectId};
+use dump_text::{PlacedRead, Read, raw_reply};
 use histories::{Answered, Event};
 use kernel_rules::{Call, Mapping, Reply};
 use plain_core::{Machine, PlainKernel};
@@ -74,6 +77,18 @@ fn make(
     Ok(made)
 }
 
+/// The thread that a read is told of after a read of a thread at a place.
+fn thread_after(place: usize, thread: ObjectId, read: &PlacedRead) -> ObjectId
+    ensures { result ≡ thread_after place thread read.now }
+{
+    let own = read.read.thread;
+    if read.place == place && !(thread.number() <= own.number()) {
+        thread
+    } else {
+        own
+    }
+}
+
 impl Replay {
     /// Takes an event's calls again, where its thread has a next number below 2^64. The error is want of memory.
     fn take(&mut self, alloc: Global, event: &Event) -> Result<bool, NoMemory>
@@ -100,16 +115,76 @@ impl Replay {
         Ok(true)
     }
 
-    /// Takes the calls of events again, up to one whose thread has no next number below 2^64. The error is want of memory.
-    pub fn take_all(&mut self, alloc: Global, events: &[Event]) -> Result<bool, NoMemory>
-        ensures { IfOk result (λ taken. taken ≡ true → (start : Start) → IsReplay start self.old
-            → self.old.events.items ≡ [] → TakesAll start events.now self.new) }
+    /// Takes the calls of events again, from one place among them to another, up to an event whose thread has no next number
+    /// below 2^64. The error is want of memory.
+    fn take_between(
+        &mut self,
+        alloc: Global,
+        events: &[Event],
+        from: usize,
+        to: usize,
+    ) -> Result<bool, NoMemory>
+        requires order { from ≤ to }
+        requires within { to ≤ length events.now }
+        ensures { IfOk result (λ taken. taken ≡ true → (start : Start)
+            → TakesAll start (take from events.now) self.old → TakesAll start (take to events.now) self.new) }
     {
-        for event in events {
-            if !self.take(alloc, event)? {
+        for place in from..to {
+            if !self.take(alloc, &events[place])? {
                 return Ok(false);
             }
         }
         Ok(true)
+    }
+
+    /// A read as this thread's, with the rules' reply. The error is want of memory.
+    fn answer(&mut self, thread: ObjectId, earlier: &PlacedRead) -> Result<PlacedRead, NoMemory>
+        ensures told { IfOk result (λ told. (start : Start) (events : List Happened)
+            → TakesAll start (take earlier.now.place events) self.old
+            → told ≡ true_read start events thread earlier.now) }
+        ensures kept { (start : Start) (events : List Happened) → TakesAll start events self.old
+            → TakesAll start events self.new }
+    {
+        let _named: Option<Mapping> = None;
+        let query = earlier.read.query;
+        let reply = self.kernel.ask(thread, &query, &mut self.meter)?;
+        Ok(PlacedRead {
+            place: earlier.place,
+            read: Read {
+                thread,
+                query,
+                reply: raw_reply(&reply, &mut self.meter),
+            },
+        })
+    }
+
+    /// Takes the calls of events again, and tells the reads among them with the rules' replies, and with threads that rise at
+    /// each place; nothing where an event's thread has no next number below 2^64. The error is want of memory.
+    pub fn take_all(
+        &mut self,
+        alloc: Global,
+        events: &[Event],
+        reads: &[PlacedRead],
+    ) -> Result<Option<Vec<PlacedRead>>, NoMemory>
+        requires { are_placed 0 (length events.now) reads.now ≡ true }
+        ensures { IfOk result (λ told. IfSome told (λ all. (start : Start) → IsReplay start self.old
+            → self.old.events.items ≡ []
+            → TakesAll start events.now self.new × (all.items ≡ true_reads start events.now reads.now))) }
+    {
+        let mut told = Vec::with_capacity(alloc, reads.len())?;
+        let mut place = 0;
+        let mut thread = ObjectId::new(0);
+        for read in reads {
+            if !self.take_between(alloc, events, place, read.place)? {
+                return Ok(None);
+            }
+            thread = thread_after(place, thread, read);
+            place = read.place;
+            told.push(self.answer(thread, read)?)?;
+        }
+        if !self.take_between(alloc, events, place, events.len())? {
+            return Ok(None);
+        }
+        Ok(Some(told))
     }
 }

@@ -9,3 +9,5 @@ pub fn dumps_are_tested() {}
 mod dump_text_tests;
 #[cfg(test)]
 mod format_2_tests;
+#[cfg(test)]
+mod read_tests;

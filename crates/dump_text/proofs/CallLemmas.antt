@@ -5,6 +5,8 @@ use Rattle.label_lattice.specs.declared.pairings.Pair.{Pair}
 use Rattle.label_lattice.specs.declared.raw_labels.RawLabel.{RawLabel}
 use Rattle.kernel_rules.specs.declared.calls.Call.{Call}
 use Rattle.kernel_rules.specs.declared.calls.Call.TheVariants as calls
+use Rattle.kernel_rules.specs.declared.calls.Query.{Query}
+use Rattle.kernel_rules.specs.declared.calls.Query.TheVariants as queries
 use Rattle.text_words.specs.Reading.{Reads}
 use Rattle.text_words.specs.Label.{LabelValue}
 use Rattle.text_words.specs.declared.references.Reference.{Reference}
@@ -27,6 +29,7 @@ use Rattle.call_text.specs.Asked.{asked_of}
 use Rattle.call_text.specs.Resolve.{unbound_category, unbound_pair, unbound_in, or_else, first_unbound, or_unbound, resolved}
 use Rattle.dump_text.specs.Word.{spoken_pair, spoken_label}
 use Rattle.dump_text.specs.Call.{spoken_of, call_text, IsCall, write_of}
+use Rattle.dump_text.specs.Query.{query_spoken, query_text, IsQuery, query_of}
 
 -- numbered pairs name nothing
 no_pair : (ps : List Pair) → unbound_pair (map spoken_pair ps) [] ≡ None
@@ -107,7 +110,7 @@ rebuilt_from (k ∷ ks) before (x ∷ xs) i at are none =
 -- what is asked is spoken with these arguments
 Sound : Verb → List Arg → Asked → Type 0
 Sound v xs (Write c) = let r : Spoken = record { verb = v; args = rebuilt (kinds_of v) 0 xs } in spoken_of c ≡ r
-Sound v xs (Read q) = Unit {0}
+Sound v xs (Read q) = let r : Spoken = record { verb = v; args = rebuilt (kinds_of v) 0 xs } in query_spoken q ≡ r
 
 sound : (v : Verb) (xs : List Arg) → Sound v xs (asked_of v xs [])
 unfolding Sound rebuilt from_kind
@@ -135,31 +138,42 @@ sound verbs.Store xs = refl
 sound verbs.GateEnter xs = refl
 sound verbs.DevSend xs = refl
 sound verbs.DevRecv xs = refl
-sound verbs.SelfGet xs = tt
-sound verbs.ObjLabel xs = tt
-sound verbs.ObjQuota xs = tt
-sound verbs.ContainerList xs = tt
-sound verbs.ContainerParent xs = tt
-sound verbs.SegmentLen xs = tt
-sound verbs.SegmentRead xs = tt
-sound verbs.MetaGet xs = tt
-sound verbs.AsGet xs = tt
-sound verbs.Load xs = tt
+sound verbs.SelfGet xs = refl
+sound verbs.ObjLabel xs = refl
+sound verbs.ObjQuota xs = refl
+sound verbs.ContainerList xs = refl
+sound verbs.ContainerParent xs = refl
+sound verbs.SegmentLen xs = refl
+sound verbs.SegmentRead xs = refl
+sound verbs.MetaGet xs = refl
+sound verbs.AsGet xs = refl
+sound verbs.Load xs = refl
 
 sound_write : (v : Verb) (xs : List Arg) (a : Asked) (c : Call) → a ≡ Write c → Sound v xs a → spoken_of c ≡ (let r : Spoken = record { verb = v; args = rebuilt (kinds_of v) 0 xs } in r)
 unfolding Sound
 sound_write v xs a c e h = subst (Sound v xs) e h
 
-answered : (o : Option (List ℕ)) (a : Asked) (c : Call) → or_unbound o a ≡ Ok (Write c) → (o ≡ None) × (a ≡ Write c)
-answered None a c e = (refl, cc)
-answered (Some n) a c e = cc
+sound_read : (v : Verb) (xs : List Arg) (a : Asked) (q : Query) → a ≡ Read q → Sound v xs a → query_spoken q ≡ (let r : Spoken = record { verb = v; args = rebuilt (kinds_of v) 0 xs } in r)
+unfolding Sound
+sound_read v xs a q e h = subst (Sound v xs) e h
+
+bound : (o : Option (List ℕ)) (a b : Asked) → or_unbound o a ≡ Ok b → (o ≡ None) × (a ≡ b)
+bound None a b e = (refl, cc)
+bound (Some n) a b e = cc
 
 -- what asks a write call spells it
 spoken_again : (said : Spoken) (c : Call) → IsSpoken said → resolved said [] ≡ Ok (Write c) → spoken_of c ≡ said
 spoken_again said c is e =
-    let h = answered (first_unbound said.args []) (asked_of said.verb said.args []) c e in
+    let h = bound (first_unbound said.args []) (asked_of said.verb said.args []) (Write c) e in
     let built = rebuilt_from (kinds_of said.verb) [] said.args 0 refl is h.0 in
     sound_write said.verb said.args _ c h.1 (sound said.verb said.args) ∙ ap (λ (xs : List Arg). let r : Spoken = record { verb = said.verb; args = xs } in r) built
+
+-- what asks a query spells it
+query_again : (said : Spoken) (q : Query) → IsSpoken said → resolved said [] ≡ Ok (Read q) → query_spoken q ≡ said
+query_again said q is e =
+    let h = bound (first_unbound said.args []) (asked_of said.verb said.args []) (Read q) e in
+    let built = rebuilt_from (kinds_of said.verb) [] said.args 0 refl is h.0 in
+    sound_read said.verb said.args _ q h.1 (sound said.verb said.args) ∙ ap (λ (xs : List Arg). let r : Spoken = record { verb = said.verb; args = xs } in r) built
 
 -- what spells a write call asks it
 resolves : (c : Call) → resolved (spoken_of c) [] ≡ Ok (Write c)
@@ -209,3 +223,38 @@ pub call_is_one : (a b : Call) → IsCall a → IsCall b → call_text a ≡ cal
 call_is_one a b ia ib e =
     let same : spoken_of a ≡ spoken_of b = spoken_is_one (spoken_of a) (spoken_of b) ia ib e in
     let k : Ok (Write a) ≡ Ok (Write b) = sym (resolves a) ∙ ap (λ (r : Spoken). resolved r []) same ∙ resolves b in cc
+
+-- what spells a query asks it
+asks : (q : Query) → resolved (query_spoken q) [] ≡ Ok (Read q)
+asks queries.SelfGet = refl
+asks (queries.ObjLabel e) = refl
+asks (queries.ObjQuota e) = refl
+asks (queries.ContainerList d n) = refl
+asks (queries.ContainerParent d) = refl
+asks (queries.SegmentLen e) = refl
+asks (queries.SegmentRead e a n) = refl
+asks (queries.MetaGet e) = refl
+asks (queries.AsGet e n) = refl
+asks (queries.Load p n) = refl
+
+-- what is read of a spoken query that the text spells
+pub query_reads : (text : List ℕ) (said : Spoken) → IsSpoken said → text ≡ spoken_text said → Reads query_text IsQuery text (query_of (resolved said []))
+query_reads text said is e = go (resolved said []) refl
+  where
+    not_this : (v : Query) → IsQuery v → text ≡ query_text v → resolved said [] ≡ Ok (Read v)
+    not_this v iv t =
+        let same : said ≡ query_spoken v = spoken_is_one said (query_spoken v) is iv (sym e ∙ t) in
+        ap (λ (r : Spoken). resolved r []) same ∙ asks v
+
+    go : (r : Result Asked (List ℕ)) → resolved said [] ≡ r → Reads query_text IsQuery text (query_of r)
+    go (Ok (Write c)) h = λ v iv t. let k = not_this v iv t in absurd cc
+    go (Ok (Read q)) h =
+        let same = query_again said q is h in
+        (subst IsSpoken (sym same) is, e ∙ ap spoken_text (sym same))
+    go (Err n) h = λ v iv t. let k = not_this v iv t in absurd cc
+
+-- no two queries have one spelling
+pub query_is_one : (a b : Query) → IsQuery a → IsQuery b → query_text a ≡ query_text b → a ≡ b
+query_is_one a b ia ib e =
+    let same : query_spoken a ≡ query_spoken b = spoken_is_one (query_spoken a) (query_spoken b) ia ib e in
+    let k : Ok (Read a) ≡ Ok (Read b) = sym (asks a) ∙ ap (λ (r : Spoken). resolved r []) same ∙ asks b in cc

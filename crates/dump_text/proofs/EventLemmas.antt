@@ -9,6 +9,7 @@ use Rattle.base.specs.declared.levels.Level.TheVariants.{Star, L0, L1, L2, L3}
 use Rattle.base.specs.declared.sets.TypeSet.{TypeSet}
 use Rattle.base.specs.declared.sets.Rights.{Rights}
 use Rattle.kernel_rules.specs.declared.calls.Call.{Call}
+use Rattle.kernel_rules.specs.declared.calls.Query.{Query}
 use Rattle.text_words.specs.Lacks.{lacks, AllLack}
 use Rattle.text_words.specs.Label.{LabelValue, label_text, IsLabel, pair_text, IsPair}
 use Rattle.text_words.specs.LevelWord.{level_text}
@@ -38,6 +39,7 @@ use Rattle.text_words.proofs.PartLemmas.{not_in}
 use Rattle.histories.specs.declared.events.Answered.{Answered}
 use Rattle.dump_text.specs.declared.events.Single.{Single}
 use Rattle.dump_text.specs.Call.{call_text, IsCall, spoken_of}
+use Rattle.dump_text.specs.Query.{query_text, IsQuery, query_spoken}
 use Rattle.dump_text.specs.Report.{report_text}
 use Rattle.dump_text.specs.Event.{answered_text, IsAnswered, single_text, IsSingle}
 use Rattle.dump_text.proofs.CallLemmas.{call_is_one}
@@ -166,6 +168,9 @@ name_lacks_sign verbs.Load = refl
 call_lacks_sign : (c : Call) → IsCall c → lacks 61 (call_text c) ≡ true
 call_lacks_sign c is = spoken_lacks_it 61 sign_apart (λ e. omega arith) (spoken_of c) is (name_lacks_sign (spoken_of c).verb)
 
+pub query_lacks_sign : (q : Query) → IsQuery q → lacks 61 (query_text q) ≡ true
+query_lacks_sign q is = spoken_lacks_it 61 sign_apart (λ e. omega arith) (query_spoken q) is (name_lacks_sign (query_spoken q).verb)
+
 -- where the sign stands
 answer_shape : (call reply : List ℕ) → call ++ codes " => " ++ reply ≡ (call ++ 32 ∷ []) ++ 61 ∷ 62 ∷ 32 ∷ reply
 answer_shape call reply = append_assoc call (codes " => ") reply ∙ sym (append_assoc call (32 ∷ []) (61 ∷ 62 ∷ 32 ∷ reply))
@@ -187,10 +192,13 @@ pub answer_is : (text before behind call reply : List ℕ) → text ≡ before +
 answer_is text before behind call reply parts a b = parts ∙ ap₂ (λ (x y : List ℕ). x ++ 61 ∷ y) a b ∙ sym (answer_shape call reply)
 
 -- what parts them stands where it does
+pub parts_same : (rest first behind call reply : List ℕ) → lacks 61 first ≡ true → lacks 61 call ≡ true → rest ≡ first ++ codes " => " ++ behind → rest ≡ call ++ codes " => " ++ reply → (call ≡ first) × (reply ≡ behind)
+parts_same rest first behind call reply lf lc spelled parts =
+    let f = answer_first rest (first ++ 32 ∷ []) (62 ∷ 32 ∷ behind) call reply (spelled ∙ answer_shape first behind) (spaced_lacks first lf) lc parts in
+    (before_last call first 32 (sym f.0), cc)
+
 pub answer_same : (rest : List ℕ) (a : Answered) → IsAnswered a → rest ≡ answered_text a → (call reply : List ℕ) → rest ≡ call ++ codes " => " ++ reply → lacks 61 call ≡ true → (call ≡ call_text a.call) × (reply ≡ report_text a.reply)
-answer_same rest a is spelled call reply parts lack =
-    let f = answer_first rest (call_text a.call ++ 32 ∷ []) (62 ∷ 32 ∷ report_text a.reply) call reply (spelled ∙ answer_shape (call_text a.call) (report_text a.reply)) (spaced_lacks (call_text a.call) (call_lacks_sign a.call is.call)) lack parts in
-    (before_last call (call_text a.call) 32 (sym f.0), cc)
+answer_same rest a is spelled call reply parts lack = parts_same rest (call_text a.call) (report_text a.reply) call reply (call_lacks_sign a.call is.call) lack spelled parts
 
 pub no_call : (rest : List ℕ) (a : Answered) → IsAnswered a → rest ≡ answered_text a → ((call reply : List ℕ) → lacks 61 call ≡ true → rest ≡ call ++ codes " => " ++ reply → ⊥) → ⊥
 no_call rest a is at none = none (call_text a.call) (report_text a.reply) (call_lacks_sign a.call is.call) at

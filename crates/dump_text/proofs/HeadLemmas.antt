@@ -45,7 +45,7 @@ raw_is_one a b e = sym (label_again a) ∙ ap (λ (l : LabelValue). raw_of l [])
 pub apart : (m n : ℕ) → eqb m n ≡ false → m ≡ n → ⊥
 apart m n f e = let t = eq-eqb m n e in cc
 
-flag_is_one : (a b : Bool) → flag_of a ≡ flag_of b → a ≡ b
+pub flag_is_one : (a b : Bool) → flag_of a ≡ flag_of b → a ≡ b
 flag_is_one true true e = refl
 flag_is_one true false e = absurd (apart 1 0 refl e)
 flag_is_one false true e = absurd (apart 0 1 refl e)

@@ -5,8 +5,11 @@ pub mod ReportLemmas
 pub mod EventLemmas
 pub mod HeadLemmas
 pub mod StateLemmas
+pub mod ReplyLemmas
+pub mod ReadLemmas
 pub mod LineLemmas
 pub mod Joined
+pub mod Placing
 pub mod Told
 pub mod Relined
 pub mod EventLines

@@ -15,6 +15,7 @@ use Rattle.dump_text.specs.declared.line_words.Batch.{Batch}
 use Rattle.dump_text.specs.declared.lines.Line.{Line}
 use Rattle.dump_text.specs.declared.lines.Line.TheVariants as lines
 use Rattle.dump_text.specs.Event.{answered_text, single_text}
+use Rattle.dump_text.specs.Read.{read_text}
 use Rattle.dump_text.specs.Word.{args_of, spoken_label}
 use Rattle.dump_text.specs.Line.{digit_of, limits_words, batch_words, use_words, map_words, label_words, order_words, limits_kinds, batch_kinds, use_kinds, map_kinds, label_kinds, order_kinds, version_digit, line_text, IsLine}
 use Rattle.dump_text.specs.StateLine.{id_words, id_kinds}
@@ -25,6 +26,7 @@ use Rattle.dump_text.specs.declared.state_lines.StateLine.TheVariants as states
 use Rattle.dump_text.proofs.HeadLemmas.{words_lack_end, words_same, raw_is_one, apart}
 use Rattle.dump_text.proofs.StateLemmas.{mark, id_is_one, state_lacks_end, state_is_one}
 use Rattle.dump_text.proofs.Readings.{cancel}
+use Rattle.dump_text.proofs.ReadLemmas.{read_is_one, read_lacks_end}
 use Rattle.dump_text.proofs.EventLemmas.{answered_is_one, answered_lacks_end, single_is_one, single_lacks_end}
 
 line_lacks_end : (l : Line) → IsLine l → lacks 10 (line_text l) ≡ true
@@ -35,6 +37,7 @@ line_lacks_end (lines.State s) is = state_lacks_end s is
 line_lacks_end (lines.Event e) is = lacks-append 10 (codes "event ") (single_text e) refl (single_lacks_end e is)
 line_lacks_end (lines.Batch b) is = words_lack_end batch_kinds (codes "batch ") (batch_words b) (lit< tt) refl is.0
 line_lacks_end (lines.Call a) is = lacks-append 10 (codes "call ") (answered_text a) refl (answered_lacks_end a is)
+line_lacks_end (lines.Read r) is = lacks-append 10 (codes "read ") (read_text r) refl (read_lacks_end r is)
 line_lacks_end (lines.Live o) is = words_lack_end id_kinds (codes "live ") (id_words o) (lit< tt) refl is.0
 line_lacks_end (lines.Use u) is = words_lack_end use_kinds (codes "use ") (use_words u) (lit< tt) refl is.0
 line_lacks_end (lines.Map s) is = words_lack_end map_kinds (codes "map ") (map_words s) (lit< tt) refl is.0
@@ -118,6 +121,7 @@ kind (lines.State s) = 0
 kind (lines.Event e) = mark (codes "eve")
 kind (lines.Batch b) = mark (codes "bat")
 kind (lines.Call a) = mark (codes "cal")
+kind (lines.Read r) = mark (codes "rea")
 kind (lines.Live o) = mark (codes "liv")
 kind (lines.Use u) = mark (codes "use")
 kind (lines.Map s) = mark (codes "map")
@@ -139,6 +143,7 @@ kind_is (lines.State (states.Part (parts.Packet d))) = refl
 kind_is (lines.Event e) = refl
 kind_is (lines.Batch b) = refl
 kind_is (lines.Call a) = refl
+kind_is (lines.Read r) = refl
 kind_is (lines.Live o) = refl
 kind_is (lines.Use u) = refl
 kind_is (lines.Map s) = refl
@@ -160,6 +165,7 @@ line_is_one (lines.State a) (lines.State b) ia ib same = ap lines.State (state_i
 line_is_one (lines.Event a) (lines.Event b) ia ib same = ap lines.Event (single_is_one a b ia ib (cancel (codes "event ") (single_text a) (single_text b) same))
 line_is_one (lines.Batch a) (lines.Batch b) ia ib same = ap lines.Batch (batch_is_one a b (words_same batch_kinds (codes "batch ") (batch_words a) (batch_words b) (lit< tt) ia.0 ib.0 same))
 line_is_one (lines.Call a) (lines.Call b) ia ib same = ap lines.Call (answered_is_one a b ia ib (cancel (codes "call ") (answered_text a) (answered_text b) same))
+line_is_one (lines.Read a) (lines.Read b) ia ib same = ap lines.Read (read_is_one a b ia ib (cancel (codes "read ") (read_text a) (read_text b) same))
 line_is_one (lines.Live a) (lines.Live b) ia ib same = ap lines.Live (id_is_one a b (words_same id_kinds (codes "live ") (id_words a) (id_words b) (lit< tt) ia.0 ib.0 same))
 line_is_one (lines.Use a) (lines.Use b) ia ib same = ap lines.Use (use_is_one a b (words_same use_kinds (codes "use ") (use_words a) (use_words b) (lit< tt) ia.0 ib.0 same))
 line_is_one (lines.Map a) (lines.Map b) ia ib same = ap lines.Map (map_is_one a b (words_same map_kinds (codes "map ") (map_words a) (map_words b) (lit< tt) ia.0 ib.0 same))

@@ -1,5 +1,5 @@
 -- Dumps of format 1 as dumps of format 2.
-use Rattle.std.proofs.Common.{lit≤, cond, ◌≡◌, ℕ, ◌≤◌, ◌==◌, Bool, true, false, List, [], ◌∷◌, ◌++◌, Option, Some, None, refl, ap, ◌∙◌, sym, subst, arith, append_assoc}
+use Rattle.std.proofs.Common.{lit≤, cond, ◌≡◌, ℕ, ◌≤◌, nat_le, ◌==◌, Bool, true, false, List, [], ◌∷◌, ◌++◌, Option, Some, None, refl, ap, ◌∙◌, sym, subst, arith, append_assoc}
 use Rattle.std.specs.Prelude.{IsSome}
 use Rattle.std.specs.List.{flat_map, AllByRecursion}
 use Rattle.std.proofs.lemmas.Bool.{eqb-true}
@@ -22,12 +22,15 @@ use Rattle.dump_text.specs.declared.places.Place.{Place}
 use Rattle.dump_text.specs.declared.state_lines.StateLine.TheVariants as states
 use Rattle.dump_text.specs.Boot.{boot_checkpoint, migrated, first_next, FirstFormatFaultsAt}
 use Rattle.dump_text.specs.CheckpointLines.{start_lines}
-use Rattle.dump_text.specs.Dump.{format_of, event_lines, table_lines, dump_text, comes, after, start, next, IsDump, DumpFaultsAt}
+use Rattle.dump_text.specs.Dump.{format_of, event_lines, history_lines, table_lines, dump_text, comes, after_event, after, start, next, IsDump, DumpFaultsAt}
 use Rattle.dump_text.specs.Fits.{FitsWords}
 use Rattle.dump_text.specs.Line.{line_text, IsLine}
 use Rattle.dump_text.specs.Lists.{DumpLists}
+use Rattle.dump_text.specs.Reads.{have_places}
+use Rattle.dump_text.specs.declared.tables.PlacedRead.{PlacedRead}
 use Rattle.dump_text.proofs.LabelPlaces.{all_append}
 use Rattle.dump_text.proofs.LineLemmas.{dump_grammar}
+use Rattle.dump_text.proofs.Placing.{first_unread}
 use Rattle.dump_text.proofs.Relined.{next_is}
 use Rattle.dump_text.proofs.RestorableLines.{checkpoint_fit, objects_whole, objects_paged}
 use Rattle.dump_text.proofs.Sequence.{dump_runs}
@@ -47,16 +50,21 @@ boot_restorable l range = (restorable_whole l (boot_checkpoint l)).1 (record {
 -- the dump in format 2, whose words fit
 pub migrated_is : (bytes out : List ℕ) (d : DumpLists) → IsDump bytes d → d.checkpoint ≡ None → FitsWords (migrated d) → out ≡ dump_text (migrated d) → IsDump out (migrated d)
 migrated_is bytes out d is none fits text =
-    let first = subst (λ (c : Option Checkpoint). AllByRecursion IsLine (lines.Version (format_of c) ∷ lines.Limits d.limits ∷ (start_lines c ++ (flat_map event_lines d.events ++ table_lines d.tables)) ++ lines.End ∷ [])) none is.fit in
+    let unread = first_unread d.events d.reads (subst (λ (c : Option Checkpoint). have_places c d.events d.reads ≡ true) none is.placed) in
+    let first = subst (λ (rs : List PlacedRead). AllByRecursion IsLine (lines.Version formats.One ∷ lines.Limits d.limits ∷ (history_lines d.events rs ++ table_lines d.tables) ++ lines.End ∷ [])) unread
+    (subst (λ (c : Option Checkpoint). AllByRecursion IsLine (lines.Version (format_of c) ∷ lines.Limits d.limits ∷ (start_lines c ++ (history_lines d.events d.reads ++ table_lines d.tables)) ++ lines.End ∷ [])) none is.spelled.fit) in
     let can = boot_restorable d.limits first.1.0.1 in
     let rest : AllByRecursion IsLine (start_lines (migrated d).checkpoint ++ ((flat_map event_lines d.events ++ table_lines d.tables) ++ lines.End ∷ [])) =
     all_append IsLine (start_lines (migrated d).checkpoint) ((flat_map event_lines d.events ++ table_lines d.tables) ++ lines.End ∷ []) (checkpoint_fit d.limits (boot_checkpoint d.limits) can fits.start) first.1.1 in
     record {
-      fit = (tt, (first.1.0, subst (λ (ls : List Line). AllByRecursion IsLine ls) (sym (append_assoc (start_lines (migrated d).checkpoint) (flat_map event_lines d.events ++ table_lines d.tables) (lines.End ∷ []))) rest));
-      state = record { first = 13; pending = pendings.Nothing };
-      ran = dump_runs (migrated d) (objects_paged (boot_checkpoint d.limits).objects (objects_whole d.limits (boot_checkpoint d.limits) can));
-      ended = refl;
-      bytes_are = text;
+      spelled = record {
+        fit = (tt, (first.1.0, subst (λ (ls : List Line). AllByRecursion IsLine ls) (sym (append_assoc (start_lines (migrated d).checkpoint) (flat_map event_lines d.events ++ table_lines d.tables) (lines.End ∷ []))) rest));
+        state = record { first = 14; pending = pendings.Nothing };
+        ran = dump_runs (migrated d) (objects_paged (boot_checkpoint d.limits).objects (objects_whole d.limits (boot_checkpoint d.limits) can)) refl;
+        ended = refl;
+        bytes_are = text;
+      };
+      placed = refl;
     }
 
 -- the line that begins format 2
@@ -88,11 +96,11 @@ second_faults bytes rest is = (
 
 -- a dump that doesn't begin with it has no checkpoint
 pub no_checkpoint : (bytes : List ℕ) (d : DumpLists) → IsDump bytes d → ((rest : List ℕ) → bytes ≡ line_text second ++ 10 ∷ rest → ⊥) → d.checkpoint ≡ None
-no_checkpoint bytes d is other = of d.checkpoint is.bytes_are
+no_checkpoint bytes d is other = of d.checkpoint is.spelled.bytes_are
   where
-    of : (c : Option Checkpoint) → bytes ≡ lines_text line_text (lines.Version (format_of c) ∷ lines.Limits d.limits ∷ (start_lines d.checkpoint ++ (flat_map event_lines d.events ++ table_lines d.tables)) ++ lines.End ∷ []) → c ≡ None
+    of : (c : Option Checkpoint) → bytes ≡ lines_text line_text (lines.Version (format_of c) ∷ lines.Limits d.limits ∷ (start_lines d.checkpoint ++ (history_lines d.events d.reads ++ table_lines d.tables)) ++ lines.End ∷ []) → c ≡ None
     of None e = refl
-    of (Some c) e = absurd (other (lines_text line_text (lines.Limits d.limits ∷ (start_lines d.checkpoint ++ (flat_map event_lines d.events ++ table_lines d.tables)) ++ lines.End ∷ [])) e)
+    of (Some c) e = absurd (other (lines_text line_text (lines.Limits d.limits ∷ (start_lines d.checkpoint ++ (history_lines d.events d.reads ++ table_lines d.tables)) ++ lines.End ∷ [])) e)
 
 same_next : (p : Place) (l : Line) → (l ≡ second → ⊥) → first_next p l ≡ next p l
 same_next p (lines.Version formats.Two) other = absurd (other refl)
@@ -104,18 +112,28 @@ some_next p (lines.Version formats.Two) h = absurd (let e : false ≡ true = h i
 some_next p (lines.Version formats.One) h = h
 some_next p l h = h
 
+event_some : (first : ℕ) → 1 ≤ after_event first
+event_some first = of (nat_le first 6)
+  where
+    of : (b : Bool) → 1 ≤ cond b 6 7
+    of true = lit≤ tt
+    of false = lit≤ tt
+
 after_some : (first : ℕ) (l : Line) → 1 ≤ after first l
 after_some first (lines.Version formats.One) = lit≤ tt
 after_some first (lines.Version formats.Two) = lit≤ tt
 after_some first (lines.Limits l) = of (first == 1)
   where
-    of : (b : Bool) → 1 ≤ cond b 6 3
+    of : (b : Bool) → 1 ≤ cond b 7 3
     of true = lit≤ tt
     of false = lit≤ tt
 after_some first (lines.State (states.Counters c)) = lit≤ tt
 after_some first (lines.State (states.Object o)) = lit≤ tt
 after_some first (lines.State (states.Part o)) = lit≤ tt
 after_some first (lines.State (states.Next o)) = lit≤ tt
+after_some first (lines.Event e) = event_some first
+after_some first (lines.Batch b) = event_some first
+after_some first (lines.Call a) = event_some first
 after_some first l = lit≤ tt
 
 -- after the first line no version comes, so the lines stand as in format 1

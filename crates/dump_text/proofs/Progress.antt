@@ -10,6 +10,7 @@ use Rattle.dump_text.specs.Lists.{DumpLists}
 use Rattle.dump_text.specs.Line.{line_text, IsLine}
 use Rattle.dump_text.specs.Dump.{next, ends, start, lines_of, dump_text, IsDump, DumpFaultsAt}
 use Rattle.dump_text.specs.Making.{Fills}
+use Rattle.dump_text.specs.Reads.{have_places}
 use Rattle.dump_text.specs.Reading.{nothing, added, Takes}
 use Rattle.dump_text.proofs.LineLemmas.{dump_grammar}
 use Rattle.dump_text.proofs.Told.{told, told_push, told_dump}
@@ -60,15 +61,18 @@ nothing_left xs rest e = ap (λ (x : List ℕ). xs ++ x) e ∙ append-nil xs
 pub progress_end : (bytes : List ℕ) (d : DumpLists) (first : Place) (count : ℕ) (rest : List ℕ) → Progress bytes d first count rest → rest ≡ [] → ends first ≡ true → IsDump bytes d
 progress_end bytes d first count rest at none e =
     let all = all_spelled at.lines first at.came.fit at.came.ran e in
-    let same : all.dump ≡ d = sym (told_dump all.dump) ∙ sym (ap (λ (vs : List Line). told vs nothing) all.is) ∙ sym at.tells in
+    let same : all.dump ≡ d = sym (told_dump all.dump all.placed) ∙ sym (ap (λ (vs : List Line). told vs nothing) all.is) ∙ sym at.tells in
     let lines_are : at.lines ≡ lines_of d = all.is ∙ ap lines_of same in
     let came = subst (λ (vs : List Line). Came line_text IsLine next start bytes vs first rest) lines_are at.came in
     record {
-      fit = came.fit;
-      state = first;
-      ran = came.ran;
-      ended = e;
-      bytes_are = came.parts ∙ nothing_left (dump_text d) rest none;
+      spelled = record {
+        fit = came.fit;
+        state = first;
+        ran = came.ran;
+        ended = e;
+        bytes_are = came.parts ∙ nothing_left (dump_text d) rest none;
+      };
+      placed = subst (λ (x : DumpLists). have_places x.checkpoint x.events x.reads ≡ true) same all.placed;
     }
 
 not_some : {S : Type 0} (o : Option S) → o ≡ None → IsSome o → ⊥

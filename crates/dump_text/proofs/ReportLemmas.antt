@@ -192,7 +192,7 @@ refusal_again refusals.IllFormed is = absurd (omega (arith, is))
 refusal_again refusals.NotFormat1 is = absurd (omega (arith, is))
 refusal_again refusals.NotClean is = absurd (omega (arith, is))
 
-refusal_is_one : (a b : Refusal) → IsKernels a → IsKernels b → refusal_text a ≡ refusal_text b → a ≡ b
+pub refusal_is_one : (a b : Refusal) → IsKernels a → IsKernels b → refusal_text a ≡ refusal_text b → a ≡ b
 refusal_is_one a b ia ib e =
     let p = refusal_first (refusal_text a) (decimal (told_as a).number) (told_as a).name b refl (number_lacks (told_as a).number (small_refusal a)) e in
     let n : (told_as a).number ≡ (told_as b).number = decimal_injective (told_as a).number (told_as b).number (small_refusal a) (small_refusal b) p.0 in
@@ -239,6 +239,9 @@ name_lacks_end refusals.IllFormed = refl
 name_lacks_end refusals.NotFormat1 = refl
 name_lacks_end refusals.NotClean = refl
 
+pub refusal_lacks_end : (r : Refusal) → lacks 10 (refusal_text r) ≡ true
+refusal_lacks_end r = lacks-append 10 (decimal (told_as r).number) (32 ∷ (told_as r).name) (decimal_lacks 10 (told_as r).number (lit< tt) (small_refusal r)) (name_lacks_end r)
+
 bare : (xs ys : List ℕ) → xs ++ [] ≡ ys ++ [] → xs ≡ ys
 bare xs ys e = sym (append-nil xs) ∙ e ∙ append-nil ys
 
@@ -249,7 +252,7 @@ report_lacks_end (replies.Category c) is = lacks-append 10 (decimal c.0) [] (dec
 report_lacks_end (replies.Object o) is = lacks-append 10 (decimal o) [] (decimal_lacks 10 o (lit< tt) is) refl
 report_lacks_end (replies.Entered p q) is = lacks-append 10 (decimal p) (32 ∷ (decimal q ++ [])) (decimal_lacks 10 p (lit< tt) is.0) (lacks-append 10 (decimal q) [] (decimal_lacks 10 q (lit< tt) is.1) refl)
 report_lacks_end (replies.Bytes d) is = lacks-append 10 (data_text d) [] (data_lacks 10 d refl is) refl
-report_lacks_end (replies.Refused r) is = lacks-append 10 (refusal_text r) [] (lacks-append 10 (decimal (told_as r).number) (32 ∷ (told_as r).name) (decimal_lacks 10 (told_as r).number (lit< tt) (small_refusal r)) (name_lacks_end r)) refl
+report_lacks_end (replies.Refused r) is = lacks-append 10 (refusal_text r) [] (refusal_lacks_end r) refl
 report_lacks_end (replies.Own l c v s p q) is = absurd is
 report_lacks_end (replies.Label l) is = absurd is
 report_lacks_end (replies.Quota a b c d) is = absurd is

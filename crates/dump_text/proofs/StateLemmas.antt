@@ -26,7 +26,7 @@ counters_are_one a b e =
 pub id_is_one : (a b : ℕ) → args_of (id_words a) ≡ args_of (id_words b) → a ≡ b
 id_is_one a b e = cc
 
-packet_is_one : (a b : List ℕ) → args_of (packet_words a) ≡ args_of (packet_words b) → a ≡ b
+pub packet_is_one : (a b : List ℕ) → args_of (packet_words a) ≡ args_of (packet_words b) → a ≡ b
 packet_is_one a b e = cc
 
 row_is_one : (a b : Row) → args_of (row_words a) ≡ args_of (row_words b) → a ≡ b

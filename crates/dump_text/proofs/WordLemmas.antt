@@ -11,7 +11,7 @@ use Rattle.spoken_calls.specs.declared.verbs.Verb.{Verb}
 use Rattle.spoken_calls.specs.Spoken.{AreArgs, IsSpoken, spoken_text}
 use Rattle.spoken_calls.specs.Verb.{name_of, kinds_of}
 use Rattle.dump_text.specs.declared.words.Word.{Word}
-use Rattle.dump_text.specs.Word.{spoken_pair, arg_of, args_of}
+use Rattle.dump_text.specs.Word.{spoken_pair, arg_of, args_of, words_text}
 use Rattle.text_words.specs.Label.{IsPair}
 use Rattle.dump_text.specs.Call.{spoken_as}
 
@@ -54,7 +54,7 @@ pub put_more : (verb : Verb) (ws vs : List Word) (out one two : List ℕ) → on
 put_more verb ws vs out one two p q = put_two out one two (spoken_text (spoken_as verb ws)) (flat_map (λ w. 32 ∷ arg_text (arg_of w)) vs) p q ∙ ap (λ (xs : List ℕ). out ++ xs) (spoken_further verb ws vs)
 
 -- words of these kinds, each in its range, are arguments of these kinds
-words_fit : (ks : List ArgKind) (ws : List Word) → map (λ w. kind_of (arg_of w)) ws ≡ ks → AllByRecursion (λ w. FitsArg (arg_of w)) ws → AreArgs ks (args_of ws)
+pub words_fit : (ks : List ArgKind) (ws : List Word) → map (λ w. kind_of (arg_of w)) ws ≡ ks → AllByRecursion (λ w. FitsArg (arg_of w)) ws → AreArgs ks (args_of ws)
 words_fit [] [] e all = tt
 words_fit [] (w ∷ ws) e all = absurd cc
 words_fit (k ∷ ks) [] e all = absurd cc
@@ -71,3 +71,11 @@ spoken_fits verb ws e all = words_fit (kinds_of verb) ws e all
 pub pairs_fit : (ps : List Pair) → AllByRecursion (λ p. IsPair (spoken_pair p)) ps → AllByRecursion IsPair (map spoken_pair ps)
 pairs_fit [] all = tt
 pairs_fit (p ∷ ps) all = (all.0, pairs_fit ps all.1)
+
+-- a first word, and then further ones
+pub put_list : (beginning : List ℕ) (w : Word) (ws : List Word) (out one two : List ℕ) → one ≡ out ++ (beginning ++ words_text (w ∷ []))
+    → two ≡ one ++ flat_map (λ v. 32 ∷ arg_text (arg_of v)) ws → two ≡ out ++ (beginning ++ words_text (w ∷ ws))
+put_list beginning w ws out one two p q =
+    put_two out one two (beginning ++ words_text (w ∷ [])) (flat_map (λ v. 32 ∷ arg_text (arg_of v)) ws) p q
+    ∙ ap (λ (xs : List ℕ). out ++ xs) (append_assoc beginning (words_text (w ∷ [])) (flat_map (λ v. 32 ∷ arg_text (arg_of v)) ws)
+    ∙ ap (λ (xs : List ℕ). beginning ++ xs) (words_after (arg_text (arg_of w)) ws))

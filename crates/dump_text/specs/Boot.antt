@@ -65,7 +65,7 @@ boot_checkpoint l = record {
 
 -- the dump of events after a boot with these limits
 unfoldable pub boot_dump : Limits → List Event → DumpLists
-boot_dump limits events = whole_dump limits (Some (boot_checkpoint limits)) events
+boot_dump limits events = whole_dump limits (Some (boot_checkpoint limits)) events []
 
 -- the limits are in range, and the bytes are the dump of a legal list of events after a boot with
 -- them
@@ -74,12 +74,13 @@ IsBootDump limits bytes =
     IsBootable limits
     × ((events : List Event) × IsLegal limits events × IsDump bytes (boot_dump limits events))
 
--- the same dump in format 2, whose events begin at the checkpoint of the boot
+-- the same dump in format 2, whose events begin at the checkpoint of the boot. Format 1 has no reads
 abbrev pub migrated : DumpLists → DumpLists
 migrated d = record {
   limits = d.limits;
   checkpoint = Some (boot_checkpoint d.limits);
   events = d.events;
+  reads = [];
   tables = d.tables;
 }
 

@@ -1,5 +1,5 @@
 -- Dumps: their lines in order, and their text.
-use Rattle.std.specs.Prelude.{ℕ, List, [], ◌∷◌, ◌++◌, map, Option, Some, None, Bool, false, true}
+use Rattle.std.specs.Prelude.{◌≡◌, ℕ, List, [], ◌∷◌, ◌++◌, map, Option, Some, None, Bool, false, true}
 use Rattle.std.specs.Prelude.{◌==◌, ◌&&◌, ◌||◌, nat_le, length, ◌-◌, ◌*◌, if◌then◌else◌}
 use Rattle.std.specs.List.{flat_map}
 use Rattle.histories.specs.Events.{Event}
@@ -22,6 +22,8 @@ use Rattle.dump_text.specs.declared.state_lines.StateLine.{StateLine}
 use Rattle.dump_text.specs.declared.state_lines.StateLine.TheVariants as states
 use Rattle.dump_text.specs.CheckpointLines.{start_lines}
 use Rattle.dump_text.specs.Lists.{TableLists, DumpLists}
+use Rattle.dump_text.specs.Reads.{read_line, in_turn, have_places}
+use Rattle.dump_text.specs.declared.tables.PlacedRead.{PlacedRead}
 use Rattle.dump_text.specs.Line.{line_text, IsLine}
 
 -- the event that a line tells whole
@@ -40,6 +42,15 @@ lines_with thread number calls =
 abbrev pub event_lines : Event → List Line
 event_lines e = lines_with e.thread e.number e.calls
 
+-- the lines of events, so many of which stand before them, and of reads, each at its place
+abbrev pub told_lines : ℕ → List Event → List PlacedRead → List Line
+told_lines place events reads = in_turn event_lines read_line place events reads
+
+-- the lines of events and of the reads among them
+abbrev pub history_lines : List Event → List PlacedRead → List Line
+history_lines events [] = flat_map event_lines events
+history_lines events (r ∷ rs) = told_lines 0 events (r ∷ rs)
+
 -- the lines of the tables
 abbrev pub table_lines : TableLists → List Line
 table_lines t =
@@ -55,7 +66,7 @@ format_of (Some c) = formats.Two
 abbrev pub lines_of : DumpLists → List Line
 lines_of d =
     lines.Version (format_of d.checkpoint) ∷ lines.Limits d.limits
-    ∷ (start_lines d.checkpoint ++ (flat_map event_lines d.events ++ table_lines d.tables))
+    ∷ (start_lines d.checkpoint ++ (history_lines d.events d.reads ++ table_lines d.tables))
     ++ lines.End ∷ []
 
 -- the bytes of a dump
@@ -74,15 +85,16 @@ abbrev pub rank_of : Line → ℕ
 rank_of (lines.Version f) = 0
 rank_of (lines.Limits l) = 2
 rank_of (lines.State s) = state_rank s
-rank_of (lines.Event e) = 6
-rank_of (lines.Batch b) = 6
-rank_of (lines.Call a) = 6
-rank_of (lines.Live id) = 7
-rank_of (lines.Use u) = 8
-rank_of (lines.Map s) = 9
-rank_of (lines.Label s) = 10
-rank_of (lines.Order o) = 11
-rank_of lines.End = 12
+rank_of (lines.Read r) = 6
+rank_of (lines.Event e) = 7
+rank_of (lines.Batch b) = 7
+rank_of (lines.Call a) = 7
+rank_of (lines.Live id) = 8
+rank_of (lines.Use u) = 9
+rank_of (lines.Map s) = 10
+rank_of (lines.Label s) = 11
+rank_of (lines.Order o) = 12
+rank_of lines.End = 13
 
 -- Whether the line may come where kinds from `first` on may. The first lines have no choice: 0 stands
 -- before the version, 1 and 2 before the limits of formats 1 and 2, of which the first has up to 512
@@ -98,13 +110,20 @@ abbrev pub after_version : Format → ℕ
 after_version formats.One = 1
 after_version formats.Two = 2
 
+-- which kinds may come after an event: reads and events in turn, where reads could come before it, and else events alone
+abbrev pub after_event : ℕ → ℕ
+after_event first = if nat_le first 6 then 6 else 7
+
 -- which kinds may come after the line: a checkpoint's counters after the limits of format 2, events
 -- after those of format 1
 abbrev pub after : ℕ → Line → ℕ
 after first (lines.Version f) = after_version f
-after first (lines.Limits l) = if first == 1 then 6 else 3
+after first (lines.Limits l) = if first == 1 then 7 else 3
 after first (lines.State (states.Counters c)) = 4
-after first lines.End = 13
+after first (lines.Event e) = after_event first
+after first (lines.Batch b) = after_event first
+after first (lines.Call a) = after_event first
+after first lines.End = 14
 after first l = rank_of l
 
 -- how many lines of a segment or of a batch have to come before any other
@@ -181,11 +200,12 @@ next p l =
 
 -- a dump ends after its last line
 abbrev pub ends : Place → Bool
-ends p = p.first == 13 && owed p.pending == 0
+ends p = p.first == 14 && owed p.pending == 0
 
--- the bytes spell this dump
-abbrev pub IsDump : List ℕ → DumpLists → Type 0
-IsDump bytes d = Spells line_text IsLine next ends start bytes (lines_of d)
+-- the bytes spell this dump, whose reads stand in order
+pub record IsDump (bytes : List ℕ) (d : DumpLists) : Type 0 where
+  pub spelled : Spells line_text IsLine next ends start bytes (lines_of d)
+  pub placed : have_places d.checkpoint d.events d.reads ≡ true
 
 -- line n is the first at which the bytes stop being the beginning of a dump
 abbrev pub DumpFaultsAt : List ℕ → ℕ → Type 0

@@ -1,7 +1,6 @@
 -- Dumps whose values fit the words that spell them, whatever the rules say of them.
 use Rattle.std.specs.Prelude.{◌<◌, ◌^◌, length}
 use Rattle.std.specs.List.{AllByRecursion}
-use Rattle.histories.specs.Events.{Event}
 use Rattle.histories.specs.declared.events.Answered.{Answered}
 use Rattle.kernel_rules.specs.declared.replies.Reply.{Reply}
 use Rattle.kernel_rules.specs.declared.replies.Reply.TheVariants as replies
@@ -9,6 +8,8 @@ use Rattle.text_words.specs.DataWord.{IsData}
 use Rattle.text_words.specs.Label.{IsLabel}
 use Rattle.dump_text.specs.Word.{spoken_label}
 use Rattle.dump_text.specs.Call.{IsCall}
+use Rattle.dump_text.specs.Dump.{history_lines}
+use Rattle.dump_text.specs.Read.{FitsRead}
 use Rattle.dump_text.specs.Allowed.{AreWords}
 use Rattle.dump_text.specs.CheckpointLines.{start_lines}
 use Rattle.dump_text.specs.Head.{HasHeadWords}
@@ -40,12 +41,6 @@ pub record FitsSingle (e : Single) : Type 0 where
   pub number : e.number < 2 ^ 64
   pub answered : FitsAnswered e.answered
 
--- the same of an event of any number of calls
-pub record FitsEvent (e : Event) : Type 0 where
-  pub thread : e.thread < 2 ^ 64
-  pub number : e.number < 2 ^ 64
-  pub calls : AllByRecursion FitsAnswered e.calls
-
 -- the values of a line of a checkpoint fit their words. Nothing is asked of how many pages a segment
 -- has, or of how many bytes metadata or a line of bytes have
 abbrev pub FitsState : StateLine → Type 0
@@ -54,13 +49,14 @@ FitsState (states.Object o) = (o.id < 2 ^ 64) × HasHeadWords o.head
 FitsState (states.Part p) = HasPartWords p
 FitsState (states.Next n) = AreWords pair_kinds (next_words n)
 
--- the values of a line of a checkpoint, of events or tables fit their words. Nothing is asked of the limits, of how
+-- the values of a line of a checkpoint, of events, reads or tables fit their words. Nothing is asked of the limits, of how
 -- many calls a batch has, of the places of labels, or of what an order says
 abbrev pub FitsLine : Line → Type 0
 FitsLine (lines.State s) = FitsState s
 FitsLine (lines.Event e) = FitsSingle e
 FitsLine (lines.Batch b) = (b.thread < 2 ^ 64) × (b.number < 2 ^ 64)
 FitsLine (lines.Call a) = FitsAnswered a
+FitsLine (lines.Read r) = FitsRead r
 FitsLine (lines.Live id) = id < 2 ^ 64
 FitsLine (lines.Use u) = AreWords use_kinds (use_words u)
 FitsLine (lines.Map s) = AreWords map_kinds (map_words s)
@@ -75,8 +71,8 @@ pub record FitTables (t : TableLists) : Type 0 where
   pub labels : AllByRecursion (λ s. FitsLine (lines.Label s)) t.labels
   pub few : length t.orders < 2 ^ 64
 
--- the checkpoint, the events and the tables fit their words
+-- the checkpoint, the events with the reads among them, and the tables fit their words
 pub record FitsWords (d : DumpLists) : Type 0 where
   pub start : AllByRecursion FitsLine (start_lines d.checkpoint)
-  pub events : AllByRecursion FitsEvent d.events
+  pub history : AllByRecursion FitsLine (history_lines d.events d.reads)
   pub tables : FitTables d.tables

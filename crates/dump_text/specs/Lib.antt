@@ -3,12 +3,16 @@ pub mod Making
 pub mod Call
 pub mod Report
 pub mod Event
+pub mod ReadReply
+pub mod Query
+pub mod Read
 pub mod Lists
 pub mod Allowed
 pub mod Head
 pub mod StateLine
 pub mod Line
 pub mod CheckpointLines
+pub mod Reads
 pub mod Dump
 pub mod Whole
 pub mod Boot

@@ -21,6 +21,7 @@ use Rattle.dump_text.specs.Word.{words_text}
 use Rattle.dump_text.specs.Allowed.{AreAllowed, Anything}
 use Rattle.dump_text.specs.StateLine.{id_words, id_kinds, state_text, IsStateLine}
 use Rattle.dump_text.specs.Event.{answered_text, IsAnswered, single_text, IsSingle}
+use Rattle.dump_text.specs.Read.{read_text, IsRead}
 
 -- a level of a label that no star is in, as a digit
 abbrev pub digit_of : Level → ℕ
@@ -100,6 +101,7 @@ line_text (lines.State s) = state_text s
 line_text (lines.Event e) = codes "event " ++ single_text e
 line_text (lines.Batch b) = codes "batch " ++ words_text (batch_words b)
 line_text (lines.Call a) = codes "call " ++ answered_text a
+line_text (lines.Read r) = codes "read " ++ read_text r
 line_text (lines.Live id) = codes "live " ++ words_text (id_words id)
 line_text (lines.Use u) = codes "use " ++ words_text (use_words u)
 line_text (lines.Map s) = codes "map " ++ words_text (map_words s)
@@ -115,6 +117,7 @@ IsLine (lines.State s) = IsStateLine s
 IsLine (lines.Event e) = IsSingle e
 IsLine (lines.Batch b) = AreAllowed batch_kinds batch_words HasSeveral b
 IsLine (lines.Call a) = IsAnswered a
+IsLine (lines.Read r) = IsRead r
 IsLine (lines.Live id) = AreAllowed id_kinds id_words Anything id
 IsLine (lines.Use u) = AreAllowed use_kinds use_words Anything u
 IsLine (lines.Map s) = AreAllowed map_kinds map_words Anything s

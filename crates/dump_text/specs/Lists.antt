@@ -5,6 +5,7 @@ use Rattle.checkpoints.specs.Checkpoint.{Checkpoint}
 use Rattle.histories.specs.Events.{Event}
 use Rattle.kernel_rules.specs.declared.tables.Used.{Used}
 use Rattle.kernel_rules.specs.declared.tables.Shown.{Shown}
+use Rattle.dump_text.specs.declared.tables.PlacedRead.{PlacedRead}
 use Rattle.dump_text.specs.declared.tables.Stored.{Stored}
 use Rattle.kernel_rules.specs.declared.tables.Compared.{Compared}
 
@@ -16,18 +17,20 @@ pub record TableLists : Type 0 where
   pub labels : List Stored
   pub orders : List Compared
 
--- the limits, the checkpoint, which format 1 has none of, the events and the tables
+-- the limits, the checkpoint, which format 1 has none of, the events, the reads among them and the tables
 pub record DumpLists : Type 0 where
   pub limits : Limits
   pub checkpoint : Option Checkpoint
   pub events : List Event
+  pub reads : List PlacedRead
   pub tables : TableLists
 
 -- the dump with these parts
-abbrev pub dump_with : Limits → Option Checkpoint → List Event → TableLists → DumpLists
-dump_with limits checkpoint events tables = record {
+abbrev pub dump_with : Limits → Option Checkpoint → List Event → List PlacedRead → TableLists → DumpLists
+dump_with limits checkpoint events reads tables = record {
   limits = limits;
   checkpoint = checkpoint;
   events = events;
+  reads = reads;
   tables = tables;
 }

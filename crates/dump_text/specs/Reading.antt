@@ -1,5 +1,5 @@
 -- What is read of a dump.
-use Rattle.std.specs.Prelude.{◌≡◌, ℕ, List, [], ◌∷◌, ◌++◌, Option, Some, None, IsSome, Result, Ok}
+use Rattle.std.specs.Prelude.{◌≡◌, ℕ, List, [], ◌∷◌, ◌++◌, length, Option, Some, None, IsSome, Result, Ok}
 use Rattle.std.specs.Prelude.{Err}
 use Rattle.base.specs.declared.levels.Level.TheVariants.{L1}
 use Rattle.histories.specs.Events.{Event}
@@ -21,6 +21,7 @@ nothing = record {
   limits = record { pages = 8; device = L1; next_id = 4; next_category = 1 };
   checkpoint = None;
   events = [];
+  reads = [];
   tables = record { live = []; uses = []; maps = []; labels = []; orders = [] };
 }
 
@@ -40,6 +41,8 @@ added (lines.Batch b) d = record d {
   events = d.events ++ record { thread = b.thread; number = b.number; calls = [] } ∷ [];
 }
 added (lines.Call a) d = record d { events = with_call a d.events }
+added (lines.Read r) d =
+    record d { reads = d.reads ++ record { place = length d.events; read = r } ∷ [] }
 added (lines.Live id) d =
     record d { tables = record d.tables { live = d.tables.live ++ id ∷ [] } }
 added (lines.Use u) d = record d { tables = record d.tables { uses = d.tables.uses ++ u ∷ [] } }

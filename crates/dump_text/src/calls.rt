@@ -46,7 +46,7 @@ fn entry_words(entry: Entry) -> [Word; 2]
 }
 
 /// Adds a verb, the entry that it names, and further words.
-fn put_on_entry(
+pub fn put_on_entry(
     out: &mut Vec<u8>,
     verb: Verb,
     entry: Entry,

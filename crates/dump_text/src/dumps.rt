@@ -10,10 +10,13 @@ use crate::events::Single;
 use crate::line_words::Batch;
 use crate::lines::{Line, read_line};
 use crate::places::{Place, START, ends, next};
-use crate::tables::{Dump, DumpTables};
+use crate::read_replies::ReadReply;
+use crate::reads::Read;
+use crate::tables::{Dump, DumpTables, PlacedRead};
 use base::{Level, Limits};
 use call_text::parted;
 use histories::{Answered, Event};
+use kernel_rules::Query;
 use std::alloc::{AllocError, Global};
 
 /// Lines of no kind, and limits that nothing told yet.
@@ -29,6 +32,7 @@ fn nothing(alloc: Global) -> Dump
         },
         checkpoint: None,
         events: Vec::new(alloc),
+        reads: Vec::new(alloc),
         tables: DumpTables {
             live: Vec::new(alloc),
             uses: Vec::new(alloc),
@@ -85,6 +89,16 @@ fn add_single(alloc: Global, events: &mut Vec<Event>, single: &Single) -> Result
     Ok(())
 }
 
+/// Adds a read, whose place is after these events.
+fn add_read(reads: &mut Vec<PlacedRead>, place: usize, read: &Read) -> Result<(), AllocError>
+    ensures { OnOk result (reads.new.items
+        ≡ reads.old.items ++ record { place = place; read = read.now } ∷ []) }
+{
+    let _named: (Option<Query>, Option<ReadReply>) = (None, None);
+    reads.push(PlacedRead { place, read: *read })?;
+    Ok(())
+}
+
 /// Adds what the line tells.
 fn add(alloc: Global, dump: &mut Dump, line: &Line) -> Result<(), AllocError>
     ensures { OnOk result (dump.new ≡ added line.now dump.old) }
@@ -98,6 +112,7 @@ fn add(alloc: Global, dump: &mut Dump, line: &Line) -> Result<(), AllocError>
         Line::Event(single) => add_single(alloc, &mut dump.events, single)?,
         Line::Batch(batch) => add_batch(alloc, &mut dump.events, batch)?,
         Line::Call(answered) => add_call(&mut dump.events, answered)?,
+        Line::Read(read) => add_read(&mut dump.reads, dump.events.len(), read)?,
         Line::Live(id) => push(&mut dump.tables.live, id)?,
         Line::Use(used) => push(&mut dump.tables.uses, used)?,
         Line::Map(shown) => push(&mut dump.tables.maps, shown)?,

@@ -38,7 +38,7 @@ fn before_space(text: &[u8]) -> Option<&[u8]>
 }
 
 /// A call without an equals sign, and after ` => ` its reply.
-fn call_and_reply(text: &[u8]) -> Option<(&[u8], &[u8])>
+pub fn call_and_reply(text: &[u8]) -> Option<(&[u8], &[u8])>
     ensures parts { IfSome result (λ r. text.now ≡ r.0.now ++ codes " => " ++ r.1.now) }
     ensures lacks { IfSome result (λ r. lacks 61 r.0.now ≡ true) }
     ensures none { IfNone result ((call reply : List ℕ) → lacks 61 call ≡ true

@@ -24,7 +24,7 @@ use spoken_calls::Arg;
 use text_words::SpokenLabel;
 
 /// What 0 and 1 tell.
-fn flag_in(number: u32) -> Option<bool>
+pub fn flag_in(number: u32) -> Option<bool>
     ensures some { IfSome result (λ flag. number ≡ flag_of flag) }
     ensures none { IfNone result ((flag : Bool) → number ≡ flag_of flag → ⊥) }
 {

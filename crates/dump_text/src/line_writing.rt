@@ -7,6 +7,7 @@ ghost use Rattle.dump_text.specs.Fits.{FitsLine};
 
 use crate::events::{put_answered, put_single};
 use crate::lines::{AsLine, Format, Line};
+use crate::reads::put_read;
 use crate::state_writing::put_state_words;
 use crate::words::{Word, put_words};
 use base::{Level, NoMemory};
@@ -64,6 +65,10 @@ fn put_line_words(out: &mut Vec<u8>, line: &Line) -> Result<(), NoMemory>
         Line::Call(answered) => {
             out.extend_from_slice(b"call ")?;
             put_answered(out, &answered)?;
+        }
+        Line::Read(read) => {
+            out.extend_from_slice(b"read ")?;
+            put_read(out, &read)?;
         }
         Line::Live(id) => put_words(out, b"live ", &Word::Wide(id.number()), &[])?,
         Line::Use(used) => {

@@ -3,15 +3,19 @@ ghost use Rattle.std.specs.Prelude.{◌≡◌, ◌++◌, codes, IfOk};
 ghost use Rattle.dump_text.specs.Making.{Fills};
 ghost use Rattle.dump_text.specs.Event.{answered_text, IsAnswered, single_text, IsSingle};
 ghost use Rattle.dump_text.specs.Line.{line_text, IsLine};
+ghost use Rattle.dump_text.specs.Read.{read_text, IsRead};
+ghost use Rattle.dump_text.specs.Reads.{read_line};
+ghost use Rattle.text_words.specs.Reading.{Reads};
 ghost use Rattle.dump_text.specs.CheckpointLines.{slot_line, packet_line, next_line};
 ghost use Rattle.dump_text.specs.declared.lines.Line.TheVariants as told;
 
 use crate::events::{Single, read_answered, read_single};
 use crate::line_words::{Batch, read_worded};
+use crate::reads::{Read, read_read};
 use crate::state_lines::{Part, StateLine};
 use crate::state_reading::read_state_line;
 use crate::stripping::after;
-use crate::tables::Stored;
+use crate::tables::{PlacedRead, Stored};
 use base::{Data, Limits, ObjectId};
 use checkpoints::{FilledSlot, NextNumber};
 use histories::Answered;
@@ -44,6 +48,8 @@ pub enum Line {
     Batch(Batch),
     /// One of these calls.
     Call(Answered),
+    /// A query, and what it was answered.
+    Read(Read),
     /// A live id.
     Live(ObjectId),
     Use(Used),
@@ -72,6 +78,14 @@ impl AsLine for Answered {
 
     fn as_line(&self) -> Line {
         Line::Call(*self)
+    }
+}
+
+impl AsLine for PlacedRead {
+    ghost line = { read_line };
+
+    fn as_line(&self) -> Line {
+        Line::Read(self.read)
     }
 }
 
@@ -178,6 +192,16 @@ fn read_call_line(alloc: Global, text: &[u8], answered: &mut Answered) -> Result
     read_answered(alloc, rest, answered)
 }
 
+/// A query and its reply, as `read` and their words.
+fn read_read_line(alloc: Global, text: &[u8]) -> Result<Option<Read>, AllocError>
+    ensures { IfOk result (λ found. Reads (λ r. codes "read " ++ read_text r) IsRead text.now found) }
+{
+    let Some(rest) = after(text, b"read ") else {
+        return Ok(None);
+    };
+    read_read(alloc, rest)
+}
+
 /// Fills in the line that the bytes before a line's end spell, and tells whether they spell one.
 pub fn read_line(alloc: Global, text: &[u8], line: &mut Line) -> Result<bool, AllocError>
     ensures { IfOk result (λ yes. Fills line_text IsLine text.now line.new yes) }
@@ -260,6 +284,10 @@ pub fn read_line(alloc: Global, text: &[u8], line: &mut Line) -> Result<bool, Al
         &[ArgKind::Wide, ArgKind::Wide, ArgKind::Number],
     )? {
         *line = Line::Batch(batch);
+        return Ok(true);
+    }
+    if let Some(read) = read_read_line(alloc, text)? {
+        *line = Line::Read(read);
         return Ok(true);
     }
     let mut answered = no_answer();

@@ -162,6 +162,7 @@ fn begun_at_boot(alloc: Global, dump: Dump) -> Result<Dump, NoMemory>
         limits: dump.limits,
         checkpoint: Some(checkpoint),
         events: dump.events,
+        reads: Vec::new(alloc),
         tables: dump.tables,
     })
 }

@@ -2,9 +2,9 @@
 ghost use Rattle.std.specs.Prelude.{◌≡◌};
 ghost use Rattle.dump_text.specs.Head.{IsHead};
 ghost use Rattle.dump_text.specs.Line.{IsLine};
-ghost use Rattle.dump_text.specs.Dump.{state_rank, rank_of, comes, after_version, after, next};
+ghost use Rattle.dump_text.specs.Dump.{state_rank, rank_of, comes, after_version, after_event, after};
 ghost use Rattle.dump_text.specs.Dump.{rows_owed, calls_owed, owed, takes, is_due, opened_by};
-ghost use Rattle.dump_text.specs.Dump.{pending_after_part, pending_after, start, ends};
+ghost use Rattle.dump_text.specs.Dump.{pending_after_part, pending_after, next, start, ends};
 
 use crate::heads::Head;
 use crate::lines::{Format, Line};
@@ -61,15 +61,16 @@ fn rank_of(line: &Line) -> u8
         Line::Version(_) => 0,
         Line::Limits(_) => 2,
         Line::State(line) => state_rank(line),
-        Line::Event(_) => 6,
-        Line::Batch(_) => 6,
-        Line::Call(_) => 6,
-        Line::Live(_) => 7,
-        Line::Use(_) => 8,
-        Line::Map(_) => 9,
-        Line::Label(_) => 10,
-        Line::Order(_) => 11,
-        Line::End => 12,
+        Line::Read(_) => 6,
+        Line::Event(_) => 7,
+        Line::Batch(_) => 7,
+        Line::Call(_) => 7,
+        Line::Live(_) => 8,
+        Line::Use(_) => 9,
+        Line::Map(_) => 10,
+        Line::Label(_) => 11,
+        Line::Order(_) => 12,
+        Line::End => 13,
     }
 }
 
@@ -95,15 +96,25 @@ fn after_version(format: Format) -> u8
     }
 }
 
+/// The first kind that may come after an event: a read, where one could come before it.
+fn after_event(first: u8) -> u8
+    ensures { result ≡ after_event first }
+{
+    if first <= 6 { 6 } else { 7 }
+}
+
 /// The first kind that may come after the line.
 fn after(first: u8, line: &Line) -> u8
     ensures { result ≡ after first line.now }
 {
     match line {
         Line::Version(format) => after_version(*format),
-        Line::Limits(_) => if first == 1 { 6 } else { 3 },
+        Line::Limits(_) => if first == 1 { 7 } else { 3 },
         Line::State(StateLine::Counters(_)) => 4,
-        Line::End => 13,
+        Line::Event(_) => after_event(first),
+        Line::Batch(_) => after_event(first),
+        Line::Call(_) => after_event(first),
+        Line::End => 14,
         _ => rank_of(line),
     }
 }
@@ -223,5 +234,5 @@ pub fn next(place: Place, line: &Line) -> Option<Place>
 pub fn ends(place: Place) -> bool
     ensures { result ≡ ends place }
 {
-    place.first == 13 && owed(place.pending) == 0
+    place.first == 14 && owed(place.pending) == 0
 }

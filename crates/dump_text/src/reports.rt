@@ -117,7 +117,7 @@ fn read_bytes(text: &[u8]) -> Option<Data>
 }
 
 /// Why a kernel refused.
-fn read_refused(text: &[u8]) -> Option<Refusal>
+pub fn read_refused(text: &[u8]) -> Option<Refusal>
     ensures { Reads (λ r. codes "refused " ++ refusal_text r) IsKernels text.now result }
 {
     let Some(words) = after(text, b"refused ") else {

@@ -12,7 +12,7 @@ use base::NoMemory;
 use text_words::put_number;
 
 /// 1 for yes.
-fn flag_of(flag: bool) -> u32
+pub fn flag_of(flag: bool) -> u32
     ensures { result ≡ flag_of flag }
 {
     if flag { 1 } else { 0 }

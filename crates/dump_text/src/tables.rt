@@ -1,5 +1,6 @@
 //! A dump as a value.
 
+use crate::reads::Read;
 use base::{Limits, ObjectId};
 use checkpoints::Checkpoint;
 use histories::Event;
@@ -45,7 +46,17 @@ impl Model for DumpTables {
     } };
 }
 
-/// What a run was booted with, where its events begin, the events, and the tables at the end. A contract sees the lists.
+/// A read with its place among the events.
+#[derive(Clone, Copy)]
+pub struct PlacedRead {
+    /// How many of the dump's events stand before it.
+    pub place: usize,
+    /// The read.
+    pub read: Read,
+}
+
+/// What a run was booted with, where its events begin, the events, the reads among them, and the tables at the end. A contract
+/// sees the lists.
 #[derive(Drop)]
 pub struct Dump {
     /// What the run was booted with.
@@ -54,6 +65,8 @@ pub struct Dump {
     pub checkpoint: Option<Checkpoint>,
     /// The events, the oldest first.
     pub events: Vec<Event>,
+    /// The reads, in the order of their places, of which none is past the last event. Format 1 has none.
+    pub reads: Vec<PlacedRead>,
     /// The tables at the end.
     pub tables: DumpTables,
 }
@@ -67,6 +80,7 @@ impl Model for Dump {
       limits = d.limits;
       checkpoint = d.checkpoint;
       events = d.events.items;
+      reads = d.reads.items;
       tables = d.tables;
     } };
 }

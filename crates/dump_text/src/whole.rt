@@ -1,4 +1,4 @@
-//! The dump of a list of events.
+//! The dump of a list of events, and of reads among them.
 ghost use Rattle.std.specs.Prelude.{◌≡◌, ◌<◌, ◌+◌, ◌^◌, ◌++◌, IfOk, OnOk, length};
 ghost use Rattle.dump_text.specs.Lists.{dump_with};
 ghost use Rattle.dump_text.specs.Dump.{dump_text};
@@ -7,7 +7,7 @@ ghost use Rattle.dump_text.specs.Whole.{placed_from, placed, start_with, whole_d
 ghost use Rattle.histories.specs.History.{state_from};
 ghost use Rattle.kernel_rules.specs.Scratch.{scratch};
 
-use crate::tables::{Dump, DumpTables, Stored};
+use crate::tables::{Dump, DumpTables, PlacedRead, Stored};
 use crate::writing::write_dump;
 use base::{Limits, NoMemory};
 use checkpoints::Checkpoint;
@@ -33,17 +33,18 @@ fn place(out: &mut Vec<Stored>, first: usize, labels: &[RawLabel]) -> Result<(),
     }
 }
 
-/// A dump with these limits, this checkpoint, these events, and the tables of a kernel, each label with its place. Want of memory is the
-/// only error.
+/// A dump with these limits, this checkpoint, these events, these reads among them, and the tables of a kernel, each label with
+/// its place. Want of memory is the only error.
 pub fn dump_with(
     alloc: Global,
     limits: &Limits,
     checkpoint: Option<Checkpoint>,
     events: Vec<Event>,
+    reads: Vec<PlacedRead>,
     tables: Kept,
 ) -> Result<Dump, NoMemory>
     ensures { IfOk result (λ dump. dump
-        ≡ dump_with limits.now checkpoint events.items (placed tables)) }
+        ≡ dump_with limits.now checkpoint events.items reads.items (placed tables)) }
 {
     let mut labels = Vec::new(alloc);
     place(&mut labels, 0, tables.labels.as_slice())?;
@@ -51,6 +52,7 @@ pub fn dump_with(
         limits: *limits,
         checkpoint,
         events,
+        reads,
         tables: DumpTables {
             live: tables.live,
             uses: tables.uses,
@@ -62,20 +64,22 @@ pub fn dump_with(
 }
 
 /// The text of the dump of events that begin at the checkpoint, or at a boot with these limits where there is none, with the
-/// tables of the state that they lead to. Want of memory is the only error.
+/// reads among them and the tables of the state that they lead to. Want of memory is the only error.
 pub fn dump_of(
     alloc: Global,
     limits: &Limits,
     checkpoint: Option<Checkpoint>,
     events: Vec<Event>,
+    reads: Vec<PlacedRead>,
     tables: Kept,
 ) -> Result<Vec<u8>, NoMemory>
     requires { tables ≡ scratch (state_from (start_with limits.now checkpoint).state events.items) }
     ensures text { IfOk result (λ text. text.items
-        ≡ dump_text (whole_dump limits.now checkpoint events.items)) }
-    ensures fits { OnOk result (FitsWords (whole_dump limits.now checkpoint events.items)) }
+        ≡ dump_text (whole_dump limits.now checkpoint events.items reads.items)) }
+    ensures fits { OnOk result
+        (FitsWords (whole_dump limits.now checkpoint events.items reads.items)) }
 {
-    let dump = dump_with(alloc, limits, checkpoint, events, tables)?;
+    let dump = dump_with(alloc, limits, checkpoint, events, reads, tables)?;
     let text = write_dump(alloc, &dump)?;
     Ok(text)
 }

@@ -1,18 +1,19 @@
 //! Writing dumps.
 ghost use Rattle.std.specs.Prelude.{◌≡◌, ◌++◌, IfOk, OnOk};
-ghost use Rattle.std.specs.List.{AllByRecursion, flat_map};
+ghost use Rattle.std.specs.List.{AllByRecursion};
 ghost use Rattle.call_text.specs.Text.{lines_text};
 ghost use Rattle.dump_text.specs.Line.{line_text};
-ghost use Rattle.dump_text.specs.Dump.{event_lines, table_lines, dump_text, format_of};
+ghost use Rattle.dump_text.specs.Dump.{event_lines, history_lines, table_lines, dump_text, format_of};
 ghost use Rattle.dump_text.specs.Lists.{dump_with};
-ghost use Rattle.dump_text.specs.Fits.{FitsEvent, FitTables, FitsWords};
+ghost use Rattle.dump_text.specs.Fits.{FitsLine, FitTables, FitsWords};
 
 use crate::checkpoint_writing::put_start;
 use crate::events::Single;
 use crate::line_words::Batch;
 use crate::line_writing::{put_each, put_line};
 use crate::lines::{Format, Line};
-use crate::tables::{Dump, DumpTables};
+use crate::parting::part_reads;
+use crate::tables::{Dump, DumpTables, PlacedRead};
 use base::{Limits, NoMemory};
 use checkpoints::Checkpoint;
 use histories::Event;
@@ -22,7 +23,7 @@ use std::alloc::Global;
 fn put_event(out: &mut Vec<u8>, event: &Event) -> Result<(), NoMemory>
     ensures text { OnOk result (out.new.items
         ≡ out.old.items ++ lines_text line_text (event_lines event.now)) }
-    ensures fits { OnOk result (FitsEvent event.now) }
+    ensures fits { OnOk result (AllByRecursion FitsLine (event_lines event.now)) }
 {
     if let [answered] = event.calls.as_slice() {
         let single = Single {
@@ -41,15 +42,21 @@ fn put_event(out: &mut Vec<u8>, event: &Event) -> Result<(), NoMemory>
     put_each(out, event.calls.as_slice())
 }
 
-/// Adds the lines of the events.
-fn put_events(out: &mut Vec<u8>, events: &[Event]) -> Result<(), NoMemory>
+/// Adds the lines of the events and of the reads among them.
+fn put_history(out: &mut Vec<u8>, events: &[Event], reads: &[PlacedRead]) -> Result<(), NoMemory>
     ensures text { OnOk result (out.new.items
-        ≡ out.old.items ++ lines_text line_text (flat_map event_lines events.now)) }
-    ensures fits { OnOk result (AllByRecursion FitsEvent events.now) }
+        ≡ out.old.items ++ lines_text line_text (history_lines events.now reads.now)) }
+    ensures fits { OnOk result (AllByRecursion FitsLine (history_lines events.now reads.now)) }
 {
-    for event in events {
-        put_event(out, event)?;
+    let mut rest = reads;
+    for place in 0..events.len() {
+        let (here, past) = part_reads(place, rest);
+        put_each(out, here)?;
+        put_event(out, &events[place])?;
+        rest = past;
     }
+    let (here, _) = part_reads(events.len(), rest);
+    put_each(out, here)?;
     Ok(())
 }
 
@@ -83,17 +90,18 @@ fn put_dump(
     limits: &Limits,
     checkpoint: &Option<Checkpoint>,
     events: &[Event],
+    reads: &[PlacedRead],
     tables: &DumpTables,
 ) -> Result<(), NoMemory>
-    ensures text { OnOk result (out.new.items
-        ≡ out.old.items ++ dump_text (dump_with limits.now checkpoint.now events.now tables.now)) }
+    ensures text { OnOk result (out.new.items ≡ out.old.items
+        ++ dump_text (dump_with limits.now checkpoint.now events.now reads.now tables.now)) }
     ensures fits { OnOk result
-        (FitsWords (dump_with limits.now checkpoint.now events.now tables.now)) }
+        (FitsWords (dump_with limits.now checkpoint.now events.now reads.now tables.now)) }
 {
     put_line(out, &Line::Version(format_of(checkpoint)))?;
     put_line(out, &Line::Limits(*limits))?;
     put_start(out, checkpoint)?;
-    put_events(out, events)?;
+    put_history(out, events, reads)?;
     put_tables(out, tables)?;
     put_line(out, &Line::End)?;
     Ok(())
@@ -105,12 +113,12 @@ pub fn write_dump(alloc: Global, dump: &Dump) -> Result<Vec<u8>, NoMemory>
     ensures fits { OnOk result (FitsWords dump.now) }
 {
     let mut out = Vec::new(alloc);
-    let events = dump.events.as_slice();
     put_dump(
         &mut out,
         &dump.limits,
         &dump.checkpoint,
-        events,
+        dump.events.as_slice(),
+        dump.reads.as_slice(),
         &dump.tables,
     )?;
     Ok(out)

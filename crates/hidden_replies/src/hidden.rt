@@ -27,6 +27,7 @@ fn told_in(alloc: Global, dump: Dump, label: &Label) -> Result<Option<Vec<Differ
         limits,
         checkpoint,
         events,
+        reads: _,
         tables: _,
     } = dump;
     let Some(whole) = begin(alloc, &limits, &checkpoint)? else {

@@ -146,7 +146,7 @@ fn dump_of(alloc: Global, calls: &[(ObjectId, Call)]) -> Result<Vec<u8>, NoMemor
         events.push(event(alloc, &mut kernel, number, asked, &mut meter)?)?;
     }
     let tables = kernel.tables(&mut meter)?;
-    let dump = dump_with(alloc, &LIMITS, None, events, tables)?;
+    let dump = dump_with(alloc, &LIMITS, None, events, Vec::new(alloc), tables)?;
     Ok(write_dump(alloc, &dump)?)
 }
 

@@ -94,5 +94,12 @@ pub(crate) fn text_of(log: &EventLog, limits: &Limits, tables: Tables) -> Result
 {
     let events = events_of(log.alloc, log.events.as_slice())?;
     let checkpoint = boot_checkpoint(log.alloc, limits)?;
-    dump_of(log.alloc, limits, Some(checkpoint), events, tables)
+    dump_of(
+        log.alloc,
+        limits,
+        Some(checkpoint),
+        events,
+        Vec::new(log.alloc),
+        tables,
+    )
 }

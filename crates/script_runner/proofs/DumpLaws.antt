@@ -12,7 +12,10 @@ use Rattle.checkpoints.specs.Starts.{start_of, IsCheckpointOf}
 use Rattle.dump_text.specs.Dump.{dump_text, IsDump}
 use Rattle.dump_text.specs.Fits.{FitsWords}
 use Rattle.dump_text.specs.Line.{IsBootable}
-use Rattle.dump_text.specs.Whole.{CanBegin, start_with, whole_dump}
+use Rattle.dump_text.specs.Reads.{have_places}
+use Rattle.dump_text.specs.Whole.{CanBegin, IsAnsweredRightly, start_with, whole_dump}
+use Rattle.dump_text.specs.declared.tables.PlacedRead.{PlacedRead}
+use Rattle.std.specs.List.{AllByRecursion}
 use Rattle.histories.proofs.BatchLaws.{state_after-append}
 use Rattle.histories.specs.Events.{Event, by, calls_in}
 use Rattle.histories.specs.History.{IsLegal, IsLegalFrom, calls_of, state_from, state_of}
@@ -59,32 +62,44 @@ folds limits n events b is = ap (λ (v : Bool). if v then n else 0) is
 pub run_dump : LaterAreLegal → (limits : Limits) (n k : ℕ) (events : List Event) (tables : TableLists) (c : Checkpoint)
     (bytes : List ℕ) → IsPlayed limits events tables → folded limits n events ≡ k
     → IsCheckpointOf limits (take k events) c → is_restorable limits c ≡ true
-    → IsDump bytes (whole_dump limits (Some c) (drop k events)) → IsRunDump limits n bytes
+    → IsDump bytes (whole_dump limits (Some c) (drop k events) []) → IsRunDump limits n bytes
 run_dump law limits n k events tables c bytes played k_is made can told = record {
   events = events;
   checkpoint = c;
   legal = played.1.0;
   made = subst (λ (j : ℕ). IsCheckpointOf limits (take j events) c) (sym k_is) made;
-  told = subst (λ (j : ℕ). IsDump bytes (whole_dump limits (Some c) (drop j events))) (sym k_is) told;
-  dump = (played.0, can, (drop k events, later_legal law limits events k c made played.1.0, told));
+  told = subst (λ (j : ℕ). IsDump bytes (whole_dump limits (Some c) (drop j events) [])) (sym k_is) told;
+  dump = (
+    played.0,
+    can,
+    (
+      drop k events,
+      [],
+      later_legal law limits events k c made played.1.0,
+      record { answers = tt; rising = refl },
+      told,
+    ),
+  );
 }
 
--- that the dump of legal events is a dump, where its values fit their words
+-- that the dump of legal events, and of reads that the rules answer so, is a dump, where its values fit their words
 abbrev pub LegalIsDump : Type 0
-LegalIsDump = (limits : Limits) (c : Option Checkpoint) (events : List Event) → IsBootable limits → CanBegin limits c
-    → IsLegalFrom (start_with limits c) events → FitsWords (whole_dump limits c events)
-    → IsDump (dump_text (whole_dump limits c events)) (whole_dump limits c events)
+LegalIsDump = (limits : Limits) (c : Option Checkpoint) (events : List Event) (reads : List PlacedRead) → IsBootable limits
+    → CanBegin limits c → IsLegalFrom (start_with limits c) events
+    → AllByRecursion (IsAnsweredRightly (start_with limits c) events) reads → have_places c events reads ≡ true
+    → FitsWords (whole_dump limits c events reads)
+    → IsDump (dump_text (whole_dump limits c events reads)) (whole_dump limits c events reads)
 
 -- what is written of these events is their dump
 pub dumped : LegalIsDump → (limits : Limits) (c : Checkpoint) (events told : List Event) (bytes : List ℕ)
     → IsBootable limits → is_restorable limits c ≡ true → IsLegalFrom (start_of limits c) events → told ≡ events
-    → bytes ≡ dump_text (whole_dump limits (Some c) told) → FitsWords (whole_dump limits (Some c) told)
-    → IsDump bytes (whole_dump limits (Some c) events)
+    → bytes ≡ dump_text (whole_dump limits (Some c) told []) → FitsWords (whole_dump limits (Some c) told [])
+    → IsDump bytes (whole_dump limits (Some c) events [])
 dumped law limits c events told bytes bootable can legal told_are bytes_are fits =
-    subst (λ (l : List Event). IsDump bytes (whole_dump limits (Some c) l)) told_are
-    (subst (λ (b : List ℕ). IsDump b (whole_dump limits (Some c) told)) (sym bytes_are)
-    (law limits (Some c) told bootable can
-    (subst (λ (l : List Event). IsLegalFrom (start_of limits c) l) (sym told_are) legal) fits))
+    subst (λ (l : List Event). IsDump bytes (whole_dump limits (Some c) l [])) told_are
+    (subst (λ (b : List ℕ). IsDump b (whole_dump limits (Some c) told [])) (sym bytes_are)
+    (law limits (Some c) told [] bootable can
+    (subst (λ (l : List Event). IsLegalFrom (start_of limits c) l) (sym told_are) legal) tt refl fits))
 
 pub made_is : (limits : Limits) (o : Option Checkpoint) (c : Checkpoint) (slice events : List Event)
     → IfSome o (IsCheckpointOf limits slice) → o ≡ Some c → slice ≡ events → IsCheckpointOf limits events c

@@ -36,7 +36,7 @@ pub record IsRunDump (limits : Limits) (n : ℕ) (bytes : List ℕ) : Type 0 whe
   pub checkpoint : Checkpoint
   pub legal : IsLegal limits events
   pub made : IsCheckpointOf limits (take (folded limits n events) events) checkpoint
-  pub told : IsDump bytes (whole_dump limits (Some checkpoint) (drop (folded limits n events) events))
+  pub told : IsDump bytes (whole_dump limits (Some checkpoint) (drop (folded limits n events) events) [])
   pub dump : IsLegalDump limits (Some checkpoint) bytes
 
 -- the bytes of a run's file: the dump of a legal journal where one is asked for, with the checkpoint of

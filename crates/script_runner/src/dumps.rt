@@ -1,5 +1,5 @@
 //! The dump of a run.
-ghost use Rattle.std.specs.Prelude.{◌≡◌, true, IfOk, IfSome, Some, is_some, nat_lt, take, drop};
+ghost use Rattle.std.specs.Prelude.{◌≡◌, [], true, IfOk, IfSome, Some, is_some, nat_lt, take, drop};
 ghost use Rattle.std.specs.List.{list_all};
 ghost use Rattle.base.specs.Limits.{in_range};
 ghost use Rattle.checkpoints.specs.Restorable.{is_restorable};
@@ -76,11 +76,12 @@ fn dump_from(
     requires legal { IsLegalFrom (start_of limits.now checkpoint) events.now }
     requires tables { tables ≡ scratch (state_from (start_of limits.now checkpoint).state events.now) }
     ensures { IfOk result
-        (λ bytes. IsDump bytes.items (whole_dump limits.now (Some checkpoint) events.now)) }
+        (λ bytes. IsDump bytes.items (whole_dump limits.now (Some checkpoint) events.now [])) }
 {
     legal_is_dump();
     let events = events_of(alloc, events)?;
-    let bytes = dump_text::dump_of(alloc, limits, Some(checkpoint), events, tables)?;
+    let unread = Vec::new(alloc);
+    let bytes = dump_text::dump_of(alloc, limits, Some(checkpoint), events, unread, tables)?;
     Ok(bytes)
 }
 

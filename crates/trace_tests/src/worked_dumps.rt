@@ -143,6 +143,18 @@ order 3 3 7
 end
 ";
 
+/// The checkpoint of a boot at 64 pages; Z is 64 bytes of 0.
+const BOOT: &str = "state 4 1
+object 1 container 64 0 0 {1} - Z
+entry 2
+entry 3
+object 2 thread 1 0 {1} {2} {3} 0 0 0 0
+object 3 device 2 0 {1} Z
+";
+
+/// The read of the worked dump, before its last event.
+const READ: &str = "read 6 segment_read #1 #4 0 1 => data 00\n";
+
 /// The text, with 128 digits 0 for each Z.
 fn filled(alloc: Global, text: &str) -> Result<Vec<u8>, Fail> {
     let mut out = Vec::new(alloc);
@@ -163,6 +175,24 @@ fn with_line(alloc: Global, text: &str, line: usize, other: &str) -> Result<Vec<
         let kept = if index + 1 == line { other } else { whole };
         out.extend_from_slice(kept.as_bytes())?;
         out.push(b'\n')?;
+    }
+    Ok(out)
+}
+
+/// The worked dump in format 2, with this read before its last event.
+fn with_read(alloc: Global, read: &str) -> Result<Vec<u8>, Fail> {
+    let mut out = Vec::new(alloc);
+    for (index, whole) in WRITTEN.lines().enumerate() {
+        if index == 6 {
+            out.extend_from_slice(read.as_bytes())?;
+        }
+        let kept = if index == 0 { "histar-dump 2" } else { whole };
+        out.extend_from_slice(kept.as_bytes())?;
+        out.push(b'\n')?;
+        if index == 1 {
+            let boot = filled(alloc, BOOT)?;
+            out.extend_from_slice(boot.as_slice())?;
+        }
     }
     Ok(out)
 }
@@ -212,6 +242,33 @@ fn a_worked_dump_is_traced(rt: HostRuntime) -> Result<(), Fail> {
     assert!(rt; is_true(reaches(rt.alloc(), text, 4, 1, &[])));
     assert!(rt; is_true(reaches(rt.alloc(), text, 5, 1, &[5])));
     assert!(rt; is_true(reaches(rt.alloc(), text, 1, 2, &[1, 4, 5, 6])));
+    Ok(())
+}
+
+// Thread 6 observes segment 4 by its read, and hands on by its write.
+#[test]
+fn a_read_is_a_step(rt: HostRuntime) -> Result<(), Fail> {
+    let text = with_read(rt.alloc(), READ)?;
+    assert!(rt; is_true(reaches(rt.alloc(), text.as_slice(), 4, 1, &[5])));
+    assert!(rt; is_true(reaches(rt.alloc(), text.as_slice(), 1, 1, &[5])));
+    assert!(rt; is_true(reaches(rt.alloc(), text.as_slice(), 1, 2, &[1, 4, 5, 6])));
+    Ok(())
+}
+
+// Another reply, a refusal of a live thread and two reads out of the order of threads are false.
+#[test]
+fn a_false_read_is_not_traced(rt: HostRuntime) -> Result<(), Fail> {
+    for read in [
+        "read 6 segment_read #1 #4 0 1 => data 41\n",
+        "read 6 self_get => refused 1 Halted\n",
+        "read 6 segment_len #1 #4 => pages 1\nread 2 segment_len #1 #4 => pages 1\n",
+    ] {
+        let text = with_read(rt.alloc(), read)?;
+        assert!(rt; is_true(refusal(rt.alloc(), text.as_slice()) == 62));
+    }
+    let rising = "read 2 segment_len #1 #4 => pages 1\nread 6 segment_len #1 #4 => pages 1\n";
+    let text = with_read(rt.alloc(), rising)?;
+    assert!(rt; is_true(refusal(rt.alloc(), text.as_slice()) == 0));
     Ok(())
 }
 

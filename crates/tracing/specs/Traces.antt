@@ -8,10 +8,10 @@ use Rattle.flow_rules.specs.Flows.{Flows}
 use Rattle.flows.specs.Pairs.{ids_rise}
 use Rattle.tracing.specs.Steps.{steps_of}
 
--- there is a flow outside category c from o to p in the dump: by the steps of its events, from the state
--- that they begin in
+-- there is a flow outside category c from o to p in the dump: by the steps of its events and reads, from
+-- the state that they begin in
 abbrev pub FlowsIn : DumpLists → ℕ → ℕ → ℕ → Type 0
-FlowsIn d c o p = Flows (start_with d.limits d.checkpoint).state (steps_of d.events) c o p
+FlowsIn d c o p = Flows (start_with d.limits d.checkpoint).state (steps_of d.events d.reads) c o p
 
 -- the ids of all objects that flows from o outside c reach in the dump, rising, each once
 pub record IsReached (d : DumpLists) (c o : ℕ) (ids : List ℕ) : Type 0 where

@@ -27,19 +27,21 @@ fn reached_in(
         limits,
         checkpoint,
         events,
+        reads,
         tables: _,
     } = dump;
     let Some(state) = begin(alloc, &limits, &checkpoint)? else {
         return Ok(None);
     };
-    let steps = steps_of(alloc, events.as_slice())?;
+    let steps = steps_of(alloc, events.as_slice(), reads.as_slice())?;
     let ids = flows_of(alloc, state, steps.as_slice(), category, start)?;
     Ok(Some(ids))
 }
 
 /// The ids of all objects that flows from one object outside the category reach in a dump, rising, each once. They begin
-/// where the dump's events do: at its checkpoint, or at the boot where it has none. The steps are the calls of the events, in
-/// order. The error is `NotClean` exactly where `audit` does not find the bytes clean, and else want of memory.
+/// where the dump's events do: at its checkpoint, or at the boot where it has none. The steps are the calls of the events
+/// and the queries of the reads, in the order of the dump. The error is `NotClean` exactly where `audit` does not find the bytes
+/// clean, and else want of memory.
 pub fn trace(
     alloc: Global,
     bytes: &[u8],

@@ -1,4 +1,5 @@
 use Rattle.std.proofs.Common.{sym, ◌∙◌}
+use Rattle.dump_text.proofs.Placing.{placed_all}
 use Rattle.auditor.proofs.LineLaws.{false_told}
 use Rattle.auditor.proofs.audits.audit.Goals as goal
 
@@ -6,3 +7,6 @@ pub returns-in-Some-clause-line : goal.returns-in-Some-clause-line
 returns-in-Some-clause-line c =
     false_told c.args.bytes.now c.in-Ok.dump c.in-Some.line c.legal_is_dump.ensures c.in-Ok.ensures
     c.in_ok-false_line.ensures.fits (sym c.in_ok-false_line.ensures.line ∙ c.in-Some.is)
+
+pub false_line-requires : goal.false_line-requires
+false_line-requires c = placed_all c.in-Ok.dump.checkpoint c.in-Ok.dump.events c.in-Ok.dump.reads c.in-Ok.ensures.placed

@@ -1,4 +1,8 @@
-use Rattle.std.proofs.Common.{List, ap, sym, ◌∙◌}
+use Rattle.std.proofs.Common.{List, Some, ap, subst, ◌∙◌}
+use Rattle.dump_text.specs.Dump.{dump_text}
+use Rattle.dump_text.specs.Fits.{FitsWords}
+use Rattle.dump_text.specs.Whole.{whole_dump}
+use Rattle.dump_text.specs.declared.tables.PlacedRead.{PlacedRead}
 use Rattle.checkpoints.specs.Starts.{start_of}
 use Rattle.histories.specs.Events.{Event}
 use Rattle.histories.specs.History.{state_from}
@@ -10,4 +14,7 @@ pub returns : goal.returns
 returns c =
     dumped c.legal_is_dump.ensures c.args.limits.now c.args.checkpoint c.args.events.now c.in_ok-events.events.items
     c.in_ok-bytes.bytes.items c.requires.limits c.requires.restorable c.requires.legal c.in_ok-events.ensures
-    c.in_ok-bytes.ensures.text c.in_ok-bytes.ensures.fits
+    (c.in_ok-bytes.ensures.text
+    ∙ ap (λ (rs : List PlacedRead). dump_text (whole_dump c.args.limits.now (Some c.args.checkpoint) c.in_ok-events.events.items rs)) c.new-unread.ensures.items)
+    (subst (λ (rs : List PlacedRead). FitsWords (whole_dump c.args.limits.now (Some c.args.checkpoint) c.in_ok-events.events.items rs)) c.new-unread.ensures.items
+    c.in_ok-bytes.ensures.fits)

@@ -1,4 +1,4 @@
-use Rattle.std.proofs.Common.{◌≡◌, true, false, ℕ, List, Option, Some, is_some, take, drop, refl, sym, ap, ◌∙◌, subst}
+use Rattle.std.proofs.Common.{◌≡◌, true, false, ℕ, List, [], Option, Some, is_some, take, drop, refl, sym, ap, ◌∙◌, subst}
 use Rattle.std.specs.Option.{IfSome}
 use Rattle.checkpoints.specs.Checkpoint.{Checkpoint}
 use Rattle.checkpoints.specs.Restorable.{is_restorable}
@@ -45,12 +45,12 @@ returns-in-Some c =
     c.in_ok-made.ensures.made c.in-Some.is same in
     let given : are_given limits (take first events) ≡ true
     = ap (are_given limits) (sym same) ∙ sym c.in_ok-made.ensures.test ∙ ap is_some c.in-Some.is in
-    ok_then c.dump_from.result (λ bytes. IsDump bytes.items (whole_dump limits (Some c.in-Some.made) c.parted.result.1.now))
+    ok_then c.dump_from.result (λ bytes. IsDump bytes.items (whole_dump limits (Some c.in-Some.made) c.parted.result.1.now []))
     (λ bytes. IsRunDump limits first bytes.items)
     (λ bytes told. run_dump c.later_are_legal.ensures limits first first events c.args.tables c.in-Some.made bytes.items
     c.requires (folds limits first events true given) made
     (subst (λ (o : Option Checkpoint). IfSome o (λ x. is_restorable limits x ≡ true)) c.in-Some.is c.in_ok-made.ensures.restorable)
-    (subst (λ (l : List Event). IsDump bytes.items (whole_dump limits (Some c.in-Some.made) l)) c.parted.ensures.after told))
+    (subst (λ (l : List Event). IsDump bytes.items (whole_dump limits (Some c.in-Some.made) l [])) c.parted.ensures.after told))
     c.dump_from.ensures
 
 pub returns : goal.returns
@@ -62,7 +62,7 @@ returns c =
     = c.as_slice.ensures.value ∙ c.in_ok-before.ensures ∙ c.parted.ensures.before in
     let given : are_given limits (take first events) ≡ false
     = ap (are_given limits) (sym same) ∙ sym c.in_ok-made.ensures.test ∙ ap is_some c.in-None.is in
-    ok_then c.dump_from-in-None.result (λ bytes. IsDump bytes.items (whole_dump limits (Some c.in_ok-boot-in-None.boot) events))
+    ok_then c.dump_from-in-None.result (λ bytes. IsDump bytes.items (whole_dump limits (Some c.in_ok-boot-in-None.boot) events []))
     (λ bytes. IsRunDump limits first bytes.items)
     (λ bytes told. run_dump c.later_are_legal.ensures limits first 0 events c.args.tables c.in_ok-boot-in-None.boot bytes.items
     c.requires (folds limits first events false given) c.in_ok-boot-in-None.ensures.written

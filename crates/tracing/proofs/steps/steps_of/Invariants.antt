@@ -1,7 +1,8 @@
 use Rattle.std.proofs.Common.{◌≡◌, ◌++◌, drop}
-use Rattle.tracing.specs.Steps.{steps_of}
+use Rattle.dump_text.specs.Reads.{in_turn}
+use Rattle.tracing.specs.Steps.{event_steps, read_step, steps_of}
 use Rattle.tracing.proofs.steps.steps_of.Given as goal
 
-abbrev pub invariant-loop-event : goal.invariant-loop-event
-invariant-loop-event l =
-    l.steps.items ++ steps_of (drop l.event-index l.events) ≡ steps_of l.events
+abbrev pub invariant-loop-place : goal.invariant-loop-place
+invariant-loop-place l =
+    l.steps.items ++ in_turn event_steps read_step l.place (drop l.place l.events) l.rest ≡ steps_of l.events l.reads
