@@ -55,6 +55,13 @@ FAULTS = [
     Fault("./histar-show", ["why", "dump"], 2, "histar-show: unreadable at line 1\n"),
     Fault("./histar-show", ["why", "old", "1"], 2, "histar-show: no call at this line\n"),
     Fault("./histar-show", ["why", "old"], 3, "histar-show: output fault\n", out="/dev/full"),
+    Fault("./histar-show", ["tree", "nothing"], 3, "histar-show: input fault\n"),
+    Fault("./histar-show", ["tree", "dump"], 2, "histar-show: unreadable at line 1\n"),
+    Fault("./histar-show", ["tree", "old", "--after", "1"], 3, "histar-show: output fault\n", out="/dev/full"),
+    Fault("./histar-show", ["dot", "dump"], 2, "histar-show: unreadable at line 1\n"),
+    Fault("./histar-show", ["dot", "old"], 3, "histar-show: output fault\n", out="/dev/full"),
+    Fault("./histar-show", ["json", "dump"], 2, "histar-show: unreadable at line 1\n"),
+    Fault("./histar-show", ["json", "old"], 3, "histar-show: output fault\n", out="/dev/full"),
 ]
 
 # A dump of format 1, which is clean.

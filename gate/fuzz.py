@@ -98,6 +98,17 @@ def end_of_dump(words, text):
     return verdict[1].decode(), status == (1 if verdict[1] == b"false" else 2) and has_line(text, int(verdict[2]))
 
 
+def is_shown(words, text, verdict):
+    """Whether something was shown of a dump, or one line tells why not: of a text that is no dump always the latter."""
+    status, out, err = ran(words)
+    if status == 0:
+        return verdict != "unreadable" and err == b"" and out.endswith(b"\n")
+    if status == 1:
+        return verdict == "false" and (out, err) == (b"", b"histar-show: false at line 3: the checkpoint can't be restored\n")
+    fault = re.fullmatch(rb"histar-show: unreadable at line (\d+)\n", err)
+    return status == 2 and verdict == "unreadable" and out == b"" and fault is not None and has_line(text, int(fault[1]))
+
+
 class Corpus:
     """The texts that are changed: the scripts of examples/ and of the rules, and the dumps of the first ones' runs."""
 
@@ -119,10 +130,10 @@ def read(file):
 
 
 class Trial:
-    """One changed text, given to the program that it is for."""
+    """One changed text, given to the programs that it is for."""
 
-    def __init__(self, number, corpus, histar, auditor):
-        self.number, self.histar, self.auditor = number, histar, auditor
+    def __init__(self, number, corpus, histar, auditor, show):
+        self.number, self.histar, self.auditor, self.show = number, histar, auditor, show
         draw = random.Random(SEED * 1_000_003 + number)
         self.is_script = number % 2 == 0
         self.text = changed(draw, draw.choice(corpus.scripts if self.is_script else corpus.dumps))
@@ -132,21 +143,26 @@ class Trial:
         file = f"{room}/{self.number}"
         with open(file, "wb") as it:
             it.write(self.text)
-        ended = end_of_script([*self.histar, "run", file], self.text) if self.is_script else end_of_dump([*self.auditor, file], self.text)
+        ended = end_of_script([*self.histar, "run", file], self.text) if self.is_script else self.end_of_dump(file)
         os.remove(file)
         return ended
 
+    def end_of_dump(self, file):
+        """How the audit of a dump ended, and whether that and what is shown of it ended as they may."""
+        verdict, is_well = end_of_dump([*self.auditor, file], self.text)
+        return verdict, is_well and all(is_shown([*self.show, verb, file], self.text, verdict) for verb in ("tree", "dot", "json"))
 
-def fuzz(report, count, histar=("./histar",), auditor=("./histar-audit",)):
+
+def fuzz(report, count, histar=("./histar",), auditor=("./histar-audit",), show=("./histar-show",)):
     """Tries so many changed texts, keeps the first that ended otherwise than it may in out/, and says how many ended how."""
     report.heading("Broken texts")
     with tempfile.TemporaryDirectory(prefix="fuzz-") as room, ThreadPoolExecutor(os.cpu_count()) as pool:
         corpus = Corpus(histar, room)
-        ended = list(pool.map(lambda it: Trial(it, corpus, histar, auditor).run(room), range(count)))
+        ended = list(pool.map(lambda it: Trial(it, corpus, histar, auditor, show).run(room), range(count)))
     wrong = [number for number, (_, is_well) in enumerate(ended) if not is_well]
     for number in wrong[:1]:
         with open("out/broken-text", "wb") as it:
-            it.write(Trial(number, corpus, histar, auditor).text)
+            it.write(Trial(number, corpus, histar, auditor, show).text)
         report.say(f"text {number}, kept as out/broken-text, ended otherwise than it may: {ended[number][0]}")
     counts = collections.Counter(how for how, _ in ended)
     told = ", ".join(f"{many} {how}" for how, many in sorted(counts.items()))

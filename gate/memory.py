@@ -121,6 +121,10 @@ def program_cases(tree, room):
     yield program_case(audit, ["--help"])
     yield program_case(show, ["why", dump])
     yield program_case(show, ["why", dump, "5"])
+    yield program_case(show, ["tree", dump])
+    yield program_case(show, ["tree", dump, "--after", "3"])
+    yield program_case(show, ["dot", dump, "--flows", "1", "--category", "2"])
+    yield program_case(show, ["json", dump])
     yield program_case(show, ["--help"])
 
 

@@ -1,13 +1,24 @@
-//! `histar-show why DUMP LINE`: why a call of a dump is answered as it is. Without words it looks at the dump on its standard
+//! `histar-show why DUMP LINE`: why a call of a dump is answered as it is. `histar-show tree DUMP`: the objects that it leads
+//! to; `dot` the same as a graph. `histar-show json DUMP`: the dump as JSON. Without words it looks at the dump on its standard
 //! input, for the first false line.
 #![tactic(auto)]
 
+use base::{Category, ObjectId};
+use dot_text::dot_on;
+use json_text::json_on;
 use program_io::{Counted, Fault, tell_answer, words_of};
-use show_args::read_words;
-use show_text::{NAME, why_on};
+use show_args::{Verb, read_words};
+use show_states::NAME;
+use show_text::why_on;
 use std::fs::File;
 use std::io;
 use std::process::ExitCode;
+use tree_text::tree_on;
+
+/// The object and the category of the flows that are asked for.
+fn flow_of(numbers: (u64, u64)) -> (ObjectId, Category) {
+    (ObjectId::new(numbers.0), Category(numbers.1))
+}
 
 fn main(rt: HostRuntime) -> ExitCode {
     let alloc = rt.alloc();
@@ -28,5 +39,11 @@ fn main(rt: HostRuntime) -> ExitCode {
     let Ok(mut dump) = File::open(&rt, told.dump) else {
         return ExitCode::from(Fault::Input.tell(NAME, &mut err));
     };
-    ExitCode::from(why_on(alloc, &mut dump, told.line, &mut out, &mut err))
+    let status = match told.verb {
+        Verb::Why(line) => why_on(alloc, &mut dump, line, &mut out, &mut err),
+        Verb::Tree(after) => tree_on(alloc, &mut dump, after, &mut out, &mut err),
+        Verb::Json => json_on(alloc, &mut dump, &mut out, &mut err),
+        Verb::Dot(flow) => dot_on(alloc, &mut dump, flow.map(flow_of), &mut out, &mut err),
+    };
+    ExitCode::from(status)
 }

@@ -1,53 +1,156 @@
 //! The command line of `histar-show`.
-use clap::{Arg, ArgAction, Command, Error, value_parser};
+use clap::{Arg, ArgAction, ArgMatches, Command, Error, value_parser};
 use std::alloc::Global;
 use std::convert::AsStr;
+
+/// What is shown of a dump.
+#[derive(Clone, Copy, Debug, PartialEq, Eq)]
+pub enum Verb {
+    /// Why the calls of a line are answered as they are, lines counting from 1; of the first false line where none is named.
+    Why(Option<u64>),
+    /// The objects after so many events as a tree; after all where no count is told.
+    Tree(Option<u64>),
+    /// The dump as JSON.
+    Json,
+    /// The objects as a graph, and which of them flows from an object outside a category reach, where they are asked for.
+    Dot(Option<(u64, u64)>),
+}
 
 /// What the words say.
 #[derive(Clone, Copy, Debug, PartialEq, Eq)]
 pub struct Told<'a> {
     /// The path of the dump.
     pub dump: &'a str,
-    /// The line of the dump whose calls are explained, from 1; the first false line where there is none.
-    pub line: Option<u64>,
+    /// What is shown of it.
+    pub verb: Verb,
 }
 
-fn command<'a>(alloc: Global) -> Result<Command<'a>, Error> {
-    let dump = Arg::new(alloc, "DUMP")
+/// The path of the dump.
+fn dump<'a>(alloc: Global) -> Arg<'a> {
+    Arg::new(alloc, "DUMP")
         .required(true)
         .action(ArgAction::Set)
-        .help("The dump to look at");
+        .help("The dump to look at")
+}
+
+/// The words of `why`.
+fn why<'a>(alloc: Global) -> Result<Command<'a>, Error> {
     let line = Arg::new(alloc, "LINE")
         .action(ArgAction::Set)
         .help(
             "The line of a call, an event or a batch, from 1; the first false line where none is named",
         )
         .value_parser(value_parser!(u64).range(1..9223372036854775807));
-    let why = Command::new(alloc, "why")
-        .about("Tells why a call of a dump is refused or accepted, condition by condition")
-        .arg(dump)?
-        .arg(line)?;
+    Ok(
+        Command::new(alloc, "why")
+            .about("Tells why a call of a dump is refused or accepted, condition by condition")
+            .arg(dump(alloc))?
+            .arg(line)?,
+    )
+}
+
+/// The words of `tree`.
+fn tree<'a>(alloc: Global) -> Result<Command<'a>, Error> {
+    let after = Arg::new(alloc, "after")
+        .long("after")
+        .value_name("N")
+        .action(ArgAction::Set)
+        .value_parser(value_parser!(u64))
+        .help("After how many events of the dump; after all where no count is told");
+    Ok(
+        Command::new(alloc, "tree")
+            .about("Shows the objects that a dump leads to as a tree")
+            .arg(dump(alloc))?
+            .arg(after)?,
+    )
+}
+
+/// The words of `json`.
+fn json<'a>(alloc: Global) -> Result<Command<'a>, Error> {
+    Ok(
+        Command::new(alloc, "json")
+            .about("Shows a dump as JSON, an object for each line")
+            .arg(dump(alloc))?,
+    )
+}
+
+/// A number that another one has to stand beside.
+fn number_beside<'a>(
+    alloc: Global,
+    name: &'a str,
+    value: &'a str,
+    other: &'a str,
+) -> Result<Arg<'a>, Error> {
+    Ok(
+        Arg::new(alloc, name)
+            .long(name)
+            .value_name(value)
+            .action(ArgAction::Set)
+            .value_parser(value_parser!(u64))
+            .requires_arg(other)?,
+    )
+}
+
+/// The words of `dot`.
+fn dot<'a>(alloc: Global) -> Result<Command<'a>, Error> {
+    let flows = number_beside(alloc, "flows", "ID", "category")?.help(
+        "Of a clean dump, show in red which objects flows from this one reach",
+    );
+    let category = number_beside(alloc, "category", "N", "flows")?.help(
+        "The category outside of which these flows are: none goes on by an owner of it",
+    );
+    Ok(
+        Command::new(alloc, "dot")
+            .about("Shows the objects that a dump leads to as a graph for Graphviz")
+            .arg(dump(alloc))?
+            .arg(flows)?
+            .arg(category)?,
+    )
+}
+
+/// The flows that are asked for.
+fn flow_of(words: &ArgMatches<'_>) -> Option<(u64, u64)> {
+    let id = words.get_one::<u64>("flows")?;
+    let category = words.get_one::<u64>("category")?;
+    Some((id, category))
+}
+
+/// All words.
+fn command<'a>(alloc: Global) -> Result<Command<'a>, Error> {
     Ok(
         Command::new(alloc, "histar-show")
             .bin_name("histar-show")?
             .about("Shows what a dump tells")
             .subcommand_required(true)
-            .subcommand(why)?,
+            .subcommand(why(alloc)?)?
+            .subcommand(tree(alloc)?)?
+            .subcommand(json(alloc)?)?
+            .subcommand(dot(alloc)?)?,
     )
+}
+
+/// What is shown, by the name of the verb.
+fn verb_of(name: &str, words: &ArgMatches<'_>) -> Verb {
+    match name {
+        "tree" => Verb::Tree(words.get_one::<u64>("after")),
+        "json" => Verb::Json,
+        "dot" => Verb::Dot(flow_of(words)),
+        _ => Verb::Why(words.get_one::<u64>("LINE")),
+    }
 }
 
 /// What the words say, the first of them being the program's name, or what `clap` answers to them: help, a fault of
 /// usage, or want of memory.
 pub fn read_words<'a, S: AsStr>(alloc: Global, words: &'a [S]) -> Result<Told<'a>, Error> {
     let matches = command(alloc)?.try_get_matches_from(words)?;
-    let Some((_name, why)) = matches.subcommand() else {
+    let Some((name, told)) = matches.subcommand() else {
         return Ok(Told {
             dump: "",
-            line: None,
+            verb: Verb::Why(None),
         });
     };
     Ok(Told {
-        dump: why.get_str("DUMP").unwrap_or(""),
-        line: why.get_one::<u64>("LINE"),
+        dump: told.get_str("DUMP").unwrap_or(""),
+        verb: verb_of(name, told),
     })
 }

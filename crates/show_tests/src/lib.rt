@@ -5,6 +5,12 @@
 pub fn shows_are_tested() {}
 
 #[cfg(test)]
+mod dot_tests;
+#[cfg(test)]
+mod json_tests;
+#[cfg(test)]
+mod tree_tests;
+#[cfg(test)]
 mod why_tests;
 #[cfg(test)]
 mod words_tests;

@@ -1,6 +1,7 @@
 //! What is told of calls in worked dumps.
 use program_io::Counted;
-use show_text::{WhyFault, why, why_on, why_or_false};
+use show_states::ShowFault;
+use show_text::{why, why_on, why_or_false};
 use std::alloc::Global;
 use std::io::ErrorKind;
 use std::test::Fail;
@@ -110,7 +111,7 @@ fn tells(alloc: Global, dump: &str, line: u64, wanted: &[u8]) -> bool {
 }
 
 /// The fault of a line, where there is one.
-fn fault(alloc: Global, dump: &str, line: u64) -> Option<WhyFault> {
+fn fault(alloc: Global, dump: &str, line: u64) -> Option<ShowFault> {
     match why(alloc, dump.as_bytes(), line) {
         Ok(_) => None,
         Err(fault) => Some(fault),
@@ -140,10 +141,10 @@ fn each_call_of_a_batch_is_explained(rt: HostRuntime) -> Result<(), Fail> {
 #[test]
 fn a_line_without_a_call_is_told(rt: HostRuntime) -> Result<(), Fail> {
     for line in [0, 1, 2, 9, 1000] {
-        assert!(rt; is_true(fault(rt.alloc(), LEAK, line) == Some(WhyFault::NoCall)));
+        assert!(rt; is_true(fault(rt.alloc(), LEAK, line) == Some(ShowFault::NoCall)));
     }
     let cut = "histar-dump 1\nlimits 64 1 4 1\n";
-    assert!(rt; is_true(fault(rt.alloc(), cut, 2) == Some(WhyFault::Unreadable(3))));
+    assert!(rt; is_true(fault(rt.alloc(), cut, 2) == Some(ShowFault::Unreadable(3))));
     Ok(())
 }
 
@@ -209,7 +210,7 @@ fn want_of_memory_is_told_of_lines(rt: HostRuntime) -> Result<(), Fail> {
     for line in [None, Some(8)] {
         match why_or_false(rt.alloc(), LEAK.as_bytes(), line) {
             Ok(told) => assert!(rt; is_true(told.as_slice().ends_with(LEAK_WHY.as_bytes()))),
-            Err(fault) => assert!(rt; is_true(fault == WhyFault::Memory)),
+            Err(fault) => assert!(rt; is_true(fault == ShowFault::Memory)),
         }
     }
     Ok(())

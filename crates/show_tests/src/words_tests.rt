@@ -1,25 +1,64 @@
 //! What the command line of the program takes and refuses.
-use show_args::read_words;
+use show_args::{Verb, read_words};
 use std::test::Fail;
 
 #[test]
 fn reads_the_dump_and_the_line(rt: HostRuntime) -> Result<(), Fail> {
     let told = read_words(rt.alloc(), &["histar-show", "why", "a.dump", "7"])?;
-    assert!(rt; told.dump == "a.dump" && told.line == Some(7));
+    assert!(rt; told.dump == "a.dump" && told.verb == Verb::Why(Some(7)));
     let told = read_words(rt.alloc(), &["histar-show", "why", "a.dump"])?;
-    assert!(rt; told.dump == "a.dump" && told.line.is_none());
+    assert!(rt; told.dump == "a.dump" && told.verb == Verb::Why(None));
+    Ok(())
+}
+
+#[test]
+fn reads_the_dump_and_the_count(rt: HostRuntime) -> Result<(), Fail> {
+    let told = read_words(
+        rt.alloc(),
+        &["histar-show", "tree", "--after", "0", "a.dump"],
+    )?;
+    assert!(rt; told.dump == "a.dump" && told.verb == Verb::Tree(Some(0)));
+    let told = read_words(rt.alloc(), &["histar-show", "tree", "a.dump"])?;
+    assert!(rt; told.dump == "a.dump" && told.verb == Verb::Tree(None));
+    let told = read_words(rt.alloc(), &["histar-show", "json", "a.dump"])?;
+    assert!(rt; told.dump == "a.dump" && told.verb == Verb::Json);
+    Ok(())
+}
+
+#[test]
+fn reads_the_dump_and_the_flows(rt: HostRuntime) -> Result<(), Fail> {
+    let told = read_words(rt.alloc(), &["histar-show", "dot", "a.dump"])?;
+    assert!(rt; told.dump == "a.dump" && told.verb == Verb::Dot(None));
+    let words = [
+        "histar-show",
+        "dot",
+        "a.dump",
+        "--flows",
+        "4",
+        "--category",
+        "1",
+    ];
+    let told = read_words(rt.alloc(), &words)?;
+    assert!(rt; told.dump == "a.dump" && told.verb == Verb::Dot(Some((4, 1))));
     Ok(())
 }
 
 #[test]
 fn refuses_other_words(rt: HostRuntime) -> Result<(), Fail> {
-    let unread: [&[&str]; 6] = [
+    let unread: [&[&str]; 13] = [
         &["histar-show"],
         &["histar-show", "why"],
         &["histar-show", "why", "a.dump", "0"],
         &["histar-show", "why", "a.dump", "x"],
         &["histar-show", "why", "a.dump", "7", "8"],
         &["histar-show", "a.dump"],
+        &["histar-show", "tree"],
+        &["histar-show", "tree", "a.dump", "--after"],
+        &["histar-show", "tree", "a.dump", "7"],
+        &["histar-show", "json", "a.dump", "7"],
+        &["histar-show", "dot"],
+        &["histar-show", "dot", "a.dump", "--flows", "4"],
+        &["histar-show", "dot", "a.dump", "--category", "1"],
     ];
     for words in unread {
         match read_words(rt.alloc(), words) {

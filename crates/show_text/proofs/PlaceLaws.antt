@@ -1,6 +1,5 @@
 -- How many lines tell an event, and what the lines of events tell.
-use Rattle.std.proofs.Common.{◌≡◌, ℕ, ◌+◌, ◌-◌, ◌/◌, ◌<◌, ◌≤◌, List, [], ◌∷◌, length, map, drop, slice_index_or, Some, if◌then◌else◌, arith, add-one, refl, ap, sym, ◌∙◌, suc, zero}
-use Rattle.std.proofs.Math.Seq.{drop-cons}
+use Rattle.std.proofs.Common.{◌≡◌, ℕ, ◌+◌, ◌-◌, ◌/◌, ◌<◌, ◌≤◌, List, [], ◌∷◌, length, map, drop, slice_index_or, nat_lt, Option, Some, None, if◌then◌else◌, arith, refl, ap, sym, ◌∙◌, suc, zero}
 use Rattle.std.proofs.lemmas.Bool.{lt-ltb, le-ltb}
 use Rattle.std.proofs.lemmas.List.{length-map}
 use Rattle.dump_text.specs.CheckpointLines.{rows, rows_of, row_line}
@@ -8,7 +7,11 @@ use Rattle.histories.specs.Events.{Event}
 use Rattle.histories.specs.declared.events.Answered.{Answered}
 use Rattle.dump_text.specs.Dump.{event_lines, lines_with}
 use Rattle.dump_text.specs.declared.lines.Line.TheVariants as lines
-use Rattle.show_text.specs.Places.{place_in, place_from}
+use Rattle.show_states.proofs.CallLaws.{drop_item}
+use Rattle.dump_text.specs.Reads.{reads_at, reads_past}
+use Rattle.dump_text.specs.declared.tables.PlacedRead.{PlacedRead}
+use Rattle.show_text.specs.Places.{place_in, after_reads, place_from}
+use Rattle.show_text.specs.declared.places.Place.{Place}
 
 -- one call has a line
 pub one_line : (thread number : ℕ) (calls : List Answered) → length calls ≡ 1 → length (lines_with thread number calls) ≡ 1
@@ -23,33 +26,56 @@ several_lines thread number [] h = refl
 several_lines thread number (a ∷ []) h = absurd (h refl)
 several_lines thread number (a ∷ b ∷ cs) h = let e = length-map (a ∷ b ∷ cs) lines.Call in omega (arith, e)
 
--- what is left of a list begins with its next item
-pub drop_item : {A : Type 0} (xs : List A) (i : ℕ) (x : A) → i < length xs → x ≡ slice_index_or xs i x
-    → drop i xs ≡ x ∷ drop (i + 1) xs
-drop_item xs i x within is =
-    drop-cons xs i x within ∙ ap (λ z. z ∷ drop (suc i) xs) (sym is) ∙ ap (λ j. x ∷ drop j xs) (sym (add-one i))
+-- what the line after the first `left` tells, where an event is the next
+next_event : (i left : ℕ) (x : Event) (xs : List Event) (rs : List PlacedRead) → i < length xs → x ≡ slice_index_or xs i x
+    → place_from i (drop i xs) rs left ≡ place_from i (x ∷ drop (i + 1) xs) rs left
+next_event i left x xs rs within is = ap (λ (l : List Event). place_from i l rs left) (drop_item xs i x within is)
 
--- the line after the first `left` is one of the next event's lines
-pub here : (i number left count : ℕ) (x : Event) (xs : List Event) → i < length xs → x ≡ slice_index_or xs i x
-    → number ≡ i → count ≡ length (event_lines x) → left < count
-    → Some (place_in number x left) ≡ place_from i (drop i xs) left
-here i number left count x xs within is same told below =
-    let less : left < length (event_lines x) = omega arith in
-    sym (ap (λ (l : List Event). place_from i l left) (drop_item xs i x within is)
-    ∙ ap (λ b. if b then Some (place_in i x left) else place_from (i + 1) (drop (i + 1) xs) (left - length (event_lines x)))
-    (lt-ltb left (length (event_lines x)) less)
-    ∙ ap (λ n. Some (place_in n x left)) (sym same))
+-- it is one of the reads before the event
+pub asked : (i left count : ℕ) (xs : List Event) (rs : List PlacedRead) → count ≡ length (reads_at i rs) → left < count
+    → None ≡ place_from i xs rs left
+asked i left count [] rs told below = refl
+asked i left count (x ∷ xs) rs told below =
+    let less : left < length (reads_at i rs) = omega arith in
+    sym (rw (lt-ltb left (length (reads_at i rs)) less) refl)
+
+-- after the reads
+past_reads : (count left : ℕ) (later : ℕ → Option Place) (told : ℕ) → told ≡ count → told ≤ left
+    → after_reads count later left ≡ later (left - told)
+past_reads count left later told is le =
+    let more : count ≤ left = omega arith in
+    rw (le-ltb left count more) (ap (λ n. later (left - n)) (sym is))
+
+-- what the line tells that stands after so many of the event's lines
+from_event : ℕ → Event → List Event → List PlacedRead → ℕ → Option Place
+from_event i x xs rs j =
+    if nat_lt j (length (event_lines x)) then Some (place_in i x j)
+    else place_from (i + 1) xs (reads_past i rs) (j - length (event_lines x))
+
+-- it is one of the event's lines
+pub here : (i left reads count : ℕ) (x : Event) (xs : List Event) (rs : List PlacedRead) → i < length xs → x ≡ slice_index_or xs i x
+    → reads ≡ length (reads_at i rs) → reads ≤ left → count ≡ length (event_lines x) → left - reads < count
+    → Some (place_in i x (left - reads)) ≡ place_from i (drop i xs) rs left
+unfolding from_event
+here i left reads count x xs rs within is told above counted below =
+    let less : left - reads < length (event_lines x) = omega arith in
+    sym (next_event i left x xs rs within is
+    ∙ past_reads (length (reads_at i rs)) left (from_event i x (drop (i + 1) xs) rs) reads told above
+    ∙ ap (λ b. if b then Some (place_in i x (left - reads)) else place_from (i + 1) (drop (i + 1) xs) (reads_past i rs) (left - reads - length (event_lines x)))
+    (lt-ltb (left - reads) (length (event_lines x)) less))
 
 -- it is none of them
-pub further : (i left count : ℕ) (x : Event) (xs : List Event) → i < length xs → x ≡ slice_index_or xs i x
-    → count ≡ length (event_lines x) → count ≤ left
-    → place_from i (drop i xs) left ≡ place_from (i + 1) (drop (i + 1) xs) (left - count)
-further i left count x xs within is told above =
-    let more : length (event_lines x) ≤ left = omega arith in
-    ap (λ (l : List Event). place_from i l left) (drop_item xs i x within is)
-    ∙ ap (λ b. if b then Some (place_in i x left) else place_from (i + 1) (drop (i + 1) xs) (left - length (event_lines x)))
-    (le-ltb left (length (event_lines x)) more)
-    ∙ ap (λ n. place_from (i + 1) (drop (i + 1) xs) (left - n)) (sym told)
+pub further : (i left reads count : ℕ) (x : Event) (xs : List Event) (rs : List PlacedRead) → i < length xs → x ≡ slice_index_or xs i x
+    → reads ≡ length (reads_at i rs) → reads ≤ left → count ≡ length (event_lines x) → count ≤ left - reads
+    → place_from i (drop i xs) rs left ≡ place_from (i + 1) (drop (i + 1) xs) (reads_past i rs) (left - reads - count)
+unfolding from_event
+further i left reads count x xs rs within is told above counted over =
+    let more : length (event_lines x) ≤ left - reads = omega arith in
+    next_event i left x xs rs within is
+    ∙ past_reads (length (reads_at i rs)) left (from_event i x (drop (i + 1) xs) rs) reads told above
+    ∙ ap (λ b. if b then Some (place_in i x (left - reads)) else place_from (i + 1) (drop (i + 1) xs) (reads_past i rs) (left - reads - length (event_lines x)))
+    (le-ltb (left - reads) (length (event_lines x)) more)
+    ∙ (ap (λ n. place_from (i + 1) (drop (i + 1) xs) (reads_past i rs) (left - reads - n)) (sym counted))
 
 -- so many rows
 pub row_count : (n : ℕ) (bytes : List ℕ) → length (rows n bytes) ≡ n

@@ -21,8 +21,8 @@ use Rattle.show_text.specs.Lines.{before_end, after_end, after_lines}
 use Rattle.show_text.specs.Parts.{finding_text}
 use Rattle.show_text.specs.Places.{place_at}
 use Rattle.show_text.specs.declared.places.Place.{Place}
-use Rattle.show_text.specs.declared.faults.WhyFault.{WhyFault}
-use Rattle.show_text.specs.declared.faults.WhyFault.TheVariants as faults
+use Rattle.show_states.specs.declared.faults.ShowFault.{ShowFault}
+use Rattle.show_states.specs.declared.faults.ShowFault.TheVariants as faults
 
 -- the line that tells a call, and the rules' answer
 abbrev pub call_head : List ℕ → Reply → List ℕ
@@ -59,7 +59,7 @@ place_explained text n s events (Some place) =
 -- what line n of a dump tells, where it tells calls
 abbrev pub line_explained : List ℕ → DumpLists → ℕ → Option (List ℕ)
 line_explained text d n =
-    place_explained text n (start_with d.limits d.checkpoint).state d.events (place_at d.checkpoint d.events n)
+    place_explained text n (start_with d.limits d.checkpoint).state d.events (place_at d.checkpoint d.events d.reads n)
 
 -- the text is a dump whose events can begin, and this is told of its line n
 abbrev pub Explains : List ℕ → ℕ → List ℕ → Type 0
@@ -67,7 +67,7 @@ Explains text n told = (d : DumpLists) × IsDump text d × (begins d ≡ true) �
 
 -- Why the calls of a line are answered as they are. Unreadable: line m is the first at which the text stops being the
 -- beginning of a dump. IllFormed: the checkpoint can't be restored. NoCall: the line tells no call.
-abbrev pub IsWhy : List ℕ → ℕ → Result (Vec ℕ) WhyFault → Type 0
+abbrev pub IsWhy : List ℕ → ℕ → Result (Vec ℕ) ShowFault → Type 0
 IsWhy text n (Ok told) = Explains text n told.items
 IsWhy text n (Err faults.NoCall) =
     (d : DumpLists) × IsDump text d × (begins d ≡ true) × (line_explained text d n ≡ None)

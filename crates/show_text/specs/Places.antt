@@ -4,6 +4,8 @@ use Rattle.histories.specs.Events.{Event}
 use Rattle.checkpoints.specs.Checkpoint.{Checkpoint}
 use Rattle.dump_text.specs.CheckpointLines.{start_lines}
 use Rattle.dump_text.specs.Dump.{event_lines}
+use Rattle.dump_text.specs.Reads.{reads_at, reads_past}
+use Rattle.dump_text.specs.declared.tables.PlacedRead.{PlacedRead}
 use Rattle.show_text.specs.declared.places.Place.{Place}
 
 -- so many calls of event e from its call c on, and whether the line is that of a batch, which stands above them
@@ -21,18 +23,24 @@ place_of e count i =
 abbrev pub place_in : ℕ → Event → ℕ → Place
 place_in e x i = place_of e (length x.calls) i
 
--- the same of the lines of events, the first of which is event e
-abbrev pub place_from : ℕ → List Event → ℕ → Option Place
-place_from e [] i = None
-place_from e (x ∷ xs) i =
-    if nat_lt i (length (event_lines x)) then Some (place_in e x i)
-    else place_from (e + 1) xs (i - length (event_lines x))
+-- the same after so many lines of reads, which tell no calls
+abbrev pub after_reads : ℕ → (ℕ → Option Place) → ℕ → Option Place
+after_reads count later i = if nat_lt i count then None else later (i - count)
+
+-- the same of the lines of events and of the reads among them, the first of which is event e
+abbrev pub place_from : ℕ → List Event → List PlacedRead → ℕ → Option Place
+place_from e [] reads i = None
+place_from e (x ∷ xs) reads i =
+    after_reads (length (reads_at e reads))
+    (λ j. if nat_lt j (length (event_lines x)) then Some (place_in e x j)
+    else place_from (e + 1) xs (reads_past e reads) (j - length (event_lines x))) i
 
 -- so many lines stand before those of the events: the format's, the limits', and those of the checkpoint
 abbrev pub lines_before : Option Checkpoint → ℕ
 lines_before checkpoint = 2 + length (start_lines checkpoint)
 
 -- what line n tells
-abbrev pub place_at : Option Checkpoint → List Event → ℕ → Option Place
-place_at checkpoint events n =
-    if nat_lt (lines_before checkpoint) n then place_from 0 events (n - (lines_before checkpoint + 1)) else None
+abbrev pub place_at : Option Checkpoint → List Event → List PlacedRead → ℕ → Option Place
+place_at checkpoint events reads n =
+    if nat_lt (lines_before checkpoint) n then place_from 0 events reads (n - (lines_before checkpoint + 1))
+    else None

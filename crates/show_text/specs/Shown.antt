@@ -9,8 +9,8 @@ use Rattle.auditor.specs.declared.verdicts.Verdict.TheVariants as is
 use Rattle.dump_text.specs.Dump.{IsDump, DumpFaultsAt}
 use Rattle.dump_text.specs.Lists.{DumpLists}
 use Rattle.show_text.specs.Explained.{IsWhy, line_explained, Explains}
-use Rattle.show_text.specs.declared.faults.WhyFault.{WhyFault}
-use Rattle.show_text.specs.declared.faults.WhyFault.TheVariants as faults
+use Rattle.show_states.specs.declared.faults.ShowFault.{ShowFault}
+use Rattle.show_states.specs.declared.faults.ShowFault.TheVariants as faults
 
 -- line n tells no call, or is that of a checkpoint that can't be restored
 abbrev pub TellsNone : List ℕ → ℕ → Type 0
@@ -21,7 +21,7 @@ TellsNone text n =
 abbrev pub WhyOrNone : List ℕ → ℕ → List ℕ → Type 0
 WhyOrNone text n more = Explains text n more ⊎ ((more ≡ []) × TellsNone text n)
 
-abbrev pub IsWhyOrNone : List ℕ → ℕ → Result (Vec ℕ) WhyFault → Type 0
+abbrev pub IsWhyOrNone : List ℕ → ℕ → Result (Vec ℕ) ShowFault → Type 0
 IsWhyOrNone text n (Ok told) = WhyOrNone text n told.items
 IsWhyOrNone text n (Err (faults.Unreadable m)) = DumpFaultsAt text m
 IsWhyOrNone text n (Err faults.Memory) = Unit {0}
@@ -36,7 +36,7 @@ TellsVerdict text (is.False n) told =
 TellsVerdict text (is.Unreadable n) told = ⊥
 
 -- what is shown of line n, or of the first false line where none is named
-abbrev pub IsShown : Option ℕ → List ℕ → Result (Vec ℕ) WhyFault → Type 0
+abbrev pub IsShown : Option ℕ → List ℕ → Result (Vec ℕ) ShowFault → Type 0
 IsShown (Some n) text result = IsWhy text n result
 IsShown None text (Ok told) = (v : Verdict) × IsVerdict text v × TellsVerdict text v told.items
 IsShown None text (Err (faults.Unreadable m)) = DumpFaultsAt text m
@@ -48,10 +48,3 @@ IsShown None text (Err faults.NoCall) = ⊥
 abbrev pub Shows : Option ℕ → Option (List ℕ) → Option (List ℕ) → List ℕ → Type 0
 Shows line before after text =
     (told : Vec ℕ) × IsShown line text (Ok told) × Appends before after told.items
-
--- the status of each fault: 1 where the checkpoint is false, 2 where the words or the dump can't be taken, 4 for want of memory
-abbrev pub fault_status : WhyFault → ℕ
-fault_status (faults.Unreadable m) = 2
-fault_status faults.IllFormed = 1
-fault_status faults.NoCall = 2
-fault_status faults.Memory = 4

@@ -4,63 +4,25 @@ ghost use Rattle.std.specs.List.{flat_map};
 ghost use Rattle.std.specs.Option.{option_map};
 ghost use Rattle.call_text.specs.Reply.{reply_text};
 ghost use Rattle.explained.specs.Explained.{explained};
-ghost use Rattle.histories.specs.Events.{by, calls_in};
-ghost use Rattle.histories.specs.History.{state_from};
-ghost use Rattle.kernel_rules.specs.Runs.{state_after};
 ghost use Rattle.kernel_rules.specs.Step.{answer, next};
 ghost use Rattle.plain_state.specs.StateOf.{state_of};
 ghost use Rattle.show_text.specs.Explained.{call_head, call_explained, calls_explained, event_explained, place_explained, IsWhy};
 ghost use Rattle.show_text.specs.Parts.{finding_text};
 
-use crate::faults::WhyFault;
 use crate::lines::{after_lines, first_line};
-use crate::parts::{put_bare, put_findings};
+use crate::parts::put_findings;
 use crate::places::{Place, place_at};
 use base::{Meter, NoMemory, ObjectId};
 use clean_dumps::begin;
-use dump_text::{Dump, DumpError, read_dump};
+use dump_text::Dump;
 use explained::explain;
 use histories::{Answered, Event};
 use kernel_calls::step;
 use kernel_rules::{Call, Mapping, Reply};
 use label_lattice::Label;
 use plain_state::PlainState;
+use show_states::{ShowFault, dump_in, make, make_all, put_bare};
 use std::alloc::Global;
-
-/// Makes calls of a thread.
-fn make(
-    state: &mut PlainState,
-    thread: ObjectId,
-    calls: &[Answered],
-    meter: &mut Meter,
-) -> Result<(), NoMemory>
-    ensures { OnOk result (state_of state.new
-        ≡ state_after (state_of state.old) (by thread (map (λ a. a.call) calls.now))) }
-{
-    for answered in calls {
-        step(state, thread, &answered.call, meter)?;
-    }
-    Ok(())
-}
-
-/// Makes the calls of an event.
-fn make_event(state: &mut PlainState, event: &Event, meter: &mut Meter) -> Result<(), NoMemory>
-    ensures { OnOk result (state_of state.new
-        ≡ state_after (state_of state.old) (by event.now.thread (calls_in event.now))) }
-{
-    make(state, event.thread, event.calls.as_slice(), meter)?;
-    Ok(())
-}
-
-/// Makes the calls of events.
-fn make_all(state: &mut PlainState, events: &[Event], meter: &mut Meter) -> Result<(), NoMemory>
-    ensures { OnOk result (state_of state.new ≡ state_from (state_of state.old) events.now) }
-{
-    for event in events {
-        make_event(state, event, meter)?;
-    }
-    Ok(())
-}
 
 /// The conditions of a call in words.
 fn findings_text(
@@ -187,30 +149,26 @@ fn place_explained(
 
 /// Why the calls of a line of a dump are answered as they are. The lines of the text count from 1. The errors come in this
 /// order: the text is no dump, its checkpoint can't be restored, the line tells no call; or there is no memory.
-pub fn why(alloc: Global, text: &[u8], line: u64) -> Result<Vec<u8>, WhyFault>
+pub fn why(alloc: Global, text: &[u8], line: u64) -> Result<Vec<u8>, ShowFault>
     ensures { IsWhy text.now line result }
 {
-    let dump = match read_dump(alloc, text) {
-        Ok(dump) => dump,
-        Err(DumpError::Line(line)) => return Err(WhyFault::Unreadable(line)),
-        Err(DumpError::Memory) => return Err(WhyFault::Memory),
-    };
     let Dump {
         limits,
         checkpoint,
         events,
+        reads,
         tables: _,
-    } = dump;
+    } = dump_in(alloc, text)?;
     let Some(state) = begin(alloc, &limits, &checkpoint)? else {
-        return Err(WhyFault::IllFormed);
+        return Err(ShowFault::IllFormed);
     };
     let events = events.as_slice();
-    let Some(place) = place_at(&checkpoint, events, line) else {
-        return Err(WhyFault::NoCall);
+    let Some(place) = place_at(&checkpoint, events, reads.as_slice(), line) else {
+        return Err(ShowFault::NoCall);
     };
     let mut meter = Meter::new(alloc)?;
     match place_explained(text, line, state, events, &place, &mut meter)? {
         Some(told) => Ok(told),
-        None => Err(WhyFault::NoCall),
+        None => Err(ShowFault::NoCall),
     }
 }

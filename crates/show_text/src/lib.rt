@@ -8,7 +8,6 @@
 mod explaining;
 mod facts;
 mod failures;
-mod faults;
 mod lines;
 mod parts;
 mod places;
@@ -16,6 +15,5 @@ mod program;
 mod shown;
 
 pub use explaining::why;
-pub use faults::WhyFault;
-pub use program::{NAME, why_on};
+pub use program::why_on;
 pub use shown::why_or_false;

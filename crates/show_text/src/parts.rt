@@ -1,27 +1,19 @@
 //! Conditions in words.
 ghost use Rattle.std.specs.Prelude.{◌≡◌, ◌++◌, ◌∷◌, ◌≤◌, [], OnOk, decimal, codes};
 ghost use Rattle.std.specs.List.{flat_map};
-ghost use Rattle.call_text.specs.Reply.{reply_text};
 ghost use Rattle.explained.specs.Parts.{is_against};
 ghost use Rattle.show_text.specs.Parts.{label_text, mapping_text, comparison_text, wanted_text, part_text, finding_text, part_mark, finding_mark, more_text};
 
 use crate::facts::fact_text;
 use crate::failures::put_failing;
 use base::{Meter, NoMemory};
-use call_text::{NameList, put_reply};
 use explained::{Comparison, Finding, Part};
 use itoa::Buffer;
 use kernel_rules::{Mapping, Reply};
 use label_lattice::Label;
+use show_states::put_bare;
 use std::alloc::AllocError;
 use text_words::put_number;
-
-/// Adds a reply, with each object and category by its number.
-pub fn put_bare(out: &mut Vec<u8>, reply: &Reply) -> Result<(), NoMemory>
-    ensures { OnOk result (out.new.items ≡ out.old.items ++ reply_text [] reply.now) }
-{
-    put_reply(out, reply, &NameList { named: &[] })
-}
 
 /// Adds a label, where it is there.
 fn put_label(out: &mut Vec<u8>, label: &Option<Label>) -> Result<(), NoMemory>

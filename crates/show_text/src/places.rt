@@ -6,6 +6,7 @@ ghost use Rattle.std.specs.List.{flat_map};
 ghost use Rattle.show_text.specs.Places.{lines_before, place_of, place_in, place_from, place_at};
 
 use checkpoints::{Checkpoint, RawBody, Recorded};
+use dump_text::{PlacedRead, part_reads};
 use histories::{Answered, Event};
 
 /// Calls of an event that a line tells.
@@ -75,19 +76,26 @@ fn place_in(number: usize, event: &Event, left: u64) -> Place
     place_of(number, event.calls.len(), left)
 }
 
-/// What the line after the first `skipped` lines of events tells.
-fn place_from(events: &[Event], skipped: u64) -> Option<Place>
-    ensures { result ≡ place_from 0 events.now skipped }
+/// What the line after the first `skipped` lines of events and reads tells.
+fn place_from(events: &[Event], reads: &[PlacedRead], skipped: u64) -> Option<Place>
+    ensures { result ≡ place_from 0 events.now reads.now skipped }
 {
     let mut left = skipped;
-    let mut number = 0usize;
-    for event in events {
+    let mut rest = reads;
+    for number in 0..events.len() {
+        let (here, past) = part_reads(number, rest);
+        let asked = here.len() as u64;
+        if left < asked {
+            return None;
+        }
+        left -= asked;
+        let event = &events[number];
         let count = event_line_count(event);
         if left < count {
             return Some(place_in(number, event, left));
         }
         left -= count;
-        number += 1;
+        rest = past;
     }
     None
 }
@@ -145,12 +153,17 @@ fn lines_before(checkpoint: &Option<Checkpoint>) -> u128
 }
 
 /// What a line of a dump tells, where it tells calls. Lines count from 1.
-pub fn place_at(checkpoint: &Option<Checkpoint>, events: &[Event], line: u64) -> Option<Place>
-    ensures { result ≡ place_at checkpoint.now events.now line }
+pub fn place_at(
+    checkpoint: &Option<Checkpoint>,
+    events: &[Event],
+    reads: &[PlacedRead],
+    line: u64,
+) -> Option<Place>
+    ensures { result ≡ place_at checkpoint.now events.now reads.now line }
 {
     let before = lines_before(checkpoint);
     if u128::from(line) <= before {
         return None;
     }
-    place_from(events, (u128::from(line) - before - 1) as u64)
+    place_from(events, reads, (u128::from(line) - before - 1) as u64)
 }

@@ -5,18 +5,18 @@ ghost use Rattle.auditor.specs.Lines.{verdict_line};
 ghost use Rattle.auditor.specs.declared.verdicts.Verdict.TheVariants.{Clean as Legal, False as FalseAt};
 
 use crate::explaining::why;
-use crate::faults::WhyFault;
 use auditor::{Verdict, audit, put_verdict};
 use base::NoMemory;
+use show_states::ShowFault;
 use std::alloc::Global;
 
 /// Why the calls of a line are answered as they are, and nothing where it tells none.
-fn why_or_none(alloc: Global, text: &[u8], line: u64) -> Result<Vec<u8>, WhyFault>
+fn why_or_none(alloc: Global, text: &[u8], line: u64) -> Result<Vec<u8>, ShowFault>
     ensures { IsWhyOrNone text.now line result }
 {
     match why(alloc, text, line) {
-        Err(WhyFault::NoCall) => Ok(Vec::new(alloc)),
-        Err(WhyFault::IllFormed) => Ok(Vec::new(alloc)),
+        Err(ShowFault::NoCall) => Ok(Vec::new(alloc)),
+        Err(ShowFault::IllFormed) => Ok(Vec::new(alloc)),
         told => told,
     }
 }
@@ -42,7 +42,7 @@ fn false_shown(alloc: Global, line: u64, more: &[u8]) -> Result<Vec<u8>, NoMemor
 
 /// Why the calls of a line are answered as they are, or, where no line is named, the verdict on the dump, and of a false one
 /// why the calls of its first false line are answered as they are by the rules.
-pub fn why_or_false(alloc: Global, text: &[u8], line: Option<u64>) -> Result<Vec<u8>, WhyFault>
+pub fn why_or_false(alloc: Global, text: &[u8], line: Option<u64>) -> Result<Vec<u8>, ShowFault>
     ensures { IsShown line text.now result }
 {
     if let Some(line) = line {
@@ -54,6 +54,6 @@ pub fn why_or_false(alloc: Global, text: &[u8], line: Option<u64>) -> Result<Vec
             let more = why_or_none(alloc, text, line)?;
             Ok(false_shown(alloc, line, more.as_slice())?)
         }
-        Verdict::Unreadable(line) => Err(WhyFault::Unreadable(line)),
+        Verdict::Unreadable(line) => Err(ShowFault::Unreadable(line)),
     }
 }

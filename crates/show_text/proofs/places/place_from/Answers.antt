@@ -1,20 +1,29 @@
-use Rattle.std.proofs.Common.{Option, Some, ap, sym, ◌∙◌, arith}
-use Rattle.show_text.proofs.PlaceLaws.{here, further}
+use Rattle.std.proofs.Common.{◌+◌, ◌-◌, List, Some, length, drop, ap, sym, ◌∙◌}
+use Rattle.dump_text.specs.declared.tables.PlacedRead.{PlacedRead}
+use Rattle.show_text.proofs.PlaceLaws.{asked, here, further}
+use Rattle.show_text.specs.Places.{place_from}
 use Rattle.show_text.specs.declared.places.Place.{Place}
 use Rattle.show_text.proofs.places.place_from.Goals as goal
 
-pub loop-event-preserved : goal.loop-event-preserved
-loop-event-preserved c = record {
-  number = omega arith;
-  place = sym (further c.loop-event.event-index c.loop-event.left c.event_line_count-count.result c.event-item.result c.args.events.now
-      c.loop-event-test.true c.event-item.is c.event_line_count-count.ensures c.if-left-count.false)
-      ∙ c.loop-event.invariant.place;
-}
+pub loop-number-preserved : goal.loop-number-preserved
+loop-number-preserved c =
+    ap (λ (rs : List PlacedRead). place_from (c.loop-number.number + 1) (drop (c.loop-number.number + 1) c.args.events.now) rs
+    (c.loop-number.left - length c.part_reads.result.0.now - c.event_line_count-count.result)) c.part_reads.ensures.past
+    ∙ sym (further c.loop-number.number c.loop-number.left (length c.part_reads.result.0.now) c.event_line_count-count.result
+    c.index-events-number.result c.args.events.now c.loop-number.rest.now c.loop-number-test.true c.index-events-number.is
+    (ap length c.part_reads.ensures.here) c.if-left-asked.false c.event_line_count-count.ensures c.if-left-count.false)
+    ∙ c.loop-number.invariant
+
+pub returns-then-left-asked : goal.returns-then-left-asked
+returns-then-left-asked c =
+    asked c.loop-number.number c.loop-number.left (length c.part_reads.result.0.now) (drop c.loop-number.number c.args.events.now)
+    c.loop-number.rest.now (ap length c.part_reads.ensures.here) c.if-left-asked.true
+    ∙ c.loop-number.invariant
 
 pub returns-then-left-count : goal.returns-then-left-count
 returns-then-left-count c =
     ap (λ (p : Place). Some p) c.place_in.ensures
-    ∙ here c.loop-event.event-index c.loop-event.number c.loop-event.left c.event_line_count-count.result c.event-item.result
-    c.args.events.now c.loop-event-test.true c.event-item.is c.loop-event.invariant.number c.event_line_count-count.ensures
-    c.if-left-count.true
-    ∙ c.loop-event.invariant.place
+    ∙ here c.loop-number.number c.loop-number.left (length c.part_reads.result.0.now) c.event_line_count-count.result
+    c.index-events-number.result c.args.events.now c.loop-number.rest.now c.loop-number-test.true c.index-events-number.is
+    (ap length c.part_reads.ensures.here) c.if-left-asked.false c.event_line_count-count.ensures c.if-left-count.true
+    ∙ c.loop-number.invariant

@@ -1,0 +1,30 @@
+-- What is shown of a dump.
+use Rattle.std.specs.Global.{Vec}
+use Rattle.std.specs.Prelude.{◌≡◌, ℕ, List, [], Option, Some, None, Result, Ok, Err}
+use Rattle.std.specs.Io.KnownBytes.{Appends}
+use Rattle.auditor.specs.Verdict.{IsVerdict}
+use Rattle.auditor.specs.declared.verdicts.Verdict.TheVariants as is
+use Rattle.base.specs.declared.ids.Category.{Category}
+use Rattle.dot_text.specs.Dots.{dot_text}
+use Rattle.dot_text.specs.declared.faults.DotFault.{DotFault}
+use Rattle.dot_text.specs.declared.faults.DotFault.TheVariants as faults
+use Rattle.kernel_rules.specs.State.{State}
+use Rattle.show_states.specs.States.{LeadsTo, IsWhyNone}
+use Rattle.tracing.specs.Traces.{Traces}
+
+-- which objects are red: those that flows from an object outside a category reach in the dump, where they are asked for
+abbrev pub IsRed : Option (ℕ × Category) → List ℕ → List ℕ → Type 0
+IsRed None text reached = reached ≡ []
+IsRed (Some flow) text reached = Traces text flow.1.0 flow.0 reached
+
+-- the graph of the state that all events of a dump lead to. NotClean: flows are asked for, and an audit does not find the dump
+-- clean
+abbrev pub IsDot : Option (ℕ × Category) → List ℕ → Result (Vec ℕ) DotFault → Type 0
+IsDot flow text (Ok told) =
+    (s : State) × LeadsTo text None s × ((reached : List ℕ) × IsRed flow text reached × (told.items ≡ dot_text s reached))
+IsDot flow text (Err (faults.Unshown fault)) = IsWhyNone text fault
+IsDot flow text (Err faults.NotClean) = IsVerdict text is.Clean → ⊥
+
+-- the same of a dump that was read, added to what was printed
+abbrev pub PrintsDot : Option (ℕ × Category) → Option (List ℕ) → Option (List ℕ) → List ℕ → Type 0
+PrintsDot flow old new text = (told : Vec ℕ) × IsDot flow text (Ok told) × Appends old new told.items

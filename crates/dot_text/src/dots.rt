@@ -1,0 +1,123 @@
+//! The graph.
+ghost use Rattle.std.specs.Prelude.{◌≡◌, ◌++◌, ◌+◌, ◌^◌, ◌<◌, IfErr, IfOk, OnOk};
+ghost use Rattle.dot_text.specs.Dots.{opened_at, closed_at, dot_from, dot_text};
+ghost use Rattle.dot_text.specs.Shown.{IsRed, IsDot};
+ghost use Rattle.plain_state.specs.StateOf.{state_of};
+
+use crate::faults::DotFault;
+use crate::nodes::{put_closed, put_opened};
+use base::{Category, Meter, NoMemory, ObjectId};
+use clean_dumps::DumpFault;
+use plain_state::PlainState;
+use show_states::{ShowFault, state_after};
+use std::alloc::Global;
+use tracing::trace;
+use tree_text::Place;
+
+/// Adds what stands at a place before what the object there lists.
+fn put_before(
+    out: &mut Vec<u8>,
+    state: &PlainState,
+    reached: &[ObjectId],
+    place: &Place,
+    meter: &mut Meter,
+) -> Result<(), NoMemory>
+    ensures { OnOk result (out.new.items
+        ≡ out.old.items ++ opened_at (state_of state.now) reached.now place.now) }
+{
+    match state.object(place.id) {
+        None => Ok(()),
+        Some(object) => put_opened(out, state, reached, place, object, meter),
+    }
+}
+
+/// Adds what stands at a place after what the object there lists.
+fn put_after(out: &mut Vec<u8>, state: &PlainState, place: &Place) -> Result<(), NoMemory>
+    ensures { OnOk result (out.new.items ≡ out.old.items ++ closed_at (state_of state.now) place.now) }
+{
+    match state.object(place.id) {
+        None => Ok(()),
+        Some(object) => put_closed(out, place, object),
+    }
+}
+
+/// Adds so many levels of the graph from a place on.
+fn put_dot(
+    out: &mut Vec<u8>,
+    state: &PlainState,
+    reached: &[ObjectId],
+    levels: u32,
+    place: &Place,
+    meter: &mut Meter,
+) -> Result<(), NoMemory>
+    requires { place.now.depth + levels < 2 ^ 62 }
+    ensures { OnOk result (out.new.items
+        ≡ out.old.items ++ dot_from (state_of state.now) reached.now levels place.now) }
+{
+    if levels == 0 {
+        return Ok(());
+    }
+    put_before(out, state, reached, place, meter)?;
+    for id in state.list(place.id) {
+        put_dot(out, state, reached, levels - 1, &place.below(*id), meter)?;
+    }
+    put_after(out, state, place)?;
+    Ok(())
+}
+
+/// The graph of a state, in which these objects are reached.
+fn dot_of(state: &PlainState, reached: &[ObjectId]) -> Result<Vec<u8>, NoMemory>
+    ensures { IfOk result (λ text. text.items ≡ dot_text (state_of state.now) reached.now) }
+{
+    let mut meter = Meter::new(state.alloc())?;
+    let mut text = Vec::new(state.alloc());
+    let levels = state.quota(ObjectId::root());
+    text.extend_from_slice(b"digraph dump {\nnode [shape=box];\n")?;
+    put_dot(
+        &mut text,
+        state,
+        reached,
+        levels,
+        &Place::root(),
+        &mut meter,
+    )?;
+    text.extend_from_slice(b"}\n")?;
+    Ok(text)
+}
+
+/// Which objects are red: what flows reach, where they are asked for.
+fn red_in(
+    alloc: Global,
+    text: &[u8],
+    flow: Option<(ObjectId, Category)>,
+) -> Result<Vec<ObjectId>, DotFault>
+    ensures red { IfOk result (λ ids. IsRed flow text.now ids.items) }
+    ensures fault { IfErr result (λ fault. IsDot flow text.now (Err fault)) }
+{
+    let Some(asked) = flow else {
+        return Ok(Vec::new(alloc));
+    };
+    match trace(alloc, text, asked.0, asked.1) {
+        Ok(ids) => Ok(ids),
+        Err(DumpFault::NotClean) => Err(DotFault::NotClean),
+        Err(DumpFault::NoMemory) => Err(DotFault::Unshown(ShowFault::Memory)),
+    }
+}
+
+/// The objects that a dump leads to as a graph. Where flows are asked for, of an object outside a category, each object that
+/// they reach is red. The errors come in this order: the text is no dump, its checkpoint can't be restored, an audit does not
+/// find it clean; or there is no memory.
+pub fn dot(
+    alloc: Global,
+    text: &[u8],
+    flow: Option<(ObjectId, Category)>,
+) -> Result<Vec<u8>, DotFault>
+    ensures { IsDot flow text.now result }
+{
+    let state = match state_after(alloc, text, None) {
+        Ok(state) => state,
+        Err(fault) => return Err(DotFault::Unshown(fault)),
+    };
+    let red = red_in(alloc, text, flow)?;
+    Ok(dot_of(&state, red.as_slice())?)
+}

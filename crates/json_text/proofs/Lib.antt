@@ -1,0 +1,3 @@
+pub mod FloatLaws
+pub mod PieceLaws
+pub mod ValueLaws

@@ -1,0 +1,4 @@
+pub mod Objects
+pub mod Places
+pub mod Slots
+pub mod Trees

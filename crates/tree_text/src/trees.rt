@@ -1,0 +1,72 @@
+//! The tree.
+ghost use Rattle.std.specs.Prelude.{◌≡◌, ◌++◌, ◌+◌, ◌^◌, ◌<◌, IfOk, OnOk};
+ghost use Rattle.plain_state.specs.StateOf.{state_of};
+ghost use Rattle.show_states.specs.States.{ShowsAfter};
+ghost use Rattle.tree_text.specs.Trees.{lines_at, tree_from, tree_text};
+
+use crate::objects::put_line;
+use crate::places::Place;
+use crate::slots::{put_slots, slots_of};
+use base::{Meter, NoMemory, ObjectId};
+use plain_state::PlainState;
+use show_states::{ShowFault, state_after};
+use std::alloc::Global;
+
+/// Adds the line of the object at a place, and those of its slots.
+fn put_lines(
+    out: &mut Vec<u8>,
+    state: &PlainState,
+    place: &Place,
+    meter: &mut Meter,
+) -> Result<(), NoMemory>
+    requires { place.now.depth < 2 ^ 62 }
+    ensures { OnOk result (out.new.items ≡ out.old.items ++ lines_at (state_of state.now) place.now) }
+{
+    let Some(object) = state.object(place.id) else {
+        return Ok(());
+    };
+    put_line(out, state, place, object, meter)?;
+    put_slots(out, place.depth + 1, 0, slots_of(object))
+}
+
+/// Adds so many levels of the tree from a place on.
+fn put_tree(
+    out: &mut Vec<u8>,
+    state: &PlainState,
+    levels: u32,
+    place: &Place,
+    meter: &mut Meter,
+) -> Result<(), NoMemory>
+    requires { place.now.depth + levels < 2 ^ 62 }
+    ensures { OnOk result (out.new.items
+        ≡ out.old.items ++ tree_from (state_of state.now) levels place.now) }
+{
+    if levels == 0 {
+        return Ok(());
+    }
+    put_lines(out, state, place, meter)?;
+    for id in state.list(place.id) {
+        put_tree(out, state, levels - 1, &place.below(*id), meter)?;
+    }
+    Ok(())
+}
+
+/// The tree of a state.
+fn tree_of(state: &PlainState) -> Result<Vec<u8>, NoMemory>
+    ensures { IfOk result (λ text. text.items ≡ tree_text (state_of state.now)) }
+{
+    let mut meter = Meter::new(state.alloc())?;
+    let mut text = Vec::new(state.alloc());
+    let levels = state.quota(ObjectId::root());
+    put_tree(&mut text, state, levels, &Place::root(), &mut meter)?;
+    Ok(text)
+}
+
+/// The objects that the first `after` events of a dump lead to, or all of them where no count is told, as a tree. The errors
+/// come in this order: the text is no dump, its checkpoint can't be restored; or there is no memory.
+pub fn tree(alloc: Global, text: &[u8], after: Option<u64>) -> Result<Vec<u8>, ShowFault>
+    ensures { ShowsAfter tree_text text.now after result }
+{
+    let state = state_after(alloc, text, after)?;
+    Ok(tree_of(&state)?)
+}
