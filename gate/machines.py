@@ -1,10 +1,10 @@
-"""Every script of examples/ that has no fault, and every one of the rules, on both machines by `both_machines`: the arena kernel
-and the plain one answer the same and have the same tables at the end, the replies are those that are stored of the
-program, and from the kernel's boot to its last answer nothing asks for memory. In all scripts together each of the 34
-calls is accepted."""
+"""Scripts on both machines by `both_machines`: every script of examples/ that has no fault, every one of the rules, and drawn ones, each
+of a stated seed. The arena kernel and the plain one answer the same and have the same tables at the end, the arena kernel keeps just
+the rows of translation that the tables show, the replies are those that are stored, where some are, and from the kernel's boot to its
+last answer nothing asks for memory. In all stored scripts together each of the 34 calls is accepted, and in the drawn ones each is
+accepted many times at each size."""
+import collections
 import glob
-import importlib.machinery
-import importlib.util
 import os
 import re
 import subprocess
@@ -13,39 +13,44 @@ from concurrent.futures import ThreadPoolExecutor
 
 from gate.memory import library
 from gate.plays import Script as Example
+from gate.rules import played_rules
+from gate.scripts import script
 
 LINE = re.compile(r"(?:\w+ = )?[\w#]+:\+? (\w+)")
 ANSWER = re.compile(r"\S+ (\d+): (\S+)")
 CALLS = 34
+SEED = 2006
+# Of drawn scripts the pages, how many there are, the most phases, and how often each call is accepted at least. Tables are compared
+# at the end, so there are many short ones where calls are quick.
+DRAWN = ((8, 240, 8, 2), (64, 150, 12, 20), (512, 75, 40, 20), (1_024, 110, 40, 20))
 
 
-def scripts_of_rules():
-    """The scripts of the rules: for each its name, its words, its text and what the program prints of it."""
-    path = "crates/rule_scripts/scripts/make.py"
-    loader = importlib.machinery.SourceFileLoader("make", path)
-    make = importlib.util.module_from_spec(importlib.util.spec_from_loader("make", loader))
-    loader.exec_module(make)
-    for scripts in make.all_scripts().values():
-        for it in scripts:
-            if it.is_played:
-                lines = make.in_phases(it.spoken)
-                words = [word for name, value in it.options.items() for word in (f"--{name}", value)]
-                yield Played(it.name, words, make.script_of(lines), make.output_of(lines))
-
-
-def examples():
+def stored():
+    """The scripts that have replies: those of examples/ and those of the rules."""
     for file in sorted(glob.glob("examples/*.histar")):
         it = Example(file)
         if it.status == 0:
             with open(file, encoding="utf-8") as text:
                 yield Played(file, it.words, text.read(), it.out)
+    for it in played_rules():
+        yield Played(it.name, it.words, it.text, it.out)
+
+
+def drawn():
+    """Scripts of a kernel of so many pages, each with a seed of its own."""
+    for pages, count, most, _ in DRAWN:
+        for number in range(count):
+            seed = f"{SEED} {pages} {number}"
+            text = script(seed, phases=1 + number % most, is_small=pages == 8)
+            yield Played(f"drawn script '{seed}'", ["--pages", str(pages)], text)
 
 
 class Played:
-    """A script with what the program prints of it."""
+    """A script, with what the program prints of it where that is stored."""
 
-    def __init__(self, name, words, text, out):
+    def __init__(self, name, words, text, out=None):
         self.name, self.words, self.text, self.out = name, words, text, out
+        self.printed = []
 
     def run(self, program, counter):
         """What both machines print of it, each write with the number of requests before it, and the status."""
@@ -67,18 +72,35 @@ class Played:
             return "no requests were counted"
         if counts["booted"] != counts["played"]:
             return f"{counts['booted']} requests for memory until boot, {counts['played']} until the last answer"
-        # (a kernel that is asked itself has no seats, and answers who is no thread in its own word)
-        made = [it.replace("refused 42 NoThread", "refused 1 Halted") for it in self.out.splitlines() if ": unbound " not in it]
-        if lines[1] != f"played {len(made)}" or sorted(lines[2:-1]) != sorted(made):
+        self.printed = lines[2:-1]
+        if lines[1] != f"played {len(self.printed)}" or not self.is_as_stored():
             return "other replies than are stored"
         return None
+
+    def is_as_stored(self):
+        """Whether it prints what is stored, if something is. (A kernel that is asked itself has no seats, and answers who is no thread in its
+        own word.)"""
+        if self.out is None:
+            return True
+        made = [it.replace("refused 42 NoThread", "refused 1 Halted") for it in self.out.splitlines() if ": unbound " not in it]
+        return sorted(self.printed) == sorted(made)
 
     def accepted(self):
         """The words of the calls that were accepted."""
         lines = self.text.splitlines()
-        for number, head in ANSWER.findall(self.out):
-            if head not in ("refused", "unbound"):
+        for number, head in ANSWER.findall("\n".join(self.printed)):
+            if head != "refused":
                 yield LINE.match(lines[int(number) - 1])[1]
+
+
+def play(report, program, counter, scripts):
+    """Plays scripts side by side, and answers whether all are well."""
+    with ThreadPoolExecutor(os.cpu_count()) as pool:
+        faults = list(pool.map(lambda it: it.fault(*it.run(program, counter)), scripts))
+    for it, fault in zip(scripts, faults):
+        if fault:
+            report.say(f"{it.name}: {fault}")
+    return bool(scripts) and not any(faults)
 
 
 def compare(report, tree, room):
@@ -89,12 +111,16 @@ def compare(report, tree, room):
         report.fails("both_machines: not built, so no script was compared")
         return
     counter = library(room, "count")
-    played = [*examples(), *scripts_of_rules()]
-    with ThreadPoolExecutor(os.cpu_count()) as pool:
-        faults = list(pool.map(lambda it: it.fault(*it.run(program, counter)), played))
-    for it, fault in zip(played, faults):
-        if fault:
-            report.say(f"{it.name}: {fault}")
-    report.counts(not any(faults), f"{len(played)} scripts: both machines answer and keep the same, and no call takes memory")
-    calls = {it for script in played for it in script.accepted()}
+    scripts = list(stored())
+    is_well = play(report, program, counter, scripts)
+    report.counts(is_well, f"{len(scripts)} scripts: both machines answer and keep the same, and no call takes memory")
+    calls = {word for it in scripts for word in it.accepted()}
     report.counts(len(calls) == CALLS, f"{len(calls)} of the {CALLS} calls are accepted in these scripts")
+    scripts = list(drawn())
+    is_well = play(report, program, counter, scripts)
+    lines = sum(len(it.printed) for it in scripts)
+    report.counts(is_well, f"{len(scripts)} drawn scripts: both machines answer and keep the same at {lines} calls and queries")
+    for pages, _, _, enough in DRAWN:
+        counts = collections.Counter(word for it in scripts if it.words[1] == str(pages) for word in it.accepted())
+        least = min(counts.values()) if len(counts) == CALLS else 0
+        report.counts(least >= enough, f"at {pages} pages each of the {CALLS} calls is accepted at least {least} times")

@@ -2,12 +2,13 @@
 //! arena kernel is booted, and gets the same calls and nothing else between the lines `booted` and `played`, so that whoever
 //! counts requests for memory sees what its calls take. It prints the lines that `histar` prints, in the script's order,
 //! by the arena kernel's replies, and last `same`, where all replies and the tables at the end are those of the plain
-//! machine. Without words it plays its standard input with the default limits.
+//! machine, and the rows of translation that are kept are those of the tables. Without words it plays its standard input with the default limits.
 #![tactic(auto)]
 
 mod arena;
 mod compared;
 mod plain;
+mod rows;
 
 use crate::arena::{Replies, asked_again};
 use crate::compared::{differing_step, put_steps};
@@ -34,6 +35,8 @@ enum Told {
     Differs(u32),
     /// They answer the same, and keep other tables.
     OtherTables,
+    /// The arena kernel keeps other rows of translation than its tables show.
+    OtherRows,
 }
 
 fn script_of<I: Read>(alloc: Global, input: &mut I) -> Result<Script, Fault> {
@@ -49,10 +52,12 @@ fn told_of(alloc: Global, played: &Played, replies: &Replies) -> Result<Told, No
     if let Some(number) = differing_step(alloc, played, replies)? {
         return Ok(Told::Differs(number));
     }
-    if are_equal(&played.tables, &replies.tables) {
-        Ok(Told::Same)
-    } else {
+    if !are_equal(&played.tables, &replies.tables) {
         Ok(Told::OtherTables)
+    } else if !replies.keeps_rows {
+        Ok(Told::OtherRows)
+    } else {
+        Ok(Told::Same)
     }
 }
 
@@ -80,6 +85,7 @@ fn say(rt: &HostRuntime, told: Told) -> Result<(), Fault> {
         Told::Same => println!(rt; "same"),
         Told::Differs(line) => println!(rt; "line {line} differs"),
         Told::OtherTables => println!(rt; "the tables differ"),
+        Told::OtherRows => println!(rt; "the kept rows differ"),
     };
     match said {
         Ok(()) => Ok(()),

@@ -1,6 +1,6 @@
 //! A script on the plain machine.
 use base::{Limits, Meter, NoMemory, ObjectId};
-use call_text::{Asked, Known, Line, NameList, Named, Script, Value, resolve, start_names};
+use call_text::{Asked, Known, Line, NameList, Named, Phase, Script, Value, resolve, start_names};
 use plain_core::{Machine, PlainKernel, Reply, Tables};
 use std::alloc::Global;
 use text_words::Name;
@@ -48,20 +48,27 @@ fn made(reply: &Reply) -> Option<Value> {
     }
 }
 
+/// The names that each script knows at its start.
+fn names_at_start(alloc: Global) -> Result<Vec<Named>, NoMemory> {
+    let mut names = Vec::new(alloc);
+    for named in start_names() {
+        names.push(named)?;
+    }
+    Ok(names)
+}
+
 impl Player {
     fn start(alloc: Global, limits: &Limits) -> Result<Player, NoMemory> {
-        let Ok(kernel) = PlainKernel::boot(alloc, limits) else {
-            return Err(NoMemory);
-        };
-        let mut names = Vec::new(alloc);
-        for named in start_names() {
-            names.push(named)?;
+        let names = names_at_start(alloc)?;
+        let meter = Meter::new(alloc)?;
+        match PlainKernel::boot(alloc, limits) {
+            Ok(kernel) => Ok(Player {
+                kernel,
+                meter,
+                names,
+            }),
+            Err(_) => Err(NoMemory),
         }
-        Ok(Player {
-            kernel,
-            meter: Meter::new(alloc)?,
-            names,
-        })
     }
 
     /// The thread of a line's worker and what it asks, where all its names are bound.
@@ -94,6 +101,37 @@ impl Player {
         Ok(())
     }
 
+    /// Plays all lines, and answers the tables then.
+    fn play_all(&mut self, script: &Script, steps: &mut Vec<Step>) -> Result<Tables, NoMemory> {
+        for phase in &script.phases {
+            self.play_phase(phase, steps)?;
+        }
+        self.kernel.tables(&mut self.meter)
+    }
+
+    /// Plays all lines, and ends: the names with what they are bound to then, and the tables.
+    fn end(
+        mut self,
+        script: &Script,
+        steps: &mut Vec<Step>,
+    ) -> Result<(Vec<Named>, Tables), NoMemory> {
+        let played = self.play_all(script, steps);
+        let Player { names, .. } = self;
+        match played {
+            Ok(tables) => Ok((names, tables)),
+            Err(error) => Err(error),
+        }
+    }
+
+    fn play_phase(&mut self, phase: &Phase, steps: &mut Vec<Step>) -> Result<(), NoMemory> {
+        for place in 0..phase.len() {
+            if let Some(line) = phase.line(place) {
+                self.play_line(&line, steps)?;
+            }
+        }
+        Ok(())
+    }
+
     fn play_line(&mut self, line: &Line<'_>, steps: &mut Vec<Step>) -> Result<(), NoMemory> {
         let Some((thread, asked)) = self.asked(line) else {
             return Ok(());
@@ -115,19 +153,12 @@ impl Player {
     }
 }
 
-/// Plays a script on a newly booted plain kernel, a line after another.
+/// Plays a script on a newly booted plain kernel, a line after another. (Who owns a kernel leaves the work to what borrows it: its
+/// drop would be written out at each place to leave early.)
 pub fn play(alloc: Global, script: &Script, limits: &Limits) -> Result<Played, NoMemory> {
-    let mut player = Player::start(alloc, limits)?;
+    let player = Player::start(alloc, limits)?;
     let mut steps = Vec::new(alloc);
-    for phase in &script.phases {
-        for place in 0..phase.len() {
-            if let Some(line) = phase.line(place) {
-                player.play_line(&line, &mut steps)?;
-            }
-        }
-    }
-    let tables = player.kernel.tables(&mut player.meter)?;
-    let Player { names, .. } = player;
+    let (names, tables) = player.end(script, &mut steps)?;
     Ok(Played {
         steps,
         names,

@@ -1,5 +1,5 @@
-//! Tests of checkpoints: one that is restored and played on, checkpoints that want to keep a machine
-//! busy, one wrong checkpoint for each condition, and each made again where there was no memory.
+//! Tests of checkpoints: one that is restored and played on, one that no dump can have, and each made
+//! again where there was no memory.
 #![tactic(auto)]
 
 /// This crate has tests alone.
@@ -7,8 +7,6 @@ pub fn checkpoints_are_tested() {}
 
 #[cfg(test)]
 mod conditions;
-#[cfg(test)]
-mod hostile;
 #[cfg(test)]
 mod memory;
 #[cfg(test)]

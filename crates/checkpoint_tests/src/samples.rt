@@ -1,12 +1,9 @@
 //! Checkpoints to restore.
-use base::{Data, Limits, NoMemory, ObjectId, TypeSet};
+use base::{Limits, NoMemory, ObjectId};
 use kernel_rules::{Call, IdList, Mapping, Reply};
-use plain_core::{
-    Answered, Attributes, Checkpoint, Event, PlainKernel, RawBody, RawObject, Recorded,
-    RestoreFault, checkpoint,
-};
+use plain_core::{Answered, Checkpoint, Event, PlainKernel, RestoreFault, checkpoint};
 use std::alloc::Global;
-use test_support::{LIMITS, boot_thread, plain};
+use test_support::{LIMITS, boot_thread};
 
 /// Adds a call, whose reply a checkpoint doesn't read.
 fn add_call(calls: &mut Vec<Answered>, call: &Call) -> Result<(), NoMemory> {
@@ -48,14 +45,6 @@ pub fn events_of(alloc: Global, calls: &[Call]) -> Result<Vec<Event>, NoMemory> 
     Ok(events)
 }
 
-/// Not read-only for good, and metadata of zeros.
-pub fn unset() -> Attributes {
-    Attributes {
-        immutable: false,
-        metadata: Data::from_slice(&[0; 64]),
-    }
-}
-
 /// The checkpoint after events, with limits in range.
 pub fn after(alloc: Global, limits: &Limits, events: &[Event]) -> Result<Checkpoint, NoMemory> {
     if limits.is_in_range() {
@@ -88,26 +77,4 @@ pub fn list_of(alloc: Global, ids: &[u64], times: usize) -> Result<IdList, NoMem
         }
     }
     Ok(list)
-}
-
-/// An object with its id, labelled {1}.
-pub fn recorded(id: u64, quota: u32, body: RawBody) -> Recorded {
-    Recorded {
-        id: ObjectId::new(id),
-        object: RawObject {
-            label: plain(),
-            quota,
-            fixed: false,
-            body,
-        },
-    }
-}
-
-/// A container with its id and its list.
-pub fn container(id: u64, quota: u32, list: IdList) -> Recorded {
-    recorded(
-        id,
-        quota,
-        RawBody::Container(unset(), TypeSet::none(), list),
-    )
 }

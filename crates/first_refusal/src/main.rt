@@ -4,8 +4,9 @@
 
 use base::{Category, Level, Limits, Meter, ObjectId, Refusal};
 use label_lattice::{Pair, RawLabel};
+use std::alloc::Global;
 use std::io;
-use syscall_core::{Call, Entry, Kernel, NewSegment, NewThread, Query, Reply};
+use syscall_core::{BootRefusal, Call, Entry, Kernel, NewSegment, NewThread, Query, Reply};
 
 /// A new category, which the thread owns.
 fn new_category(kernel: &mut Kernel, thread: ObjectId, meter: &mut Meter) -> Option<Category> {
@@ -78,21 +79,25 @@ fn read_a_secret(kernel: &mut Kernel, meter: &mut Meter) -> Option<Refusal> {
     refusal_of_read(kernel, stranger, secret, meter)
 }
 
-fn main(rt: HostRuntime) -> io::Result<()> {
+/// The same on a newly booted kernel of 64 pages.
+fn read_in_new_kernel(alloc: Global, meter: &mut Meter) -> Result<Option<Refusal>, BootRefusal> {
     let limits = Limits {
         pages: 64,
         device: Level::L1,
         next_id: 4,
         next_category: 1,
     };
-    let (Ok(mut kernel), Ok(mut meter)) = (
-        Kernel::boot(rt.alloc(), &limits),
-        Meter::new(rt.alloc()),
-    ) else {
-        return println!(rt; "no boot");
+    let mut kernel = Kernel::boot(alloc, &limits)?;
+    Ok(read_a_secret(&mut kernel, meter))
+}
+
+fn main(rt: HostRuntime) -> io::Result<()> {
+    let Ok(mut meter) = Meter::new(rt.alloc()) else {
+        return println!(rt; "no meter");
     };
-    match read_a_secret(&mut kernel, &mut meter) {
-        Some(refusal) => println!(rt; "refused {} {}", refusal.number(), refusal.name()),
-        None => println!(rt; "not refused"),
+    match read_in_new_kernel(rt.alloc(), &mut meter) {
+        Ok(Some(refusal)) => println!(rt; "refused {} {}", refusal.number(), refusal.name()),
+        Ok(None) => println!(rt; "not refused"),
+        Err(_) => println!(rt; "no boot"),
     }
 }

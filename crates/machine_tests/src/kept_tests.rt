@@ -1,21 +1,26 @@
 //! What the arena kernel keeps, after a boot and a call.
+use crate::cases::{Case, play};
 use crate::metered::Metered;
-use base::ObjectId;
+use base::{NoMemory, ObjectId};
 use label_intern::LabelIx;
+use std::process::Abort;
 use std::test::Fail;
 use syscall_core::{Call, Reply};
 use test_support::{agree, boot_thread, device};
 
-#[test]
-fn what_is_kept_is_told(rt: HostRuntime) -> Result<(), Fail> {
-    let mut kernel = Metered::boot(rt.alloc())?;
+/// Threads, uses and live objects.
+pub fn booted<R: Abort>(rt: &R, kernel: &mut Metered) {
     assert!(rt; kernel.is_thread(boot_thread()));
     assert!(rt; !kernel.is_thread(device()));
     assert!(rt; agree(kernel.kept_use(ObjectId::root()), Some(4)));
     assert!(rt; agree(kernel.kept_use(ObjectId::new(4)), None));
     assert!(rt; agree(kernel.kept_live(2), Some(device())));
     assert!(rt; agree(kernel.kept_live(3), None));
-    Ok(())
+}
+
+#[test]
+fn what_is_kept_is_told(rt: HostRuntime) -> Result<(), Fail> {
+    play(&rt, rt.alloc(), Case::Booted)
 }
 
 /// How many labels are kept, where each of them has an order with itself.
@@ -32,20 +37,25 @@ fn kept_labels(kernel: &Metered) -> Option<u16> {
     Some(stored)
 }
 
+/// The labels {1}, {2} and {3}.
+pub fn labels<R: Abort>(rt: &R, kernel: &Metered) {
+    assert!(rt; agree(kept_labels(kernel), Some(3)));
+}
+
 #[test]
 fn kept_labels_have_their_order(rt: HostRuntime) -> Result<(), Fail> {
-    let kernel = Metered::boot(rt.alloc())?;
-    // The labels {1}, {2} and {3}.
-    assert!(rt; agree(kept_labels(&kernel), Some(3)));
+    play(&rt, rt.alloc(), Case::Labels)
+}
+
+/// The labels {1}, {3}, and what the boot thread has now: {1:*,1} and {1:3,2}.
+pub fn tables<R: Abort>(rt: &R, kernel: &mut Metered) -> Result<(), NoMemory> {
+    let reply = kernel.step(&Call::CatCreate);
+    assert!(rt; matches!(reply, Reply::Category(_)));
+    assert!(rt; agree(kernel.labels()?, 4));
     Ok(())
 }
 
 #[test]
 fn tables_have_what_is_named_now(rt: HostRuntime) -> Result<(), Fail> {
-    let mut kernel = Metered::boot(rt.alloc())?;
-    let reply = kernel.step(&Call::CatCreate);
-    assert!(rt; matches!(reply, Reply::Category(_)));
-    // {1}, {3}, and what the boot thread has now: {1:*,1} and {1:3,2}.
-    assert!(rt; agree(kernel.labels()?, 4));
-    Ok(())
+    play(&rt, rt.alloc(), Case::Tables)
 }

@@ -3,8 +3,8 @@ use base::{Limits, Meter, NoMemory, ObjectId};
 use label_intern::LabelIx;
 use std::alloc::Global;
 use std::test::Fail;
-use syscall_core::{Call, Kernel, Query, Reply};
-use test_support::{LIMITS, boot_thread};
+use syscall_core::{Call, Kernel, Query, Reply, run};
+use test_support::boot_thread;
 
 /// A kernel, the meter of its calls, and another for its tables.
 #[derive(Drop)]
@@ -15,17 +15,13 @@ pub struct Metered {
 }
 
 impl Metered {
-    /// A kernel after its boot.
-    pub fn boot(alloc: Global) -> Result<Metered, Fail> {
-        Metered::boot_with(alloc, &LIMITS)
-    }
-
     /// A kernel of these limits after its boot.
-    pub fn boot_with(alloc: Global, limits: &Limits) -> Result<Metered, Fail> {
+    pub fn boot(alloc: Global, limits: &Limits) -> Result<Metered, Fail> {
+        // (The kernel comes last: what fails after it would drop it.)
         Ok(Metered {
-            kernel: Kernel::boot(alloc, limits)?,
             meter: Meter::new(alloc)?,
             recomputing: Meter::new(alloc)?,
+            kernel: Kernel::boot(alloc, limits)?,
         })
     }
 
@@ -64,6 +60,15 @@ impl Metered {
     pub fn step(&mut self, call: &Call) -> Reply {
         self.kernel
             .step_surely(boot_thread(), call, &mut self.meter)
+    }
+
+    /// What these calls answer, one after another.
+    pub fn run(
+        &mut self,
+        alloc: Global,
+        calls: &[(ObjectId, Call)],
+    ) -> Result<Vec<Reply>, NoMemory> {
+        run(alloc, &mut self.kernel, calls)
     }
 
     /// How many labels a call of the boot thread scans, where it is not refused.

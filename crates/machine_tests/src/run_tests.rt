@@ -1,19 +1,30 @@
 //! A list of calls that is run on the arena kernel.
-use base::Category;
+use crate::cases::{Case, play};
+use crate::metered::Metered;
+use base::{Category, NoMemory};
+use std::alloc::Global;
+use std::process::Abort;
 use std::test::Fail;
-use syscall_core::{Call, Kernel, Reply, run};
-use test_support::{LIMITS, boot_thread};
+use syscall_core::{Call, Reply};
+use test_support::boot_thread;
 
-#[test]
-fn calls_are_run(rt: HostRuntime) -> Result<(), Fail> {
+/// Two categories are made.
+pub fn run_two<R: Abort>(rt: &R, alloc: Global, kernel: &mut Metered) -> Result<(), NoMemory> {
     let calls = [
         (boot_thread(), Call::CatCreate),
         (boot_thread(), Call::CatCreate),
     ];
-    let mut kernel = Kernel::boot(rt.alloc(), &LIMITS)?;
-    let replies = run(rt.alloc(), &mut kernel, &calls)?;
-    assert_eq!(rt; replies.len(), 2);
-    assert!(rt; matches!(replies[0], Reply::Category(Category(1))));
-    assert!(rt; matches!(replies[1], Reply::Category(Category(2))));
+    let replies = kernel.run(alloc, &calls)?;
+    assert!(rt;
+        matches!(
+            replies.as_slice(),
+            [Reply::Category(Category(1)), Reply::Category(Category(2))]
+        )
+    );
     Ok(())
+}
+
+#[test]
+fn calls_are_run(rt: HostRuntime) -> Result<(), Fail> {
+    play(&rt, rt.alloc(), Case::Run)
 }

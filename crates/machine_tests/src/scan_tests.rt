@@ -1,12 +1,13 @@
 //! How many labels calls of the arena kernel scan, and how many cells they read, by a meter.
+use crate::cases::{Case, play};
 use crate::metered::Metered;
-use base::{Data, Level, Limits, ObjectId};
+use base::{Data, Level, NoMemory, ObjectId};
 use kernel_rules::{Entry, NewGate};
-use std::alloc::Global;
+use std::process::Abort;
 use std::test::Fail;
 use syscall_core::{Call, Query};
 use test_support::{
-    LIMITS, agree, everywhere, in_root, new_container, new_segment, new_thread, no_entry, plain,
+    agree, everywhere, in_root, new_container, new_segment, new_thread, no_entry, plain,
 };
 
 /// A call that makes a gate with the clearance {2} and without an address space.
@@ -35,9 +36,8 @@ fn stored_by(place: usize) -> (Call, u64) {
     }
 }
 
-#[test]
-fn few_labels_are_scanned(rt: HostRuntime) -> Result<(), Fail> {
-    let mut metered = Metered::boot(rt.alloc())?;
+/// Calls of several kinds scan few labels.
+pub fn calls<R: Abort>(rt: &R, metered: &mut Metered) -> Result<(), NoMemory> {
     for place in 0..7 {
         let (call, stores) = stored_by(place);
         assert!(rt; metered.scans_few(&call, stores)?, "call {place}");
@@ -45,128 +45,143 @@ fn few_labels_are_scanned(rt: HostRuntime) -> Result<(), Fail> {
     Ok(())
 }
 
-/// How many labels a call scans right after a boot, where it is not refused.
-fn scans_after_boot(alloc: Global, call: &Call) -> Result<Option<u64>, Fail> {
-    let mut metered = Metered::boot(alloc)?;
-    Ok(metered.scans(call))
+#[test]
+fn few_labels_are_scanned(rt: HostRuntime) -> Result<(), Fail> {
+    play(&rt, rt.alloc(), Case::Calls)
 }
 
-// A boot stores three labels. A new thread stores three more, a new label of the caller one more, and what stores none scans
-// none.
+/// A boot stores three labels. A new thread stores three more.
+pub fn thread<R: Abort>(rt: &R, metered: &mut Metered) {
+    assert!(rt; matches!(metered.scans(&new_thread()), Some(0..=156)));
+}
+
+/// A new label of the caller is one more.
+pub fn new_label<R: Abort>(rt: &R, metered: &mut Metered) {
+    let call = Call::SelfSetLabel { label: plain() };
+    assert!(rt; matches!(metered.scans(&call), Some(0..=60)));
+}
+
+/// What stores no label scans none.
+pub fn device<R: Abort>(rt: &R, metered: &mut Metered) {
+    let call = Call::Unref { entry: in_root(3) };
+    assert!(rt; agree(metered.scans(&call), Some(0)));
+}
+
 #[test]
 fn a_booted_kernel_scans_few_labels(rt: HostRuntime) -> Result<(), Fail> {
-    let thread = scans_after_boot(rt.alloc(), &new_thread())?;
-    assert!(rt; matches!(thread, Some(0..=156)));
-    let label = scans_after_boot(rt.alloc(), &Call::SelfSetLabel { label: plain() })?;
-    assert!(rt; matches!(label, Some(0..=60)));
-    let device = scans_after_boot(rt.alloc(), &Call::Unref { entry: in_root(3) })?;
-    assert!(rt; agree(device, Some(0)));
-    Ok(())
+    play(&rt, rt.alloc(), Case::NewThread)?;
+    play(&rt, rt.alloc(), Case::NewLabel)?;
+    play(&rt, rt.alloc(), Case::Device)
+}
+
+/// A read that is refused scans no label.
+pub fn refused_read<R: Abort>(rt: &R, metered: &mut Metered) {
+    assert!(rt; agree(metered.scans_asked(&read_of(3, 1)), 0));
 }
 
 #[test]
 fn a_refused_read_scans_none(rt: HostRuntime) -> Result<(), Fail> {
-    let mut metered = Metered::boot(rt.alloc())?;
-    let read = Query::SegmentRead {
-        entry: in_root(3),
-        offset: 0,
-        count: 1,
-    };
-    assert!(rt; agree(metered.scans_asked(&read), 0));
-    Ok(())
+    play(&rt, rt.alloc(), Case::RefusedRead)
 }
 
-// A create reads three hints; looks for a link from the container to itself, which has none, by two reads; moves a cell of two
-// families, which is thirteen; takes a frame for its page; and reads the hint of what it made, and that its slot names no thread.
+/// A create reads three hints; looks for a link from the container to itself, which has none, by two reads; moves a cell of
+/// two families, which is thirteen; takes a frame for its page; and reads the hint of what it made, and that its slot names
+/// no thread.
+pub fn create<R: Abort>(rt: &R, metered: &mut Metered) {
+    assert!(rt; agree(metered.probes(&new_segment(plain())), Some(21)));
+}
+
 #[test]
 fn a_create_counts_what_it_reads(rt: HostRuntime) -> Result<(), Fail> {
-    let mut metered = Metered::boot(rt.alloc())?;
-    assert!(rt; agree(metered.probes(&new_segment(plain())), Some(21)));
-    Ok(())
+    play(&rt, rt.alloc(), Case::Create)
+}
+
+/// A write to the first segment that is made, which has this id, reads so many cells.
+pub fn write<R: Abort>(rt: &R, metered: &mut Metered, id: u64, wanted: u64) {
+    metered.step(&new_segment(plain()));
+    let write = Call::SegmentWrite {
+        entry: in_root(id),
+        offset: 0,
+        data: Data::from_slice(&[7; 4]),
+    };
+    assert!(rt; agree(metered.probes(&write), Some(wanted)));
 }
 
 // A write reads three hints, the first link to the segment with its container, and the page.
 #[test]
 fn a_write_counts_what_it_reads(rt: HostRuntime) -> Result<(), Fail> {
-    let mut metered = Metered::boot(rt.alloc())?;
-    metered.step(&new_segment(plain()));
-    let write = Call::SegmentWrite {
-        entry: in_root(4),
-        offset: 0,
-        data: Data::from_slice(&[7; 4]),
-    };
-    assert!(rt; agree(metered.probes(&write), Some(6)));
-    Ok(())
+    play(&rt, rt.alloc(), Case::Write)
 }
 
-// An arena of 64 slots has 512 places for hints, so the root has that of object 513. A write to this reads three hints, and
-// finds each id then: by the hints of the thread and the container, by the hint that is not the segment's, two halves and a slot.
-// It reads the first link to the segment with its container, and the page.
+// A write to what has the root's place for hints reads three hints, and finds each id then: by the hints of the thread and the
+// container, by the hint that is not the segment's, two halves and a slot. It reads the first link to the segment with its
+// container, and the page.
 #[test]
 fn a_write_without_a_hint_counts_more(rt: HostRuntime) -> Result<(), Fail> {
-    let limits = Limits {
-        next_id: 513,
-        ..LIMITS
-    };
-    let mut metered = Metered::boot_with(rt.alloc(), &limits)?;
-    metered.step(&new_segment(plain()));
-    let write = Call::SegmentWrite {
-        entry: in_root(513),
-        offset: 0,
-        data: Data::from_slice(&[7; 4]),
-    };
-    assert!(rt; agree(metered.probes(&write), Some(12)));
-    Ok(())
+    play(&rt, rt.alloc(), Case::WriteWithoutHint)
 }
 
-// A link reads three hints for its container and three for what it names; the first link to the object with its container, once
-// for each of the two; that there is no second link; and the object's mark. It moves a cell of two families, which is thirteen
-// reads.
-#[test]
-fn a_link_counts_what_it_reads(rt: HostRuntime) -> Result<(), Fail> {
-    let mut metered = Metered::boot(rt.alloc())?;
+/// The container 4 and the segment 5, whose quota is fixed.
+fn make_two(metered: &mut Metered) {
     metered.step(&new_container(9));
     metered.step(&new_segment(plain()));
     metered.step(&Call::SetFixed { entry: in_root(5) });
-    let link = Call::Link {
+}
+
+/// A link of the segment 5 in the container 4.
+fn second_link() -> Call {
+    Call::Link {
         target: ObjectId::new(4),
         entry: in_root(5),
-    };
-    assert!(rt; agree(metered.probes(&link), Some(25)));
-    Ok(())
+    }
 }
 
-// A read reads what a write reads.
+/// A link reads three hints for its container and three for what it names; the first link to the object with its container,
+/// once for each of the two; that there is no second link; and the object's mark. It moves a cell of two families, which is
+/// thirteen reads.
+pub fn link<R: Abort>(rt: &R, metered: &mut Metered) {
+    make_two(metered);
+    assert!(rt; agree(metered.probes(&second_link()), Some(25)));
+}
+
+#[test]
+fn a_link_counts_what_it_reads(rt: HostRuntime) -> Result<(), Fail> {
+    play(&rt, rt.alloc(), Case::Link)
+}
+
+/// The first bytes of an object in the root, so many.
+fn read_of(id: u64, count: u32) -> Query {
+    Query::SegmentRead {
+        entry: in_root(id),
+        offset: 0,
+        count,
+    }
+}
+
+/// A read reads what a write reads.
+pub fn read<R: Abort>(rt: &R, metered: &mut Metered) {
+    metered.step(&new_segment(plain()));
+    assert!(rt; agree(metered.probes_asked(&read_of(4, 4)), Some(6)));
+}
+
 #[test]
 fn a_read_counts_what_it_reads(rt: HostRuntime) -> Result<(), Fail> {
-    let mut metered = Metered::boot(rt.alloc())?;
-    metered.step(&new_segment(plain()));
-    let read = Query::SegmentRead {
-        entry: in_root(4),
-        offset: 0,
-        count: 4,
-    };
-    assert!(rt; agree(metered.probes_asked(&read), Some(6)));
-    Ok(())
+    play(&rt, rt.alloc(), Case::Read)
 }
 
-// An unreference of a second link reads three hints; the first link to the object with its container, how many links there are,
-// the last one and its container; the object's mark; and nineteen more to take the link out of the containers.
-#[test]
-fn an_unreference_counts_what_it_reads(rt: HostRuntime) -> Result<(), Fail> {
-    let mut metered = Metered::boot(rt.alloc())?;
-    metered.step(&new_container(9));
-    metered.step(&new_segment(plain()));
-    metered.step(&Call::SetFixed { entry: in_root(5) });
-    let target = ObjectId::new(4);
-    metered.step(&Call::Link {
-        target,
-        entry: in_root(5),
-    });
+/// An unreference of a second link reads three hints; the first link to the object with its container, how many links there
+/// are, the last one and its container; the object's mark; and nineteen more to take the link out of the containers.
+pub fn unreference<R: Abort>(rt: &R, metered: &mut Metered) {
+    make_two(metered);
+    metered.step(&second_link());
     let entry = Entry {
-        container: target,
+        container: ObjectId::new(4),
         object: ObjectId::new(5),
     };
     assert!(rt; agree(metered.probes(&Call::Unref { entry }), Some(28)));
-    Ok(())
+}
+
+#[test]
+fn an_unreference_counts_what_it_reads(rt: HostRuntime) -> Result<(), Fail> {
+    play(&rt, rt.alloc(), Case::Unreference)
 }

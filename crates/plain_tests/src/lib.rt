@@ -6,6 +6,8 @@
 pub fn machine_is_tested() {}
 
 #[cfg(test)]
+mod cases;
+#[cfg(test)]
 mod plain_core_memory;
 #[cfg(test)]
 mod plain_core_tables;

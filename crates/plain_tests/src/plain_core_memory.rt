@@ -1,24 +1,29 @@
 //! The plain machine without memory: what is made again answers as if nothing had been.
-use crate::samples::{ask_again, booted_again, new_space, secret, step_again};
+use crate::cases::{Case, play};
+use crate::samples::{ask_again, new_space, secret, step_again};
 use base::{Category, Data, Level, Meter, NoMemory, ObjectId};
 use plain_core::{Call, NewCopy, NewGate, PlainKernel, Query, Reply, run};
+use std::alloc::Global;
+use std::process::Abort;
 use std::test::Fail;
 use test_support::{
-    boot_thread, in_root, is_data, is_done, is_number, is_object, label_with, meter_again,
-    new_container, new_segment, new_thread, no_entry, plain,
+    boot_thread, in_root, is_data, is_done, is_number, is_object, label_with, new_container,
+    new_segment, new_thread, no_entry, plain,
 };
 
-// Where an allocation is refused, the state before stands.
-#[test]
-fn want_of_memory_changes_nothing(rt: HostRuntime) -> Result<(), Fail> {
-    let mut meter = meter_again(rt.alloc())?;
-    let mut kernel = booted_again(rt.alloc())?;
-    let made = step_again(&mut kernel, &Call::CatCreate, &mut meter)?;
+/// Where an allocation is refused, the state before stands.
+pub fn want<R: Abort>(
+    rt: &R,
+    alloc: Global,
+    kernel: &mut PlainKernel,
+    meter: &mut Meter,
+) -> Result<(), Fail> {
+    let made = step_again(kernel, &Call::CatCreate, meter)?;
     assert!(rt; matches!(made, Reply::Category(Category(1))));
     let segment = new_segment(secret());
-    assert!(rt; is_object(step_again(&mut kernel, &segment, &mut meter)?, 4));
-    assert!(rt; is_object(step_again(&mut kernel, &segment, &mut meter)?, 5));
-    let refused = step_again(&mut kernel, &new_container(60), &mut meter)?;
+    assert!(rt; is_object(step_again(kernel, &segment, meter)?, 4));
+    assert!(rt; is_object(step_again(kernel, &segment, meter)?, 5));
+    let refused = step_again(kernel, &new_container(60), meter)?;
     assert!(rt; is_number(refused, 12));
     let write = Call::SegmentWrite {
         entry: in_root(5),
@@ -27,22 +32,45 @@ fn want_of_memory_changes_nothing(rt: HostRuntime) -> Result<(), Fail> {
     };
     let boot = boot_thread();
     let calls = [(boot, write), (boot, Call::CatCreate)];
-    let replies = match run(rt.alloc(), &mut kernel, &calls) {
-        Ok(replies) => replies,
-        Err(_) => run(rt.alloc(), &mut kernel, &calls)?,
-    };
-    assert_eq!(rt; replies.len(), 2);
+    let replies = run_again(alloc, kernel, &calls)?;
     assert!(rt;
-        matches!(replies[0], Reply::Done) && matches!(replies[1], Reply::Category(Category(2)))
+        matches!(
+            replies.as_slice(),
+            [Reply::Done, Reply::Category(Category(2))]
+        )
     );
-    let tables = match kernel.tables(&mut meter) {
-        Ok(tables) => tables,
-        Err(_) => kernel.tables(&mut meter)?,
-    };
-    assert_eq!(rt; tables.live.len(), 5);
-    assert_eq!(rt; tables.labels.len(), 5);
-    assert_eq!(rt; tables.orders.len(), 25);
+    assert!(rt; sizes_again(kernel, meter)? == (5, 5, 25));
     Ok(())
+}
+
+#[test]
+fn want_of_memory_changes_nothing(rt: HostRuntime) -> Result<(), Fail> {
+    play(&rt, rt.alloc(), Case::WantedMemory)
+}
+
+/// What calls answer, made once more where there was no memory.
+fn run_again(
+    alloc: Global,
+    kernel: &mut PlainKernel,
+    calls: &[(ObjectId, Call)],
+) -> Result<Vec<Reply>, NoMemory> {
+    match run(alloc, kernel, calls) {
+        Ok(replies) => Ok(replies),
+        Err(_) => run(alloc, kernel, calls),
+    }
+}
+
+/// How many live objects, labels and orders the tables have.
+fn sizes(kernel: &PlainKernel, meter: &mut Meter) -> Result<(usize, usize, usize), NoMemory> {
+    let tables = kernel.tables(meter)?;
+    Ok((tables.live.len(), tables.labels.len(), tables.orders.len()))
+}
+
+fn sizes_again(kernel: &PlainKernel, meter: &mut Meter) -> Result<(usize, usize, usize), NoMemory> {
+    match sizes(kernel, meter) {
+        Ok(found) => Ok(found),
+        Err(_) => sizes(kernel, meter),
+    }
 }
 
 /// A call that copies segment 5 into the root.
@@ -204,16 +232,22 @@ fn are_changed(kernel: &mut PlainKernel, meter: &mut Meter) -> Result<bool, NoMe
     )
 }
 
-// Each call that takes memory, and reads of what they left.
+/// Each call that takes memory, and reads of what they left.
+pub fn want_calls<R: Abort>(
+    rt: &R,
+    kernel: &mut PlainKernel,
+    meter: &mut Meter,
+) -> Result<(), Fail> {
+    assert!(rt; owns(kernel, meter)?);
+    assert!(rt; are_made(kernel, meter)?);
+    assert!(rt; are_changed(kernel, meter)?);
+    assert!(rt; ends_in_zero(kernel, 6, meter)?);
+    assert!(rt; lists(kernel, 7, meter)?);
+    assert!(rt; receives(kernel, 5, meter)?);
+    Ok(())
+}
+
 #[test]
 fn want_of_memory_makes_no_call_by_half(rt: HostRuntime) -> Result<(), Fail> {
-    let mut meter = meter_again(rt.alloc())?;
-    let mut kernel = booted_again(rt.alloc())?;
-    assert!(rt; owns(&mut kernel, &mut meter)?);
-    assert!(rt; are_made(&mut kernel, &mut meter)?);
-    assert!(rt; are_changed(&mut kernel, &mut meter)?);
-    assert!(rt; ends_in_zero(&kernel, 6, &mut meter)?);
-    assert!(rt; lists(&kernel, 7, &mut meter)?);
-    assert!(rt; receives(&mut kernel, 5, &mut meter)?);
-    Ok(())
+    play(&rt, rt.alloc(), Case::WantedCalls)
 }

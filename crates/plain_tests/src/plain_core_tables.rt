@@ -1,9 +1,11 @@
 //! The tables of the plain machine's states.
+use crate::cases::{Case, play};
 use crate::samples::{make, new_space};
 use base::{Level, Meter, NoMemory, ObjectId, Rights};
-use plain_core::{Call, Mapping, PlainKernel};
+use plain_core::{Call, Mapping, PlainKernel, Tables};
+use std::process::Abort;
 use std::test::Fail;
-use test_support::{LIMITS, in_root, new_segment, plain};
+use test_support::{in_root, new_segment, plain};
 
 /// How every two of the labels {1}, {2} and {3} compare, by rising places.
 const BOOT_ORDERS: [(usize, usize, u8); 9] = [
@@ -18,31 +20,39 @@ const BOOT_ORDERS: [(usize, usize, u8); 9] = [
     (2, 2, 7),
 ];
 
+fn are_uses(tables: &Tables) -> bool {
+    let uses: [(u64, u32); 3] = [(1, 4), (2, 1), (3, 2)];
+    tables.uses.len() == 3
+        && tables.uses.iter().zip(uses).all(|(used, (id, pages))| used.id.number() == id
+            && used.pages == pages)
+}
+
+fn are_labels(tables: &Tables) -> bool {
+    let defaults = [Level::L1, Level::L2, Level::L3];
+    tables.labels.len() == 3
+        && tables.labels.iter().zip(defaults).all(|(label, default)| label.default == default
+            && label.pairs.len() == 0)
+}
+
+fn are_orders(tables: &Tables) -> bool {
+    tables.orders.len() == 9
+        && tables.orders.iter().zip(BOOT_ORDERS).all(|(order, (first, second, bits))| {
+            order.first == first && order.second == second && order.bits == bits
+        })
+}
+
+/// The tables of a boot.
+pub fn recompute<R: Abort>(rt: &R, kernel: &PlainKernel, meter: &mut Meter) -> Result<(), Fail> {
+    let tables = kernel.tables(meter)?;
+    assert!(rt; tables.live.as_slice() == [1, 2, 3].map(ObjectId::new).as_slice());
+    assert!(rt; are_uses(&tables) && tables.shown.len() == 0);
+    assert!(rt; are_labels(&tables) && are_orders(&tables));
+    Ok(())
+}
+
 #[test]
 fn tables_are_recomputed(rt: HostRuntime) -> Result<(), Fail> {
-    let mut meter = Meter::new(rt.alloc())?;
-    let kernel = PlainKernel::boot(rt.alloc(), &LIMITS)?;
-    let tables = kernel.tables(&mut meter)?;
-    assert_eq!(rt;
-        tables.live.as_slice(),
-        [1, 2, 3].map(ObjectId::new).as_slice()
-    );
-    let uses: [(u64, u32); 3] = [(1, 4), (2, 1), (3, 2)];
-    for (used, (id, pages)) in tables.uses.iter().zip(uses) {
-        assert!(rt; used.id.number() == id && used.pages == pages);
-    }
-    assert_eq!(rt; tables.uses.len(), 3);
-    assert_eq!(rt; tables.shown.len(), 0);
-    let defaults = [Level::L1, Level::L2, Level::L3];
-    for (label, default) in tables.labels.iter().zip(defaults) {
-        assert!(rt; label.default == default && label.pairs.len() == 0);
-    }
-    assert_eq!(rt; tables.labels.len(), 3);
-    for (order, (first, second, bits)) in tables.orders.iter().zip(BOOT_ORDERS) {
-        assert!(rt; order.first == first && order.second == second && order.bits == bits);
-    }
-    assert_eq!(rt; tables.orders.len(), 9);
-    Ok(())
+    play(&rt, rt.alloc(), Case::Tables)
 }
 
 /// A segment 4 and an address space 5, whose slot 2 shows the segment to the boot thread.
@@ -69,14 +79,22 @@ fn mapped(kernel: &mut PlainKernel, meter: &mut Meter) -> Result<(), NoMemory> {
     Ok(())
 }
 
-#[test]
-fn slots_that_show_are_in_the_tables(rt: HostRuntime) -> Result<(), Fail> {
-    let mut meter = Meter::new(rt.alloc())?;
-    let mut kernel = PlainKernel::boot(rt.alloc(), &LIMITS)?;
-    mapped(&mut kernel, &mut meter)?;
-    let tables = kernel.tables(&mut meter)?;
-    assert_eq!(rt; tables.shown.len(), 1);
-    let shown = tables.shown[0];
+/// A slot that shows a segment is in the tables.
+pub fn show_slots<R: Abort>(
+    rt: &R,
+    kernel: &mut PlainKernel,
+    meter: &mut Meter,
+) -> Result<(), Fail> {
+    mapped(kernel, meter)?;
+    let tables = kernel.tables(meter)?;
+    let [shown] = tables.shown.as_slice() else {
+        return Err(Fail::from("not one row"));
+    };
     assert!(rt; shown.thread.number() == 2 && shown.slot == 2 && shown.segment.number() == 4);
     Ok(())
+}
+
+#[test]
+fn slots_that_show_are_in_the_tables(rt: HostRuntime) -> Result<(), Fail> {
+    play(&rt, rt.alloc(), Case::Slots)
 }

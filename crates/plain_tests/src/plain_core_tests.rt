@@ -1,7 +1,10 @@
 //! The plain machine on its happy path.
+use crate::cases::{Case, play};
 use crate::samples::{make, secret};
 use base::{Category, Data, Meter, NoMemory, Refusal};
 use plain_core::{BootRefusal, Call, Entry, Machine, NewSegment, PlainKernel, Query, Reply, run};
+use std::alloc::Global;
+use std::process::Abort;
 use std::test::Fail;
 use test_support::{LIMITS, answered, boot_thread, in_root, is_object, new_container, new_segment};
 
@@ -14,13 +17,11 @@ fn refused(
     answered(kernel.ask(boot_thread(), query, meter))
 }
 
-#[test]
-fn a_write_is_read(rt: HostRuntime) -> Result<(), Fail> {
-    let mut meter = Meter::new(rt.alloc())?;
-    let mut kernel = PlainKernel::boot(rt.alloc(), &LIMITS)?;
+/// A segment is made in a container, and read past its end.
+pub fn write<R: Abort>(rt: &R, kernel: &mut PlainKernel, meter: &mut Meter) -> Result<(), Fail> {
     kernel.well_formed();
-    assert!(rt; make(&mut kernel, &Call::CatCreate, &mut meter)?.is_none());
-    let Some(container) = make(&mut kernel, &new_container(8), &mut meter)? else {
+    assert!(rt; make(kernel, &Call::CatCreate, meter)?.is_none());
+    let Some(container) = make(kernel, &new_container(8), meter)? else {
         return Err(Fail::from("no container"));
     };
     assert_eq!(rt; container.number(), 4);
@@ -30,7 +31,7 @@ fn a_write_is_read(rt: HostRuntime) -> Result<(), Fail> {
         quota: 2,
         pages: 1,
     });
-    let Some(segment) = make(&mut kernel, &segment, &mut meter)? else {
+    let Some(segment) = make(kernel, &segment, meter)? else {
         return Err(Fail::from("no segment"));
     };
     assert_eq!(rt; segment.number(), 5);
@@ -43,7 +44,7 @@ fn a_write_is_read(rt: HostRuntime) -> Result<(), Fail> {
         offset: 255,
         count: 2,
     };
-    let Some(refusal) = refused(&kernel, &past, &mut meter)? else {
+    let Some(refusal) = refused(kernel, &past, meter)? else {
         return Err(Fail::from("no refusal"));
     };
     assert_eq!(rt; refusal.number(), 18);
@@ -51,7 +52,17 @@ fn a_write_is_read(rt: HostRuntime) -> Result<(), Fail> {
 }
 
 #[test]
-fn three_writes_are_run(rt: HostRuntime) -> Result<(), Fail> {
+fn a_write_is_read(rt: HostRuntime) -> Result<(), Fail> {
+    play(&rt, rt.alloc(), Case::Write)
+}
+
+/// Three calls are run, and what they wrote is read.
+pub fn run_three<R: Abort>(
+    rt: &R,
+    alloc: Global,
+    kernel: &mut PlainKernel,
+    meter: &mut Meter,
+) -> Result<(), Fail> {
     let bytes = [
         0, 1, 2, 3, 4, 5, 6, 7, 8, 9, 10, 11, 12, 13, 14, 15, 16, 17, 18, 19, 20, 21, 22, 23, 24,
         25, 26, 27, 28, 29, 30, 31, 32, 33, 34, 35, 36, 37, 38, 39, 40, 41, 42, 43, 44, 45, 46, 47,
@@ -69,8 +80,7 @@ fn three_writes_are_run(rt: HostRuntime) -> Result<(), Fail> {
         (boot, new_segment(secret())),
         (boot, write),
     ];
-    let mut kernel = PlainKernel::boot(rt.alloc(), &LIMITS)?;
-    let replies = run(rt.alloc(), &mut kernel, &calls)?;
+    let replies = run(alloc, kernel, &calls)?;
     assert_eq!(rt; replies.len(), 3);
     assert!(rt; matches!(replies[0], Reply::Category(Category(1))));
     assert!(rt; is_object(replies[1], 4));
@@ -80,12 +90,16 @@ fn three_writes_are_run(rt: HostRuntime) -> Result<(), Fail> {
         offset: 0,
         count: 64,
     };
-    let mut meter = Meter::new(rt.alloc())?;
-    let Reply::Bytes(found) = kernel.ask(boot, &read, &mut meter)? else {
+    let Reply::Bytes(found) = kernel.ask(boot, &read, meter)? else {
         return Err(Fail::from("no bytes"));
     };
     assert_eq!(rt; found.as_slice(), bytes.as_slice());
     Ok(())
+}
+
+#[test]
+fn three_writes_are_run(rt: HostRuntime) -> Result<(), Fail> {
+    play(&rt, rt.alloc(), Case::Run)
 }
 
 #[test]

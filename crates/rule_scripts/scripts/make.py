@@ -1,7 +1,7 @@
 #!/usr/bin/env python3
 """Makes specs/*.antt and proofs/*.antt from scripts/*.txt: each script, with what each of its lines answers, as a statement and its
-proof by computation, and all of a file as one statement, which is the contract of a function of src/scripts.rt. And of the same
-scripts it makes crates/run_tests/src/worked_scripts.rt, and a file of its own for each of these, which the tests play as the program does.
+proof by computation, and all of a file as one statement, which is the contract of a function of src/scripts.rt. The gate plays the
+same scripts by the programs (gate/rules.py, gate/machines.py).
 
 A script begins with '## NAME' and words OPTION=VALUE (pages, device, next-id, next-category; played=no for one that no program
 plays so: a machine boots with no such limits, a worker is no thread, or a word has no spelling). Each line is
@@ -319,53 +319,6 @@ def output_of(lines):
     return ''.join(line for lines in said.values() for line in lines)
 
 
-def limits_of(options):
-    """The limits of a kernel as Rust says them."""
-    named = {'8': 'EIGHT_PAGES', '1024': 'MOST_PAGES'}
-    if list(options) == ['pages'] and options['pages'] in named:
-        return named[options['pages']]
-    if not options:
-        return 'LIMITS'
-    given = {name.replace('-', '_'): f'Level::{LEVELS[word]}' if name == 'device' else word for name, word in options.items()}
-    fields = ''.join(f'            {name}: {word},\n' for name, word in given.items())
-    return f'Limits {{\n{fields}            ..LIMITS\n        }}'
-
-
-def spoken(script):
-    """A script of the tests."""
-    lines = in_phases(script.spoken)
-    words = [script_of(lines), output_of(lines)]
-    text, output = (text.replace('\n', '\\n') for text in words)
-    head = f'pub fn {script.name}() -> WorkedScript {{\n    WorkedScript {{\n        limits: {limits_of(script.options)},\n'
-    return head + f'        text: b"{text}",\n        output: b"{output}",\n    }}\n}}\n\n'
-
-
-def module_of(stem, scripts):
-    """The scripts of one file, for the tests."""
-    body = ''.join(map(spoken, scripts)).rstrip('\n') + '\n'
-    told = f'//! The scripts of {stem}.txt, with what the program prints of them. Made by crates/rule_scripts/scripts/make.py.\n'
-    uses = ['use super::WorkedScript;\n']
-    for crate, names in (('base', ('Level', 'Limits')), ('test_support', ('EIGHT_PAGES', 'LIMITS', 'MOST_PAGES'))):
-        used = [name for name in names if re.search(rf'\b{name}\b', body)]
-        if used:
-            uses.append(f"use {crate}::{used[0] if len(used) == 1 else '{' + ', '.join(used) + '}'};\n")
-    return told + ''.join(uses) + '\n' + body
-
-
-SCRIPTS = """//! The scripts of the rules, with what the program prints of them. Made by crates/rule_scripts/scripts/make.py.
-use base::Limits;
-
-/// A script, the limits of the kernel that plays it, and its output.
-#[derive(Clone, Copy)]
-pub struct WorkedScript {
-    pub limits: Limits,
-    pub text: &'static [u8],
-    pub output: &'static [u8],
-}
-
-"""
-
-
 class Files:
     """The files that are made: written, or compared with what stands."""
 
@@ -413,11 +366,10 @@ def all_scripts():
 def main():
     files = Files(sys.argv[1:] == ['--check'])
     crate = CRATE
-    modules, scripts = [], {}
+    modules = []
     for path, read in all_scripts().items():
         name = path.stem.capitalize()
         modules.append(name)
-        scripts[path.stem] = [script for script in read if script.is_played]
         told = f'Made by scripts/make.py from scripts/{path.stem}.txt.'
         claims = [claim for script in read for claim in script.claims()]
         every = defined(f'{name}Answer', 'Type 0', [' × '.join(map(stated, claims))])
@@ -431,14 +383,6 @@ def main():
     for folder, first in (('specs', ['Play']), ('proofs', [])):
         names = sorted(first + modules)
         files.put(crate / folder / 'Lib.antt', ''.join(f'pub mod {name}\n' for name in names))
-    # (a function each, since a prover that reads all bytes at once takes more steps than it is given)
-    tests = crate.parent / 'run_tests/src'
-    (tests / 'worked_scripts').mkdir(exist_ok=True)
-    for stem, played in scripts.items():
-        files.put(tests / f'worked_scripts/{stem}.rt', module_of(stem, played))
-    every = ''.join(f'        {stem}::{script.name}(),\n' for stem, played in scripts.items() for script in played)
-    every = f'pub fn worked_scripts() -> [WorkedScript; {sum(map(len, scripts.values()))}] {{\n    [\n{every}    ]\n}}\n'
-    files.put(tests / 'worked_scripts.rt', SCRIPTS.replace('\n\n', '\n\n' + ''.join(f'mod {stem};\n' for stem in scripts) + '\n', 1) + every)
     for path in files.other if files.is_check else []:
         print(f'{path.relative_to(crate.parent.parent)} is not what scripts/make.py makes')
     return 1 if files.is_check and files.other else 0

@@ -1,5 +1,5 @@
-//! Tests of whole runs: what the program prints and dumps, how it ends, scripts of many calls, and
-//! what the auditor says of dumps; and each of these made again where there was no memory.
+//! Tests of whole runs: what the program prints and dumps, how it ends, and what the auditor says of
+//! dumps; and each of these made again where there was no memory.
 #![tactic(auto)]
 
 /// This crate has tests alone.
@@ -19,7 +19,3 @@ mod script_runner_plays;
 mod script_runner_program;
 #[cfg(test)]
 mod script_runner_turns;
-#[cfg(test)]
-mod worked_script_tests;
-#[cfg(test)]
-mod worked_scripts;

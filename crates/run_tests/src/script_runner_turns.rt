@@ -1,13 +1,9 @@
 //! Scripts whose workers take turns: what they leave is the same in one thread, on one kernel, as through seats.
-use crate::worked_scripts::{WorkedScript, worked_scripts};
 use call_text::read_script;
 use histar_args::DEFAULTS;
 use kept_events::KeptEvent;
 use script_runner::{Always, Played, play_all, play_at_once};
-use std::process::Abort;
-use std::sync::Wait;
 use std::test::Fail;
-use std::thread::Threads;
 use test_support::are_equal;
 
 /// Whether two events are of the same call of a thread.
@@ -28,27 +24,6 @@ fn are_left_alike(one: &Played, other: &Played) -> bool {
             .iter()
             .zip(other.events.iter())
             .all(|(a, b)| is_as(a, b))
-}
-
-fn check_alike<R: Abort + AllocGlobal + Threads + Wait + Sync>(
-    rt: &R,
-    worked: &WorkedScript,
-) -> Result<(), Fail> {
-    let alloc = rt.alloc();
-    let script = read_script(alloc, worked.text)?;
-    let one = play_all(rt, alloc, &script, &worked.limits, &Always)?;
-    let other = play_at_once(rt, alloc, &script, &worked.limits, &Always)?;
-    assert!(rt; are_told_alike(&one, &other));
-    Ok(())
-}
-
-#[test]
-fn scripts_are_played_alike_both_ways(rt: HostRuntime) -> Result<(), Fail> {
-    let scripts = worked_scripts();
-    for worked in &scripts {
-        check_alike(&rt, worked)?;
-    }
-    Ok(())
 }
 
 /// Workers of a thread, of a segment, of nothing and of a thread that another one made, each in a phase of its own.

@@ -1,20 +1,18 @@
 //! Batches: 1 to 16 calls that are one event, also where the thread dies among them; and a reader, which never sees a
 //! state between two calls of one.
-ghost use Rattle.std.specs.Prelude.{◌≡◌};
-
+use crate::cases::{Case, play};
 use crate::samples::{asked, event_count, open_segment, passed, seated, submitted};
 use base::ObjectId;
 use kernel_rules::{Call, Query, Reply};
-use published_copy::{BatchReceipt, Blank, Naming, Seat, Shared, SubmitRefusal};
+use published_copy::{BatchReceipt, Naming, Seat, Shared, SubmitRefusal};
 use std::alloc::{AllocError, Global};
-use std::marker::Brand;
 use std::process::Abort;
 use std::sync::{Mutex, Wait};
 use std::test::Fail;
 use std::thread;
 use std::thread::Threads;
 use test_support::{
-    MOST_PAGES, boot_thread, in_root, is_done, is_number, is_object, new_container, new_thread,
+    boot_thread, in_root, is_done, is_number, is_object, new_container, new_thread,
 };
 
 /// What a batch through a seat answers.
@@ -73,7 +71,8 @@ fn are_of_dying(replies: &[Reply]) -> bool {
     }
 }
 
-fn batch_at<B: Naming, R: Wait + Abort>(
+/// A batch is refused where it has no calls or too many, and is one event also where the thread dies in it.
+pub fn batch_at<B: Naming, R: Wait + Abort>(
     rt: &R,
     alloc: Global,
     shared: &Shared<B>,
@@ -89,18 +88,9 @@ fn batch_at<B: Naming, R: Wait + Abort>(
     Ok(())
 }
 
-fn batch_boot<B: Naming, R: Wait + Abort>(rt: &R, alloc: Global, blank: Blank) -> Result<(), Fail>
-    requires { blank ≡ B.boot }
-{
-    let shared = blank.open::<B>();
-    batch_at(rt, alloc, &shared)
-}
-
 #[test]
 fn a_batch_is_an_event_of_1_to_16_calls(rt: HostRuntime) -> Result<(), Fail> {
-    let alloc = rt.alloc();
-    let blank = Blank::boot(alloc, &MOST_PAGES)?;
-    batch_boot::<Brand, HostRuntime>(&rt, alloc, blank)
+    play(&rt, rt.alloc(), Case::Batches)
 }
 
 /// How often the reader reads, and how many batches are submitted meanwhile.
@@ -186,7 +176,8 @@ fn watch_batches<'s, B: Naming + Send, R: Threads + Wait + Sync>(
     })
 }
 
-fn watch_at<B: Naming + Send, R: Threads + Wait + Sync + Abort>(
+/// A seat reads while another submits batches, and sees none by half.
+pub fn watch_at<B: Naming + Send, R: Threads + Wait + Sync + Abort>(
     rt: &R,
     alloc: Global,
     shared: &Shared<B>,
@@ -206,20 +197,7 @@ fn watch_at<B: Naming + Send, R: Threads + Wait + Sync + Abort>(
     Ok(())
 }
 
-fn watch_boot<B: Naming + Send, R: Threads + Wait + Sync + Abort>(
-    rt: &R,
-    alloc: Global,
-    blank: Blank,
-) -> Result<(), Fail>
-    requires { blank ≡ B.boot }
-{
-    let shared = blank.open::<B>();
-    watch_at(rt, alloc, &shared)
-}
-
 #[test]
 fn no_reader_sees_a_batch_by_half(rt: HostRuntime) -> Result<(), Fail> {
-    let alloc = rt.alloc();
-    let blank = Blank::boot(alloc, &MOST_PAGES)?;
-    watch_boot::<Brand, HostRuntime>(&rt, alloc, blank)
+    play(&rt, rt.alloc(), Case::WatchedBatches)
 }

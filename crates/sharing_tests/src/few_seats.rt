@@ -1,15 +1,13 @@
 //! A boot for few seats, and calls and reads whose reply is made in place.
-ghost use Rattle.std.specs.Prelude.{◌≡◌};
-
+use crate::cases::{Case, play};
 use crate::samples::{is_refused, seated};
 use base::ObjectId;
 use kernel_rules::{Call, Query, Reply};
-use published_copy::{Blank, Naming, Seat, Shared};
-use std::marker::Brand;
+use published_copy::{Naming, Seat, Shared};
 use std::process::Abort;
 use std::sync::Wait;
 use std::test::Fail;
-use test_support::{MOST_PAGES, boot_thread, is_object, new_thread};
+use test_support::{boot_thread, is_object, new_thread};
 
 /// Whether a call makes this object, as the event of this number.
 fn makes<B: Naming, R: Wait>(
@@ -34,8 +32,8 @@ fn is_shown_in_place<B: Naming>(seat: &mut Seat<'_, B>) -> bool {
     seat.read_into(&Query::SelfGet, &mut reply).is_ok() && matches!(reply, Reply::Own { .. })
 }
 
-// The boot thread and thread 4 have the two seats, so thread 5 has none.
-fn fill_two_at<B: Naming, R: Wait + Abort>(rt: &R, shared: &Shared<B>) -> Result<(), Fail> {
+/// The boot thread and thread 4 have the two seats, so thread 5 has none.
+pub fn fill_two_at<B: Naming, R: Wait + Abort>(rt: &R, shared: &Shared<B>) -> Result<(), Fail> {
     let mut seat = seated(rt, shared, boot_thread())?;
     assert!(rt; makes(rt, &mut seat, &new_thread(), 4, 1));
     assert!(rt; makes(rt, &mut seat, &new_thread(), 5, 2));
@@ -46,15 +44,7 @@ fn fill_two_at<B: Naming, R: Wait + Abort>(rt: &R, shared: &Shared<B>) -> Result
     Ok(())
 }
 
-fn fill_two<B: Naming, R: Wait + Abort>(rt: &R, blank: Blank) -> Result<(), Fail>
-    requires { blank ≡ B.boot }
-{
-    let shared = blank.open::<B>();
-    fill_two_at(rt, &shared)
-}
-
 #[test]
 fn a_boot_for_two_has_two_seats(rt: HostRuntime) -> Result<(), Fail> {
-    let blank = Blank::boot_for(rt.alloc(), &MOST_PAGES, 2)?;
-    fill_two::<Brand, HostRuntime>(&rt, blank)
+    play(&rt, rt.alloc(), Case::FewSeats)
 }

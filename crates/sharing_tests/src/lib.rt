@@ -9,6 +9,8 @@ pub fn sharing_is_tested() {}
 #[cfg(test)]
 mod batches;
 #[cfg(test)]
+mod cases;
+#[cfg(test)]
 mod few_seats;
 #[cfg(test)]
 mod memory;

@@ -1,21 +1,16 @@
 //! Each call without memory.
-ghost use Rattle.std.specs.Prelude.{◌≡◌, IfOk};
-
+use crate::cases::{Case, play};
 use crate::samples::{
     asked, committed, event_count, first_byte, is_made, is_shown_own, open_segment, passed, seated,
     submitted,
 };
 use base::ObjectId;
 use kernel_rules::{Call, Query, Reply};
-use published_copy::{
-    BatchReceipt, Blank, BootRefusal, Lent, Naming, Pass, Receipt, Seat, Shared, SubmitRefusal,
-};
-use std::alloc::Global;
-use std::marker::Brand;
+use published_copy::{BatchReceipt, Lent, Naming, Pass, Receipt, Seat, Shared, SubmitRefusal};
 use std::process::Abort;
 use std::sync::Wait;
 use std::test::Fail;
-use test_support::{MOST_PAGES, boot_thread, in_root, is_object, new_thread};
+use test_support::{boot_thread, in_root, is_object, new_thread};
 
 /// A call that is made again where there was no memory. None where the refusal was another one, or
 /// changed the journal.
@@ -145,29 +140,12 @@ fn make_under_book<B: Naming, R: Wait + Abort>(
     Ok(())
 }
 
-// Each read is answered, also after a call that found no memory and a seat that was opened then.
-fn want_memory_at<B: Naming, R: Wait + Abort>(rt: &R, shared: &Shared<B>) -> Result<(), Fail> {
+/// Each read is answered, also after a call that found no memory and a seat that was opened then.
+pub fn want_memory_at<B: Naming, R: Wait + Abort>(rt: &R, shared: &Shared<B>) -> Result<(), Fail> {
     let mut seat = seated(rt, shared, boot_thread())?;
     make_segments(rt, shared, &mut seat)?;
     make_another_seat(rt, shared, &mut seat)?;
     make_under_book(rt, shared, passed(seat))
-}
-
-fn want_memory<B: Naming, R: Wait + Abort>(rt: &R, blank: Blank) -> Result<(), Fail>
-    requires { blank ≡ B.boot }
-{
-    let shared = blank.open::<B>();
-    want_memory_at(rt, &shared)
-}
-
-/// A boot, made once more where there was no memory for it.
-fn boot_again(alloc: Global) -> Result<Blank, BootRefusal>
-    ensures { IfOk result (λ blank. blank.limits ≡ MOST_PAGES) }
-{
-    match Blank::boot(alloc, &MOST_PAGES) {
-        Err(BootRefusal::Unavailable) => Blank::boot(alloc, &MOST_PAGES),
-        booted => booted,
-    }
 }
 
 /// A batch of two segments, made again where there was no memory. None where the refusal was another one, or changed the
@@ -208,7 +186,8 @@ fn is_batched<B: Naming, R: Wait>(
     }
 }
 
-fn want_batches_at<B: Naming, R: Wait + Abort>(rt: &R, shared: &Shared<B>) -> Result<(), Fail> {
+/// Five batches, each made again where there was no memory.
+pub fn want_batches_at<B: Naming, R: Wait + Abort>(rt: &R, shared: &Shared<B>) -> Result<(), Fail> {
     let mut seat = seated(rt, shared, boot_thread())?;
     for number in 1..6u64 {
         assert!(rt; is_batched(rt, shared, &mut seat, number * 2 + 2, number));
@@ -216,30 +195,21 @@ fn want_batches_at<B: Naming, R: Wait + Abort>(rt: &R, shared: &Shared<B>) -> Re
     Ok(())
 }
 
-fn want_batches<B: Naming, R: Wait + Abort>(rt: &R, blank: Blank) -> Result<(), Fail>
-    requires { blank ≡ B.boot }
-{
-    let shared = blank.open::<B>();
-    want_batches_at(rt, &shared)
-}
-
 // A batch for which there is no memory changes nothing.
 #[test]
 fn want_of_memory_makes_no_batch_by_half(rt: HostRuntime) -> Result<(), Fail> {
-    let blank = boot_again(rt.alloc())?;
-    want_batches::<Brand, HostRuntime>(&rt, blank)
+    play(&rt, rt.alloc(), Case::WantedBatches)
 }
 
 // Where an allocation is refused, nothing has changed: what is made again answers as if nothing had
 // been.
 #[test]
 fn want_of_memory_changes_nothing(rt: HostRuntime) -> Result<(), Fail> {
-    let blank = boot_again(rt.alloc())?;
-    want_memory::<Brand, HostRuntime>(&rt, blank)
+    play(&rt, rt.alloc(), Case::WantedMemory)
 }
 
-// A first call finds no memory, and then a seat is opened, which reads all the same.
-fn open_after_at<B: Naming, R: Wait + Abort>(rt: &R, shared: &Shared<B>) -> Result<(), Fail> {
+/// A first call finds no memory, and then a seat is opened, which reads all the same.
+pub fn open_after_at<B: Naming, R: Wait + Abort>(rt: &R, shared: &Shared<B>) -> Result<(), Fail> {
     let mut boot = seated(rt, shared, boot_thread())?;
     assert!(rt; is_submitted(rt, shared, &mut boot, &new_thread(), 4, 1, 1));
     let _ = submitted(rt, &mut boot, &Call::CatCreate);
@@ -249,16 +219,8 @@ fn open_after_at<B: Naming, R: Wait + Abort>(rt: &R, shared: &Shared<B>) -> Resu
     Ok(())
 }
 
-fn open_after<B: Naming, R: Wait + Abort>(rt: &R, blank: Blank) -> Result<(), Fail>
-    requires { blank ≡ B.boot }
-{
-    let shared = blank.open::<B>();
-    open_after_at(rt, &shared)
-}
-
 // Seats are opened and read where a call found no memory just before.
 #[test]
 fn want_of_memory_lets_readers_in(rt: HostRuntime) -> Result<(), Fail> {
-    let blank = boot_again(rt.alloc())?;
-    open_after::<Brand, HostRuntime>(&rt, blank)
+    play(&rt, rt.alloc(), Case::WantedReaders)
 }

@@ -1,18 +1,16 @@
 //! What notes carry from seat to seat.
-ghost use Rattle.std.specs.Prelude.{◌≡◌};
-
+use crate::cases::{Case, play};
 use crate::samples::{
     first_byte, is_at, length_of_read, make_two, open_segment, passed, seated, submitted, write,
 };
 use base::{Data, ObjectId};
-use published_copy::{Blank, Naming, Note, Seat, Shared};
-use std::marker::Brand;
+use published_copy::{Naming, Note, Seat, Shared};
 use std::process::Abort;
 use std::sync::{Mutex, Wait};
 use std::test::Fail;
 use std::thread;
 use std::thread::Threads;
-use test_support::{MOST_PAGES, boot_thread, new_thread};
+use test_support::{boot_thread, new_thread};
 
 /// What a seat that learns a note reads then, in its own thread.
 fn learn_and_read<B: Naming, R: Wait>(
@@ -62,7 +60,8 @@ fn tell_by<B: Naming + Send + Sync, R: Threads + Wait + Sync + Abort>(
     Ok(())
 }
 
-fn tell_at<B: Naming + Send + Sync, R: Threads + Wait + Sync + Abort>(
+/// Who learns a note in a thread of its own reads what it has.
+pub fn tell_at<B: Naming + Send + Sync, R: Threads + Wait + Sync + Abort>(
     rt: &R,
     shared: &Shared<B>,
 ) -> Result<(), Fail> {
@@ -71,20 +70,9 @@ fn tell_at<B: Naming + Send + Sync, R: Threads + Wait + Sync + Abort>(
     tell_by(rt, shared, &mut boot)
 }
 
-fn tell<B: Naming + Send + Sync, R: Threads + Wait + Sync + Abort>(
-    rt: &R,
-    blank: Blank,
-) -> Result<(), Fail>
-    requires { blank ≡ B.boot }
-{
-    let shared = blank.open::<B>();
-    tell_at(rt, &shared)
-}
-
 #[test]
 fn who_learns_a_note_reads_what_it_has(rt: HostRuntime) -> Result<(), Fail> {
-    let blank = Blank::boot(rt.alloc(), &MOST_PAGES)?;
-    tell::<Brand, HostRuntime>(&rt, blank)
+    play(&rt, rt.alloc(), Case::Notes)
 }
 
 // A note has what its seat submitted and learnt, and not what it saw by reads alone; and who learns
@@ -113,7 +101,8 @@ fn make_threads<B: Naming, R: Wait>(rt: &R, boot: &mut Seat<'_, B>) -> Result<()
     Ok(())
 }
 
-fn hand_on_at<B: Naming, R: Wait + Abort>(rt: &R, shared: &Shared<B>) -> Result<(), Fail> {
+/// Notes are handed on from seat to seat.
+pub fn hand_on_at<B: Naming, R: Wait + Abort>(rt: &R, shared: &Shared<B>) -> Result<(), Fail> {
     let mut boot = seated(rt, shared, boot_thread())?;
     make_threads(rt, &mut boot)?;
     let one = seated(rt, shared, ObjectId::new(4))?;
@@ -121,15 +110,7 @@ fn hand_on_at<B: Naming, R: Wait + Abort>(rt: &R, shared: &Shared<B>) -> Result<
     hand_on_to(rt, &mut boot, one, other)
 }
 
-fn hand_on<B: Naming, R: Wait + Abort>(rt: &R, blank: Blank) -> Result<(), Fail>
-    requires { blank ≡ B.boot }
-{
-    let shared = blank.open::<B>();
-    hand_on_at(rt, &shared)
-}
-
 #[test]
 fn notes_have_no_reads(rt: HostRuntime) -> Result<(), Fail> {
-    let blank = Blank::boot(rt.alloc(), &MOST_PAGES)?;
-    hand_on::<Brand, HostRuntime>(&rt, blank)
+    play(&rt, rt.alloc(), Case::NotesHandedOn)
 }

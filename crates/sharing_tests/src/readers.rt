@@ -1,6 +1,5 @@
 //! Threads that read while one writes, and while the lock is held.
-ghost use Rattle.std.specs.Prelude.{◌≡◌};
-
+use crate::cases::{Case, play};
 use crate::samples::{
     event_count, first_byte, first_bytes, first_in, make_two, open_segment, passed, seated,
     submitted, write,
@@ -9,9 +8,8 @@ use base::{Data, Meter, ObjectId};
 use histories::Event;
 use kept_events::events_of;
 use kernel_rules::Reply;
-use published_copy::{Blank, Naming, Seat, Shared};
+use published_copy::{Naming, Seat, Shared};
 use std::alloc::Global;
-use std::marker::Brand;
 use std::process::Abort;
 use std::sync::{Mutex, Wait};
 use std::test::Fail;
@@ -134,8 +132,8 @@ fn is_replayed<B: Naming, R: Wait>(
     let pass = passed(seat);
     let (length, thread) = (pass.length(), pass.thread());
     let mut meter = Meter::new(alloc)?;
-    let mut kernel = PlainKernel::boot(alloc, &MOST_PAGES)?;
     let events = events_of(alloc, shared.book(rt).events())?;
+    let mut kernel = PlainKernel::boot(alloc, &MOST_PAGES)?;
     let byte = byte_after(&mut kernel, &mut meter, events.as_slice(), length, thread);
     Ok(last.is_some() && byte == last)
 }
@@ -186,7 +184,8 @@ fn are_replayed<B: Naming, R: Wait>(
     Ok(all)
 }
 
-fn read_up_at<B: Naming + Send, R: Threads + Wait + Sync + Abort>(
+/// Readers read while one writes, and none reads less than before.
+pub fn read_up_at<B: Naming + Send, R: Threads + Wait + Sync + Abort>(
     rt: &R,
     alloc: Global,
     shared: &Shared<B>,
@@ -200,21 +199,9 @@ fn read_up_at<B: Naming + Send, R: Threads + Wait + Sync + Abort>(
     Ok(())
 }
 
-fn read_up_while<B: Naming + Send, R: Threads + Wait + Sync + Abort>(
-    rt: &R,
-    alloc: Global,
-    blank: Blank,
-) -> Result<(), Fail>
-    requires { blank ≡ B.boot }
-{
-    let shared = blank.open::<B>();
-    read_up_at(rt, alloc, &shared)
-}
-
 #[test]
 fn reads_never_go_back(rt: HostRuntime) -> Result<(), Fail> {
-    let blank = Blank::boot(rt.alloc(), &MOST_PAGES)?;
-    read_up_while::<Brand, HostRuntime>(&rt, rt.alloc(), blank)
+    play(&rt, rt.alloc(), Case::Readers)
 }
 
 fn read_first<B: Naming, R: Wait>(rt: &R, reader: &Mutex<Seat<'_, B>>) -> Option<u8> {
@@ -253,7 +240,8 @@ fn write_a<B: Naming, R: Wait>(rt: &R, boot: &mut Seat<'_, B>) -> Result<(), Fai
     Ok(())
 }
 
-fn read_while_lent_at<B: Naming + Send, R: Threads + Wait + Sync + Abort>(
+/// Reads are answered while the lock is held.
+pub fn read_while_lent_at<B: Naming + Send, R: Threads + Wait + Sync + Abort>(
     rt: &R,
     shared: &Shared<B>,
 ) -> Result<(), Fail> {
@@ -263,20 +251,9 @@ fn read_while_lent_at<B: Naming + Send, R: Threads + Wait + Sync + Abort>(
     read_while_lent_by(rt, shared, &mut boot)
 }
 
-fn read_while_lent<B: Naming + Send, R: Threads + Wait + Sync + Abort>(
-    rt: &R,
-    blank: Blank,
-) -> Result<(), Fail>
-    requires { blank ≡ B.boot }
-{
-    let shared = blank.open::<B>();
-    read_while_lent_at(rt, &shared)
-}
-
 #[test]
 fn reads_end_while_the_lock_is_held(rt: HostRuntime) -> Result<(), Fail> {
-    let blank = Blank::boot(rt.alloc(), &MOST_PAGES)?;
-    read_while_lent::<Brand, HostRuntime>(&rt, blank)
+    play(&rt, rt.alloc(), Case::LentBook)
 }
 
 /// A seat reads in a thread of its own, while other seats are dropped here.
@@ -316,7 +293,8 @@ fn make_and_write<B: Naming, R: Wait>(rt: &R, boot: &mut Seat<'_, B>) -> Result<
     write_a(rt, boot)
 }
 
-fn drop_at<B: Naming + Send, R: Threads + Wait + Sync + Abort>(
+/// Seats are dropped while another one reads.
+pub fn drop_at<B: Naming + Send, R: Threads + Wait + Sync + Abort>(
     rt: &R,
     alloc: Global,
     shared: &Shared<B>,
@@ -326,24 +304,11 @@ fn drop_at<B: Naming + Send, R: Threads + Wait + Sync + Abort>(
     let others = others(rt, alloc, shared, boot)?;
     let reader = Mutex::new(seated(rt, shared, ObjectId::new(4))?);
     assert!(rt; read_while_dropping(rt, &reader, others) == Some(b'A'));
-    Ok(())
-}
-
-fn drop_seats<B: Naming + Send, R: Threads + Wait + Sync + Abort>(
-    rt: &R,
-    alloc: Global,
-    blank: Blank,
-) -> Result<(), Fail>
-    requires { blank ≡ B.boot }
-{
-    let shared = blank.open::<B>();
-    drop_at(rt, alloc, &shared)?;
-    assert!(rt; shared.close().into_events(rt).len() == 4);
+    assert!(rt; event_count(rt, shared) == 4);
     Ok(())
 }
 
 #[test]
 fn seats_are_dropped_while_another_reads(rt: HostRuntime) -> Result<(), Fail> {
-    let blank = Blank::boot(rt.alloc(), &MOST_PAGES)?;
-    drop_seats::<Brand, HostRuntime>(&rt, rt.alloc(), blank)
+    play(&rt, rt.alloc(), Case::DroppedSeats)
 }

@@ -1,6 +1,7 @@
 //! Seats and books on their happy paths, and where they refuse.
 ghost use Rattle.std.specs.Prelude.{◌≡◌};
 
+use crate::cases::{Case, play};
 use crate::samples::{
     asked, committed, first_bytes, is_at, is_done_as, is_made, is_refused, open_segment, passed,
     seated, submitted, write,
@@ -11,6 +12,7 @@ use published_copy::{
     Blank, BootRefusal, KeptEvent, Naming, Pass, Receipt, Seat, SeatRefusal, Shared, SubmitRefusal,
     Unread,
 };
+use std::alloc::Global;
 use std::marker::Brand;
 use std::process::Abort;
 use std::sync::Wait;
@@ -56,11 +58,13 @@ fn has_threads(kernel: &Kernel, meter: &mut Meter) -> bool {
     kernel.is_thread(boot_thread(), meter) && !kernel.is_thread(ObjectId::new(4), meter)
 }
 
-fn use_one_boot<B: Naming, R: Wait + Abort>(
+/// A call is the next event, through a seat and under a lent book.
+pub fn use_at<B: Naming, R: Wait + Abort>(
     rt: &R,
+    alloc: Global,
     shared: &Shared<B>,
-    meter: &mut Meter,
 ) -> Result<(), Fail> {
+    let mut meter = Meter::new(alloc)?;
     let mut pass = used_pass(rt, shared)?;
     assert!(rt; pass.thread() == boot_thread() && is_at(&pass, 3, 2));
     let mut book = shared.book(rt);
@@ -68,15 +72,8 @@ fn use_one_boot<B: Naming, R: Wait + Abort>(
     assert!(rt; has_no_entry(&receipt, 3, 3) && is_at(&pass, 4, 3));
     assert!(rt; book.limits() == &MOST_PAGES);
     assert!(rt; book.events().len() == 3 && ends_with_third(book.events()));
-    assert!(rt; has_threads(book.kernel(), meter));
+    assert!(rt; has_threads(book.kernel(), &mut meter));
     Ok(())
-}
-
-fn use_boot<B: Naming, R: Wait + Abort>(rt: &R, blank: Blank, meter: &mut Meter) -> Result<(), Fail>
-    requires { blank ≡ B.boot }
-{
-    let shared = blank.open::<B>();
-    use_one_boot(rt, &shared, meter)
 }
 
 /// Whether they are two events of one thread and then the first one of the thread that it made.
@@ -118,11 +115,11 @@ fn close_at<B: Naming, R: Wait + Abort>(
     shared: Shared<B>,
     meter: &mut Meter,
 ) -> Result<(), Fail> {
-    call_thrice(rt, &shared)?;
+    let called = call_thrice(rt, &shared);
     let book = shared.close();
     assert!(rt; book.limits() == &MOST_PAGES && book.kernel().is_thread(ObjectId::new(5), meter));
     assert!(rt; are_three(book.into_events(rt).as_slice()));
-    Ok(())
+    called
 }
 
 fn close_boot<B: Naming, R: Wait + Abort>(
@@ -144,9 +141,7 @@ fn what_is_closed_has_every_call(rt: HostRuntime) -> Result<(), Fail> {
 
 #[test]
 fn a_call_is_an_event(rt: HostRuntime) -> Result<(), Fail> {
-    let mut meter = Meter::new(rt.alloc())?;
-    let blank = Blank::boot(rt.alloc(), &MOST_PAGES)?;
-    use_boot::<Brand, HostRuntime>(&rt, blank, &mut meter)
+    play(&rt, rt.alloc(), Case::Calls)
 }
 
 #[test]
@@ -198,8 +193,8 @@ fn make_threads<B: Naming, R: Wait + Abort>(rt: &R, seat: &mut Seat<'_, B>) -> R
     Ok(())
 }
 
-// With the boot thread's, 64 seats are opened, for threads up to 66.
-fn refuse_seats_at<B: Naming, R: Wait + Abort>(rt: &R, shared: &Shared<B>) -> Result<(), Fail> {
+/// With the boot thread's, 64 seats are opened, for threads up to 66.
+pub fn refuse_seats_at<B: Naming, R: Wait + Abort>(rt: &R, shared: &Shared<B>) -> Result<(), Fail> {
     assert!(rt; is_refused(rt, shared, ObjectId::root(), 42));
     let mut seat = seated(rt, shared, boot_thread())?;
     make_threads(rt, &mut seat)?;
@@ -215,15 +210,7 @@ fn refuse_seats_at<B: Naming, R: Wait + Abort>(rt: &R, shared: &Shared<B>) -> Re
     Ok(())
 }
 
-fn refuse_seats<B: Naming, R: Wait + Abort>(rt: &R, blank: Blank) -> Result<(), Fail>
-    requires { blank ≡ B.boot }
-{
-    let shared = blank.open::<B>();
-    refuse_seats_at(rt, &shared)
-}
-
 #[test]
 fn seats_are_refused(rt: HostRuntime) -> Result<(), Fail> {
-    let blank = Blank::boot(rt.alloc(), &MOST_PAGES)?;
-    refuse_seats::<Brand, HostRuntime>(&rt, blank)
+    play(&rt, rt.alloc(), Case::RefusedSeats)
 }

@@ -2,7 +2,7 @@
 ghost use Rattle.std.specs.Prelude.{◌≡◌};
 
 use crate::samples::{first_bytes, first_in, open_segment, write};
-use base::{Data, Limits, ObjectId};
+use base::{Data, Limits, Meter, ObjectId};
 use kernel_rules::{Call, Reply};
 use published_copy::{BootRefusal, Naming, SoleBook};
 use std::alloc::Global;
@@ -55,7 +55,7 @@ fn refuses<B: Naming>(book: &mut SoleBook<B>, thread: u64, number: u8) -> bool {
 }
 
 // Two threads, each with a seat, write and read what the other wrote. No third one has a seat.
-fn call_in_turn<B: Naming, R: Abort>(rt: &R, book: &mut SoleBook<B>) -> Result<(), Fail> {
+fn call_in_turn<B: Naming, R: Abort>(rt: &R, book: &mut SoleBook<B>) {
     let (boot, other) = (boot_thread(), ObjectId::new(4));
     assert!(rt; book.seat(boot).is_ok());
     assert!(rt; makes(book, boot, &new_thread(), 4, 1, 1));
@@ -67,16 +67,12 @@ fn call_in_turn<B: Naming, R: Abort>(rt: &R, book: &mut SoleBook<B>) -> Result<(
     assert!(rt; does(book, other, &write(6, Data::from_slice(b"x"))));
     assert!(rt; reads(book, boot, 6, b'x') && reads(book, other, 6, b'x'));
     assert!(rt; makes(book, other, &open_segment(), 7, 2, 5));
-    Ok(())
 }
 
 // At the end its journal has each call, and its kernel each thread.
-fn close<B: Naming, R: Abort>(rt: &R, alloc: Global, book: SoleBook<B>) -> Result<(), Fail> {
-    let mut meter = meter_again(alloc)?;
-    assert!(rt; book.kernel().is_thread(ObjectId::new(5), &mut meter));
-    let events = book.into_events();
-    assert!(rt; events.len() == 5);
-    Ok(())
+fn close<B: Naming, R: Abort>(rt: &R, book: SoleBook<B>, meter: &mut Meter) {
+    assert!(rt; book.kernel().is_thread(ObjectId::new(5), meter));
+    assert!(rt; book.into_events().len() == 5);
 }
 
 fn use_alone<B: Naming, R: Abort>(
@@ -88,12 +84,14 @@ fn use_alone<B: Naming, R: Abort>(
     requires limits { limits.now ≡ B.boot.limits }
     requires seats { seats ≡ B.boot.seats }
 {
+    let mut meter = meter_again(alloc)?;
     let mut book = match SoleBook::<B>::boot(alloc, limits, seats) {
         Err(_) => SoleBook::<B>::boot(alloc, limits, seats)?,
         Ok(book) => book,
     };
-    call_in_turn(rt, &mut book)?;
-    close(rt, alloc, book)
+    call_in_turn(rt, &mut book);
+    close(rt, book, &mut meter);
+    Ok(())
 }
 
 // Also where an allocation is refused: what is made again answers as if nothing had been.

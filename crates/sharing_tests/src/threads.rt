@@ -1,14 +1,12 @@
 //! Threads that call and read at once.
-ghost use Rattle.std.specs.Prelude.{◌≡◌};
-
+use crate::cases::{Case, play};
 use crate::samples::{is_refused, is_shown_own, seated, submitted};
-use base::{Limits, Meter, ObjectId};
+use base::{Limits, Meter, NoMemory, ObjectId};
 use histories::{Answered, Event};
 use kept_events::events_of;
 use kernel_rules::{Call, Reply};
-use published_copy::{Blank, KeptEvent, Naming, Seat, Shared};
+use published_copy::{KeptEvent, Naming, Seat, Shared};
 use std::alloc::Global;
-use std::marker::Brand;
 use std::process::Abort;
 use std::sync::{Mutex, Wait};
 use std::test::Fail;
@@ -18,7 +16,7 @@ use syscall_core::{Machine, PlainKernel};
 use test_support::{MOST_PAGES, boot_thread, is_done, new_thread, plain};
 
 /// Limits with 128 pages.
-const LIMITS: Limits = Limits {
+pub const LIMITS: Limits = Limits {
     pages: 128,
     ..MOST_PAGES
 };
@@ -183,6 +181,17 @@ fn are_numbered(events: &[KeptEvent]) -> bool {
     all
 }
 
+/// The journal's events, which are those of all workers.
+fn numbered_events<B: Naming, R: Wait + Abort>(
+    rt: &R,
+    alloc: Global,
+    shared: &Shared<B>,
+) -> Result<Vec<Event>, NoMemory> {
+    let book = shared.book(rt);
+    assert!(rt; are_numbered(book.events()));
+    events_of(alloc, book.events())
+}
+
 // The journal has every call, and a plain kernel answers them as it says.
 fn replay<B: Naming, R: Wait + Abort>(
     rt: &R,
@@ -190,15 +199,14 @@ fn replay<B: Naming, R: Wait + Abort>(
     shared: &Shared<B>,
 ) -> Result<(), Fail> {
     let mut meter = Meter::new(alloc)?;
+    let events = numbered_events(rt, alloc, shared)?;
     let mut kernel = PlainKernel::boot(alloc, &LIMITS)?;
-    let book = shared.book(rt);
-    assert!(rt; are_numbered(book.events()));
-    let events = events_of(alloc, book.events())?;
     assert!(rt; is_replayed(&mut kernel, &mut meter, events.as_slice()));
     Ok(())
 }
 
-fn work_at<B: Naming + Send, R: Threads + Wait + Sync + Abort>(
+/// Workers call and read in threads of their own, all at once, and the journal has every call.
+pub fn work_at<B: Naming + Send, R: Threads + Wait + Sync + Abort>(
     rt: &R,
     alloc: Global,
     shared: &Shared<B>,
@@ -214,19 +222,7 @@ fn work_at<B: Naming + Send, R: Threads + Wait + Sync + Abort>(
     replay(rt, alloc, shared)
 }
 
-fn work<B: Naming + Send, R: Threads + Wait + Sync + Abort>(
-    rt: &R,
-    alloc: Global,
-    blank: Blank,
-) -> Result<(), Fail>
-    requires { blank ≡ B.boot }
-{
-    let shared = blank.open::<B>();
-    work_at(rt, alloc, &shared)
-}
-
 #[test]
 fn the_journal_has_every_call(rt: HostRuntime) -> Result<(), Fail> {
-    let blank = Blank::boot(rt.alloc(), &LIMITS)?;
-    work::<Brand, HostRuntime>(&rt, rt.alloc(), blank)
+    play(&rt, rt.alloc(), Case::Threads)
 }

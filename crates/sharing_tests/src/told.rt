@@ -1,16 +1,15 @@
 //! One history, as a writer, a reader and who has the book are told of it.
-ghost use Rattle.std.specs.Prelude.{◌≡◌};
-
+use crate::cases::{Case, play};
 use crate::samples::{first_byte, make_two, passed, seated};
 use base::{Meter, ObjectId};
 use kernel_rules::{Call, Query, Reply};
 use one_history::{Asked, Fault, Told, told_by};
-use published_copy::{Blank, Naming, SeatRefusal, Shared};
-use std::marker::Brand;
+use published_copy::{Naming, SeatRefusal, Shared};
+use std::alloc::Global;
 use std::process::Abort;
 use std::sync::Wait;
 use std::test::Fail;
-use test_support::{MOST_PAGES, boot_thread, new_thread};
+use test_support::{boot_thread, new_thread};
 
 /// Whether the writer made a category as its first event and the journal's fourth, the reader was shown its own values, and a
 /// page is kept as what it uses, with the root as the first live id.
@@ -31,11 +30,13 @@ fn make_threads<B: Naming, R: Wait>(rt: &R, shared: &Shared<B>) -> Result<(), Fa
     Ok(())
 }
 
-fn tell_at<B: Naming, R: Wait + Abort>(
+/// A writer, a reader and who has the book are told of one history.
+pub fn tell_at<B: Naming, R: Wait + Abort>(
     rt: &R,
+    alloc: Global,
     shared: &Shared<B>,
-    meter: &mut Meter,
 ) -> Result<(), Fail> {
+    let mut meter = Meter::new(alloc)?;
     make_threads(rt, shared)?;
     let asked = Asked {
         writer: ObjectId::new(4),
@@ -45,31 +46,22 @@ fn tell_at<B: Naming, R: Wait + Abort>(
         slot: 0,
         place: 0,
     };
-    match told_by(rt, shared, &asked, meter) {
+    match told_by(rt, shared, &asked, &mut meter) {
         Ok(told) => assert!(rt; is_told(&told)),
         Err(_) => assert!(rt; false),
     }
-    let again = told_by(rt, shared, &asked, meter);
+    let again = told_by(rt, shared, &asked, &mut meter);
     assert!(rt; again.err() == Some(Fault::Seat(SeatRefusal::SeatTaken)));
     Ok(())
 }
 
-fn tell<B: Naming, R: Wait + Abort>(rt: &R, blank: Blank, meter: &mut Meter) -> Result<(), Fail>
-    requires { blank ≡ B.boot }
-{
-    let shared = blank.open::<B>();
-    tell_at(rt, &shared, meter)
-}
-
 #[test]
 fn all_are_told_of_one_history(rt: HostRuntime) -> Result<(), Fail> {
-    let mut meter = Meter::new(rt.alloc())?;
-    let blank = Blank::boot(rt.alloc(), &MOST_PAGES)?;
-    tell::<Brand, HostRuntime>(&rt, blank, &mut meter)
+    play(&rt, rt.alloc(), Case::OneHistory)
 }
 
-// Of a journal, a pass and notes the longer has the shorter.
-fn compare_at<B: Naming, R: Wait + Abort>(rt: &R, shared: &Shared<B>) -> Result<(), Fail> {
+/// Of a journal, a pass and notes the longer has the shorter.
+pub fn compare_at<B: Naming, R: Wait + Abort>(rt: &R, shared: &Shared<B>) -> Result<(), Fail> {
     let mut boot = seated(rt, shared, boot_thread())?;
     let early = boot.note();
     make_two(rt, &mut boot)?;
@@ -83,15 +75,7 @@ fn compare_at<B: Naming, R: Wait + Abort>(rt: &R, shared: &Shared<B>) -> Result<
     Ok(())
 }
 
-fn compare<B: Naming, R: Wait + Abort>(rt: &R, blank: Blank) -> Result<(), Fail>
-    requires { blank ≡ B.boot }
-{
-    let shared = blank.open::<B>();
-    compare_at(rt, &shared)
-}
-
 #[test]
 fn the_longer_of_two_lists_has_the_shorter(rt: HostRuntime) -> Result<(), Fail> {
-    let blank = Blank::boot(rt.alloc(), &MOST_PAGES)?;
-    compare::<Brand, HostRuntime>(&rt, blank)
+    play(&rt, rt.alloc(), Case::Lists)
 }

@@ -1,20 +1,14 @@
-//! Whether two machines answer and keep the same.
-use base::{Meter, NoMemory, ObjectId};
-use call_text::write_reply;
-use kernel_rules::{Reply, Shown, Tables};
-use std::alloc::Global;
-use syscall_core::Kernel;
+//! The rows of translation that the arena kernel keeps.
+use base::{Meter, ObjectId};
+use kernel_rules::Shown;
+use syscall_core::{Kernel, Tables};
 use test_support::is_shown;
 
-/// Whether two replies have one spelling.
-pub fn are_same(alloc: Global, one: &Reply, other: &Reply) -> Result<bool, NoMemory> {
-    let one = write_reply(alloc, one, &[])?;
-    let other = write_reply(alloc, other, &[])?;
-    Ok(one.as_slice() == other.as_slice())
-}
+/// How many slots of a thread there can be, and one more.
+const SLOTS: u32 = 17;
 
-// How many of the rows that a kernel keeps for a thread are among these, of which the first so many
-// have been met; none where one is not.
+/// How many of the rows that a kernel keeps for a thread are among these, of which the first so many have been met; none
+/// where one is not.
 fn kept_of(
     kernel: &Kernel,
     thread: ObjectId,
@@ -23,7 +17,7 @@ fn kept_of(
     meter: &mut Meter,
 ) -> Option<usize> {
     let mut met = met;
-    for slot in 0..17u32 {
+    for slot in 0..SLOTS {
         if let Some((segment, rights)) = kernel.kept_translation(thread, slot as usize, meter) {
             let kept = Shown {
                 thread,
@@ -40,7 +34,7 @@ fn kept_of(
     Some(met)
 }
 
-/// Whether the rows that a kernel keeps are just those that a table shows.
+/// Whether the rows that a kernel keeps are just those that its tables show.
 pub fn keeps_rows(kernel: &Kernel, tables: &Tables, meter: &mut Meter) -> bool {
     let shown = tables.shown.as_slice();
     let mut met = 0;
