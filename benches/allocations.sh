@@ -5,13 +5,13 @@
 set -eu
 top=$(cd "$(dirname "$0")/.." && pwd)
 rounds=${1:-1000}
-bench=$top/crates/bench_structures/out/bench_structures
+bench=$top/crates/benches/out/benches
 folder=$(mktemp -d)
 trap 'rm -rf "$folder"' EXIT
-built=$(cd "$top/crates/bench_structures" && rt run --jobs 1 2>&1) || { echo "$built" >&2; exit 1; }
+built=$(cd "$top/crates/benches" && rt run --jobs 1 2>&1) || { echo "$built" >&2; exit 1; }
 ${CC:-cc} -O1 -shared -fPIC -w -o "$folder/count.so" "$top/gate/count.c"
 
-LD_PRELOAD=$folder/count.so "$bench" calls "$rounds" >"$folder/told"
+LD_PRELOAD=$folder/count.so "$bench" count "$rounds" >"$folder/told"
 cat "$folder/told"
 booted=$(sed -n 's/^requests \([0-9]*\): booted$/\1/p' "$folder/told")
 played=$(sed -n 's/^requests \([0-9]*\): played: [1-9].*$/\1/p' "$folder/told")

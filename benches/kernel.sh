@@ -10,14 +10,14 @@
 # kernel.sh   RUNS=30 and ROUNDS=1000 may be set
 set -eu
 top=$(cd "$(dirname "$0")/.." && pwd)
-bench=$top/crates/bench_kernel/out/bench_kernel
+bench=$top/crates/benches/out/benches
 simple=$top/benches/simple/target/release/simple
 command -v cargo >/dev/null || { echo "kernel.sh: cargo is not on the path, and the simple kernel is built with it" >&2; exit 2; }
 twin=$top/benches/twin/target/release/twin-bench
 for yardstick in simple twin; do
     cargo build --quiet --release --offline --manifest-path "$top/benches/$yardstick/Cargo.toml"
 done
-built=$(cd "$top/crates/bench_kernel" && rt run --jobs 1 2>&1) || { echo "$built" >&2; exit 1; }
+built=$(cd "$top/crates/benches" && rt run --jobs 1 2>&1) || { echo "$built" >&2; exit 1; }
 folder=$(mktemp -d -p /dev/shm)
 trap 'rm -rf "$folder"' EXIT
 
@@ -74,7 +74,7 @@ for size in "8 0" "64 0" "512 0" "64 4" "64 8" "64 16"; do
     read -r pages categories <<<"$size"
     words=("$pages" $((pages - 8)) "$categories" "${ROUNDS:-1000}")
     echo "== $pages pages, $categories categories"
-    least "$bench" "${words[@]}" "$folder/file" | tee "$folder/ours-$pages-$categories"
+    least "$bench" calls "${words[@]}" "$folder/file" | tee "$folder/ours-$pages-$categories"
     least "$simple" "${words[@]}" >"$folder/simple"
     echo "-- beside the simple kernel"
     compare "$folder/ours-$pages-$categories" "$folder/simple"

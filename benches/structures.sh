@@ -3,8 +3,8 @@
 # zero whatever the times are.
 set -eu
 top=$(cd "$(dirname "$0")/.." && pwd)
-bench=$top/crates/bench_structures/out/bench_structures
-built=$(cd "$top/crates/bench_structures" && rt run --jobs 1 2>&1) || { echo "$built" >&2; exit 1; }
+bench=$top/crates/benches/out/benches
+built=$(cd "$top/crates/benches" && rt run --jobs 1 2>&1) || { echo "$built" >&2; exit 1; }
 
 for objects in 8 64 512 1024; do
     "$bench" find "$objects" $((4000000 / objects)) | grep ratio
