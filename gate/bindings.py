@@ -1,6 +1,7 @@
 """The kernel as a library for C and Rust: it is built, and programs in bindings/ are compiled against it and run. The scripts
-of examples/ print by them what is stored, and ./histar-audit finds the dumps of their logs clean; random scripts print what
-./histar prints, leave the tables that its dump has, and dump what it dumps; random records leave the heap as it was.
+of examples/ print by them what is stored, and ./histar-audit finds the dumps of their logs clean; the scripts of the rules
+print what is stored of them; random scripts print what ./histar prints, leave the tables that its dump has, and dump what it
+dumps; random records leave the heap as it was. The programs of docs/EMBED.md print what it says.
 
 What a machine lacks (compilers, cargo, valgrind, clang's runtime) is left out, with a line for each."""
 import glob
@@ -11,7 +12,8 @@ import tempfile
 
 from gate import confine
 from gate.headers import wrong
-from gate.plays import Script, ran
+from gate.machines import scripts_of_rules
+from gate.plays import Script, ran, text
 from gate.scripts import script
 
 SEEDS = range(1, 41)
@@ -36,6 +38,11 @@ def examples():
     """The scripts of examples/ without a fault."""
     found = [Script(it) for it in sorted(glob.glob("examples/*.histar"))]
     return [it for it in found if it.status == 0]
+
+
+def program_in(document, language):
+    """The first block of a document in this language."""
+    return document.split(f"```{language}\n", 1)[1].split("```\n", 1)[0]
 
 
 def ran_dumping(dump, *words):
@@ -63,6 +70,7 @@ class Bindings:
         self.histar = histar
         self.auditor = auditor
         self.kept = {}
+        self.rules = list(scripts_of_rules())
 
     def leave_out(self, what, why):
         self.report.say(f"left out: {what}: {why}")
@@ -104,6 +112,20 @@ class Bindings:
             self.report.counts(not unclean, f"{name}: ./histar-audit finds the dumps of their logs clean" + but_not(unclean))
         else:
             self.leave_out(f"{name}: audits of logs", "./histar-audit is not built")
+
+    def play_rules(self, player, name):
+        """The scripts of the rules by a player, against what is stored of them."""
+        differing = [it.name for it in self.rules if ran(*player, self.kept_script(it), *it.words) != (0, it.out)]
+        what = f"{name}: {len(self.rules)} scripts of the rules print what is stored of them"
+        self.report.counts(bool(self.rules) and not differing, what + but_not(differing))
+
+    def kept_script(self, rule):
+        """A script of the rules as a file."""
+        file = f"{self.room}/{rule.name}.histar"
+        if not os.path.isfile(file):
+            with open(file, "w", encoding="utf-8") as it:
+                it.write(rule.text)
+        return file
 
     def play_random(self, player, name):
         """Random scripts by a player, against the proved program."""
@@ -162,15 +184,29 @@ class Bindings:
             said = ran(program)
             self.report.counts(said == (0, "the owner reads key\nrefused 5 CannotObserve\n"), f"{name}: the first program")
 
+    def try_documented(self, language, compiler, *links):
+        """The program of docs/EMBED.md in a language, compiled so, prints what the text below it says."""
+        document = text("docs/EMBED.md")
+        program = program_in(document, language)
+        wanted = document.split(program, 1)[1].split("It prints `", 1)[1].split("`", 1)[0]
+        source, made = f"{self.room}/documented.{language}", f"{self.room}/documented-{language}"
+        with open(source, "w", encoding="utf-8") as it:
+            it.write(program)
+        if self.counts(f"{' '.join(compiler[:2])} over the program of docs/EMBED.md", *compiler, source, "-o", made, *links):
+            self.report.counts(ran(made) == (0, f"{wanted}\n"), f"the program of docs/EMBED.md in {language} prints {wanted}")
+
     def try_c(self):
         compilers = [it for it in ("gcc", "clang") if shutil.which(it)]
         if not compilers:
             self.leave_out("C", "neither gcc nor clang is on the path")
         for compiler in compilers:
             self.try_header(compiler, "c11")
+            links = [f"{self.library}/libhistar_c.a", f"{self.library}/liblibc_c.a"]
+            self.try_documented("c", [compiler, "-std=c11", "-Iinclude", *WARNINGS], *links)
             player = self.compile([compiler, "-std=gnu11"], "play", f"play-{compiler}", *WARNINGS)
             if player:
                 self.play([player], f"C by {compiler}")
+                self.play_rules([player], f"C by {compiler}")
                 self.play_random([player], f"C by {compiler}")
         for compiler in ("g++", "clang++"):
             if shutil.which(compiler):
@@ -237,9 +273,11 @@ class Bindings:
         env = {"HISTAR_LIB": os.path.realpath(self.library)}
         self.counts("cargo test: the crate histar, with the examples of its documents", "cargo", "test", "--quiet", *MANIFEST, env=env)
         self.counts("cargo doc without a warning", "cargo", "doc", "--no-deps", *MANIFEST, env={**env, "RUSTDOCFLAGS": "-D warnings"})
-        if self.counts("cargo build of examples and benches", "cargo", "build", "--release", "--examples", "--benches", *MANIFEST, env=env):
+        if self.counts("cargo build of the crate, examples and benches", "cargo", "build", "--release", "--lib", "--examples", "--benches", *MANIFEST, env=env):
             player = ["bindings/rust/target/release/examples/play"]
+            self.try_documented("rust", ["rustc", "--edition=2021", "--extern", "histar=bindings/rust/target/release/libhistar.rlib"])
             self.play(player, "Rust")
+            self.play_rules(player, "Rust")
             self.play_random(player, "Rust")
 
 
@@ -261,4 +299,4 @@ def try_all(report, tree="."):
         bindings = Bindings(report, f"{tree}/out/lib", room, built(tree, "histar"), built(tree, "histar_audit"))
         bindings.try_c()
         bindings.try_rust()
-    confine.try_all(report, f"{tree}/out/lib", is_long=True)
+    confine.try_all(report, f"{tree}/out/lib", built(tree, "histar_audit"), is_long=True)

@@ -1,4 +1,4 @@
-//! Labels, as a script spells them: `{3:3,7:*,1}`, or `label! { c => L3, d => Star; L1 }`.
+//! Labels, as a script spells them: `{#3:3,#7:*,1}`, or `label! { c => L3, d => Star; L1 }`.
 use crate::Category;
 use std::fmt;
 use std::str::FromStr;
@@ -63,7 +63,7 @@ impl Label {
 /// ```
 /// use histar::{label, Category, Label, Level};
 /// assert_eq!(label! { Category(3) => L3; L1 }, Label::new(Level::L1).with(Category(3), Level::L3));
-/// assert_eq!(label! { Category(3) => L3; L1 }.to_string(), "{3:3,1}");
+/// assert_eq!(label! { Category(3) => L3; L1 }.to_string(), "{#3:3,1}");
 /// ```
 #[macro_export]
 macro_rules! label {
@@ -83,13 +83,13 @@ impl fmt::Display for Label {
     fn fmt(&self, f: &mut fmt::Formatter<'_>) -> fmt::Result {
         f.write_str("{")?;
         for (category, level) in &self.pairs {
-            write!(f, "{}:{level},", category.0)?;
+            write!(f, "#{}:{level},", category.0)?;
         }
         write!(f, "{}}}", self.default)
     }
 }
 
-/// The text spells no label.
+/// The text spells no label: scripts spell one as `{#3:3,#7:*,1}`, with at most 24 pairs.
 #[derive(Clone, Copy, PartialEq, Eq, Debug)]
 pub struct NoLabel;
 
@@ -109,10 +109,20 @@ impl FromStr for Level {
     }
 }
 
-/// Reads a pair, as `3:*`.
+/// Reads a number, which has one spelling: no sign, and no zero before other digits.
+fn number(text: &str) -> Result<u64, NoLabel> {
+    let number: u64 = text.parse().map_err(|_| NoLabel)?;
+    if number.to_string() == text {
+        Ok(number)
+    } else {
+        Err(NoLabel)
+    }
+}
+
+/// Reads a pair, as `#3:*`.
 fn pair(text: &str) -> Result<(Category, Level), NoLabel> {
-    let (category, level) = text.split_once(':').ok_or(NoLabel)?;
-    Ok((Category(category.parse().map_err(|_| NoLabel)?), level.parse()?))
+    let (category, level) = text.strip_prefix('#').and_then(|it| it.split_once(':')).ok_or(NoLabel)?;
+    Ok((Category(number(category)?), level.parse()?))
 }
 
 impl FromStr for Label {
@@ -121,9 +131,12 @@ impl FromStr for Label {
     fn from_str(text: &str) -> Result<Label, NoLabel> {
         let inner = text.strip_prefix('{').and_then(|it| it.strip_suffix('}')).ok_or(NoLabel)?;
         let (pairs, default) = match inner.rsplit_once(',') {
-            Some((pairs, default)) => (pairs.split(',').map(pair).collect::<Result<_, _>>()?, default),
+            Some((pairs, default)) => (pairs.split(',').map(pair).collect::<Result<Vec<_>, _>>()?, default),
             None => (Vec::new(), inner),
         };
+        if pairs.len() > 24 {
+            return Err(NoLabel);
+        }
         Ok(Label { default: default.parse()?, pairs })
     }
 }

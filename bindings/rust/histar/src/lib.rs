@@ -25,6 +25,7 @@ mod kernel;
 mod label;
 mod log;
 mod methods;
+#[allow(unsafe_code)] // the one file that has any
 mod raw;
 mod records;
 mod refusal;

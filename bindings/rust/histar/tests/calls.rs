@@ -116,13 +116,18 @@ fn limits_out_of_range_boot_no_kernel() {
 
 #[test]
 fn labels_are_spelled_as_in_scripts() {
-    let label: Label = "{3:*,7:0,1}".parse().unwrap();
+    let label: Label = "{#3:*,#7:0,1}".parse().unwrap();
     assert_eq!(label, label! { Category(3) => Star, Category(7) => L0; L1 });
-    assert_eq!(label.to_string(), "{3:*,7:0,1}");
+    assert_eq!(label.to_string(), "{#3:*,#7:0,1}");
     assert_eq!("{1}".parse(), Ok(label! { L1 }));
-    for faulty in ["", "{", "{}", "{4}", "1", "{1:2}", "{x:1,1}", "{1:1,1"] {
+    for faulty in
+        ["", "{", "{}", "{4}", "1", "{#1:2}", "{#x:1,1}", "{#1:1,1", "{1:1,1}", "{#01:1,1}", "{#+1:1,1}", "{#:1,1}"]
+    {
         assert!(faulty.parse::<Label>().is_err(), "{faulty}");
     }
+    let spelled = |pairs: u64| format!("{{{}1}}", (1..=pairs).map(|c| format!("#{c}:2,")).collect::<String>());
+    assert_eq!(spelled(24).parse::<Label>().unwrap().to_string(), spelled(24));
+    assert!(spelled(25).parse::<Label>().is_err());
     assert_eq!(Refusal::CannotObserve.to_string(), "5 CannotObserve");
     assert_eq!(Refusal::of(45), Some(Refusal::NoCall));
     assert_eq!(Refusal::of(26), None);
