@@ -3,6 +3,7 @@ write; a scene with a secret in it fails where a byte of the secret is seen outs
 
 Where a machine lacks what confine needs (libseccomp's headers, user namespaces, Landlock), all is left out, with a line."""
 import os
+import re
 import shutil
 import subprocess
 import tempfile
@@ -18,17 +19,21 @@ UNABLE = 69
 
 
 class Scene:
-    """A program, and what it leaves: what it prints and its status, which may be any where there is None, and its reports."""
+    """A program, and what it leaves: what it prints and its status, which may be any where there is None, its reports, and
+    how confine's last line ends, where that is asked."""
 
-    def __init__(self, name, program, printed="", report="", second="", status=0, words=None, stdin=None):
+    def __init__(self, name, program, printed="", report="", second="", open="", status=0, words=None, stdin=None, policy="", told=None):
         self.name = name
         self.program = program
         self.printed = printed
         self.report = report
         self.second = second
+        self.open = open
         self.status = status
         self.words = words
         self.stdin = stdin
+        self.policy = policy
+        self.told = told
 
 
 # $S, $T: the secret folders; $R, $U: their reports; $Q: a report of no secret; $P: a public folder; $O: a folder of the user's
@@ -55,7 +60,7 @@ SCENES = (
     Scene("reads its standard input", "cat", printed="typed\n", stdin="typed\n"),
     Scene("reads much of its standard input", "wc -c", printed="1000000\n", stdin="x" * 1_000_000),
     Scene("leaves its standard input unread", "echo done", printed="done\n", stdin="x" * 1_000_000),
-    Scene("writes a report of no secret", "echo done > $Q", words=OPEN),
+    Scene("writes a report of no secret", "echo done > $Q", open="done\n", words=OPEN),
     # What it may not.
     Scene("reads and prints", READ + "echo $k"),
     Scene("reads and prints as an error", READ + "echo $k >&2"),
@@ -109,7 +114,7 @@ SCENES = (
     Scene("leaves a process behind", READ + "(sleep 60; echo $k) & exit 0"),
     Scene("reads one secret and writes the other's report", READ + "echo $k > $U", words=TWO),
     Scene("reads both and writes either report", READ + "cat $T/key; echo $k > $R; echo $k > $U", words=TWO),
-    Scene("holds a report of no secret and reads", "exec 5> $Q; cat $S/key >&5; echo refused >&5", words=OPEN),
+    Scene("holds a report of no secret and reads", "exec 5> $Q; cat $S/key >&5; echo refused >&5", open="refused\n", words=OPEN),
     Scene("holds one report and reads the other secret", "exec 5> $R; cat $T/key >&5; echo refused >&5", report="refused\n", words=TWO),
     Scene("reads a report back", "echo kept > $R; cat $R >> $R; echo none >> $R", report="kept\nnone\n"),
     Scene("writes its report and then prints", "echo kept > $R; echo hello", report="kept\n"),
@@ -117,7 +122,89 @@ SCENES = (
     Scene("is born with the secrets and prints", "echo hello; cat $S/key", words=ONE + ["--born-tainted"]),
     Scene("is born with the secrets and writes its report", "cat $S/key > $R", report=SECRET + "\n", words=ONE + ["--born-tainted"]),
     Scene("tells by names that confine explains", READ + "cat $S/$k $T/$k; echo > $U/$k; echo > $R.$k; echo > $U", words=TWO + ["--explain"]),
+    Scene("starts processes without end", "perl -e 'for (1..3000) { $p = fork; last if !defined $p; if (!$p) { sleep 60; exit } $n++ } print $n <= 512 ? 0 : $n'", printed="0"),
     Scene("is not there", None, status=127, printed=""),
+)
+
+# A policy of two categories, with what it says of the program and of gates left open. The second report may have both secrets.
+POLICY = """
+categories = ["first", "second"]
+public = ["public"]
+read = [{folder = "secret", label = {first = 3}}, {folder = "second", label = {second = 3}}]
+write = [{file = "report", label = {first = 3}}, {file = "report2", label = {first = 3, second = 3}}, {file = "open"}]
+"""
+GATES = (
+    POLICY
+    + """
+[[gate]]
+name = "count"
+program = ["wc", "-c"]
+owns = ["first"]
+
+[[gate]]
+name = "lines"
+program = ["wc", "-l"]
+owns = ["first"]
+file = "open"
+
+[[gate]]
+name = "broken"
+program = ["/no/such/program"]
+owns = ["first"]
+"""
+)
+BY_POLICY = ["--policy", "$F"]
+EXPLAINED = [*BY_POLICY, "--explain"]
+COUNT = f"{len(SECRET) + 1}\n"
+READ_OTHER = "j=$(cat $T/key); "
+
+POLICY_SCENES = (
+    Scene("has a policy and writes a report", READ + "echo $k > $R", report=SECRET + "\n", policy=POLICY),
+    Scene("has a policy and prints", READ + "echo $k", policy=POLICY),
+    Scene("has a policy and reads what is public", "cat $P/text", printed=PUBLIC + "\n", policy=POLICY),
+    Scene("writes a report of two secrets", READ + READ_OTHER + "echo $k $j > $U", second=f"{SECRET} {SECOND}\n", policy=POLICY),
+    Scene("writes one secret to the report of both", READ_OTHER + "echo $j > $U", second=SECOND + "\n", policy=POLICY),
+    Scene("writes both secrets to the report of one", READ + READ_OTHER + "echo $k $j > $R", policy=POLICY),
+    Scene("writes the report of both and then that of one", "echo x > $U; echo y > $R", second="x\n", policy=POLICY),
+    Scene("is cleared for one secret and reads it", READ + "echo $k > $R", report=SECRET + "\n", policy=POLICY + "program = {clearance = {second = 2}}\n"),
+    Scene(
+        "is cleared for one secret and reads the other",
+        READ_OTHER + "echo $j > $U; echo hello",
+        policy=POLICY + "program = {clearance = {second = 2}}\n",
+        printed="hello\n",
+        words=EXPLAINED,
+        told=" in the category of second it is at 3, and the program's clearance at 2",
+    ),
+    Scene("begins at a secret's label and prints", "echo hello", policy=POLICY + "program = {label = {first = 3}}\n"),
+    Scene("begins at a secret's label and writes its report", "cat $S/key > $R", report=SECRET + "\n", policy=POLICY + "program = {label = {first = 3}}\n"),
+    Scene("writes what only a lower label may", "echo x > $Q", policy=POLICY.replace('{file = "open"}', '{file = "open", label = {first = 0}}'), status=2),
+    Scene("tells by a gate how long a secret is", "cat $S/key | cat > /gate/count", printed=COUNT, policy=GATES),
+    Scene("tells by a gate and prints as well", READ + "echo $k; echo $k > /gate/count; echo $k", printed=COUNT, policy=GATES),
+    Scene("tells by a gate that writes a file", "cat $S/key > /gate/lines", open="1\n", policy=GATES),
+    Scene("goes through a gate twice", READ + "echo $k >> /gate/lines; echo $k > /gate/lines", open="1\n1\n", policy=GATES),
+    Scene("begins a gate and fills it later", "exec 5> /gate/count; cat $S/key >&5", printed=COUNT, policy=GATES),
+    Scene("goes through a gate with another's secret", READ_OTHER + "echo $j > /gate/count", policy=GATES),
+    Scene(
+        "goes through a gate with both secrets",
+        READ + READ_OTHER + "echo $k > /gate/count",
+        policy=GATES,
+        words=EXPLAINED,
+        told="refused to enter the gate count: in the category of second the program is at 3, and it at 1",
+    ),
+    Scene(
+        "holds a gate and reads another's secret",
+        "exec 5> /gate/count; cat $T/key >&5; echo refused >&5",
+        printed="8\n",
+        policy=GATES,
+        words=EXPLAINED,
+        told="second: the program was given count to write",
+    ),
+    Scene("reads a gate", "cat /gate/count; ls /gate", printed="broken\ncount\nlines\n", policy=GATES),
+    Scene("reads back from a gate", "(exec 5<> /gate/count) 2>/dev/null || echo none", printed="none\n", policy=GATES),
+    Scene("makes a gate of its own", "echo x > /gate/more; ls /gate | wc -l", printed="3\n", policy=GATES),
+    Scene("takes a gate for a folder", "echo x > /gate/count/x; echo x > /gate/../gate/count", printed="2\n", policy=GATES),
+    Scene("tells by a gate whose program isn't there", "echo x > /gate/broken", policy=GATES, told="the gate broken failed", status=None),
+    Scene("leaves a gate open behind", "sleep 60 > /gate/count & sleep 0.3; exit 0", printed="0\n", policy=GATES),
 )
 
 
@@ -155,7 +242,7 @@ class Rooms:
     """The folders and files of a scene, made anew."""
 
     def __init__(self, room):
-        self.names = {"S": "secret", "T": "second", "P": "public", "O": "own", "R": "report", "U": "report2", "Q": "open"}
+        self.names = {"S": "secret", "T": "second", "P": "public", "O": "own", "R": "report", "U": "report2", "Q": "open", "F": "policy"}
         self.paths = {name: f"{room}/{path}" for name, path in self.names.items()}
         shutil.rmtree(room, ignore_errors=True)
         for name in "STPO":
@@ -206,8 +293,10 @@ class Rooms:
 def played(room, scene):
     """What is wrong with how a scene ended, or nothing."""
     rooms = Rooms(room)
+    with open(rooms.paths["F"], "w", encoding="utf-8") as it:
+        it.write(scene.policy)
     program = ["/bin/sh", "-c", scene.program] if scene.program is not None else ["/no/such/program"]
-    words = [CONFINE, *rooms.words(scene.words or ONE), "--audit", f"{room}/dump", "--", *program]
+    words = [CONFINE, *rooms.words(scene.words or (BY_POLICY if scene.policy else ONE)), "--audit", f"{room}/dump", "--", *program]
     how = {"stdout": subprocess.PIPE, "stderr": subprocess.PIPE, "text": True, "errors": "replace", "timeout": 600}
     done = subprocess.run(words, input=scene.stdin, env={**os.environ, **rooms.paths}, **how)
     wrong = []
@@ -215,8 +304,10 @@ def played(room, scene):
         wrong.append(f"printed {done.stdout!r}")
     if scene.status is not None and done.returncode != scene.status:
         wrong.append(f"status {done.returncode} {done.stderr}")
-    if rooms.read("R") != scene.report or rooms.read("U") != scene.second:
-        wrong.append(f"reports {rooms.read('R')!r} {rooms.read('U')!r}")
+    if (rooms.read("R"), rooms.read("U"), rooms.read("Q")) != (scene.report, scene.second, scene.open):
+        wrong.append(f"reports {rooms.read('R')!r} {rooms.read('U')!r} {rooms.read('Q')!r}")
+    if scene.told is not None and not any(it.startswith("confine: ") and it.endswith(scene.told) for it in done.stderr.splitlines()):
+        wrong.append(f"told {done.stderr!r}")
     seen = done.stdout + done.stderr + rooms.seen()
     if SECRET in seen or SECOND in seen:
         wrong.append("a secret got out")
@@ -243,7 +334,39 @@ WRONG_WORDS = (
     (["--report", "/var/tmp/confine-tried", "--secret", "/var/tmp", "--", "true"], "of which it is no report"),
     (["--secret", "/var", "--public", "/var/tmp", "--", "true"], "one lies in the other"),
     (["--secret", "/etc"] * 9 + ["--", "true"], "at most 8"),
+    (["--policy", "/no/such/file", "--", "true"], "/no/such/file: "),
 )
+
+
+# Policies that are none, and a piece of the line that says so.
+WRONG_POLICIES = (
+    ("categories = [", "policy:1: "),
+    ("colours = []", "no word of a policy: colours"),
+    ("categories = 3", "a list is wanted"),
+    ('categories = ["First"]', "a name has up to 31"),
+    ('categories = ["a", "a"]', "named twice"),
+    ("categories = [" + ", ".join(f'"c{it}"' for it in range(9)) + "]", "at most 8 categories"),
+    ('read = [{folder = "none"}]', "is not there"),
+    ("read = [{label = {}}]", "folder is wanted"),
+    ('read = [{folder = "secret", label = {first = 3}}]', "no category: first"),
+    ('categories = ["first"]\nread = [{folder = "secret", label = {first = 4}}]', "a level is from 0 to 3"),
+    ('categories = ["first"]\nprogram = {clearance = {first = 0}}', "a level is from 1 to 3"),
+    ('categories = ["first"]\nprogram = {label = {first = 3}, clearance = {first = 2}}', "above its clearance"),
+    ('write = [{file = "secret"}]', "can't be written"),
+    ('gate = [{name = "a b", program = ["true"]}]', "a name has up to 31"),
+    ('gate = [{name = "a"}]', "program is wanted"),
+    ('gate = [{name = "a", program = ["true"], owns = ["first"]}]', "no category: first"),
+    ('gate = [{name = "a", program = ["true"], file = "open"}]', "no file of [[write]]"),
+    ('public = ["secret/key"]', "is no folder"),
+)
+
+
+def says_why_of_policy(room, policy, piece):
+    rooms = Rooms(room)
+    rooms.piped()
+    with open(rooms.paths["F"], "w", encoding="utf-8") as it:
+        it.write(policy)
+    return says_why(["--policy", rooms.paths["F"], "--", "true"], piece)
 
 
 def says_why(words, piece):
@@ -288,7 +411,33 @@ def ends_with_broker():
     return was_running and not left_running(mark)
 
 
-def try_all(report, library, is_long=False):
+def reached(auditor, dump, said, what):
+    """What the auditor says that flows from a thing reach, by names of --explain's lines; None where it doesn't find the dump clean."""
+    names = dict(re.findall(r"confine: #(\d+) is (.*)", said))
+    category = re.search(r"confine: category #(\d+) ", said)[1]
+    start = next(it for it, name in names.items() if name == what)
+    done = subprocess.run([auditor, dump, "--from", start, "--category", category], stdout=subprocess.PIPE, text=True)
+    verdict, *lines = done.stdout.splitlines()
+    return [names.get(it.split(" ")[1], it) for it in lines] if (done.returncode, verdict) == (0, "clean") else None
+
+
+def tells_flows(auditor, room):
+    """Whether the dump of a run tells that its secret can have reached its report and not what is printed."""
+    rooms = Rooms(room)
+    rooms.piped()
+    words = [CONFINE, "--explain", "--audit", f"{room}/dump", *rooms.words(TWO), "--", "/bin/sh", "-c", "cat $S/key > $R; echo x > $U; echo done"]
+    done = subprocess.run(words, env={**os.environ, **rooms.paths}, stdout=subprocess.PIPE, stderr=subprocess.PIPE, text=True)
+    report, secret = rooms.paths["R"], rooms.paths["S"]
+    return reached(auditor, f"{room}/dump", done.stderr, secret) == [report]
+
+
+def is_audited(auditor, dump):
+    done = subprocess.run([auditor, dump], stdout=subprocess.PIPE, text=True)
+    return (done.returncode, done.stdout) == (0, "clean\n")
+
+
+def try_all(report, library, auditor, is_long=False):
+    """Plays all scenes, and has the auditor look at their dumps, where there is one."""
     report.heading("confine")
     if not built(report, library):
         return
@@ -301,12 +450,22 @@ def try_all(report, library, is_long=False):
     with tempfile.TemporaryDirectory(prefix="confine-", dir="/var/tmp") as room:
         report.counts(ends_with_broker(), "confine: the program ends with the broker")
         report.counts(says_it_cannot(), "confine: where there are no user namespaces it says so, and starts nothing")
-        for scene in (*SCENES, *Tried(room).scenes(is_long)):
+        unclean = []
+        for policy, piece in WRONG_POLICIES:
+            report.counts(says_why_of_policy(f"{room}/scene", policy, piece), f"confine: a policy that is none: {piece}")
+        for scene in (*SCENES, *POLICY_SCENES, *Tried(room).scenes(is_long)):
             wrong = played(f"{room}/scene", scene)
             report.counts(not wrong, f"confine: {scene.name}" + "".join(f": {it}" for it in wrong))
+            unclean += [scene.name] if auditor and not is_audited(auditor, f"{room}/scene/dump") else []
+        if auditor:
+            report.counts(not unclean, f"confine: the dumps of all scenes audit clean{unclean or ''}")
+            report.counts(tells_flows(auditor, f"{room}/scene"), "confine: the dump tells what a secret can have reached")
+        else:
+            report.say("left out: audits of confine's dumps: ./histar-audit is not built")
 
 
 if __name__ == "__main__":
     whole = Report()
-    try_all(whole, "out/lib", is_long=True)
+    made = "crates/histar_audit/out/histar_audit"
+    try_all(whole, "out/lib", os.path.abspath(made) if os.path.isfile(made) else None, is_long=True)
     whole.finish()

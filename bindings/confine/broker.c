@@ -126,23 +126,38 @@ static int flags_of(const struct seccomp_notif *asked, const struct naming *nami
     return naming->flags < 0 ? O_WRONLY | O_TRUNC : (int)asked->data.args[naming->flags];
 }
 
+/* Whether what the broker opens is asked for as something new, or to be read too; errno says why it isn't given. */
+static bool is_refused(int flags)
+{
+    errno = (flags & O_CREAT) && (flags & O_EXCL) ? EEXIST : (flags & O_ACCMODE) == O_RDWR ? EACCES : 0;
+    return errno != 0;
+}
+
 /* A report, opened anew to be written; -1 with errno where it may not be. It is never read, so that what another run
  * left there stays unseen. Who writes a report of a secret is at the secret's level: the kernel lets nobody modify what he
  * doesn't observe. */
-static int open_report(struct plan *plan, const struct child *child, int i, int flags)
+static int open_report(struct plan *plan, int i, int flags)
 {
     struct report *report = &plan->reports[i];
     char link[64];
-    errno = (flags & O_CREAT) && (flags & O_EXCL) ? EEXIST : (flags & O_ACCMODE) == O_RDWR ? EACCES : 0;
-    if (errno) return -1;
-    errno = report->secret == NO_SECRET ? 0 : open_secret(plan, child, report->secret);
-    if (errno) return -1;
+    if (is_refused(flags)) return -1;
     if (!holds_report(plan, i)) {
         errno = EACCES;
         return -1;
     }
     snprintf(link, sizeof link, "/proc/self/fd/%d", report->file);
     return open(link, O_WRONLY | O_CLOEXEC | (flags & (O_TRUNC | O_APPEND)));
+}
+
+/* What is written to a gate's program, which is started; -1 with errno where it may not be. */
+static int open_gate(struct plan *plan, int i, int flags)
+{
+    if (is_refused(flags)) return -1;
+    if (!enters_gate(plan, i)) {
+        errno = EACCES;
+        return -1;
+    }
+    return start_gate(plan, i);
 }
 
 static void respond(int listener, uint64_t id, int error)
@@ -176,6 +191,14 @@ static int report_at(const struct plan *plan, const char *path)
     return -1;
 }
 
+/* The gate that a path names, or -1. */
+static int gate_at(const struct plan *plan, const char *path)
+{
+    for (int i = 0; i < plan->gate_count; i++)
+        if (is_below(path, GATES) && !strcmp(path + strlen(GATES) + 1, plan->gates[i].name)) return i;
+    return -1;
+}
+
 /* Opens each secret that a path leads into. An errno, 0 where it may. */
 static int open_secrets_at(struct plan *plan, const struct child *child, const char *path)
 {
@@ -198,7 +221,7 @@ static void answer(struct plan *plan, const struct child *child)
     struct seccomp_notif asked;
     char path[PATH_MAX];
     const struct naming *naming;
-    int report, file;
+    int report, gate, file;
     memset(&asked, 0, sizeof asked);
     if (ioctl(child->listener, SECCOMP_IOCTL_NOTIF_RECV, &asked) < 0) return;
     naming = naming_of(asked.data.nr);
@@ -208,11 +231,12 @@ static void answer(struct plan *plan, const struct child *child)
         return;
     }
     report = writes_to(&asked, naming) ? report_at(plan, path) : -1;
-    if (report < 0) {
+    gate = writes_to(&asked, naming) ? gate_at(plan, path) : -1;
+    if (report < 0 && gate < 0) {
         respond(child->listener, asked.id, open_secrets_at(plan, child, path));
         return;
     }
-    file = open_report(plan, child, report, flags_of(&asked, naming));
+    file = gate < 0 ? open_report(plan, report, flags_of(&asked, naming)) : open_gate(plan, gate, flags_of(&asked, naming));
     if (file < 0) respond(child->listener, asked.id, errno);
     else hand_over(child->listener, asked.id, file, flags_of(&asked, naming));
 }
@@ -298,21 +322,14 @@ static void serve_all(struct plan *plan, const struct child *child)
     }
 }
 
-/* The label of all secrets, before the program begins. */
-static void taint(struct plan *plan, const struct child *child)
-{
-    for (int i = 0; i < plan->secret_count; i++)
-        if (open_secret(plan, child, i)) fail(ENDS_FAULT, plan->secrets[i].path);
-}
-
 int serve(struct plan *plan, const struct child *child)
 {
     int status;
     wake_at_once(child->listener);
-    if (plan->born_tainted) taint(plan, child);
     serve_all(plan, child);
     close(child->keeper_socket);
     if (waitpid(child->keeper, &status, 0) != child->keeper) return ENDS_FAULT;
+    end_gates();
     if (!may_print()) {
         fputs("confine: a secret was read: what was printed from then on is withheld, and the status\n", stderr);
         return 0;

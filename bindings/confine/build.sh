@@ -1,13 +1,21 @@
 #!/bin/sh
-# Builds out/confine, over the library that ./lib has made (or over that in the folder HISTAR_LIB). It needs a C compiler, and
-# libseccomp with its headers (Debian's libseccomp-dev).
+# Builds out/confine, over the library that ./lib has made (or over that in the folder HISTAR_LIB). It needs compilers for C and
+# C++, and the headers of libseccomp and toml++ (Debian's libseccomp-dev and libtomlplusplus-dev).
 set -eu
 top=$(cd "$(dirname "$0")/../.." && pwd)
 library=${HISTAR_LIB:-$top/out/lib}
-[ -f "$library/libhistar_c.a" ] || { echo 'confine: the library is missing: run ./lib first' >&2; exit 69; }
-command -v "${CC:-cc}" >/dev/null || { echo 'confine: no C compiler (cc) is on the path' >&2; exit 69; }
-echo '#include <seccomp.h>' | "${CC:-cc}" -E - >/dev/null 2>&1 \
-    || { echo "confine: seccomp.h is missing: install libseccomp's headers (libseccomp-dev)" >&2; exit 69; }
+lacks() { echo "confine: $1" >&2; exit 69; }
+has() { echo "#include <$2>" | "$1" -E -x "$3" - >/dev/null 2>&1; }
+[ -f "$library/libhistar_c.a" ] || lacks 'the library is missing: run ./lib first'
+command -v "${CC:-cc}" >/dev/null || lacks 'no C compiler (cc) is on the path'
+command -v "${CXX:-c++}" >/dev/null || lacks 'no C++ compiler (c++) is on the path'
+has "${CC:-cc}" seccomp.h c || lacks "seccomp.h is missing: install libseccomp's headers (libseccomp-dev)"
+has "${CXX:-c++}" toml++/toml.h c++ || lacks "toml++/toml.h is missing: install the headers of toml++ (libtomlplusplus-dev)"
+room=$(mktemp -d)
+trap 'rm -rf "$room"' EXIT
 mkdir -p "$top/out"
-"${CC:-cc}" -std=c11 -O2 -Wall -Wextra -Wpedantic -Werror -I"$top/include" "$top"/bindings/confine/*.c \
-    -L"$library" -lhistar_c -llibc_c -lseccomp -o "$top/out/confine"
+"${CXX:-c++}" -std=c++17 -O2 -Wall -Wextra -Werror -I"$top/include" -c "$top/bindings/confine/policy.cpp" -o "$room/policy.o"
+for file in "$top"/bindings/confine/*.c; do
+    "${CC:-cc}" -std=c11 -O2 -Wall -Wextra -Wpedantic -Werror -I"$top/include" -c "$file" -o "$room/$(basename "$file").o"
+done
+"${CXX:-c++}" "$room"/*.o -L"$library" -lhistar_c -llibc_c -lseccomp -o "$top/out/confine"

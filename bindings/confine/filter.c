@@ -14,7 +14,7 @@
 
 /* Those that name a file: the broker is asked first, and the call then goes on in the program's world. */
 static const char *const ASKED[] = {
-    "open", "openat", "creat", "stat", "lstat", "newfstatat", "statx", "access", "faccessat", "faccessat2",
+    "open", "openat", "creat", "stat", "lstat", "statx", "access", "faccessat", "faccessat2",
     "readlink", "readlinkat", "chdir", "execve", NULL};
 
 static const char *const FILES[] = {
@@ -59,11 +59,14 @@ static int add_all(scmp_filter_ctx filter, uint32_t answer, const char *const *n
     return failed;
 }
 
-/* Calls of which some arguments are refused. A clone3 tells its flags where no filter can look: programs then use
- * clone. Two sockets may be a pair of their own; one alone leads nowhere. What is typed can't be put into a terminal. */
+/* Calls of which some arguments are refused, or asked for. A clone3 tells its flags where no filter can look: programs then use
+ * clone. Two sockets may be a pair of their own; one alone leads nowhere. What is typed can't be put into a terminal. Who looks
+ * at a file that is open already (as fstat does) names none, and where he names one all the same it is looked for in the world. */
 static int add_some(scmp_filter_ctx filter)
 {
     int failed = 0;
+    failed |= seccomp_rule_add(filter, SCMP_ACT_NOTIFY, SCMP_SYS(newfstatat), 1, SCMP_A3(SCMP_CMP_MASKED_EQ, AT_EMPTY_PATH, 0));
+    failed |= seccomp_rule_add(filter, SCMP_ACT_ALLOW, SCMP_SYS(newfstatat), 1, SCMP_A3(SCMP_CMP_MASKED_EQ, AT_EMPTY_PATH, AT_EMPTY_PATH));
     failed |= seccomp_rule_add(filter, SCMP_ACT_ALLOW, SCMP_SYS(clone), 1, SCMP_A0(SCMP_CMP_MASKED_EQ, NEW_NAMESPACES, 0));
     failed |= seccomp_rule_add(filter, SCMP_ACT_ALLOW, SCMP_SYS(socketpair), 1, SCMP_A0(SCMP_CMP_EQ, AF_UNIX));
     failed |= seccomp_rule_add(filter, SCMP_ACT_ALLOW, SCMP_SYS(ioctl), 1, SCMP_A1(SCMP_CMP_EQ, FIONREAD));

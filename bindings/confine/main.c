@@ -7,7 +7,7 @@
 #include <stdlib.h>
 #include <string.h>
 
-_Noreturn void fail(int status, const char *what)
+ENDS void fail(int status, const char *what)
 {
     fprintf(stderr, "confine: %s: %s\n", what, strerror(errno));
     exit(status);
@@ -32,6 +32,7 @@ int main(int count, char **words)
     read_words(count, words, &plan);
     find_reports(&plan);
     make_objects(&plan);
+    if (!is_born(&plan)) refuse("the program's label is above its clearance");
     start(&plan, &child);
     status = serve(&plan, &child);
     if (!write_dump(&plan)) fail(ENDS_FAULT, plan.dump);

@@ -1,4 +1,4 @@
-/* The command line. */
+/* The command line, and what is asked of each part of a plan. */
 #define _GNU_SOURCE
 #include "confine.h"
 #include <stdarg.h>
@@ -7,8 +7,8 @@
 #include <sys/stat.h>
 
 static const char USAGE[] =
-    "confine [--secret FOLDER [--report FILE]..].. [--public FOLDER].. [--born-tainted] [--audit DUMP] [--explain]\n"
-    "        -- PROGRAM ARGUMENT..\n"
+    "confine [--policy FILE] [--secret FOLDER [--report FILE]..].. [--public FOLDER].. [--born-tainted] [--audit DUMP]\n"
+    "        [--explain] -- PROGRAM ARGUMENT..\n"
     "\n"
     "Runs a program that may read secrets and can't send them on. What it reads of a secret it can write to that\n"
     "secret's reports and nowhere else.\n"
@@ -16,14 +16,15 @@ static const char USAGE[] =
     "  --secret FOLDER  it may read this folder; from then on nothing that it prints is shown\n"
     "  --report FILE    it may write this file. After --secret, also once it has read that secret\n"
     "  --public FOLDER  it may read this folder too, as it may read /usr\n"
+    "  --policy FILE    labels, a clearance and gates, as docs/CONFINE.md has them\n"
     "  --born-tainted   it counts as having read all secrets from its start\n"
     "  --audit DUMP     writes all decisions as a dump, for histar-audit\n"
-    "  --explain        prints a line for each refusal, and why\n"
+    "  --explain        prints the id of each thing, and a line for each refusal, and why\n"
     "\n"
     "It ends with the program's status, or with 0 once a secret was read. 2: wrong words; 69: this machine can't\n"
     "confine; 70: something failed.\n";
 
-_Noreturn static void refuse(const char *form, ...)
+ENDS void refuse(const char *form, ...)
 {
     va_list parts;
     va_start(parts, form);
@@ -43,41 +44,92 @@ static void resolve(const char *word, const char *path, bool is_folder, char *re
     if (!is_folder && !S_ISREG(found.st_mode)) refuse("%s: %s is no plain file", word, path);
 }
 
-static void add_secret(struct plan *plan, const char *path)
+static struct levels plain(void)
 {
+    struct levels levels;
+    memset(levels.in, 1, sizeof levels.in);
+    return levels;
+}
+
+int add_category(struct plan *plan, const char *name)
+{
+    if (plan->category_count == MOST_CATEGORIES) refuse("at most %d categories, of which each --secret makes one", MOST_CATEGORIES);
+    memmove(plan->categories[plan->category_count].name, name, strlen(name) + 1);
+    plan->clearance.in[plan->category_count] = 3;
+    return plan->category_count++;
+}
+
+struct secret *add_secret(struct plan *plan, const char *word, const char *path)
+{
+    struct secret *secret = &plan->secrets[plan->secret_count];
     if (plan->secret_count == MOST_SECRETS) refuse("at most %d secrets", MOST_SECRETS);
-    resolve("--secret", path, true, plan->secrets[plan->secret_count++].path);
+    resolve(word, path, true, secret->path);
+    secret->levels = plain();
+    plan->secret_count++;
+    return secret;
 }
 
 /* A report that isn't there is made, empty. */
-static void add_report(struct plan *plan, const char *path)
+struct report *add_report(struct plan *plan, const char *word, const char *path)
 {
     struct report *report = &plan->reports[plan->report_count];
     FILE *made;
     if (plan->report_count == MOST_REPORTS) refuse("at most %d reports", MOST_REPORTS);
-    if (!(made = fopen(path, "a"))) refuse("--report: %s can't be written", path);
+    if (!(made = fopen(path, "a"))) refuse("%s: %s can't be written", word, path);
     fclose(made);
-    resolve("--report", path, false, report->path);
-    report->secret = plan->secret_count - 1;
+    resolve(word, path, false, report->path);
+    report->levels = plain();
     plan->report_count++;
+    return report;
 }
 
-static void add_public(struct plan *plan, const char *path)
+void add_open(struct plan *plan, const char *word, const char *path)
 {
-    if (plan->public_count == MOST_PUBLIC) refuse("at most %d public folders", MOST_PUBLIC);
-    resolve("--public", path, true, plan->public[plan->public_count++]);
+    if (plan->open_count == MOST_OPEN) refuse("at most %d public folders", MOST_OPEN);
+    resolve(word, path, true, plan->open[plan->open_count++]);
 }
 
-static bool takes_value(struct plan *plan, const char *word, const char *value)
+struct gate *add_gate(struct plan *plan, const char *name)
 {
-    bool is_secret = !strcmp(word, "--secret"), is_report = !strcmp(word, "--report");
-    bool is_public = !strcmp(word, "--public"), is_audit = !strcmp(word, "--audit");
-    if (!is_secret && !is_report && !is_public && !is_audit) return false;
+    struct gate *gate = &plan->gates[plan->gate_count];
+    if (plan->gate_count == MOST_GATES) refuse("at most %d gates", MOST_GATES);
+    snprintf(gate->name, sizeof gate->name, "%s", name);
+    gate->report = SHOWN;
+    plan->gate_count++;
+    return gate;
+}
+
+/* What --secret and --report ask for: a category for each secret, in which its folder and its reports are at 3. */
+struct words {
+    int category; /* the last secret's, or -1 */
+    bool is_born_tainted;
+};
+
+static void take_secret(struct plan *plan, struct words *words, const char *path)
+{
+    struct secret *secret = add_secret(plan, "--secret", path);
+    words->category = add_category(plan, secret->path);
+    secret->levels.in[words->category] = 3;
+}
+
+static void take_report(struct plan *plan, const struct words *words, const char *path)
+{
+    struct report *report = add_report(plan, "--report", path);
+    if (words->category >= 0) report->levels.in[words->category] = 3;
+}
+
+static bool takes_value(struct plan *plan, struct words *words, const char *word, const char *value)
+{
+    static const char *const NAMES[] = {"--secret", "--report", "--public", "--audit", "--policy"};
+    size_t at = 0;
+    while (at < 5 && strcmp(word, NAMES[at])) at++;
+    if (at == 5) return false;
     if (!value || !strcmp(value, "--")) refuse("%s wants a value", word);
-    if (is_secret) add_secret(plan, value);
-    if (is_report) add_report(plan, value);
-    if (is_public) add_public(plan, value);
-    if (is_audit) plan->dump = value;
+    if (at == 0) take_secret(plan, words, value);
+    if (at == 1) take_report(plan, words, value);
+    if (at == 2) add_open(plan, word, value);
+    if (at == 3) plan->dump = value;
+    if (at == 4) read_policy(value, plan);
     return true;
 }
 
@@ -93,11 +145,11 @@ static void keep_apart(const char *one, const char *other)
     if (is_below(one, other) || is_below(other, one)) refuse("%s and %s: one lies in the other", one, other);
 }
 
-/* A report lies in no folder of another secret: who reads that one would read the report too. */
+/* A report that lies in a secret's folder has the folder's label: who reads the folder would read the report too. */
 static void keep_report_apart(const struct plan *plan, const struct report *report)
 {
     for (int i = 0; i < plan->secret_count; i++)
-        if (i != report->secret && is_below(report->path, plan->secrets[i].path))
+        if (memcmp(&report->levels, &plan->secrets[i].levels, sizeof report->levels) && is_below(report->path, plan->secrets[i].path))
             refuse("%s: it lies in %s, of which it is no report", report->path, plan->secrets[i].path);
 }
 
@@ -107,25 +159,36 @@ static void keep_all_apart(const struct plan *plan)
         const char *path = plan->secrets[i].path;
         keep_apart(path, "/usr");
         for (int j = 0; j < i; j++) keep_apart(path, plan->secrets[j].path);
-        for (int j = 0; j < plan->public_count; j++) keep_apart(path, plan->public[j]);
+        for (int j = 0; j < plan->open_count; j++) keep_apart(path, plan->open[j]);
     }
     for (int i = 0; i < plan->report_count; i++) keep_report_apart(plan, &plan->reports[i]);
 }
 
-void read_words(int count, char **words, struct plan *plan)
+/* The label of a program that has read all secrets. */
+static void taint(struct plan *plan)
 {
+    for (int i = 0; i < plan->secret_count; i++)
+        for (int j = 0; j < MOST_CATEGORIES; j++)
+            if (plan->secrets[i].levels.in[j] > plan->born.in[j]) plan->born.in[j] = plan->secrets[i].levels.in[j];
+}
+
+void read_words(int count, char **texts, struct plan *plan)
+{
+    struct words words = {-1, false};
     int at = 1;
-    if (count == 2 && (!strcmp(words[1], "--help") || !strcmp(words[1], "-h"))) {
+    if (count == 2 && (!strcmp(texts[1], "--help") || !strcmp(texts[1], "-h"))) {
         fputs(USAGE, stdout);
         exit(fflush(stdout) ? ENDS_FAULT : 0);
     }
-    for (; at < count && strcmp(words[at], "--"); at++) {
-        if (!strcmp(words[at], "--born-tainted")) plan->born_tainted = true;
-        else if (!strcmp(words[at], "--explain")) plan->explains = true;
-        else if (takes_value(plan, words[at], words[at + 1])) at++;
-        else refuse("%s is no word of confine", words[at]);
+    plan->born = plan->clearance = plain();
+    for (; at < count && strcmp(texts[at], "--"); at++) {
+        if (!strcmp(texts[at], "--born-tainted")) words.is_born_tainted = true;
+        else if (!strcmp(texts[at], "--explain")) plan->explains = true;
+        else if (takes_value(plan, &words, texts[at], texts[at + 1])) at++;
+        else refuse("%s is no word of confine", texts[at]);
     }
     if (at + 1 >= count) refuse("no program: it stands after --");
-    plan->program = words + at + 1;
+    plan->program = texts + at + 1;
+    if (words.is_born_tainted) taint(plan);
     keep_all_apart(plan);
 }

@@ -20,6 +20,7 @@
 #include <sys/stat.h>
 #include <sys/syscall.h>
 #include <sys/uio.h>
+#include <sys/utsname.h>
 #include <sys/wait.h>
 #include <unistd.h>
 
@@ -151,19 +152,28 @@ static void put(const struct taken *taken)
     put_tree(taken->tree, BASE, taken->path);
 }
 
+/* A gate as an empty file that nobody may change: who opens it to write gets what leads to its program. */
+static void make_gate_place(const struct gate *gate)
+{
+    char path[sizeof GATES + MOST_NAME + 2];
+    snprintf(path, sizeof path, GATES "/%s", gate->name);
+    make_place(path, false);
+}
+
 static void make_world(const struct plan *plan)
 {
-    static struct taken taken[sizeof ALWAYS / sizeof *ALWAYS + MOST_PUBLIC];
+    static struct taken taken[sizeof ALWAYS / sizeof *ALWAYS + MOST_OPEN];
     int count = 0;
     MUST(mount(NULL, "/", NULL, MS_REC | MS_PRIVATE, NULL));
     for (const char *const *path = ALWAYS; *path; path++) count += take(&taken[count], *path);
-    for (int i = 0; i < plan->public_count; i++) count += take(&taken[count], plan->public[i]);
+    for (int i = 0; i < plan->open_count; i++) count += take(&taken[count], plan->open[i]);
     for (int i = 0; i < plan->secret_count; i++) MUST(trees[i] = tree_of(plan->secrets[i].path, false));
     MUST(mount("confine", BASE, "tmpfs", MS_NOSUID | MS_NODEV, "size=1m,mode=755"));
     make_place("/tmp", true);
     MUST(mount("confine", BASE "/tmp", "tmpfs", MS_NOSUID | MS_NODEV, SCRATCH));
     for (int i = 0; i < count; i++) put(&taken[i]);
     for (int i = 0; i < plan->secret_count; i++) make_place(plan->secrets[i].path, true);
+    for (int i = 0; i < plan->gate_count; i++) make_gate_place(&plan->gates[i]);
     MUST(chdir(BASE));
     MUST(syscall(SYS_pivot_root, ".", "."));
     MUST(umount2(".", MNT_DETACH));
@@ -277,12 +287,35 @@ static int status_of(int status)
     return WIFEXITED(status) ? WEXITSTATUS(status) : 128 + WTERMSIG(status);
 }
 
+/* Whether a world has its own greatest process number. Before, there is one for the whole machine. */
+static bool numbers_are_own(void)
+{
+    struct utsname machine;
+    int version, release;
+    return !uname(&machine) && sscanf(machine.release, "%d.%d", &version, &release) == 2
+        && (version > 6 || (version == 6 && release >= 14));
+}
+
+/* The world has so many processes, threads among them, also where the user is root, whom RLIMIT_NPROC does not bind. */
+static void limit_numbers(int proc)
+{
+    char text[16];
+    int file = numbers_are_own() ? openat(proc, "sys/kernel/pid_max", O_WRONLY | O_CLOEXEC) : -1;
+    snprintf(text, sizeof text, "%d", MOST_PROCESSES + 1);
+    if (file >= 0) {
+        MUST(write(file, text, strlen(text)));
+        close(file);
+    }
+    close(proc);
+}
+
 /* The first process of the world: it ends as the program does, and with it all that the program left running. */
-_Noreturn static void run_first(const struct plan *plan, const int *streams, int socket)
+_Noreturn static void run_first(const struct plan *plan, const int *streams, int socket, int proc)
 {
     int status;
     pid_t program, ended;
     MUST(prctl(PR_SET_PDEATHSIG, SIGKILL, 0, 0, 0));
+    limit_numbers(proc);
     MUST(program = fork());
     if (!program) become_program(plan, streams, socket);
     close(socket);
@@ -311,6 +344,8 @@ _Noreturn static void run_keeper(const struct plan *plan, const int *streams, in
     uid_t user = getuid();
     gid_t group = getgid();
     pid_t first;
+    int proc;
+    MUST(proc = open("/proc", O_PATH | O_DIRECTORY | O_CLOEXEC));
     MUST(unshare(CLONE_NEWUSER | CLONE_NEWNS | CLONE_NEWNET | CLONE_NEWIPC | CLONE_NEWPID | CLONE_NEWUTS));
     MUST(prctl(PR_SET_PDEATHSIG, SIGKILL, 0, 0, 0));
     take_user(user, group);
@@ -318,9 +353,10 @@ _Noreturn static void run_keeper(const struct plan *plan, const int *streams, in
     MUST(first = fork());
     if (!first) {
         close(keeper_socket);
-        run_first(plan, streams, program_socket);
+        run_first(plan, streams, program_socket, proc);
     }
     close(program_socket);
+    close(proc);
     close_all(streams, 3);
     keep(plan, first, keeper_socket);
 }

@@ -1,0 +1,57 @@
+#!/usr/bin/env bash
+# How long a program takes in confine, by itself, and in bubblewrap, in one run: the middle of nine times, in milliseconds. It
+# needs out/confine (bindings/confine/build.sh), bubblewrap and a C compiler. The files are made anew: a thousand texts of 64 KB,
+# and one of C with a thousand functions.
+set -eu
+cd "$(dirname "$0")/.."
+[ -x out/confine ] || { echo 'benches/confine.sh: out/confine is missing: run ./lib and bindings/confine/build.sh' >&2; exit 69; }
+command -v bwrap >/dev/null || { echo 'benches/confine.sh: bubblewrap is missing' >&2; exit 69; }
+room=$(mktemp -d /var/tmp/bench-confine-XXXXXX)
+trap 'rm -rf "$room"' EXIT
+python3 - "$room" <<'PROGRAM'
+import os
+import random
+import shutil
+import statistics
+import subprocess
+import sys
+import time
+
+room = sys.argv[1]
+drawn = random.Random(7)
+os.makedirs(f"{room}/texts")
+words = ["".join(drawn.choice("abcdefghijklmnopqrstuvwxyz") for _ in range(drawn.randrange(2, 9))) for _ in range(2_000)]
+for name in range(1_000):
+    text = " ".join(drawn.choice(words) for _ in range(12_000))[: 64 << 10]
+    with open(f"{room}/texts/{name:04}", "w", encoding="utf-8") as it:
+        it.write("\n".join(text[at : at + 80] for at in range(0, len(text), 80)))
+os.makedirs(f"{room}/source")
+with open(f"{room}/source/many.c", "w", encoding="utf-8") as it:
+    it.writelines(f"int f{at}(int a, int b)\n{{\n    int c = a * {at} + b;\n    for (int i = 0; i < c; i++) c += i ^ b;\n    return c;\n}}\n" for at in range(1_000))
+
+BWRAP = ["bwrap", "--ro-bind", "/usr", "/usr", "--symlink", "usr/bin", "/bin", "--symlink", "usr/lib", "/lib", "--symlink", "usr/lib64", "/lib64",
+         "--ro-bind", "/etc/alternatives", "/etc/alternatives", "--dev", "/dev", "--tmpfs", "/tmp", "--unshare-all", "--bind", room, room]
+CONFINE = ["out/confine", "--secret", f"{room}/texts", "--secret", f"{room}/source", "--report", f"{room}/found", "--"]
+ROWS = (
+    ("a start", "true"),
+    ("grep -r for a word", f"grep -rl zymurgy {room}/texts"),
+    ("grep -riE for two words", f"grep -riE 'zymurgy|quixotry' {room}/texts"),
+    ("gcc -O2 of a thousand functions", f"gcc -O2 -c {room}/source/many.c -o /tmp/many.o"),
+)
+
+
+def took(words):
+    begin = time.monotonic()
+    subprocess.run(words, stdout=subprocess.DEVNULL, stderr=subprocess.DEVNULL)
+    return 1_000 * (time.monotonic() - begin)
+
+
+print("| Program | By itself, ms | In bubblewrap | In confine | Ratio |")
+print("|---|---|---|---|---|")
+for name, command in ROWS:
+    shell = ["sh", "-c", command]
+    kinds = ([], BWRAP, CONFINE)
+    times = [[took([*it, *shell]) for it in kinds] for _ in range(10)][1:]
+    alone, walled, confined = (statistics.median(it[kind] for it in times) for kind in range(3))
+    print(f"| {name} | {alone:.1f} | {walled:.1f} | {confined:.1f} | {confined / alone:.2f} |")
+PROGRAM

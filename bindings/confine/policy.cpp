@@ -1,0 +1,206 @@
+/* Policy files, in TOML. */
+#include "confine.h"
+#include <cstring>
+#include <filesystem>
+#include <initializer_list>
+#include <string>
+#include <string_view>
+#define TOML_EXCEPTIONS 1
+#include <toml++/toml.h>
+
+namespace {
+
+/* What a policy is read from and added to. */
+struct Reading {
+    const char *file;
+    plan *into;
+};
+
+/* Where something stands in the file. */
+std::string place_of(const Reading &reading, const toml::node &node)
+{
+    return std::string(reading.file) + ":" + std::to_string(node.source().begin.line);
+}
+
+ENDS void fault(const Reading &reading, const toml::node &node, const std::string &what)
+{
+    refuse("%s: %s", place_of(reading, node).c_str(), what.c_str());
+}
+
+/* A table has these keys and no others. */
+void has_only(const Reading &reading, const toml::table &table, std::initializer_list<std::string_view> keys)
+{
+    for (const auto &[key, value] : table) {
+        bool is_known = false;
+        for (std::string_view it : keys) is_known = is_known || it == key.str();
+        if (!is_known) fault(reading, value, "no word of a policy: " + std::string(key.str()));
+    }
+}
+
+std::string text_of(const Reading &reading, const toml::node &node)
+{
+    auto text = node.value<std::string>();
+    if (!text || text->empty() || text->size() >= PATH_MAX || text->find('\0') != std::string::npos) fault(reading, node, "a text is wanted");
+    return *text;
+}
+
+/* The text that a table has to have under a key. */
+std::string text_in(const Reading &reading, const toml::table &table, std::string_view key)
+{
+    const toml::node *node = table.get(key);
+    if (!node) fault(reading, table, std::string(key) + " is wanted");
+    return text_of(reading, *node);
+}
+
+/* A path as the file names it: from the file's own folder on. */
+std::string path_in(const Reading &reading, const toml::table &table, std::string_view key)
+{
+    std::filesystem::path path = text_in(reading, table, key);
+    return path.is_absolute() ? path.string() : (std::filesystem::path(reading.file).parent_path() / path).string();
+}
+
+const toml::array &array_of(const Reading &reading, const toml::node &node)
+{
+    const toml::array *array = node.as_array();
+    if (!array) fault(reading, node, "a list is wanted");
+    return *array;
+}
+
+const toml::table &table_of(const Reading &reading, const toml::node &node)
+{
+    const toml::table *table = node.as_table();
+    if (!table) fault(reading, node, "a table is wanted");
+    return *table;
+}
+
+/* Calls this for each item under a key, if it is there. */
+template <typename Take>
+void each(const Reading &reading, const toml::table &table, std::string_view key, Take take)
+{
+    const toml::node *node = table.get(key);
+    if (!node) return;
+    for (const toml::node &it : array_of(reading, *node)) take(it);
+}
+
+/* A category that the file has named, by its place. */
+int category_of(const Reading &reading, const toml::node &node, std::string_view name)
+{
+    for (int i = 0; i < reading.into->category_count; i++)
+        if (name == reading.into->categories[i].name) return i;
+    fault(reading, node, "no category: " + std::string(name));
+}
+
+bool is_name(const std::string &text)
+{
+    if (text.empty() || text.size() > MOST_NAME) return false;
+    for (char it : text)
+        if (!(it >= 'a' && it <= 'z') && !(it >= '0' && it <= '9') && it != '-' && it != '_') return false;
+    return true;
+}
+
+std::string name_of(const Reading &reading, const toml::node &node)
+{
+    std::string name = text_of(reading, node);
+    if (!is_name(name)) fault(reading, node, "a name has up to 31 of a to z, 0 to 9, - and _");
+    return name;
+}
+
+void take_category(const Reading &reading, const toml::node &node)
+{
+    std::string name = name_of(reading, node);
+    for (int i = 0; i < reading.into->category_count; i++)
+        if (name == reading.into->categories[i].name) fault(reading, node, "named twice: " + name);
+    add_category(reading.into, name.c_str());
+}
+
+/* The levels that a table has under a key, of which the lowest is told. */
+void take_levels(const Reading &reading, const toml::table &table, std::string_view key, int lowest, levels &levels)
+{
+    const toml::node *node = table.get(key);
+    if (!node) return;
+    for (const auto &[name, value] : table_of(reading, *node)) {
+        auto level = value.template value<int64_t>();
+        if (!level || *level < lowest || *level > 3) fault(reading, value, "a level is from " + std::to_string(lowest) + " to 3");
+        levels.in[category_of(reading, value, name.str())] = static_cast<uint8_t>(*level);
+    }
+}
+
+void take_read(const Reading &reading, const toml::node &node)
+{
+    const toml::table &table = table_of(reading, node);
+    has_only(reading, table, {"folder", "label"});
+    secret *secret = add_secret(reading.into, place_of(reading, node).c_str(), path_in(reading, table, "folder").c_str());
+    take_levels(reading, table, "label", 0, secret->levels);
+}
+
+void take_write(const Reading &reading, const toml::node &node)
+{
+    const toml::table &table = table_of(reading, node);
+    has_only(reading, table, {"file", "label"});
+    report *report = add_report(reading.into, place_of(reading, node).c_str(), path_in(reading, table, "file").c_str());
+    take_levels(reading, table, "label", 0, report->levels);
+}
+
+void take_program(const Reading &reading, const toml::table &policy)
+{
+    const toml::node *node = policy.get("program");
+    if (!node) return;
+    const toml::table &table = table_of(reading, *node);
+    has_only(reading, table, {"label", "clearance"});
+    take_levels(reading, table, "label", 1, reading.into->born);
+    take_levels(reading, table, "clearance", 1, reading.into->clearance);
+}
+
+/* The report that a gate writes, which stands in the file before. */
+int report_of(const Reading &reading, const toml::table &table)
+{
+    char real[PATH_MAX];
+    if (!table.get("file")) return SHOWN;
+    if (realpath(path_in(reading, table, "file").c_str(), real))
+        for (int i = 0; i < reading.into->report_count; i++)
+            if (!std::strcmp(real, reading.into->reports[i].path)) return i;
+    fault(reading, *table.get("file"), "no file of [[write]]");
+}
+
+void take_gate(const Reading &reading, const toml::node &node)
+{
+    const toml::table &table = table_of(reading, node);
+    has_only(reading, table, {"name", "program", "owns", "file"});
+    if (!table.get("name")) fault(reading, node, "name is wanted");
+    gate *gate = add_gate(reading.into, name_of(reading, *table.get("name")).c_str());
+    each(reading, table, "program", [&](const toml::node &it) {
+        if (gate->word_count == MOST_WORDS) fault(reading, it, "at most 16 words");
+        std::strcpy(gate->words[gate->word_count++], text_of(reading, it).c_str());
+    });
+    if (!gate->word_count) fault(reading, node, "program is wanted");
+    each(reading, table, "owns", [&](const toml::node &it) { gate->owns[category_of(reading, it, text_of(reading, it))] = true; });
+    gate->report = report_of(reading, table);
+}
+
+void take_all(const Reading &reading, const toml::table &policy)
+{
+    has_only(reading, policy, {"categories", "read", "write", "public", "program", "gate"});
+    each(reading, policy, "categories", [&](const toml::node &it) { take_category(reading, it); });
+    each(reading, policy, "read", [&](const toml::node &it) { take_read(reading, it); });
+    each(reading, policy, "write", [&](const toml::node &it) { take_write(reading, it); });
+    each(reading, policy, "public", [&](const toml::node &it) {
+        std::filesystem::path path = text_of(reading, it);
+        if (!path.is_absolute()) path = std::filesystem::path(reading.file).parent_path() / path;
+        add_open(reading.into, place_of(reading, it).c_str(), path.c_str());
+    });
+    take_program(reading, policy);
+    each(reading, policy, "gate", [&](const toml::node &it) { take_gate(reading, it); });
+}
+
+}
+
+void read_policy(const char *path, struct plan *plan)
+{
+    try {
+        take_all(Reading{path, plan}, toml::parse_file(path));
+    } catch (const toml::parse_error &error) {
+        auto line = error.source().begin.line;
+        if (line) refuse("%s:%u: %s", path, static_cast<unsigned>(line), std::string(error.description()).c_str());
+        refuse("%s: %s", path, std::string(error.description()).c_str());
+    }
+}
