@@ -12,8 +12,8 @@ import tempfile
 
 from gate import confine
 from gate.headers import wrong
-from gate.machines import scripts_of_rules
 from gate.plays import Script, ran, text
+from gate.rules import played_rules
 from gate.scripts import script
 
 SEEDS = range(1, 41)
@@ -70,7 +70,7 @@ class Bindings:
         self.histar = histar
         self.auditor = auditor
         self.kept = {}
-        self.rules = list(scripts_of_rules())
+        self.rules = list(played_rules())
 
     def leave_out(self, what, why):
         self.report.say(f"left out: {what}: {why}")

@@ -12,7 +12,7 @@ import subprocess
 import tempfile
 from concurrent.futures import ThreadPoolExecutor
 
-from gate.machines import scripts_of_rules
+from gate.rules import played_rules
 
 SEED = 20061
 LIMIT = 20
@@ -121,7 +121,7 @@ class Corpus:
                 self.dumps.append(read(f"{room}/dump"))
                 os.remove(f"{room}/dump")
         self.dumps += [read(file) for file in sorted(glob.glob("examples/dumps/*.dump"))]
-        self.scripts += [it.text.encode() for it in scripts_of_rules()]
+        self.scripts += [it.text.encode() for it in played_rules()]
 
 
 def read(file):
