@@ -1,18 +1,12 @@
 -- The grammar of scripts: lines, names and phases.
-use Rattle.std.proofs.Common.{◌≡◌, ℕ, zero, suc, ◌+◌, ◌<◌, ◌≤◌, Bool, true, false, cond, not, leb, ◌||◌, List, [], ◌∷◌, ◌++◌, length, map, take, slice_get, Option, Some, None, refl, ap, ◌∙◌, sym, arith, subst, append_assoc, length-append}
+use Rattle.std.proofs.Common.{◌≡◌, ℕ, zero, suc, ◌+◌, ◌<◌, ◌≤◌, Bool, true, false, cond, not, leb, List, [], ◌∷◌, ◌++◌, length, map, take, slice_get, Option, Some, None, refl, ap, ◌∙◌, sym, arith, subst, append_assoc, length-append}
 use Rattle.std.specs.List.{list_any}
-use Rattle.std.specs.Str.{bytes_eq}
-use Rattle.std.specs.Cmp.{both_ways}
-use Rattle.std.specs.Ordering.{is_eq}
-use Rattle.std.specs.declared.cmp.Ordering.{Ordering}
-use Rattle.std.specs.declared.cmp.Ordering.TheVariants.{Less, Equal, Greater}
-use Rattle.std.specs.BTreeSet.{BTreeSet, contains, IsEmpty}
-use Rattle.std.proofs.lemmas.Slice.Eq.{bytes_eq-Decides}
 use Rattle.std.proofs.lemmas.Bool.{leb-true, leb-false}
 use Rattle.std.proofs.lemmas.List.{map_push, append-nil, length-map}
 use Rattle.std.proofs.lemmas.Grind.{flat_map-append}
-use Rattle.text_words.specs.Name.{name_cmp}
-use Rattle.text_words.proofs.NameLemmas.{exact_names, name_cmp_same}
+use Rattle.indexmap.specs.IndexSet.{insert_key}
+use Rattle.text_words.proofs.NameLemmas.{same_name}
+use Rattle.text_words.specs.contracts.names.NamePartialEq.TheImpl.{eq-value}
 use Rattle.call_text.specs.Line.{Written, Break, Said, written_text}
 use Rattle.call_text.specs.Text.{line, lines_text}
 use Rattle.call_text.specs.declared.phases.Line.{Line}
@@ -20,41 +14,20 @@ use Rattle.call_text.specs.Script.{said_of, lines_of, AreNumbered, ArePhasesNumb
 use Rattle.call_text.specs.declared.batches.Open.{Open}
 use Rattle.call_text.specs.Batch.{opens_after}
 use Rattle.call_text.specs.Reading.{Joins}
-use Rattle.call_text.specs.Names.{Holds, names_after, Binds, Admits}
+use Rattle.call_text.specs.Names.{Binds, Admits}
 
-equal_is : (o : Ordering) → is_eq o ≡ true → o ≡ Equal
-equal_is Less e = absurd cc
-equal_is Equal e = refl
-equal_is Greater e = absurd cc
-
--- comparing names finds those that are one
-name_same : (k q : List ℕ) → is_eq (name_cmp k q) ≡ bytes_eq q k
-name_same k q = both_ways (is_eq (name_cmp k q)) (bytes_eq q k)
-    (λ e. (bytes_eq-Decides q k).1 (sym (exact_names k q (equal_is (name_cmp k q) e))))
-    (λ e. subst (λ (x : List ℕ). is_eq (name_cmp k x) ≡ true) (sym ((bytes_eq-Decides q k).0 e)) (ap is_eq (name_cmp_same k)))
-
-any_push : (q : List ℕ) (names : List (List ℕ)) (k : List ℕ) → is_bound q (names ++ k ∷ []) ≡ cond (bytes_eq q k) true (is_bound q names)
-any_push q [] k = last (bytes_eq q k)
+-- a new name comes last
+pub binds_name : (name : Option (List ℕ)) (k : List ℕ) (old new : List (List ℕ)) (fresh : Bool) → name ≡ Some k → fresh ≡ not (list_any (eq-value.it k) old) → new ≡ insert_key eq-value.it old k → Binds name old new fresh
+binds_name name k old new fresh e is added = subst (λ (o : Option (List ℕ)). Binds o old new fresh) (sym e) (answered fresh (is_bound k old) (is ∙ ap not known) (added ∙ ap (λ b. cond b old (old ++ k ∷ [])) known) refl)
   where
-    last : (b : Bool) → (b || false) ≡ cond b true false
-    last true = refl
-    last false = refl
-any_push q (n ∷ names) k = more (bytes_eq q n) (bytes_eq q k) (is_bound q (names ++ k ∷ [])) (is_bound q names) (any_push q names k)
-  where
-    more : (a b x y : Bool) → x ≡ cond b true y → (a || x) ≡ cond b true (a || y)
-    more true true x y e = refl
-    more true false x y e = refl
-    more false b x y e = e
+    known : list_any (eq-value.it k) old ≡ is_bound k old
+    known = (λ i. list_any (λ q. same_name k q i) old)
 
--- the new set has the key, and of other keys what the old one has
-abbrev pub AddsKey : BTreeSet (List ℕ) → BTreeSet (List ℕ) → List ℕ → Type 0
-AddsKey old new k = (q : List ℕ) → contains name_cmp new q ≡ cond (is_eq (name_cmp k q)) true (contains name_cmp old q)
-
-pub holds_none : (set : BTreeSet (List ℕ)) → IsEmpty set → Holds set []
-holds_none set e q = ap (list_any (λ k. is_eq (name_cmp q k))) e
-
-pub holds_more : (old new : BTreeSet (List ℕ)) (names : List (List ℕ)) (k : List ℕ) → AddsKey old new k → Holds old names → Holds new (names ++ k ∷ [])
-holds_more old new names k up holds q = up q ∙ (λ i. cond (name_same k q i) true (holds q i)) ∙ sym (any_push q names k)
+    answered : (fresh has : Bool) → fresh ≡ not has → new ≡ cond has old (old ++ k ∷ []) → is_bound k old ≡ has → Binds (Some k) old new fresh
+    answered true true f n h = absurd cc
+    answered true false f n h = rw (h, n) refl
+    answered false true f n h = rw h refl
+    answered false false f n h = absurd cc
 
 not_free : (lines : ℕ) → lines < 65536 → leb 65536 lines ≡ false
 not_free lines lt = no (leb 65536 lines) refl
@@ -76,45 +49,26 @@ full lines le = yes (leb 65536 lines) refl
     yes true e = refl
     yes false e = let k = leb-false 65536 lines e in absurd (omega arith)
 
-pub admits_full : (lines : ℕ) (l : Written) (old new : BTreeSet (List ℕ)) (batches : List Open) → 65536 ≤ lines → Admits lines l old new batches batches false
+pub admits_full : (lines : ℕ) (l : Written) (old new : List (List ℕ)) (batches : List Open) → 65536 ≤ lines → Admits lines l old new batches batches false
 unfolding next
-admits_full lines l old new batches le = (refl, λ names holds. rw (full lines le) refl)
+admits_full lines l old new batches le = (rw (full lines le) refl, refl)
+
+-- a line that may stand there is one of those for which there is room
+pub room_for : (lines : ℕ) (l : Written) (old new : List (List ℕ)) (batches later : List Open) → Admits lines l old new batches later true → lines < 65536
+room_for lines l old new batches later admits = by (leb 65536 lines) refl
+  where
+    by : (b : Bool) → leb 65536 lines ≡ b → lines < 65536
+    by true e = let none = (admits_full lines l old new batches (leb-true 65536 lines e)).0 in let k = sym none ∙ admits in absurd cc
+    by false e = let k = leb-false 65536 lines e in omega arith
 
 -- a name that is bound already
-pub admits_unbound : (lines : ℕ) (l : Written) (old new : BTreeSet (List ℕ)) (batches : List Open) → lines < 65536 → Binds (binds_of l) old new false → Admits lines l old new batches batches false
-admits_unbound lines l old new batches lt binds = (refl, λ names holds. next_is lines names batches l None (opens_after (lines + 1) batches l) lt (binds names holds) refl)
+pub admits_unbound : (lines : ℕ) (l : Written) (old new : List (List ℕ)) (batches : List Open) → lines < 65536 → Binds (binds_of l) old new false → Admits lines l old new batches batches false
+admits_unbound lines l old new batches lt binds = (next_is lines old batches l None (opens_after (lines + 1) batches l) lt binds refl, refl)
 
 -- a line that binds no name twice, and comes after the open batches or not
-pub admits_joined : (lines : ℕ) (l : Written) (old new : BTreeSet (List ℕ)) (batches later : List Open) (yes : Bool) → lines < 65536 → Binds (binds_of l) old new true → Joins (lines + 1) l batches later yes → Admits lines l old new batches later yes
-admits_joined lines l old new batches later true lt binds joins = (
-  lt,
-  λ names holds.
-      let b = binds names holds in
-      (next_is lines names batches l (Some (names_after names (binds_of l))) (Some later) lt b.0 joins, b.1),
-)
-admits_joined lines l old new batches later false lt binds joins = (
-  joins.1,
-  λ names holds. next_is lines names batches l (Some (names_after names (binds_of l))) None lt (binds names holds).0 joins.0,
-)
-
-binds_new : (k : List ℕ) (old new : BTreeSet (List ℕ)) (fresh : Bool) → fresh ≡ not (contains name_cmp old k) → AddsKey old new k → Binds (Some k) old new fresh
-binds_new k old new true fresh up = λ names holds.
-    let free : is_bound k names ≡ false = sym (holds k) ∙ flipped (contains name_cmp old k) fresh in
-    (rw free refl, holds_more old new names k up holds)
-  where
-    flipped : (b : Bool) → true ≡ not b → b ≡ false
-    flipped true e = absurd cc
-    flipped false e = refl
-binds_new k old new false fresh up = λ names holds.
-    let known : is_bound k names ≡ true = sym (holds k) ∙ flipped (contains name_cmp old k) fresh in
-    rw known refl
-  where
-    flipped : (b : Bool) → false ≡ not b → b ≡ true
-    flipped true e = refl
-    flipped false e = absurd cc
-
-pub binds_name : (name : Option (List ℕ)) (k : List ℕ) (old new : BTreeSet (List ℕ)) (fresh : Bool) → name ≡ Some k → fresh ≡ not (contains name_cmp old k) → AddsKey old new k → Binds name old new fresh
-binds_name name k old new fresh e is up = subst (λ (o : Option (List ℕ)). Binds o old new fresh) (sym e) (binds_new k old new fresh is up)
+pub admits_joined : (lines : ℕ) (l : Written) (old new : List (List ℕ)) (batches later : List Open) (yes : Bool) → lines < 65536 → Binds (binds_of l) old new true → Joins (lines + 1) l batches later yes → Admits lines l old new batches later yes
+admits_joined lines l old new batches later true lt binds joins = next_is lines old batches l (Some new) (Some later) lt binds joins
+admits_joined lines l old new batches later false lt binds joins = (next_is lines old batches l (Some new) None lt binds joins.0, joins.1)
 
 -- one more line of the last phase
 pub lines_of-line : (phases : List (List Line)) (ls : List Line) (l : Line) → lines_of (phases ++ (ls ++ l ∷ []) ∷ []) ≡ lines_of (phases ++ ls ∷ []) ++ said_of l ∷ []

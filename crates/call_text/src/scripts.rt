@@ -1,11 +1,11 @@
 //! Reading scripts.
-ghost use Rattle.std.specs.Prelude.{◌≡◌, ◌++◌, ◌∷◌, [], map, ℕ, List, IfOk, OnOk};
+ghost use Rattle.std.specs.Prelude.{◌≡◌, ◌/◌, ◌++◌, ◌∷◌, [], map, min, ℕ, List, IfOk, OnOk};
 ghost use Rattle.std.specs.List.{AllByRecursion};
 ghost use Rattle.spoken_calls.specs.declared.args.Arg.{Arg as ArgValue};
 ghost use Rattle.call_text.specs.declared.phases.Line.{Line as LineValue};
 ghost use Rattle.call_text.specs.Script.{IsScript, ScriptFaultsAt, known_names, binds_of};
 ghost use Rattle.call_text.specs.Line.{written_with};
-ghost use Rattle.call_text.specs.Names.{Holds, Binds, Admits};
+ghost use Rattle.call_text.specs.Names.{Binds, Admits};
 ghost use Rattle.call_text.specs.Phase.{line_in, IsKept};
 ghost use Rattle.call_text.specs.Reading.{ReadsScript, AddsLine};
 
@@ -13,9 +13,9 @@ use crate::batches::{Open, fault_at, join};
 use crate::errors::ScriptError;
 use crate::lines::{Outline, read_line};
 use crate::phases::{KeptLine, Phase, Script};
+use indexmap::IndexSet;
 use spoken_calls::Arg;
 use std::alloc::{AllocError, Global};
-use std::collections::BTreeSet;
 use std::mem;
 use text_words::{Name, parted};
 
@@ -23,10 +23,10 @@ use text_words::{Name, parted};
 const MOST: u32 = 65_536;
 
 /// The names that each script knows at its start.
-fn names_at_start(alloc: Global) -> Result<BTreeSet<Name>, AllocError>
-    ensures { IfOk result (λ names. Holds names known_names) }
+fn names_at_start(alloc: Global) -> Result<IndexSet<Name>, AllocError>
+    ensures { IfOk result (λ names. names.keys ≡ known_names) }
 {
-    let mut names = BTreeSet::new(alloc);
+    let mut names = IndexSet::new(alloc);
     names.insert(Name::from_slice(b"root"))?;
     names.insert(Name::from_slice(b"boot"))?;
     names.insert(Name::from_slice(b"dev"))?;
@@ -44,9 +44,9 @@ fn binds(outline: &Outline) -> Option<Name>
 }
 
 /// Binds the line's name, where it has one, and tells whether no earlier line binds it.
-fn bind(bound: &mut BTreeSet<Name>, outline: &Outline) -> Result<bool, AllocError>
+fn bind(bound: &mut IndexSet<Name>, outline: &Outline) -> Result<bool, AllocError>
     ensures { IfOk result (λ yes. (xs : List ArgValue)
-        → Binds (binds_of (written_with outline.now xs)) bound.old bound.new yes) }
+        → Binds (binds_of (written_with outline.now xs)) bound.old.keys bound.new.keys yes) }
 {
     let Some(name) = binds(outline) else {
         return Ok(true);
@@ -59,12 +59,12 @@ fn bind(bound: &mut BTreeSet<Name>, outline: &Outline) -> Result<bool, AllocErro
 /// keeps the batches that are open after it; where it may not stand there, those before it.
 fn admit(
     lines: u32,
-    bound: &mut BTreeSet<Name>,
+    bound: &mut IndexSet<Name>,
     batches: &mut Vec<Open>,
     outline: &Outline,
 ) -> Result<bool, AllocError>
     ensures { IfOk result (λ yes. (xs : List ArgValue)
-        → Admits lines (written_with outline.now xs) bound.old bound.new
+        → Admits lines (written_with outline.now xs) bound.old.keys bound.new.keys
         batches.old.items batches.new.items yes) }
 {
     if lines >= MOST {
@@ -76,7 +76,15 @@ fn admit(
     join(batches, lines + 1, outline)
 }
 
-/// Adds the phase of these lines, and takes them and their arguments away.
+/// For how many lines room is made before a text of so many bytes is read: as many as it has where each takes 16 bytes,
+/// and no more than a script may have.
+fn likely_lines(bytes: usize) -> usize
+    ensures { result ≡ min (bytes / 16) 65536 }
+{
+    usize::min(bytes / 16, MOST as usize)
+}
+
+/// Adds the phase of these lines, and takes them and their arguments away. There is room for as many in the next phase.
 fn close(
     alloc: Global,
     phases: &mut Vec<Phase>,
@@ -89,8 +97,10 @@ fn close(
     ensures args { OnOk result (args.new.items ≡ []) }
     ensures lines { OnOk result (lines.new.items ≡ []) }
 {
-    let args = mem::replace(args, Vec::new(alloc));
-    let lines = mem::replace(lines, Vec::new(alloc));
+    let next_args = Vec::with_capacity(alloc, args.len())?;
+    let next_lines = Vec::with_capacity(alloc, lines.len())?;
+    let args = mem::replace(args, next_args);
+    let lines = mem::replace(lines, next_lines);
     phases.push(Phase::new(args, lines))?;
     Ok(())
 }
@@ -138,8 +148,9 @@ pub fn read_script(alloc: Global, bytes: &[u8]) -> Result<Script, ScriptError>
     let mut bound = names_at_start(alloc)?;
     let mut batches = Vec::new(alloc);
     let mut phases = Vec::new(alloc);
-    let mut args = Vec::new(alloc);
-    let mut lines = Vec::new(alloc);
+    let room = likely_lines(bytes.len());
+    let mut args = Vec::with_capacity(alloc, 4 * room)?;
+    let mut lines = Vec::with_capacity(alloc, room)?;
     let mut rest = bytes;
     let mut count = 0u32;
     while !rest.is_empty() {

@@ -1,18 +1,13 @@
 -- The entries of a map as a list of names with their values.
-use Rattle.std.proofs.Common.{◌≡◌, ℕ, true, false, cond, eqb, List, [], ◌∷◌, ◌++◌, length, nat_eq, Option, Some, None, is_some, refl, sym, ap, ◌∙◌, subst}
-use Rattle.std.specs.Bool.{Decides, one_answer}
-use Rattle.std.specs.Cmp.Lexicographic.{pointwise, bytes_decides}
+use Rattle.std.proofs.Common.{◌≡◌, ℕ, true, false, cond, List, [], ◌∷◌, ◌++◌, nat_eq, Option, Some, None, is_some, refl, sym, ap, ◌∙◌}
 use Rattle.std.specs.Map.{lookup}
 use Rattle.std.specs.Option.{option_or}
 use Rattle.std.specs.Str.{bytes_eq}
-use Rattle.std.proofs.lemmas.Bool.{eqb-true}
 use Rattle.std.proofs.lemmas.List.{map_push}
 use Rattle.indexmap.specs.IndexMap.{get, insert_entry}
 use Rattle.indexmap.proofs.MapLemmas.{insert_entry-absent, absent_from_lookup}
 use Rattle.base.specs.declared.ids.Category.{Category as CategoryNumber}
-use Rattle.base.specs.Padded.{padded}
-use Rattle.text_words.proofs.NameLemmas.{padded_is_one}
-use Rattle.text_words.proofs.Split.{both_true}
+use Rattle.text_words.proofs.NameLemmas.{same_other}
 use Rattle.text_words.specs.contracts.names.NamePartialEq.TheImpl.{eq-value}
 use Rattle.call_text.specs.declared.known_names.Named.{Named}
 use Rattle.call_text.specs.declared.known_names.Value.{Value}
@@ -21,27 +16,10 @@ use Rattle.call_text.specs.Known.{value_of, name_of, is_value}
 use Rattle.script_runner.specs.declared.names.FirstNames.{FirstNames}
 use Rattle.script_runner.specs.Names.{named, named_of, unless_bound, bound, first_name, AreFirst}
 
-eqb_self : (n : ℕ) → eqb n n ≡ true
-eqb_self n = (both_true (eqb n n) true ((bytes_decides (n ∷ []) (n ∷ [])).1 refl)).0
-
-same_self : (a : List ℕ) → eq-value.it a a ≡ true
-same_self a = rw (eqb_self (length a)) ((bytes_decides (padded 16 0 a) (padded 16 0 a)).1 refl)
-
--- names are one as keys where their bytes are
-same_decides : (a b : List ℕ) → Decides (eq-value.it a b) (b ≡ a)
-same_decides a b = (
-  λ h. (let p = both_true (eqb (length a) (length b)) (pointwise eqb (padded 16 0 a) (padded 16 0 b)) h in
-      sym (padded_is_one a b (eqb-true (length a) (length b) p.0) ((bytes_decides (padded 16 0 a) (padded 16 0 b)).0 p.1))),
-  λ e. subst (λ (x : List ℕ). eq-value.it x b ≡ true) e (same_self b),
-)
-
-pub same_name : (a b : List ℕ) → eq-value.it a b ≡ bytes_eq b a
-same_name a b = one_answer (eq-value.it a b) (bytes_eq b a) (same_decides a b) (bytes_decides b a)
-
 -- a look-up finds the value of the first entry with the name
 pub lookup_is : (name : List ℕ) (entries : List (List ℕ × Value)) → lookup (eq-value.it name) entries ≡ value_of name (named_of entries)
 lookup_is name [] = refl
-lookup_is name (e ∷ es) = (λ i. cond (same_name name e.0 i) (Some e.1) (lookup_is name es i))
+lookup_is name (e ∷ es) = (λ i. cond (same_other name e.0 i) (Some e.1) (lookup_is name es i))
 
 none_of : (v : Option Value) → is_some v ≡ false → v ≡ None
 none_of None e = refl

@@ -1,31 +1,34 @@
--- Names that compare alike are one.
-use Rattle.std.proofs.Common.{◌≡◌, ℕ, ◌-◌, List, length, take, replicate, refl, sym, ◌∙◌, ap}
-use Rattle.std.specs.declared.cmp.Ordering.{Ordering}
-use Rattle.std.specs.declared.cmp.Ordering.TheVariants.{Less, Equal, Greater}
-use Rattle.std.specs.Ordering.{nat_cmp, ordering_reverse}
-use Rattle.std.proofs.lemmas.Cmp.{nat_cmp_total, nat_list_cmp_total}
-use Rattle.std.specs.Cmp.Lexicographic.{slice_cmp}
-use Rattle.std.proofs.lemmas.Map.Lookups.{CmpEqualImpliesEq, exact_unsigned, exact_bytes, exact_pairs}
+-- Names are one as keys where their bytes are.
+use Rattle.std.proofs.Common.{◌≡◌, ℕ, ◌-◌, true, eqb, List, [], ◌∷◌, length, take, replicate, refl, sym, ◌∙◌, subst}
+use Rattle.std.specs.Bool.{Decides, one_answer}
+use Rattle.std.specs.Cmp.Lexicographic.{pointwise, bytes_decides}
+use Rattle.std.specs.Str.{bytes_eq}
+use Rattle.std.proofs.lemmas.Bool.{eqb-true}
 use Rattle.std.proofs.Math.Seq.{take-append_seam}
 use Rattle.base.specs.Padded.{padded}
-use Rattle.text_words.specs.Name.{name_cmp}
+use Rattle.text_words.proofs.Split.{both_true}
+use Rattle.text_words.specs.contracts.names.NamePartialEq.TheImpl.{eq-value}
 
-pub padded_is_one : (a b : List ℕ) → length a ≡ length b → padded 16 0 a ≡ padded 16 0 b → a ≡ b
+padded_is_one : (a b : List ℕ) → length a ≡ length b → padded 16 0 a ≡ padded 16 0 b → a ≡ b
 padded_is_one a b n e =
     sym (take-append_seam a (replicate (16 - length a) 0)) ∙ (λ i. take (n i) (e i)) ∙ take-append_seam b (replicate (16 - length b) 0)
 
-pub exact_names : CmpEqualImpliesEq name_cmp
-exact_names a b h =
-    let p = exact_pairs nat_cmp (slice_cmp nat_cmp) exact_unsigned exact_bytes (length a, padded 16 0 a) (length b, padded 16 0 b) h in
-    padded_is_one a b (ap (λ q. q.0) p) (ap (λ q. q.1) p)
+eqb_self : (n : ℕ) → eqb n n ≡ true
+eqb_self n = (both_true (eqb n n) true ((bytes_decides (n ∷ []) (n ∷ [])).1 refl)).0
 
-self_equal : (o : Ordering) → o ≡ ordering_reverse o → o ≡ Equal
-self_equal Less e = absurd cc
-self_equal Equal e = refl
-self_equal Greater e = absurd cc
+same_self : (a : List ℕ) → eq-value.it a a ≡ true
+same_self a = rw (eqb_self (length a)) ((bytes_decides (padded 16 0 a) (padded 16 0 a)).1 refl)
 
-pub name_cmp_same : (a : List ℕ) → name_cmp a a ≡ Equal
-name_cmp_same a =
-    let len : nat_cmp (length a) (length a) ≡ Equal = self_equal _ (nat_cmp_total.antisymm (length a) (length a)) in
-    let bytes : slice_cmp nat_cmp (padded 16 0 a) (padded 16 0 a) ≡ Equal = self_equal _ (nat_list_cmp_total.antisymm (padded 16 0 a) (padded 16 0 a)) in
-    rw (len, bytes) refl
+same_decides : (a b : List ℕ) → Decides (eq-value.it a b) (a ≡ b)
+same_decides a b = (
+  λ h. (let p = both_true (eqb (length a) (length b)) (pointwise eqb (padded 16 0 a) (padded 16 0 b)) h in
+      padded_is_one a b (eqb-true (length a) (length b) p.0) ((bytes_decides (padded 16 0 a) (padded 16 0 b)).0 p.1)),
+  λ e. subst (λ (x : List ℕ). eq-value.it a x ≡ true) e (same_self a),
+)
+
+pub same_name : (a b : List ℕ) → eq-value.it a b ≡ bytes_eq a b
+same_name a b = one_answer (eq-value.it a b) (bytes_eq a b) (same_decides a b) (bytes_decides a b)
+
+-- the same, turned round
+pub same_other : (a b : List ℕ) → eq-value.it a b ≡ bytes_eq b a
+same_other a b = same_name a b ∙ one_answer (bytes_eq a b) (bytes_eq b a) (bytes_decides a b) (λ e. sym ((bytes_decides b a).0 e), λ e. (bytes_decides b a).1 (sym e))

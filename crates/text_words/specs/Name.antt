@@ -2,10 +2,6 @@
 use Rattle.std.specs.Prelude.{◌≡◌, ◌==◌, ◌&&◌, ◌||◌, Bool, true, false, ℕ, nat_le, List, [], ◌∷◌}
 use Rattle.std.specs.Prelude.{length}
 use Rattle.std.specs.List.{list_all}
-use Rattle.std.specs.declared.cmp.Ordering.{Ordering}
-use Rattle.std.specs.Ordering.{nat_cmp, ordering_then}
-use Rattle.std.specs.Cmp.Lexicographic.{slice_cmp}
-use Rattle.base.specs.Padded.{padded}
 
 -- a to z
 abbrev pub is_letter : ℕ → Bool
@@ -27,9 +23,3 @@ IsName bytes = is_name bytes ≡ true
 -- a name is its own spelling
 abbrev pub name_text : List ℕ → List ℕ
 name_text bytes = bytes
-
--- the order of names as keys: by length, and then by bytes
-abbrev pub name_cmp : List ℕ → List ℕ → Ordering
-name_cmp a b =
-    ordering_then (nat_cmp (length a) (length b))
-    (slice_cmp nat_cmp (padded 16 0 a) (padded 16 0 b))

@@ -10,7 +10,7 @@ use std::marker::Model;
 
 /// A name: a letter a to z, and then up to 15 of a to z, 0 to 9 and `_`. It takes no memory. A contract sees the list of
 /// its bytes.
-#[derive(Clone, Copy, PartialEq, Eq, PartialOrd, Ord)]
+#[derive(Clone, Copy, PartialEq, Eq)]
 pub struct Name {
     len: u8,
     bytes: [u8; 16],

@@ -6,5 +6,5 @@ use Rattle.call_text.proofs.scripts.bind.Goals as goal
 
 pub returns : goal.returns
 returns c = λ xs.
-    binds_name (binds_of (written_with c.args.outline.now xs)) c.in-Some.name c.args.bound.now c.insert.new.self c.in_ok-fresh.fresh
-    (sym (c.binds.ensures xs) ∙ c.in-Some.is) c.in_ok-fresh.ensures.added (λ q. c.in_ok-fresh.ensures.updates.0 q)
+    binds_name (binds_of (written_with c.args.outline.now xs)) c.in-Some.name c.args.bound.now.keys c.insert.new.self.keys c.in_ok-fresh.fresh
+    (sym (c.binds.ensures xs) ∙ c.in-Some.is) c.in_ok-fresh.ensures.added c.in_ok-fresh.ensures.keys
