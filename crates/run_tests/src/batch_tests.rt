@@ -22,6 +22,9 @@ const TOLD: &[u8] =
 const DUMPED: &[u8] =
     b"histar-dump 1\nlimits 64 1 4 1\nbatch 2 1 3\ncall container_create #1 {1} 4 - => id #4\ncall unref #1 #4 => ok\ncall container_create #1 {1} 61 - => refused 12 NoQuota\n";
 
+/// Its read, which stands between these lines and the tables.
+const READ: &[u8] = b"read 2 obj_quota #1 #1 => quota 64 4 0 0\n";
+
 /// The same with another reply in line 4.
 const OTHER_REPLY: &[u8] =
     b"histar-dump 1\nlimits 64 1 4 1\nbatch 2 1 3\ncall container_create #1 {1} 4 - => id #5\ncall unref #1 #4 => ok\ncall container_create #1 {1} 61 - => refused 12 NoQuota\n";
@@ -68,9 +71,11 @@ fn a_batch_is_one_event_of_the_dump(rt: HostRuntime) -> Result<(), Fail> {
     let dump = ended.file.as_slice();
     assert_eq!(rt; audit(alloc, dump)?, Verdict::Clean);
     let events = DUMPED.len().saturating_sub(30);
-    let head = dump.len().saturating_sub(TABLES);
+    let end = dump.len().saturating_sub(TABLES);
+    let head = end.saturating_sub(READ.len());
+    assert!(rt; dump[..end].ends_with(READ));
     assert!(rt; dump[..head].ends_with(&DUMPED[DUMPED.len().saturating_sub(events)..]));
-    let tables = &dump[head..];
+    let tables = &dump[end..];
     assert_eq!(rt; audited(alloc, DUMPED, tables)?, Verdict::Clean);
     assert_eq!(rt; audited(alloc, OTHER_REPLY, tables)?, Verdict::False(4));
     assert_eq!(rt; audited(alloc, OTHER_NUMBER, tables)?, Verdict::False(3));

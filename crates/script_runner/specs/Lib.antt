@@ -1,3 +1,5 @@
 pub mod Dumps
+pub mod Lines
 pub mod Names
+pub mod Reads
 pub mod Workers

@@ -1,4 +1,7 @@
 //! Batches that a worker gathers before it submits them.
+ghost use Rattle.std.specs.Prelude.{◌≡◌, ◌++◌, [], true, OnOk};
+ghost use Rattle.script_runner.specs.Lines.{to_submit};
+
 use crate::answers::Answer;
 use call_text::Value;
 use kernel_rules::Call;
@@ -41,7 +44,9 @@ impl Batch {
         binds: Option<Name>,
         answer: Option<Answer>,
         call: &Call,
-    ) -> Result<(), AllocError> {
+    ) -> Result<(), AllocError>
+        ensures { OnOk result (self.new.calls.items ≡ self.old.calls.items ++ to_submit answer call.now) }
+    {
         // For the proof alone: this names a type that an answer holds.
         let _named: Option<Value> = None;
         if answer.is_none() {
@@ -55,6 +60,13 @@ impl Batch {
         Ok(())
     }
 
+    /// Whether it has no lines, and so no calls.
+    pub fn is_empty(&self) -> bool
+        ensures { result ≡ true → self.now.calls.items ≡ [] }
+    {
+        self.lines.is_empty() && self.calls.is_empty()
+    }
+
     /// Gives each line that has no answer yet this one.
     pub fn answer_all(&mut self, answer: &Answer) {
         for line in &mut self.lines {
@@ -65,7 +77,9 @@ impl Batch {
     }
 
     /// Forgets the lines and the calls.
-    pub fn clear(&mut self) {
+    pub fn clear(&mut self)
+        ensures { self.new.calls.items ≡ [] }
+    {
         self.lines.clear();
         self.calls.clear();
     }

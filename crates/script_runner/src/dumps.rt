@@ -1,19 +1,22 @@
 //! The dump of a run.
-ghost use Rattle.std.specs.Prelude.{◌≡◌, [], true, IfOk, IfSome, Some, is_some, nat_lt, take, drop};
+ghost use Rattle.std.specs.Prelude.{◌≡◌, true, IfOk, IfSome, Some, is_some, length, min, nat_lt};
 ghost use Rattle.std.specs.List.{list_all};
 ghost use Rattle.base.specs.Limits.{in_range};
 ghost use Rattle.checkpoints.specs.Restorable.{is_restorable};
 ghost use Rattle.checkpoints.specs.Starts.{start_of, IsCheckpointOf};
 ghost use Rattle.dump_text.specs.Dump.{IsDump};
 ghost use Rattle.dump_text.specs.Line.{IsBootable};
-ghost use Rattle.dump_text.specs.Whole.{whole_dump};
+ghost use Rattle.dump_text.specs.Reads.{have_places};
+ghost use Rattle.dump_text.specs.Whole.{AreRead, whole_dump};
 ghost use Rattle.histories.specs.History.{IsLegalFrom, state_from};
 ghost use Rattle.kernel_rules.specs.Scratch.{scratch};
 ghost use Rattle.script_runner.specs.Dumps.{are_given, IsPlayed, IsRunDump};
 
+use crate::reads::SeenRead;
+use crate::replays::told_reads;
 use base::{Limits, NoMemory};
 use checkpoints::{Checkpoint, later_are_legal};
-use dump_text::legal_is_dump;
+use dump_text::{PlacedRead, legal_is_dump};
 use histories::Event;
 use kept_events::{KeptEvent, events_of};
 use kernel_rules::Tables;
@@ -51,61 +54,67 @@ fn checkpoint_of(
     }
 }
 
-/// The first events, as many as are asked for or all, and those after them.
-fn parted<'a>(events: &'a [KeptEvent], first: u32) -> (&'a [KeptEvent], &'a [KeptEvent])
-    ensures before { result.0.now ≡ take first events.entry.now }
-    ensures after { result.1.now ≡ drop first events.entry.now }
+/// How many of the events are asked for: as many, or all.
+fn at_most(first: u32, events: &[KeptEvent]) -> usize
+    ensures { result ≡ min first (length events.now) }
 {
-    if events.len() <= first as usize {
-        (events, &[])
-    } else {
-        events.split_at(first as usize)
-    }
+    (first as usize).min(events.len())
 }
 
-/// The dump of events that begin at a checkpoint, as text, with the tables of the state that they lead to.
+/// The dump of events that begin at a checkpoint, as text, with the reads among them and the tables of the state that they
+/// lead to.
 fn dump_from(
     alloc: Global,
     limits: &Limits,
     checkpoint: Checkpoint,
     events: &[KeptEvent],
+    reads: Vec<PlacedRead>,
     tables: Tables,
 ) -> Result<Vec<u8>, NoMemory>
     requires limits { IsBootable limits.now }
     requires restorable { is_restorable limits.now checkpoint ≡ true }
     requires legal { IsLegalFrom (start_of limits.now checkpoint) events.now }
+    requires reads { AreRead (start_of limits.now checkpoint) events.now reads.items }
+    requires places { have_places (Some checkpoint) events.now reads.items ≡ true }
     requires tables { tables ≡ scratch (state_from (start_of limits.now checkpoint).state events.now) }
     ensures { IfOk result
-        (λ bytes. IsDump bytes.items (whole_dump limits.now (Some checkpoint) events.now [])) }
+        (λ bytes. IsDump bytes.items (whole_dump limits.now (Some checkpoint) events.now reads.items)) }
 {
     legal_is_dump();
     let events = events_of(alloc, events)?;
-    let unread = Vec::new(alloc);
-    let bytes = dump_text::dump_of(alloc, limits, Some(checkpoint), events, unread, tables)?;
+    let bytes = dump_text::dump_of(alloc, limits, Some(checkpoint), events, reads, tables)?;
     Ok(bytes)
 }
 
 /// The dump of a journal, as text, with the tables of the state that it leads to from a boot with these limits. Its first
 /// events, as many as are asked for or all, are told by their checkpoint; none where one of them is of a thread that was
-/// never given, which no seat has. Want of memory is the only error.
+/// never given, which no seat has. Of the reads it tells, each after the events that its thread had seen, those that saw the
+/// first events and were answered as the rules say. They have to come by rising length, at each length by rising thread, as
+/// `seen_reads` has them; one that doesn't is left out. Want of memory is the only error.
 pub fn dump_of(
     alloc: Global,
     limits: &Limits,
     first: u32,
     events: &[KeptEvent],
+    reads: &[SeenRead],
     tables: Tables,
 ) -> Result<Vec<u8>, NoMemory>
     requires { IsPlayed limits.now events.now tables }
-    ensures { IfOk result (λ bytes. IsRunDump limits.now first bytes.items) }
+    ensures { IfOk result (λ bytes. IsRunDump limits.now first reads.now bytes.items) }
 {
     later_are_legal();
-    let (before, after) = parted(events, first);
+    let first = at_most(first, events);
+    let (before, after) = events.split_at(first);
     let before = events_of(alloc, before)?;
     match checkpoint_of(alloc, limits, before.as_slice())? {
-        Some(made) => dump_from(alloc, limits, made, after, tables),
+        Some(made) => {
+            let told = told_reads(alloc, limits, events, first, reads)?;
+            dump_from(alloc, limits, made, after, told, tables)
+        }
         None => {
             let boot = checkpoint(alloc, limits, &[])?;
-            dump_from(alloc, limits, boot, events, tables)
+            let told = told_reads(alloc, limits, events, 0, reads)?;
+            dump_from(alloc, limits, boot, events, told, tables)
         }
     }
 }

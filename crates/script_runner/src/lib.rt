@@ -1,9 +1,10 @@
 //! Plays a script on a newly booted kernel, and runs the program over a reader and two writers.
 //!
 //! A script is read whole before a line of it is played, and all output is made before a byte of it goes out. The dump
-//! of a run is proved to be that of a legal journal, the book's at the end. That a line printed is the text of what its
-//! call answered, and which status and fault line a run ends with, is shown by tests. So are the order of the lines and
-//! that the workers of a phase run at once.
+//! of a run is proved to be that of a legal journal, the book's at the end, and of reads that the rules answer as the
+//! run did. That a line printed is the text of what its call answered, and which status and fault line a run ends with,
+//! is shown by tests. So are the order of the lines, that the workers of a phase run at once, and that no read is left
+//! out.
 #![tactic(auto)]
 
 mod answers;
@@ -20,6 +21,8 @@ mod parts;
 mod play;
 mod printing;
 mod program;
+mod reads;
+mod replays;
 mod shared_play;
 mod workers;
 
@@ -29,3 +32,4 @@ pub use gates::{Always, Gate, Turn};
 pub use names::{BoundNames, WorkerNames};
 pub use play::{Played, play_all, play_at_once};
 pub use program::{Ended, NAME, histar_on};
+pub use reads::{Asked, Reads, SeenRead, seen_reads};

@@ -1,16 +1,18 @@
 //! Playing a script whose workers take turns: in one thread, on one kernel that has no copies.
-ghost use Rattle.std.specs.Prelude.{◌≡◌, IfOk};
-ghost use Rattle.histories.specs.History.{state_of};
+ghost use Rattle.std.specs.Prelude.{◌≡◌, [], true, IfOk, IfSome, OnOk};
+ghost use Rattle.histories.specs.History.{calls_of, state_of};
 ghost use Rattle.kernel_rules.specs.Scratch.{scratch};
 ghost use Rattle.script_runner.specs.Dumps.{IsPlayed};
+ghost use Rattle.script_runner.specs.Lines.{reached, AreAsked, KeepSeats, Play, PlayPhase};
+ghost use Rattle.script_runner.specs.Workers.{take_turns};
 
 use crate::answers::Answers;
 use crate::desks::SoleDesk;
 use crate::faults::PlayFault;
-use crate::gates::Gate;
+use crate::gates::{Gate, Turn};
 use crate::names::BoundNames;
 use crate::play::Played;
-use crate::printing::{Answered, output_of};
+use crate::printing::{Answered, Told, told_of};
 use crate::workers::Worker;
 use base::{Limits, Meter, ObjectId};
 use call_text::{Known, Phase, Script, Value};
@@ -31,7 +33,9 @@ struct Lone {
 
 impl Lone {
     /// Gives its thread a seat.
-    fn open<B: Naming>(&mut self, book: &mut SoleBook<B>, thread: ObjectId) {
+    fn open<B: Naming>(&mut self, book: &mut SoleBook<B>, thread: ObjectId)
+        ensures journal { book.new.journal ≡ book.old.journal }
+    {
         match book.seat(thread) {
             Ok(()) => self.thread = Some(thread),
             Err(refusal) => self.worker.refusal = Some(refusal),
@@ -39,7 +43,10 @@ impl Lone {
     }
 
     /// Gives its thread a seat where it has none and its name is bound to an object.
-    fn sit<B: Naming>(&mut self, book: &mut SoleBook<B>, bound: Option<Value>) {
+    fn sit<B: Naming>(&mut self, book: &mut SoleBook<B>, bound: Option<Value>)
+        ensures seat { IfSome self.old.thread (λ t. self.new.thread ≡ Some t) }
+        ensures journal { book.new.journal ≡ book.old.journal }
+    {
         if self.thread.is_some() {
             return;
         }
@@ -47,6 +54,32 @@ impl Lone {
             Some(Value::Object(thread)) => self.open(book, *thread),
             _ => {}
         }
+    }
+
+    /// Plays the lines of a phase, with these names beside its own.
+    fn play_lines<B: Naming, R: Wait, G: Gate>(
+        &mut self,
+        rt: &R,
+        gate: &G,
+        desk: &mut SoleDesk<B>,
+        index: usize,
+        phase: &Phase,
+        names: &BoundNames,
+    ) -> Result<(), PlayFault>
+        ensures made { OnOk result (Play desk.old.thread phase.now
+            (reached (calls_of desk.old.book.journal) self.old.worker.batch.calls.items)
+            (reached (calls_of desk.new.book.journal) self.new.worker.batch.calls.items)) }
+        ensures seat { self.new.thread ≡ self.old.thread }
+    {
+        for place in 0..phase.len() {
+            let Some(line) = phase.line(place) else {
+                return Ok(());
+            };
+            if self.worker.play_line(rt, gate, desk, index, &line, names)? == Turn::Stop {
+                return Err(PlayFault::Stopped);
+            }
+        }
+        Ok(())
     }
 
     /// Plays a phase of which all lines are its own, at its turn. It has all names as its own for so long, and binds among
@@ -59,14 +92,19 @@ impl Lone {
         index: usize,
         phase: &Phase,
         names: &mut BoundNames,
-    ) -> Result<(), PlayFault> {
-        let places = 0..phase.len();
+    ) -> Result<(), PlayFault>
+        ensures made { OnOk result (Play self.old.thread phase.now
+            (reached (calls_of desk.old.book.journal) [])
+            (reached (calls_of desk.new.book.journal) self.new.worker.batch.calls.items)) }
+        ensures seat { self.new.thread ≡ self.old.thread }
+    {
         desk.thread = self.thread;
+        self.worker.begin();
         mem::swap(&mut self.worker.own, names);
-        self.worker
-            .play(rt, gate, desk, index, phase, places, names);
+        let played = self.play_lines(rt, gate, desk, index, phase, names);
         mem::swap(&mut self.worker.own, names);
-        self.worker.end()
+        self.worker.refusal = None;
+        played
     }
 }
 
@@ -91,7 +129,11 @@ fn play_phase<B: Naming, R: Wait, G: Gate>(
     workers: &IndexSet<Name>,
     played: &mut Vec<Lone>,
     names: &mut BoundNames,
-) -> Result<(), PlayFault> {
+) -> Result<(), PlayFault>
+    ensures made { OnOk result (PlayPhase workers.now.keys phase.now played.new.items
+        (calls_of desk.old.book.journal) (calls_of desk.new.book.journal)) }
+    ensures seats { OnOk result (KeepSeats played.old.items played.new.items) }
+{
     let Some(name) = phase.worker(0) else {
         return Ok(());
     };
@@ -109,7 +151,7 @@ fn play_phase<B: Naming, R: Wait, G: Gate>(
 fn answers_of(alloc: Global, played: &mut Vec<Lone>) -> Result<Vec<Answers>, AllocError> {
     let mut answers = Vec::with_capacity(alloc, played.len())?;
     for lone in played {
-        answers.push(lone.worker.take_answers(alloc))?;
+        answers.push(lone.worker.take_answers(alloc, lone.thread))?;
     }
     Ok(answers)
 }
@@ -123,7 +165,10 @@ fn play_phases<B: Naming, R: Wait, G: Gate>(
     gate: &G,
     played: &mut Vec<Lone>,
     names: &mut BoundNames,
-) -> Result<(), PlayFault> {
+) -> Result<(), PlayFault>
+    requires { desk.old.book.journal ≡ [] }
+    ensures { OnOk result (take_turns script.now ≡ true → AreAsked script.now desk.new.book.journal) }
+{
     for phase in &script.phases {
         play_phase(rt, desk, phase, gate, workers, played, names)?;
     }
@@ -138,7 +183,10 @@ fn play_script<'a, B: Naming, R: Wait, G: Gate>(
     script: &Script,
     workers: &'a IndexSet<Name>,
     gate: &G,
-) -> Result<Answered<'a>, PlayFault> {
+) -> Result<Answered<'a>, PlayFault>
+    requires { desk.old.book.journal ≡ [] }
+    ensures { OnOk result (take_turns script.now ≡ true → AreAsked script.now desk.new.book.journal) }
+{
     let mut names = BoundNames::start(alloc)?;
     let mut played = idle(alloc, workers.len())?;
     play_phases(rt, desk, script, workers, gate, &mut played, &mut names)?;
@@ -150,22 +198,24 @@ fn play_script<'a, B: Naming, R: Wait, G: Gate>(
     })
 }
 
-/// The output of a script, and the tables of the state in which it leaves the book.
-fn texts_of<B: Naming, R: Wait, G: Gate>(
+/// What a script leaves to be told, and the tables of the state in which it leaves the book.
+fn told_in<B: Naming, R: Wait, G: Gate>(
     rt: &R,
     alloc: Global,
     desk: &mut SoleDesk<B>,
     script: &Script,
     workers: &IndexSet<Name>,
     gate: &G,
-) -> Result<(Vec<u8>, Tables), PlayFault>
-    ensures { IfOk result (λ texts. texts.1 ≡ scratch (state_of B.boot.limits desk.new.book.journal)) }
+) -> Result<(Told, Tables), PlayFault>
+    requires { desk.old.book.journal ≡ [] }
+    ensures lines { OnOk result (take_turns script.now ≡ true → AreAsked script.now desk.new.book.journal) }
+    ensures tables { IfOk result (λ told. told.1 ≡ scratch (state_of B.boot.limits desk.new.book.journal)) }
 {
     let answered = play_script(rt, alloc, desk, script, workers, gate)?;
-    let output = output_of(alloc, &answered)?;
+    let told = told_of(alloc, answered)?;
     let mut meter = Meter::new(alloc)?;
     let tables = desk.book.kernel().tables(&mut meter)?;
-    Ok((output, tables))
+    Ok((told, tables))
 }
 
 /// Plays a script on a newly booted kernel for so many seats, and makes the output. No phase has lines of two
@@ -181,19 +231,28 @@ pub fn play_alone<B: Naming, R: Wait, G: Gate>(
 ) -> Result<Played, PlayFault>
     requires limits { limits.now ≡ B.boot.limits }
     requires seats { seats ≡ B.boot.seats }
-    ensures { IfOk result (λ played. IsPlayed limits.now played.events.items played.tables) }
+    ensures played { IfOk result (λ played. IsPlayed limits.now played.events.items played.tables) }
+    ensures lines { IfOk result
+        (λ played. take_turns script.now ≡ true → AreAsked script.now played.events.items) }
 {
     let mut desk = SoleDesk {
         book: SoleBook::<B>::boot(alloc, limits, seats)?,
         thread: None,
+        length: 0,
     };
-    let texts = texts_of(rt, alloc, &mut desk, script, workers, gate);
-    let SoleDesk { book, thread: _ } = desk;
+    let told = told_in(rt, alloc, &mut desk, script, workers, gate);
+    let SoleDesk {
+        book,
+        thread: _,
+        length: _,
+    } = desk;
     let events = book.into_events();
-    let (output, tables) = texts?;
+    let (told, tables) = told?;
+    let Told { output, reads } = told;
     Ok(Played {
         output,
         events,
+        reads,
         tables,
     })
 }

@@ -1,11 +1,14 @@
 //! Playing a script.
-ghost use Rattle.std.specs.Prelude.{◌<◌, ◌≤◌, IfOk};
+ghost use Rattle.std.specs.Prelude.{◌≡◌, ◌<◌, ◌≤◌, true, IfOk};
 ghost use Rattle.script_runner.specs.Dumps.{IsPlayed};
+ghost use Rattle.script_runner.specs.Lines.{AreAsked};
+ghost use Rattle.script_runner.specs.Workers as spec;
 
 use crate::faults::PlayFault;
 use crate::gates::Gate;
 use crate::lone_play::play_alone;
 use crate::parts::{Workers, workers_of};
+use crate::reads::Reads;
 use crate::shared_play::play_shared;
 use base::Limits;
 use call_text::Script;
@@ -27,6 +30,8 @@ pub struct Played {
     pub output: Vec<u8>,
     /// The journal: each write call that was made, in the order in which the kernel took them.
     pub events: Vec<KeptEvent>,
+    /// The reads: each query of a worker that was answered, with how many events its thread had then seen.
+    pub reads: Vec<Reads>,
     /// The tables of the state that the journal leads to.
     pub tables: Tables,
 }
@@ -61,7 +66,9 @@ fn play_seated<R: Threads + Wait + Sync, G: Gate>(
 /// name is known to the worker that bound it from its next line on, and to all others from the next phase on. The replies
 /// print the names of the script as they are bound when all is played, and `#` and the number of what has none. It waits
 /// for all threads that it starts. Nothing is printed after a fault. The journal and the tables are the book's at the end:
-/// the journal is legal, and the tables are those of the state that it leads to. The limits are then in range.
+/// the journal is legal, and the tables are those of the state that it leads to. The limits are then in range. Where the
+/// workers take turns, each call of the journal is asked by a line of the worker whose thread made it, in the order of the
+/// lines, and no line asks two.
 pub fn play_all<R: Threads + Wait + Sync, G: Gate>(
     rt: &R,
     alloc: Global,
@@ -69,7 +76,9 @@ pub fn play_all<R: Threads + Wait + Sync, G: Gate>(
     limits: &Limits,
     gate: &G,
 ) -> Result<Played, PlayFault>
-    ensures { IfOk result (λ played. IsPlayed limits.now played.events.items played.tables) }
+    ensures lines { IfOk result
+        (λ played. spec.take_turns script.now ≡ true → AreAsked script.now played.events.items) }
+    ensures played { IfOk result (λ played. IsPlayed limits.now played.events.items played.tables) }
 {
     let Workers { names, take_turns } = workers_of(alloc, script)?;
     if !take_turns {

@@ -1,11 +1,12 @@
 //! What the lines of a script print.
 use crate::answers::{Answer, Answers};
 use crate::names::BoundNames;
+use crate::reads::Reads;
 use base::NoMemory;
 use call_text::{put_made, put_reply};
 use indexmap::IndexSet;
 use kernel_rules::Reply;
-use std::alloc::Global;
+use std::alloc::{AllocError, Global};
 use text_words::{Name, put_name, put_number};
 
 /// What was played: the workers in the order of their first lines, what the lines of each answered, and the names as
@@ -18,6 +19,15 @@ pub struct Answered<'a> {
     pub answers: Vec<Answers>,
     /// The names.
     pub names: BoundNames,
+}
+
+/// What a run prints, and the reads in it.
+#[derive(Drop)]
+pub struct Told {
+    /// The lines of the workers.
+    pub output: Vec<u8>,
+    /// The reads of each worker that was given a seat.
+    pub reads: Vec<Reads>,
 }
 
 /// Adds a line's own words.
@@ -63,7 +73,7 @@ fn put_worker(
 }
 
 /// The lines of the workers, in the workers' order: for each its own lines in theirs.
-pub fn output_of(alloc: Global, answered: &Answered<'_>) -> Result<Vec<u8>, NoMemory> {
+fn output_of(alloc: Global, answered: &Answered<'_>) -> Result<Vec<u8>, NoMemory> {
     let mut out = Vec::new(alloc);
     for (index, answers) in answered.answers.iter().enumerate() {
         if let Some(worker) = answered.workers.get_index(index) {
@@ -71,4 +81,27 @@ pub fn output_of(alloc: Global, answered: &Answered<'_>) -> Result<Vec<u8>, NoMe
         }
     }
     Ok(out)
+}
+
+/// The reads of each worker that was given a seat.
+fn reads_of(alloc: Global, answers: Vec<Answers>) -> Result<Vec<Reads>, AllocError> {
+    let mut reads = Vec::with_capacity(alloc, answers.len())?;
+    for own in answers {
+        if let Some(own) = own.into_reads() {
+            reads.push(own)?;
+        }
+    }
+    Ok(reads)
+}
+
+/// What is told of what was played. The error is want of memory.
+pub fn told_of(alloc: Global, answered: Answered<'_>) -> Result<Told, NoMemory> {
+    let output = output_of(alloc, &answered)?;
+    let Answered {
+        workers: _,
+        answers,
+        names: _,
+    } = answered;
+    let reads = reads_of(alloc, answers)?;
+    Ok(Told { output, reads })
 }

@@ -5,6 +5,7 @@ ghost use Rattle.script_runner.specs.Dumps.{IsFile, IsPlayed};
 use crate::dumps::dump_of;
 use crate::gates::Always;
 use crate::play::{Played, play_all};
+use crate::reads::{Reads, seen_reads};
 use base::NoMemory;
 use call_text::{Script, ScriptError, read_script};
 use histar_args::Options;
@@ -72,6 +73,7 @@ fn file_of(
     alloc: Global,
     options: &Options,
     events: &[KeptEvent],
+    reads: &[Reads],
     tables: Tables,
 ) -> Result<Vec<u8>, NoMemory>
     requires { IsPlayed options.now.limits events.now tables }
@@ -80,7 +82,16 @@ fn file_of(
     if !options.dump {
         return Ok(Vec::new(alloc));
     }
-    dump_of(alloc, &options.limits, options.checkpoint, events, tables)
+    let seen = seen_reads(alloc, reads)?;
+    let reads = seen.as_slice();
+    dump_of(
+        alloc,
+        &options.limits,
+        options.checkpoint,
+        events,
+        reads,
+        tables,
+    )
 }
 
 /// Plays a script, and makes all that the run writes.
@@ -99,9 +110,10 @@ fn texts_of<R: Threads + Wait + Sync>(
     let Played {
         output,
         events,
+        reads,
         tables,
     } = played;
-    let file = file_of(alloc, options, events.as_slice(), tables);
+    let file = file_of(alloc, options, events.as_slice(), reads.as_slice(), tables);
     forget(events);
     Ok(Texts {
         output,

@@ -9,7 +9,7 @@ use crate::gates::Gate;
 use crate::names::BoundNames;
 use crate::parts::{Parts, parts_of};
 use crate::play::Played;
-use crate::printing::{Answered, output_of};
+use crate::printing::{Answered, Told, told_of};
 use crate::workers::Worker;
 use base::ObjectId;
 use call_text::{Known, Phase, Script, Value};
@@ -26,6 +26,8 @@ use text_words::Name;
 struct Seated<'s, B: Naming> {
     /// Its seat, from the phase in which one was opened.
     seat: Option<Seat<'s, B>>,
+    /// The seat's thread.
+    thread: Option<ObjectId>,
     worker: Worker,
 }
 
@@ -35,6 +37,7 @@ impl<'s, B: Naming> Seated<'s, B> {
         match shared.open_seat(rt, thread) {
             Ok(seat) => {
                 self.seat = Some(seat);
+                self.thread = Some(thread);
                 true
             }
             Err(refusal) => {
@@ -70,6 +73,11 @@ impl<'s, B: Naming> Seated<'s, B> {
         names.bind_all(&self.worker.own)?;
         self.worker.own = BoundNames::none(alloc);
         Ok(())
+    }
+
+    /// What its lines answered, which it has no longer then.
+    fn take_answers(&mut self, alloc: Global) -> Answers {
+        self.worker.take_answers(alloc, self.thread)
     }
 
     /// Plays its lines of a phase.
@@ -207,6 +215,7 @@ fn idle<'s, B: Naming>(
     for _ in 0..count {
         idle.push(Mutex::new(Seated {
             seat: None,
+            thread: None,
             worker: Worker::new(alloc),
         }))?;
     }
@@ -240,7 +249,7 @@ fn answers_of<B: Naming, R: Wait>(
 ) -> Result<Vec<Answers>, AllocError> {
     let mut answers = Vec::with_capacity(alloc, played.len())?;
     for worker in played {
-        answers.push(worker.lock(rt).worker.take_answers(alloc))?;
+        answers.push(worker.lock(rt).take_answers(alloc))?;
     }
     Ok(answers)
 }
@@ -293,10 +302,11 @@ pub fn play_shared<B: Naming + Send, R: Threads + Wait + Sync, G: Gate>(
     let closing = closing_of(rt, alloc, shared.close());
     let answered = answered?;
     let Closing { events, tables } = closing?;
-    let output = output_of(alloc, &answered)?;
+    let Told { output, reads } = told_of(alloc, answered)?;
     Ok(Played {
         output,
         events,
+        reads,
         tables,
     })
 }

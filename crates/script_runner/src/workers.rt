@@ -1,5 +1,7 @@
 //! A worker, which plays its lines in order.
+ghost use Rattle.std.specs.Prelude.{◌≡◌, [], ◌∷◌, OnOk, IfNone};
 ghost use Rattle.std.specs.Iterator.{IsFinite};
+ghost use Rattle.script_runner.specs.Lines.{by_seat, reached, IsMeant, MayAsk, MayMake, Play};
 
 use crate::answers::{Answer, Answers};
 use crate::asking::{asked, submitted};
@@ -8,7 +10,7 @@ use crate::desks::Desk;
 use crate::faults::PlayFault;
 use crate::gates::{Gate, Turn};
 use crate::names::{BoundNames, WorkerNames};
-use base::{NoMemory, Refusal};
+use base::{NoMemory, ObjectId, Refusal};
 use call_text::{Line, Named, Phase, resolve_into};
 use kernel_rules::{Call, Reply};
 use published_copy::{SeatRefusal, SubmitRefusal};
@@ -76,7 +78,12 @@ impl Worker {
         desk: &mut D,
         line: &Line<'_>,
         earlier: &BoundNames,
-    ) -> Result<Answer, NoMemory> {
+    ) -> Result<Answer, NoMemory>
+        ensures made { OnOk result
+            (MayAsk line.now (D.thread desk.old) (D.made desk.old) (D.made desk.new)) }
+        ensures thread { D.thread desk.new ≡ D.thread desk.old }
+        ensures batch { self.new.batch ≡ self.old.batch }
+    {
         if !desk.is_open() {
             return Ok(self.unseated(line));
         }
@@ -86,21 +93,18 @@ impl Worker {
         };
         match resolve_into(&line.call, &names, &mut self.call) {
             Err(name) => Ok(Answer::Unbound(name)),
-            Ok(Some(query)) => asked(desk, &query, &mut self.reply, &mut self.answers, &names),
+            Ok(Some(query)) => asked(desk, &query, &mut self.reply, &mut self.answers),
             Ok(None) => {
                 let (call, reply, answers) = (&self.call, &mut self.reply, &mut self.answers);
-                submitted(rt, desk, call, reply, answers, &names)
+                submitted(rt, desk, call, reply, answers)
             }
         }
     }
 
     /// Keeps what a line answers, and binds its name to what its call made.
-    fn keep(
-        &mut self,
-        number: u32,
-        binds: Option<Name>,
-        answer: &Answer,
-    ) -> Result<(), AllocError> {
+    fn keep(&mut self, number: u32, binds: Option<Name>, answer: &Answer) -> Result<(), AllocError>
+        ensures { self.new.batch ≡ self.old.batch }
+    {
         if let (Some(name), Answer::Made(made)) = (binds, answer) {
             self.own.bind(&Named { name, value: *made })?;
         }
@@ -115,7 +119,10 @@ impl Worker {
         desk: &D,
         line: &Line<'_>,
         earlier: &BoundNames,
-    ) -> Option<Answer> {
+    ) -> Option<Answer>
+        ensures call { IfNone result (IsMeant line.now self.new.call) }
+        ensures batch { self.new.batch ≡ self.old.batch }
+    {
         if !desk.is_open() {
             return Some(self.unseated(line));
         }
@@ -131,11 +138,7 @@ impl Worker {
     }
 
     /// Keeps the replies to the calls of the batch, as what their lines answer.
-    fn keep_replies(&mut self, replies: &[Reply], earlier: &BoundNames) -> Result<(), NoMemory> {
-        let names = WorkerNames {
-            own: &self.own,
-            earlier,
-        };
+    fn keep_replies(&mut self, replies: &[Reply]) -> Result<(), NoMemory> {
         let mut left = replies;
         for line in &mut self.batch.lines {
             if line.answer.is_some() {
@@ -144,24 +147,23 @@ impl Worker {
             let [reply, more @ ..] = left else {
                 return Ok(());
             };
-            line.answer = Some(self.answers.keep(reply, &names)?);
+            line.answer = Some(self.answers.keep(reply)?);
             left = more;
         }
         Ok(())
     }
 
     /// Submits the calls of the batch, if there are some.
-    fn submit<D: Desk, R: Wait>(
-        &mut self,
-        rt: &R,
-        desk: &mut D,
-        earlier: &BoundNames,
-    ) -> Result<(), NoMemory> {
+    fn submit<D: Desk, R: Wait>(&mut self, rt: &R, desk: &mut D) -> Result<(), NoMemory>
+        ensures made { OnOk result (MayMake (D.made desk.old)
+            (by_seat (D.thread desk.old) self.old.batch.calls.items) (D.made desk.new)) }
+        ensures thread { D.thread desk.new ≡ D.thread desk.old }
+    {
         if self.batch.calls.is_empty() {
             return Ok(());
         }
         match desk.submit_batch(rt, self.batch.calls.as_slice()) {
-            Ok(replies) => self.keep_replies(replies.as_slice(), earlier),
+            Ok(replies) => self.keep_replies(replies.as_slice()),
             Err(SubmitRefusal::Memory) => Err(NoMemory),
             Err(refusal) => {
                 self.batch.answer_all(&Answer::Refused(refusal.refusal()));
@@ -204,20 +206,26 @@ impl Worker {
         index: usize,
         line: &Line<'_>,
         earlier: &BoundNames,
-    ) -> Result<Turn, NoMemory> {
+    ) -> Result<Turn, NoMemory>
+        ensures made { OnOk result (Play (D.thread desk.old) (line.now ∷ [])
+            (reached (D.made desk.old) self.old.batch.calls.items)
+            (reached (D.made desk.new) self.new.batch.calls.items)) }
+        ensures thread { D.thread desk.new ≡ D.thread desk.old }
+    {
         let answer = self.write_call(desk, line, earlier);
         self.batch.add(line.number, line.binds, answer, &self.call)?;
         if line.more {
             return Ok(Turn::Go);
         }
-        self.submit(rt, desk, earlier)?;
+        self.submit(rt, desk)?;
         self.keep_batch()?;
         let turn = self.after_batch(gate, index);
         self.batch.clear();
         Ok(turn)
     }
 
-    fn play_line<D: Desk, R: Wait, G: Gate>(
+    /// Plays a line, and says whether its worker goes on.
+    pub fn play_line<D: Desk, R: Wait, G: Gate>(
         &mut self,
         rt: &R,
         gate: &G,
@@ -225,17 +233,29 @@ impl Worker {
         index: usize,
         line: &Line<'_>,
         earlier: &BoundNames,
-    ) -> Result<Turn, NoMemory> {
+    ) -> Result<Turn, NoMemory>
+        ensures made { OnOk result (Play (D.thread desk.old) (line.now ∷ [])
+            (reached (D.made desk.old) self.old.batch.calls.items)
+            (reached (D.made desk.new) self.new.batch.calls.items)) }
+        ensures thread { D.thread desk.new ≡ D.thread desk.old }
+    {
         let number = line.number as usize;
         if gate.before(index, number) == Turn::Stop {
             return Ok(Turn::Stop);
         }
-        if line.more || !self.batch.lines.is_empty() {
+        if line.more || !self.batch.is_empty() {
             return self.play_in_batch(rt, gate, desk, index, line, earlier);
         }
         let answer = self.answer(rt, desk, line, earlier)?;
         self.keep(line.number, line.binds, &answer)?;
         Ok(gate.after(index, number))
+    }
+
+    /// Begins a phase, with no line of a batch.
+    pub fn begin(&mut self)
+        ensures { self.new.batch.calls.items ≡ [] }
+    {
+        self.batch.clear();
     }
 
     /// Plays the lines at these places of a phase, in order, with the names of earlier phases. `index` is the worker's place among all.
@@ -280,8 +300,10 @@ impl Worker {
         }
     }
 
-    /// What its lines answered, which it has no longer then.
-    pub fn take_answers(&mut self, alloc: Global) -> Answers {
-        mem::replace(&mut self.answers, Answers::none(alloc))
+    /// What its lines answered, which it has no longer then, and its thread, where that was given a seat.
+    pub fn take_answers(&mut self, alloc: Global, thread: Option<ObjectId>) -> Answers {
+        let mut answers = mem::replace(&mut self.answers, Answers::none(alloc));
+        answers.thread = thread;
+        answers
     }
 }

@@ -1,0 +1,64 @@
+-- The reads of a run, as its dump tells them.
+use Rattle.std.specs.Prelude.{◌≡◌, ℕ, ◌-◌, ◌≤◌, ◌==◌, ◌||◌, ◌&&◌, not, nat_le, length, take}
+use Rattle.std.specs.Prelude.{Bool, if◌then◌else◌, List, [], ◌∷◌, ◌++◌, Option, Some, None}
+use Rattle.std.specs.Str.{bytes_eq}
+use Rattle.base.specs.declared.ranges.Limits.{Limits}
+use Rattle.histories.specs.Events.{Event}
+use Rattle.histories.specs.History.{state_of}
+use Rattle.kernel_rules.specs.Step.{query_answer}
+use Rattle.kernel_rules.specs.declared.replies.Reply.{Reply}
+use Rattle.syscall_core.specs.Kernel.{kernel_state}
+use Rattle.call_text.specs.Reply.{reply_text}
+use Rattle.dump_text.specs.Whole.{raw_reply}
+use Rattle.dump_text.specs.declared.read_replies.ReadReply.{ReadReply}
+use Rattle.dump_text.specs.declared.tables.PlacedRead.{PlacedRead}
+use Rattle.script_runner.specs.declared.reads.SeenRead.{SeenRead}
+use Rattle.script_runner.specs.declared.replays.Replay.{Replay}
+
+-- a reply as it stands in a dump, where it is printed so without names
+abbrev pub if_printed : List ℕ → Reply → Option ReadReply
+if_printed text reply = if bytes_eq (reply_text [] reply) text then Some (raw_reply reply) else None
+
+-- what the rules answer a read in the state of the events that it had seen, if it was answered so
+abbrev pub right_reply : Limits → List Event → SeenRead → Option ReadReply
+right_reply limits events r =
+    if_printed r.text.items (query_answer (state_of limits (take r.length events)) r.thread r.query)
+
+-- the read with that reply, in a dump whose checkpoint tells the first k events
+abbrev pub told_as : ℕ → SeenRead → Option ReadReply → List PlacedRead
+told_as k r None = []
+told_as k r (Some reply) = record {
+  place = r.length - k;
+  read = record { thread = r.thread; query = r.query; reply = reply };
+} ∷ []
+
+-- a read may come after one of a thread at a place: it had seen more events, or as many and its
+-- thread is no less. It had seen no more than there are
+abbrev pub may_follow : ℕ → ℕ → ℕ → SeenRead → Bool
+may_follow all place thread r =
+    nat_le place r.length
+    && (nat_le r.length all && (not (r.length == place) || nat_le thread r.thread))
+
+-- what the dump tells of reads that may come after one of a thread at a place: those that the rules
+-- answer as the run did
+abbrev pub told_after : Limits → ℕ → List Event → ℕ → ℕ → List SeenRead → List PlacedRead
+told_after limits k events place thread [] = []
+told_after limits k events place thread (r ∷ rs) =
+    if may_follow (length events) place thread r
+    then told_as k r (right_reply limits events r)
+    ++ told_after limits k events r.length r.thread rs
+    else told_after limits k events place thread rs
+
+-- and of all reads that had seen the first k events
+abbrev pub told_reads : Limits → ℕ → List Event → List SeenRead → List PlacedRead
+told_reads limits k events reads = told_after limits k events k 0 reads
+
+-- a replay stands at a place among the events: its kernel is in the state of those before
+pub record Stands (limits : Limits) (events : List Event) (r : Replay) : Type 0 where
+  pub within : r.place ≤ length events
+  pub state : kernel_state r.kernel ≡ state_of limits (take r.place events)
+
+-- what it told, and what is to be told of reads from there on
+abbrev pub told_with : Limits → ℕ → List Event → Replay → List SeenRead → List PlacedRead
+told_with limits k events r reads =
+    r.told.items ++ told_after limits k events r.place r.thread reads
