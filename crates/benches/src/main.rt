@@ -1,9 +1,10 @@
-//! The benches: structures beside std's maps, calls of a kernel by one thread beside a file's, and calls through seats by
-//! several threads. Benches prove nothing: what they print is for who measures.
+//! The benches: structures beside std's maps, calls of a kernel by one thread beside a file's, calls through seats by
+//! several threads, and flows. Benches prove nothing: what they print is for who measures.
 #![tactic(auto)]
 
 mod asked;
 mod files;
+mod hand_overs;
 mod kernel;
 mod seats;
 mod structures;
@@ -28,6 +29,7 @@ fn run<R: Threads + Wait + Clock + Print + Sync + Files<File = File>>(
     match words.get(1) {
         Some(word) if word.as_str() == "calls" => kernel::run(rt, alloc, words),
         Some(word) if word.as_str() == "seats" => seats::run(rt, alloc, words),
+        Some(word) if word.as_str() == "flows" => hand_overs::run(rt, alloc, words),
         _ => structures::run(rt, alloc, words),
     }
 }
@@ -38,6 +40,7 @@ fn main(rt: HostRuntime) -> Result<()> {
         rt.println(structures::USAGE)?;
         rt.println(kernel::USAGE)?;
         rt.println(seats::USAGE)?;
+        rt.println(hand_overs::USAGE)?;
     }
     Ok(())
 }

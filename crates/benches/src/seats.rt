@@ -19,7 +19,7 @@ use desks::{Desk, Others, add_desks, time_all, time_beside};
 use locked::Locked;
 use pauses::{ON_AND_ON, SELDOM};
 use published_copy::{Blank, BootRefusal, Naming, Shared};
-use samples::LIMITS;
+pub use samples::LIMITS;
 use std::alloc::Global;
 use std::fs::File;
 use std::marker::Brand;
