@@ -6,7 +6,7 @@ use Rattle.std.specs.Io.KnownBytes.{Appends}
 use Rattle.std.specs.List.{flat_map}
 use Rattle.base.specs.declared.ids.Category.{Category}
 use Rattle.kernel_rules.specs.State.{State, list_at}
-use Rattle.dot_text.specs.Dots.{opened_at, closed_at, dot_from}
+use Rattle.dot_text.specs.Dots.{opened_at, closed_at, dot_from, arrows_at, arrows_from}
 use Rattle.dot_text.specs.Shown.{IsDot, PrintsDot}
 use Rattle.tree_text.proofs.TextLaws.{all_listed}
 use Rattle.tree_text.specs.Places.{below}
@@ -35,6 +35,25 @@ told_level s reached levels p out lines told end ids i some first listed all mor
     ∙ ap (λ l. out ++ (opened_at s reached p ++ flat_map f l)) listed)
     ∙ append_assoc out (opened_at s reached p ++ flat_map f (list_at s p.id)) (closed_at s p)
     ∙ ap (λ l. out ++ l) (level s reached levels p some)
+
+arrow_level : (s : State) (levels : ℕ) (p : Place) → 0 < levels
+    → arrows_at s p ++ flat_map (λ id. arrows_from s (levels - 1) (below p id)) (list_at s p.id) ≡ arrows_from s levels p
+arrow_level s zero p some = absurd (omega arith)
+arrow_level s (suc n) p some =
+    let less : suc n - 1 ≡ n = omega arith in
+    ap (λ m. arrows_at s p ++ flat_map (λ id. arrows_from s m (below p id)) (list_at s p.id)) less
+
+-- the arrows of all levels were told
+pub told_arrows : (s : State) (levels : ℕ) (p : Place) (out lines told : List ℕ) (ids : List ℕ) (i : ℕ)
+    → 0 < levels → lines ≡ out ++ arrows_at s p → ids ≡ list_at s p.id → length ids ≤ i
+    → told ++ flat_map (λ id. arrows_from s (levels - 1) (below p id)) (drop i ids)
+    ≡ lines ++ flat_map (λ id. arrows_from s (levels - 1) (below p id)) ids
+    → told ≡ out ++ arrows_from s levels p
+told_arrows s levels p out lines told ids i some first listed all more =
+    let f : ℕ → List ℕ = λ id. arrows_from s (levels - 1) (below p id) in
+    all_listed f out (arrows_at s p) lines told ids i first all more
+    ∙ ap (λ l. out ++ (arrows_at s p ++ flat_map f l)) listed
+    ∙ ap (λ l. out ++ l) (arrow_level s levels p some)
 
 -- the graph of all that was read was printed
 pub printed_dot : (remaining old new : Option (List ℕ)) (flow : Option (ℕ × Category)) (read given : List ℕ) (told : Vec ℕ)

@@ -2,7 +2,8 @@
 use Rattle.std.specs.Prelude.{ℕ, List, [], ◌++◌, codes, zero, suc}
 use Rattle.std.specs.List.{flat_map}
 use Rattle.kernel_rules.specs.State.{State, object_at, of_object, list_at, quota_at}
-use Rattle.dot_text.specs.Nodes.{open_text, close_text}
+use Rattle.kernel_rules.specs.declared.objects.Object.{Object}
+use Rattle.dot_text.specs.Nodes.{open_text, close_text, body_arrows}
 use Rattle.tree_text.specs.Places.{root, below}
 use Rattle.tree_text.specs.declared.places.Place.{Place}
 
@@ -19,7 +20,18 @@ dot_from s reached zero p = []
 dot_from s reached (suc levels) p =
     opened_at s reached p ++ flat_map (λ id. dot_from s reached levels (below p id)) (list_at s p.id) ++ closed_at s p
 
+-- the arrows from what stands at a place
+abbrev pub arrows_at : State → Place → List ℕ
+arrows_at s p = of_object [] (λ (x : Object). body_arrows p x.body) (object_at s p.id)
+
+-- Those of so many levels from a place on. They stand after all clusters: Graphviz takes a node into each cluster that names it.
+abbrev pub arrows_from : State → ℕ → Place → List ℕ
+arrows_from s zero p = []
+arrows_from s (suc levels) p =
+    arrows_at s p ++ flat_map (λ id. arrows_from s levels (below p id)) (list_at s p.id)
+
 -- the whole graph, which has as many levels as the tree
 abbrev pub dot_text : State → List ℕ → List ℕ
 dot_text s reached =
-    codes "digraph dump {\nnode [shape=box];\n" ++ dot_from s reached (quota_at s 1) root ++ codes "}\n"
+    codes "digraph dump {\nnode [shape=box];\n" ++ dot_from s reached (quota_at s 1) root
+    ++ arrows_from s (quota_at s 1) root ++ codes "}\n"

@@ -42,7 +42,7 @@ node_line s reached p x =
 
 -- an arrow to what an entry names
 abbrev pub arrow_text : Place → Entry → List ℕ
-arrow_text p e = indent p.depth ++ node_name p.container p.id ++ codes " -> " ++ node_name e.container e.object
+arrow_text p e = node_name p.container p.id ++ codes " -> " ++ node_name e.container e.object
 
 -- an arrow for each filled slot, the first of which has this number
 abbrev pub slot_arrow : Place → ℕ → Option Mapping → List ℕ
@@ -78,7 +78,7 @@ cluster_text s reached p x = cluster_begin p ++ attributes s reached p x ++ unse
 -- what stands of an object before what it lists, and after it
 abbrev pub open_text : State → List ℕ → Place → Object → List ℕ
 open_text s reached p x =
-    if is_kind kinds.Container x then cluster_text s reached p x else node_line s reached p x ++ body_arrows p x.body
+    if is_kind kinds.Container x then cluster_text s reached p x else node_line s reached p x
 
 abbrev pub close_text : Place → Object → List ℕ
 close_text p x = if is_kind kinds.Container x then indent p.depth ++ codes "}\n" else []

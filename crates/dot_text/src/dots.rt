@@ -1,11 +1,11 @@
 //! The graph.
 ghost use Rattle.std.specs.Prelude.{◌≡◌, ◌++◌, ◌+◌, ◌^◌, ◌<◌, IfErr, IfOk, OnOk};
-ghost use Rattle.dot_text.specs.Dots.{opened_at, closed_at, dot_from, dot_text};
+ghost use Rattle.dot_text.specs.Dots.{opened_at, closed_at, dot_from, arrows_at, arrows_from, dot_text};
 ghost use Rattle.dot_text.specs.Shown.{IsRed, IsDot};
 ghost use Rattle.plain_state.specs.StateOf.{state_of};
 
 use crate::faults::DotFault;
-use crate::nodes::{put_closed, put_opened};
+use crate::nodes::{put_arrows, put_closed, put_opened};
 use base::{Category, Meter, NoMemory, ObjectId};
 use clean_dumps::DumpFault;
 use plain_state::PlainState;
@@ -65,6 +65,37 @@ fn put_dot(
     Ok(())
 }
 
+/// Adds the arrows from what stands at a place.
+fn put_arrows_at(out: &mut Vec<u8>, state: &PlainState, place: &Place) -> Result<(), NoMemory>
+    ensures { OnOk result (out.new.items ≡ out.old.items ++ arrows_at (state_of state.now) place.now) }
+{
+    match state.object(place.id) {
+        None => Ok(()),
+        Some(object) => put_arrows(out, place, &object.body),
+    }
+}
+
+/// Adds the arrows of so many levels of the graph from a place on.
+fn put_all_arrows(
+    out: &mut Vec<u8>,
+    state: &PlainState,
+    levels: u32,
+    place: &Place,
+) -> Result<(), NoMemory>
+    requires { place.now.depth + levels < 2 ^ 62 }
+    ensures { OnOk result (out.new.items
+        ≡ out.old.items ++ arrows_from (state_of state.now) levels place.now) }
+{
+    if levels == 0 {
+        return Ok(());
+    }
+    put_arrows_at(out, state, place)?;
+    for id in state.list(place.id) {
+        put_all_arrows(out, state, levels - 1, &place.below(*id))?;
+    }
+    Ok(())
+}
+
 /// The graph of a state, in which these objects are reached.
 fn dot_of(state: &PlainState, reached: &[ObjectId]) -> Result<Vec<u8>, NoMemory>
     ensures { IfOk result (λ text. text.items ≡ dot_text (state_of state.now) reached.now) }
@@ -81,6 +112,7 @@ fn dot_of(state: &PlainState, reached: &[ObjectId]) -> Result<Vec<u8>, NoMemory>
         &Place::root(),
         &mut meter,
     )?;
+    put_all_arrows(&mut text, state, levels, &Place::root())?;
     text.extend_from_slice(b"}\n")?;
     Ok(text)
 }

@@ -122,7 +122,6 @@ fn put_node(
 fn put_arrow(out: &mut Vec<u8>, place: &Place, entry: &Entry) -> Result<(), NoMemory>
     ensures { OnOk result (out.new.items ≡ out.old.items ++ arrow_text place.now entry.now) }
 {
-    put_indent(out, place.depth)?;
     put_name(out, place.container, place.id)?;
     out.extend_from_slice(b" -> ")?;
     put_name(out, entry.container, entry.object)
@@ -178,8 +177,8 @@ fn put_space_arrow(out: &mut Vec<u8>, place: &Place, space: &Entry) -> Result<()
     Ok(())
 }
 
-/// Adds the arrows from an object.
-fn put_arrows(out: &mut Vec<u8>, place: &Place, body: &Body) -> Result<(), NoMemory>
+/// Adds the arrows from an object. The error is want of memory.
+pub fn put_arrows(out: &mut Vec<u8>, place: &Place, body: &Body) -> Result<(), NoMemory>
     ensures { OnOk result (out.new.items ≡ out.old.items ++ body_arrows place.now body.now) }
 {
     match body {
@@ -245,8 +244,7 @@ pub fn put_opened(
     if kind_of(object) == Kind::Container {
         return put_cluster(out, state, reached, place, object, meter);
     }
-    put_node(out, state, reached, place, object, meter)?;
-    put_arrows(out, place, &object.body)
+    put_node(out, state, reached, place, object, meter)
 }
 
 /// Adds what stands of an object after what it lists. The error is want of memory.

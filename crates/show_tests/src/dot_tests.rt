@@ -23,13 +23,14 @@ const MAPPED_DOT: &str = concat!(
     "digraph dump {\nnode [shape=box];\n",
     "subgraph cluster_1 { graph [label=\"#1 container,\\nlabel {1},\\nquota 64,\\nused 16\", color=black]; c1 [style=invis];\n",
     "  o1_2 [label=\"#2 thread,\\nlabel {1},\\nclearance label {2},\\nspace #4 #6,\\nquota 1,\\nused 1\", color=black];\n",
-    "  o1_2 -> o4_6 [style=dashed];\n",
     "  o1_3 [label=\"#3 device,\\nlabel {1},\\nquota 2,\\nused 2\", color=black];\n",
     "  subgraph cluster_4 { graph [label=\"#4 container,\\nlabel {1},\\nquota 12,\\nused 4\", color=black]; c4 [style=invis];\n",
     "    o4_5 [label=\"#5 segment,\\nlabel {1},\\nquota 2,\\nused 2\", color=black];\n",
     "    o4_6 [label=\"#6 address space,\\nlabel {1},\\nquota 1,\\nused 1\", color=black];\n",
-    "    o4_6 -> o4_5 [label=\"slot 3\"];\n",
-    "  }\n}\n}\n",
+    "  }\n}\n",
+    "o1_2 -> o4_6 [style=dashed];\n",
+    "o4_6 -> o4_5 [label=\"slot 3\"];\n",
+    "}\n",
 );
 
 /// The clean dump of a run that made a segment.
