@@ -47,19 +47,19 @@ ends() {
 
 # Ends where the words ask for a file to be written, or for the auditor, which reads one of any size.
 needs_no_file() {
-    [ "$crate" = histar ] || ends 78 'this needs the proved program, which ./prove builds'
+    [ "$crate" = histar ] || [ "$crate" = histar_check ] || ends 78 'this needs the proved program, which ./prove builds'
     for word; do
         case $word in --dump | --dump=*) ends 78 '--dump needs the proved program, which ./prove builds' ;; esac
     done
 }
 
-# Where the script stands among the words after `run`: the number of the first that is neither an option nor its value.
+# Where the script stands among the words after `run` or `check`: the number of the first that is neither an option nor its value.
 place_of_script() {
     place=0 is_value=
     for word; do
         place=$((place + 1))
         case $is_value$word in
-            run) [ "$place" -gt 1 ] || continue ;;
+            run | check) [ "$place" -gt 1 ] || continue ;;
             -- | --*=*) continue ;;
             --help | -h | --version | -V) continue ;;
             -*) is_value=value && continue ;;

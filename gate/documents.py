@@ -5,7 +5,7 @@ import difflib
 from gate.plays import ran, text
 
 MARGIN = "    "
-FILES = ["docs/SHOW.md", "docs/COOKBOOK.md"]
+FILES = ["docs/CHECK.md", "docs/SHOW.md", "docs/COOKBOOK.md"]
 
 
 def commands_in(document):

@@ -40,6 +40,8 @@ FAULTS = [
     Fault("./histar", ["run", "faulty", "--dump", "dump"], 1, "histar: line 1: script fault\n"),
     Fault("./histar", ["run", "script", "--dump", "dump"], 3, "histar: output fault\n", out="/dev/full"),
     Fault("./histar", ["run", "script", "--dump", "nowhere/dump"], 3, "histar: output fault\n"),
+    Fault("./histar", ["check", "nothing"], 3, "histar-check: input fault\n"),
+    Fault("./histar", ["check", "faulty"], 3, "histar-check: output fault\n", out="/dev/full"),
     Fault("./histar-audit", ["nothing"], 3, "histar-audit: input fault\n"),
     Fault("./histar-audit", ["dump"], 3, "histar-audit: output fault\n", out="/dev/full"),
     Fault("./histar-audit", ["old", "--migrate", "nowhere/new"], 3, "histar-audit: output fault\n"),

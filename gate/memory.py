@@ -108,12 +108,15 @@ def program_case(program, words):
 def program_cases(tree, room):
     """A whole run with its dump, the audit of that dump, what is shown of it, and words that are asked for help or wrong."""
     script, dump = os.path.abspath("examples/by_entry.histar"), f"{room}/by_entry.dump"
-    histar, audit, show = (f"{tree}/crates/{it}/out/{it}" for it in ("histar", "histar_audit", "histar_show"))
+    histar, check, audit, show = (f"{tree}/crates/{it}/out/{it}" for it in ("histar", "histar_check", "histar_audit", "histar_show"))
     subprocess.run([histar, "run", script, "--dump", dump], check=True, stdout=subprocess.DEVNULL)
     yield program_case(histar, ["run", script, "--dump", "dump"])
     yield program_case(histar, ["run", script, "--dump", "dump", "--checkpoint", "3"])
     yield program_case(histar, ["run", script, "--pages", "7"])
     yield program_case(histar, ["--help"])
+    yield program_case(check, ["check", script])
+    yield program_case(check, ["check", os.path.abspath("examples/checks/fault.histar")])
+    yield program_case(check, ["check", "--help"])
     yield program_case(audit, [dump])
     yield program_case(audit, [dump, "--from", "1", "--category", "2"])
     yield program_case(audit, [dump, "--from", "1"])

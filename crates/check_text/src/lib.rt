@@ -1,0 +1,15 @@
+//! What `histar check` prints of a script: why its first faulty line is faulty, at which column, and what is expected
+//! there; or the warnings of a script that can be played, in the order of its lines. It promises exactly this text. The
+//! words of the command line are left to others.
+#![tactic(auto)]
+
+mod checks;
+mod fault_texts;
+mod lines;
+mod places;
+mod program;
+mod reasons;
+mod warning_texts;
+
+pub use checks::check;
+pub use program::{NAME, check_on};

@@ -1,0 +1,3 @@
+mod LineLaws
+mod NameLaws
+mod PhaseLaws
