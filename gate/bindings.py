@@ -133,7 +133,7 @@ class Bindings:
             self.leave_out(f"{name}: random scripts", "./histar is not built")
             return
         differing = [seed for seed in SEEDS if self.differs(player, seed)]
-        what = f"{name}: {len(SEEDS)} random scripts print what ./histar prints, leave the tables of its dump, and dump what it dumps"
+        what = f"{name}: {len(SEEDS)} random scripts print what ./histar prints, leave the tables of its dump, and dump what it dumps but reads"
         self.report.counts(not differing, what + but_not(differing))
 
     def differs(self, player, seed):
@@ -149,12 +149,14 @@ class Bindings:
         return file
 
     def proved(self, seed):
-        """How the proved program ends with a random script, what it prints, with the tables of its dump, and the dump."""
+        """How the proved program ends with a random script, what it prints, with the tables of its dump, and the dump but its reads:
+        a log has none."""
         if seed not in self.kept:
             words = [self.histar, "run", self.random_script(seed), *RANDOM_WORDS]
             status, said, dump = ran_dumping(f"{self.room}/dump", *words)
-            tables = "".join(it for it in dump.decode().splitlines(keepends=True) if it.startswith(TABLES))
-            self.kept[seed] = status, said + tables, dump
+            lines = dump.decode().splitlines(keepends=True)
+            tables = "".join(it for it in lines if it.startswith(TABLES))
+            self.kept[seed] = status, said + tables, "".join(it for it in lines if not it.startswith("read ")).encode()
         return self.kept[seed]
 
     def is_told(self, compiler, header):

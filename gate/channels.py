@@ -2,7 +2,7 @@
 that the thread t does not observe. The rows of the table in docs/CHANNELS.md that begin with a script's name tell the last reply of
 each of the two plays; all other replies to other threads than h are the same in both. Each script has its row. The auditor, asked
 for what is hidden from {1}, tells the two replies of the dump of the first play, and the channel that the row is excepted as. It
-tells nothing where both are the same, or where the last call is a query, which no dump has."""
+tells nothing where both are the same, or of a query."""
 import glob
 import os
 import re
