@@ -3,6 +3,7 @@
 A crate is one task, so all cores are at work as long as crates are left that do not wait for each other. A large crate that
 nothing else waits beside gets a job for each core that is idle. A start that is interrupted ends with all its processes; what
 it built stays, and the next start goes on there."""
+import contextlib
 import fcntl
 import os
 import shutil
@@ -25,11 +26,37 @@ WRONG_WORDS, NO_RT, NOT_PROVED, NO_ROOM, AT_WORK = 2, 69, 70, 73, 75
 WANTED, FULL = 3000, 200
 # The seconds of a crate's check for which one more job pays its start.
 WORTH_A_JOB = 60
+# One thread alone ends a start.
+ENDING = threading.RLock()
+
+
+def is_guarded(process):
+    """Whether a process that was started has joined the group that rt's guard ends, or is gone."""
+    try:
+        return os.getpgid(process) != os.getpgrp()
+    except ProcessLookupError:
+        return True
+
+
+def not_yet_guarded():
+    """The processes that this one's threads started and that rt's guard would not end yet."""
+    found = []
+    for thread in os.listdir("/proc/self/task"):
+        with contextlib.suppress(OSError), open(f"/proc/self/task/{thread}/children", encoding="utf-8") as children:
+            found += map(int, children.read().split())
+    return {it for it in found if not is_guarded(it)}
 
 
 def end(status, text):
-    """Says why it ends, and ends at once. rt's guard then ends each process that was started."""
+    """Says why it ends, and ends at once, with each process that was started: rt's guard ends those in its group."""
+    ENDING.acquire()  # and never gives it back: a thread whose process ends here has nothing to say
     print(f"prove: {text}", file=sys.stderr, flush=True)
+    ended = set()
+    while found := not_yet_guarded() - ended:
+        for it in found:
+            with contextlib.suppress(ProcessLookupError):
+                os.kill(it, signal.SIGKILL)
+        ended |= found
     os._exit(status)
 
 
