@@ -10,8 +10,10 @@ use Rattle.label_lattice.specs.Order.{Levels, Leq, levels, join, up, IsOutside, 
 use Rattle.label_lattice.proofs.OrderLemmas.{leq_test-Leq, IsDescribed-levels, IsDescribed-up, IsDescribed-down, IsDescribed-join}
 use Rattle.label_lattice.proofs.OrderLemmas.{IsOutside-append_left, IsOutside-append_right, above_all, IsOutside-above_all}
 use Rattle.label_lattice.proofs.WalkLemmas.{and_parts, and_both}
-use Rattle.explained.specs.Sides.{left, right, compares, is_of_three, exceptions}
-use Rattle.explained.specs.Failing.{failure_at, put, looked, fails_at, gathered, failing, failing_rest}
+use Rattle.base.specs.Level.{rank_of}
+use Rattle.explained.specs.Sides.{left, right, left_rank, right_rank, compares, is_of_three, exceptions}
+use Rattle.explained.specs.Ranks.{rank_at}
+use Rattle.explained.specs.Failing.{failure_at, failing_sides, ranks_of, put, looked, fails_at, gathered, failing, failing_rest}
 use Rattle.explained.specs.Laws.{IsPast, IsRising, Fails, AllFail, names, IsExact, is_nil}
 use Rattle.explained.specs.declared.failing.Failure.{Failure}
 use Rattle.explained.specs.declared.failing.Ranks.{Ranks}
@@ -168,7 +170,7 @@ right-described AboveFloor a b c = IsDescribed-levels c
 at_rest : (a : Levels) → IsDescribed a → (c : ℕ) → IsOutside c a.points → a.at c ≡ a.rest
 at_rest a h c out = h.outside c out
 
-rest_of : (l r : Levels) → nat_lt r.rest l.rest ≡ true → failing_rest l r ≡ Some (record { left = l.rest; right = r.rest })
+rest_of : (l r : Levels) → nat_lt r.rest l.rest ≡ true → failing_rest l r ≡ Some (ranks_of l.rest r.rest)
 rest_of l r h = rw h refl
 
 no_rest : (l r : Levels) → nat_lt r.rest l.rest ≡ false → failing_rest l r ≡ None
@@ -198,14 +200,15 @@ exact l r dl dr = record {
       let at_r : r.at c ≡ r.rest = dr.outside c (IsOutside-append_right c l.points r.points out) in (
         λ fails.
             let lt : r.rest < l.rest = omega (arith, fails, at_l, at_r) in
-            is_some_at (failing_rest l r) (record { left = l.rest; right = r.rest }) (rest_of l r (lt_tests r.rest l.rest lt)),
+            is_some_at (failing_rest l r) (ranks_of l.rest r.rest) (rest_of l r (lt_tests r.rest l.rest lt)),
         λ some. let lt : r.rest < l.rest = none_fails l r some in omega (arith, lt, at_l, at_r),
       );
   ranks = λ c out.
       let at_l : l.at c ≡ l.rest = dl.outside c (IsOutside-append_left c l.points r.points out) in
       let at_r : r.at c ≡ r.rest = dr.outside c (IsOutside-append_right c l.points r.points out) in
-      by_test (λ o. IfSome o (λ told. (told.left ≡ l.at c) × (told.right ≡ r.at c))) (nat_lt r.rest l.rest)
-      (Some (record { left = l.rest; right = r.rest })) None (λ _. (sym at_l, sym at_r)) (λ _. tt);
+      by_test (λ o. IfSome o (λ told. (told.left ≡ rank_at (l.at c)) × (told.right ≡ rank_at (r.at c))))
+      (nat_lt r.rest l.rest) (Some (ranks_of l.rest r.rest)) None
+      (λ _. (ap rank_at (sym at_l), ap rank_at (sym at_r))) (λ _. tt);
 }
 
 pub failing_is_exact : (relation : Relation) (a b c : LabelValue)
@@ -301,6 +304,17 @@ failing_made relation a b c x y f0 f1 f2 f3 ex ey e0 e1 e2 e3 =
     let at2 : f2 ≡ gathered l r (exceptions b) (gathered l r (exceptions a) []) = e2 ∙ rw (ey, at1) refl in
     e3 ∙ ap (λ f. cond (is_of_three relation) (gathered l r (exceptions c) f) f) at2
     ∙ sym (points_of relation a b c [] l r)
+
+pub rest_by_defaults : (relation : Relation) (a b c : LabelValue)
+    → failing_sides (left_rank relation (rank_of a.default_level) (rank_of b.default_level))
+    (right_rank relation (rank_of b.default_level) (rank_of c.default_level))
+    ≡ failing_rest (left relation a b c) (right relation a b c)
+rest_by_defaults Below a b c = refl
+rest_by_defaults Visible a b c = refl
+rest_by_defaults Shown a b c = refl
+rest_by_defaults BelowJoin a b c = refl
+rest_by_defaults BelowJoinUp a b c = refl
+rest_by_defaults AboveFloor a b c = refl
 
 pub exact_told : (relation : Relation) (a b c : LabelValue) (fs : List Failure) (rest : Option Ranks)
     → fs ≡ failing (left relation a b c) (right relation a b c)

@@ -1,14 +1,23 @@
 -- The categories at which a comparison fails.
 use Rattle.std.specs.Prelude.{ℕ, ◌==◌, ◌++◌, Bool, nat_lt, List, [], ◌∷◌, Option, Some, None, if◌then◌else◌}
 use Rattle.label_lattice.specs.Order.{Levels}
+use Rattle.explained.specs.Ranks.{rank_at}
 use Rattle.explained.specs.declared.failing.Failure.{Failure}
 use Rattle.explained.specs.declared.failing.Ranks.{Ranks}
+
+-- what either side has, by its number
+abbrev pub ranks_of : ℕ → ℕ → Ranks
+ranks_of left right = record { left = rank_at left; right = rank_at right }
+
+-- where the left side is above the other
+abbrev pub failing_sides : ℕ → ℕ → Option Ranks
+failing_sides left right = if nat_lt right left then Some (ranks_of left right) else None
 
 -- a category with what either side has there
 abbrev pub failure_at : Levels → Levels → ℕ → Failure
 failure_at l r c = record {
   category = record { 0 = c };
-  ranks = record { left = l.at c; right = r.at c };
+  ranks = ranks_of (l.at c) (r.at c);
 }
 
 -- a failure in its place by rising categories, unless its category stands there already
@@ -38,5 +47,4 @@ failing l r = gathered l r (l.points ++ r.points) []
 -- what either side has at each category that is no exception, where the comparison fails there: then
 -- it fails for all categories but finitely many
 abbrev pub failing_rest : Levels → Levels → Option Ranks
-failing_rest l r =
-    if nat_lt r.rest l.rest then Some (record { left = l.rest; right = r.rest }) else None
+failing_rest l r = failing_sides l.rest r.rest

@@ -14,6 +14,7 @@ use Rattle.label_lattice.specs.Label.{LabelValue}
 use Rattle.label_lattice.specs.Order.{Levels, IsOutside}
 use Rattle.explained.specs.Sides.{left, right, compares}
 use Rattle.explained.specs.Failing.{failing, failing_rest}
+use Rattle.explained.specs.Ranks.{rank_at}
 use Rattle.explained.specs.declared.failing.Failure.{Failure}
 use Rattle.explained.specs.declared.failing.Ranks.{Ranks}
 use Rattle.explained.specs.declared.relations.Relation.{Relation}
@@ -30,8 +31,8 @@ IsRising (f ∷ fs) = IsPast f.category.0 fs × IsRising fs
 
 -- at a category, the left side is above the right one, and these are the two
 pub record Fails (l r : Levels) (f : Failure) : Type 0 where
-  pub left : f.ranks.left ≡ l.at f.category.0
-  pub right : f.ranks.right ≡ r.at f.category.0
+  pub left : f.ranks.left ≡ rank_at (l.at f.category.0)
+  pub right : f.ranks.right ≡ rank_at (r.at f.category.0)
   pub above : r.at f.category.0 < l.at f.category.0
 
 -- at each category of the list
@@ -51,7 +52,7 @@ pub record IsExact (l r : Levels) (fs : List Failure) (rest : Option Ranks) : Ty
   pub all : (c : ℕ) → r.at c < l.at c → IsTrue (names fs c) ⊎ IsOutside c (l.points ++ r.points)
   pub inside : (c : ℕ) → IsOutside c (l.points ++ r.points) → (r.at c < l.at c) ↔ IsSome rest
   pub ranks : (c : ℕ) → IsOutside c (l.points ++ r.points)
-      → IfSome rest (λ told. (told.left ≡ l.at c) × (told.right ≡ r.at c))
+      → IfSome rest (λ told. (told.left ≡ rank_at (l.at c)) × (told.right ≡ rank_at (r.at c)))
 
 -- what `failing` and `failing_rest` tell is exact
 abbrev pub FailingIsExact : Type 0

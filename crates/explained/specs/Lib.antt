@@ -1,3 +1,4 @@
+pub mod Ranks
 pub mod Sides
 pub mod Failing
 pub mod Parts

@@ -3,22 +3,22 @@ ghost use Rattle.std.specs.Prelude.{◌≡◌, ◌&&◌, OnOk, IfOk, is_none, ma
 ghost use Rattle.base.specs.Level.{rank_of};
 ghost use Rattle.label_lattice.specs.Label.{level};
 ghost use Rattle.label_lattice.specs.Order.{Levels};
-ghost use Rattle.explained.specs.Sides.{left, right, compares, is_of_three, exceptions};
+ghost use Rattle.explained.specs.Sides.{left, right, left_rank, right_rank, compares, is_of_three, exceptions};
 ghost use Rattle.explained.specs.Laws.{IsExact, is_nil};
-ghost use Rattle.explained.specs.Failing.{failure_at, put, looked, gathered, failing, failing_rest};
+ghost use Rattle.explained.specs.Failing.{failure_at, failing_sides, put, looked, gathered, failing, failing_rest};
 
-use crate::relations::Relation;
+use crate::relations::{Rank, Relation};
 use base::{Category, Level, Meter, NoMemory};
 use label_lattice::{Label, Pairs};
 use std::alloc::Global;
 
-/// What either side of a comparison has: 0 for star, 1 to 4 for the levels 0 to 3, 5 for J.
+/// What either side of a comparison has.
 #[derive(Clone, Copy, PartialEq, Eq, Debug)]
 pub struct Ranks {
     /// What was to be at most the other.
-    pub left: u8,
+    pub left: Rank,
     /// The other.
-    pub right: u8,
+    pub right: Rank,
 }
 
 /// A category at which a comparison fails.
@@ -67,8 +67,31 @@ struct Compared<'a> {
     third: &'a Label,
 }
 
+/// The numbers of what either side has at a category.
+#[derive(Clone, Copy)]
+struct Sides {
+    left: u8,
+    right: u8,
+}
+
+impl Sides {
+    /// What either side has, where the left one is above the other.
+    fn failing(self) -> Option<Ranks>
+        ensures { result ≡ failing_sides self.left self.right }
+    {
+        if self.right < self.left {
+            Some(Ranks {
+                left: Rank::at(self.left),
+                right: Rank::at(self.right),
+            })
+        } else {
+            None
+        }
+    }
+}
+
 /// What either side has at a category.
-fn ranks_at(compared: &Compared, category: Category, meter: &mut Meter) -> Ranks
+fn sides_at(compared: &Compared, category: Category, meter: &mut Meter) -> Sides
     ensures left { result.left ≡ (left compared.now.relation compared.now.first.now
         compared.now.second.now compared.now.third.now).at category.0 }
     ensures right { result.right ≡ (right compared.now.relation compared.now.first.now
@@ -77,7 +100,7 @@ fn ranks_at(compared: &Compared, category: Category, meter: &mut Meter) -> Ranks
     let first = compared.first.level(category, meter).rank();
     let second = compared.second.level(category, meter).rank();
     let third = compared.third.level(category, meter).rank();
-    Ranks {
+    Sides {
         left: compared.relation.left(first, second),
         right: compared.relation.right(second, third),
     }
@@ -97,8 +120,7 @@ fn look(
         compared.now.third.now)
         category.0 found.old.items) }
 {
-    let ranks = ranks_at(compared, category, meter);
-    if ranks.right < ranks.left {
+    if let Some(ranks) = sides_at(compared, category, meter).failing() {
         put(found, Failure { category, ranks })?;
     }
     Ok(())
@@ -143,6 +165,17 @@ fn gather_third(
     Ok(())
 }
 
+/// What either side has at the categories that no label names, by the labels' defaults.
+fn default_sides(relation: Relation, a: Level, b: Level, c: Level) -> Sides
+    ensures left { result.left ≡ left_rank relation (rank_of a) (rank_of b) }
+    ensures right { result.right ≡ right_rank relation (rank_of b) (rank_of c) }
+{
+    Sides {
+        left: relation.left(a.rank(), b.rank()),
+        right: relation.right(b.rank(), c.rank()),
+    }
+}
+
 /// Where the labels' defaults fail the comparison, what either side has.
 fn rest_of(compared: &Compared, a: Level, b: Level, c: Level) -> Option<Ranks>
     requires first { a ≡ compared.now.first.now.default_level }
@@ -154,13 +187,7 @@ fn rest_of(compared: &Compared, a: Level, b: Level, c: Level) -> Option<Ranks>
         (right compared.now.relation compared.now.first.now compared.now.second.now
         compared.now.third.now) }
 {
-    let left = compared.relation.left(a.rank(), b.rank());
-    let right = compared.relation.right(b.rank(), c.rank());
-    if right < left {
-        Some(Ranks { left, right })
-    } else {
-        None
-    }
+    default_sides(compared.relation, a, b, c).failing()
 }
 
 /// Where a comparison of labels fails: all categories at which it does and no other. Where the

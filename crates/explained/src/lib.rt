@@ -32,4 +32,4 @@ pub use laws::{
     least_is_the_refusal, none_holds_where_accepted,
 };
 pub use parts::{Comparison, Finding, Part, Parts};
-pub use relations::Relation;
+pub use relations::{Rank, Relation};

@@ -1,11 +1,44 @@
 //! How labels are compared.
 ghost use Rattle.std.specs.Prelude.{◌≡◌, ◌≤◌};
 ghost use Rattle.label_lattice.specs.Rule.{up_rank, down_rank};
+ghost use Rattle.explained.specs.Ranks.{rank_at};
 ghost use Rattle.explained.specs.Sides.{left_rank, right_rank, is_of_three};
 
+/// What a side of a comparison has at a category, from the least to the greatest.
+#[derive(Clone, Copy, PartialEq, Eq, Debug)]
+pub enum Rank {
+    /// Ownership, below all levels.
+    Star,
+    /// Level 0.
+    L0,
+    /// Level 1.
+    L1,
+    /// Level 2.
+    L2,
+    /// Level 3.
+    L3,
+    /// A star that is raised above all levels (HiStar, OSDI 2006).
+    J,
+}
+
+impl Rank {
+    /// The rank of a number, as comparisons count: 0 for star, 1 to 4 for the levels 0 to 3, 5 for J.
+    pub(crate) fn at(number: u8) -> Rank
+        ensures { result ≡ rank_at number }
+    {
+        match number {
+            0 => Rank::Star,
+            1 => Rank::L0,
+            2 => Rank::L1,
+            3 => Rank::L2,
+            4 => Rank::L3,
+            _ => Rank::J,
+        }
+    }
+}
+
 /// What a comparison asks of two or three labels: that one side is at most the other at each
-/// category. A rank is 0 for star, 1 to 4 for the levels 0 to 3, and 5 for J, a star that is
-/// raised above all levels (HiStar, OSDI 2006).
+/// category (HiStar, OSDI 2006).
 #[derive(Clone, Copy, PartialEq, Eq, Debug)]
 pub enum Relation {
     /// The first label is at most the second.

@@ -1,6 +1,8 @@
 //! Refusals on a booted kernel, and what is told of each.
 use base::{Level, Meter, NoMemory, ObjectId, Refusal};
-use explained::{Comparison, Failing, Finding, Part, explain, explain_query, refusal_among};
+use explained::{
+    Comparison, Failing, Finding, Part, Rank, Ranks, explain, explain_query, refusal_among,
+};
 use kernel_calls::{ask, step};
 use kernel_rules::{Call, Mapping, NewAddressSpace, Query};
 use label_lattice::RawLabel;
@@ -84,7 +86,7 @@ fn a_secret_is_kept_by_its_category(rt: HostRuntime) -> Result<(), Fail> {
     let failure = failing.named[0];
     assert_eq!(rt;
         (failure.category.0, failure.ranks.left, failure.ranks.right),
-        (1, 4, 2)
+        (1, Rank::L3, Rank::L1)
     );
     Ok(())
 }
@@ -107,7 +109,13 @@ fn a_label_too_high_fails_at_all_but_few_categories(rt: HostRuntime) -> Result<(
         return Ok(());
     };
     assert!(rt; failing.named.is_empty());
-    assert!(rt; matches!(failing.rest, Some(ranks) if ranks.left == 4 && ranks.right == 3));
+    assert_eq!(rt;
+        failing.rest,
+        Some(Ranks {
+            left: Rank::L3,
+            right: Rank::L2
+        })
+    );
     Ok(())
 }
 

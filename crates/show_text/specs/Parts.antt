@@ -11,6 +11,8 @@ use Rattle.explained.specs.Compared.{sides, named_of, rest_of}
 use Rattle.explained.specs.Parts.{is_against, refuses}
 use Rattle.explained.specs.declared.failing.Failure.{Failure}
 use Rattle.explained.specs.declared.failing.Ranks.{Ranks}
+use Rattle.explained.specs.declared.relations.Rank.{Rank}
+use Rattle.explained.specs.declared.relations.Rank.TheVariants.{Star, L0, L1, L2, L3, J}
 use Rattle.explained.specs.declared.parts.Comparison.{Comparison}
 use Rattle.explained.specs.declared.parts.Comparison.TheVariants as compared
 use Rattle.explained.specs.declared.parts.Finding.{Finding}
@@ -28,9 +30,13 @@ abbrev pub mapping_text : Option Mapping → List ℕ
 mapping_text mapping = reply_text [] (replies.Mapping mapping)
 
 -- a rank as a level: * below all, 0 to 3, and J, a star that is raised above all
-abbrev pub rank_text : ℕ → List ℕ
-rank_text rank =
-    if rank == 0 then codes "*" else if rank == 5 then codes "J" else decimal (rank - 1)
+abbrev pub rank_text : Rank → List ℕ
+rank_text Star = codes "*"
+rank_text L0 = codes "0"
+rank_text L1 = codes "1"
+rank_text L2 = codes "2"
+rank_text L3 = codes "3"
+rank_text J = codes "J"
 
 -- what is to be so of labels
 abbrev pub comparison_text : Comparison → List ℕ

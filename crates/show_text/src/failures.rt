@@ -6,18 +6,23 @@ ghost use Rattle.explained.specs.Compared.{sides, named_of, rest_of};
 ghost use Rattle.show_text.specs.Parts.{rank_text, ranks_text, failure_text, named_text, rest_text, failing_text};
 
 use base::{Meter, NoMemory};
-use explained::{Comparison, Failing, Failure, Part, Ranks};
+use explained::{Comparison, Failing, Failure, Part, Rank, Ranks};
 use text_words::put_number;
 
 /// Adds a rank as a level.
-fn put_rank(out: &mut Vec<u8>, rank: u8) -> Result<(), NoMemory>
+fn put_rank(out: &mut Vec<u8>, rank: Rank) -> Result<(), NoMemory>
     ensures { OnOk result (out.new.items ≡ out.old.items ++ rank_text rank) }
 {
-    match rank {
-        0 => Ok(out.extend_from_slice(b"*")?),
-        5 => Ok(out.extend_from_slice(b"J")?),
-        rank => Ok(put_number(out, u64::from(rank - 1))?),
-    }
+    let letter = match rank {
+        Rank::Star => b'*',
+        Rank::L0 => b'0',
+        Rank::L1 => b'1',
+        Rank::L2 => b'2',
+        Rank::L3 => b'3',
+        Rank::J => b'J',
+    };
+    out.push(letter)?;
+    Ok(())
 }
 
 /// Adds the level that is too high, and the one that it is to be at most.
