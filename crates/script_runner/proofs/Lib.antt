@@ -1,4 +1,6 @@
 pub mod LineLaws
+pub mod NumberLaws
+pub mod OutputLaws
 pub mod NameLemmas
 pub mod PhaseLaws
 pub mod Plays

@@ -1,5 +1,5 @@
 -- Phases, one after another.
-use Rattle.std.proofs.Common.{◌≡◌, ℕ, zero, suc, ◌+◌, true, List, [], ◌∷◌, ◌++◌, length, take, slice_get, slice_set, get_or, flat_map, Result, Ok, Err, OnOk, ◌<◌, Option, Some, None, IfSome, option_map, refl, ap, sym, ◌∙◌, subst, append_assoc, arith}
+use Rattle.std.proofs.Common.{◌≡◌, ℕ, zero, suc, ◌+◌, true, List, [], ◌∷◌, ◌++◌, length, take, slice_get, slice_set, get_or, Result, Ok, Err, OnOk, ◌<◌, Option, Some, None, IfSome, option_map, refl, ap, sym, ◌∙◌, subst, append_assoc, arith}
 use Rattle.std.proofs.lemmas.List.{append-nil}
 use Rattle.std.specs.Cmp.Lexicographic.{bytes_decides}
 use Rattle.std.specs.Str.{bytes_eq}
@@ -9,9 +9,10 @@ use Rattle.histories.specs.History.{calls_of}
 use Rattle.kernel_rules.specs.declared.calls.Call.{Call}
 use Rattle.call_text.specs.declared.phases.Line.{Line}
 use Rattle.script_runner.specs.declared.lone_play.Lone.{Lone}
-use Rattle.script_runner.specs.Workers.{are_of, is_of_one, take_turns}
+use Rattle.script_runner.specs.Workers.{are_of, is_of_one, lines_in, take_turns}
 use Rattle.script_runner.specs.Lines.{ComeOf, Asks, by_seat, IsSeated, Reached, reached, calls_at, Play, place_of, AreThreads, KeepSeats, PlayPhase, AreAsked}
 use Rattle.script_runner.proofs.LineLaws.{come-more, come-less}
+use Rattle.script_runner.proofs.NumberLaws.{lines_after, take_next}
 
 -- what holds of all things of two lists holds of the first's
 all_left : {A : Type 0} (P : A → Type 0) (xs ys : List A) → ((i : ℕ) → IfSome (slice_get (xs ++ ys) i) P)
@@ -34,28 +35,12 @@ play_both thread xs ys a b c first then threads before seated h =
     (then threads (before ++ xs) (all_right (IsSeated threads thread) xs ys seated)
     (first threads before (all_left (IsSeated threads thread) xs ys seated) h))
 
-take_at : {A : Type 0} (xs : List A) (k : ℕ) (x : A) → slice_get xs k ≡ Some x → take (suc k) xs ≡ take k xs ++ x ∷ []
-take_at [] k x is = absurd (subst (λ (o : Option _). IfSome o (λ z. ⊥)) is tt)
-take_at (y ∷ ys) zero x is = ap (λ (o : Option _). value y o ∷ []) is
-  where
-    value : {B : Type 0} → B → Option B → B
-    value d None = d
-    value d (Some b) = b
-take_at (y ∷ ys) (suc k) x is = ap (λ l. y ∷ l) (take_at ys k x is)
-
 -- one line more
 pub play_line_more : (thread : Option ℕ) (lines : List Line) (k : ℕ) (line : Line) (a b c : Reached) → slice_get lines k ≡ Some line
     → Play thread (take k lines) a b → Play thread (line ∷ []) b c → Play thread (take (k + 1) lines) a c
 play_line_more thread lines k line a b c is first then =
-    let more : suc k ≡ k + 1 = omega arith in
-    subst (λ (xs : List Line). Play thread xs a c) (sym (take_at lines k line is) ∙ ap (λ n. take n lines) more)
+    subst (λ (xs : List Line). Play thread xs a c) (sym (take_next lines k line is))
     (play_both thread (take k lines) (line ∷ []) a b c first then)
-
-pub take_none : {A : Type 0} (xs : List A) (k : ℕ) → slice_get xs k ≡ None → take k xs ≡ xs
-take_none [] zero is = refl
-take_none [] (suc k) is = refl
-take_none (x ∷ xs) zero is = absurd (subst (λ (o : Option _). IfSome o (λ z. ⊥)) (sym is) tt)
-take_none (x ∷ xs) (suc k) is = ap (λ l. x ∷ l) (take_none xs k is)
 
 are_all : (w : List ℕ) (lines : List Line) → are_of w lines ≡ true → (i : ℕ) → IfSome (slice_get lines i) (λ l. l.worker ≡ w)
 are_all w [] are i = tt
@@ -162,14 +147,6 @@ pub always : {T E : Type 0} (r : Result T E) (P : Type 0) → P → OnOk r P
 always (Ok x) P h = h
 always (Err e) P h = tt
 
--- the lines of phases
-abbrev pub lines_of : List (List Line) → List Line
-lines_of phases = flat_map (λ (lines : List Line). lines) phases
-
-lines_of-snoc : (phases : List (List Line)) (lines : List Line) → lines_of (phases ++ lines ∷ []) ≡ lines_of phases ++ lines
-lines_of-snoc [] lines = append-nil lines
-lines_of-snoc (p ∷ ps) lines = ap (λ l. p ++ l) (lines_of-snoc ps lines) ∙ sym (append_assoc p (lines_of ps) lines)
-
 turn_at : (phases : List (List Line)) (k : ℕ) (lines : List Line) → take_turns phases ≡ true → slice_get phases k ≡ Some lines → is_of_one lines ≡ true
 turn_at [] k lines turns is = absurd (subst (λ (o : Option _). IfSome o (λ z. ⊥)) is tt)
 turn_at (p ∷ ps) zero lines turns is = subst (λ (o : Option (List Line)). IfSome o (λ z. is_of_one z ≡ true)) is (both_true (is_of_one p) (take_turns ps) turns).0
@@ -179,17 +156,15 @@ turn_at (p ∷ ps) (suc k) lines turns is = turn_at ps k lines (both_true (is_of
 abbrev pub SoFar : List (List ℕ) → List (List Line) → ℕ → List Lone → List Event → Type 0
 SoFar workers phases k played events =
     take_turns phases ≡ true → (threads : List ℕ → Option ℕ) → AreThreads threads workers played
-    → ComeOf (Asks threads) (lines_of (take k phases)) (calls_of events)
+    → ComeOf (Asks threads) (lines_in (take k phases)) (calls_of events)
 
 -- and of a phase more
 pub so_far_more : (workers : List (List ℕ)) (phases : List (List Line)) (k : ℕ) (lines : List Line) (played after : List Lone) (old new : List Event)
     → slice_get phases k ≡ Some lines → PlayPhase workers lines after (calls_of old) (calls_of new) → KeepSeats played after
     → SoFar workers phases k played old → SoFar workers phases (k + 1) after new
 so_far_more workers phases k lines played after old new is play keeps far turns threads are =
-    let more : suc k ≡ k + 1 = omega arith in
-    subst (λ (ls : List Line). ComeOf (Asks threads) ls (calls_of new))
-    (sym (lines_of-snoc (take k phases) lines) ∙ ap lines_of (sym (take_at phases k lines is)) ∙ ap (λ n. lines_of (take n phases)) more)
-    (play (turn_at phases k lines turns is) threads (lines_of (take k phases)) are (far turns threads (keeps threads workers are)))
+    subst (λ (ls : List Line). ComeOf (Asks threads) ls (calls_of new)) (sym (lines_after phases k lines is))
+    (play (turn_at phases k lines turns is) threads (lines_in (take k phases)) are (far turns threads (keeps threads workers are)))
 
 abbrev seat_in : Option Lone → Option ℕ
 seat_in None = None
@@ -221,6 +196,6 @@ pub all_asked : (workers : List (List ℕ)) (phases : List (List Line)) (k : ℕ
     → take k phases ≡ phases → SoFar workers phases k played events → take_turns phases ≡ true → AreAsked phases events
 all_asked workers phases k played events all far turns = (
   thread_of workers played,
-  subst (λ (ps : List (List Line)). ComeOf (Asks (thread_of workers played)) (lines_of ps) (calls_of events)) all
+  subst (λ (ps : List (List Line)). ComeOf (Asks (thread_of workers played)) (lines_in ps) (calls_of events)) all
       (far turns (thread_of workers played) (are_threads workers played)),
 )

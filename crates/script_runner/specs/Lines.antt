@@ -1,6 +1,6 @@
 -- Which lines of a script ask the calls of a journal.
 use Rattle.std.specs.Prelude.{◌≡◌, ℕ, ◌⊎◌, List, [], ◌∷◌, ◌++◌, Option, Some, None, Ok, IfSome}
-use Rattle.std.specs.Prelude.{slice_get, position, flat_map, true}
+use Rattle.std.specs.Prelude.{slice_get, position, true}
 use Rattle.histories.specs.Events.{Event, by}
 use Rattle.histories.specs.History.{calls_of}
 use Rattle.kernel_rules.specs.declared.calls.Call.{Call}
@@ -9,7 +9,7 @@ use Rattle.call_text.specs.declared.asking.Asked.TheVariants.{Write}
 use Rattle.call_text.specs.declared.known_names.Named.{Named}
 use Rattle.call_text.specs.declared.phases.Line.{Line}
 use Rattle.call_text.specs.Resolve.{resolved}
-use Rattle.script_runner.specs.Workers.{is_of_one}
+use Rattle.script_runner.specs.Workers.{is_of_one, lines_in}
 use Rattle.script_runner.specs.declared.answers.Answer.{Answer}
 use Rattle.script_runner.specs.declared.lone_play.Lone.{Lone}
 
@@ -32,7 +32,7 @@ Asks threads line made = (threads line.worker ≡ Some made.0) × IsMeant line m
 abbrev pub AreAsked : List (List Line) → List Event → Type 0
 AreAsked phases events =
     (threads : List ℕ → Option ℕ)
-    × ComeOf (Asks threads) (flat_map (λ (lines : List Line). lines) phases) (calls_of events)
+    × ComeOf (Asks threads) (lines_in phases) (calls_of events)
 
 -- the calls of a thread, none where there is no thread
 abbrev pub by_seat : Option ℕ → List Call → List (ℕ × Call)

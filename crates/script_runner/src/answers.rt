@@ -1,10 +1,10 @@
 //! What the lines of a worker answered.
 //!
-//! A name is printed as it is bound at the end of the run. A reply in which no name can stand is printed when it comes,
-//! and only its text is kept: that takes less memory than the reply. The reply to a query is printed then in any case,
-//! without names: that is what its read was answered.
+//! A line is printed at the end of the run, with the names as they are bound then. A reply is large, and most of them say
+//! little: what such a reply says is kept in place of it. The reply to a query is printed when it comes in any case, without
+//! names: that is what its read was answered.
 use crate::reads::{Asked, Reads};
-use base::{NoMemory, ObjectId, Refusal};
+use base::{Data, NoMemory, ObjectId, Refusal};
 use call_text::{NameList, Value, put_reply};
 use kernel_rules::{Mapping, Query, Reply};
 use std::alloc::{AllocError, Global};
@@ -13,13 +13,35 @@ use text_words::Name;
 /// What a line answered.
 #[derive(Clone, Copy)]
 pub enum Answer {
-    /// The object or the category that a call made, which is printed as it is bound at the end.
+    /// Its call was done.
+    Done,
+    /// The object or the category that its call made.
     Made(Value),
-    /// The bytes between two places of what is printed already.
-    Printed(usize, usize),
-    /// The reply at a place among those that are not printed yet.
+    /// The worker entered a gate.
+    Entered {
+        /// Where it runs.
+        entry_point: u64,
+        /// What it was handed.
+        closure: u64,
+    },
+    /// What an object may use and uses, in pages.
+    Quota {
+        /// What it may use.
+        quota: u32,
+        /// What it uses.
+        used: u32,
+        /// Its quota never changes again.
+        fixed: bool,
+        /// It is read-only for good.
+        immutable: bool,
+    },
+    /// The length of a segment in pages.
+    Pages(u32),
+    /// The bytes at a place among those that were read.
+    Bytes(usize),
+    /// The reply at a place among those that are kept whole.
     Replied(usize),
-    /// What refused the worker's seat or the call.
+    /// What refused the worker's seat, the call or the query.
     Refused(Refusal),
     /// The first name of the line, the worker's before all, that is not known, or known as the other kind.
     Unbound(Name),
@@ -28,61 +50,73 @@ pub enum Answer {
 /// What a worker's lines answered.
 #[derive(Drop)]
 pub struct Answers {
-    /// The worker's thread, where that was given a seat.
-    pub thread: Option<ObjectId>,
-    /// What each line answered, with the line's number.
-    pub lines: Vec<(u32, Answer)>,
-    /// Replies as they are printed where no name is known: those of all queries, and of the calls that made nothing.
-    pub printed: Vec<u8>,
-    /// Replies of queries in which names can stand, which are printed as they are bound at the end.
+    /// What each line answered, in the lines' order.
+    pub lines: Vec<Answer>,
+    /// Bytes that were read.
+    pub data: Vec<Data>,
+    /// Replies that are kept whole: names can stand in them.
     pub replies: Vec<Reply>,
     /// The queries that were answered.
     pub asked: Vec<Asked>,
-}
-
-/// What a reply made, where it made something.
-fn made_by(reply: &Reply) -> Option<Value> {
-    match reply {
-        Reply::Category(category) => Some(Value::Category(*category)),
-        Reply::Object(id) => Some(Value::Object(*id)),
-        _ => None,
-    }
-}
-
-/// Whether no name can stand in what the reply to a query prints.
-fn is_nameless(reply: &Reply) -> bool {
-    matches!(
-        reply,
-        Reply::Bytes(_) | Reply::Quota { .. } | Reply::Pages(_) | Reply::Refused(_)
-    )
+    /// The replies to them, as they are printed where no name is known.
+    pub printed: Vec<u8>,
 }
 
 impl Answers {
     /// No answers. It takes no memory before there is one.
     pub fn none(alloc: Global) -> Answers {
         Answers {
-            thread: None,
             lines: Vec::new(alloc),
-            printed: Vec::new(alloc),
+            data: Vec::new(alloc),
             replies: Vec::new(alloc),
             asked: Vec::new(alloc),
+            printed: Vec::new(alloc),
         }
     }
 
-    /// Prints a reply without names, and tells where it begins and ends.
-    fn print(&mut self, reply: &Reply) -> Result<(usize, usize), NoMemory> {
-        let begin = self.printed.len();
-        put_reply(&mut self.printed, reply, &NameList { named: &[] })?;
-        Ok((begin, self.printed.len()))
+    fn keep_bytes(&mut self, bytes: &Data) -> Result<Answer, NoMemory> {
+        let place = self.data.len();
+        self.data.push(*bytes)?;
+        Ok(Answer::Bytes(place))
     }
 
-    /// Keeps the reply to a call: what it made, and else its text, in which no name can stand.
+    fn keep_whole(&mut self, reply: &Reply) -> Result<Answer, NoMemory> {
+        // For the proof alone: this names a type that a reply holds.
+        let _named: Option<Mapping> = None;
+        let place = self.replies.len();
+        self.replies.push(*reply)?;
+        Ok(Answer::Replied(place))
+    }
+
+    /// Keeps a reply.
     pub fn keep(&mut self, reply: &Reply) -> Result<Answer, NoMemory> {
-        if let Some(made) = made_by(reply) {
-            return Ok(Answer::Made(made));
+        match reply {
+            Reply::Done => Ok(Answer::Done),
+            Reply::Category(category) => Ok(Answer::Made(Value::Category(*category))),
+            Reply::Object(id) => Ok(Answer::Made(Value::Object(*id))),
+            Reply::Entered {
+                entry_point,
+                closure,
+            } => Ok(Answer::Entered {
+                entry_point: *entry_point,
+                closure: *closure,
+            }),
+            Reply::Quota {
+                quota,
+                used,
+                fixed,
+                immutable,
+            } => Ok(Answer::Quota {
+                quota: *quota,
+                used: *used,
+                fixed: *fixed,
+                immutable: *immutable,
+            }),
+            Reply::Pages(pages) => Ok(Answer::Pages(*pages)),
+            Reply::Refused(refusal) => Ok(Answer::Refused(*refusal)),
+            Reply::Bytes(bytes) => self.keep_bytes(bytes),
+            _ => self.keep_whole(reply),
         }
-        let (begin, end) = self.print(reply)?;
-        Ok(Answer::Printed(begin, end))
     }
 
     /// Makes room for one more read, so that it is not lost for want of memory once it is answered.
@@ -98,31 +132,70 @@ impl Answers {
         length: usize,
         reply: &Reply,
     ) -> Result<Answer, NoMemory> {
-        // For the proof alone: this names a type that a reply holds.
-        let _named: Option<Mapping> = None;
-        let (begin, end) = self.print(reply)?;
+        let begin = self.printed.len();
+        put_reply(&mut self.printed, reply, &NameList { named: &[] })?;
         self.asked.push(Asked {
             length,
             query: *query,
             begin,
-            end,
+            end: self.printed.len(),
         })?;
-        if is_nameless(reply) {
-            return Ok(Answer::Printed(begin, end));
-        }
-        self.replies.push(*reply)?;
-        Ok(Answer::Replied(self.replies.len() - 1))
+        self.keep(reply)
     }
 
-    /// The reads of the worker, where its thread was given a seat.
+    /// The reply to a line whose answer says all of it but bytes.
+    pub fn short_reply(&self, answer: &Answer) -> Option<Reply> {
+        match answer {
+            Answer::Done => Some(Reply::Done),
+            Answer::Entered {
+                entry_point,
+                closure,
+            } => Some(Reply::Entered {
+                entry_point: *entry_point,
+                closure: *closure,
+            }),
+            Answer::Quota {
+                quota,
+                used,
+                fixed,
+                immutable,
+            } => Some(Reply::Quota {
+                quota: *quota,
+                used: *used,
+                fixed: *fixed,
+                immutable: *immutable,
+            }),
+            Answer::Pages(pages) => Some(Reply::Pages(*pages)),
+            Answer::Refused(refusal) => Some(Reply::Refused(*refusal)),
+            Answer::Bytes(place) => match self.data.get(*place) {
+                Some(bytes) => Some(Reply::Bytes(*bytes)),
+                None => None,
+            },
+            _ => None,
+        }
+    }
+}
+
+/// What a worker leaves.
+#[derive(Drop)]
+pub struct Left {
+    /// Its thread, where that was given a seat.
+    pub thread: Option<ObjectId>,
+    /// What its lines answered.
+    pub answers: Answers,
+}
+
+impl Left {
+    /// The worker's reads, where its thread was given a seat.
     pub fn into_reads(self) -> Option<Reads> {
+        let Left { thread, answers } = self;
         let Answers {
-            thread,
             lines: _,
-            printed,
+            data: _,
             replies: _,
             asked,
-        } = self;
+            printed,
+        } = answers;
         match thread {
             Some(thread) => Some(Reads {
                 thread,

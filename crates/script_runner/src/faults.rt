@@ -13,7 +13,7 @@ pub enum PlayFault {
     /// There was no memory, or a thread could not be started.
     #[error("out of memory")]
     Memory,
-    /// The gate stopped a worker.
+    /// The gate stopped a worker: a line has no answer.
     #[error("stopped")]
     Stopped,
 }

@@ -2,9 +2,9 @@
 //!
 //! A script is read whole before a line of it is played, and all output is made before a byte of it goes out. The dump
 //! of a run is proved to be that of a legal journal, the book's at the end, and of reads that the rules answer as the
-//! run did. That a line printed is the text of what its call answered, and which status and fault line a run ends with,
-//! is shown by tests. So are the order of the lines, that the workers of a phase run at once, and that no read is left
-//! out.
+//! run did. The output is proved to have each line of the script once, in the stated order and with its number, and with the
+//! text of a reply. That this reply is what its call answered, and which status and fault line a run ends with, is shown by
+//! tests. So are that the workers of a phase run at once, and that no read is left out.
 #![tactic(auto)]
 
 mod answers;

@@ -4,9 +4,10 @@ ghost use Rattle.histories.specs.History.{calls_of, state_of};
 ghost use Rattle.kernel_rules.specs.Scratch.{scratch};
 ghost use Rattle.script_runner.specs.Dumps.{IsPlayed};
 ghost use Rattle.script_runner.specs.Lines.{reached, AreAsked, KeepSeats, Play, PlayPhase};
-ghost use Rattle.script_runner.specs.Workers.{take_turns};
+ghost use Rattle.script_runner.specs.Output.{AreToldBy};
+ghost use Rattle.script_runner.specs.Workers.{lines_in, take_turns};
 
-use crate::answers::Answers;
+use crate::answers::Left;
 use crate::desks::SoleDesk;
 use crate::faults::PlayFault;
 use crate::gates::{Gate, Turn};
@@ -147,13 +148,16 @@ fn play_phase<B: Naming, R: Wait, G: Gate>(
     lone.play(rt, gate, desk, index, phase, names)
 }
 
-/// What the lines of the workers answered, which they have no longer then.
-fn answers_of(alloc: Global, played: &mut Vec<Lone>) -> Result<Vec<Answers>, AllocError> {
-    let mut answers = Vec::with_capacity(alloc, played.len())?;
+/// What the workers leave, who have no answers then.
+fn left_by(alloc: Global, played: &mut Vec<Lone>) -> Result<Vec<Left>, AllocError> {
+    let mut left = Vec::with_capacity(alloc, played.len())?;
     for lone in played {
-        answers.push(lone.worker.take_answers(alloc, lone.thread))?;
+        left.push(Left {
+            thread: lone.thread,
+            answers: lone.worker.take_answers(alloc),
+        })?;
     }
-    Ok(answers)
+    Ok(left)
 }
 
 /// Plays the phases one after another.
@@ -176,26 +180,22 @@ fn play_phases<B: Naming, R: Wait, G: Gate>(
 }
 
 /// Plays a script, and says what its lines answered.
-fn play_script<'a, B: Naming, R: Wait, G: Gate>(
+fn play_script<B: Naming, R: Wait, G: Gate>(
     rt: &R,
     alloc: Global,
     desk: &mut SoleDesk<B>,
     script: &Script,
-    workers: &'a IndexSet<Name>,
+    workers: &IndexSet<Name>,
     gate: &G,
-) -> Result<Answered<'a>, PlayFault>
+) -> Result<Answered, PlayFault>
     requires { desk.old.book.journal ≡ [] }
     ensures { OnOk result (take_turns script.now ≡ true → AreAsked script.now desk.new.book.journal) }
 {
     let mut names = BoundNames::start(alloc)?;
     let mut played = idle(alloc, workers.len())?;
     play_phases(rt, desk, script, workers, gate, &mut played, &mut names)?;
-    let answers = answers_of(alloc, &mut played)?;
-    Ok(Answered {
-        workers,
-        answers,
-        names,
-    })
+    let left = left_by(alloc, &mut played)?;
+    Ok(Answered { left, names })
 }
 
 /// What a script leaves to be told, and the tables of the state in which it leaves the book.
@@ -209,10 +209,11 @@ fn told_in<B: Naming, R: Wait, G: Gate>(
 ) -> Result<(Told, Tables), PlayFault>
     requires { desk.old.book.journal ≡ [] }
     ensures lines { OnOk result (take_turns script.now ≡ true → AreAsked script.now desk.new.book.journal) }
+    ensures output { IfOk result (λ told. AreToldBy workers.now.keys (lines_in script.now) told.0.output.items) }
     ensures tables { IfOk result (λ told. told.1 ≡ scratch (state_of B.boot.limits desk.new.book.journal)) }
 {
     let answered = play_script(rt, alloc, desk, script, workers, gate)?;
-    let told = told_of(alloc, answered)?;
+    let told = told_of(alloc, script, workers, answered)?;
     let mut meter = Meter::new(alloc)?;
     let tables = desk.book.kernel().tables(&mut meter)?;
     Ok((told, tables))
@@ -234,6 +235,7 @@ pub fn play_alone<B: Naming, R: Wait, G: Gate>(
     ensures played { IfOk result (λ played. IsPlayed limits.now played.events.items played.tables) }
     ensures lines { IfOk result
         (λ played. take_turns script.now ≡ true → AreAsked script.now played.events.items) }
+    ensures output { IfOk result (λ played. AreToldBy workers.now.keys (lines_in script.now) played.output.items) }
 {
     let mut desk = SoleDesk {
         book: SoleBook::<B>::boot(alloc, limits, seats)?,

@@ -1,9 +1,12 @@
 //! Which worker has which lines.
-ghost use Rattle.std.specs.Prelude.{◌≡◌, IfOk, IfSome, slice_get};
+ghost use Rattle.std.specs.Prelude.{◌≡◌, [], ◌∷◌, ℕ, true, List, IfOk, IfSome, OnOk, slice_get};
+ghost use Rattle.std.specs.List.{list_any, IsDistinct};
 ghost use Rattle.std.specs.Str.{bytes_eq};
+ghost use Rattle.indexmap.specs.IndexSet.{insert_key};
 ghost use Rattle.script_runner.specs.Workers as spec;
+ghost use Rattle.script_runner.specs.Workers.{lines_in, with_workers, AreNumbers, WithLines, WithNumber};
 
-use call_text::{Phase, Script};
+use call_text::{Line, Phase, Script};
 use indexmap::IndexSet;
 use std::alloc::{AllocError, Global};
 use std::collections::BTreeMap;
@@ -62,24 +65,43 @@ fn take_turns(phases: &[Phase]) -> bool
     phases.iter().all(|phase| is_of_one(phase))
 }
 
-/// Adds the workers of a phase. (Lines of one worker often follow each other.)
-fn add_workers(workers: &mut IndexSet<Name>, phase: &Phase) -> Result<(), AllocError> {
+/// Adds the worker of a line, where the worker of the line before it is among them. (Lines of one worker often follow each
+/// other.)
+fn add_worker(
+    workers: &mut IndexSet<Name>,
+    last: Option<Name>,
+    worker: Name,
+) -> Result<(), AllocError>
+    requires { IfSome last (λ w. list_any (bytes_eq w) workers.old.keys ≡ true) }
+    ensures added { OnOk result (workers.new.keys ≡ insert_key bytes_eq workers.old.keys worker) }
+    ensures known { OnOk result (list_any (bytes_eq worker) workers.new.keys ≡ true) }
+{
+    if last == Some(worker) {
+        return Ok(());
+    }
+    workers.insert(worker)?;
+    Ok(())
+}
+
+/// Adds the workers of a phase.
+fn add_workers(workers: &mut IndexSet<Name>, phase: &Phase) -> Result<(), AllocError>
+    ensures { OnOk result (workers.new.keys ≡ with_workers workers.old.keys phase.now) }
+{
     let mut last = None;
     for place in 0..phase.len() {
-        let worker = phase.worker(place);
-        if let Some(name) = worker {
-            if last != worker {
-                workers.insert(name)?;
-                last = worker;
-            }
-        }
+        let Some(worker) = phase.worker(place) else {
+            return Ok(());
+        };
+        add_worker(workers, last, worker)?;
+        last = Some(worker);
     }
     Ok(())
 }
 
 /// The workers of a script.
 pub fn workers_of(alloc: Global, script: &Script) -> Result<Workers, AllocError>
-    ensures { IfOk result (λ workers. workers.take_turns ≡ spec.take_turns script.now) }
+    ensures names { IfOk result (λ workers. workers.names.keys ≡ spec.workers_of (lines_in script.now)) }
+    ensures turns { IfOk result (λ workers. workers.take_turns ≡ spec.take_turns script.now) }
 {
     let mut names = IndexSet::new(alloc);
     for phase in &script.phases {
@@ -89,6 +111,75 @@ pub fn workers_of(alloc: Global, script: &Script) -> Result<Workers, AllocError>
         names,
         take_turns: take_turns(script.phases.as_slice()),
     })
+}
+
+/// Adds a number to those at a place.
+fn add_number(numbers: &mut Vec<Vec<u32>>, place: usize, number: u32) -> Result<(), AllocError>
+    ensures { OnOk result (WithNumber place number numbers.old.items numbers.new.items) }
+{
+    if let Some(own) = numbers.get_mut(place) {
+        own.push(number)?;
+    }
+    Ok(())
+}
+
+/// Adds the number of a line to those of its worker.
+fn number_line(
+    numbers: &mut Vec<Vec<u32>>,
+    line: &Line<'_>,
+    workers: &IndexSet<Name>,
+) -> Result<(), AllocError>
+    requires { IsDistinct bytes_eq workers.now.keys }
+    ensures { OnOk result (WithLines workers.now.keys (line.now ∷ []) numbers.old.items numbers.new.items) }
+{
+    match workers.get_index_of(&line.worker) {
+        Some(index) => add_number(numbers, index, line.number),
+        None => Ok(()),
+    }
+}
+
+/// Adds the number of each line of a phase to those of its worker.
+fn number_phase(
+    numbers: &mut Vec<Vec<u32>>,
+    phase: &Phase,
+    workers: &IndexSet<Name>,
+) -> Result<(), AllocError>
+    requires { IsDistinct bytes_eq workers.now.keys }
+    ensures { OnOk result (WithLines workers.now.keys phase.now numbers.old.items numbers.new.items) }
+{
+    for place in 0..phase.len() {
+        let Some(line) = phase.line(place) else {
+            return Ok(());
+        };
+        number_line(numbers, &line, workers)?;
+    }
+    Ok(())
+}
+
+/// No numbers of so many workers.
+fn no_numbers(alloc: Global, count: usize) -> Result<Vec<Vec<u32>>, AllocError>
+    ensures { IfOk result (λ numbers. (workers : List (List ℕ)) → AreNumbers workers [] numbers.items) }
+{
+    let mut numbers = Vec::new(alloc);
+    for _ in 0..count {
+        numbers.push(Vec::new(alloc))?;
+    }
+    Ok(numbers)
+}
+
+/// The numbers of each worker's lines in a script, in their order.
+pub fn numbers_of(
+    alloc: Global,
+    script: &Script,
+    workers: &IndexSet<Name>,
+) -> Result<Vec<Vec<u32>>, AllocError>
+    ensures { IfOk result (λ numbers. AreNumbers workers.now.keys (lines_in script.now) numbers.items) }
+{
+    let mut numbers = no_numbers(alloc, workers.len())?;
+    for phase in &script.phases {
+        number_phase(&mut numbers, phase, workers)?;
+    }
+    Ok(numbers)
 }
 
 fn add_line(

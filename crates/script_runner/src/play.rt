@@ -2,7 +2,9 @@
 ghost use Rattle.std.specs.Prelude.{◌≡◌, ◌<◌, ◌≤◌, true, IfOk};
 ghost use Rattle.script_runner.specs.Dumps.{IsPlayed};
 ghost use Rattle.script_runner.specs.Lines.{AreAsked};
+ghost use Rattle.script_runner.specs.Output.{AreToldBy, IsOutput};
 ghost use Rattle.script_runner.specs.Workers as spec;
+ghost use Rattle.script_runner.specs.Workers.{lines_in};
 
 use crate::faults::PlayFault;
 use crate::gates::Gate;
@@ -52,7 +54,8 @@ fn play_seated<R: Threads + Wait + Sync, G: Gate>(
     limits: &Limits,
     gate: &G,
 ) -> Result<Played, PlayFault>
-    ensures { IfOk result (λ played. IsPlayed limits.now played.events.items played.tables) }
+    ensures output { IfOk result (λ played. AreToldBy workers.now.keys (lines_in script.now) played.output.items) }
+    ensures played { IfOk result (λ played. IsPlayed limits.now played.events.items played.tables) }
 {
     match Blank::boot_for(alloc, limits, seats_for(workers.len())) {
         Ok(blank) => play_shared::<Brand, R, G>(rt, alloc, blank, script, workers, gate),
@@ -66,9 +69,10 @@ fn play_seated<R: Threads + Wait + Sync, G: Gate>(
 /// name is known to the worker that bound it from its next line on, and to all others from the next phase on. The replies
 /// print the names of the script as they are bound when all is played, and `#` and the number of what has none. It waits
 /// for all threads that it starts. Nothing is printed after a fault. The journal and the tables are the book's at the end:
-/// the journal is legal, and the tables are those of the state that it leads to. The limits are then in range. Where the
-/// workers take turns, each call of the journal is asked by a line of the worker whose thread made it, in the order of the
-/// lines, and no line asks two.
+/// the journal is legal, and the tables are those of the state that it leads to. The limits are then in range. Which
+/// lines are printed, in which order and with which numbers, depends on the script alone; each has the text of a reply, or
+/// of a name that is not known. Where the workers take turns, each call of the journal is asked, for some meaning of the
+/// line's names, by a line of the worker whose thread made it, in the order of the lines, and no line asks two.
 pub fn play_all<R: Threads + Wait + Sync, G: Gate>(
     rt: &R,
     alloc: Global,
@@ -78,6 +82,7 @@ pub fn play_all<R: Threads + Wait + Sync, G: Gate>(
 ) -> Result<Played, PlayFault>
     ensures lines { IfOk result
         (λ played. spec.take_turns script.now ≡ true → AreAsked script.now played.events.items) }
+    ensures output { IfOk result (λ played. IsOutput script.now played.output.items) }
     ensures played { IfOk result (λ played. IsPlayed limits.now played.events.items played.tables) }
 {
     let Workers { names, take_turns } = workers_of(alloc, script)?;
@@ -89,7 +94,7 @@ pub fn play_all<R: Threads + Wait + Sync, G: Gate>(
 }
 
 /// Plays a script as `play_all` does where its workers play at once, also where they take turns. What it leaves is the
-/// same.
+/// same. Its output has the same lines in the same order.
 pub fn play_at_once<R: Threads + Wait + Sync, G: Gate>(
     rt: &R,
     alloc: Global,
@@ -97,7 +102,8 @@ pub fn play_at_once<R: Threads + Wait + Sync, G: Gate>(
     limits: &Limits,
     gate: &G,
 ) -> Result<Played, PlayFault>
-    ensures { IfOk result (λ played. IsPlayed limits.now played.events.items played.tables) }
+    ensures output { IfOk result (λ played. IsOutput script.now played.output.items) }
+    ensures played { IfOk result (λ played. IsPlayed limits.now played.events.items played.tables) }
 {
     let workers = workers_of(alloc, script)?;
     play_seated(rt, alloc, script, &workers.names, limits, gate)

@@ -1,6 +1,8 @@
 //! The program, over a reader, a sink and a writer.
-ghost use Rattle.std.specs.Prelude.{◌≡◌, ◌<◌, [], IfOk};
+ghost use Rattle.std.specs.Prelude.{◌≡◌, ◌<◌, [], IfOk, IfSome, OnOk};
+ghost use Rattle.call_text.specs.Script.{IsScript};
 ghost use Rattle.script_runner.specs.Dumps.{IsFile, IsPlayed};
+ghost use Rattle.script_runner.specs.Output.{IsOutput, IsPrinted};
 
 use crate::dumps::dump_of;
 use crate::gates::Always;
@@ -60,7 +62,9 @@ struct Texts {
     file: Vec<u8>,
 }
 
-fn script_of(alloc: Global, bytes: &[u8]) -> Result<Script, RunFault> {
+fn script_of(alloc: Global, bytes: &[u8]) -> Result<Script, RunFault>
+    ensures { IfOk result (IsScript bytes.now) }
+{
     match read_script(alloc, bytes) {
         Ok(script) => Ok(script),
         Err(ScriptError::Memory) => Err(RunFault::Other(Fault::Memory)),
@@ -101,7 +105,8 @@ fn texts_of<R: Threads + Wait + Sync>(
     script: &Script,
     options: &Options,
 ) -> Result<Texts, RunFault>
-    ensures { IfOk result
+    ensures output { IfOk result (λ texts. IsOutput script.now texts.output.items) }
+    ensures file { IfOk result
         (λ texts. IsFile options.now.dump options.now.checkpoint options.now.limits texts.file.items) }
 {
     let Ok(played) = play_all(rt, alloc, script, &options.limits, &Always) else {
@@ -128,7 +133,9 @@ fn run<R: Threads + Wait + Sync, I: Read, S: Sink>(
     options: &Options,
     out: &mut S,
 ) -> Result<Vec<u8>, RunFault>
-    ensures { IfOk result (λ file. IsFile options.now.dump options.now.checkpoint options.now.limits file.items) }
+    ensures file { IfOk result (λ file. IsFile options.now.dump options.now.checkpoint options.now.limits file.items) }
+    ensures printed { OnOk result (IfSome (I.remaining script.old)
+        (λ bytes. IsPrinted bytes (S.contents out.old) (S.contents out.new))) }
 {
     let bytes = bytes_of(alloc, script)?;
     let script = script_of(alloc, bytes.as_slice())?;
@@ -166,6 +173,8 @@ pub fn histar_on<R: Threads + Wait + Sync, I: Read, S: Sink, E: Write>(
     ensures ok { result.status ≡ 0
         → IsFile options.now.dump options.now.checkpoint options.now.limits result.file.items }
     ensures fault { 0 < result.status → result.file.items ≡ [] }
+    ensures printed { result.status ≡ 0 → IfSome (I.remaining script.old)
+        (λ bytes. IsPrinted bytes (S.contents out.old) (S.contents out.new)) }
 {
     match run(rt, alloc, script, options, out) {
         Ok(file) => Ended { status: 0, file },

@@ -1,8 +1,10 @@
 //! Playing a script whose workers play at once: each in a thread of its own, through a seat of one kernel in two copies.
 ghost use Rattle.std.specs.Prelude.{◌≡◌, IfOk};
 ghost use Rattle.script_runner.specs.Dumps.{IsClosing};
+ghost use Rattle.script_runner.specs.Output.{AreToldBy};
+ghost use Rattle.script_runner.specs.Workers.{lines_in};
 
-use crate::answers::Answers;
+use crate::answers::Left;
 use crate::closings::{Closing, closing_of};
 use crate::faults::PlayFault;
 use crate::gates::Gate;
@@ -75,9 +77,12 @@ impl<'s, B: Naming> Seated<'s, B> {
         Ok(())
     }
 
-    /// What its lines answered, which it has no longer then.
-    fn take_answers(&mut self, alloc: Global) -> Answers {
-        self.worker.take_answers(alloc, self.thread)
+    /// What it leaves, who has no answers then.
+    fn leave(&mut self, alloc: Global) -> Left {
+        Left {
+            thread: self.thread,
+            answers: self.worker.take_answers(alloc),
+        }
     }
 
     /// Plays its lines of a phase.
@@ -241,28 +246,28 @@ fn play_phase<'s, B: Naming + Send, R: Threads + Wait + Sync, G: Gate>(
     Ok(tell_all(rt, alloc, played)?)
 }
 
-/// What the lines of the workers answered, which they have no longer then.
-fn answers_of<B: Naming, R: Wait>(
+/// What the workers leave, who have no answers then.
+fn left_by<B: Naming, R: Wait>(
     rt: &R,
     alloc: Global,
     played: &[Mutex<Seated<'_, B>>],
-) -> Result<Vec<Answers>, AllocError> {
-    let mut answers = Vec::with_capacity(alloc, played.len())?;
+) -> Result<Vec<Left>, AllocError> {
+    let mut left = Vec::with_capacity(alloc, played.len())?;
     for worker in played {
-        answers.push(worker.lock(rt).take_answers(alloc))?;
+        left.push(worker.lock(rt).leave(alloc))?;
     }
-    Ok(answers)
+    Ok(left)
 }
 
 /// Plays the phases one after another.
-fn play_phases<'s, 'a, B: Naming + Send, R: Threads + Wait + Sync, G: Gate>(
+fn play_phases<'s, B: Naming + Send, R: Threads + Wait + Sync, G: Gate>(
     rt: &R,
     alloc: Global,
     shared: &'s Shared<B>,
     script: &Script,
-    workers: &'a IndexSet<Name>,
+    workers: &IndexSet<Name>,
     gate: &G,
-) -> Result<Answered<'a>, PlayFault> {
+) -> Result<Answered, PlayFault> {
     let played: Vec<Mutex<Seated<'s, B>>> = idle(alloc, workers.len())?;
     let mut names = BoundNames::start(alloc)?;
     for phase in &script.phases {
@@ -278,8 +283,7 @@ fn play_phases<'s, 'a, B: Naming + Send, R: Threads + Wait + Sync, G: Gate>(
         )?;
     }
     Ok(Answered {
-        workers,
-        answers: answers_of(rt, alloc, played.as_slice())?,
+        left: left_by(rt, alloc, played.as_slice())?,
         names,
     })
 }
@@ -295,14 +299,15 @@ pub fn play_shared<B: Naming + Send, R: Threads + Wait + Sync, G: Gate>(
     gate: &G,
 ) -> Result<Played, PlayFault>
     requires { blank ≡ B.boot }
-    ensures { IfOk result (λ played. IsClosing B.boot.limits played.events.items played.tables) }
+    ensures closing { IfOk result (λ played. IsClosing B.boot.limits played.events.items played.tables) }
+    ensures output { IfOk result (λ played. AreToldBy workers.now.keys (lines_in script.now) played.output.items) }
 {
     let shared = blank.open::<B>();
     let answered = play_phases(rt, alloc, &shared, script, workers, gate);
     let closing = closing_of(rt, alloc, shared.close());
     let answered = answered?;
     let Closing { events, tables } = closing?;
-    let Told { output, reads } = told_of(alloc, answered)?;
+    let Told { output, reads } = told_of(alloc, script, workers, answered)?;
     Ok(Played {
         output,
         events,

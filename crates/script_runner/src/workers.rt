@@ -10,7 +10,7 @@ use crate::desks::Desk;
 use crate::faults::PlayFault;
 use crate::gates::{Gate, Turn};
 use crate::names::{BoundNames, WorkerNames};
-use base::{NoMemory, ObjectId, Refusal};
+use base::{NoMemory, Refusal};
 use call_text::{Line, Named, Phase, resolve_into};
 use kernel_rules::{Call, Reply};
 use published_copy::{SeatRefusal, SubmitRefusal};
@@ -102,13 +102,13 @@ impl Worker {
     }
 
     /// Keeps what a line answers, and binds its name to what its call made.
-    fn keep(&mut self, number: u32, binds: Option<Name>, answer: &Answer) -> Result<(), AllocError>
+    fn keep(&mut self, binds: Option<Name>, answer: &Answer) -> Result<(), AllocError>
         ensures { self.new.batch ≡ self.old.batch }
     {
         if let (Some(name), Answer::Made(made)) = (binds, answer) {
             self.own.bind(&Named { name, value: *made })?;
         }
-        self.answers.lines.push((number, *answer))?;
+        self.answers.lines.push(*answer)?;
         Ok(())
     }
 
@@ -178,9 +178,9 @@ impl Worker {
             let Some(line) = self.batch.lines.get(place) else {
                 return Ok(());
             };
-            let (number, binds) = (line.number, line.binds);
+            let binds = line.binds;
             if let Some(answer) = line.answer {
-                self.keep(number, binds, &answer)?;
+                self.keep(binds, &answer)?;
             }
         }
         Ok(())
@@ -247,7 +247,7 @@ impl Worker {
             return self.play_in_batch(rt, gate, desk, index, line, earlier);
         }
         let answer = self.answer(rt, desk, line, earlier)?;
-        self.keep(line.number, line.binds, &answer)?;
+        self.keep(line.binds, &answer)?;
         Ok(gate.after(index, number))
     }
 
@@ -300,10 +300,8 @@ impl Worker {
         }
     }
 
-    /// What its lines answered, which it has no longer then, and its thread, where that was given a seat.
-    pub fn take_answers(&mut self, alloc: Global, thread: Option<ObjectId>) -> Answers {
-        let mut answers = mem::replace(&mut self.answers, Answers::none(alloc));
-        answers.thread = thread;
-        answers
+    /// What its lines answered, which it has no longer then.
+    pub fn take_answers(&mut self, alloc: Global) -> Answers {
+        mem::replace(&mut self.answers, Answers::none(alloc))
     }
 }
