@@ -1,6 +1,6 @@
 //! Each call, as a line of a script.
 use crate::names::{category_named, object_named};
-use call_text::{Asked, Known, NameList, Named, ScriptError, read_script, resolve, write_script};
+use call_text::{Asked, Known, NameList, Named, read_script, resolve, write_script};
 use kernel_rules::{Call, Query};
 use std::alloc::Global;
 use std::test::Fail;
@@ -159,53 +159,6 @@ fn numbers_of_64_bits_and_with_signs_are_asked_for(rt: HostRuntime) -> Result<()
             assert_eq!(rt; change, i32::MIN);
         }
         _ => assert!(rt; false),
-    }
-    Ok(())
-}
-
-/// Whether the first line of the text is told to be faulty.
-fn is_faulty(alloc: Global, text: &[u8]) -> bool {
-    matches!(read_script(alloc, text), Err(ScriptError::Line(1)))
-}
-
-#[test]
-fn hostile_lines_are_faults(rt: HostRuntime) -> Result<(), Fail> {
-    for line in [
-        "",
-        " ",
-        "boot:",
-        "boot: ",
-        ": self_get",
-        "boot self_get",
-        "boot : self_get",
-        "boot: self_get #1",
-        "boot: self_get\t",
-        "boot: self_get\0",
-        "boot: SELF_GET",
-        "boot: obj_label root",
-        "boot: obj_label root s s",
-        "boot: quota_move root s +1",
-        "boot: quota_move root s -0",
-        "boot: quota_move root s 2147483648",
-        "boot: gate_enter root g {1} {1} {1",
-        "boot: gate_enter root g {1} {1}",
-        "boot: thread_create root {1} 1 {1} 18446744073709551616",
-        "boot: as_map root a 0 0 root s 0 1 wr",
-        "boot: as_get root a 4294967296",
-        "boot: dev_send root dev",
-        "boot: store 0 0",
-        "boot: load -1 1",
-        "boot: load #1 1",
-        "x = boot: link root root s",
-        "x = boot: gate_enter root g {1} {1} {1}",
-        "x = boot: self_get",
-        "x = x = boot: cat_create",
-        "dev = boot: cat_create",
-        "-- --",
-        "---",
-    ] {
-        let text = script_of(rt.alloc(), &[line])?;
-        assert!(rt; is_faulty(rt.alloc(), text.as_slice()), "{line}");
     }
     Ok(())
 }
