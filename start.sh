@@ -47,7 +47,10 @@ ends() {
 
 # Ends where the words ask for a file to be written, or for the auditor, which reads one of any size.
 needs_no_file() {
-    [ "$crate" = histar ] || [ "$crate" = histar_check ] || ends 78 'this needs the proved program, which ./prove builds'
+    case $crate in
+        histar | histar_check | histar_try) ;;
+        *) ends 78 'this needs the proved program, which ./prove builds' ;;
+    esac
     for word; do
         case $word in --dump | --dump=*) ends 78 '--dump needs the proved program, which ./prove builds' ;; esac
     done
@@ -70,6 +73,14 @@ place_of_script() {
     place=0
 }
 
+# Takes the lines of a dialogue whole, in the file that is named: an unproved program answers all of them at once. Where one of
+# them saves it ends, since the program runs in a folder of its own.
+take_lines() {
+    [ ! -t 0 ] || printf '%s: until then the lines are answered together, once they end (Ctrl-D)\n' "$name" >&2
+    cat >"$1"
+    ! grep -q '^save [^=]' "$1" || ends 78 'save needs the proved program, which ./prove builds'
+}
+
 # Runs the program by `rt try`, which compiles the sources as they stand with checks and keeps nothing. It gives the program
 # a copy of the script, as the file script.histar. What rt says of a run that the program ended is left out.
 unproved() {
@@ -90,7 +101,11 @@ unproved() {
     [ -z "$script" ] || set -- --data "script.histar=$script" -- "$@"
     [ -n "$script" ] || set -- -- "$@"
     said=$(mktemp) || ends 73 'no temporary file can be made'
-    trap 'rm -f "$said"' EXIT
+    trap 'rm -f "$said" "$said.lines"' EXIT
+    if [ "$crate" = histar_try ]; then
+        take_lines "$said.lines"
+        exec <"$said.lines"
+    fi
     status=0
     (cd "$top/crates/$crate" && exec rt try "$@" 2>"$said") || status=$?
     if grep -q '^run=ended ' "$said"; then

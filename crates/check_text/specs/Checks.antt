@@ -1,10 +1,10 @@
 -- What is told of a script.
-use Rattle.std.specs.Prelude.{◌≡◌, ◌⊎◌, ℕ, List, [], ◌∷◌, Option}
+use Rattle.std.specs.Prelude.{◌≡◌, ◌⊎◌, ℕ, List, [], ◌∷◌, ◌++◌, Option}
 use Rattle.std.specs.Io.KnownBytes.{Appends}
 use Rattle.call_text.specs.Script.{IsScript, ScriptFaultsAt}
 use Rattle.call_text.specs.declared.phases.Line.{Line}
 use Rattle.script_checks.specs.Warnings.{warnings_of}
-use Rattle.check_text.specs.FaultTexts.{fault_text}
+use Rattle.check_text.specs.FaultTexts.{fault_text, reason_text}
 use Rattle.check_text.specs.Reasons.{IsReason, line_at}
 use Rattle.check_text.specs.WarningTexts.{warnings_text}
 use Rattle.check_text.specs.declared.reasons.Reason.{Reason}
@@ -25,6 +25,11 @@ pub record IsFaulty (path bytes told : List ℕ) : Type 0 where
 
 abbrev pub IsTold : List ℕ → List ℕ → List ℕ → Type 0
 IsTold path bytes told = IsWarned path bytes told ⊎ IsFaulty path bytes told
+
+-- why line n is the first faulty one, where it is, was added
+abbrev pub AddsWhy : List ℕ → ℕ → List ℕ → List ℕ → Type 0
+AddsWhy bytes n old new =
+    (reason : Reason) × IsReason bytes n reason × (new ≡ old ++ reason_text (line_at n bytes) reason)
 
 -- the status: 0 where nothing is told, and 1 where something is
 abbrev pub status_of : List ℕ → ℕ

@@ -1,8 +1,8 @@
 //! What is told of a script.
-ghost use Rattle.std.specs.Prelude.{◌≡◌, IfOk};
-ghost use Rattle.check_text.specs.Checks.{IsTold};
+ghost use Rattle.std.specs.Prelude.{◌≡◌, IfOk, OnOk};
+ghost use Rattle.check_text.specs.Checks.{IsTold, AddsWhy};
 
-use crate::fault_texts::put_fault;
+use crate::fault_texts::{put_fault, put_reason};
 use crate::lines::{after_lines, cut};
 use crate::reasons::find_reason;
 use crate::warning_texts::put_warnings;
@@ -30,4 +30,13 @@ pub fn check(alloc: Global, path: &str, bytes: &[u8]) -> Result<Vec<u8>, NoMemor
         }
     }
     Ok(out)
+}
+
+/// Adds why line `number` of the bytes, from 1, is the first faulty one, where it is. Want of memory is the only error.
+pub fn put_why(alloc: Global, out: &mut Vec<u8>, bytes: &[u8], number: u32) -> Result<(), NoMemory>
+    ensures { OnOk result (AddsWhy bytes.now number out.old.items out.new.items) }
+{
+    let reason = find_reason(alloc, bytes, number)?;
+    let (line, _) = cut(after_lines(number.saturating_sub(1), bytes), b'\n');
+    put_reason(out, line, reason)
 }

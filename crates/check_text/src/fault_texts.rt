@@ -152,7 +152,7 @@ fn standing_text(reason: Reason) -> &'static str
 }
 
 /// Adds why a line is faulty.
-fn put_reason(out: &mut Vec<u8>, line: &[u8], reason: Reason) -> Result<(), NoMemory>
+pub fn put_reason(out: &mut Vec<u8>, line: &[u8], reason: Reason) -> Result<(), NoMemory>
     requires { IsWithin line.now reason }
     ensures { OnOk result (out.new.items ≡ out.old.items ++ reason_text line.now reason) }
 {

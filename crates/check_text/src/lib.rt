@@ -11,5 +11,6 @@ mod program;
 mod reasons;
 mod warning_texts;
 
-pub use checks::check;
+pub use checks::{check, put_why};
+pub use lines::{binding, cut};
 pub use program::{NAME, check_on};

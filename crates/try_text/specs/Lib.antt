@@ -1,0 +1,5 @@
+pub mod Printed
+pub mod Responds
+pub mod Tells
+pub mod Why
+pub mod Words

@@ -1,0 +1,48 @@
+-- Why the last call was answered as it was.
+use Rattle.std.specs.Prelude.{ℕ, List, [], ◌++◌, Option, Some, None, Result, Ok, Err, codes}
+use Rattle.std.specs.List.{flat_map}
+use Rattle.call_text.specs.declared.asking.Asked.{Asked}
+use Rattle.call_text.specs.declared.asking.Asked.TheVariants.{Read, Write}
+use Rattle.call_text.specs.declared.phases.Line.{Line}
+use Rattle.explained.specs.Explained.{explained, query_explained}
+use Rattle.explained.specs.declared.parts.Finding.{Finding}
+use Rattle.kernel_rules.specs.State.{State}
+use Rattle.show_text.specs.Explained.{call_head}
+use Rattle.show_text.specs.Parts.{finding_text}
+use Rattle.tried_lines.specs.Dialogues.{Talk, last_of, standing, undone}
+use Rattle.tried_lines.specs.Saved.{line_text}
+use Rattle.tried_lines.specs.Standing.{first_line, question, reply_to}
+use Rattle.tried_lines.specs.Stands.{Stands}
+use Rattle.tried_lines.specs.declared.kept.Kept.{Kept}
+use Rattle.tried_lines.specs.declared.questions.Question.{Question}
+
+-- the conditions of what is asked
+abbrev pub findings_by : State → ℕ → Asked → List Finding
+findings_by s thread (Write call) = explained s thread call
+findings_by s thread (Read query) = query_explained s thread query
+
+abbrev pub findings_of : State → Question → List Finding
+findings_of s q = findings_by s q.thread q.asked
+
+-- the line, what the rules answer to it, and each condition
+abbrev pub why_asked : Stands → List ℕ → Question → List ℕ
+why_asked s said q = call_head said (reply_to s.state q) ++ flat_map finding_text (findings_of s.state q)
+
+abbrev pub why_asking : Stands → List ℕ → Result Question (List ℕ) → List ℕ
+why_asking s said (Ok q) = why_asked s said q
+why_asking s said (Err name) = []
+
+abbrev pub why_of : Stands → Option (List ℕ) → Option Line → List ℕ
+why_of s binds None = []
+why_of s binds (Some l) = why_asking s (line_text binds l) (question s.names l)
+
+abbrev pub why_line : Stands → Kept → List ℕ
+why_line s k = why_of s k.binds (first_line k.script)
+
+abbrev pub why_last : Stands → Option Kept → List ℕ
+why_last s None = codes "no call was made\n"
+why_last s (Some k) = why_line s k
+
+-- the same of the last line of a dialogue, in the state that the lines before it lead to
+abbrev pub why_text : Talk → List ℕ
+why_text d = why_last (standing (undone d)) (last_of d.lines)
