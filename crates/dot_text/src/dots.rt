@@ -117,8 +117,9 @@ fn dot_of(state: &PlainState, reached: &[ObjectId]) -> Result<Vec<u8>, NoMemory>
     Ok(text)
 }
 
-/// Which objects are red: what flows reach, where they are asked for.
-fn red_in(
+/// Which objects are red: what flows from an object outside a category reach, where they are asked for. The errors come in this
+/// order: an audit does not find the dump clean; or there is no memory.
+pub fn red_in(
     alloc: Global,
     text: &[u8],
     flow: Option<(ObjectId, Category)>,

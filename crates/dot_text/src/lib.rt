@@ -8,6 +8,6 @@ mod faults;
 mod nodes;
 mod program;
 
-pub use dots::dot;
+pub use dots::{dot, red_in};
 pub use faults::DotFault;
 pub use program::dot_on;

@@ -1,23 +1,48 @@
 //! `histar-show why DUMP LINE`: why a call of a dump is answered as it is. `histar-show tree DUMP`: the objects that it leads
-//! to; `dot` the same as a graph. `histar-show json DUMP`: the dump as JSON. Without words it looks at the dump on its standard
-//! input, for the first false line.
+//! to; `dot` the same as a graph. `histar-show json DUMP`: the dump as JSON. `histar-show page DUMP --out FILE`: the dump as a page.
+//! Without words it looks at the dump on its standard input, for the first false line.
 #![tactic(auto)]
 
 use base::{Category, ObjectId};
 use dot_text::dot_on;
 use json_text::json_on;
-use program_io::{Counted, Fault, tell_answer, words_of};
+use page_text::page_on;
+use program_io::{Counted, Fault, Sink, beside, put_file, tell_answer, words_of};
 use show_args::{Verb, read_words};
 use show_states::NAME;
 use show_text::why_on;
 use std::fs::File;
 use std::io;
+use std::io::{Read, Write};
 use std::process::ExitCode;
 use tree_text::tree_on;
 
 /// The object and the category of the flows that are asked for.
 fn flow_of(numbers: (u64, u64)) -> (ObjectId, Category) {
     (ObjectId::new(numbers.0), Category(numbers.1))
+}
+
+/// Writes the page of the dump that a reader gives to a file. The answer is the status.
+fn put_page<I: Read, S: Sink, E: Write>(
+    rt: &HostRuntime,
+    dump: &mut I,
+    flow: Option<(ObjectId, Category)>,
+    path: &str,
+    out: &mut S,
+    err: &mut E,
+) -> u8 {
+    let alloc = rt.alloc();
+    let Ok(beside) = beside(alloc, path) else {
+        return Fault::Memory.tell(NAME, err);
+    };
+    let page = match page_on(alloc, dump, flow, out, err) {
+        Ok(page) => page,
+        Err(status) => return status,
+    };
+    match put_file(rt, path, beside.as_str(), page.as_slice()) {
+        Ok(()) => 0,
+        Err(fault) => fault.tell(NAME, err),
+    }
 }
 
 fn main(rt: HostRuntime) -> ExitCode {
@@ -41,9 +66,15 @@ fn main(rt: HostRuntime) -> ExitCode {
     };
     let status = match told.verb {
         Verb::Why(line) => why_on(alloc, &mut dump, line, &mut out, &mut err),
-        Verb::Tree(after) => tree_on(alloc, &mut dump, after, &mut out, &mut err),
+        Verb::Tree(after, is_coloured) => {
+            tree_on(alloc, &mut dump, after, is_coloured, &mut out, &mut err)
+        }
         Verb::Json => json_on(alloc, &mut dump, &mut out, &mut err),
         Verb::Dot(flow) => dot_on(alloc, &mut dump, flow.map(flow_of), &mut out, &mut err),
+        Verb::Page(flow) => {
+            let path = told.out.unwrap_or("");
+            put_page(&rt, &mut dump, flow.map(flow_of), path, &mut out, &mut err)
+        }
     };
     ExitCode::from(status)
 }

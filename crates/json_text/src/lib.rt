@@ -8,4 +8,5 @@ mod pieces;
 mod program;
 
 pub use jsons::json;
+pub use pieces::word_value;
 pub use program::json_on;

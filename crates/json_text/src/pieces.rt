@@ -19,8 +19,8 @@ fn word_string(alloc: Global, word: &[u8]) -> Result<String, AllocError>
     Ok(text)
 }
 
-/// A word as JSON.
-fn word_value(alloc: Global, word: &[u8]) -> Result<Value, AllocError>
+/// A word as JSON. Want of memory is the only error.
+pub fn word_value(alloc: Global, word: &[u8]) -> Result<Value, AllocError>
     ensures { IfOk result (λ value. view value ≡ word_data word.now) }
 {
     Ok(Value::String(word_string(alloc, word)?))

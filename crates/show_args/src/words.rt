@@ -8,12 +8,14 @@ use std::convert::AsStr;
 pub enum Verb {
     /// Why the calls of a line are answered as they are, lines counting from 1; of the first false line where none is named.
     Why(Option<u64>),
-    /// The objects after so many events as a tree; after all where no count is told.
-    Tree(Option<u64>),
+    /// The objects after so many events as a tree, after all where no count is told, and whether in colours.
+    Tree(Option<u64>, bool),
     /// The dump as JSON.
     Json,
     /// The objects as a graph, and which of them flows from an object outside a category reach, where they are asked for.
     Dot(Option<(u64, u64)>),
+    /// The dump as a page, and which objects flows from an object outside a category reach, where they are asked for.
+    Page(Option<(u64, u64)>),
 }
 
 /// What the words say.
@@ -23,7 +25,13 @@ pub struct Told<'a> {
     pub dump: &'a str,
     /// What is shown of it.
     pub verb: Verb,
+    /// The path of the page, where one is written.
+    pub out: Option<&'a str>,
 }
+
+/// What is told of a category beside an object that flows are from.
+const OUTSIDE: &str =
+    "The category outside of which these flows are: none goes on by an owner of it";
 
 /// The path of the dump.
 fn dump<'a>(alloc: Global) -> Arg<'a> {
@@ -57,11 +65,20 @@ fn tree<'a>(alloc: Global) -> Result<Command<'a>, Error> {
         .action(ArgAction::Set)
         .value_parser(value_parser!(u64))
         .help("After how many events of the dump; after all where no count is told");
+    let color = Arg::new(alloc, "color")
+        .long("color")
+        .value_name("WHEN")
+        .action(ArgAction::Set)
+        .value_parser(["auto", "always", "never"].as_slice())
+        .help(
+            "Whether in colours; auto is never for the program alone, since it can't ask what its output is",
+        );
     Ok(
         Command::new(alloc, "tree")
             .about("Shows the objects that a dump leads to as a tree")
             .arg(dump(alloc))?
-            .arg(after)?,
+            .arg(after)?
+            .arg(color)?,
     )
 }
 
@@ -96,9 +113,7 @@ fn dot<'a>(alloc: Global) -> Result<Command<'a>, Error> {
     let flows = number_beside(alloc, "flows", "ID", "category")?.help(
         "Of a clean dump, show in red which objects flows from this one reach",
     );
-    let category = number_beside(alloc, "category", "N", "flows")?.help(
-        "The category outside of which these flows are: none goes on by an owner of it",
-    );
+    let category = number_beside(alloc, "category", "N", "flows")?.help(OUTSIDE);
     Ok(
         Command::new(alloc, "dot")
             .about("Shows the objects that a dump leads to as a graph for Graphviz")
@@ -108,11 +123,38 @@ fn dot<'a>(alloc: Global) -> Result<Command<'a>, Error> {
     )
 }
 
-/// The flows that are asked for.
-fn flow_of(words: &ArgMatches<'_>) -> Option<(u64, u64)> {
-    let id = words.get_one::<u64>("flows")?;
+/// The words of `page`.
+fn page<'a>(alloc: Global) -> Result<Command<'a>, Error> {
+    let out = Arg::new(alloc, "out")
+        .long("out")
+        .value_name("FILE")
+        .required(true)
+        .action(ArgAction::Set)
+        .help("The file that the page is written to");
+    let from = number_beside(alloc, "from", "ID", "category")?.help(
+        "Of a clean dump, mark which objects flows from this one reach",
+    );
+    let category = number_beside(alloc, "category", "N", "from")?.help(OUTSIDE);
+    Ok(
+        Command::new(alloc, "page")
+            .about("Writes a dump as a page of HTML, with the tree after each event")
+            .arg(dump(alloc))?
+            .arg(out)?
+            .arg(from)?
+            .arg(category)?,
+    )
+}
+
+/// The flows that are asked for, from an object that this word tells.
+fn flow_of(words: &ArgMatches<'_>, from: &str) -> Option<(u64, u64)> {
+    let id = words.get_one::<u64>(from)?;
     let category = words.get_one::<u64>("category")?;
     Some((id, category))
+}
+
+/// Whether colours are asked for.
+fn is_coloured(words: &ArgMatches<'_>) -> bool {
+    words.get_str("color").unwrap_or("") == "always"
 }
 
 /// All words.
@@ -125,16 +167,26 @@ fn command<'a>(alloc: Global) -> Result<Command<'a>, Error> {
             .subcommand(why(alloc)?)?
             .subcommand(tree(alloc)?)?
             .subcommand(json(alloc)?)?
-            .subcommand(dot(alloc)?)?,
+            .subcommand(dot(alloc)?)?
+            .subcommand(page(alloc)?)?,
     )
+}
+
+/// The path of the page, where one is written.
+fn out_of<'a>(verb: Verb, words: &ArgMatches<'a>) -> Option<&'a str> {
+    match verb {
+        Verb::Page(_) => words.get_str("out"),
+        _ => None,
+    }
 }
 
 /// What is shown, by the name of the verb.
 fn verb_of(name: &str, words: &ArgMatches<'_>) -> Verb {
     match name {
-        "tree" => Verb::Tree(words.get_one::<u64>("after")),
+        "tree" => Verb::Tree(words.get_one::<u64>("after"), is_coloured(words)),
         "json" => Verb::Json,
-        "dot" => Verb::Dot(flow_of(words)),
+        "dot" => Verb::Dot(flow_of(words, "flows")),
+        "page" => Verb::Page(flow_of(words, "from")),
         _ => Verb::Why(words.get_one::<u64>("LINE")),
     }
 }
@@ -147,10 +199,13 @@ pub fn read_words<'a, S: AsStr>(alloc: Global, words: &'a [S]) -> Result<Told<'a
         return Ok(Told {
             dump: "",
             verb: Verb::Why(None),
+            out: None,
         });
     };
+    let verb = verb_of(name, told);
     Ok(Told {
         dump: told.get_str("DUMP").unwrap_or(""),
-        verb: verb_of(name, told),
+        verb,
+        out: out_of(verb, told),
     })
 }

@@ -9,6 +9,8 @@ mod dot_tests;
 #[cfg(test)]
 mod json_tests;
 #[cfg(test)]
+mod page_tests;
+#[cfg(test)]
 mod tree_tests;
 #[cfg(test)]
 mod why_tests;

@@ -5,7 +5,7 @@ use std::alloc::Global;
 use std::io::ErrorKind;
 use std::test::Fail;
 use test_support::{Broken, is_true};
-use tree_text::{tree, tree_on};
+use tree_text::{coloured_tree, colours_are_beside, tree, tree_on};
 
 /// A segment that two containers list, a mapping of it, and a gate that lends its category.
 const BUILT: &str = "histar-dump 1
@@ -40,6 +40,13 @@ const BEGUN_TREE: &str = "#1 container, label {1}, quota 64, used 6
   #2 thread, label {#1:*,1}, owns #1, clearance label {#1:3,2}, quota 1, used 1
   #3 device, label {1}, quota 2, used 2
   #4 segment, label {#1:3,1}, quota 2, used 2
+";
+
+/// The same in colours.
+const BEGUN_COLOURED: &str = "#1 container, label {1}, quota 64, used 6
+  #2 thread, label {\x1b[32m#1:*\x1b[0m,1}, \x1b[1mowns\x1b[0m \x1b[32m#1\x1b[0m, clearance label {\x1b[32m#1:3\x1b[0m,2}, quota 1, used 1
+  #3 device, label {1}, quota 2, used 2
+  #4 segment, label {\x1b[32m#1:3\x1b[0m,1}, quota 2, used 2
 ";
 
 /// A dump of format 2, whose one call is answered against the rules.
@@ -92,6 +99,16 @@ fn the_first_events_alone_are_shown(rt: HostRuntime) -> Result<(), Fail> {
 }
 
 #[test]
+fn categories_have_colours(rt: HostRuntime) -> Result<(), Fail> {
+    colours_are_beside();
+    let told = coloured_tree(rt.alloc(), BUILT.as_bytes(), Some(2), true)?;
+    assert!(rt; is_true(told.as_slice() == BEGUN_COLOURED.as_bytes()));
+    let told = coloured_tree(rt.alloc(), BUILT.as_bytes(), Some(2), false)?;
+    assert!(rt; is_true(told.as_slice() == BEGUN_TREE.as_bytes()));
+    Ok(())
+}
+
+#[test]
 fn a_checkpoint_is_begun_from_and_replies_are_not_looked_at(rt: HostRuntime) -> Result<(), Fail> {
     assert!(rt; is_true(shows(rt.alloc(), LATER, None, LATER_TREE)));
     Ok(())
@@ -115,6 +132,7 @@ fn ends(alloc: Global, dump: &str, status: u8, out: &[u8], err: &[u8]) -> bool {
         alloc,
         &mut reader,
         None,
+        false,
         &mut Counted::new(&mut printed),
         &mut told,
     );
@@ -139,7 +157,7 @@ fn a_tree_that_cannot_be_printed_is_told(rt: HostRuntime) -> Result<(), Fail> {
     let mut err = Vec::new(alloc);
     let mut reader = BUILT.as_bytes();
     let mut closed = Counted::new(Broken(ErrorKind::BrokenPipe));
-    let status = tree_on(alloc, &mut reader, None, &mut closed, &mut err);
+    let status = tree_on(alloc, &mut reader, None, false, &mut closed, &mut err);
     assert!(rt;
         is_true(status == 3 && err.as_slice() == b"histar-show: output fault\n".as_slice())
     );
@@ -148,8 +166,8 @@ fn a_tree_that_cannot_be_printed_is_told(rt: HostRuntime) -> Result<(), Fail> {
 
 #[test]
 fn want_of_memory_is_told_of_trees(rt: HostRuntime) -> Result<(), Fail> {
-    match tree(rt.alloc(), BUILT.as_bytes(), None) {
-        Ok(told) => assert!(rt; is_true(told.as_slice() == BUILT_TREE.as_bytes())),
+    match coloured_tree(rt.alloc(), BUILT.as_bytes(), Some(2), true) {
+        Ok(told) => assert!(rt; is_true(told.as_slice() == BEGUN_COLOURED.as_bytes())),
         Err(fault) => assert!(rt; is_true(fault == ShowFault::Memory)),
     }
     Ok(())

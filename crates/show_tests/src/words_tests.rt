@@ -17,9 +17,9 @@ fn reads_the_dump_and_the_count(rt: HostRuntime) -> Result<(), Fail> {
         rt.alloc(),
         &["histar-show", "tree", "--after", "0", "a.dump"],
     )?;
-    assert!(rt; told.dump == "a.dump" && told.verb == Verb::Tree(Some(0)));
+    assert!(rt; told.dump == "a.dump" && told.verb == Verb::Tree(Some(0), false));
     let told = read_words(rt.alloc(), &["histar-show", "tree", "a.dump"])?;
-    assert!(rt; told.dump == "a.dump" && told.verb == Verb::Tree(None));
+    assert!(rt; told.dump == "a.dump" && told.verb == Verb::Tree(None, false));
     let told = read_words(rt.alloc(), &["histar-show", "json", "a.dump"])?;
     assert!(rt; told.dump == "a.dump" && told.verb == Verb::Json);
     Ok(())
@@ -44,8 +44,40 @@ fn reads_the_dump_and_the_flows(rt: HostRuntime) -> Result<(), Fail> {
 }
 
 #[test]
+fn reads_whether_in_colours(rt: HostRuntime) -> Result<(), Fail> {
+    for (when, is_coloured) in [("auto", false), ("always", true), ("never", false)] {
+        let words = ["histar-show", "tree", "a.dump", "--color", when];
+        let told = read_words(rt.alloc(), &words)?;
+        assert!(rt; told.verb == Verb::Tree(None, is_coloured), "{when}");
+    }
+    Ok(())
+}
+
+#[test]
+fn reads_the_dump_and_the_page(rt: HostRuntime) -> Result<(), Fail> {
+    let words = ["histar-show", "page", "a.dump", "--out", "a.html"];
+    let told = read_words(rt.alloc(), &words)?;
+    assert!(rt;
+        told.dump == "a.dump" && told.verb == Verb::Page(None) && told.out == Some("a.html")
+    );
+    let words = [
+        "histar-show",
+        "page",
+        "a.dump",
+        "--out=a.html",
+        "--from",
+        "4",
+        "--category",
+        "1",
+    ];
+    let told = read_words(rt.alloc(), &words)?;
+    assert!(rt; told.verb == Verb::Page(Some((4, 1))) && told.out == Some("a.html"));
+    Ok(())
+}
+
+#[test]
 fn refuses_other_words(rt: HostRuntime) -> Result<(), Fail> {
-    let unread: [&[&str]; 13] = [
+    let unread: [&[&str]; 16] = [
         &["histar-show"],
         &["histar-show", "why"],
         &["histar-show", "why", "a.dump", "0"],
@@ -59,6 +91,9 @@ fn refuses_other_words(rt: HostRuntime) -> Result<(), Fail> {
         &["histar-show", "dot"],
         &["histar-show", "dot", "a.dump", "--flows", "4"],
         &["histar-show", "dot", "a.dump", "--category", "1"],
+        &["histar-show", "tree", "a.dump", "--color", "red"],
+        &["histar-show", "page", "a.dump"],
+        &["histar-show", "page", "a.dump", "--out", "b", "--from", "4"],
     ];
     for words in unread {
         match read_words(rt.alloc(), words) {

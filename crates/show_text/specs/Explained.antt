@@ -8,6 +8,7 @@ use Rattle.kernel_rules.specs.Step.{answer, next}
 use Rattle.kernel_rules.specs.Runs.{state_after}
 use Rattle.kernel_rules.specs.declared.calls.Call.{Call}
 use Rattle.kernel_rules.specs.declared.replies.Reply.{Reply}
+use Rattle.kernel_rules.specs.declared.replies.Reply.TheVariants as replies
 use Rattle.histories.specs.Events.{Event, by}
 use Rattle.histories.specs.History.{state_from}
 use Rattle.histories.specs.declared.events.Answered.{Answered}
@@ -38,6 +39,15 @@ abbrev pub calls_explained : List ℕ → State → ℕ → List Answered → Li
 calls_explained text s t [] = []
 calls_explained text s t (a ∷ more) =
     call_explained (before_end text) s t a.call ++ calls_explained (after_end text) (next s t a.call) t more
+
+-- whether a reply tells a refusal
+abbrev pub is_refused : Reply → Bool
+is_refused (replies.Refused refusal) = true
+is_refused _ = false
+
+-- why the rules refuse a call, and nothing where they don't
+abbrev pub refusal_explained : List ℕ → State → ℕ → Call → List ℕ
+refusal_explained line s t call = if is_refused (answer s t call) then call_explained line s t call else []
 
 -- so many lines stand before that of the first call, where line n tells it or is that of a batch
 abbrev pub lines_above : ℕ → Bool → ℕ

@@ -6,7 +6,7 @@ ghost use Rattle.call_text.specs.Reply.{reply_text};
 ghost use Rattle.explained.specs.Explained.{explained};
 ghost use Rattle.kernel_rules.specs.Step.{answer, next};
 ghost use Rattle.plain_state.specs.StateOf.{state_of};
-ghost use Rattle.show_text.specs.Explained.{call_head, call_explained, calls_explained, event_explained, place_explained, IsWhy};
+ghost use Rattle.show_text.specs.Explained.{call_head, call_explained, is_refused, refusal_explained, calls_explained, event_explained, place_explained, IsWhy};
 ghost use Rattle.show_text.specs.Parts.{finding_text};
 
 use crate::lines::{after_lines, first_line};
@@ -43,14 +43,50 @@ fn findings_text(
     Ok(text)
 }
 
-/// Adds the line that tells a call, and the rules' answer.
-fn put_head(out: &mut Vec<u8>, line: &[u8], reply: &Reply) -> Result<(), NoMemory>
+/// Adds the line that tells a call, and the rules' answer. The error is want of memory.
+pub fn put_head(out: &mut Vec<u8>, line: &[u8], reply: &Reply) -> Result<(), NoMemory>
     ensures { OnOk result (out.new.items ≡ out.old.items ++ call_head line.now reply.now) }
 {
     out.extend_from_slice(line)?;
     out.extend_from_slice(b"\nthe rules answer: ")?;
     put_bare(out, reply)?;
     out.push(b'\n')?;
+    Ok(())
+}
+
+/// The rules' answer to a call, and the conditions of the call in words.
+#[derive(Drop)]
+struct Answer {
+    reply: Reply,
+    told: Vec<u8>,
+}
+
+/// The rules' answer to a call, which it makes.
+fn answer_to(
+    state: &mut PlainState,
+    thread: ObjectId,
+    call: &Call,
+    meter: &mut Meter,
+) -> Result<Answer, NoMemory>
+    ensures reply { IfOk result (λ given. given.reply ≡ answer (state_of state.old) thread call.now) }
+    ensures told { IfOk result (λ given. given.told.items
+        ≡ flat_map finding_text (explained (state_of state.old) thread call.now)) }
+    ensures state { OnOk result (state_of state.new ≡ next (state_of state.old) thread call.now) }
+{
+    // (a type that a reply has, which the proof names)
+    let _mapping: Option<Mapping> = None;
+    let told = findings_text(state, thread, call, meter)?;
+    let reply = step(state, thread, call, meter)?;
+    Ok(Answer { reply, told })
+}
+
+/// Adds the line that tells a call, the rules' answer, and the conditions.
+fn put_answer(out: &mut Vec<u8>, line: &[u8], given: &Answer) -> Result<(), NoMemory>
+    ensures { OnOk result (out.new.items
+        ≡ out.old.items ++ (call_head line.now given.now.reply ++ given.now.told.items)) }
+{
+    put_head(out, line, &given.reply)?;
+    out.extend_from_slice(given.told.as_slice())?;
     Ok(())
 }
 
@@ -69,11 +105,38 @@ fn put_call(
 {
     // (a type that a reply has, which the proof names)
     let _mapping: Option<Mapping> = None;
-    let told = findings_text(state, thread, call, meter)?;
-    let reply = step(state, thread, call, meter)?;
-    put_head(out, line, &reply)?;
-    out.extend_from_slice(told.as_slice())?;
-    Ok(())
+    let given = answer_to(state, thread, call, meter)?;
+    put_answer(out, line, &given)
+}
+
+/// Whether a reply tells a refusal.
+fn is_refused(reply: &Reply) -> bool
+    ensures { result ≡ is_refused reply.now }
+{
+    matches!(reply, Reply::Refused(_))
+}
+
+/// Adds why a call is refused, after the line that tells it, and nothing where the rules accept it. Makes the call. Want of
+/// memory is the only error.
+pub fn put_refusal(
+    out: &mut Vec<u8>,
+    line: &[u8],
+    state: &mut PlainState,
+    thread: ObjectId,
+    call: &Call,
+    meter: &mut Meter,
+) -> Result<(), NoMemory>
+    ensures text { OnOk result (out.new.items
+        ≡ out.old.items ++ refusal_explained line.now (state_of state.old) thread call.now) }
+    ensures state { OnOk result (state_of state.new ≡ next (state_of state.old) thread call.now) }
+{
+    // (a type that a reply has, which the proof names)
+    let _mapping: Option<Mapping> = None;
+    let given = answer_to(state, thread, call, meter)?;
+    if !is_refused(&given.reply) {
+        return Ok(());
+    }
+    put_answer(out, line, &given)
 }
 
 /// Adds why calls are answered as they are, which the lines of a text tell from its first on, and makes them.

@@ -1,2 +1,3 @@
+pub mod ColourLaws
 pub mod TextLaws
 pub mod Whole

@@ -1,3 +1,4 @@
+pub mod Colours
 pub mod Objects
 pub mod Places
 pub mod Slots

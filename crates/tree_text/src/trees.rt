@@ -2,9 +2,11 @@
 ghost use Rattle.std.specs.Prelude.{◌≡◌, ◌++◌, ◌+◌, ◌^◌, ◌<◌, IfOk, OnOk};
 ghost use Rattle.plain_state.specs.StateOf.{state_of};
 ghost use Rattle.show_states.specs.States.{ShowsAfter};
+ghost use Rattle.tree_text.specs.Colours.{coloured_if};
 ghost use Rattle.tree_text.specs.Trees.{lines_at, tree_from, tree_text};
 
 use crate::objects::put_line;
+use crate::painting::painted_if;
 use crate::places::Place;
 use crate::slots::{put_slots, slots_of};
 use base::{Meter, NoMemory, ObjectId};
@@ -51,8 +53,8 @@ fn put_tree(
     Ok(())
 }
 
-/// The tree of a state.
-fn tree_of(state: &PlainState) -> Result<Vec<u8>, NoMemory>
+/// The tree of a state. Want of memory is the only error.
+pub fn tree_of(state: &PlainState) -> Result<Vec<u8>, NoMemory>
     ensures { IfOk result (λ text. text.items ≡ tree_text (state_of state.now)) }
 {
     let mut meter = Meter::new(state.alloc())?;
@@ -69,4 +71,17 @@ pub fn tree(alloc: Global, text: &[u8], after: Option<u64>) -> Result<Vec<u8>, S
 {
     let state = state_after(alloc, text, after)?;
     Ok(tree_of(&state)?)
+}
+
+/// The same, in colours where they are wanted. The errors come in the same order.
+pub fn coloured_tree(
+    alloc: Global,
+    text: &[u8],
+    after: Option<u64>,
+    is_coloured: bool,
+) -> Result<Vec<u8>, ShowFault>
+    ensures { ShowsAfter (λ s. coloured_if is_coloured (tree_text s)) text.now after result }
+{
+    let told = tree(alloc, text, after)?;
+    Ok(painted_if(alloc, is_coloured, told)?)
 }

@@ -1,0 +1,29 @@
+-- What is shown of all that was read.
+use Rattle.std.proofs.Common.{◌≡◌, ℕ, List, Option, Some, None, IfSome, ap, subst, ◌∙◌}
+use Rattle.std.specs.Global.{Vec}
+use Rattle.base.specs.declared.ids.Category.{Category}
+use Rattle.dump_text.specs.Lists.{DumpLists}
+use Rattle.dump_text.specs.Whole.{start_with}
+use Rattle.histories.specs.Events.{Event}
+use Rattle.kernel_rules.specs.State.{State}
+use Rattle.page_text.specs.Page.{page_text, page_data, shown_data}
+use Rattle.page_text.specs.Shown.{PageShows}
+use Rattle.page_text.specs.Steps.{steps_of}
+use Rattle.page_text.specs.Told.{told_in}
+
+pub shown_of_all : (remaining : Option (List ℕ)) (flow : Option (ℕ × Category)) (read given : List ℕ) (told : Vec ℕ)
+    → IfSome remaining (λ left. read ≡ left) → given ≡ read → PageShows flow given told.items
+    → IfSome remaining (λ text. PageShows flow text told.items)
+shown_of_all None flow read given told is same shown = tt
+shown_of_all (Some left) flow read given told is same shown = subst (λ (l : List ℕ). PageShows flow l told.items) (same ∙ is) shown
+
+-- the page of what a dump was taken apart into is the dump's
+pub page_told : (text : List ℕ) (whole parts : DumpLists) (flow : Option (ℕ × Category)) (reached given : List ℕ) (s : State)
+    (events : List Event) (told : List ℕ) → told ≡ page_text (shown_data flow given (steps_of (told_in text) s events))
+    → given ≡ reached → parts ≡ whole → s ≡ (start_with parts.limits parts.checkpoint).state → events ≡ parts.events
+    → told ≡ page_text (page_data text whole flow reached)
+page_told text whole parts flow reached given s events told is same parted begun are =
+    is ∙ ap (λ (l : List ℕ). page_text (shown_data flow l (steps_of (told_in text) s events))) same
+    ∙ ap (λ (x : State). page_text (shown_data flow reached (steps_of (told_in text) x events))) begun
+    ∙ ap (λ (es : List Event). page_text (shown_data flow reached (steps_of (told_in text) (start_with parts.limits parts.checkpoint).state es))) are
+    ∙ ap (λ (d : DumpLists). page_text (page_data text d flow reached)) parted

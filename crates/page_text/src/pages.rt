@@ -1,0 +1,131 @@
+//! The page of a dump.
+ghost use Rattle.std.specs.Prelude.{◌≡◌, false, List, map, IfOk};
+ghost use Rattle.page_text.specs.Marked.{number_data};
+ghost use Rattle.page_text.specs.Page.{flow_data, shown_data, framed, page_text};
+ghost use Rattle.page_text.specs.Shown.{IsPage};
+ghost use Rattle.page_text.specs.Steps.{Step, steps_of, step_data};
+ghost use Rattle.page_text.specs.Told.{told_in};
+ghost use Rattle.plain_state.specs.StateOf.{state_of};
+ghost use Rattle.serde_json.specs.View.{view};
+ghost use Rattle.serde_json.specs.Written.{has_float, compact_text};
+
+use crate::escaping::escaped;
+use crate::frame::{HEAD, TAIL};
+use crate::steps::step_values;
+use base::{Category, Meter, NoMemory, ObjectId};
+use clean_dumps::begin;
+use dot_text::{DotFault, red_in};
+use dump_text::Dump;
+use histories::Event;
+use plain_state::PlainState;
+use serde_json::{Value, json, push};
+use show_states::{ShowFault, dump_in};
+use std::alloc::Global;
+
+/// Ids as JSON.
+fn id_values(alloc: Global, ids: &[ObjectId]) -> Result<Vec<Value>, NoMemory>
+    ensures { IfOk result (λ values. map view values.items ≡ map number_data ids.now) }
+{
+    let mut values = Vec::new(alloc);
+    for id in ids {
+        push(&mut values, json!(in alloc; id.number())?)?;
+    }
+    Ok(values)
+}
+
+/// The flows that are asked for and what they reach, as JSON.
+fn flow_value(
+    alloc: Global,
+    flow: Option<(ObjectId, Category)>,
+    reached: &[ObjectId],
+) -> Result<Value, NoMemory>
+    ensures { IfOk result (λ value. view value ≡ flow_data flow reached.now) }
+{
+    let Some(asked) = flow else {
+        return Ok(Value::Null);
+    };
+    let ids = Value::Array(id_values(alloc, reached)?);
+    let from = asked.0.number();
+    let category = asked.1.0;
+    Ok(json!(in alloc; {"category": category, "from": from, "reached": ids})?)
+}
+
+/// What the page shows, as JSON.
+fn shown_value(
+    alloc: Global,
+    flow: Option<(ObjectId, Category)>,
+    reached: &[ObjectId],
+    steps: Vec<Value>,
+) -> Result<Value, NoMemory>
+    ensures { (list : List Step) → map view steps.items ≡ map (step_data reached.now) list
+        → IfOk result (λ value. view value ≡ shown_data flow reached.now list) }
+{
+    let flow = flow_value(alloc, flow, reached)?;
+    let steps = Value::Array(steps);
+    Ok(json!(in alloc; {"flow": flow, "steps": steps})?)
+}
+
+/// JSON as text.
+fn value_text(alloc: Global, value: &Value) -> Result<Vec<u8>, NoMemory>
+    ensures { IfOk result (λ told. has_float (view value.now) ≡ false → told.items ≡ compact_text (view value.now)) }
+{
+    Ok(value.to_vec(alloc)?)
+}
+
+/// A text of JSON in its page.
+fn framed(alloc: Global, text: &[u8]) -> Result<Vec<u8>, NoMemory>
+    ensures { IfOk result (λ told. told.items ≡ framed text.now) }
+{
+    let inner = escaped(alloc, text)?;
+    let mut told = Vec::new(alloc);
+    told.extend_from_slice(HEAD.as_bytes())?;
+    told.extend_from_slice(inner.as_slice())?;
+    told.extend_from_slice(TAIL.as_bytes())?;
+    Ok(told)
+}
+
+/// The page of events from a state on, which the lines of a text tell.
+fn page_of(
+    text: &[u8],
+    flow: Option<(ObjectId, Category)>,
+    reached: &[ObjectId],
+    state: PlainState,
+    events: &[Event],
+) -> Result<Vec<u8>, NoMemory>
+    ensures { IfOk result (λ told. told.items ≡ page_text (shown_data flow reached.now
+        (steps_of (told_in text.now) (state_of state) events.now))) }
+{
+    let alloc = state.alloc();
+    let mut meter = Meter::new(alloc)?;
+    let steps = step_values(text, reached, state, events, &mut meter)?;
+    let shown = shown_value(alloc, flow, reached, steps)?;
+    let told = value_text(alloc, &shown)?;
+    framed(alloc, told.as_slice())
+}
+
+/// The page of a dump: the tree after each event, the lines of the dump that tell it, and why each refused call is refused. Where
+/// flows are asked for, of an object outside a category, each object that they reach is marked. The errors come in this order: the
+/// text is no dump, its checkpoint can't be restored, an audit does not find it clean; or there is no memory.
+pub fn page(
+    alloc: Global,
+    text: &[u8],
+    flow: Option<(ObjectId, Category)>,
+) -> Result<Vec<u8>, DotFault>
+    ensures { IsPage flow text.now result }
+{
+    let Dump {
+        limits,
+        checkpoint,
+        events,
+        reads: _,
+        tables: _,
+    } = match dump_in(alloc, text) {
+        Ok(dump) => dump,
+        Err(fault) => return Err(DotFault::Unshown(fault)),
+    };
+    let Some(state) = begin(alloc, &limits, &checkpoint)? else {
+        return Err(DotFault::Unshown(ShowFault::IllFormed));
+    };
+    let reached = red_in(alloc, text, flow)?;
+    Ok(page_of(text, flow, reached.as_slice(), state, events.as_slice())?)
+}

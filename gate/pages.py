@@ -1,0 +1,225 @@
+"""Pages and colours: what `./histar-show page` writes, against what `tree` and `why` print and the auditor traces of the same dump; its
+script in headless Chromium, where that is there; and `tree` in colours, on a terminal too.
+
+python3 -m gate.pages DUMP PICTURE [WORD..]    draws the picture of a page, made with these words, after its last event"""
+import glob
+import html
+import json
+import os
+import pty
+import random
+import re
+import shutil
+import subprocess
+import sys
+import tempfile
+
+from gate.plays import ran, text
+from gate.scripts import script
+
+SEED = 6
+EVENTS = 1000
+MOST = 2_000_000  # bytes of a page of so many events
+FLOWS = ("examples/dumps/objects.dump", "4", "7")
+DATA = re.compile(r"<script type='application/json' id='data'>([^<]*)</script>")
+ESCAPE = re.compile(r"\x1b\[[0-9]*m")
+# what the page's script is sent, after it has begun
+KEYS = "<script>for (const key of ['End', 'ArrowLeft', 'ArrowLeft', 'ArrowRight']) document.dispatchEvent(new KeyboardEvent('keydown', { key }));</script>"
+
+
+def page_of(dump, file, *words):
+    """The page of a dump, None where there is none."""
+    status, _ = ran("./histar-show", "page", dump, "--out", file, *words)
+    return text(file) if status == 0 else None
+
+
+def data_of(page):
+    """What stands in a page as data, None where it is no one piece without `<`."""
+    found = DATA.findall(page)
+    return json.loads(found[0]) if len(found) == 1 else None
+
+
+def patched(lines, edits):
+    """The lines of a tree after edits, and those that are marked as changed."""
+    left, made, marked = list(lines), [], []
+    for keep, gone, *put in edits:
+        made += left[:keep] + [it["text"] for it in put]
+        marked += [it["text"] for it in put if it["new"]]
+        left = left[keep + gone:]
+    return made, marked
+
+
+def trees_of(data):
+    """The text of each tree of a page, and whether the right lines are marked: those that the tree before did not have."""
+    lines, trees, is_marked = [], [], True
+    for step in data["steps"]:
+        after, marked = patched(lines, step["edits"])
+        is_marked = is_marked and marked == [it for it in after if it not in lines]
+        lines = after
+        trees.append("".join(f"{it}\n" for it in lines))
+    return trees, is_marked
+
+
+def told_lines(dump):
+    """The lines of a dump that tell calls, each with its number."""
+    return [(at, it) for at, it in enumerate(text(dump).split("\n"), 1) if it.startswith(("event ", "batch ", "call "))]
+
+
+def why_of(dump, number, line):
+    """What `why` prints of a call that the rules refuse, and nothing of any other."""
+    if line.startswith("batch "):
+        return ""
+    _, why = ran("./histar-show", "why", dump, str(number))
+    return why if why.split("\n")[1].startswith("the rules answer: refused ") else ""
+
+
+def compare(report, dump, name, data, some):
+    """Each tree, or some, and each line that tells a call with its reason, or some, against what the other words print."""
+    trees, is_marked = trees_of(data)
+    count = sum(not it.startswith("call ") for _, it in told_lines(dump))
+    wrong = [at for at in some(range(count + 1)) if at >= len(trees) or trees[at] != ran("./histar-show", "tree", dump, "--after", str(at))[1]]
+    report.counts(len(trees) == count + 1 and not wrong and is_marked, f"{name}: {len(trees)} trees as `tree` prints them, changed lines marked {wrong[:3]}")
+    told = [it for step in data["steps"] for it in step["told"]]
+    lines = told_lines(dump)
+    is_told = [it["line"] for it in told] == [line for _, line in lines]
+    wrong = [at for at in some(range(len(lines))) if is_told and told[at]["why"] != why_of(dump, *lines[at])]
+    refused = sum(bool(it["why"]) for it in told)
+    report.counts(is_told and not wrong, f"{name}: {len(told)} lines of calls, {refused} of them refused as `why` tells {wrong[:3]}")
+
+
+def compare_stored(report, room):
+    for dump in sorted(glob.glob("examples/dumps/*.dump")):
+        if ran("./histar-show", "tree", dump)[0] != 0:
+            continue
+        page = page_of(dump, f"{room}/page.html")
+        data = page and data_of(page)
+        if data is None:
+            report.fails(f"{dump}: no page")
+            continue
+        compare(report, dump, dump, data, list)
+
+
+def long_dump(room):
+    """A dump of many events, the first of a drawn run."""
+    with open(f"{room}/script", "w", encoding="utf-8") as it:
+        it.write(script(SEED, phases=EVENTS // 6))
+    subprocess.run(["./histar", "run", f"{room}/script", "--dump", f"{room}/whole"], check=True, stdout=subprocess.DEVNULL)
+    kept, count = [], 0
+    for line in text(f"{room}/whole").split("\n"):
+        count += line.startswith(("event ", "batch "))
+        if count > EVENTS or line.split(" ")[0] in ("live", "end"):
+            break
+        kept.append(f"{line}\n")
+    with open(f"{room}/long", "w", encoding="utf-8") as it:
+        it.write("".join([*kept, "end\n"]))
+    return f"{room}/long", min(count, EVENTS)
+
+
+def compare_long(report, room):
+    dump, count = long_dump(room)
+    page = page_of(dump, f"{room}/page.html") or ""
+    report.counts(count == EVENTS and 0 < len(page) <= MOST, f"a page of {count} events has {len(page)} bytes, at most {MOST}")
+    data = data_of(page)
+    if data is not None:
+        draw = random.Random(SEED)
+        compare(report, dump, f"a dump of {count} events", data, lambda all_of: sorted(draw.sample(all_of, 30)))
+
+
+def compare_flows(report, room):
+    """What flows reach is as the auditor tells it, and marked on the lines of these objects alone."""
+    dump, start, category = FLOWS
+    data = data_of(page_of(dump, f"{room}/page.html", "--from", start, "--category", category) or "")
+    traced = [int(it) for it in re.findall(r"^reaches (\d+)$", ran("./histar-audit", dump, "--from", start, "--category", category)[1], re.M)]
+    is_well = bool(traced) and data is not None and data["flow"] == {"from": int(start), "category": int(category), "reached": traced}
+    lines = [it for step in data["steps"] for edit in step["edits"] for it in edit[2:]] if is_well else []
+    names = {f"#{it}" for it in traced}
+    is_well = is_well and all(it["reached"] == (it["text"].split()[0] in names) for it in lines)
+    report.counts(is_well, f"flows from {start} outside category {category} on a page: {traced}, {sum(it['reached'] for it in lines)} lines marked")
+
+
+def dom(file, fragment=""):
+    """What Chromium's document of a page is, once its script has run."""
+    with tempfile.TemporaryDirectory(prefix="browser-") as home:
+        words = ["chromium", "--headless", "--no-sandbox", "--disable-gpu", f"--user-data-dir={home}", "--dump-dom", f"file://{os.path.abspath(file)}{fragment}"]
+        return subprocess.run(words, stdout=subprocess.PIPE, stderr=subprocess.DEVNULL, text=True, timeout=120).stdout
+
+
+def tree_in(document):
+    """The text of the tree in a document."""
+    found = re.search(r'<pre id="tree">(.*?)</pre>', document, re.S)
+    return html.unescape(re.sub(r"<[^>]*>", "", found.group(1))) if found else None
+
+
+def browse(report, room):
+    """The script shows the tree that the address names, and by keys the one before the last."""
+    if shutil.which("chromium") is None:
+        report.say("Chromium is not there: the script of a page was left out")
+        return
+    dump = FLOWS[0]
+    page = page_of(dump, f"{room}/page.html", "--from", FLOWS[1], "--category", FLOWS[2]) or ""
+    events = sum(it.startswith(("event ", "batch ")) for _, it in told_lines(dump))
+    with open(f"{room}/keys.html", "w", encoding="utf-8") as it:
+        it.write(page.replace("</body>", f"{KEYS}</body>"))
+    for file, fragment, after in (("page", "", 0), ("page", "#7", 7), ("page", "#99", events), ("keys", "", events - 1)):
+        shown = tree_in(dom(f"{room}/{file}.html", fragment))
+        wanted = ran("./histar-show", "tree", dump, "--after", str(after))[1]
+        report.counts(shown == wanted, f"{file}.html{fragment} in Chromium: {'the' if shown == wanted else 'not the'} tree after {after} events")
+
+
+def on_terminal(*words, **environment):
+    """What a command writes to a terminal of 20 columns."""
+    ours, theirs = pty.openpty()
+    inner = ["sh", "-c", 'stty cols 20 <&1; exec "$@"', "sh", *words]
+    kept = {name: value for name, value in os.environ.items() if name != "NO_COLOR"}
+    done = subprocess.Popen(inner, stdin=subprocess.DEVNULL, stdout=theirs, stderr=subprocess.DEVNULL, env={**kept, **environment})
+    os.close(theirs)
+    said = b""
+    try:
+        while more := os.read(ours, 4096):
+            said += more
+    except OSError:  # the terminal is closed
+        pass
+    os.close(ours)
+    done.wait()
+    return said.decode().replace("\r\n", "\n")
+
+
+def colour(report):
+    """`tree` in colours is the plain tree beside its escape sequences. `auto` asks the terminal and NO_COLOR."""
+    words = ("./histar-show", "tree", FLOWS[0])
+    plain = ran(*words)[1]
+    coloured = ran(*words, "--color", "always")[1]
+    report.counts(coloured != plain == ESCAPE.sub("", coloured) and "\x1b" not in plain, "tree --color always is the plain tree, with colours")
+    for name, said, wanted in (
+        ("--color never", ran(*words, "--color", "never")[1], plain),
+        ("--color auto, no terminal", ran(*words, "--color=auto")[1], plain),
+        ("a terminal", on_terminal(*words), coloured),
+        ("a terminal, --color auto", on_terminal(*words, "--color", "auto"), coloured),
+        ("a terminal, --color=never", on_terminal(*words, "--color=never"), plain),
+        ("a terminal, NO_COLOR", on_terminal(*words, NO_COLOR="1"), plain),
+        ("a terminal, NO_COLOR empty", on_terminal(*words, NO_COLOR=""), coloured),
+        ("a terminal, NO_COLOR, --color always", on_terminal(*words, "--color", "always", NO_COLOR="1"), coloured),
+    ):
+        report.counts(said == wanted, f"tree, {name}: {'plain' if said == plain else 'in colours'}")
+
+
+def show(report):
+    report.heading("Pages and colours")
+    with tempfile.TemporaryDirectory(prefix="pages-") as room:
+        colour(report)
+        compare_stored(report, room)
+        compare_flows(report, room)
+        compare_long(report, room)
+        browse(report, room)
+
+
+def draw(dump, picture, *words):
+    with tempfile.TemporaryDirectory(prefix="pages-") as room:
+        if page_of(dump, f"{room}/page.html", *words) is None:
+            sys.exit(f"pages: {dump} has no page")
+        browser = ["chromium", "--headless", "--no-sandbox", "--disable-gpu", f"--user-data-dir={room}/home", "--window-size=900,420"]
+        subprocess.run([*browser, f"--screenshot={picture}", f"file://{room}/page.html#99999"], check=True, stderr=subprocess.DEVNULL)
+
+
+if __name__ == "__main__":
+    draw(*sys.argv[1:])
