@@ -1,11 +1,12 @@
 """What the documents say that a command prints, against what it prints. In these documents a line `$ COMMAND` of a block has
-the command's whole output below it."""
+the command's whole output below it. A line `> LINE` there is one that the command reads."""
 import difflib
 
 from gate.plays import ran, text
 
 MARGIN = "    "
-FILES = ["docs/CHECK.md", "docs/SHOW.md", "docs/COOKBOOK.md"]
+PROMPT = "> "
+FILES = ["docs/CHECK.md", "docs/TRY.md", "docs/TOUR.md", "docs/SHOW.md", "docs/COOKBOOK.md"]
 
 
 def commands_in(document):
@@ -29,8 +30,11 @@ def compare(report):
     for file in FILES:
         commands = commands_in(text(file))
         report.counts(bool(commands), f"{file} has {len(commands)} commands")
-        for command, wanted in commands:
-            _, said = ran("sh", "-c", command)
+        for command, below in commands:
+            lines = below.splitlines(keepends=True)
+            asked = "".join(it.removeprefix(PROMPT) for it in lines if it.startswith(PROMPT))
+            wanted = "".join(it for it in lines if not it.startswith(PROMPT))
+            _, said = ran("sh", "-c", command, given=asked)
             if said != wanted:
                 report.say("\n".join(difflib.unified_diff(wanted.split("\n"), said.split("\n"), file, "printed", lineterm="")))
             report.counts(said == wanted, f"{command}: {'as' if said == wanted else 'not as'} in {file}")

@@ -11,12 +11,13 @@ class Fault:
     """A command that ends with a fault: its words, its status, its line, and where its standard output goes. The words name
     files of a folder of its own, in which stand a script, a faulty one, and a dump of an earlier run."""
 
-    def __init__(self, program, words, status, line, out="/dev/null"):
+    def __init__(self, program, words, status, line, out="/dev/null", given=""):
         self.program, self.words, self.status, self.line, self.out = program, words, status, line, out
+        self.given = given
 
     def run(self, folder):
         with open(self.out, "wb") as out:
-            how = {"cwd": folder, "stdin": subprocess.DEVNULL, "stdout": out, "stderr": subprocess.PIPE, "text": True}
+            how = {"cwd": folder, "input": self.given, "stdout": out, "stderr": subprocess.PIPE, "text": True}
             done = subprocess.run([os.path.abspath(self.program), *self.words], **how)
         return done.returncode, done.stderr
 
@@ -35,6 +36,12 @@ def no_label(text):
     return f"error: invalid value '{text}' for '--hidden <LABEL>'\n"
 
 
+def no_page():
+    """What `clap` answers where no file is named for the page."""
+    usage = "Usage: histar-show page --out <FILE> <DUMP>"
+    return f"error: the following required arguments were not provided:\n  --out <FILE>\n\n{usage}\n\nFor more information, try '--help'.\n"
+
+
 FAULTS = [
     Fault("./histar", ["run", "nothing"], 3, "histar: input fault\n"),
     Fault("./histar", ["run", "faulty", "--dump", "dump"], 1, "histar: line 1: script fault\n"),
@@ -42,6 +49,8 @@ FAULTS = [
     Fault("./histar", ["run", "script", "--dump", "nowhere/dump"], 3, "histar: output fault\n"),
     Fault("./histar", ["check", "nothing"], 3, "histar-check: input fault\n"),
     Fault("./histar", ["check", "faulty"], 3, "histar-check: output fault\n", out="/dev/full"),
+    Fault("./histar", ["try"], 3, "histar-try: output fault\n", out="/dev/full", given="cat_create\n"),
+    Fault("./histar", ["try"], 0, "", given="cat_create\nsave nowhere/script\n"),
     Fault("./histar-audit", ["nothing"], 3, "histar-audit: input fault\n"),
     Fault("./histar-audit", ["dump"], 3, "histar-audit: output fault\n", out="/dev/full"),
     Fault("./histar-audit", ["old", "--migrate", "nowhere/new"], 3, "histar-audit: output fault\n"),
@@ -62,6 +71,11 @@ FAULTS = [
     Fault("./histar-show", ["tree", "old", "--after", "1"], 3, "histar-show: output fault\n", out="/dev/full"),
     Fault("./histar-show", ["dot", "dump"], 2, "histar-show: unreadable at line 1\n"),
     Fault("./histar-show", ["dot", "old"], 3, "histar-show: output fault\n", out="/dev/full"),
+    Fault("./histar-show", ["page", "nothing", "--out", "dump"], 3, "histar-show: input fault\n"),
+    Fault("./histar-show", ["page", "dump", "--out", "dump"], 2, "histar-show: unreadable at line 1\n"),
+    Fault("./histar-show", ["page", "old", "--out", "nowhere/page"], 3, "histar-show: output fault\n"),
+    Fault("./histar-show", ["page", "old", "--out", "/dev/full"], 3, "histar-show: output fault\n"),
+    Fault("./histar-show", ["page", "old"], 2, no_page()),
     Fault("./histar-show", ["json", "dump"], 2, "histar-show: unreadable at line 1\n"),
     Fault("./histar-show", ["json", "old"], 3, "histar-show: output fault\n", out="/dev/full"),
 ]

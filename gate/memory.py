@@ -30,10 +30,10 @@ class Run:
     """How one run of a command ended: its status (None where it was still running at the limit), what it wrote, and
     whether a request was refused."""
 
-    def __init__(self, library, number, words, folder):
-        with tempfile.TemporaryFile() as mark:
+    def __init__(self, library, number, words, folder, given=os.devnull):
+        with tempfile.TemporaryFile() as mark, open(given, "rb") as lines:
             environment = {**os.environ, "LD_PRELOAD": library, "REFUSE": str(number), "REFUSED": str(mark.fileno())}
-            how = {"cwd": folder, "env": environment, "stdin": subprocess.DEVNULL, "stdout": subprocess.PIPE, "stderr": subprocess.PIPE}
+            how = {"cwd": folder, "env": environment, "stdin": lines, "stdout": subprocess.PIPE, "stderr": subprocess.PIPE}
             started = subprocess.Popen(words, pass_fds=[mark.fileno()], **how)
             try:
                 self.out, self.err = started.communicate(timeout=LIMIT)
@@ -46,12 +46,12 @@ class Run:
             self.was_refused = bool(mark.read())
 
 
-def first_wrong(library, words, folder, is_right):
+def first_wrong(library, words, folder, given, is_right):
     """How many requests were refused, and whether the last of these made the run end otherwise than it should."""
     number = 0
     while True:
         number += 1
-        run = Run(library, number, words, folder)
+        run = Run(library, number, words, folder, given)
         if not is_right(run):
             return number, True
         if not run.was_refused:
@@ -64,14 +64,14 @@ def tests_of(program):
 
 
 class Case:
-    """A command whose requests are refused, its name, and what tells whether a run of it ended as it should."""
+    """A command whose requests are refused, its name, what tells whether a run of it ended as it should, and its input."""
 
-    def __init__(self, name, words, is_right):
-        self.name, self.words, self.is_right = name, words, is_right
+    def __init__(self, name, words, is_right, given=os.devnull):
+        self.name, self.words, self.is_right, self.given = name, words, is_right, given
 
     def tried(self, library):
         with tempfile.TemporaryDirectory(prefix="refused-") as folder:
-            count, is_wrong = first_wrong(library, self.words, folder, lambda run: self.is_right(run, folder))
+            count, is_wrong = first_wrong(library, self.words, folder, self.given, lambda run: self.is_right(run, folder))
         if is_wrong:
             return False, f"{self.name}: request {count} refused changes an answer"
         return True, f"{self.name}: {count} requests refused in turn"
@@ -105,6 +105,19 @@ def program_case(program, words):
     return Case(f"{name} {' '.join(map(os.path.basename, words))}", [program, *words], lambda run, folder: outcome(run, folder) in right)
 
 
+def dialogue_case(program, file):
+    """A dialogue of stored lines: it answers all of them, or the first ones and ends with status 4 and its line."""
+    with tempfile.TemporaryDirectory(prefix="refused-") as folder:
+        before = Run("", 0, [program, "try"], folder, file)
+
+    def is_right(run, _):
+        if run.status == 4:
+            return before.out.startswith(run.out) and run.err == b"histar-try: out of memory\n"
+        return (run.status, run.out, run.err) == (before.status, before.out, before.err)
+
+    return Case(f"histar_try {os.path.basename(file)}", [program, "try"], is_right, os.path.abspath(file))
+
+
 def program_cases(tree, room):
     """A whole run with its dump, the audit of that dump, what is shown of it, and words that are asked for help or wrong."""
     script, dump = os.path.abspath("examples/by_entry.histar"), f"{room}/by_entry.dump"
@@ -117,6 +130,8 @@ def program_cases(tree, room):
     yield program_case(check, ["check", script])
     yield program_case(check, ["check", os.path.abspath("examples/checks/fault.histar")])
     yield program_case(check, ["check", "--help"])
+    yield dialogue_case(f"{tree}/crates/histar_try/out/histar_try", "examples/tries/first.txt")
+    yield program_case(f"{tree}/crates/histar_try/out/histar_try", ["try", "--help"])
     yield program_case(audit, [dump])
     yield program_case(audit, [dump, "--from", "1", "--category", "2"])
     yield program_case(audit, [dump, "--from", "1"])
@@ -127,7 +142,10 @@ def program_cases(tree, room):
     yield program_case(show, ["tree", dump])
     yield program_case(show, ["tree", dump, "--after", "3"])
     yield program_case(show, ["dot", dump, "--flows", "1", "--category", "2"])
+    yield program_case(show, ["tree", dump, "--color", "always"])
     yield program_case(show, ["json", dump])
+    yield program_case(show, ["page", dump, "--out", "dump"])
+    yield program_case(show, ["page", dump, "--out", "dump", "--from", "1", "--category", "2"])
     yield program_case(show, ["--help"])
 
 

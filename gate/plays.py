@@ -18,10 +18,10 @@ def text(file, otherwise=""):
         return it.read()
 
 
-def ran(*words):
+def ran(*words, given=""):
     """How a command ended: its status and what it wrote to standard output, with what it wrote to standard error after it. (A
     program that isn't proved says so there.)"""
-    how = {"stdin": subprocess.DEVNULL, "stdout": subprocess.PIPE, "stderr": subprocess.PIPE, "text": True, "errors": "replace"}
+    how = {"input": given, "stdout": subprocess.PIPE, "stderr": subprocess.PIPE, "text": True, "errors": "replace"}
     done = subprocess.run(words, **how)
     return done.returncode, done.stdout + done.stderr
 

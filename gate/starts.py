@@ -14,7 +14,7 @@ import time
 from gate import plays
 from gate.report import Report
 
-CRATES = "low:\nhistar: low\nhistar_check: low\nhistar_audit: low\nhistar_show: low\n"
+CRATES = "low:\nhistar: low\nhistar_check: low\nhistar_try: low\nhistar_audit: low\nhistar_show: low\n"
 PROVABLE = "//! A number.\n#![tactic(auto)]\n\n/// Gives one more.\npub fn more(n: u8) -> u8\nwhere\n    requires { n.now < 255 },\n{\n    n + 1\n}\n"
 WRONG = PROVABLE.replace("n.now < 255", "n.now < 256")
 MAIN = "//! Prints nothing.\n#![tactic(auto)]\n\nfn main(_rt: HostRuntime) {}\n"
@@ -42,7 +42,7 @@ class Tree:
             shutil.copy2(f"gate/{it}.py", f"{self.top}/gate/{it}.py")
         write(f"{self.top}/crates.txt", CRATES)
         write(f"{self.top}/crates/low/src/lib.rt", PROVABLE)
-        for it in ("histar", "histar_check", "histar_audit", "histar_show"):
+        for it in ("histar", "histar_check", "histar_try", "histar_audit", "histar_show"):
             write(f"{self.top}/crates/{it}/src/main.rt", MAIN)
             write(f"{self.top}/crates/{it}/stdin", "")
         self.stand_in(ANSWERED)
@@ -57,10 +57,10 @@ class Tree:
         write(f"{self.top}/crates/{name}/out/{name}", '#!/bin/sh\necho "proved $*"\n')
         os.chmod(f"{self.top}/crates/{name}/out/{name}", 0o755)
 
-    def start(self, *words, has_rt=True):
+    def start(self, *words, has_rt=True, given=""):
         """How a command of the tree ended: status, standard output, standard error."""
         path = f"{self.commands}:{os.environ['PATH']}" if has_rt else "/usr/bin:/bin"
-        how = {"cwd": self.top, "env": {**os.environ, "PATH": path}, "stdin": subprocess.DEVNULL, "capture_output": True, "text": True}
+        how = {"cwd": self.top, "env": {**os.environ, "PATH": path}, "input": given, "capture_output": True, "text": True}
         done = subprocess.run(words, **how)
         return done.returncode, done.stdout, done.stderr
 
@@ -83,6 +83,10 @@ def try_programs(report, tree):
     expect(report, "./histar without rt", tree.start("./histar", "run", "script", has_rt=False), no_rt)
     checked = (1, f"{given.removesuffix('run')}check script.histar\n", UNPROVED.replace("histar:", "histar-check:"))
     expect(report, "./histar check unproved", tree.start("./histar", "check", "script"), checked)
+    tried = (1, "try -- try\n", UNPROVED.replace("histar:", "histar-try:"))
+    expect(report, "./histar try unproved", tree.start("./histar", "try"), tried)
+    save = (78, "", f"{tried[2]}histar-try: save {NEEDS}")
+    expect(report, "./histar try unproved, with save", tree.start("./histar", "try", given="save c\n"), save)
     expect(report, "./histar --dump unproved", tree.start("./histar", "run", "script", "--dump", "d"), (78, "", f"histar: --dump {NEEDS}"))
     expect(report, "./histar-audit unproved", tree.start("./histar-audit", "script"), (78, "", f"histar-audit: this {NEEDS}"))
     expect(report, "./histar-show unproved", tree.start("./histar-show", "why", "dump"), (78, "", f"histar-show: this {NEEDS}"))
@@ -92,10 +96,12 @@ def try_programs(report, tree):
     tree.stand_in(ANSWERED)
     tree.prove_by_hand("histar")
     tree.prove_by_hand("histar_check")
+    tree.prove_by_hand("histar_try")
     tree.prove_by_hand("histar_audit")
     tree.prove_by_hand("histar_show")
     expect(report, "./histar proved", tree.start("./histar", "run", "script", "--dump", "d"), (0, "proved run script --dump d\n", ""))
     expect(report, "./histar check proved", tree.start("./histar", "check", "script"), (0, "proved check script\n", ""))
+    expect(report, "./histar try proved", tree.start("./histar", "try", "--pages", "8"), (0, "proved try --pages 8\n", ""))
     expect(report, "./histar-audit proved", tree.start("./histar-audit", "d"), (0, "proved d\n", ""))
     expect(report, "./histar-show proved", tree.start("./histar-show", "why", "d"), (0, "proved why d\n", ""))
     later = time.time() + 60
