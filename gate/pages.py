@@ -102,7 +102,7 @@ def compare_stored(report, room):
 def long_dump(room):
     """A dump of many events, the first of a drawn run."""
     with open(f"{room}/script", "w", encoding="utf-8") as it:
-        it.write(script(SEED, phases=EVENTS // 6))
+        it.write(script(SEED, phases=EVENTS // 3))
     subprocess.run(["./histar", "run", f"{room}/script", "--dump", f"{room}/whole"], check=True, stdout=subprocess.DEVNULL)
     kept, count = [], 0
     for line in text(f"{room}/whole").split("\n"):
