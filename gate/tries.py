@@ -14,7 +14,7 @@ from gate.plays import ran, text
 
 WORDS = ("", "--", "why", "tree", "help", "quit")
 NOT_KEPT = ("fault: ", "unbound ")
-REPLY = re.compile(r"[a-z0-9_]+ \d+: (.*)")
+REPLY = re.compile(r"^[a-z0-9_]+ (\d+): (.*)$", re.M)
 
 
 def answered(lines, folder="."):
@@ -36,9 +36,9 @@ def kept_of(calls, answers):
 
 
 def replies_of(script, *words):
-    """The replies of a script that is played, without the workers and numbers of its lines."""
+    """The replies of a script that is played, in the order of its lines."""
     _, said = ran("./histar", "run", script, *words)
-    return [found[1] if (found := REPLY.fullmatch(line)) else line for line in said.splitlines()]
+    return [reply for _, reply in sorted((int(number), reply) for number, reply in REPLY.findall(said))]
 
 
 def compare_stored(report, file):

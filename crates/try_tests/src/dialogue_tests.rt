@@ -134,21 +134,30 @@ fn words_are_answered(rt: HostRuntime) -> Result<(), Fail> {
     Ok(())
 }
 
-/// Whether a whole line that is taken is kept, asked again before the next, and taken back.
-fn is_taken(alloc: Global, dialogue: &mut Dialogue) -> Result<bool, NoMemory> {
-    let full = full_line(alloc, b"c = cat_create")?;
-    let was_told = matches!(dialogue.take(full.as_slice())?, Answer::Told(_));
-    let has_last = dialogue.last().is_some();
-    let named = dialogue.standing().names().named.len();
+/// Whether the line is taken and told.
+fn is_told(dialogue: &mut Dialogue, full: &[u8]) -> Result<bool, NoMemory> {
+    match dialogue.take(full)? {
+        Answer::Told(_) => Ok(true),
+        _ => Ok(false),
+    }
+}
+
+/// How many names were known before the last line.
+fn names_before(dialogue: &Dialogue) -> Result<usize, NoMemory> {
     let before = dialogue.before_last()?;
-    Ok(was_told && has_last && named == 4 && before.names().named.len() == 3 && dialogue.undo()?)
+    Ok(before.names().named.len())
 }
 
 #[test]
 fn a_line_is_taken(rt: HostRuntime) -> Result<(), Fail> {
     let alloc = rt.alloc();
     let mut dialogue = Dialogue::begin(alloc, &DEFAULTS.limits)?;
-    assert!(rt; is_true(is_taken(alloc, &mut dialogue)?));
+    let full = full_line(alloc, b"c = cat_create")?;
+    assert!(rt; is_told(&mut dialogue, full.as_slice())?);
+    assert_eq!(rt; dialogue.standing().names().named.len(), 4);
+    assert_eq!(rt; names_before(&dialogue)?, 3);
+    assert!(rt; is_true(dialogue.last().is_some()));
+    assert!(rt; dialogue.undo()?);
     assert!(rt; is_true(dialogue.last().is_none()));
     Ok(())
 }
