@@ -1,6 +1,7 @@
 //! What the lines of a dialogue are answered, and what it is saved as.
 use base::NoMemory;
 use histar_args::DEFAULTS;
+use kernel_rules::{Mapping, Reply};
 use std::alloc::Global;
 use std::test::Fail;
 use test_support::is_true;
@@ -136,6 +137,9 @@ fn words_are_answered(rt: HostRuntime) -> Result<(), Fail> {
 
 /// Whether the line is taken and told.
 fn is_told(dialogue: &mut Dialogue, full: &[u8]) -> Result<bool, NoMemory> {
+    // (types that an answer has, which the proof names)
+    let _reply: Option<Reply> = None;
+    let _mapping: Option<Mapping> = None;
     match dialogue.take(full)? {
         Answer::Told(_) => Ok(true),
         _ => Ok(false),
