@@ -7,10 +7,10 @@ use Rattle.base.specs.declared.ranges.Limits.{Limits}
 use Rattle.label_lattice.specs.Label.{LabelValue}
 use Rattle.label_rules.specs.LabelRules.{stored}
 use Rattle.kernel_rules.specs.Changes.{listing}
-use Rattle.kernel_rules.specs.Rows.{halted, own_label, own_clearance}
+use Rattle.kernel_rules.specs.Conditions.{own_label, own_clearance}
+use Rattle.kernel_rules.specs.Table.{halted, refused, row}
 use Rattle.kernel_rules.specs.State.{State}
 use Rattle.kernel_rules.specs.Step.{edit, made_of, made_bearer}
-use Rattle.kernel_rules.specs.Table.{refused, row}
 use Rattle.kernel_rules.specs.declared.calls.Call.{Call}
 use Rattle.kernel_rules.specs.declared.calls.Call.TheVariants as call
 use Rattle.kernel_rules.specs.declared.objects.Body as body

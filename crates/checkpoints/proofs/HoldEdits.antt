@@ -16,12 +16,12 @@ use Rattle.base.specs.declared.kinds.Kind.TheVariants as kinds
 use Rattle.label_lattice.specs.Label.{LabelValue}
 use Rattle.label_rules.specs.LabelRules.{stored}
 use Rattle.kernel_rules.specs.Changes.{changed, made, listing, fresh_object, joined, joined_at, owning}
-use Rattle.kernel_rules.specs.Rows.{halted}
+use Rattle.kernel_rules.specs.Conditions.{avoids_kind_of}
+use Rattle.kernel_rules.specs.Table.{halted, refused, row}
 use Rattle.kernel_rules.specs.State.{State, object_at, of_object, list_at, listed, kind_of, is_kind}
 use Rattle.kernel_rules.specs.State.{is_kind_at, avoids, avoids_at, gate_at}
 use Rattle.kernel_rules.specs.Step.{edit, owned, made_of, stored_at, with_value}
 use Rattle.kernel_rules.specs.Step.{new_thread, new_gate}
-use Rattle.kernel_rules.specs.Table.{refused, row, avoids_kind_of}
 use Rattle.kernel_rules.specs.WellFormed.{is_well_formed}
 use Rattle.kernel_rules.specs.declared.calls.Call.{Call}
 use Rattle.kernel_rules.specs.declared.calls.Call.TheVariants as call

@@ -3,11 +3,11 @@ use Rattle.std.proofs.Common.{◌≡◌, ℕ, true, false, Option, Some, None, L
 use Rattle.label_lattice.specs.Label.{LabelValue}
 use Rattle.label_rules.specs.LabelRules.{stored}
 use Rattle.kernel_rules.specs.Changes.{put, changed, listing, owning}
-use Rattle.kernel_rules.specs.Rows.{own_label, own_clearance}
+use Rattle.kernel_rules.specs.Conditions.{own_label, own_clearance}
+use Rattle.kernel_rules.specs.Table.{refused}
 use Rattle.kernel_rules.specs.Runs.{state_after}
 use Rattle.kernel_rules.specs.State.{State, object_at, of_object}
 use Rattle.kernel_rules.specs.Step.{next, edit, owned, made_of, made_bearer}
-use Rattle.kernel_rules.specs.Table.{refused}
 use Rattle.kernel_rules.specs.declared.calls.Call.{Call}
 use Rattle.kernel_rules.specs.declared.calls.Call.TheVariants as call
 use Rattle.kernel_rules.specs.declared.objects.Body as body

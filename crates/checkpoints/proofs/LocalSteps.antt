@@ -19,12 +19,12 @@ use Rattle.base.specs.Sets.{may_read, may_write}
 use Rattle.std.proofs.Common.{nat_le}
 use Rattle.kernel_rules.specs.Changes.{changed, made, listing, fresh_object, owning, labelled}
 use Rattle.kernel_rules.specs.Changes.{with_body, rebyte, relist, requeue, reslot, rethread}
-use Rattle.kernel_rules.specs.Rows.{halted}
+use Rattle.kernel_rules.specs.Conditions.{is_mapping}
+use Rattle.kernel_rules.specs.Table.{halted, refused, row}
 use Rattle.kernel_rules.specs.State.{State, object_at, of_object, is_kind, is_kind_at, is_live_kind, lists_of}
 use Rattle.kernel_rules.specs.State.{label_at, clearance_at, clearance_of, is_accessible, gate_of, gate_at, thread_of}
 use Rattle.kernel_rules.specs.Step.{edit, owned, made_of, made_bearer, stored_at, with_value}
 use Rattle.kernel_rules.specs.Step.{new_thread, new_gate}
-use Rattle.kernel_rules.specs.Table.{refused, row, is_mapping}
 use Rattle.kernel_rules.specs.Translate.{names_none}
 use Rattle.kernel_rules.specs.WellFormed.{is_well_formed}
 use Rattle.kernel_rules.specs.declared.calls.Call.{Call}

@@ -10,7 +10,7 @@ use Rattle.base.specs.Sets.{may_read, may_write, no_kind}
 use Rattle.base.specs.declared.kinds.Kind as kind
 use Rattle.base.specs.declared.kinds.Kind.TheVariants as kinds
 use Rattle.base.specs.declared.ranges.Limits.{Limits}
-use Rattle.kernel_rules.specs.Rows.{meets}
+use Rattle.kernel_rules.specs.Conditions.{meets}
 use Rattle.kernel_rules.specs.Sizes.{page_limit, most_pages, last_slot}
 use Rattle.kernel_rules.specs.State.{State, object_at, of_object, slots_of, listed, kind_of, kind_number}
 use Rattle.kernel_rules.specs.Translate.{slot_in, names_none, covers}

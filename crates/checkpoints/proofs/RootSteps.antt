@@ -11,12 +11,11 @@ use Rattle.base.specs.declared.ranges.Limits.{Limits}
 use Rattle.label_lattice.specs.Label.{LabelValue}
 use Rattle.label_rules.specs.LabelRules.{stored}
 use Rattle.kernel_rules.specs.Changes.{changed, made, fresh_object, owning}
-use Rattle.kernel_rules.specs.Rows.{halted}
+use Rattle.kernel_rules.specs.Table.{halted, refused, row}
 use Rattle.kernel_rules.specs.State.{State, object_at, of_object, list_at, listed, kind_of, kind_number, lists_of}
 use Rattle.kernel_rules.specs.State.{gate_at}
 use Rattle.kernel_rules.specs.Step.{edit, owned, made_of, stored_at, with_value}
 use Rattle.kernel_rules.specs.Step.{new_thread, new_gate}
-use Rattle.kernel_rules.specs.Table.{refused, row}
 use Rattle.kernel_rules.specs.WellFormed.{is_well_formed, listers, is_kept}
 use Rattle.kernel_rules.specs.declared.calls.Call.{Call}
 use Rattle.kernel_rules.specs.declared.calls.Call.TheVariants as call

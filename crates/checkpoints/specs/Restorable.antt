@@ -10,12 +10,11 @@ use Rattle.base.specs.declared.ranges.Limits.{Limits}
 use Rattle.base.specs.declared.sets.TypeSet.{TypeSet}
 use Rattle.label_lattice.specs.Label.{has_star}
 use Rattle.label_lattice.specs.Raw.{all_made}
-use Rattle.kernel_rules.specs.Rows.{meets}
+use Rattle.kernel_rules.specs.Conditions.{meets, is_mapping}
 use Rattle.kernel_rules.specs.Scratch.{labels_of}
 use Rattle.kernel_rules.specs.Sizes.{last_slot}
 use Rattle.kernel_rules.specs.State.{State, object_at, of_object, is_kind, listed}
 use Rattle.kernel_rules.specs.State.{kind_of, slots_of}
-use Rattle.kernel_rules.specs.Table.{is_mapping}
 use Rattle.kernel_rules.specs.Translate.{names_none}
 use Rattle.kernel_rules.specs.WellFormed.{is_well_formed}
 use Rattle.kernel_rules.specs.declared.calls.Entry.{Entry}

@@ -7,8 +7,8 @@ use Rattle.base.specs.Refusal.{told_as}
 use Rattle.label_lattice.specs.Label.{LabelValue}
 use Rattle.kernel_rules.specs.State.{State, object_at, of_object, use_of, gate_at, packets_at}
 use Rattle.kernel_rules.specs.Translate.{place_of}
-use Rattle.kernel_rules.specs.Rows.{Row, lesser_of, refusal_of, halted}
-use Rattle.kernel_rules.specs.Table.{row, refused, query_row, query_refused}
+use Rattle.kernel_rules.specs.Rows.{Row, lesser_of, refusal_of}
+use Rattle.kernel_rules.specs.Table.{halted, row, refused, query_row, query_refused}
 use Rattle.kernel_rules.specs.Step.{accepted, answer, told_by, first_packet, or_refused, told_of, loaded, found, query_answer}
 use Rattle.kernel_rules.specs.declared.calls.Call.{Call}
 use Rattle.kernel_rules.specs.declared.calls.Call.TheVariants as calls

@@ -3,11 +3,14 @@ use Rattle.std.specs.Prelude.{◌≡◌, ◌↔◌, ℕ, ◌<◌, ◌==◌, ◌&
 use Rattle.std.specs.List.{list_any, list_all}
 use Rattle.base.specs.declared.refusals.Refusal.{Refusal}
 use Rattle.kernel_rules.specs.State.{State}
-use Rattle.kernel_rules.specs.Rows.{halted, refusal_of}
-use Rattle.kernel_rules.specs.Table.{row, query_row, refused, query_refused}
+use Rattle.kernel_rules.specs.Conditions.{Condition}
+use Rattle.kernel_rules.specs.Conditions as rules
+use Rattle.kernel_rules.specs.Rows.{refusal_of}
+use Rattle.kernel_rules.specs.Table.{halted, row, query_row, refused, query_refused}
 use Rattle.kernel_rules.specs.declared.calls.Call.{Call}
 use Rattle.kernel_rules.specs.declared.calls.Query.{Query}
 use Rattle.explained.specs.Parts.{condition, refuses}
+use Rattle.explained.specs.Told.{parts_of}
 use Rattle.explained.specs.Explained.{explained, query_explained}
 use Rattle.explained.specs.declared.parts.Finding.{Finding}
 use Rattle.label_lattice.specs.Label.{LabelValue}
@@ -74,6 +77,11 @@ HoldsWhereNoneFails =
     → compares relation a b c
     ≡ (is_nil (failing (left relation a b c) (right relation a b c))
     && is_none (failing_rest (left relation a b c) (right relation a b c)))
+
+-- the parts of a condition refuse exactly where the condition does
+abbrev pub PartsAreTheCondition : Type 0
+PartsAreTheCondition =
+    (s : State) (t : ℕ) (c : Condition) → refuses (parts_of s t c) ≡ rules.refuses s t c
 
 -- the findings of a call are the conditions of its row, in the row's order
 abbrev pub FindingsAreTheRow : Type 0

@@ -2,7 +2,7 @@ pub mod Ranks
 pub mod Sides
 pub mod Failing
 pub mod Parts
-pub mod Words
+pub mod Told
 pub mod Explained
 pub mod Laws
 pub mod Compared

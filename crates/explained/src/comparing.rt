@@ -2,7 +2,7 @@
 ghost use Rattle.std.specs.Prelude.{◌≡◌, ◌+◌, nat_lt, IfOk};
 ghost use Rattle.std.specs.Option.{option_map, option_and_then};
 ghost use Rattle.label_rules.specs.LabelRules.{both, below};
-ghost use Rattle.kernel_rules.specs.Rows.{meets};
+ghost use Rattle.kernel_rules.specs.Conditions.{meets};
 ghost use Rattle.explained.specs.Compared.{of_two, of_three, sides, named_of, rest_of};
 ghost use Rattle.explained.specs.Laws.{least};
 ghost use Rattle.explained.specs.Parts.{agrees, is_against, refuses};

@@ -1,16 +1,17 @@
 //! The words of the table of calls on labels that a caller hands in, and on new objects.
-ghost use Rattle.std.specs.Prelude.{◌≡◌, ◌+◌, ◌++◌, ◌∷◌, [], nat_le, OnOk};
+#![tactic(auto, unfolding(crate::specs::Told::told))]
+
+ghost use Rattle.std.specs.Prelude.{◌≡◌, ◌+◌, ◌++◌, ◌∷◌, [], OnOk};
 ghost use Rattle.label_lattice.specs.Raw.{is_bad};
 ghost use Rattle.label_rules.specs.LabelRules.{stored};
 ghost use Rattle.plain_state.specs.StateOf.{state_of};
 ghost use Rattle.base.specs.Limits.{spent};
 ghost use Rattle.base.specs.declared.refusals.Refusal.TheVariants as refusals;
-ghost use Rattle.kernel_rules.specs.State.{avoids_at, page_count};
-ghost use Rattle.explained.specs.declared.facts.Fact.TheVariants as facts;
-ghost use Rattle.explained.specs.Words.{fact, finding};
-ghost use Rattle.explained.specs.declared.parts.Part.TheVariants as is;
-ghost use Rattle.explained.specs.Words.{good_label, starless_label, with_room, fitting};
-ghost use Rattle.explained.specs.Words.{new_object, new_bearer, between_parts};
+ghost use Rattle.kernel_rules.specs.State.{page_count};
+ghost use Rattle.kernel_rules.specs.Conditions as condition;
+ghost use Rattle.kernel_rules.specs.Rows.{good_label, starless_label, with_room, fitting};
+ghost use Rattle.kernel_rules.specs.Rows.{new_object, new_bearer};
+ghost use Rattle.explained.specs.Told.{told, between_parts};
 
 use crate::facts::Fact;
 use crate::parts::{Comparison, Finding, Part, add};
@@ -43,7 +44,6 @@ fn is_bad(raw: &RawLabel, label: &Option<Label>) -> bool
 }
 
 /// The raw label can be that of a thread or a gate, a clearance or a verify label.
-#[tactic(auto, unfolding(crate::specs::Words::good_label))]
 pub fn good_label(
     state: &PlainState,
     thread: ObjectId,
@@ -53,7 +53,7 @@ pub fn good_label(
 ) -> Result<(), NoMemory>
     requires { label.now ≡ stored raw.now }
     ensures { OnOk result (found.new.items ≡ found.old.items
-        ++ good_label (state_of state.now) thread raw.now) }
+        ++ told (state_of state.now) thread (good_label raw.now)) }
 {
     let _thread = thread;
     let bad = is_bad(raw, label);
@@ -70,7 +70,6 @@ pub fn good_label(
 }
 
 /// The raw label can be that of a container, a segment or an address space.
-#[tactic(auto, unfolding(crate::specs::Words::starless_label))]
 pub fn starless_label(
     state: &PlainState,
     thread: ObjectId,
@@ -80,7 +79,7 @@ pub fn starless_label(
 ) -> Result<(), NoMemory>
     requires { label.now ≡ stored raw.now }
     ensures { OnOk result (found.new.items ≡ found.old.items
-        ++ starless_label (state_of state.now) thread raw.now) }
+        ++ told (state_of state.now) thread (starless_label raw.now)) }
 {
     let _thread = thread;
     let bad = is_bad(raw, label);
@@ -95,7 +94,6 @@ pub fn starless_label(
 }
 
 /// So many pages more are within the container's quota.
-#[tactic(auto, unfolding(crate::specs::Words::with_room))]
 pub fn with_room(
     state: &PlainState,
     thread: ObjectId,
@@ -104,7 +102,7 @@ pub fn with_room(
     found: &mut Vec<Finding>,
 ) -> Result<(), NoMemory>
     ensures { OnOk result (found.new.items ≡ found.old.items
-        ++ with_room (state_of state.now) thread container pages) }
+        ++ told (state_of state.now) thread (with_room container pages)) }
 {
     let _thread = thread;
     let sum = Part::Sum(state.used(container), pages, state.quota(container));
@@ -119,8 +117,8 @@ fn avoided(
     found: &mut Vec<Finding>,
 ) -> Result<(), NoMemory>
     ensures { OnOk result (found.new.items ≡ found.old.items
-        ++ fact refusals.AvoidType facts.Avoided (avoids_at (state_of state.now) made.now.kind
-        made.now.container)) }
+        ++ told (state_of state.now) thread
+        ((refusals.AvoidType, condition.Avoided made.now.kind made.now.container) ∷ [])) }
 {
     let _thread = thread;
     let avoided = state.avoids(made.kind, made.container);
@@ -135,22 +133,27 @@ fn avoided(
 /// Its quota has room for itself.
 fn sized(
     state: &PlainState,
+    thread: ObjectId,
     made: &NewObject,
     pages: u64,
     found: &mut Vec<Finding>,
 ) -> Result<(), NoMemory>
     ensures { OnOk result (found.new.items ≡ found.old.items
-        ++ finding refusals.NoQuota (is.AtMost pages made.now.quota ∷ [])) }
+        ++ told (state_of state.now) thread
+        ((refusals.NoQuota, condition.Above pages made.now.quota) ∷ [])) }
 {
+    let _thread = thread;
     let own = Part::AtMost(pages, u64::from(made.quota));
     add(state.alloc(), found, Refusal::NoQuota, &[own])
 }
 
 /// An id is left.
-fn left(state: &PlainState, found: &mut Vec<Finding>) -> Result<(), NoMemory>
+fn left(state: &PlainState, thread: ObjectId, found: &mut Vec<Finding>) -> Result<(), NoMemory>
     ensures { OnOk result (found.new.items ≡ found.old.items
-        ++ fact refusals.Spent facts.IdsSpent (nat_le spent (state_of state.now).next_id)) }
+        ++ told (state_of state.now) thread
+        ((refusals.Spent, condition.IdsSpent) ∷ [])) }
 {
+    let _thread = thread;
     let spent = 1 << 61 <= state.next_id().number();
     add(
         state.alloc(),
@@ -161,7 +164,6 @@ fn left(state: &PlainState, found: &mut Vec<Finding>) -> Result<(), NoMemory>
 }
 
 /// A new object fits into its container.
-#[tactic(auto, unfolding(crate::specs::Words::fitting))]
 pub fn fitting(
     state: &PlainState,
     thread: ObjectId,
@@ -170,16 +172,16 @@ pub fn fitting(
     found: &mut Vec<Finding>,
 ) -> Result<(), NoMemory>
     ensures { OnOk result (found.new.items ≡ found.old.items
-        ++ fitting (state_of state.now) thread made.now.kind made.now.container made.now.quota
-        pages) }
+        ++ told (state_of state.now) thread (fitting made.now.kind made.now.container
+        made.now.quota pages)) }
 {
     at_container(state, thread, made.container, found)?;
     modified(state, thread, made.container, found)?;
     avoided(state, thread, made, found)?;
-    sized(state, made, pages, found)?;
+    sized(state, thread, made, pages, found)?;
     with_room(state, thread, made.container, made.quota, found)?;
     not_immutable(state, thread, made.container, found)?;
-    left(state, found)?;
+    left(state, thread, found)?;
     Ok(())
 }
 
@@ -193,8 +195,67 @@ pub fn between_parts(low: &Option<Label>, label: &Option<Label>, high: &Option<L
     ]
 }
 
+/// A label is at least the thread's, and at most its clearance.
+pub fn in_range(
+    state: &PlainState,
+    thread: ObjectId,
+    raw: &RawLabel,
+    label: &Option<Label>,
+    found: &mut Vec<Finding>,
+) -> Result<(), NoMemory>
+    requires { label.now ≡ stored raw.now }
+    ensures { OnOk result (found.new.items ≡ found.old.items
+        ++ told (state_of state.now) thread
+        ((refusals.LabelRange, condition.OutOfRange raw.now) ∷ [])) }
+{
+    let _raw = raw.default;
+    let range = between_parts(
+        &label_of(state, thread),
+        label,
+        &clearance_of(state, thread),
+    );
+    add(state.alloc(), found, Refusal::LabelRange, &range)
+}
+
+/// A label is at least the thread's.
+fn above_thread(
+    state: &PlainState,
+    thread: ObjectId,
+    raw: &RawLabel,
+    label: &Option<Label>,
+    found: &mut Vec<Finding>,
+) -> Result<(), NoMemory>
+    requires { label.now ≡ stored raw.now }
+    ensures { OnOk result (found.new.items ≡ found.old.items
+        ++ told (state_of state.now) thread
+        ((refusals.LabelRange, condition.BelowThread raw.now) ∷ [])) }
+{
+    let _raw = raw.default;
+    let least = Part::Compared(Comparison::Below(label_of(state, thread), *label));
+    add(state.alloc(), found, Refusal::LabelRange, &[least])
+}
+
+/// A clearance is at least its label, and at most the thread's clearance.
+fn in_clearance(
+    state: &PlainState,
+    thread: ObjectId,
+    made: &NewObject,
+    raw: &RawLabel,
+    clearance: &Option<Label>,
+    found: &mut Vec<Finding>,
+) -> Result<(), NoMemory>
+    requires label { made.now.stored ≡ stored made.now.label.now }
+    requires clearance { clearance.now ≡ stored raw.now }
+    ensures { OnOk result (found.new.items ≡ found.old.items
+        ++ told (state_of state.now) thread
+        ((refusals.ClearanceRange, condition.OutOfClearance made.now.label.now raw.now) ∷ [])) }
+{
+    let _raw = raw.default;
+    let range = between_parts(&made.stored, clearance, &clearance_of(state, thread));
+    add(state.alloc(), found, Refusal::ClearanceRange, &range)
+}
+
 /// A new container, segment or address space.
-#[tactic(auto, unfolding(crate::specs::Words::new_object))]
 pub fn new_object(
     state: &PlainState,
     thread: ObjectId,
@@ -204,21 +265,16 @@ pub fn new_object(
 ) -> Result<(), NoMemory>
     requires { made.now.stored ≡ stored made.now.label.now }
     ensures { OnOk result (found.new.items ≡ found.old.items
-        ++ new_object (state_of state.now) thread made.now.kind made.now.container
-        made.now.label.now made.now.quota pages) }
+        ++ told (state_of state.now) thread (new_object made.now.kind made.now.container
+        made.now.label.now made.now.quota pages)) }
 {
     fitting(state, thread, made, pages, found)?;
     starless_label(state, thread, made.label, &made.stored, found)?;
-    let range = between_parts(
-        &label_of(state, thread),
-        &made.stored,
-        &clearance_of(state, thread),
-    );
-    add(state.alloc(), found, Refusal::LabelRange, &range)
+    in_range(state, thread, made.label, &made.stored, found)?;
+    Ok(())
 }
 
 /// A new thread or gate of this clearance.
-#[tactic(auto, unfolding(crate::specs::Words::new_bearer))]
 pub fn new_bearer(
     state: &PlainState,
     thread: ObjectId,
@@ -230,16 +286,15 @@ pub fn new_bearer(
     requires label { made.now.stored ≡ stored made.now.label.now }
     requires clearance { clearance.now ≡ stored raw.now }
     ensures { OnOk result (found.new.items ≡ found.old.items
-        ++ new_bearer (state_of state.now) thread made.now.kind made.now.container
-        made.now.label.now made.now.quota raw.now) }
+        ++ told (state_of state.now) thread (new_bearer made.now.kind made.now.container
+        made.now.label.now made.now.quota raw.now)) }
 {
     fitting(state, thread, made, 1, found)?;
     good_label(state, thread, made.label, &made.stored, found)?;
     good_label(state, thread, raw, clearance, found)?;
-    let least = Part::Compared(Comparison::Below(label_of(state, thread), made.stored));
-    add(state.alloc(), found, Refusal::LabelRange, &[least])?;
-    let range = between_parts(&made.stored, clearance, &clearance_of(state, thread));
-    add(state.alloc(), found, Refusal::ClearanceRange, &range)
+    above_thread(state, thread, made.label, &made.stored, found)?;
+    in_clearance(state, thread, made, raw, clearance, found)?;
+    Ok(())
 }
 
 /// A new segment of so many pages.
@@ -252,8 +307,8 @@ pub fn new_segment(
 ) -> Result<(), NoMemory>
     requires { made.now.stored ≡ stored made.now.label.now }
     ensures { OnOk result (found.new.items ≡ found.old.items
-        ++ new_object (state_of state.now) thread made.now.kind made.now.container
-        made.now.label.now made.now.quota (1 + pages)) }
+        ++ told (state_of state.now) thread (new_object made.now.kind made.now.container
+        made.now.label.now made.now.quota (1 + pages))) }
 {
     new_object(state, thread, made, 1 + u64::from(pages), found)
 }
@@ -268,8 +323,8 @@ pub fn new_copy(
 ) -> Result<(), NoMemory>
     requires { made.now.stored ≡ stored made.now.label.now }
     ensures { OnOk result (found.new.items ≡ found.old.items
-        ++ new_object (state_of state.now) thread made.now.kind made.now.container
-        made.now.label.now made.now.quota (1 + page_count (state_of state.now) source)) }
+        ++ told (state_of state.now) thread (new_object made.now.kind made.now.container
+        made.now.label.now made.now.quota (1 + page_count (state_of state.now) source))) }
 {
     new_object(
         state,

@@ -1,11 +1,12 @@
 //! Why a call is refused, or is not.
 ghost use Rattle.std.specs.Prelude.{◌≡◌, ◌↔◌, ◌++◌, OnOk, IfOk, IsTrue, None, map};
-ghost use Rattle.kernel_rules.specs.Rows.{halted};
-ghost use Rattle.kernel_rules.specs.Table.{row, refused, query_row, query_refused};
+ghost use Rattle.kernel_rules.specs.Table.{conditions, halted, row, refused};
+ghost use Rattle.kernel_rules.specs.Table.{query_conditions, query_row, query_refused};
 ghost use Rattle.kernel_rules.specs.Step.{answer, query_answer, or_refused, accepted};
 ghost use Rattle.kernel_rules.specs.Step.{found as found_by};
 ghost use Rattle.plain_state.specs.StateOf.{state_of};
-ghost use Rattle.explained.specs.Explained.{findings, query_findings, explained, query_explained};
+ghost use Rattle.explained.specs.Explained.{explained, query_explained};
+ghost use Rattle.explained.specs.Told.{told};
 ghost use Rattle.explained.specs.Laws.{least, none_holds};
 ghost use Rattle.explained.specs.Parts.{condition};
 
@@ -38,7 +39,7 @@ fn findings(
     found: &mut Vec<Finding>,
 ) -> Result<(), NoMemory>
     ensures { OnOk result (found.new.items ≡ found.old.items
-        ++ findings (state_of state.now) thread call.now) }
+        ++ told (state_of state.now) thread (conditions (state_of state.now) call.now)) }
 {
     match call {
         Call::CatCreate => cat_create(state, thread, meter, found),
@@ -101,7 +102,7 @@ fn query_findings(
     found: &mut Vec<Finding>,
 ) -> Result<(), NoMemory>
     ensures { OnOk result (found.new.items ≡ found.old.items
-        ++ query_findings (state_of state.now) thread query.now) }
+        ++ told (state_of state.now) thread (query_conditions (state_of state.now) query.now)) }
 {
     match query {
         Query::SelfGet => Ok(()),
@@ -128,7 +129,6 @@ fn query_findings(
 /// Each condition of a call's row, in the row's order, with the parts by which it is decided. The
 /// call is refused by the least number among those that hold, and is accepted where none does. The
 /// error is want of memory.
-#[tactic(auto, unfolding(crate::specs::Explained::explained))]
 pub fn explain(state: &PlainState, thread: ObjectId, call: &Call) -> Result<Vec<Finding>, NoMemory>
     ensures findings { IfOk result (λ found. found.items
         ≡ explained (state_of state.now) thread call.now) }
@@ -150,7 +150,6 @@ pub fn explain(state: &PlainState, thread: ObjectId, call: &Call) -> Result<Vec<
 }
 
 /// Each condition of a query's row, as `explain` has those of a call's.
-#[tactic(auto, unfolding(crate::specs::Explained::query_explained))]
 pub fn explain_query(
     state: &PlainState,
     thread: ObjectId,

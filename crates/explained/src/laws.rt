@@ -1,7 +1,8 @@
 //! Laws of what is told, each the contract of a function that does nothing.
 ghost use Rattle.explained.specs.Compared.{AgreesWhereNoneFails, SidesAreExact};
 ghost use Rattle.explained.specs.Laws.{FailingIsExact, HoldsWhereNoneFails};
-ghost use Rattle.explained.specs.Laws.{FindingsAreTheRow, QueryFindingsAreTheRow};
+ghost use Rattle.explained.specs.Laws.{PartsAreTheCondition, FindingsAreTheRow};
+ghost use Rattle.explained.specs.Laws.{QueryFindingsAreTheRow};
 ghost use Rattle.explained.specs.Laws.{LeastIsTheRefusal, LeastIsTheQueryRefusal};
 ghost use Rattle.explained.specs.Laws.{NoneHoldsWhereAccepted, NoneHoldsWhereFound};
 
@@ -15,8 +16,10 @@ pub fn holds_where_none_fails()
     ensures { HoldsWhereNoneFails }
 {}
 
-/// The findings of a call are the conditions of its row, in the row's order.
+/// What is told of a condition refuses exactly where the condition does, so the findings of a call are
+/// the conditions of its row, in the row's order.
 pub fn findings_are_the_row()
+    ensures parts { PartsAreTheCondition }
     ensures calls { FindingsAreTheRow }
     ensures queries { QueryFindingsAreTheRow }
 {}

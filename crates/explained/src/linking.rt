@@ -1,16 +1,15 @@
 //! Conditions on links and quotas.
+#![tactic(auto, unfolding(crate::specs::Told::told))]
+
 ghost use Rattle.std.specs.Prelude.{◌≡◌, ◌++◌, ◌∷◌, [], ◌&&◌, not, nat_lt, OnOk};
 ghost use Rattle.base.specs.Live.{has};
 ghost use Rattle.base.specs.declared.refusals.Refusal.TheVariants as refusals;
-ghost use Rattle.kernel_rules.specs.Rows.{pages_up, pages_down};
-ghost use Rattle.kernel_rules.specs.State.{label_at, clearance_at, quota_at, list_at, is_fixed};
-ghost use Rattle.kernel_rules.specs.Table.{names_root, avoids_kind_of};
+ghost use Rattle.kernel_rules.specs.Conditions.{pages_up, pages_down, avoids_kind_of};
+ghost use Rattle.kernel_rules.specs.State.{quota_at};
 ghost use Rattle.plain_state.specs.StateOf.{state_of};
-ghost use Rattle.explained.specs.declared.facts.Fact.TheVariants as facts;
-ghost use Rattle.explained.specs.Words.{asked, fact, finding, with_room, sum_part};
-ghost use Rattle.explained.specs.Explained.{room_parts};
-ghost use Rattle.explained.specs.declared.parts.Comparison.TheVariants as compared;
-ghost use Rattle.explained.specs.declared.parts.Part.TheVariants as is;
+ghost use Rattle.kernel_rules.specs.Conditions as condition;
+ghost use Rattle.kernel_rules.specs.Rows.{with_room};
+ghost use Rattle.explained.specs.Told.{told, asked, sum_part};
 
 use crate::creating::with_room;
 use crate::facts::Fact;
@@ -61,9 +60,8 @@ pub fn cleared(
     found: &mut Vec<Finding>,
 ) -> Result<(), NoMemory>
     ensures { OnOk result (found.new.items ≡ found.old.items
-        ++ finding refusals.LabelRange
-        (is.Compared (compared.Below (label_at (state_of state.now) id)
-        (clearance_at (state_of state.now) thread)) ∷ [])) }
+        ++ told (state_of state.now) thread
+        ((refusals.LabelRange, condition.AboveClearance id) ∷ [])) }
 {
     let labels = Comparison::Below(label_of(state, id), clearance_of(state, thread));
     add(
@@ -94,7 +92,8 @@ pub fn avoided_kind(
     found: &mut Vec<Finding>,
 ) -> Result<(), NoMemory>
     ensures { OnOk result (found.new.items ≡ found.old.items
-        ++ fact refusals.AvoidType facts.Avoided (avoids_kind_of (state_of state.now) thread container id)) }
+        ++ told (state_of state.now) thread
+        ((refusals.AvoidType, condition.KindAvoided container id) ∷ [])) }
 {
     let _thread = thread;
     let avoided = avoids_kind_of(state, thread, container, id);
@@ -114,7 +113,8 @@ pub fn unfixed(
     found: &mut Vec<Finding>,
 ) -> Result<(), NoMemory>
     ensures { OnOk result (found.new.items ≡ found.old.items
-        ++ fact refusals.NotFixed facts.NotFixed (not (is_fixed (state_of state.now) id))) }
+        ++ told (state_of state.now) thread
+        ((refusals.NotFixed, condition.NotFixed id) ∷ [])) }
 {
     let _thread = thread;
     let fixed = state.is_fixed(id);
@@ -134,7 +134,8 @@ pub fn fixed(
     found: &mut Vec<Finding>,
 ) -> Result<(), NoMemory>
     ensures { OnOk result (found.new.items ≡ found.old.items
-        ++ fact refusals.FixedQuota facts.Fixed (is_fixed (state_of state.now) id)) }
+        ++ told (state_of state.now) thread
+        ((refusals.FixedQuota, condition.Fixed id) ∷ [])) }
 {
     let _thread = thread;
     let fixed = state.is_fixed(id);
@@ -155,7 +156,8 @@ pub fn linked(
     found: &mut Vec<Finding>,
 ) -> Result<(), NoMemory>
     ensures { OnOk result (found.new.items ≡ found.old.items
-        ++ fact refusals.AlreadyLinked facts.Listed (has (list_at (state_of state.now) container) id)) }
+        ++ told (state_of state.now) thread
+        ((refusals.AlreadyLinked, condition.Listed container id) ∷ [])) }
 {
     let _thread = thread;
     let listed = state.is_listed(container, id);
@@ -176,7 +178,8 @@ pub fn link_room(
     found: &mut Vec<Finding>,
 ) -> Result<(), NoMemory>
     ensures { OnOk result (found.new.items ≡ found.old.items
-        ++ with_room (state_of state.now) thread container (quota_at (state_of state.now) id)) }
+        ++ told (state_of state.now) thread (with_room container (quota_at (state_of state.now)
+        id))) }
 {
     with_room(state, thread, container, state.quota(id), found)
 }
@@ -189,8 +192,8 @@ pub fn listed_unless_root(
     found: &mut Vec<Finding>,
 ) -> Result<(), NoMemory>
     ensures { OnOk result (found.new.items ≡ found.old.items
-        ++ fact refusals.NoEntry facts.NotListed (not (names_root entry.now)
-        && not (has (list_at (state_of state.now) entry.now.container) entry.now.object))) }
+        ++ told (state_of state.now) thread
+        ((refusals.NoEntry, condition.NotLinked entry.now) ∷ [])) }
 {
     let _thread = thread;
     let root = entry.container.number() == 1 && entry.object.number() == 1;
@@ -211,7 +214,8 @@ pub fn root_kept(
     found: &mut Vec<Finding>,
 ) -> Result<(), NoMemory>
     ensures { OnOk result (found.new.items ≡ found.old.items
-        ++ fact refusals.RootKept facts.IsRoot (names_root entry.now)) }
+        ++ told (state_of state.now) thread
+        ((refusals.RootKept, condition.Root entry.now) ∷ [])) }
 {
     let _thread = thread;
     let root = entry.container.number() == 1 && entry.object.number() == 1;
@@ -232,9 +236,12 @@ pub fn seen_to_go_down(
     found: &mut Vec<Finding>,
 ) -> Result<(), NoMemory>
     ensures { OnOk result (found.new.items ≡ found.old.items
-        ++ finding refusals.CannotObserve (asked (nat_lt 0 (pages_down change.now))
-        (is.Compared (compared.Visible (label_at (state_of state.now) id)
-        (label_at (state_of state.now) thread)) ∷ []))) }
+        ++ told (state_of state.now) thread
+        ((
+          refusals.CannotObserve,
+          condition.When (nat_lt 0 (pages_down change.now))
+              (condition.NotObserved id),
+        ) ∷ [])) }
 {
     let labels = Comparison::Visible(label_of(state, id), label_of(state, thread));
     let down = 0 < pages_down(*change);
@@ -256,7 +263,8 @@ pub fn change_room(
     found: &mut Vec<Finding>,
 ) -> Result<(), NoMemory>
     ensures { OnOk result (found.new.items ≡ found.old.items
-        ++ finding refusals.NoQuota (room_parts (state_of state.now) thread entry.now change.now)) }
+        ++ told (state_of state.now) thread
+        ((refusals.NoQuota, condition.WithoutRoom entry.now change.now) ∷ [])) }
 {
     let (up, down) = (pages_up(*change), pages_down(*change));
     let mut parts = Parts::new(state.alloc());

@@ -1,13 +1,13 @@
 //! Conditions on numbers, bytes, slots and packets.
-ghost use Rattle.std.specs.Prelude.{◌≡◌, ◌+◌, ◌++◌, ◌∷◌, ◌==◌, [], nat_le, length, is_none, OnOk};
+#![tactic(auto, unfolding(crate::specs::Told::told))]
+
+ghost use Rattle.std.specs.Prelude.{◌≡◌, ◌+◌, ◌++◌, ◌∷◌, ◌==◌, [], length, OnOk};
 ghost use Rattle.base.specs.declared.refusals.Refusal.TheVariants as refusals;
-ghost use Rattle.kernel_rules.specs.State.{quota_at, list_at, packets_at, slots_at};
-ghost use Rattle.kernel_rules.specs.Translate.{slot_at};
+ghost use Rattle.kernel_rules.specs.State.{quota_at, list_at};
 ghost use Rattle.plain_state.specs.StateOf.{state_of};
-ghost use Rattle.explained.specs.declared.facts.Fact.TheVariants as facts;
-ghost use Rattle.explained.specs.Words.{fact, finding, shaped, within};
-ghost use Rattle.explained.specs.Explained.{mapping_parts, apart_parts};
-ghost use Rattle.explained.specs.declared.parts.Part.TheVariants as is;
+ghost use Rattle.kernel_rules.specs.Conditions as condition;
+ghost use Rattle.kernel_rules.specs.Rows.{shaped, within};
+ghost use Rattle.explained.specs.Told.{told};
 
 use crate::facts::Fact;
 use crate::parts::{Finding, Part, add, add_parts};
@@ -25,7 +25,8 @@ pub fn bounded(
     found: &mut Vec<Finding>,
 ) -> Result<(), NoMemory>
     ensures { OnOk result (found.new.items ≡ found.old.items
-        ++ finding refusals.Bounds (is.AtMost number most ∷ [])) }
+        ++ told (state_of state.now) thread
+        ((refusals.Bounds, condition.Above number most) ∷ [])) }
 {
     let _thread = thread;
     let part = Part::AtMost(u64::from(number), u64::from(most));
@@ -41,7 +42,8 @@ pub fn resizable(
     found: &mut Vec<Finding>,
 ) -> Result<(), NoMemory>
     ensures { OnOk result (found.new.items ≡ found.old.items
-        ++ finding refusals.NoQuota (is.AtMost (1 + pages) (quota_at (state_of state.now) id) ∷ [])) }
+        ++ told (state_of state.now) thread
+        ((refusals.NoQuota, condition.Above (1 + pages) (quota_at (state_of state.now) id)) ∷ [])) }
 {
     let _thread = thread;
     let part = Part::AtMost(1 + u64::from(pages), u64::from(state.quota(id)));
@@ -57,7 +59,9 @@ pub fn listed_from(
     found: &mut Vec<Finding>,
 ) -> Result<(), NoMemory>
     ensures { OnOk result (found.new.items ≡ found.old.items
-        ++ finding refusals.Bounds (is.AtMost from (length (list_at (state_of state.now) container)) ∷ [])) }
+        ++ told (state_of state.now) thread
+        ((refusals.Bounds, condition.Above from (length (list_at (state_of state.now) container)))
+        ∷ [])) }
 {
     let _thread = thread;
     let most = state.list(container).len() as u64;
@@ -77,7 +81,8 @@ pub fn some_bytes(
     found: &mut Vec<Finding>,
 ) -> Result<(), NoMemory>
     ensures { OnOk result (found.new.items ≡ found.old.items
-        ++ finding refusals.Bounds (is.AtLeast (length bytes.now) 1 ∷ [])) }
+        ++ told (state_of state.now) thread
+        ((refusals.Bounds, condition.Zero (length bytes.now)) ∷ [])) }
 {
     let _thread = thread;
     let part = Part::AtLeast(bytes.as_slice().len() as u64, 1);
@@ -92,7 +97,8 @@ pub fn queue_full(
     found: &mut Vec<Finding>,
 ) -> Result<(), NoMemory>
     ensures { OnOk result (found.new.items ≡ found.old.items
-        ++ fact refusals.DeviceFull facts.QueueFull (nat_le 4 (length (packets_at (state_of state.now) id)))) }
+        ++ told (state_of state.now) thread
+        ((refusals.DeviceFull, condition.QueueFull id) ∷ [])) }
 {
     let _thread = thread;
     let full = 4 <= state.packets(id).len();
@@ -112,7 +118,8 @@ pub fn queue_empty(
     found: &mut Vec<Finding>,
 ) -> Result<(), NoMemory>
     ensures { OnOk result (found.new.items ≡ found.old.items
-        ++ fact refusals.DeviceEmpty facts.QueueEmpty (length (packets_at (state_of state.now) id) == 0)) }
+        ++ told (state_of state.now) thread
+        ((refusals.DeviceEmpty, condition.QueueEmpty id) ∷ [])) }
 {
     let _thread = thread;
     let empty = state.packets(id).len() == 0;
@@ -133,7 +140,8 @@ pub fn slot_filled(
     found: &mut Vec<Finding>,
 ) -> Result<(), NoMemory>
     ensures { OnOk result (found.new.items ≡ found.old.items
-        ++ fact refusals.NotMapped facts.SlotEmpty (is_none (slot_at (state_of state.now) id slot))) }
+        ++ told (state_of state.now) thread
+        ((refusals.NotMapped, condition.SlotEmpty id slot) ∷ [])) }
 {
     let _thread = thread;
     let empty = state.slot(id, slot as usize).is_none();
@@ -154,7 +162,8 @@ pub fn mapping_bounds(
     found: &mut Vec<Finding>,
 ) -> Result<(), NoMemory>
     ensures { OnOk result (found.new.items ≡ found.old.items
-        ++ finding refusals.Bounds (mapping_parts slot mapping.now)) }
+        ++ told (state_of state.now) thread
+        ((refusals.Bounds, condition.NotMapping slot mapping.now) ∷ [])) }
 {
     let _thread = thread;
     let parts = mapping_parts(slot, mapping);
@@ -171,8 +180,8 @@ pub fn overlapping(
     found: &mut Vec<Finding>,
 ) -> Result<(), NoMemory>
     ensures { OnOk result (found.new.items ≡ found.old.items
-        ++ finding refusals.Overlap (is.Empty slot (slot_at (state_of state.now) id slot)
-        ∷ apart_parts 0 mapping.now (slots_at (state_of state.now) id))) }
+        ++ told (state_of state.now) thread
+        ((refusals.Overlap, condition.Overlapping id slot mapping.now) ∷ [])) }
 {
     let _thread = thread;
     let filled = state.slot(id, slot as usize);
@@ -189,7 +198,7 @@ pub fn shaped_data(
     found: &mut Vec<Finding>,
 ) -> Result<(), NoMemory>
     ensures { OnOk result (found.new.items ≡ found.old.items
-        ++ shaped (state_of state.now) thread address (length bytes.now)) }
+        ++ told (state_of state.now) thread (shaped address (length bytes.now))) }
 {
     shaped(state, thread, address, bytes.as_slice().len() as u32, found)
 }
@@ -203,7 +212,7 @@ pub fn shaped_at(
     found: &mut Vec<Finding>,
 ) -> Result<(), NoMemory>
     ensures { OnOk result (found.new.items ≡ found.old.items
-        ++ shaped (state_of state.now) thread offset (length bytes.now)) }
+        ++ told (state_of state.now) thread (shaped offset (length bytes.now))) }
 {
     shaped(
         state,
@@ -223,7 +232,7 @@ pub fn shaped_range(
     found: &mut Vec<Finding>,
 ) -> Result<(), NoMemory>
     ensures { OnOk result (found.new.items ≡ found.old.items
-        ++ shaped (state_of state.now) thread offset count) }
+        ++ told (state_of state.now) thread (shaped offset count)) }
 {
     shaped(state, thread, u64::from(offset), count, found)
 }
@@ -238,7 +247,8 @@ pub fn within_data(
     found: &mut Vec<Finding>,
 ) -> Result<(), NoMemory>
     ensures { OnOk result (found.new.items ≡ found.old.items
-        ++ within (state_of state.now) thread id offset (length bytes.now)) }
+        ++ told (state_of state.now) thread (within (state_of state.now) id offset (length
+        bytes.now))) }
 {
     within(
         state,

@@ -2,7 +2,8 @@
 ghost use Rattle.std.specs.Prelude.{◌≡◌, ◌++◌, OnOk};
 ghost use Rattle.kernel_rules.specs.declared.calls.Call.TheVariants as call;
 ghost use Rattle.plain_state.specs.StateOf.{state_of};
-ghost use Rattle.explained.specs.Explained.{findings};
+ghost use Rattle.kernel_rules.specs.Table.{conditions};
+ghost use Rattle.explained.specs.Told.{told};
 
 use crate::creating::{NewObject, new_object};
 use crate::linking::{
@@ -27,7 +28,8 @@ pub fn container_create(
     found: &mut Vec<Finding>,
 ) -> Result<(), NoMemory>
     ensures { OnOk result (found.new.items ≡ found.old.items
-        ++ findings (state_of state.now) thread (call.ContainerCreate made.now)) }
+        ++ told (state_of state.now) thread (conditions (state_of state.now)
+        (call.ContainerCreate made.now))) }
 {
     let new = NewObject {
         kind: Kind::Container,
@@ -49,7 +51,8 @@ pub fn link(
     found: &mut Vec<Finding>,
 ) -> Result<(), NoMemory>
     ensures { OnOk result (found.new.items ≡ found.old.items
-        ++ findings (state_of state.now) thread (call.Link target entry.now)) }
+        ++ told (state_of state.now) thread (conditions (state_of state.now) (call.Link target
+        entry.now))) }
 {
     at_container(state, thread, target, found)?;
     in_container(state, thread, entry, found)?;
@@ -72,7 +75,8 @@ pub fn unref(
     found: &mut Vec<Finding>,
 ) -> Result<(), NoMemory>
     ensures { OnOk result (found.new.items ≡ found.old.items
-        ++ findings (state_of state.now) thread (call.Unref entry.now)) }
+        ++ told (state_of state.now) thread (conditions (state_of state.now) (call.Unref
+        entry.now))) }
 {
     at_container(state, thread, entry.container, found)?;
     listed_unless_root(state, thread, entry, found)?;
@@ -91,7 +95,8 @@ pub fn quota_move(
     found: &mut Vec<Finding>,
 ) -> Result<(), NoMemory>
     ensures { OnOk result (found.new.items ≡ found.old.items
-        ++ findings (state_of state.now) thread (call.QuotaMove entry.now change.now)) }
+        ++ told (state_of state.now) thread (conditions (state_of state.now) (call.QuotaMove
+        entry.now change.now))) }
 {
     listed_in(state, thread, entry, found)?;
     seen_to_go_down(state, thread, entry.object, change, found)?;
@@ -113,7 +118,8 @@ pub fn set_fixed(
     found: &mut Vec<Finding>,
 ) -> Result<(), NoMemory>
     ensures { OnOk result (found.new.items ≡ found.old.items
-        ++ findings (state_of state.now) thread (call.SetFixed entry.now)) }
+        ++ told (state_of state.now) thread (conditions (state_of state.now) (call.SetFixed
+        entry.now))) }
 {
     in_container(state, thread, entry, found)?;
     modified(state, thread, entry.object, found)?;

@@ -2,7 +2,8 @@
 ghost use Rattle.std.specs.Prelude.{◌≡◌, ◌++◌, OnOk};
 ghost use Rattle.kernel_rules.specs.declared.calls.Call.TheVariants as call;
 ghost use Rattle.plain_state.specs.StateOf.{state_of};
-ghost use Rattle.explained.specs.Explained.{findings};
+ghost use Rattle.kernel_rules.specs.Table.{conditions};
+ghost use Rattle.explained.specs.Told.{told};
 
 use crate::creating::{NewObject, new_copy, new_object, new_segment};
 use crate::numbers::{
@@ -26,7 +27,8 @@ pub fn segment_create(
     found: &mut Vec<Finding>,
 ) -> Result<(), NoMemory>
     ensures { OnOk result (found.new.items ≡ found.old.items
-        ++ findings (state_of state.now) thread (call.SegmentCreate made.now)) }
+        ++ told (state_of state.now) thread (conditions (state_of state.now) (call.SegmentCreate
+        made.now))) }
 {
     let new = NewObject {
         kind: Kind::Segment,
@@ -49,7 +51,8 @@ pub fn segment_copy(
     found: &mut Vec<Finding>,
 ) -> Result<(), NoMemory>
     ensures { OnOk result (found.new.items ≡ found.old.items
-        ++ findings (state_of state.now) thread (call.SegmentCopy made.now)) }
+        ++ told (state_of state.now) thread (conditions (state_of state.now) (call.SegmentCopy
+        made.now))) }
 {
     let new = NewObject {
         kind: Kind::Segment,
@@ -74,7 +77,8 @@ pub fn as_create(
     found: &mut Vec<Finding>,
 ) -> Result<(), NoMemory>
     ensures { OnOk result (found.new.items ≡ found.old.items
-        ++ findings (state_of state.now) thread (call.AsCreate made.now)) }
+        ++ told (state_of state.now) thread (conditions (state_of state.now) (call.AsCreate
+        made.now))) }
 {
     let new = NewObject {
         kind: Kind::AddressSpace,
@@ -95,7 +99,8 @@ pub fn set_immutable(
     found: &mut Vec<Finding>,
 ) -> Result<(), NoMemory>
     ensures { OnOk result (found.new.items ≡ found.old.items
-        ++ findings (state_of state.now) thread (call.SetImmutable entry.now)) }
+        ++ told (state_of state.now) thread (conditions (state_of state.now) (call.SetImmutable
+        entry.now))) }
 {
     in_container(state, thread, entry, found)?;
     not_of_kind(state, thread, Kind::Thread, entry.object, found)?;
@@ -113,7 +118,8 @@ pub fn meta_set(
     found: &mut Vec<Finding>,
 ) -> Result<(), NoMemory>
     ensures { OnOk result (found.new.items ≡ found.old.items
-        ++ findings (state_of state.now) thread (call.MetaSet entry.now bytes.now)) }
+        ++ told (state_of state.now) thread (conditions (state_of state.now) (call.MetaSet
+        entry.now bytes.now))) }
 {
     let _bytes = bytes;
     in_container(state, thread, entry, found)?;
@@ -132,7 +138,8 @@ pub fn segment_resize(
     found: &mut Vec<Finding>,
 ) -> Result<(), NoMemory>
     ensures { OnOk result (found.new.items ≡ found.old.items
-        ++ findings (state_of state.now) thread (call.SegmentResize entry.now pages)) }
+        ++ told (state_of state.now) thread (conditions (state_of state.now) (call.SegmentResize
+        entry.now pages))) }
 {
     in_container(state, thread, entry, found)?;
     of_kind(state, thread, Kind::Segment, entry.object, found)?;
@@ -153,7 +160,8 @@ pub fn segment_write(
     found: &mut Vec<Finding>,
 ) -> Result<(), NoMemory>
     ensures { OnOk result (found.new.items ≡ found.old.items
-        ++ findings (state_of state.now) thread (call.SegmentWrite entry.now offset bytes.now)) }
+        ++ told (state_of state.now) thread (conditions (state_of state.now) (call.SegmentWrite
+        entry.now offset bytes.now))) }
 {
     in_container(state, thread, entry, found)?;
     of_kind(state, thread, Kind::Segment, entry.object, found)?;
@@ -174,7 +182,8 @@ pub fn as_map(
     found: &mut Vec<Finding>,
 ) -> Result<(), NoMemory>
     ensures { OnOk result (found.new.items ≡ found.old.items
-        ++ findings (state_of state.now) thread (call.AsMap space.now slot mapping.now)) }
+        ++ told (state_of state.now) thread (conditions (state_of state.now) (call.AsMap
+        space.now slot mapping.now))) }
 {
     in_container(state, thread, space, found)?;
     in_container(state, thread, &mapping.entry, found)?;
@@ -196,7 +205,8 @@ pub fn as_unmap(
     found: &mut Vec<Finding>,
 ) -> Result<(), NoMemory>
     ensures { OnOk result (found.new.items ≡ found.old.items
-        ++ findings (state_of state.now) thread (call.AsUnmap space.now slot)) }
+        ++ told (state_of state.now) thread (conditions (state_of state.now) (call.AsUnmap
+        space.now slot))) }
 {
     in_container(state, thread, space, found)?;
     of_kind(state, thread, Kind::AddressSpace, space.object, found)?;
@@ -217,7 +227,8 @@ pub fn store(
     found: &mut Vec<Finding>,
 ) -> Result<(), NoMemory>
     ensures { OnOk result (found.new.items ≡ found.old.items
-        ++ findings (state_of state.now) thread (call.Store address bytes.now)) }
+        ++ told (state_of state.now) thread (conditions (state_of state.now) (call.Store address
+        bytes.now))) }
 {
     let place = state.place(thread, address, meter);
     shaped_data(state, thread, address, bytes, found)?;
@@ -234,7 +245,8 @@ pub fn dev_send(
     found: &mut Vec<Finding>,
 ) -> Result<(), NoMemory>
     ensures { OnOk result (found.new.items ≡ found.old.items
-        ++ findings (state_of state.now) thread (call.DevSend entry.now bytes.now)) }
+        ++ told (state_of state.now) thread (conditions (state_of state.now) (call.DevSend
+        entry.now bytes.now))) }
 {
     in_container(state, thread, entry, found)?;
     of_kind(state, thread, Kind::Device, entry.object, found)?;
@@ -252,7 +264,8 @@ pub fn dev_recv(
     found: &mut Vec<Finding>,
 ) -> Result<(), NoMemory>
     ensures { OnOk result (found.new.items ≡ found.old.items
-        ++ findings (state_of state.now) thread (call.DevRecv entry.now)) }
+        ++ told (state_of state.now) thread (conditions (state_of state.now) (call.DevRecv
+        entry.now))) }
 {
     in_container(state, thread, entry, found)?;
     of_kind(state, thread, Kind::Device, entry.object, found)?;

@@ -2,7 +2,8 @@
 ghost use Rattle.std.specs.Prelude.{◌≡◌, ◌++◌, OnOk};
 ghost use Rattle.kernel_rules.specs.declared.calls.Query.TheVariants as query;
 ghost use Rattle.plain_state.specs.StateOf.{state_of};
-ghost use Rattle.explained.specs.Explained.{query_findings};
+ghost use Rattle.kernel_rules.specs.Table.{query_conditions};
+ghost use Rattle.explained.specs.Told.{told};
 
 use crate::numbers::{bounded, listed_from, shaped_range};
 use crate::owning::label_shown;
@@ -21,7 +22,8 @@ pub fn obj_label(
     found: &mut Vec<Finding>,
 ) -> Result<(), NoMemory>
     ensures { OnOk result (found.new.items ≡ found.old.items
-        ++ query_findings (state_of state.now) thread (query.ObjLabel entry.now)) }
+        ++ told (state_of state.now) thread (query_conditions (state_of state.now)
+        (query.ObjLabel entry.now))) }
 {
     in_container(state, thread, entry, found)?;
     label_shown(state, thread, entry.object, found)?;
@@ -36,7 +38,8 @@ pub fn obj_quota(
     found: &mut Vec<Finding>,
 ) -> Result<(), NoMemory>
     ensures { OnOk result (found.new.items ≡ found.old.items
-        ++ query_findings (state_of state.now) thread (query.ObjQuota entry.now)) }
+        ++ told (state_of state.now) thread (query_conditions (state_of state.now)
+        (query.ObjQuota entry.now))) }
 {
     in_container(state, thread, entry, found)?;
     observed(state, thread, entry.object, found)?;
@@ -52,7 +55,8 @@ pub fn container_list(
     found: &mut Vec<Finding>,
 ) -> Result<(), NoMemory>
     ensures { OnOk result (found.new.items ≡ found.old.items
-        ++ query_findings (state_of state.now) thread (query.ContainerList container from)) }
+        ++ told (state_of state.now) thread (query_conditions (state_of state.now)
+        (query.ContainerList container from))) }
 {
     at_container(state, thread, container, found)?;
     listed_from(state, thread, container, from, found)?;
@@ -67,7 +71,8 @@ pub fn container_parent(
     found: &mut Vec<Finding>,
 ) -> Result<(), NoMemory>
     ensures { OnOk result (found.new.items ≡ found.old.items
-        ++ query_findings (state_of state.now) thread (query.ContainerParent container)) }
+        ++ told (state_of state.now) thread (query_conditions (state_of state.now)
+        (query.ContainerParent container))) }
 {
     at_container(state, thread, container, found)?;
     Ok(())
@@ -81,7 +86,8 @@ pub fn segment_len(
     found: &mut Vec<Finding>,
 ) -> Result<(), NoMemory>
     ensures { OnOk result (found.new.items ≡ found.old.items
-        ++ query_findings (state_of state.now) thread (query.SegmentLen entry.now)) }
+        ++ told (state_of state.now) thread (query_conditions (state_of state.now)
+        (query.SegmentLen entry.now))) }
 {
     in_container(state, thread, entry, found)?;
     of_kind(state, thread, Kind::Segment, entry.object, found)?;
@@ -99,7 +105,8 @@ pub fn segment_read(
     found: &mut Vec<Finding>,
 ) -> Result<(), NoMemory>
     ensures { OnOk result (found.new.items ≡ found.old.items
-        ++ query_findings (state_of state.now) thread (query.SegmentRead entry.now offset count)) }
+        ++ told (state_of state.now) thread (query_conditions (state_of state.now)
+        (query.SegmentRead entry.now offset count))) }
 {
     in_container(state, thread, entry, found)?;
     of_kind(state, thread, Kind::Segment, entry.object, found)?;
@@ -117,7 +124,8 @@ pub fn meta_get(
     found: &mut Vec<Finding>,
 ) -> Result<(), NoMemory>
     ensures { OnOk result (found.new.items ≡ found.old.items
-        ++ query_findings (state_of state.now) thread (query.MetaGet entry.now)) }
+        ++ told (state_of state.now) thread (query_conditions (state_of state.now)
+        (query.MetaGet entry.now))) }
 {
     in_container(state, thread, entry, found)?;
     not_of_kind(state, thread, Kind::Thread, entry.object, found)?;
@@ -134,7 +142,8 @@ pub fn as_get(
     found: &mut Vec<Finding>,
 ) -> Result<(), NoMemory>
     ensures { OnOk result (found.new.items ≡ found.old.items
-        ++ query_findings (state_of state.now) thread (query.AsGet space.now slot)) }
+        ++ told (state_of state.now) thread (query_conditions (state_of state.now) (query.AsGet
+        space.now slot))) }
 {
     in_container(state, thread, space, found)?;
     of_kind(state, thread, Kind::AddressSpace, space.object, found)?;
@@ -153,7 +162,8 @@ pub fn load(
     found: &mut Vec<Finding>,
 ) -> Result<(), NoMemory>
     ensures { OnOk result (found.new.items ≡ found.old.items
-        ++ query_findings (state_of state.now) thread (query.Load address count)) }
+        ++ told (state_of state.now) thread (query_conditions (state_of state.now) (query.Load
+        address count))) }
 {
     let place = state.place(thread, address, meter);
     shaped(state, thread, address, count, found)?;

@@ -2,10 +2,11 @@
 ghost use Rattle.std.specs.Prelude.{◌≡◌, ◌++◌, OnOk};
 ghost use Rattle.kernel_rules.specs.declared.calls.Call.TheVariants as call;
 ghost use Rattle.plain_state.specs.StateOf.{state_of};
-ghost use Rattle.explained.specs.Explained.{findings};
+ghost use Rattle.kernel_rules.specs.Table.{conditions};
+ghost use Rattle.explained.specs.Told.{told};
 
-use crate::creating::{NewObject, good_label, new_bearer};
-use crate::owning::{Entering, categories_left, clearable, full, gate_rules, in_range};
+use crate::creating::{NewObject, good_label, in_range, new_bearer};
+use crate::owning::{Entering, categories_left, clearable, full, gate_rules};
 use crate::parts::Finding;
 use crate::placing::space_entry;
 use crate::words::{in_container, of_kind};
@@ -23,7 +24,7 @@ pub fn cat_create(
     found: &mut Vec<Finding>,
 ) -> Result<(), NoMemory>
     ensures { OnOk result (found.new.items ≡ found.old.items
-        ++ findings (state_of state.now) thread call.CatCreate) }
+        ++ told (state_of state.now) thread (conditions (state_of state.now) call.CatCreate)) }
 {
     full(state, thread, meter, found)?;
     categories_left(state, thread, found)?;
@@ -39,7 +40,8 @@ pub fn self_set_label(
     found: &mut Vec<Finding>,
 ) -> Result<(), NoMemory>
     ensures { OnOk result (found.new.items ≡ found.old.items
-        ++ findings (state_of state.now) thread (call.SelfSetLabel raw.now)) }
+        ++ told (state_of state.now) thread (conditions (state_of state.now) (call.SelfSetLabel
+        raw.now))) }
 {
     let label = stored_of(raw, meter);
     good_label(state, thread, raw, &label, found)?;
@@ -56,7 +58,8 @@ pub fn self_set_clearance(
     found: &mut Vec<Finding>,
 ) -> Result<(), NoMemory>
     ensures { OnOk result (found.new.items ≡ found.old.items
-        ++ findings (state_of state.now) thread (call.SelfSetClearance raw.now)) }
+        ++ told (state_of state.now) thread (conditions (state_of state.now)
+        (call.SelfSetClearance raw.now))) }
 {
     let label = stored_of(raw, meter);
     good_label(state, thread, raw, &label, found)?;
@@ -72,7 +75,8 @@ pub fn self_set_as(
     found: &mut Vec<Finding>,
 ) -> Result<(), NoMemory>
     ensures { OnOk result (found.new.items ≡ found.old.items
-        ++ findings (state_of state.now) thread (call.SelfSetAs space.now)) }
+        ++ told (state_of state.now) thread (conditions (state_of state.now) (call.SelfSetAs
+        space.now))) }
 {
     space_entry(state, thread, space, found)?;
     Ok(())
@@ -87,7 +91,8 @@ pub fn thread_create(
     found: &mut Vec<Finding>,
 ) -> Result<(), NoMemory>
     ensures { OnOk result (found.new.items ≡ found.old.items
-        ++ findings (state_of state.now) thread (call.ThreadCreate made.now)) }
+        ++ told (state_of state.now) thread (conditions (state_of state.now) (call.ThreadCreate
+        made.now))) }
 {
     let new = NewObject {
         kind: Kind::Thread,
@@ -110,7 +115,8 @@ pub fn gate_create(
     found: &mut Vec<Finding>,
 ) -> Result<(), NoMemory>
     ensures { OnOk result (found.new.items ≡ found.old.items
-        ++ findings (state_of state.now) thread (call.GateCreate made.now)) }
+        ++ told (state_of state.now) thread (conditions (state_of state.now) (call.GateCreate
+        made.now))) }
 {
     let new = NewObject {
         kind: Kind::Gate,
@@ -135,8 +141,8 @@ pub fn gate_enter(
     found: &mut Vec<Finding>,
 ) -> Result<(), NoMemory>
     ensures { OnOk result (found.new.items ≡ found.old.items
-        ++ findings (state_of state.now) thread (call.GateEnter gate.now entering.now.label.now
-        entering.now.clearance.now entering.now.verify.now)) }
+        ++ told (state_of state.now) thread (conditions (state_of state.now) (call.GateEnter
+        gate.now entering.now.label.now entering.now.clearance.now entering.now.verify.now))) }
 {
     let asked = Asked {
         label: stored_of(entering.label, meter),

@@ -1,20 +1,15 @@
 //! Conditions on a thread's own labels, on categories and gates.
-ghost use Rattle.std.specs.Prelude.{◌≡◌, ◌++◌, ◌∷◌, [], nat_le, is_none, OnOk};
+#![tactic(auto, unfolding(crate::specs::Told::told))]
+
+ghost use Rattle.std.specs.Prelude.{◌≡◌, ◌++◌, ◌∷◌, [], OnOk};
 ghost use Rattle.base.specs.Limits.{spent};
-ghost use Rattle.base.specs.declared.kinds.Kind.TheVariants as kinds;
 ghost use Rattle.base.specs.declared.refusals.Refusal.TheVariants as refusals;
 ghost use Rattle.label_rules.specs.LabelRules.{stored};
-ghost use Rattle.kernel_rules.specs.Rows.{own_label, own_clearance};
-ghost use Rattle.kernel_rules.specs.State.{label_at, clearance_at, is_kind_at};
-ghost use Rattle.kernel_rules.specs.Table.{own_bearer, gate_bearer};
+ghost use Rattle.kernel_rules.specs.Conditions.{own_label, own_clearance, own_bearer, gate_bearer};
 ghost use Rattle.plain_state.specs.StateOf.{state_of};
-ghost use Rattle.explained.specs.declared.facts.Fact.TheVariants as facts;
-ghost use Rattle.explained.specs.Words.{asked, fact, finding, between_parts};
-ghost use Rattle.explained.specs.Explained.{gate_parts};
-ghost use Rattle.explained.specs.declared.parts.Comparison.TheVariants as compared;
-ghost use Rattle.explained.specs.declared.parts.Part.TheVariants as is;
+ghost use Rattle.kernel_rules.specs.Conditions as condition;
+ghost use Rattle.explained.specs.Told.{told, gate_parts};
 
-use crate::creating::between_parts;
 use crate::facts::Fact;
 use crate::parts::{Comparison, Finding, Part, add};
 use crate::placing::add_asked;
@@ -102,8 +97,8 @@ pub fn full(
     found: &mut Vec<Finding>,
 ) -> Result<(), NoMemory>
     ensures { OnOk result (found.new.items ≡ found.old.items
-        ++ finding refusals.LabelFull (is.Fact facts.LabelFull (is_none (own_label (state_of state.now) thread))
-        ∷ is.Fact facts.ClearanceFull (is_none (own_clearance (state_of state.now) thread)) ∷ [])) }
+        ++ told (state_of state.now) thread
+        ((refusals.LabelFull, condition.LabelFull) ∷ [])) }
 {
     let label = own_label(state, thread, meter).is_none();
     let clearance = own_clearance(state, thread, meter).is_none();
@@ -125,7 +120,8 @@ pub fn categories_left(
     found: &mut Vec<Finding>,
 ) -> Result<(), NoMemory>
     ensures { OnOk result (found.new.items ≡ found.old.items
-        ++ fact refusals.Spent facts.CategoriesSpent (nat_le spent (state_of state.now).next_category)) }
+        ++ told (state_of state.now) thread
+        ((refusals.Spent, condition.CategoriesSpent) ∷ [])) }
 {
     let _thread = thread;
     let spent = 1 << 61 <= state.next_category();
@@ -135,31 +131,8 @@ pub fn categories_left(
         Refusal::Spent,
         &[Part::Fact(Fact::CategoriesSpent, spent)],
     )
-}
+} /// A thread may have a clearance.
 
-/// A label is at least the thread's, and at most its clearance.
-pub fn in_range(
-    state: &PlainState,
-    thread: ObjectId,
-    raw: &RawLabel,
-    label: &Option<Label>,
-    found: &mut Vec<Finding>,
-) -> Result<(), NoMemory>
-    requires { label.now ≡ stored raw.now }
-    ensures { OnOk result (found.new.items ≡ found.old.items
-        ++ finding refusals.LabelRange (between_parts (label_at (state_of state.now) thread)
-        (stored raw.now) (clearance_at (state_of state.now) thread))) }
-{
-    let _raw = raw.default;
-    let range = between_parts(
-        &label_of(state, thread),
-        label,
-        &clearance_of(state, thread),
-    );
-    add(state.alloc(), found, Refusal::LabelRange, &range)
-}
-
-/// A thread may have a clearance.
 pub fn clearable(
     state: &PlainState,
     thread: ObjectId,
@@ -168,11 +141,9 @@ pub fn clearable(
     found: &mut Vec<Finding>,
 ) -> Result<(), NoMemory>
     requires { label.now ≡ stored raw.now }
-    ensures { OnOk result (found.new.items ≡ found.old.items
-        ++ finding refusals.ClearanceRange
-        (is.Compared (compared.Below (label_at (state_of state.now) thread) (stored raw.now))
-        ∷ is.Compared (compared.BelowJoinUp (stored raw.now)
-        (clearance_at (state_of state.now) thread) (label_at (state_of state.now) thread)) ∷ [])) }
+    ensures { OnOk result
+        (found.new.items ≡ found.old.items ++ told (state_of state.now) thread
+        ((refusals.ClearanceRange, condition.NotClearable raw.now) ∷ [])) }
 {
     let _raw = raw.default;
     let least = Comparison::Below(label_of(state, thread), *label);
@@ -197,9 +168,8 @@ pub fn label_shown(
     found: &mut Vec<Finding>,
 ) -> Result<(), NoMemory>
     ensures { OnOk result (found.new.items ≡ found.old.items
-        ++ finding refusals.CannotObserve (asked (is_kind_at (state_of state.now) kinds.Thread id)
-        (is.Compared (compared.Shown (label_at (state_of state.now) id)
-        (label_at (state_of state.now) thread)) ∷ []))) }
+        ++ told (state_of state.now) thread
+        ((refusals.CannotObserve, condition.NotShown id) ∷ [])) }
 {
     let labels = Comparison::Shown(label_of(state, id), label_of(state, thread));
     let is = state.is_kind(Kind::Thread, id);
@@ -225,12 +195,12 @@ pub fn gate_rules(
     requires clearance { asked.now.clearance ≡ stored entering.now.clearance.now }
     requires verify { asked.now.verify ≡ stored entering.now.verify.now }
     ensures { OnOk result (found.new.items ≡ found.old.items
-        ++ finding refusals.GateDenied
-        (gate_parts (own_bearer (state_of state.now) thread) (gate_bearer (state_of state.now) gate) (record {
-          label = stored entering.now.label.now;
-          clearance = stored entering.now.clearance.now;
-          verify = stored entering.now.verify.now;
-        }))) }
+        ++ told (state_of state.now) thread
+        ((
+          refusals.GateDenied,
+          condition.NotAdmitted gate entering.now.label.now
+              entering.now.clearance.now entering.now.verify.now,
+        ) ∷ [])) }
 {
     let _entering = entering.label.default;
     let own = own_bearer(state, thread);

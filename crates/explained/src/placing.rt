@@ -1,11 +1,12 @@
 //! The words of the table of calls on bytes, address spaces and addresses.
-ghost use Rattle.std.specs.Prelude.{◌≡◌, ◌≤◌, ◌++◌, ◌∷◌, length, OnOk, IfOk};
+#![tactic(auto, unfolding(crate::specs::Told::told))]
+
+ghost use Rattle.std.specs.Prelude.{◌≡◌, ◌≤◌, ◌++◌, ◌∷◌, [], length, OnOk, IfOk};
 ghost use Rattle.base.specs.Sets.{may_read, may_write};
-ghost use Rattle.base.specs.declared.refusals.Refusal.TheVariants as refusals;
 ghost use Rattle.kernel_rules.specs.Translate.{place_of};
 ghost use Rattle.plain_state.specs.StateOf.{state_of};
-ghost use Rattle.explained.specs.Words.{asked, finding, shaped, within, space_entry, mapped};
-ghost use Rattle.explained.specs.Explained.{mapping_parts, apart_parts};
+ghost use Rattle.kernel_rules.specs.Rows.{shaped, within, space_entry, mapped};
+ghost use Rattle.explained.specs.Told.{told, asked, mapping_parts, apart_parts};
 ghost use Rattle.explained.specs.declared.parts.Part.TheVariants as is;
 
 use crate::facts::Fact;
@@ -25,7 +26,7 @@ pub fn add_asked(
     parts: &[Part],
 ) -> Result<(), NoMemory>
     ensures { OnOk result (found.new.items ≡ found.old.items
-        ++ finding refusal (asked test parts.now)) }
+        ++ record { refusal = refusal; parts = asked test parts.now } ∷ []) }
 {
     if test {
         add(alloc, found, refusal, parts)
@@ -35,7 +36,6 @@ pub fn add_asked(
 }
 
 /// From `at` on, `count` is 1 to 64 bytes of one page.
-#[tactic(auto, unfolding(crate::specs::Words::shaped))]
 pub fn shaped(
     state: &PlainState,
     thread: ObjectId,
@@ -44,7 +44,7 @@ pub fn shaped(
     found: &mut Vec<Finding>,
 ) -> Result<(), NoMemory>
     ensures { OnOk result (found.new.items ≡ found.old.items
-        ++ shaped (state_of state.now) thread at count) }
+        ++ told (state_of state.now) thread (shaped at count)) }
 {
     let _thread = thread;
     let count = u64::from(count);
@@ -57,7 +57,6 @@ pub fn shaped(
 }
 
 /// So many bytes from `offset` on lie in the segment.
-#[tactic(auto, unfolding(crate::specs::Words::within))]
 pub fn within(
     state: &PlainState,
     thread: ObjectId,
@@ -67,7 +66,7 @@ pub fn within(
     found: &mut Vec<Finding>,
 ) -> Result<(), NoMemory>
     ensures { OnOk result (found.new.items ≡ found.old.items
-        ++ within (state_of state.now) thread id offset count) }
+        ++ told (state_of state.now) thread (within (state_of state.now) id offset count)) }
 {
     let _thread = thread;
     let most = 256 * u64::from(state.page_count(id));
@@ -76,7 +75,6 @@ pub fn within(
 }
 
 /// The entry names an address space, or none.
-#[tactic(auto, unfolding(crate::specs::Words::space_entry))]
 pub fn space_entry(
     state: &PlainState,
     thread: ObjectId,
@@ -84,7 +82,7 @@ pub fn space_entry(
     found: &mut Vec<Finding>,
 ) -> Result<(), NoMemory>
     ensures { OnOk result (found.new.items ≡ found.old.items
-        ++ space_entry (state_of state.now) thread space.now) }
+        ++ told (state_of state.now) thread (space_entry space.now)) }
 {
     let named = space.container.number() != 0 || space.object.number() != 0;
     let access = access_parts(state, thread, space.container);
@@ -108,7 +106,6 @@ pub fn space_entry(
 }
 
 /// The address lies in a segment, where the thread may read.
-#[tactic(auto, unfolding(crate::specs::Words::mapped))]
 pub fn mapped_to_read(
     state: &PlainState,
     thread: ObjectId,
@@ -118,7 +115,7 @@ pub fn mapped_to_read(
 ) -> Result<(), NoMemory>
     requires { place.now ≡ place_of (state_of state.now) thread address }
     ensures { OnOk result (found.new.items ≡ found.old.items
-        ++ mapped (state_of state.now) thread address may_read) }
+        ++ told (state_of state.now) thread (mapped address may_read)) }
 {
     let (_thread, _address) = (thread, address);
     let allowed = match place {
@@ -140,7 +137,6 @@ pub fn mapped_to_read(
 }
 
 /// The address lies in a segment, where the thread may write.
-#[tactic(auto, unfolding(crate::specs::Words::mapped))]
 pub fn mapped_to_write(
     state: &PlainState,
     thread: ObjectId,
@@ -150,7 +146,7 @@ pub fn mapped_to_write(
 ) -> Result<(), NoMemory>
     requires { place.now ≡ place_of (state_of state.now) thread address }
     ensures { OnOk result (found.new.items ≡ found.old.items
-        ++ mapped (state_of state.now) thread address may_write) }
+        ++ told (state_of state.now) thread (mapped address may_write)) }
 {
     let (_thread, _address) = (thread, address);
     let allowed = match place {

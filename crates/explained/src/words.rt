@@ -1,10 +1,12 @@
 //! The words of the table of calls, each as the conditions that it adds to what was found.
+#![tactic(auto, unfolding(crate::specs::Told::told))]
+
 ghost use Rattle.std.specs.Prelude.{◌≡◌, ◌≤◌, ◌++◌, OnOk};
 ghost use Rattle.kernel_rules.specs.State.{label_at, clearance_at};
 ghost use Rattle.plain_state.specs.StateOf.{state_of};
-ghost use Rattle.explained.specs.Words.{halted, at_container, in_container, listed_in, of_kind};
-ghost use Rattle.explained.specs.Words.{not_of_kind, observed, flowing, modified, not_immutable};
-ghost use Rattle.explained.specs.Words.{access_parts, with_room, sum_part};
+ghost use Rattle.kernel_rules.specs.Rows.{running, at_container, in_container, listed_in, of_kind};
+ghost use Rattle.kernel_rules.specs.Rows.{not_of_kind, observed, flowing, modified, not_immutable};
+ghost use Rattle.explained.specs.Told.{told, access_parts};
 
 use crate::facts::Fact;
 use crate::parts::{Comparison, Finding, Part, add};
@@ -28,14 +30,13 @@ pub fn clearance_of(state: &PlainState, thread: ObjectId) -> Option<Label>
 }
 
 /// The caller is no live thread.
-#[tactic(auto, unfolding(crate::specs::Words::halted))]
 pub fn halted(
     state: &PlainState,
     thread: ObjectId,
     found: &mut Vec<Finding>,
 ) -> Result<(), NoMemory>
     ensures { OnOk result (found.new.items ≡ found.old.items
-        ++ halted (state_of state.now) thread) }
+        ++ told (state_of state.now) thread running) }
 {
     let runs = state.is_live_kind(Kind::Thread, thread);
     add(
@@ -56,7 +57,6 @@ pub fn access_parts(state: &PlainState, thread: ObjectId, container: ObjectId) -
 }
 
 /// The container is such a container.
-#[tactic(auto, unfolding(crate::specs::Words::at_container))]
 pub fn at_container(
     state: &PlainState,
     thread: ObjectId,
@@ -64,14 +64,13 @@ pub fn at_container(
     found: &mut Vec<Finding>,
 ) -> Result<(), NoMemory>
     ensures { OnOk result (found.new.items ≡ found.old.items
-        ++ at_container (state_of state.now) thread container) }
+        ++ told (state_of state.now) thread (at_container container)) }
 {
     let parts = access_parts(state, thread, container);
     add(state.alloc(), found, Refusal::NoAccess, &parts)
 }
 
 /// It is such a container, and the entry stands.
-#[tactic(auto, unfolding(crate::specs::Words::in_container))]
 pub fn in_container(
     state: &PlainState,
     thread: ObjectId,
@@ -79,7 +78,7 @@ pub fn in_container(
     found: &mut Vec<Finding>,
 ) -> Result<(), NoMemory>
     ensures { OnOk result (found.new.items ≡ found.old.items
-        ++ in_container (state_of state.now) thread entry.now) }
+        ++ told (state_of state.now) thread (in_container entry.now)) }
 {
     at_container(state, thread, entry.container, found)?;
     let held = state.holds(entry);
@@ -92,7 +91,6 @@ pub fn in_container(
 }
 
 /// It is such a container, and lists the object.
-#[tactic(auto, unfolding(crate::specs::Words::listed_in))]
 pub fn listed_in(
     state: &PlainState,
     thread: ObjectId,
@@ -100,7 +98,7 @@ pub fn listed_in(
     found: &mut Vec<Finding>,
 ) -> Result<(), NoMemory>
     ensures { OnOk result (found.new.items ≡ found.old.items
-        ++ listed_in (state_of state.now) thread entry.now) }
+        ++ told (state_of state.now) thread (listed_in entry.now)) }
 {
     at_container(state, thread, entry.container, found)?;
     let listed = state.is_listed(entry.container, entry.object);
@@ -113,7 +111,6 @@ pub fn listed_in(
 }
 
 /// The object has this kind.
-#[tactic(auto, unfolding(crate::specs::Words::of_kind))]
 pub fn of_kind(
     state: &PlainState,
     thread: ObjectId,
@@ -122,7 +119,7 @@ pub fn of_kind(
     found: &mut Vec<Finding>,
 ) -> Result<(), NoMemory>
     ensures { OnOk result (found.new.items ≡ found.old.items
-        ++ of_kind (state_of state.now) thread kind id) }
+        ++ told (state_of state.now) thread (of_kind kind id)) }
 {
     let _thread = thread;
     let is = state.is_kind(kind, id);
@@ -135,7 +132,6 @@ pub fn of_kind(
 }
 
 /// The object has another kind.
-#[tactic(auto, unfolding(crate::specs::Words::not_of_kind))]
 pub fn not_of_kind(
     state: &PlainState,
     thread: ObjectId,
@@ -144,7 +140,7 @@ pub fn not_of_kind(
     found: &mut Vec<Finding>,
 ) -> Result<(), NoMemory>
     ensures { OnOk result (found.new.items ≡ found.old.items
-        ++ not_of_kind (state_of state.now) thread kind id) }
+        ++ told (state_of state.now) thread (not_of_kind kind id)) }
 {
     let _thread = thread;
     let is = state.is_kind(kind, id);
@@ -157,7 +153,6 @@ pub fn not_of_kind(
 }
 
 /// The thread observes the object.
-#[tactic(auto, unfolding(crate::specs::Words::observed))]
 pub fn observed(
     state: &PlainState,
     thread: ObjectId,
@@ -165,7 +160,7 @@ pub fn observed(
     found: &mut Vec<Finding>,
 ) -> Result<(), NoMemory>
     ensures { OnOk result (found.new.items ≡ found.old.items
-        ++ observed (state_of state.now) thread id) }
+        ++ told (state_of state.now) thread (observed id)) }
 {
     let labels = Comparison::Visible(label_of(state, id), label_of(state, thread));
     add(
@@ -177,7 +172,6 @@ pub fn observed(
 }
 
 /// The thread's label is at most the object's.
-#[tactic(auto, unfolding(crate::specs::Words::flowing))]
 pub fn flowing(
     state: &PlainState,
     thread: ObjectId,
@@ -185,7 +179,7 @@ pub fn flowing(
     found: &mut Vec<Finding>,
 ) -> Result<(), NoMemory>
     ensures { OnOk result (found.new.items ≡ found.old.items
-        ++ flowing (state_of state.now) thread id) }
+        ++ told (state_of state.now) thread (flowing id)) }
 {
     let labels = Comparison::Below(label_of(state, thread), label_of(state, id));
     add(
@@ -197,7 +191,6 @@ pub fn flowing(
 }
 
 /// The thread observes the object, and its label is at most the object's.
-#[tactic(auto, unfolding(crate::specs::Words::modified))]
 pub fn modified(
     state: &PlainState,
     thread: ObjectId,
@@ -205,14 +198,13 @@ pub fn modified(
     found: &mut Vec<Finding>,
 ) -> Result<(), NoMemory>
     ensures { OnOk result (found.new.items ≡ found.old.items
-        ++ modified (state_of state.now) thread id) }
+        ++ told (state_of state.now) thread (modified id)) }
 {
     observed(state, thread, id, found)?;
     flowing(state, thread, id, found)
 }
 
 /// The object is not immutable.
-#[tactic(auto, unfolding(crate::specs::Words::not_immutable))]
 pub fn not_immutable(
     state: &PlainState,
     thread: ObjectId,
@@ -220,7 +212,7 @@ pub fn not_immutable(
     found: &mut Vec<Finding>,
 ) -> Result<(), NoMemory>
     ensures { OnOk result (found.new.items ≡ found.old.items
-        ++ not_immutable (state_of state.now) thread id) }
+        ++ told (state_of state.now) thread (not_immutable id)) }
 {
     let _thread = thread;
     let immutable = state.is_immutable(id);

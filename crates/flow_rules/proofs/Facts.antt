@@ -7,8 +7,8 @@ use Rattle.base.specs.Live.{has}
 use Rattle.base.specs.declared.kinds.Kind.TheVariants as kinds
 use Rattle.label_rules.specs.LabelRules.{both, shown}
 use Rattle.kernel_rules.specs.State.{State, observes, flows_to, is_accessible, is_live_kind, is_kind_at, label_at}
-use Rattle.kernel_rules.specs.Rows.{halted, pages_down}
-use Rattle.kernel_rules.specs.Table.{refused, row, query_refused, query_row}
+use Rattle.kernel_rules.specs.Conditions.{pages_down}
+use Rattle.kernel_rules.specs.Table.{halted, refused, row, query_refused, query_row}
 use Rattle.kernel_rules.specs.Translate.{names_none}
 use Rattle.kernel_rules.specs.declared.calls.Call.{Call}
 use Rattle.kernel_rules.specs.declared.calls.Call.TheVariants as call

@@ -16,9 +16,8 @@ use Rattle.label_lattice.specs.Placed.{with_level, kept, placed}
 use Rattle.label_lattice.proofs.PlacedLemmas.{placed-other, eq_false}
 use Rattle.kernel_rules.specs.State.{State, object_at, of_object, is_kind, is_kind_at, is_live_kind, kind_number}
 use Rattle.kernel_rules.specs.State.{label_at, lists_of}
-use Rattle.kernel_rules.specs.Rows.{halted}
+use Rattle.kernel_rules.specs.Table.{halted, refused, row, query_refused, query_row}
 use Rattle.kernel_rules.specs.Step.{next}
-use Rattle.kernel_rules.specs.Table.{refused, row, query_refused, query_row}
 use Rattle.kernel_rules.specs.declared.calls.Call.{Call}
 use Rattle.kernel_rules.specs.declared.calls.Call.TheVariants as call
 use Rattle.kernel_rules.specs.declared.calls.Entry.{Entry}

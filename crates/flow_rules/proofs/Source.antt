@@ -9,10 +9,10 @@ use Rattle.label_lattice.specs.Label.{LabelValue}
 use Rattle.label_lattice.specs.declared.raw_labels.RawLabel.{RawLabel}
 use Rattle.label_rules.specs.LabelRules.{both, below, between, stored}
 use Rattle.kernel_rules.specs.State.{State, object_at, of_object, gate_at, label_at, clearance_at}
-use Rattle.kernel_rules.specs.Rows.{halted, in_range_of}
+use Rattle.kernel_rules.specs.Conditions.{in_range_of}
+use Rattle.kernel_rules.specs.Table.{halted, refused, row}
 use Rattle.kernel_rules.specs.Step.{next, edit, owned, made_of, made_bearer, through_gate, stored_at}
 use Rattle.kernel_rules.specs.Step.{with_value}
-use Rattle.kernel_rules.specs.Table.{refused, row}
 use Rattle.kernel_rules.specs.Changes.{put, changed, made, fresh_object, owning, listing}
 use Rattle.kernel_rules.specs.Changes.{entered}
 use Rattle.kernel_rules.specs.declared.calls.Call.{Call}

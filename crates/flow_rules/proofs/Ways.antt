@@ -9,7 +9,7 @@ use Rattle.base.specs.declared.sets.Rights.{Rights}
 use Rattle.kernel_rules.specs.State.{State, is_immutable, flows_to, page_count, observes, is_accessible, list_at}
 use Rattle.kernel_rules.specs.State.{slots_at, is_live_kind}
 use Rattle.base.specs.declared.kinds.Kind.TheVariants as kinds
-use Rattle.kernel_rules.specs.Rows.{allows}
+use Rattle.kernel_rules.specs.Conditions.{allows}
 use Rattle.kernel_rules.specs.Translate.{place_at, place_by, place_among, place_of, slots_through}
 use Rattle.kernel_rules.specs.Translate.{own_space, translate, through, through_space, usable, opens}
 use Rattle.kernel_rules.specs.Translate.{covers, slot_at, slot_in, names_none}

@@ -7,9 +7,9 @@ use Rattle.base.specs.declared.refusals.Refusal.{Refusal}
 use Rattle.label_lattice.specs.Label.{level}
 use Rattle.kernel_rules.specs.Sizes.{page_bytes}
 use Rattle.kernel_rules.specs.State.{State, object_at, of_object, is_kind_at}
-use Rattle.kernel_rules.specs.Rows.{pages_down}
-use Rattle.kernel_rules.specs.Step.{next}
+use Rattle.kernel_rules.specs.Conditions.{pages_down}
 use Rattle.kernel_rules.specs.Table.{refused, query_refused}
+use Rattle.kernel_rules.specs.Step.{next}
 use Rattle.kernel_rules.specs.Translate.{names_none, covers, own_space, slots_through, place_of}
 use Rattle.kernel_rules.specs.declared.calls.Call.{Call}
 use Rattle.kernel_rules.specs.declared.calls.Call.TheVariants as call

@@ -14,10 +14,10 @@ use Rattle.label_rules.specs.LabelRules.{stored}
 use Rattle.kernel_rules.specs.State.{State, object_at, of_object, slots_at, slots_of, gate_at, live_part}
 use Rattle.kernel_rules.specs.Translate.{covers, slot_in, slot_at}
 use Rattle.kernel_rules.specs.Runs.{booted, state_after}
-use Rattle.kernel_rules.specs.Rows.{halted, meets}
+use Rattle.kernel_rules.specs.Conditions.{meets}
+use Rattle.kernel_rules.specs.Table.{halted, refused, row}
 use Rattle.kernel_rules.specs.Step.{next, edit, restricted, owned, made_of, made_bearer, through_gate}
 use Rattle.kernel_rules.specs.Step.{stored_at, with_value}
-use Rattle.kernel_rules.specs.Table.{refused, row}
 use Rattle.kernel_rules.specs.Changes.{changed, put, fresh_object, owning, listing, entered}
 use Rattle.kernel_rules.specs.Changes.{rebyte, relist, rethread, requeue, reslot}
 use Rattle.kernel_rules.specs.declared.calls.Call.{Call}

@@ -11,10 +11,10 @@ use Rattle.label_lattice.specs.Label.{LabelValue}
 use Rattle.label_rules.specs.LabelRules.{both, below, between, stored}
 use Rattle.kernel_rules.specs.State.{State, object_at, of_object, label_at, clearance_at, gate_at, packets_at}
 use Rattle.kernel_rules.specs.Runs.{replies_to}
-use Rattle.kernel_rules.specs.Rows.{halted, in_range_of, own_label, own_clearance}
+use Rattle.kernel_rules.specs.Conditions.{in_range_of, own_label, own_clearance}
+use Rattle.kernel_rules.specs.Table.{halted, refused, row}
 use Rattle.kernel_rules.specs.Step.{answer, next, edit, accepted, restricted, owned, made_of, made_bearer, through_gate}
 use Rattle.kernel_rules.specs.Step.{stored_at, with_value, told_by, first_packet}
-use Rattle.kernel_rules.specs.Table.{refused, row}
 use Rattle.kernel_rules.specs.Changes.{changed, put, owning, listing, entered}
 use Rattle.kernel_rules.specs.declared.calls.Call.{Call}
 use Rattle.kernel_rules.specs.declared.calls.Call.TheVariants as call

@@ -5,7 +5,7 @@ use Rattle.std.proofs.lemmas.Bool.{and_parts, both_ways}
 use Rattle.base.specs.Sets.{may_write, reading}
 use Rattle.base.specs.declared.sets.Rights.{Rights}
 use Rattle.kernel_rules.specs.State.{State, is_immutable, flows_to, page_count}
-use Rattle.kernel_rules.specs.Rows.{allows}
+use Rattle.kernel_rules.specs.Conditions.{allows}
 use Rattle.kernel_rules.specs.Translate.{place_at, place_by, place_among, place_of, slots_through}
 use Rattle.kernel_rules.specs.Translate.{own_space, translate, through, through_space, usable, opens}
 use Rattle.kernel_rules.specs.Translate.{covers, slot_at, names_none}

@@ -9,8 +9,7 @@ use Rattle.kernel_rules.specs.State.{gate_at}
 use Rattle.kernel_rules.specs.State.{State, object_at, of_object, is_kind, is_kind_at, is_immutable}
 use Rattle.kernel_rules.specs.Step.{next, edit, owned, made_of, made_bearer, through_gate, stored_at}
 use Rattle.kernel_rules.specs.Step.{with_value}
-use Rattle.kernel_rules.specs.Rows.{halted}
-use Rattle.kernel_rules.specs.Table.{refused, row}
+use Rattle.kernel_rules.specs.Table.{halted, refused, row}
 use Rattle.kernel_rules.specs.Translate.{place_of}
 use Rattle.kernel_rules.specs.Changes.{changed, made, fresh_object, owning, entered, labelled}
 use Rattle.kernel_rules.specs.declared.calls.Call.{Call}

@@ -10,8 +10,8 @@ use Rattle.label_lattice.proofs.OrderLemmas.{leq_test-Leq, IsDescribed-levels}
 use Rattle.label_rules.specs.LabelRules.{both, below, stored}
 use Rattle.kernel_rules.specs.State.{State, object_at, of_object, label_at}
 use Rattle.kernel_rules.specs.Step.{next, edit, made_of, made_bearer, stored_at, with_value}
-use Rattle.kernel_rules.specs.Rows.{halted, in_range_of}
-use Rattle.kernel_rules.specs.Table.{refused, row}
+use Rattle.kernel_rules.specs.Conditions.{in_range_of}
+use Rattle.kernel_rules.specs.Table.{halted, refused, row}
 use Rattle.kernel_rules.specs.Changes.{put, changed, made, fresh_object, labelled}
 use Rattle.kernel_rules.specs.declared.calls.Call.{Call}
 use Rattle.kernel_rules.specs.declared.calls.Call.TheVariants as call

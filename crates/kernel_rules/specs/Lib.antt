@@ -2,6 +2,7 @@ pub mod Sizes
 pub mod Written
 pub mod State
 pub mod Translate
+pub mod Conditions
 pub mod Rows
 pub mod Table
 pub mod WellFormed

@@ -12,7 +12,7 @@ use Rattle.kernel_rules.specs.Sizes.{page_bytes, slot_count, most_told}
 use Rattle.kernel_rules.specs.State.{State, object_at, of_object, live_part, bytes_at, listed}
 use Rattle.kernel_rules.specs.State.{list_at, packets_at, gate_at, use_of, page_count}
 use Rattle.kernel_rules.specs.Translate.{slot_at, place_of}
-use Rattle.kernel_rules.specs.Rows.{own_label, own_clearance, pages_up, pages_down}
+use Rattle.kernel_rules.specs.Conditions.{own_label, own_clearance, pages_up, pages_down}
 use Rattle.kernel_rules.specs.Table.{refused, query_refused}
 use Rattle.kernel_rules.specs.Changes.{changed, with_body, rebyte, reslot, requeue}
 use Rattle.kernel_rules.specs.Changes.{fresh_object, owning, listing, delisting, made, joined_at}

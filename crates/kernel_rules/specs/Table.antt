@@ -1,14 +1,9 @@
--- The table of calls: for each call its row of conditions, and what refuses it.
+-- The table of calls: for each call its conditions, and what refuses it.
 --
--- A row is put together from the words of Rows: a condition that is true refuses, and of those that
--- are true the one with the least number tells why. A call that no condition refuses changes the
--- state and answers as Step says. The names of the words are those of the code (kernel_store).
-use Rattle.std.specs.Prelude.{ℕ, ◌+◌, Bool, true, not, ◌&&◌, ◌||◌, ◌==◌, nat_le, nat_lt, []}
-use Rattle.std.specs.Prelude.{◌∷◌, ◌++◌, length, Option, is_none, is_some, ℤ}
-use Rattle.std.specs.List.{list_any}
-use Rattle.std.specs.Option.{option_map}
-use Rattle.base.specs.Limits.{spent}
-use Rattle.base.specs.Live.{has}
+-- A condition that holds refuses, and of those that hold the one with the least number tells why. A
+-- call that no condition refuses changes the state and answers as Step says. The names of the words
+-- are those of the code (kernel_store).
+use Rattle.std.specs.Prelude.{ℕ, ◌+◌, nat_lt, [], ◌∷◌, ◌++◌, length, Option}
 use Rattle.base.specs.Sets.{may_read, may_write}
 use Rattle.base.specs.declared.kinds.Kind.TheVariants as kinds
 use Rattle.base.specs.declared.refusals.Refusal.{Refusal}
@@ -18,181 +13,126 @@ use Rattle.base.specs.declared.refusals.Refusal.TheVariants.{NoQuota, FixedQuota
 use Rattle.base.specs.declared.refusals.Refusal.TheVariants.{AlreadyLinked, RootKept, NotMapped}
 use Rattle.base.specs.declared.refusals.Refusal.TheVariants.{Overlap, GateDenied, DeviceFull}
 use Rattle.base.specs.declared.refusals.Refusal.TheVariants.{DeviceEmpty, Spent}
-use Rattle.label_rules.specs.LabelRules.{both, below, shown, may_clear, may_enter, stored}
-use Rattle.label_rules.specs.declared.gates.Bearer.{Bearer}
-use Rattle.kernel_rules.specs.Sizes.{page_limit, most_pages, last_slot, most_packets}
-use Rattle.kernel_rules.specs.State.{State, object_at, of_object, kind_of, is_kind_at, observes}
-use Rattle.kernel_rules.specs.State.{label_at, clearance_at, quota_at, use_of, list_at, avoids_at}
-use Rattle.kernel_rules.specs.State.{is_fixed, gate_at, slots_at, packets_at, page_count}
-use Rattle.kernel_rules.specs.Translate.{slot_at}
-use Rattle.kernel_rules.specs.Rows.{Row, refusal_of, pages_up, pages_down, meets, halted}
-use Rattle.kernel_rules.specs.Rows.{at_container, in_container, listed_in, of_kind, not_of_kind}
-use Rattle.kernel_rules.specs.Rows.{observed, flowing, modified, good_label, not_immutable}
-use Rattle.kernel_rules.specs.Rows.{with_room, in_range_of, new_object, new_bearer, shaped}
-use Rattle.kernel_rules.specs.Rows.{within, space_entry, mapped, own_label, own_clearance}
+use Rattle.kernel_rules.specs.Sizes.{most_pages, last_slot}
+use Rattle.kernel_rules.specs.State.{State, quota_at, list_at, page_count}
+use Rattle.kernel_rules.specs.Conditions.{pages_down}
+use Rattle.kernel_rules.specs.Conditions as is
+use Rattle.kernel_rules.specs.Rows.{Conditions, Row, row_of, refusal_of, running, at_container}
+use Rattle.kernel_rules.specs.Rows.{in_container, listed_in, of_kind, not_of_kind, observed, flowing}
+use Rattle.kernel_rules.specs.Rows.{modified, good_label, not_immutable, with_room, new_object}
+use Rattle.kernel_rules.specs.Rows.{new_bearer, shaped, within, space_entry, mapped}
 use Rattle.kernel_rules.specs.declared.calls.Call.{Call}
 use Rattle.kernel_rules.specs.declared.calls.Call.TheVariants as call
-use Rattle.kernel_rules.specs.declared.calls.Entry.{Entry}
 use Rattle.kernel_rules.specs.declared.calls.Query.{Query}
 use Rattle.kernel_rules.specs.declared.calls.Query.TheVariants as query
-use Rattle.kernel_rules.specs.declared.objects.Mapping.{Mapping}
 
--- a mapping is of 1 to 16 pages of a segment, which end at virtual page 65,536 at most, in a slot
--- from 0 to 15, and gives some right
-abbrev pub is_mapping : ℕ → Mapping → Bool
-is_mapping slot m =
-    nat_le slot last_slot && nat_le 1 m.count && nat_le (m.page + m.count) page_limit
-    && nat_le (m.first + m.count) most_pages && (may_read m.rights || may_write m.rights)
+module _ (s : State) where
+  -- the conditions of each call beside the first
+  abbrev pub conditions : Call → Conditions
+  conditions call.CatCreate = (LabelFull, is.LabelFull) ∷ (Spent, is.CategoriesSpent) ∷ []
+  conditions (call.SelfSetLabel x) = good_label x ++ (LabelRange, is.OutOfRange x) ∷ []
+  conditions (call.SelfSetClearance y) =
+      good_label y ++ (ClearanceRange, is.NotClearable y) ∷ []
+  conditions (call.SelfSetAs e) = space_entry e
+  conditions (call.ContainerCreate n) = new_object kinds.Container n.container n.label n.quota 1
+  conditions (call.SegmentCreate n) =
+      new_object kinds.Segment n.container n.label n.quota (1 + n.pages)
+      ++ (Bounds, is.Above n.pages most_pages) ∷ []
+  conditions (call.SegmentCopy n) =
+      in_container n.source ++ of_kind kinds.Segment n.source.object ++ observed n.source.object
+      ++ new_object kinds.Segment n.container n.label n.quota (1 + page_count s n.source.object)
+  conditions (call.AsCreate n) = new_object kinds.AddressSpace n.container n.label n.quota 1
+  conditions (call.ThreadCreate n) =
+      new_bearer kinds.Thread n.container n.label n.quota n.clearance
+  conditions (call.GateCreate n) =
+      space_entry n.space ++ new_bearer kinds.Gate n.container n.label n.quota n.clearance
+  conditions (call.Link d e) =
+      at_container d ++ in_container e ++ not_of_kind kinds.Container e.object ++ modified d
+      ++ (LabelRange, is.AboveClearance e.object) ∷ (AvoidType, is.KindAvoided d e.object)
+      ∷ with_room d (quota_at s e.object) ++ (NotFixed, is.NotFixed e.object)
+      ∷ (AlreadyLinked, is.Listed d e.object) ∷ not_immutable d
+  conditions (call.Unref e) =
+      at_container e.container ++ (NoEntry, is.NotLinked e) ∷ (RootKept, is.Root e)
+      ∷ modified e.container ++ not_immutable e.container
+  conditions (call.QuotaMove e n) =
+      listed_in e
+      ++ (CannotObserve, is.When (nat_lt 0 (pages_down n)) (is.NotObserved e.object))
+      ∷ modified e.container ++ flowing e.object ++ (LabelRange, is.AboveClearance e.object)
+      ∷ (NoQuota, is.WithoutRoom e n) ∷ (FixedQuota, is.Fixed e.object)
+      ∷ not_immutable e.container ++ not_immutable e.object
+  conditions (call.SetFixed e) = in_container e ++ modified e.object ++ not_immutable e.object
+  conditions (call.SetImmutable e) =
+      in_container e ++ not_of_kind kinds.Thread e.object ++ not_of_kind kinds.Device e.object
+      ++ modified e.object
+  conditions (call.MetaSet e bytes) =
+      in_container e ++ not_of_kind kinds.Thread e.object ++ modified e.object
+      ++ not_immutable e.object
+  conditions (call.SegmentResize e pages) =
+      in_container e ++ of_kind kinds.Segment e.object ++ modified e.object
+      ++ (NoQuota, is.Above (1 + pages) (quota_at s e.object)) ∷ not_immutable e.object
+      ++ (Bounds, is.Above pages most_pages) ∷ []
+  conditions (call.SegmentWrite e a bytes) =
+      in_container e ++ of_kind kinds.Segment e.object ++ modified e.object
+      ++ not_immutable e.object ++ shaped a (length bytes) ++ within s e.object a (length bytes)
+  conditions (call.AsMap e slot m) =
+      in_container e ++ in_container m.entry ++ of_kind kinds.AddressSpace e.object
+      ++ of_kind kinds.Segment m.entry.object ++ modified e.object ++ not_immutable e.object
+      ++ (Bounds, is.NotMapping slot m) ∷ (Overlap, is.Overlapping e.object slot m) ∷ []
+  conditions (call.AsUnmap e slot) =
+      in_container e ++ of_kind kinds.AddressSpace e.object ++ modified e.object
+      ++ not_immutable e.object ++ (Bounds, is.Above slot last_slot)
+      ∷ (NotMapped, is.SlotEmpty e.object slot) ∷ []
+  conditions (call.Store address bytes) =
+      shaped address (length bytes) ++ mapped address may_write
+  conditions (call.GateEnter e r q v) =
+      in_container e ++ of_kind kinds.Gate e.object ++ good_label r ++ good_label q
+      ++ good_label v ++ (GateDenied, is.NotAdmitted e.object r q v) ∷ []
+  conditions (call.DevSend e bytes) =
+      in_container e ++ of_kind kinds.Device e.object ++ modified e.object
+      ++ (Bounds, is.Zero (length bytes)) ∷ (DeviceFull, is.QueueFull e.object) ∷ []
+  conditions (call.DevRecv e) =
+      in_container e ++ of_kind kinds.Device e.object ++ modified e.object
+      ++ (DeviceEmpty, is.QueueEmpty e.object) ∷ []
 
--- the entry (1, 1), of the root in itself
-abbrev pub names_root : Entry → Bool
-names_root e = e.container == 1 && e.object == 1
-
--- a thread's label and clearance
-abbrev pub own_bearer : State → ℕ → Bearer
-own_bearer s t = record { label = label_at s t; clearance = clearance_at s t }
-
--- a gate's label and clearance
-abbrev pub gate_bearer : State → ℕ → Bearer
-gate_bearer s g = record {
-  label = label_at s g;
-  clearance = option_map (λ gate. gate.clearance) (gate_at s g);
-}
+  -- the conditions of each query beside the first
+  abbrev pub query_conditions : Query → Conditions
+  query_conditions query.SelfGet = []
+  query_conditions (query.ObjLabel e) =
+      in_container e ++ (CannotObserve, is.NotShown e.object) ∷ []
+  query_conditions (query.ObjQuota e) = in_container e ++ observed e.object
+  query_conditions (query.ContainerList d from) =
+      at_container d ++ (Bounds, is.Above from (length (list_at s d))) ∷ []
+  query_conditions (query.ContainerParent d) = at_container d
+  query_conditions (query.SegmentLen e) =
+      in_container e ++ of_kind kinds.Segment e.object ++ observed e.object
+  query_conditions (query.SegmentRead e a n) =
+      in_container e ++ of_kind kinds.Segment e.object ++ observed e.object ++ shaped a n
+      ++ within s e.object a n
+  query_conditions (query.MetaGet e) =
+      in_container e ++ not_of_kind kinds.Thread e.object ++ observed e.object
+  query_conditions (query.AsGet e slot) =
+      in_container e ++ of_kind kinds.AddressSpace e.object ++ observed e.object
+      ++ (Bounds, is.Above slot last_slot) ∷ []
+  query_conditions (query.Load address n) = shaped address n ++ mapped address may_read
 
 -- the calling thread is t
 module _ (s : State) (t : ℕ) where
-  -- container d avoids the kind of o
-  abbrev pub avoids_kind_of : ℕ → ℕ → Bool
-  avoids_kind_of d o = of_object true (λ x. avoids_at s (kind_of x.body) d) (object_at s o)
+  -- whether the first condition refuses
+  abbrev pub halted : Row
+  halted = row_of s t running
 
-  -- a change of o's quota has no room: upwards in its container d, downwards in o itself
-  abbrev pub is_without_room : Entry → ℤ → Bool
-  is_without_room e n =
-      (nat_lt 0 (pages_up n)
-      && nat_lt (quota_at s e.container) (use_of s e.container + pages_up n))
-      || (nat_lt 0 (pages_down n)
-      && nat_lt (quota_at s e.object) (use_of s e.object + pages_down n))
-
-  -- the conditions of each call beside the first
+  -- which of a call's other conditions refuse it
   abbrev pub row : Call → Row
-  row call.CatCreate =
-      (LabelFull, is_none (own_label s t) || is_none (own_clearance s t))
-      ∷ (Spent, nat_le spent s.next_category) ∷ []
-  row (call.SelfSetLabel x) =
-      good_label s t x ++ (LabelRange, not (in_range_of s t (stored x))) ∷ []
-  row (call.SelfSetClearance y) =
-      good_label s t y
-      ++ (ClearanceRange, not (may_clear (label_at s t) (clearance_at s t) (stored y))) ∷ []
-  row (call.SelfSetAs e) = space_entry s t e
-  row (call.ContainerCreate n) = new_object s t kinds.Container n.container n.label n.quota 1
-  row (call.SegmentCreate n) =
-      new_object s t kinds.Segment n.container n.label n.quota (1 + n.pages)
-      ++ (Bounds, nat_lt most_pages n.pages) ∷ []
-  row (call.SegmentCopy n) =
-      in_container s t n.source ++ of_kind s t kinds.Segment n.source.object
-      ++ observed s t n.source.object
-      ++ new_object s t kinds.Segment n.container n.label n.quota
-      (1 + page_count s n.source.object)
-  row (call.AsCreate n) = new_object s t kinds.AddressSpace n.container n.label n.quota 1
-  row (call.ThreadCreate n) =
-      new_bearer s t kinds.Thread n.container n.label n.quota n.clearance
-  row (call.GateCreate n) =
-      space_entry s t n.space
-      ++ new_bearer s t kinds.Gate n.container n.label n.quota n.clearance
-  row (call.Link d e) =
-      at_container s t d ++ in_container s t e ++ not_of_kind s t kinds.Container e.object
-      ++ modified s t d
-      ++ (LabelRange, not (both below (label_at s e.object) (clearance_at s t)))
-      ∷ (AvoidType, avoids_kind_of d e.object) ∷ with_room s t d (quota_at s e.object)
-      ++ (NotFixed, not (is_fixed s e.object)) ∷ (AlreadyLinked, has (list_at s d) e.object)
-      ∷ not_immutable s t d
-  row (call.Unref e) =
-      at_container s t e.container
-      ++ (NoEntry, not (names_root e) && not (has (list_at s e.container) e.object))
-      ∷ (RootKept, names_root e) ∷ modified s t e.container ++ not_immutable s t e.container
-  row (call.QuotaMove e n) =
-      listed_in s t e
-      ++ (CannotObserve, nat_lt 0 (pages_down n) && not (observes s t e.object))
-      ∷ modified s t e.container ++ flowing s t e.object
-      ++ (LabelRange, not (both below (label_at s e.object) (clearance_at s t)))
-      ∷ (NoQuota, is_without_room e n) ∷ (FixedQuota, is_fixed s e.object)
-      ∷ not_immutable s t e.container ++ not_immutable s t e.object
-  row (call.SetFixed e) =
-      in_container s t e ++ modified s t e.object ++ not_immutable s t e.object
-  row (call.SetImmutable e) =
-      in_container s t e ++ not_of_kind s t kinds.Thread e.object
-      ++ not_of_kind s t kinds.Device e.object ++ modified s t e.object
-  row (call.MetaSet e bytes) =
-      in_container s t e ++ not_of_kind s t kinds.Thread e.object ++ modified s t e.object
-      ++ not_immutable s t e.object
-  row (call.SegmentResize e pages) =
-      in_container s t e ++ of_kind s t kinds.Segment e.object ++ modified s t e.object
-      ++ (NoQuota, nat_lt (quota_at s e.object) (1 + pages)) ∷ not_immutable s t e.object
-      ++ (Bounds, nat_lt most_pages pages) ∷ []
-  row (call.SegmentWrite e a bytes) =
-      in_container s t e ++ of_kind s t kinds.Segment e.object ++ modified s t e.object
-      ++ not_immutable s t e.object ++ shaped s t a (length bytes)
-      ++ within s t e.object a (length bytes)
-  row (call.AsMap e slot m) =
-      in_container s t e ++ in_container s t m.entry ++ of_kind s t kinds.AddressSpace e.object
-      ++ of_kind s t kinds.Segment m.entry.object ++ modified s t e.object
-      ++ not_immutable s t e.object ++ (Bounds, not (is_mapping slot m))
-      ∷ (Overlap, is_some (slot_at s e.object slot) || list_any (meets m) (slots_at s e.object))
-      ∷ []
-  row (call.AsUnmap e slot) =
-      in_container s t e ++ of_kind s t kinds.AddressSpace e.object ++ modified s t e.object
-      ++ not_immutable s t e.object ++ (Bounds, nat_lt last_slot slot)
-      ∷ (NotMapped, is_none (slot_at s e.object slot)) ∷ []
-  row (call.Store address bytes) =
-      shaped s t address (length bytes) ++ mapped s t address may_write
-  row (call.GateEnter e r q v) =
-      in_container s t e ++ of_kind s t kinds.Gate e.object ++ good_label s t r
-      ++ good_label s t q ++ good_label s t v
-      ++ (
-        GateDenied,
-        not (may_enter (own_bearer s t) (gate_bearer s e.object) (record {
-          label = stored r;
-          clearance = stored q;
-          verify = stored v;
-        })),
-      ) ∷ []
-  row (call.DevSend e bytes) =
-      in_container s t e ++ of_kind s t kinds.Device e.object ++ modified s t e.object
-      ++ (Bounds, length bytes == 0) ∷ (DeviceFull, nat_le most_packets (length (packets_at s e.object))) ∷ []
-  row (call.DevRecv e) =
-      in_container s t e ++ of_kind s t kinds.Device e.object ++ modified s t e.object
-      ++ (DeviceEmpty, length (packets_at s e.object) == 0) ∷ []
+  row c = row_of s t (conditions s c)
 
-  -- the conditions of each query beside the first
+  -- and which of a query's
   abbrev pub query_row : Query → Row
-  query_row query.SelfGet = []
-  query_row (query.ObjLabel e) =
-      in_container s t e
-      ++ (
-        CannotObserve,
-        is_kind_at s kinds.Thread e.object
-            && not (both shown (label_at s e.object) (label_at s t)),
-      ) ∷ []
-  query_row (query.ObjQuota e) = in_container s t e ++ observed s t e.object
-  query_row (query.ContainerList d from) =
-      at_container s t d ++ (Bounds, nat_lt (length (list_at s d)) from) ∷ []
-  query_row (query.ContainerParent d) = at_container s t d
-  query_row (query.SegmentLen e) =
-      in_container s t e ++ of_kind s t kinds.Segment e.object ++ observed s t e.object
-  query_row (query.SegmentRead e a n) =
-      in_container s t e ++ of_kind s t kinds.Segment e.object ++ observed s t e.object
-      ++ shaped s t a n ++ within s t e.object a n
-  query_row (query.MetaGet e) =
-      in_container s t e ++ not_of_kind s t kinds.Thread e.object ++ observed s t e.object
-  query_row (query.AsGet e slot) =
-      in_container s t e ++ of_kind s t kinds.AddressSpace e.object ++ observed s t e.object
-      ++ (Bounds, nat_lt last_slot slot) ∷ []
-  query_row (query.Load address n) = shaped s t address n ++ mapped s t address may_read
+  query_row c = row_of s t (query_conditions s c)
 
   -- what refuses the call: the least number that holds among all conditions of its row
   unfoldable pub refused : Call → Option Refusal
-  refused c = refusal_of (halted s t ++ row c)
+  refused c = refusal_of (halted ++ row c)
 
   -- what refuses the query, in the same way
   unfoldable pub query_refused : Query → Option Refusal
-  query_refused c = refusal_of (halted s t ++ query_row c)
+  query_refused c = refusal_of (halted ++ query_row c)

@@ -3,7 +3,9 @@ ghost use Rattle.std.specs.Prelude.{◌≡◌, ◌∷◌, [], ◌+◌, ◌*◌, 
 ghost use Rattle.base.specs.Sets.{may_read, may_write};
 ghost use Rattle.base.specs.declared.kinds.Kind.TheVariants as kinds;
 ghost use Rattle.base.specs.declared.refusals.Refusal.TheVariants as refusal;
-ghost use Rattle.kernel_rules.specs.Rows.{refusal_of, halted, is_shape, allows};
+ghost use Rattle.kernel_rules.specs.Conditions.{is_shape, allows};
+ghost use Rattle.kernel_rules.specs.Rows.{refusal_of};
+ghost use Rattle.kernel_rules.specs.Table.{halted};
 ghost use Rattle.kernel_rules.specs.Translate.{names_none};
 ghost use Rattle.kernel_store.specs.Parts.{joined};
 ghost use Rattle.kernel_store.specs.Sights.{is_of};

@@ -3,7 +3,8 @@ ghost use Rattle.std.specs.Prelude.{◌≡◌, ◌≤◌, ◌+◌, ◌∷◌, []
 ghost use Rattle.base.specs.declared.refusals.Refusal.TheVariants as refusal;
 ghost use Rattle.label_lattice.specs.Raw.{all_made, is_bad_below, raw_has_star};
 ghost use Rattle.label_rules.specs.LabelRules.{both, below, between, stored};
-ghost use Rattle.kernel_rules.specs.Rows.{fitting, new_object, new_bearer, in_range_of};
+ghost use Rattle.kernel_rules.specs.Conditions.{in_range_of};
+ghost use Rattle.kernel_rules.specs.Rows.{row_of, fitting, new_object, new_bearer};
 ghost use Rattle.kernel_rules.specs.State.{label_at, clearance_at};
 ghost use Rattle.kernel_store.specs.Locations.{Stand};
 
@@ -39,8 +40,8 @@ fn fitting<S: Store>(
     meter: &mut Meter,
 ) -> [Condition; 8]
     requires { Stand (S.stands state.now) named }
-    ensures value { result ≡ fitting (S.state state.now) (S.id_of named.caller)
-        made.now.kind (S.id_of named.container) made.now.quota made.now.pages }
+    ensures value { result ≡ row_of (S.state state.now) (S.id_of named.caller)
+        (fitting made.now.kind (S.id_of named.container) made.now.quota made.now.pages) }
     ensures meter { S.kept meter.new ≡ S.kept meter.old }
 {
     let seen = look(state, named, meter);
@@ -130,8 +131,9 @@ pub fn new_object<S: Store>(
 ) -> [Condition; 10]
     requires named { Stand (S.stands state.now) named }
     requires label { option_copied made.now.stored ≡ stored made.now.label.now }
-    ensures value { result ≡ new_object (S.state state.now) (S.id_of named.caller)
-        made.now.kind (S.id_of named.container) made.now.label.now made.now.quota made.now.pages }
+    ensures value { result ≡ row_of (S.state state.now) (S.id_of named.caller)
+        (new_object made.now.kind (S.id_of named.container) made.now.label.now made.now.quota
+        made.now.pages) }
     ensures meter { S.kept meter.new ≤ S.kept meter.old + 2 }
 {
     let [
@@ -203,8 +205,9 @@ pub fn new_bearer<S: Store>(
     requires label { option_copied made.now.stored ≡ stored made.now.label.now }
     requires pages { made.now.pages ≡ 1 }
     requires clearance { option_copied clearance ≡ stored raw_clearance.now }
-    ensures value { result ≡ new_bearer (S.state state.now) (S.id_of named.caller)
-        made.now.kind (S.id_of named.container) made.now.label.now made.now.quota raw_clearance.now }
+    ensures value { result ≡ row_of (S.state state.now) (S.id_of named.caller)
+        (new_bearer made.now.kind (S.id_of named.container) made.now.label.now made.now.quota
+        raw_clearance.now) }
     ensures meter { S.kept meter.new ≤ S.kept meter.old + 3 }
 {
     let [

@@ -1,9 +1,8 @@
 -- What a mapping names where nothing refuses it.
 use Rattle.std.proofs.Common.{◌≡◌, ℕ, true, None, ◌++◌}
 use Rattle.base.specs.declared.kinds.Kind.TheVariants as kinds
-use Rattle.kernel_rules.specs.Rows.{halted}
+use Rattle.kernel_rules.specs.Table.{halted, refused, row}
 use Rattle.kernel_rules.specs.State.{State}
-use Rattle.kernel_rules.specs.Table.{refused, row}
 use Rattle.kernel_rules.specs.declared.calls.Call.TheVariants as call
 use Rattle.kernel_rules.specs.declared.calls.Entry.{Entry}
 use Rattle.kernel_rules.specs.declared.objects.Mapping.{Mapping}

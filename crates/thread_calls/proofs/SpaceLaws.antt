@@ -1,8 +1,7 @@
 -- What the entry of an address space names where nothing refuses to make a gate with it.
 use Rattle.std.proofs.Common.{◌≡◌, ℕ, true, None, ◌++◌}
-use Rattle.kernel_rules.specs.Rows.{halted}
+use Rattle.kernel_rules.specs.Table.{halted, refused, row}
 use Rattle.kernel_rules.specs.State.{State}
-use Rattle.kernel_rules.specs.Table.{refused, row}
 use Rattle.kernel_rules.specs.declared.calls.Call.TheVariants as call
 use Rattle.kernel_rules.specs.declared.creations.NewGate.{NewGate}
 use Rattle.kernel_rules.proofs.RowLaws.{none_hold}

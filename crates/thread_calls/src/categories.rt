@@ -3,9 +3,9 @@
 
 ghost use Rattle.std.specs.Prelude.{◌≡◌, ◌≤◌, ◌+◌, ◌||◌, is_none, true, IfSome};
 ghost use Rattle.label_lattice.specs.Label.{IsStored};
-ghost use Rattle.kernel_rules.specs.Rows.{own_label, own_clearance};
-ghost use Rattle.kernel_rules.specs.Step.{answer, next};
+ghost use Rattle.kernel_rules.specs.Conditions.{own_label, own_clearance};
 ghost use Rattle.kernel_rules.specs.Table.{refused};
+ghost use Rattle.kernel_rules.specs.Step.{answer, next};
 ghost use Rattle.kernel_rules.specs.WellFormed.{is_well_formed};
 ghost use Rattle.kernel_rules.specs.declared.calls.Call.TheVariants as call;
 ghost use Rattle.kernel_rules.specs.declared.replies.Reply.TheVariants as told;

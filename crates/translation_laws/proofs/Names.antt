@@ -17,13 +17,12 @@ use Rattle.label_rules.specs.LabelRules.{stored}
 use Rattle.kernel_rules.specs.Changes.{put, changed, listing, with_new, made, fresh_object, relist, rebyte}
 use Rattle.kernel_rules.specs.Changes.{requeue, rethread, reslot, owning, entered, with_body}
 use Rattle.kernel_rules.specs.Changes.{labelled, cleared, spaced, without}
-use Rattle.kernel_rules.specs.Rows.{halted}
+use Rattle.kernel_rules.specs.Table.{halted, refused, row}
 use Rattle.kernel_rules.specs.State.{State, object_at, of_object, lists_of, listed, is_kind, is_kind_at}
 use Rattle.kernel_rules.specs.State.{kind_of, kind_number, slots_of, thread_of, gate_of, gate_at}
 use Rattle.kernel_rules.specs.State.{is_accessible, is_live_kind, observes}
 use Rattle.kernel_rules.specs.Step.{next, edit, owned, made_of, made_bearer}
 use Rattle.kernel_rules.specs.Step.{with_value, restricted, new_thread, new_gate}
-use Rattle.kernel_rules.specs.Table.{refused, row}
 use Rattle.kernel_rules.specs.Translate.{slot_in, names_none, place_of}
 use Rattle.kernel_rules.specs.WellFormed.{is_well_formed}
 use Rattle.kernel_rules.specs.declared.calls.Call.{Call}

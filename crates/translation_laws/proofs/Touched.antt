@@ -11,11 +11,10 @@ use Rattle.label_lattice.specs.Label.{LabelValue}
 use Rattle.label_rules.specs.LabelRules.{stored}
 use Rattle.kernel_rules.specs.Changes.{changed, made, fresh_object, labelled, owning, entered, delisting}
 use Rattle.kernel_rules.specs.Changes.{made_immutable, put}
-use Rattle.kernel_rules.specs.Rows.{halted}
+use Rattle.kernel_rules.specs.Table.{halted, refused, row}
 use Rattle.kernel_rules.specs.State.{State, list_at, object_at, of_object, lists_of, is_kind_at, is_accessible}
 use Rattle.kernel_rules.specs.State.{gate_at}
 use Rattle.kernel_rules.specs.Step.{next, edit, owned, made_of, made_bearer, with_value}
-use Rattle.kernel_rules.specs.Table.{refused, row}
 use Rattle.kernel_rules.specs.Translate.{translate, own_space, place_of}
 use Rattle.kernel_rules.specs.WellFormed.{is_well_formed}
 use Rattle.kernel_rules.specs.declared.calls.Call.{Call}

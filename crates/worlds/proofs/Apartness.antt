@@ -13,9 +13,9 @@ use Rattle.kernel_rules.specs.State.{State, object_at, of_object, listed, lists_
 use Rattle.kernel_rules.specs.State.{is_accessible, gate_at, label_at, kind_of, kind_number}
 use Rattle.kernel_rules.specs.Changes.{changed, made, listing, fresh_object, labelled, cleared, spaced, entered}
 use Rattle.kernel_rules.specs.Changes.{owning}
-use Rattle.kernel_rules.specs.Rows.{halted, own_label, own_clearance}
+use Rattle.kernel_rules.specs.Conditions.{own_label, own_clearance}
+use Rattle.kernel_rules.specs.Table.{halted, refused, row}
 use Rattle.kernel_rules.specs.Step.{next, edit, restricted, with_value, owned, made_of, made_bearer, through_gate, stored_at}
-use Rattle.kernel_rules.specs.Table.{refused, row}
 use Rattle.kernel_rules.specs.Translate.{place_of}
 use Rattle.kernel_rules.specs.WellFormed.{is_well_formed}
 use Rattle.kernel_rules.specs.declared.calls.Call.{Call}

@@ -19,11 +19,11 @@ use Rattle.kernel_rules.specs.State.{State, object_at, of_object, listed, is_kin
 use Rattle.kernel_rules.specs.State.{is_live_kind, holds, observes, bytes_of, bytes_at, avoids, clearance_of, gate_of, gate_at, label_at}
 use Rattle.kernel_rules.specs.State.{kind_number, kind_of}
 use Rattle.kernel_rules.specs.Changes.{put, listing, changed, fresh_object, labelled, cleared, entered, owning, joined, joined_at}
-use Rattle.kernel_rules.specs.Rows.{Row, halted, at_container, in_container, of_kind, observed, refusal_of, own_label}
-use Rattle.kernel_rules.specs.Rows.{own_clearance}
+use Rattle.kernel_rules.specs.Conditions.{own_label, own_clearance, own_bearer, gate_bearer}
+use Rattle.kernel_rules.specs.Rows.{Row, row_of, running, at_container, in_container, of_kind, observed, refusal_of}
+use Rattle.kernel_rules.specs.Table.{halted, refused, row}
 use Rattle.kernel_rules.specs.Step.{next, answer, edit, accepted, with_value, owned, made_of, made_bearer}
 use Rattle.kernel_rules.specs.Step.{through_gate, told_by}
-use Rattle.kernel_rules.specs.Table.{refused, row, own_bearer, gate_bearer}
 use Rattle.kernel_rules.specs.Translate.{names_none}
 use Rattle.kernel_rules.specs.declared.calls.Call.{Call}
 use Rattle.kernel_rules.specs.declared.calls.Call.TheVariants as call
@@ -130,19 +130,19 @@ same_may_enter l s n t e r q v w access held gate =
 
 -- the first conditions of a row, in the order of their numbers, past which all that is asked is observed
 abbrev front : State → ℕ → Call → Row
-front s t (call.ContainerCreate k) = halted s t ++ at_container s t k.container
-front s t (call.SegmentCreate k) = halted s t ++ at_container s t k.container
-front s t (call.AsCreate k) = halted s t ++ at_container s t k.container
-front s t (call.ThreadCreate k) = halted s t ++ at_container s t k.container
+front s t (call.ContainerCreate k) = row_of s t (running ++ at_container k.container)
+front s t (call.SegmentCreate k) = row_of s t (running ++ at_container k.container)
+front s t (call.AsCreate k) = row_of s t (running ++ at_container k.container)
+front s t (call.ThreadCreate k) = row_of s t (running ++ at_container k.container)
 front s t (call.SegmentCopy k) =
-    halted s t ++ at_container s t k.source.container ++ at_container s t k.container
-    ++ (NoEntry, not (holds s k.source)) ∷ of_kind s t kinds.Segment k.source.object
-    ++ observed s t k.source.object
+    halted s t ++ row_of s t (at_container k.source.container) ++ row_of s t (at_container k.container)
+    ++ (NoEntry, not (holds s k.source)) ∷ row_of s t (of_kind kinds.Segment k.source.object)
+    ++ row_of s t (observed k.source.object)
 front s t (call.GateCreate k) =
     halted s t ++ (NoAccess, not (names_none k.space) && not (is_accessible s t k.space.container))
-    ∷ at_container s t k.container ++ (NoEntry, not (names_none k.space) && not (holds s k.space))
+    ∷ row_of s t (at_container k.container) ++ (NoEntry, not (names_none k.space) && not (holds s k.space))
     ∷ (WrongType, not (names_none k.space) && not (is_kind_at s kinds.AddressSpace k.space.object)) ∷ []
-front s t (call.GateEnter e r q v) = halted s t ++ in_container s t e ++ of_kind s t kinds.Gate e.object
+front s t (call.GateEnter e r q v) = row_of s t (running ++ in_container e ++ of_kind kinds.Gate e.object)
 front s t k = halted s t
 
 -- and those that follow

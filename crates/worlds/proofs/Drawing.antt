@@ -9,10 +9,10 @@ use Rattle.label_lattice.specs.Label.{LabelValue}
 use Rattle.label_rules.specs.LabelRules.{stored}
 use Rattle.kernel_rules.specs.State.{State, lists_of}
 use Rattle.kernel_rules.specs.Changes.{changed, listing}
-use Rattle.kernel_rules.specs.Rows.{own_label, own_clearance}
+use Rattle.kernel_rules.specs.Conditions.{own_label, own_clearance}
+use Rattle.kernel_rules.specs.Table.{refused}
 use Rattle.kernel_rules.specs.Runs.{state_after}
 use Rattle.kernel_rules.specs.Step.{next, answer, edit, made_of, made_bearer, owned}
-use Rattle.kernel_rules.specs.Table.{refused}
 use Rattle.kernel_rules.specs.WellFormed.{is_well_formed}
 use Rattle.kernel_rules.specs.declared.calls.Call.{Call}
 use Rattle.kernel_rules.specs.declared.calls.Call.TheVariants as call

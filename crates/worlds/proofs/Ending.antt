@@ -15,9 +15,10 @@ use Rattle.label_rules.specs.LabelRules.{visible}
 use Rattle.kernel_rules.specs.State.{State, object_at, of_object, listed, lists_of, list_at, is_kind, live_part}
 use Rattle.kernel_rules.specs.State.{is_accessible, kind_number}
 use Rattle.kernel_rules.specs.Changes.{put, changed, delisting, without, relist}
-use Rattle.kernel_rules.specs.Rows.{halted, at_container}
+use Rattle.kernel_rules.specs.Conditions.{names_root}
+use Rattle.kernel_rules.specs.Rows.{row_of, running, at_container}
+use Rattle.kernel_rules.specs.Table.{halted, refused, row}
 use Rattle.kernel_rules.specs.Step.{next, answer, edit, restricted, lister_of}
-use Rattle.kernel_rules.specs.Table.{refused, row, names_root}
 use Rattle.kernel_rules.specs.WellFormed.{is_well_formed, is_kept, is_listed_rightly, listers, ids_rise}
 use Rattle.kernel_rules.specs.declared.calls.Call.TheVariants as call
 use Rattle.kernel_rules.specs.declared.calls.Entry.{Entry}
@@ -553,7 +554,7 @@ hidden_unref l s t e sound apart off =
 
 -- and in both
 unref_alike : (l : LabelValue) (s n : State) (t : ℕ) (e : Entry) → Worlds l s n t
-    → AlikeFront (halted s t ++ at_container s t e.container) (halted n t ++ at_container n t e.container)
+    → AlikeFront (row_of s t (running ++ at_container e.container)) (row_of n t (running ++ at_container e.container))
     (drop 1 (row s t (call.Unref e))) (drop 1 (row n t (call.Unref e)))
 unref_alike l s n t e w = (
   refl,
@@ -590,7 +591,7 @@ same_refused : (l : LabelValue) (s n : State) (t : ℕ) (e : Entry) → Worlds l
     → refused n t (call.Unref e) ≡ refused s t (call.Unref e)
 unfolding refused
 same_refused l s n t e w =
-    front_refusal (halted s t ++ at_container s t e.container) (halted n t ++ at_container n t e.container)
+    front_refusal (row_of s t (running ++ at_container e.container)) (row_of n t (running ++ at_container e.container))
     (drop 1 (row s t (call.Unref e))) (drop 1 (row n t (call.Unref e))) (unref_alike l s n t e w) refl refl
 
 pub unref_stays : (l : LabelValue) (s n : State) (t : ℕ) (e : Entry) → Worlds l s n t → IsOpen l s → IsOpen l n

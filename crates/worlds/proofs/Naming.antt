@@ -13,9 +13,10 @@ use Rattle.label_rules.specs.LabelRules.{both, below, visible}
 use Rattle.kernel_rules.specs.State.{State, object_at, of_object, listed, is_kind, is_kind_at, holds}
 use Rattle.kernel_rules.specs.State.{is_accessible, observes, avoids, clearance_of, use_of, kind_of}
 use Rattle.kernel_rules.specs.Changes.{put, changed, listing, requoted}
-use Rattle.kernel_rules.specs.Rows.{halted, at_container, in_container, not_of_kind, pages_up, pages_down}
+use Rattle.kernel_rules.specs.Conditions.{pages_up, pages_down}
+use Rattle.kernel_rules.specs.Rows.{row_of, running, at_container, in_container, not_of_kind}
+use Rattle.kernel_rules.specs.Table.{halted, refused, row}
 use Rattle.kernel_rules.specs.Step.{next, answer, accepted, edit}
-use Rattle.kernel_rules.specs.Table.{refused, row}
 use Rattle.kernel_rules.specs.declared.calls.Call.{Call}
 use Rattle.kernel_rules.specs.declared.calls.Call.TheVariants as call
 use Rattle.kernel_rules.specs.declared.calls.Entry.{Entry}
@@ -107,8 +108,8 @@ room_down l s n t o false less w h = refl
 
 link_alike : (l : LabelValue) (s n : State) (t d : ℕ) (e : Entry) → Worlds l s n t
     → read untold n e.object ≡ read untold s e.object
-    → AlikeFront (halted s t ++ at_container s t d ++ in_container s t e ++ not_of_kind s t kinds.Container e.object)
-    (halted n t ++ at_container n t d ++ in_container n t e ++ not_of_kind n t kinds.Container e.object)
+    → AlikeFront (row_of s t (running ++ at_container d ++ in_container e ++ not_of_kind kinds.Container e.object))
+    (row_of n t (running ++ at_container d ++ in_container e ++ not_of_kind kinds.Container e.object))
     (drop 4 (row s t (call.Link d e))) (drop 4 (row n t (call.Link d e)))
 link_alike l s n t d e w u =
     (refl, same_halted l s n t w, λ h1. (refl, ap not (same_accessible l s n t d w), λ h2. (refl, ap not (same_accessible l s n t e.container w), λ h3. (refl, ap not (same_holds l s n t e w (not-false _ h3)), λ h4. (refl, same_kind l s n t kinds.Container e w (not-false _ h3) (not-false _ h4), λ h5. (refl, ap not (same_observes l s n t d w), (refl, ap not (same_flows l s n t d w (container_same l s n t d w (not-false _ h2))), (refl, (λ i. not (both below (untold_label s n e.object u i) (option_and_then (λ x. clearance_of x.body) (caller_same l s n t w i)))), (refl, same_avoids s n d e.object (container_same l s n t d w (not-false _ h2)) (named_same l s n t e w (not-false _ h3) (not-false _ h4)), (refl, (λ i. nat_lt (of_object 0 (λ x. x.quota) ((container_same l s n t d w (not-false _ h2)) i)) (same_use l s n t w d (accessible_observed s t d (not-false _ h2)) i + same_quota s n e.object (named_same l s n t e w (not-false _ h3) (not-false _ h4)) i)), (refl, ap not (untold_fixed s n e.object u), (refl, ap (λ v. has (of_object [] (λ x. listed x.body) v) e.object) (container_same l s n t d w (not-false _ h2)), (refl, ap (of_object false (λ x. x.immutable)) (container_same l s n t d w (not-false _ h2)), tt)))))))))))))
@@ -294,8 +295,8 @@ unfolding refused
 link_stays l s n t d e w u =
     step_both l s n t (call.Link d e)
     (front_refusal
-    (halted s t ++ at_container s t d ++ in_container s t e ++ not_of_kind s t kinds.Container e.object)
-    (halted n t ++ at_container n t d ++ in_container n t e ++ not_of_kind n t kinds.Container e.object)
+    (row_of s t (running ++ at_container d ++ in_container e ++ not_of_kind kinds.Container e.object))
+    (row_of n t (running ++ at_container d ++ in_container e ++ not_of_kind kinds.Container e.object))
     (drop 4 (row s t (call.Link d e))) (drop 4 (row n t (call.Link d e)))
     (link_alike l s n t d e w u) refl refl)
     w.same refl

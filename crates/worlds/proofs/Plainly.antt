@@ -17,9 +17,10 @@ use Rattle.kernel_rules.specs.State.{State, object_at, of_object, listed, lists_
 use Rattle.kernel_rules.specs.State.{observes, bytes_of, slots_of, packets_of, kind_number}
 use Rattle.kernel_rules.specs.Changes.{put, changed}
 use Rattle.kernel_rules.specs.Changes.{rethread}
-use Rattle.kernel_rules.specs.Rows.{Row, halted, allows, meets, refusal_of}
+use Rattle.kernel_rules.specs.Conditions.{allows, meets}
+use Rattle.kernel_rules.specs.Rows.{Row, refusal_of}
+use Rattle.kernel_rules.specs.Table.{halted, refused, row}
 use Rattle.kernel_rules.specs.Step.{next, answer, edit, accepted, stored_at, lister_of, first_packet}
-use Rattle.kernel_rules.specs.Table.{refused, row}
 use Rattle.kernel_rules.specs.Translate.{place_of, slot_in, names_none}
 use Rattle.kernel_rules.specs.declared.calls.Call.{Call}
 use Rattle.kernel_rules.specs.declared.calls.Call.TheVariants as call

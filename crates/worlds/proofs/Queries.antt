@@ -13,9 +13,9 @@ use Rattle.label_lattice.specs.Label.{LabelValue}
 use Rattle.label_rules.specs.LabelRules.{both, shown}
 use Rattle.kernel_rules.specs.State.{State, object_at, of_object, listed, is_kind, is_kind_at, label_at, list_at, holds}
 use Rattle.kernel_rules.specs.State.{observes, is_accessible, bytes_of, own_cost, use_of, slots_of, kind_number, kind_of}
-use Rattle.kernel_rules.specs.Rows.{halted, allows}
+use Rattle.kernel_rules.specs.Conditions.{allows}
+use Rattle.kernel_rules.specs.Table.{halted, query_refused, query_row}
 use Rattle.kernel_rules.specs.Step.{query_answer, found, told_of, loaded, lister_of, or_refused}
-use Rattle.kernel_rules.specs.Table.{query_refused, query_row}
 use Rattle.kernel_rules.specs.Translate.{place_of, slot_in}
 use Rattle.kernel_rules.specs.declared.calls.Entry.{Entry}
 use Rattle.kernel_rules.specs.declared.calls.Query.{Query}

@@ -16,10 +16,10 @@ use Rattle.kernel_rules.specs.State.{flows_to, is_accessible, is_fixed, list_at,
 use Rattle.kernel_rules.specs.State.{kind_number, gate_at}
 use Rattle.kernel_rules.specs.Changes.{put, changed, made, listing, with_new, rebyte, reslot, requeue, relist}
 use Rattle.kernel_rules.specs.Changes.{rethread, labelled, cleared, spaced, entered, owning, requoted, fresh_object}
-use Rattle.kernel_rules.specs.Rows.{halted, in_range_of, own_label, own_clearance}
+use Rattle.kernel_rules.specs.Conditions.{in_range_of, own_label, own_clearance}
+use Rattle.kernel_rules.specs.Table.{halted, refused, row}
 use Rattle.kernel_rules.specs.Step.{next, edit, restricted, with_value, owned, made_of, made_bearer, through_gate}
 use Rattle.kernel_rules.specs.Step.{stored_at, lister_of}
-use Rattle.kernel_rules.specs.Table.{refused, row}
 use Rattle.kernel_rules.specs.Translate.{place_of}
 use Rattle.kernel_rules.specs.WellFormed.{is_well_formed, is_kept, listers}
 use Rattle.kernel_rules.specs.declared.calls.Call.{Call}

@@ -18,9 +18,9 @@ use Rattle.label_lattice.proofs.PlacedLaw.{with-stored}
 use Rattle.label_rules.specs.LabelRules.{stored, with_category}
 use Rattle.kernel_rules.specs.State.{State, object_at, of_object, bytes_at, bytes_of, clearance_of, gate_at}
 use Rattle.kernel_rules.specs.Fitting.{IsFitting}
-use Rattle.kernel_rules.specs.Rows.{own_label, own_clearance}
-use Rattle.kernel_rules.specs.Step.{next, edit, with_value, made_of, stored_at}
+use Rattle.kernel_rules.specs.Conditions.{own_label, own_clearance}
 use Rattle.kernel_rules.specs.Table.{refused}
+use Rattle.kernel_rules.specs.Step.{next, edit, with_value, made_of, stored_at}
 use Rattle.kernel_rules.specs.Translate.{place_of}
 use Rattle.kernel_rules.specs.WellFormed.{is_well_formed, is_kept, is_stored, is_whole, is_whole_body, categories_rise}
 use Rattle.kernel_rules.specs.declared.calls.Call.{Call}

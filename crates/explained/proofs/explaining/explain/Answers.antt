@@ -8,6 +8,11 @@ use Rattle.explained.proofs.Rowed.{findings_are_the_row, least_is_the_refusal, n
 use Rattle.explained.proofs.Rowed.{made, reply_told}
 use Rattle.explained.proofs.explaining.explain.Goals as goal
 
+pub returns-clause-findings : goal.returns-clause-findings
+returns-clause-findings c =
+    made (state_of c.args.state.now) c.args.thread c.args.call.now _ _ _ c.new-found.ensures.items
+    c.in_ok-halted.ensures c.in_ok-findings.ensures
+
 pub returns-clause-row : goal.returns-clause-row
 returns-clause-row c =
     ap (map condition)

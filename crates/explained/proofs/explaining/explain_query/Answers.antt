@@ -8,6 +8,11 @@ use Rattle.explained.proofs.Rowed.{query_findings_are_the_row, least_is_the_quer
 use Rattle.explained.proofs.Rowed.{query_made, query_reply_told}
 use Rattle.explained.proofs.explaining.explain_query.Goals as goal
 
+pub returns-clause-findings : goal.returns-clause-findings
+returns-clause-findings c =
+    query_made (state_of c.args.state.now) c.args.thread c.args.query.now _ _ _ c.new-found.ensures.items
+    c.in_ok-halted.ensures c.in_ok-query_findings.ensures
+
 pub returns-clause-row : goal.returns-clause-row
 returns-clause-row c =
     ap (map condition)

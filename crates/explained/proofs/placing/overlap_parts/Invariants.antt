@@ -1,5 +1,5 @@
 use Rattle.std.proofs.Common.{◌≡◌, ◌++◌, ◌∷◌, drop}
-use Rattle.explained.specs.Explained.{apart_parts}
+use Rattle.explained.specs.Told.{apart_parts}
 use Rattle.explained.specs.declared.parts.Part.TheVariants as is
 use Rattle.explained.proofs.placing.overlap_parts.Given as goal
 

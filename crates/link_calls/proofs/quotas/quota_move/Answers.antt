@@ -1,6 +1,6 @@
 use Rattle.std.proofs.Common.{◌≡◌, ◌≤◌, ◌+◌, sym, ◌∙◌, ap, subst, to_z, of_z, w32}
 use Rattle.std.proofs.lemmas.Int.{to_z-of_z}
-use Rattle.kernel_rules.specs.Rows.{pages_up, pages_down}
+use Rattle.kernel_rules.specs.Conditions.{pages_up, pages_down}
 use Rattle.kernel_rules.specs.State.{use_of, quota_at}
 use Rattle.kernel_rules.specs.Step.{answer, next}
 use Rattle.kernel_rules.specs.declared.calls.Call.TheVariants as call
