@@ -1,7 +1,8 @@
 -- The workers of lines, and the numbers of each one's lines.
-use Rattle.std.proofs.Common.{◌≡◌, ℕ, zero, suc, ◌+◌, ◌<◌, ◌≤◌, Bool, true, false, cond, eqb, leb, ◌||◌, List, [], ◌∷◌, ◌++◌, take, length, slice_get, slice_set, get_or, map, Option, Some, None, IfSome, option_map, refl, ap, sym, ◌∙◌, subst, ◌⊎◌, inl, inr, append_assoc, arith, position, ◌≢◌}
+use Rattle.std.proofs.Common.{◌≡◌, ℕ, zero, suc, ◌+◌, ◌<◌, ◌≤◌, Bool, true, false, cond, eqb, leb, ◌||◌, List, [], ◌∷◌, ◌++◌, take, length, slice_get, slice_set, get_or, map, Option, Some, None, IfSome, option_map, refl, ap, sym, ◌∙◌, subst, ◌⊎◌, inl, inr, append_assoc, arith, position, true≢false, ◌≢◌}
 use Rattle.std.specs.Global.{Vec}
-use Rattle.std.specs.List.{list_any, IsDistinct}
+use Rattle.std.specs.List.{list_any, position_or_len, IsDistinct}
+use Rattle.std.specs.Option.{option_eq}
 use Rattle.std.specs.Str.{bytes_eq}
 use Rattle.std.specs.Cmp.Lexicographic.{bytes_decides}
 use Rattle.std.proofs.lemmas.Bool.Decides.{eqb_tells, leb_tells}
@@ -10,9 +11,9 @@ use Rattle.std.proofs.lemmas.List.{append-nil, map-append, take_more}
 use Rattle.std.proofs.lemmas.List.Elements.{filter-append}
 use Rattle.std.proofs.lemmas.List.Folds.{list_any-append}
 use Rattle.std.proofs.lemmas.List.Quantifiers.{position-Some}
-use Rattle.std.proofs.lemmas.List.Sums.{fold-append}
-use Rattle.std.proofs.lemmas.Map.Keys.{any_passes_from_place, apart_from_distinct}
-use Rattle.std.proofs.lemmas.Option.{get_or_from_slice_get, slice_get_within}
+use Rattle.std.proofs.lemmas.List.Sums.{fails_before_first, fold-append}
+use Rattle.std.proofs.lemmas.Map.Keys.{apart_from_distinct}
+use Rattle.std.proofs.lemmas.Option.{get_or_from_slice_get, none-some, slice_get_within}
 use Rattle.indexmap.specs.IndexSet.{insert_all, insert_key}
 use Rattle.text_words.proofs.NameLemmas.{same_name}
 use Rattle.text_words.specs.contracts.names.NamePartialEq.TheImpl.{eq-value}
@@ -84,6 +85,17 @@ inserted_as_bytes workers worker = (λ i. insert_key (λ a b. same_name a b i) w
 pub distinct_as_bytes : (workers : List (List ℕ)) → IsDistinct eq-value.it workers → IsDistinct bytes_eq workers
 distinct_as_bytes workers distinct = subst (λ (eq : List ℕ → List ℕ → Bool). IsDistinct eq workers) (λ i a b. same_name a b i) distinct
 
+pub place_as_bytes : (workers : List (List ℕ)) (worker : List ℕ) → position (eq-value.it worker) workers ≡ position (bytes_eq worker) workers
+place_as_bytes workers worker = (λ i. position (λ a. same_name worker a i) workers)
+
+-- the place of a worker is that of the last line's, where it is the same one
+pub place_of_last : (workers : List (List ℕ)) (last : Option (List ℕ)) (place : Option ℕ) (worker : List ℕ)
+    → option_eq eq-value.it last (Some worker) ≡ true → IfSome last (λ w. place ≡ position (bytes_eq w) workers)
+    → place ≡ position (bytes_eq worker) workers
+place_of_last workers None place worker same known = absurd (true≢false (sym same))
+place_of_last workers (Some w) place worker same known =
+    known ∙ ap (λ (n : List ℕ). position (bytes_eq n) workers) ((bytes_decides w worker).0 (sym (same_name w worker) ∙ same))
+
 -- the numbers of a worker with one line more, of its own or of another
 numbers_own : (worker : List ℕ) (lines : List Line) (line : Line) → bytes_eq line.worker worker ≡ true
     → numbers_of worker (lines ++ line ∷ []) ≡ numbers_of worker lines ++ line.number ∷ []
@@ -101,39 +113,38 @@ numbers_other worker lines line other =
     ∙ append-nil (numbers_of worker lines)
 
 -- where a worker stands, and nowhere else
-stands_at : (workers : List (List ℕ)) (w worker : List ℕ) (index i : ℕ) → IsDistinct bytes_eq workers
-    → position (eq-value.it w) workers ≡ Some index → slice_get workers i ≡ Some worker → (i ≡ index) → bytes_eq w worker ≡ true
-stands_at workers w worker index i distinct found there same =
-    sym (same_name w worker) ∙ ap (eq-value.it w) (sym (get_or_from_slice_get workers index worker worker
-    (ap (slice_get workers) (sym same) ∙ there)))
-    ∙ (position-Some (eq-value.it w) workers index worker found).1
+stands_at : (workers : List (List ℕ)) (w worker : List ℕ) (index i : ℕ) → position (bytes_eq w) workers ≡ Some index
+    → slice_get workers i ≡ Some worker → (i ≡ index) → bytes_eq w worker ≡ true
+stands_at workers w worker index i found there same =
+    ap (bytes_eq w) (sym (get_or_from_slice_get workers index worker worker (ap (slice_get workers) (sym same) ∙ there)))
+    ∙ (position-Some (bytes_eq w) workers index worker found).1
 
 stands_not : (workers : List (List ℕ)) (w worker : List ℕ) (index i : ℕ) → IsDistinct bytes_eq workers
-    → position (eq-value.it w) workers ≡ Some index → slice_get workers i ≡ Some worker → (i ≢ index) → bytes_eq w worker ≡ false
+    → position (bytes_eq w) workers ≡ Some index → slice_get workers i ≡ Some worker → (i ≢ index) → bytes_eq w worker ≡ false
 stands_not workers w worker index i distinct found there other = of (leb_tells i index)
   where
     is : get_or workers i worker ≡ worker
     is = get_or_from_slice_get workers i worker worker there
 
-    at : (index < length workers) × (eq-value.it w (get_or workers index worker) ≡ true)
-        × ((k : ℕ) → k < index → eq-value.it w (get_or workers k worker) ≡ false)
-    at = position-Some (eq-value.it w) workers index worker found
+    at : (index < length workers) × (bytes_eq w (get_or workers index worker) ≡ true)
+        × ((k : ℕ) → k < index → bytes_eq w (get_or workers k worker) ≡ false)
+    at = position-Some (bytes_eq w) workers index worker found
 
     own : w ≡ get_or workers index worker
-    own = (bytes_decides w (get_or workers index worker)).0 (sym (same_name w (get_or workers index worker)) ∙ at.1)
+    own = (bytes_decides w (get_or workers index worker)).0 at.1
 
     of : ((leb i index ≡ true) × (i ≤ index)) ⊎ ((leb i index ≡ false) × (index < i)) → bytes_eq w worker ≡ false
-    of (inl h) = sym (same_name w worker) ∙ ap (eq-value.it w) (sym is) ∙ at.2 i (omega (arith, h.1, other))
+    of (inl h) = ap (bytes_eq w) (sym is) ∙ at.2 i (omega (arith, h.1, other))
     of (inr h) = (λ j. bytes_eq (own j) (sym is j))
         ∙ apart_from_distinct bytes_eq workers index i worker distinct h.1 (slice_get_within workers i worker there)
 
 -- each worker's numbers with one line more
 pub numbers_more : (workers : List (List ℕ)) (line : Line) (index : ℕ) (old new : List (Vec ℕ))
-    → IsDistinct bytes_eq workers → position (eq-value.it line.worker) workers ≡ Some index → WithNumber index line.number old new
+    → IsDistinct bytes_eq workers → position (bytes_eq line.worker) workers ≡ Some index → WithNumber index line.number old new
     → WithLines workers (line ∷ []) old new
 numbers_more workers line index old new distinct found with lines are i =
     at (slice_get workers i) (slice_get new i) (slice_get old i)
-    (λ worker there. stands_at workers line.worker worker index i distinct found there)
+    (λ worker there. stands_at workers line.worker worker index i found there)
     (λ worker there. stands_not workers line.worker worker index i distinct found there) (with i) (are i) refl
   where
     own : (worker : List ℕ) (new was : Vec ℕ) → (i ≡ index → bytes_eq line.worker worker ≡ true)
@@ -159,23 +170,28 @@ numbers_more workers line index old new distinct found with lines are i =
         own worker new h.0 (same worker there) (other worker there) h.2 h.3
         (subst (λ (p : Option (Vec ℕ)). IfSome p (λ was. was.items ≡ numbers_of worker lines)) h.1 are) (eqb_tells i index)
 
+-- a test that no element passes
+passed_over : (p : List ℕ → Bool) (xs : List (List ℕ)) (i : ℕ) (x : List ℕ) → position p xs ≡ None → slice_get xs i ≡ Some x → p x ≡ false
+passed_over p xs i x none there = at (leb_tells (suc (position_or_len p xs)) (length xs))
+  where
+    at : ((leb (suc (position_or_len p xs)) (length xs) ≡ true) × (suc (position_or_len p xs) ≤ length xs))
+        ⊎ ((leb (suc (position_or_len p xs)) (length xs) ≡ false) × (length xs < suc (position_or_len p xs))) → p x ≡ false
+    at (inl h) = absurd (none-some (position_or_len p xs) (sym none ∙ ap (λ b. cond b (Some (position_or_len p xs)) None) h.0))
+    at (inr h) = ap p (sym (get_or_from_slice_get xs i x x there))
+        ∙ fails_before_first p xs i x (omega (arith, h.1, slice_get_within xs i x there))
+
 -- and with a line of none of them
 pub numbers_stay : (workers : List (List ℕ)) (line : Line) (numbers : List (Vec ℕ))
-    → list_any (eq-value.it line.worker) workers ≡ false → WithLines workers (line ∷ []) numbers numbers
+    → position (bytes_eq line.worker) workers ≡ None → WithLines workers (line ∷ []) numbers numbers
 numbers_stay workers line numbers none lines are i = at (slice_get workers i) (slice_get numbers i) refl (are i)
   where
-    other : (worker : List ℕ) → slice_get workers i ≡ Some worker → (b : Bool) → eq-value.it line.worker worker ≡ b → b ≡ false
-    other worker there true is =
-        let any = any_passes_from_place (eq-value.it line.worker) workers i worker there is in cc
-    other worker there false is = refl
-
     at : (w : Option (List ℕ)) (n : Option (Vec ℕ)) → slice_get workers i ≡ w
         → IfSome w (λ worker. IfSome n (λ own. own.items ≡ numbers_of worker lines))
         → IfSome w (λ worker. IfSome n (λ own. own.items ≡ numbers_of worker (lines ++ line ∷ [])))
     at None n there h = tt
     at (Some worker) None there h = tt
     at (Some worker) (Some own) there h = h ∙ sym (numbers_other worker lines line
-        (sym (same_name line.worker worker) ∙ other worker there (eq-value.it line.worker worker) refl))
+        (passed_over (bytes_eq line.worker) workers i worker none there))
 
 kept : (o : Option (Vec ℕ)) (place number i : ℕ) → i ≢ place
     → IfSome o (λ own. (was : Vec ℕ) × (o ≡ Some was) × (i ≡ place → own.items ≡ was.items ++ number ∷ []) × (i ≢ place → own.items ≡ was.items))

@@ -1,11 +1,10 @@
 //! What the lines of a worker answered.
 //!
 //! A line is printed at the end of the run, with the names as they are bound then. A reply is large, and most of them say
-//! little: what such a reply says is kept in place of it. The reply to a query is printed when it comes in any case, without
-//! names: that is what its read was answered.
+//! little: what such a reply says is kept in place of it.
 use crate::reads::{Asked, Reads};
 use base::{Data, NoMemory, ObjectId, Refusal};
-use call_text::{NameList, Value, put_reply};
+use call_text::{Value, write_reply};
 use kernel_rules::{Mapping, Query, Reply};
 use std::alloc::{AllocError, Global};
 use text_words::Name;
@@ -58,8 +57,6 @@ pub struct Answers {
     pub replies: Vec<Reply>,
     /// The queries that were answered.
     pub asked: Vec<Asked>,
-    /// The replies to them, as they are printed where no name is known.
-    pub printed: Vec<u8>,
 }
 
 impl Answers {
@@ -70,7 +67,6 @@ impl Answers {
             data: Vec::new(alloc),
             replies: Vec::new(alloc),
             asked: Vec::new(alloc),
-            printed: Vec::new(alloc),
         }
     }
 
@@ -125,6 +121,24 @@ impl Answers {
         Ok(())
     }
 
+    /// Keeps a read that was answered so.
+    fn note_read(
+        &mut self,
+        query: &Query,
+        length: usize,
+        answer: &Answer,
+    ) -> Result<(), AllocError> {
+        // For the proof alone: these name types that an answer and a query hold.
+        let _named: Option<Value> = None;
+        let _mapping: Option<Mapping> = None;
+        self.asked.push(Asked {
+            length,
+            query: *query,
+            answer: *answer,
+        })?;
+        Ok(())
+    }
+
     /// Keeps the reply to a query, and the read.
     pub fn keep_read(
         &mut self,
@@ -132,15 +146,9 @@ impl Answers {
         length: usize,
         reply: &Reply,
     ) -> Result<Answer, NoMemory> {
-        let begin = self.printed.len();
-        put_reply(&mut self.printed, reply, &NameList { named: &[] })?;
-        self.asked.push(Asked {
-            length,
-            query: *query,
-            begin,
-            end: self.printed.len(),
-        })?;
-        self.keep(reply)
+        let answer = self.keep(reply)?;
+        self.note_read(query, length, &answer)?;
+        Ok(answer)
     }
 
     /// The reply to a line whose answer says all of it but bytes.
@@ -174,6 +182,19 @@ impl Answers {
             _ => None,
         }
     }
+
+    /// What a read was answered, as it is printed where no name is known.
+    pub fn text_of(&self, alloc: Global, answer: &Answer) -> Result<Option<Vec<u8>>, NoMemory> {
+        let _named: Option<Mapping> = None;
+        let reply = match answer {
+            Answer::Replied(place) => self.replies.get(*place).copied(),
+            _ => self.short_reply(answer),
+        };
+        match &reply {
+            Some(reply) => Ok(Some(write_reply(alloc, reply, &[])?)),
+            None => Ok(None),
+        }
+    }
 }
 
 /// What a worker leaves.
@@ -189,19 +210,8 @@ impl Left {
     /// The worker's reads, where its thread was given a seat.
     pub fn into_reads(self) -> Option<Reads> {
         let Left { thread, answers } = self;
-        let Answers {
-            lines: _,
-            data: _,
-            replies: _,
-            asked,
-            printed,
-        } = answers;
         match thread {
-            Some(thread) => Some(Reads {
-                thread,
-                asked,
-                printed,
-            }),
+            Some(thread) => Some(Reads { thread, answers }),
             None => None,
         }
     }

@@ -32,4 +32,4 @@ pub use gates::{Always, Gate, Turn};
 pub use names::{BoundNames, WorkerNames};
 pub use play::{Played, play_all, play_at_once};
 pub use program::{Ended, NAME, histar_on};
-pub use reads::{Asked, Reads, SeenRead, seen_reads};
+pub use reads::{Reads, SeenRead, seen_reads};

@@ -1,5 +1,5 @@
 //! Which worker has which lines.
-ghost use Rattle.std.specs.Prelude.{◌≡◌, [], ◌∷◌, ℕ, true, List, IfOk, IfSome, OnOk, slice_get};
+ghost use Rattle.std.specs.Prelude.{◌≡◌, [], ◌∷◌, ℕ, true, List, IfOk, IfSome, OnOk, position, slice_get};
 ghost use Rattle.std.specs.List.{list_any, IsDistinct};
 ghost use Rattle.std.specs.Str.{bytes_eq};
 ghost use Rattle.indexmap.specs.IndexSet.{insert_key};
@@ -65,8 +65,7 @@ fn take_turns(phases: &[Phase]) -> bool
     phases.iter().all(|phase| is_of_one(phase))
 }
 
-/// Adds the worker of a line, where the worker of the line before it is among them. (Lines of one worker often follow each
-/// other.)
+/// Adds the worker of a line, where the worker of the line before it is among them.
 fn add_worker(
     workers: &mut IndexSet<Name>,
     last: Option<Name>,
@@ -123,19 +122,37 @@ fn add_number(numbers: &mut Vec<Vec<u32>>, place: usize, number: u32) -> Result<
     Ok(())
 }
 
-/// Adds the number of a line to those of its worker.
+/// Adds the number of a line to those of its worker, which has this place among all, if it is one of them.
 fn number_line(
     numbers: &mut Vec<Vec<u32>>,
     line: &Line<'_>,
-    workers: &IndexSet<Name>,
+    index: Option<usize>,
 ) -> Result<(), AllocError>
-    requires { IsDistinct bytes_eq workers.now.keys }
-    ensures { OnOk result (WithLines workers.now.keys (line.now ∷ []) numbers.old.items numbers.new.items) }
+    ensures { OnOk result ((workers : List (List ℕ)) → IsDistinct bytes_eq workers
+        → index ≡ position (bytes_eq line.now.worker) workers
+        → WithLines workers (line.now ∷ []) numbers.old.items numbers.new.items) }
 {
-    match workers.get_index_of(&line.worker) {
+    match index {
         Some(index) => add_number(numbers, index, line.number),
         None => Ok(()),
     }
+}
+
+/// The place of a line's worker among all, where that of the worker of the line before it is known. (Lines of one worker
+/// often follow each other.)
+fn place_of(
+    workers: &IndexSet<Name>,
+    last: Option<Name>,
+    index: Option<usize>,
+    worker: &Name,
+) -> Option<usize>
+    requires { IfSome last (λ w. index ≡ position (bytes_eq w) workers.now.keys) }
+    ensures { result ≡ position (bytes_eq worker.now) workers.now.keys }
+{
+    if last == Some(*worker) {
+        return index;
+    }
+    workers.get_index_of(worker)
 }
 
 /// Adds the number of each line of a phase to those of its worker.
@@ -147,11 +164,14 @@ fn number_phase(
     requires { IsDistinct bytes_eq workers.now.keys }
     ensures { OnOk result (WithLines workers.now.keys phase.now numbers.old.items numbers.new.items) }
 {
+    let (mut last, mut index) = (None, None);
     for place in 0..phase.len() {
         let Some(line) = phase.line(place) else {
             return Ok(());
         };
-        number_line(numbers, &line, workers)?;
+        index = place_of(workers, last, index, &line.worker);
+        last = Some(line.worker);
+        number_line(numbers, &line, index)?;
     }
     Ok(())
 }
@@ -205,16 +225,13 @@ pub fn parts_of(
     workers: &IndexSet<Name>,
 ) -> Result<Parts, AllocError> {
     let mut parts = BTreeMap::new(alloc);
-    let mut last = None;
-    let mut index = None;
+    let (mut last, mut index) = (None, None);
     for place in 0..phase.len() {
-        let worker = phase.worker(place);
-        if let Some(name) = worker {
-            if last != worker {
-                index = workers.get_index_of(&name);
-                last = worker;
-            }
-        }
+        let Some(worker) = phase.worker(place) else {
+            return Ok(parts);
+        };
+        index = place_of(workers, last, index, &worker);
+        last = Some(worker);
         if let Some(index) = index {
             add_line(&mut parts, alloc, index, place)?;
         }

@@ -1,7 +1,8 @@
 //! What the workers of a run asked, and what they were answered.
+use crate::answers::{Answer, Answers};
 use base::{NoMemory, ObjectId};
 use kernel_rules::Query;
-use std::alloc::{AllocError, Global};
+use std::alloc::Global;
 
 /// A query of a worker that was answered.
 #[derive(Clone, Copy)]
@@ -10,10 +11,8 @@ pub struct Asked {
     pub length: usize,
     /// What it asked.
     pub query: Query,
-    /// Where the reply begins among what is printed.
-    pub begin: usize,
-    /// Where it ends.
-    pub end: usize,
+    /// What it was answered.
+    pub answer: Answer,
 }
 
 /// The queries of a worker that were answered, in their order.
@@ -21,10 +20,8 @@ pub struct Asked {
 pub struct Reads {
     /// Its thread.
     pub thread: ObjectId,
-    /// The queries.
-    pub asked: Vec<Asked>,
-    /// The replies, as they are printed where no name is known, among others.
-    pub printed: Vec<u8>,
+    /// The queries, with what they were answered.
+    pub(crate) answers: Answers,
 }
 
 /// A read of a run.
@@ -40,21 +37,15 @@ pub struct SeenRead {
     pub text: Vec<u8>,
 }
 
-fn copied(alloc: Global, text: &[u8]) -> Result<Vec<u8>, AllocError> {
-    let mut copied = Vec::with_capacity(alloc, text.len())?;
-    copied.extend_from_slice(text)?;
-    Ok(copied)
-}
-
-/// Adds the reads of a worker.
-fn add_reads(alloc: Global, all: &mut Vec<SeenRead>, reads: &Reads) -> Result<(), AllocError> {
-    for asked in &reads.asked {
-        if let Some(text) = reads.printed.get(asked.begin..asked.end) {
+/// Adds the reads of a worker. The error is want of memory.
+fn add_reads(alloc: Global, all: &mut Vec<SeenRead>, reads: &Reads) -> Result<(), NoMemory> {
+    for asked in &reads.answers.asked {
+        if let Some(text) = reads.answers.text_of(alloc, &asked.answer)? {
             all.push(SeenRead {
                 thread: reads.thread,
                 length: asked.length,
                 query: asked.query,
-                text: copied(alloc, text)?,
+                text,
             })?;
         }
     }
