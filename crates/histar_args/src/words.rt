@@ -31,6 +31,10 @@ pub const DEFAULTS: Options = Options {
     checkpoint: 0,
 };
 
+/// What `./histar` has beside `run`, in programs of their own.
+const BESIDE: &str =
+    "Beside run: ./histar check SCRIPT tells what is wrong with a script, and ./histar try answers calls one by one";
+
 /// What the words say.
 #[derive(Clone, Copy)]
 pub struct Told<'a> {
@@ -105,6 +109,7 @@ fn command<'a>(alloc: Global) -> Result<Command<'a>, Error> {
     Ok(
         Command::new(alloc, "histar")
             .about("A kernel of labels, containers, segments, address spaces, threads and gates")
+            .after_help(BESIDE)
             .subcommand_required(true)
             .subcommand(run)?,
     )

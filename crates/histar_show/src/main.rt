@@ -8,18 +8,37 @@ use dot_text::dot_on;
 use json_text::json_on;
 use page_text::page_on;
 use program_io::{Counted, Fault, Sink, beside, put_file, tell_answer, words_of};
-use show_args::{Verb, read_words};
+use show_args::{Colours, Verb, read_words};
 use show_states::NAME;
 use show_text::why_on;
+use std::env::VarError;
 use std::fs::File;
-use std::io;
-use std::io::{Read, Write};
+use std::io::{IsTerminal, Read, Write};
 use std::process::ExitCode;
+use std::{env, io};
 use tree_text::tree_on;
 
 /// The object and the category of the flows that are asked for.
 fn flow_of(numbers: (u64, u64)) -> (ObjectId, Category) {
     (ObjectId::new(numbers.0), Category(numbers.1))
+}
+
+/// Whether `NO_COLOR` is set to something.
+fn is_plain_asked(rt: &HostRuntime) -> bool {
+    match env::var(rt, "NO_COLOR") {
+        Ok(value) => !value.is_empty(),
+        Err(VarError::NotPresent) => false,
+        Err(_) => true,
+    }
+}
+
+/// Whether a tree is in colours.
+fn is_coloured(rt: &HostRuntime, colours: Colours) -> bool {
+    match colours {
+        Colours::Auto => rt.stdout().is_terminal() && !is_plain_asked(rt),
+        Colours::Always => true,
+        Colours::Never => false,
+    }
 }
 
 /// Writes the page of the dump that a reader gives to a file. The answer is the status.
@@ -66,7 +85,8 @@ fn main(rt: HostRuntime) -> ExitCode {
     };
     let status = match told.verb {
         Verb::Why(line) => why_on(alloc, &mut dump, line, &mut out, &mut err),
-        Verb::Tree(after, is_coloured) => {
+        Verb::Tree { after, colours } => {
+            let is_coloured = is_coloured(&rt, colours);
             tree_on(alloc, &mut dump, after, is_coloured, &mut out, &mut err)
         }
         Verb::Json => json_on(alloc, &mut dump, &mut out, &mut err),

@@ -6,4 +6,4 @@
 
 mod words;
 
-pub use words::{Told, Verb, read_words};
+pub use words::{Colours, Told, Verb, read_words};

@@ -3,13 +3,29 @@ use clap::{Arg, ArgAction, ArgMatches, Command, Error, value_parser};
 use std::alloc::Global;
 use std::convert::AsStr;
 
+/// Whether a tree is in colours.
+#[derive(Clone, Copy, Debug, PartialEq, Eq)]
+pub enum Colours {
+    /// Where the output is a terminal and `NO_COLOR` isn't set to something.
+    Auto,
+    /// Always.
+    Always,
+    /// Never.
+    Never,
+}
+
 /// What is shown of a dump.
 #[derive(Clone, Copy, Debug, PartialEq, Eq)]
 pub enum Verb {
     /// Why the calls of a line are answered as they are, lines counting from 1; of the first false line where none is named.
     Why(Option<u64>),
-    /// The objects after so many events as a tree, after all where no count is told, and whether in colours.
-    Tree(Option<u64>, bool),
+    /// The objects as a tree.
+    Tree {
+        /// After how many events, after all where no count is told.
+        after: Option<u64>,
+        /// Whether in colours.
+        colours: Colours,
+    },
     /// The dump as JSON.
     Json,
     /// The objects as a graph, and which of them flows from an object outside a category reach, where they are asked for.
@@ -71,7 +87,7 @@ fn tree<'a>(alloc: Global) -> Result<Command<'a>, Error> {
         .action(ArgAction::Set)
         .value_parser(["auto", "always", "never"].as_slice())
         .help(
-            "Whether in colours; auto is never for the program alone, since it can't ask what its output is",
+            "Whether in colours; auto, which is the default, asks whether the output is a terminal and NO_COLOR is empty",
         );
     Ok(
         Command::new(alloc, "tree")
@@ -153,8 +169,12 @@ fn flow_of(words: &ArgMatches<'_>, from: &str) -> Option<(u64, u64)> {
 }
 
 /// Whether colours are asked for.
-fn is_coloured(words: &ArgMatches<'_>) -> bool {
-    words.get_str("color").unwrap_or("") == "always"
+fn colours_of(words: &ArgMatches<'_>) -> Colours {
+    match words.get_str("color").unwrap_or("") {
+        "always" => Colours::Always,
+        "never" => Colours::Never,
+        _ => Colours::Auto,
+    }
 }
 
 /// All words.
@@ -183,7 +203,10 @@ fn out_of<'a>(verb: Verb, words: &ArgMatches<'a>) -> Option<&'a str> {
 /// What is shown, by the name of the verb.
 fn verb_of(name: &str, words: &ArgMatches<'_>) -> Verb {
     match name {
-        "tree" => Verb::Tree(words.get_one::<u64>("after"), is_coloured(words)),
+        "tree" => Verb::Tree {
+            after: words.get_one::<u64>("after"),
+            colours: colours_of(words),
+        },
         "json" => Verb::Json,
         "dot" => Verb::Dot(flow_of(words, "flows")),
         "page" => Verb::Page(flow_of(words, "from")),

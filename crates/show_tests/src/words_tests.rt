@@ -1,5 +1,5 @@
 //! What the command line of the program takes and refuses.
-use show_args::{Verb, read_words};
+use show_args::{Colours, Verb, read_words};
 use std::test::Fail;
 
 #[test]
@@ -17,9 +17,17 @@ fn reads_the_dump_and_the_count(rt: HostRuntime) -> Result<(), Fail> {
         rt.alloc(),
         &["histar-show", "tree", "--after", "0", "a.dump"],
     )?;
-    assert!(rt; told.dump == "a.dump" && told.verb == Verb::Tree(Some(0), false));
+    let first = Verb::Tree {
+        after: Some(0),
+        colours: Colours::Auto,
+    };
+    assert!(rt; told.dump == "a.dump" && told.verb == first);
     let told = read_words(rt.alloc(), &["histar-show", "tree", "a.dump"])?;
-    assert!(rt; told.dump == "a.dump" && told.verb == Verb::Tree(None, false));
+    let last = Verb::Tree {
+        after: None,
+        colours: Colours::Auto,
+    };
+    assert!(rt; told.dump == "a.dump" && told.verb == last);
     let told = read_words(rt.alloc(), &["histar-show", "json", "a.dump"])?;
     assert!(rt; told.dump == "a.dump" && told.verb == Verb::Json);
     Ok(())
@@ -45,10 +53,18 @@ fn reads_the_dump_and_the_flows(rt: HostRuntime) -> Result<(), Fail> {
 
 #[test]
 fn reads_whether_in_colours(rt: HostRuntime) -> Result<(), Fail> {
-    for (when, is_coloured) in [("auto", false), ("always", true), ("never", false)] {
+    for (when, colours) in [
+        ("auto", Colours::Auto),
+        ("always", Colours::Always),
+        ("never", Colours::Never),
+    ] {
         let words = ["histar-show", "tree", "a.dump", "--color", when];
         let told = read_words(rt.alloc(), &words)?;
-        assert!(rt; told.verb == Verb::Tree(None, is_coloured), "{when}");
+        let asked = Verb::Tree {
+            after: None,
+            colours,
+        };
+        assert!(rt; told.verb == asked, "{when}");
     }
     Ok(())
 }
