@@ -1,8 +1,9 @@
 """Broken texts: scripts and dumps that are changed byte by byte and line by line, given to the real programs.
 
 Of each: no crash and no run past the limit; a script prints replies to its own lines, or one line with a fault at a line that
-it has; a dump gets one verdict, with a line that it has; standard error is empty, or that one line. The changes are drawn
-from a stated seed, so a run can be made again."""
+it has, and `check` tells that line; each line of it is answered in a dialogue; a dump gets one verdict, with a line that it has,
+and is shown or told to be none in each way; standard error is empty, or that one line. The changes are drawn from a stated seed,
+so a run can be made again."""
 import collections
 import glob
 import os
@@ -63,10 +64,10 @@ def changed(draw, text):
     return text
 
 
-def ran(words):
+def ran(words, lines=b""):
     """How a run ended: its status (None where it was still running at the limit), standard output, standard error."""
     try:
-        done = subprocess.run(words, stdin=subprocess.DEVNULL, capture_output=True, timeout=LIMIT)
+        done = subprocess.run(words, input=lines, capture_output=True, timeout=LIMIT)
     except subprocess.TimeoutExpired:
         return None, b"", b""
     return done.returncode, done.stdout, done.stderr
@@ -78,13 +79,29 @@ def has_line(text, number):
 
 
 def end_of_script(words, text):
-    """How a script ended, in a word, and whether it did so as it may."""
+    """How a script ended, in a word, whether it did so as it may, and the line at which it is faulty."""
     status, out, err = ran(words)
     if status == 0:
         numbers = [int(it) for it in re.findall(rb"^\S+ (\d+): .+$", out, re.M)]
-        return "played", err == b"" and len(numbers) == out.count(b"\n") and all(has_line(text, it) for it in numbers)
+        return "played", err == b"" and len(numbers) == out.count(b"\n") and all(has_line(text, it) for it in numbers), 0
     fault = re.fullmatch(rb"histar: line (\d+): script fault\n", err)
-    return "faulty", status == 1 and out == b"" and fault is not None and has_line(text, int(fault[1]))
+    line = int(fault[1]) if fault else 0
+    return "faulty", status == 1 and out == b"" and fault is not None and has_line(text, line), line
+
+
+def is_checked(words, line):
+    """Whether the faulty line of a script is told, or warnings where it has none."""
+    status, out, err = ran(words)
+    path = re.escape(words[-1].encode())
+    told = rb"%s:%d:\d+: error: .+\n" % (path, line) if line else rb"(%s:\d+: warning: .+\n)*" % path
+    return err == b"" and status == (1 if out else 0) and re.fullmatch(told, out) is not None
+
+
+def is_answered(words, text):
+    """Whether each line of a script is answered, but empty lines and those that end a phase."""
+    status, out, err = ran(words, text)
+    asked = [line for line in text.split(b"\n") if line not in (b"", b"--")]
+    return (status, err) == (0, b"") and len(asked) <= out.count(b"\n")
 
 
 def end_of_dump(words, text):
@@ -98,11 +115,13 @@ def end_of_dump(words, text):
     return verdict[1].decode(), status == (1 if verdict[1] == b"false" else 2) and has_line(text, int(verdict[2]))
 
 
-def is_shown(words, text, verdict):
-    """Whether something was shown of a dump, or one line tells why not: of a text that is no dump always the latter."""
+def is_shown(words, text, verdict, page=None):
+    """Whether something was shown of a dump, on a page where one is asked for, or one line tells why not: of a text that is no dump
+    always the latter."""
     status, out, err = ran(words)
     if status == 0:
-        return verdict != "unreadable" and err == b"" and out.endswith(b"\n")
+        shown = read(page) if page and out == b"" else out
+        return verdict != "unreadable" and err == b"" and shown.endswith(b"\n")
     if status == 1:
         return verdict == "false" and (out, err) == (b"", b"histar-show: false at line 3: the checkpoint can't be restored\n")
     fault = re.fullmatch(rb"histar-show: unreadable at line (\d+)\n", err)
@@ -143,14 +162,24 @@ class Trial:
         file = f"{room}/{self.number}"
         with open(file, "wb") as it:
             it.write(self.text)
-        ended = end_of_script([*self.histar, "run", file], self.text) if self.is_script else self.end_of_dump(file)
+        ended = self.end_of_script(file) if self.is_script else self.end_of_dump(file)
         os.remove(file)
         return ended
+
+    def end_of_script(self, file):
+        """How a script ended, and whether that, what is told of it and what its lines answer in a dialogue ended as they may."""
+        how, is_well, line = end_of_script([*self.histar, "run", file], self.text)
+        return how, is_well and is_checked([*self.histar, "check", file], line) and is_answered([*self.histar, "try"], self.text)
 
     def end_of_dump(self, file):
         """How the audit of a dump ended, and whether that and what is shown of it ended as they may."""
         verdict, is_well = end_of_dump([*self.auditor, file], self.text)
-        return verdict, is_well and all(is_shown([*self.show, verb, file], self.text, verdict) for verb in ("tree", "dot", "json"))
+        page = f"{file}.html"
+        return verdict, (
+            is_well
+            and all(is_shown([*self.show, verb, file], self.text, verdict) for verb in ("tree", "dot", "json"))
+            and is_shown([*self.show, "page", file, "--out", page], self.text, verdict, page)
+        )
 
 
 def fuzz(report, count, histar=("./histar",), auditor=("./histar-audit",), show=("./histar-show",)):
