@@ -43,7 +43,7 @@ abbrev pub pages_up : ℤ → ℕ
 pages_up (pos n) = n
 pages_up (negsuc n) = 0
 
--- by how many it goes down
+-- by how many pages a change of quota goes down
 abbrev pub pages_down : ℤ → ℕ
 pages_down (pos n) = 0
 pages_down (negsuc n) = n + 1
@@ -99,7 +99,7 @@ pub data Condition : Type 0 where
   NotHeld : Entry → Condition
   -- d does not list the object
   NotListed : Entry → Condition
-  -- nor is the entry that of the root in itself
+  -- d does not list the object, and the entry is not that of the root in itself
   NotLinked : Entry → Condition
   -- d lists o
   Listed : ℕ → ℕ → Condition
@@ -111,17 +111,17 @@ pub data Condition : Type 0 where
   OfKind : kind.Kind → ℕ → Condition
   -- the thread does not observe o
   NotObserved : ℕ → Condition
-  -- its label is not at most o's
+  -- the thread's label is not at most o's
   NotFlowing : ℕ → Condition
   -- o is a thread, whose label is not shown to the caller
   NotShown : ℕ → Condition
   -- x can't be stored, or has a category that nobody made
   BadLabel : RawLabel → Condition
-  -- x is such a label, or has a star
+  -- x can't be stored, has a category that nobody made, or has a star
   BadOrStarred : RawLabel → Condition
   -- x is not at least the thread's label
   BelowThread : RawLabel → Condition
-  -- x is not that, or is not at most its clearance
+  -- x is not at least the thread's label, or not at most its clearance
   OutOfRange : RawLabel → Condition
   -- the clearance y is not at least x, or not at most the thread's clearance
   OutOfClearance : RawLabel → RawLabel → Condition
@@ -145,7 +145,7 @@ pub data Condition : Type 0 where
   Immutable : ℕ → Condition
   -- o's quota never changes again
   Fixed : ℕ → Condition
-  -- it may change
+  -- o's quota may still change
   NotFixed : ℕ → Condition
   -- all ids were given
   IdsSpent : Condition
@@ -163,13 +163,13 @@ pub data Condition : Type 0 where
   SlotEmpty : ℕ → ℕ → Condition
   -- the address is in no mapping that the thread can use
   NotMapped : ℕ → Condition
-  -- or the mapping does not give this right
+  -- the address is in no mapping that the thread can use, or that mapping does not give this right
   NotAllowed : ℕ → (Rights → Bool) → Condition
   -- gate o does not let the thread in with this label, clearance and verify label
   NotAdmitted : ℕ → RawLabel → RawLabel → RawLabel → Condition
   -- four packets wait in device o
   QueueFull : ℕ → Condition
-  -- none waits
+  -- no packet waits in device o
   QueueEmpty : ℕ → Condition
   -- the test holds, and so does the condition
   When : Bool → Condition → Condition
@@ -185,7 +185,7 @@ module _ (s : State) (t : ℕ) where
   own_label =
       option_and_then (λ l. with_category l (record { 0 = s.next_category }) Star) (label_at s t)
 
-  -- its clearance with the next category at 3
+  -- the thread's clearance with the next category at 3
   abbrev pub own_clearance : Option LabelValue
   own_clearance =
       option_and_then (λ c. with_category c (record { 0 = s.next_category }) L3) (clearance_at s t)
