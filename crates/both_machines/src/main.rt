@@ -15,7 +15,7 @@ use crate::compared::{differing_step, put_steps};
 use crate::plain::{Played, play};
 use base::{Limits, NoMemory};
 use call_text::{Script, ScriptError, read_script};
-use histar_args::{DEFAULTS, read_words};
+use histar_args::{DEFAULTS, read_run_words};
 use program_io::{Counted, Fault, bytes_of, tell_answer, words_of};
 use std::alloc::Global;
 use std::fs::File;
@@ -118,7 +118,7 @@ fn main(rt: HostRuntime) -> ExitCode {
     if words.len() <= 1 {
         return ExitCode::from(ended(&rt, &mut rt.reader(), &DEFAULTS.limits));
     }
-    let told = match read_words(alloc, words.as_slice()) {
+    let told = match read_run_words(alloc, words.as_slice()) {
         Ok(told) => told,
         Err(answer) => return ExitCode::from(tell_answer(alloc, NAME, &answer, &mut out, &mut err)),
     };

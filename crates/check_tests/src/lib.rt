@@ -10,5 +10,3 @@ mod ends_tests;
 mod fault_tests;
 #[cfg(test)]
 mod warning_tests;
-#[cfg(test)]
-mod words_tests;

@@ -2,7 +2,7 @@
 //! default options.
 #![tactic(auto)]
 
-use histar_args::{DEFAULTS, Told, read_words};
+use histar_args::{DEFAULTS, Told, read_run_words};
 use program_io::{Counted, Fault, beside, put_file, tell_answer, words_of};
 use script_runner::{Ended, NAME, histar_on};
 use std::fs::File;
@@ -40,7 +40,7 @@ fn main(rt: HostRuntime) -> ExitCode {
         let ended = histar_on(&rt, alloc, &mut script, &DEFAULTS, &mut out, &mut err);
         return ExitCode::from(ended.status);
     }
-    let told = match read_words(alloc, words.as_slice()) {
+    let told = match read_run_words(alloc, words.as_slice()) {
         Ok(told) => told,
         Err(answer) => return ExitCode::from(tell_answer(alloc, NAME, &answer, &mut out, &mut err)),
     };

@@ -1,8 +1,8 @@
 //! `histar check SCRIPT`: what is wrong or doubtful in a script. Without words it checks its standard input.
 #![tactic(auto)]
 
-use check_args::read_words;
 use check_text::{NAME, check_on};
+use histar_args::read_check_words;
 use program_io::{Counted, Fault, tell_answer, words_of};
 use std::fs::File;
 use std::io;
@@ -20,7 +20,7 @@ fn main(rt: HostRuntime) -> ExitCode {
         let mut script = rt.reader();
         return ExitCode::from(check_on(alloc, "-", &mut script, &mut out, &mut err));
     }
-    let path = match read_words(alloc, words.as_slice()) {
+    let path = match read_check_words(alloc, words.as_slice()) {
         Ok(path) => path,
         Err(answer) => return ExitCode::from(tell_answer(alloc, NAME, &answer, &mut out, &mut err)),
     };

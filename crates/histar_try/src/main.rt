@@ -2,12 +2,11 @@
 //! input is a terminal. Without words it has the default limits.
 #![tactic(auto)]
 
-use histar_args::DEFAULTS;
+use histar_args::{DEFAULTS, read_try_words};
 use program_io::{Counted, Fault, tell_answer, words_of};
 use std::io;
 use std::io::IsTerminal;
 use std::process::ExitCode;
-use try_args::read_words;
 use try_text::{NAME, try_on};
 
 fn main(rt: HostRuntime) -> ExitCode {
@@ -20,7 +19,7 @@ fn main(rt: HostRuntime) -> ExitCode {
     };
     let mut limits = DEFAULTS.limits;
     if words.len() > 1 {
-        limits = match read_words(alloc, words.as_slice()) {
+        limits = match read_try_words(alloc, words.as_slice()) {
             Ok(limits) => limits,
             Err(answer) => {
                 return ExitCode::from(tell_answer(alloc, NAME, &answer, &mut out, &mut err));

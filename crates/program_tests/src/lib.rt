@@ -7,10 +7,14 @@
 pub fn programs_are_tested() {}
 
 #[cfg(test)]
-mod audit_args_tests;
+mod audit_words_tests;
 #[cfg(test)]
-mod histar_args_tests;
+mod check_words_tests;
 #[cfg(test)]
 mod program_io_tests;
 #[cfg(test)]
+mod run_words_tests;
+#[cfg(test)]
 mod sink_tests;
+#[cfg(test)]
+mod try_words_tests;

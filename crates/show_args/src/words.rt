@@ -1,6 +1,6 @@
 //! The command line of `histar-show`.
 use clap::{Arg, ArgAction, ArgMatches, Command, Error, value_parser};
-use std::alloc::Global;
+use std::alloc::{AllocError, Global};
 use std::convert::AsStr;
 
 /// Whether a tree is in colours.
@@ -57,54 +57,46 @@ fn dump<'a>(alloc: Global) -> Arg<'a> {
         .help("The dump to look at")
 }
 
-/// The words of `why`.
-fn why<'a>(alloc: Global) -> Result<Command<'a>, Error> {
-    let line = Arg::new(alloc, "LINE")
+/// The line of a call.
+fn line<'a>(alloc: Global) -> Arg<'a> {
+    Arg::new(alloc, "LINE")
         .action(ArgAction::Set)
         .help(
             "The line of a call, an event or a batch, from 1; the first false line where none is named",
         )
-        .value_parser(value_parser!(u64).range(1..9223372036854775807));
-    Ok(
-        Command::new(alloc, "why")
-            .about("Tells why a call of a dump is refused or accepted, condition by condition")
-            .arg(dump(alloc))?
-            .arg(line)?,
-    )
+        .value_parser(value_parser!(u64).range(1..9223372036854775807))
 }
 
-/// The words of `tree`.
-fn tree<'a>(alloc: Global) -> Result<Command<'a>, Error> {
-    let after = Arg::new(alloc, "after")
+/// After how many events a tree is.
+fn after<'a>(alloc: Global) -> Arg<'a> {
+    Arg::new(alloc, "after")
         .long("after")
         .value_name("N")
         .action(ArgAction::Set)
         .value_parser(value_parser!(u64))
-        .help("After how many events of the dump; after all where no count is told");
-    let color = Arg::new(alloc, "color")
+        .help("After how many events of the dump; after all where no count is told")
+}
+
+/// Whether a tree is in colours.
+fn color<'a>(alloc: Global) -> Arg<'a> {
+    Arg::new(alloc, "color")
         .long("color")
         .value_name("WHEN")
         .action(ArgAction::Set)
         .value_parser(["auto", "always", "never"].as_slice())
         .help(
             "Whether in colours; auto, which is the default, asks whether the output is a terminal and NO_COLOR is empty",
-        );
-    Ok(
-        Command::new(alloc, "tree")
-            .about("Shows the objects that a dump leads to as a tree")
-            .arg(dump(alloc))?
-            .arg(after)?
-            .arg(color)?,
-    )
+        )
 }
 
-/// The words of `json`.
-fn json<'a>(alloc: Global) -> Result<Command<'a>, Error> {
-    Ok(
-        Command::new(alloc, "json")
-            .about("Shows a dump as JSON, an object for each line")
-            .arg(dump(alloc))?,
-    )
+/// The file of a page.
+fn out<'a>(alloc: Global) -> Arg<'a> {
+    Arg::new(alloc, "out")
+        .long("out")
+        .value_name("FILE")
+        .required(true)
+        .action(ArgAction::Set)
+        .help("The file that the page is written to")
 }
 
 /// A number that another one has to stand beside.
@@ -113,51 +105,75 @@ fn number_beside<'a>(
     name: &'a str,
     value: &'a str,
     other: &'a str,
-) -> Result<Arg<'a>, Error> {
-    Ok(
-        Arg::new(alloc, name)
-            .long(name)
-            .value_name(value)
-            .action(ArgAction::Set)
-            .value_parser(value_parser!(u64))
-            .requires_arg(other)?,
-    )
+) -> Result<Arg<'a>, AllocError> {
+    Arg::new(alloc, name)
+        .long(name)
+        .value_name(value)
+        .action(ArgAction::Set)
+        .value_parser(value_parser!(u64))
+        .requires_arg(other)
+}
+
+/// The object that flows are from, and the category outside of which they are.
+fn with_flows<'a>(
+    alloc: Global,
+    command: Command<'a>,
+    from: &'a str,
+    help: &'a str,
+) -> Result<Command<'a>, AllocError> {
+    let object = number_beside(alloc, from, "ID", "category")?.help(help);
+    let category = number_beside(alloc, "category", "N", from)?.help(OUTSIDE);
+    command.arg(object)?.arg(category)
+}
+
+/// The words of `why`.
+fn why<'a>(alloc: Global) -> Result<Command<'a>, AllocError> {
+    Command::new(alloc, "why")
+        .about("Tells why a call of a dump is refused or accepted, condition by condition")
+        .arg(dump(alloc))?
+        .arg(line(alloc))
+}
+
+/// The words of `tree`.
+fn tree<'a>(alloc: Global) -> Result<Command<'a>, AllocError> {
+    Command::new(alloc, "tree")
+        .about("Shows the objects that a dump leads to as a tree")
+        .arg(dump(alloc))?
+        .arg(after(alloc))?
+        .arg(color(alloc))
+}
+
+/// The words of `json`.
+fn json<'a>(alloc: Global) -> Result<Command<'a>, AllocError> {
+    Command::new(alloc, "json")
+        .about("Shows a dump as JSON, an object for each line")
+        .arg(dump(alloc))
 }
 
 /// The words of `dot`.
-fn dot<'a>(alloc: Global) -> Result<Command<'a>, Error> {
-    let flows = number_beside(alloc, "flows", "ID", "category")?.help(
+fn dot<'a>(alloc: Global) -> Result<Command<'a>, AllocError> {
+    let dot = Command::new(alloc, "dot")
+        .about("Shows the objects that a dump leads to as a graph for Graphviz")
+        .arg(dump(alloc))?;
+    with_flows(
+        alloc,
+        dot,
+        "flows",
         "Of a clean dump, show in red which objects flows from this one reach",
-    );
-    let category = number_beside(alloc, "category", "N", "flows")?.help(OUTSIDE);
-    Ok(
-        Command::new(alloc, "dot")
-            .about("Shows the objects that a dump leads to as a graph for Graphviz")
-            .arg(dump(alloc))?
-            .arg(flows)?
-            .arg(category)?,
     )
 }
 
 /// The words of `page`.
-fn page<'a>(alloc: Global) -> Result<Command<'a>, Error> {
-    let out = Arg::new(alloc, "out")
-        .long("out")
-        .value_name("FILE")
-        .required(true)
-        .action(ArgAction::Set)
-        .help("The file that the page is written to");
-    let from = number_beside(alloc, "from", "ID", "category")?.help(
+fn page<'a>(alloc: Global) -> Result<Command<'a>, AllocError> {
+    let page = Command::new(alloc, "page")
+        .about("Writes a dump as a page of HTML, with the tree after each event")
+        .arg(dump(alloc))?
+        .arg(out(alloc))?;
+    with_flows(
+        alloc,
+        page,
+        "from",
         "Of a clean dump, mark which objects flows from this one reach",
-    );
-    let category = number_beside(alloc, "category", "N", "from")?.help(OUTSIDE);
-    Ok(
-        Command::new(alloc, "page")
-            .about("Writes a dump as a page of HTML, with the tree after each event")
-            .arg(dump(alloc))?
-            .arg(out)?
-            .arg(from)?
-            .arg(category)?,
     )
 }
 
@@ -177,19 +193,25 @@ fn colours_of(words: &ArgMatches<'_>) -> Colours {
     }
 }
 
+/// The words with those of a verb.
+fn with_verb<'a>(
+    all: Command<'a>,
+    verb: Result<Command<'a>, AllocError>,
+) -> Result<Command<'a>, AllocError> {
+    all.subcommand(verb?)
+}
+
 /// All words.
-fn command<'a>(alloc: Global) -> Result<Command<'a>, Error> {
-    Ok(
-        Command::new(alloc, "histar-show")
-            .bin_name("histar-show")?
-            .about("Shows what a dump tells")
-            .subcommand_required(true)
-            .subcommand(why(alloc)?)?
-            .subcommand(tree(alloc)?)?
-            .subcommand(json(alloc)?)?
-            .subcommand(dot(alloc)?)?
-            .subcommand(page(alloc)?)?,
-    )
+fn command<'a>(alloc: Global) -> Result<Command<'a>, AllocError> {
+    let all = Command::new(alloc, "histar-show")
+        .bin_name("histar-show")?
+        .about("Shows what a dump tells")
+        .subcommand_required(true);
+    let all = with_verb(all, why(alloc))?;
+    let all = with_verb(all, tree(alloc))?;
+    let all = with_verb(all, json(alloc))?;
+    let all = with_verb(all, dot(alloc))?;
+    with_verb(all, page(alloc))
 }
 
 /// The path of the page, where one is written.

@@ -8,5 +8,3 @@ pub fn dialogues_are_tested() {}
 mod dialogue_tests;
 #[cfg(test)]
 mod program_tests;
-#[cfg(test)]
-mod words_tests;

@@ -1,9 +1,10 @@
-//! The command line of `histar`.
+//! The command line of `histar run`.
 ghost use Rattle.std.specs.Prelude.{◌≡◌, IfOk, is_some};
 
+use crate::args::{number, pages, pages_of, script};
 use base::{Level, Limits};
 use clap::{Arg, ArgAction, ArgMatches, Command, Error, value_parser};
-use std::alloc::Global;
+use std::alloc::{AllocError, Global};
 use std::convert::AsStr;
 
 /// How a script is played.
@@ -46,14 +47,6 @@ pub struct Told<'a> {
     pub dump: Option<&'a str>,
 }
 
-fn number<'a>(alloc: Global, name: &'a str, default: &'a str, help: &'a str) -> Arg<'a> {
-    Arg::new(alloc, name)
-        .long(name)
-        .value_name("N")
-        .default_value(default)
-        .help(help)
-}
-
 fn dump<'a>(alloc: Global) -> Arg<'a> {
     Arg::new(alloc, "dump")
         .long("dump")
@@ -72,47 +65,49 @@ fn checkpoint<'a>(alloc: Global) -> Arg<'a> {
     .value_parser(value_parser!(u64).range(0..4294967296))
 }
 
-fn command<'a>(alloc: Global) -> Result<Command<'a>, Error> {
-    let script = Arg::new(alloc, "SCRIPT")
-        .required(true)
-        .action(ArgAction::Set)
-        .help("The script to play");
-    let pages = number(
-        alloc,
-        "pages",
-        "64",
-        "The quota of the root, in pages of 256 bytes",
-    )
-    .value_parser(value_parser!(u64).range(8..1025));
-    let device = number(alloc, "device", "1", "The level of the device's label")
+fn device<'a>(alloc: Global) -> Arg<'a> {
+    number(alloc, "device", "1", "The level of the device's label")
         .value_name("L")
-        .value_parser(value_parser!(u64).range(0..4));
-    let next_id = number(alloc, "next-id", "4", "The first id that a call gives").value_parser(
-        value_parser!(u64).range(4..2305843009213693953),
-    );
-    let next_category = number(
+        .value_parser(value_parser!(u64).range(0..4))
+}
+
+fn next_id<'a>(alloc: Global) -> Arg<'a> {
+    number(alloc, "next-id", "4", "The first id that a call gives").value_parser(value_parser!(
+        u64
+    ).range(4..2305843009213693953))
+}
+
+fn next_category<'a>(alloc: Global) -> Arg<'a> {
+    number(
         alloc,
         "next-category",
         "1",
         "The first category that a call gives",
     )
-    .value_parser(value_parser!(u64).range(1..2305843009213693953));
-    let run = Command::new(alloc, "run")
+    .value_parser(value_parser!(u64).range(1..2305843009213693953))
+}
+
+/// The words of `run`.
+fn run<'a>(alloc: Global) -> Result<Command<'a>, AllocError> {
+    Command::new(alloc, "run")
         .about("Plays a script on a newly booted kernel, and prints its replies")
-        .arg(script)?
-        .arg(pages)?
-        .arg(device)?
-        .arg(next_id)?
-        .arg(next_category)?
+        .arg(script(alloc, "The script to play"))?
+        .arg(pages(alloc))?
+        .arg(device(alloc))?
+        .arg(next_id(alloc))?
+        .arg(next_category(alloc))?
         .arg(dump(alloc))?
-        .arg(checkpoint(alloc))?;
-    Ok(
-        Command::new(alloc, "histar")
-            .about("A kernel of labels, containers, segments, address spaces, threads and gates")
-            .after_help(BESIDE)
-            .subcommand_required(true)
-            .subcommand(run)?,
-    )
+        .arg(checkpoint(alloc))
+}
+
+/// All words.
+fn command<'a>(alloc: Global) -> Result<Command<'a>, AllocError> {
+    let run = run(alloc)?;
+    Command::new(alloc, "histar")
+        .about("A kernel of labels, containers, segments, address spaces, threads and gates")
+        .after_help(BESIDE)
+        .subcommand_required(true)
+        .subcommand(run)
 }
 
 fn level_of(number: u64) -> Level {
@@ -125,9 +120,8 @@ fn level_of(number: u64) -> Level {
 }
 
 fn limits_of(run: &ArgMatches<'_>) -> Limits {
-    let pages = run.get_one::<u64>("pages").unwrap_or(64);
     Limits {
-        pages: u32::try_from(pages).unwrap_or(64),
+        pages: pages_of(run),
         device: level_of(run.get_one::<u64>("device").unwrap_or(1)),
         next_id: run.get_one::<u64>("next-id").unwrap_or(4),
         next_category: run.get_one::<u64>("next-category").unwrap_or(1),
@@ -141,7 +135,7 @@ fn checkpoint_of(run: &ArgMatches<'_>) -> u32 {
 
 /// What the words say, the first of them being the program's name, or what `clap` answers to them: help, a fault of
 /// usage, or want of memory.
-pub fn read_words<'a, S: AsStr>(alloc: Global, words: &'a [S]) -> Result<Told<'a>, Error>
+pub fn read_run_words<'a, S: AsStr>(alloc: Global, words: &'a [S]) -> Result<Told<'a>, Error>
     ensures { IfOk result (λ told. told.options.dump ≡ is_some told.dump) }
 {
     let matches = command(alloc)?.try_get_matches_from(words)?;

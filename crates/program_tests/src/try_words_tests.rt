@@ -1,14 +1,14 @@
-//! Which words the program takes.
+//! What the command line of `histar try` takes and refuses.
 use base::Limits;
 use clap::error::ErrorKind;
+use histar_args::read_try_words;
 use std::alloc::Global;
 use std::test::Fail;
 use test_support::is_true;
-use try_args::read_words;
 
 /// How many pages these words tell, 0 where they are not taken.
 fn pages(alloc: Global, words: &[&str]) -> u32 {
-    match read_words(alloc, words) {
+    match read_try_words(alloc, words) {
         Ok(Limits { pages, .. }) => pages,
         Err(_) => 0,
     }
@@ -27,7 +27,7 @@ fn pages_are_taken_in_their_range(rt: HostRuntime) -> Result<(), Fail> {
 #[test]
 fn help_is_told(rt: HostRuntime) -> Result<(), Fail> {
     let alloc = rt.alloc();
-    let is_help = match read_words(alloc, &["histar", "try", "--help"]) {
+    let is_help = match read_try_words(alloc, &["histar", "try", "--help"]) {
         Ok(_) => false,
         Err(answer) => answer.kind() == ErrorKind::DisplayHelp,
     };

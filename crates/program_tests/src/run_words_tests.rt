@@ -1,14 +1,14 @@
-//! What the command line of the program takes and refuses.
+//! What the command line of `histar run` takes and refuses.
 use base::{Level, Limits};
 use clap::error::ErrorKind;
-use histar_args::{DEFAULTS, read_words};
+use histar_args::{DEFAULTS, read_run_words};
 use std::alloc::Global;
 use std::test::Fail;
 
 #[test]
 fn reads_the_options(rt: HostRuntime) -> Result<(), Fail> {
     let words = ["histar", "run", "a.histar"];
-    let told = read_words(rt.alloc(), words.as_slice())?;
+    let told = read_run_words(rt.alloc(), words.as_slice())?;
     assert!(rt; told.script == "a.histar" && told.options == DEFAULTS && told.dump.is_none());
     let words = [
         "histar",
@@ -23,7 +23,7 @@ fn reads_the_options(rt: HostRuntime) -> Result<(), Fail> {
         "--next-category",
         "2305843009213693951",
     ];
-    let told = read_words(rt.alloc(), words.as_slice())?;
+    let told = read_run_words(rt.alloc(), words.as_slice())?;
     let spent = 1u64 << 61;
     let limits = Limits {
         pages: 1024,
@@ -45,7 +45,7 @@ fn reads_the_options(rt: HostRuntime) -> Result<(), Fail> {
         "1",
         "b",
     ];
-    let told = read_words(rt.alloc(), words.as_slice())?;
+    let told = read_run_words(rt.alloc(), words.as_slice())?;
     let limits = Limits {
         pages: 8,
         device: Level::L0,
@@ -59,11 +59,11 @@ fn reads_the_options(rt: HostRuntime) -> Result<(), Fail> {
 #[test]
 fn reads_the_path_of_the_dump(rt: HostRuntime) -> Result<(), Fail> {
     let words = ["histar", "run", "--dump", "a.dump", "a.histar"];
-    let told = read_words(rt.alloc(), words.as_slice())?;
+    let told = read_run_words(rt.alloc(), words.as_slice())?;
     assert!(rt; told.script == "a.histar" && told.dump == Some("a.dump"));
     assert!(rt; told.options.limits == DEFAULTS.limits && told.options.dump);
     let words = ["histar", "run", "a.histar", "--dump=d", "--pages", "8"];
-    let told = read_words(rt.alloc(), words.as_slice())?;
+    let told = read_run_words(rt.alloc(), words.as_slice())?;
     assert!(rt; told.script == "a.histar" && told.dump == Some("d"));
     assert!(rt; told.options.limits.pages == 8 && told.options.dump);
     Ok(())
@@ -72,14 +72,14 @@ fn reads_the_path_of_the_dump(rt: HostRuntime) -> Result<(), Fail> {
 #[test]
 fn reads_the_checkpoint(rt: HostRuntime) -> Result<(), Fail> {
     let words = ["histar", "run", "a.histar", "--checkpoint", "4294967295"];
-    let told = read_words(rt.alloc(), words.as_slice())?;
+    let told = read_run_words(rt.alloc(), words.as_slice())?;
     assert_eq!(rt; told.options.checkpoint, u32::MAX);
     assert!(rt; told.options.limits == DEFAULTS.limits && !told.options.dump);
     let words = ["histar", "run", "--checkpoint=3", "a.histar", "--dump", "d"];
-    let told = read_words(rt.alloc(), words.as_slice())?;
+    let told = read_run_words(rt.alloc(), words.as_slice())?;
     assert!(rt; told.options.checkpoint == 3 && told.options.dump && told.script == "a.histar");
     let words = ["histar", "run", "a.histar", "--dump", "d"];
-    let told = read_words(rt.alloc(), words.as_slice())?;
+    let told = read_run_words(rt.alloc(), words.as_slice())?;
     assert_eq!(rt; told.options.checkpoint, 0);
     Ok(())
 }
@@ -92,7 +92,7 @@ fn refuses_a_dump_without_a_path_or_twice(rt: HostRuntime) -> Result<(), Fail> {
         &["histar", "run", "a.histar", "--dump", "d", "--dump", "d"],
     ];
     for words in unread {
-        match read_words(rt.alloc(), words) {
+        match read_run_words(rt.alloc(), words) {
             Ok(_) => assert!(rt; false, "{words:?}"),
             Err(error) => assert!(rt; error.exit_code() == 2 && error.use_stderr(), "{words:?}"),
         }
@@ -118,7 +118,7 @@ fn refuses_what_is_out_of_range(rt: HostRuntime) -> Result<(), Fail> {
     ];
     for case in cases {
         let words = ["histar", "run", "a.histar", case[0], case[1]];
-        match read_words(rt.alloc(), words.as_slice()) {
+        match read_run_words(rt.alloc(), words.as_slice()) {
             Ok(_) => assert!(rt; false, "{case:?}"),
             Err(error) => assert!(rt; error.exit_code() == 2 && error.use_stderr(), "{case:?}"),
         }
@@ -129,7 +129,7 @@ fn refuses_what_is_out_of_range(rt: HostRuntime) -> Result<(), Fail> {
 #[test]
 fn tells_what_is_wrong(rt: HostRuntime) -> Result<(), Fail> {
     let words = ["histar", "run", "a.histar", "--pages", "7"];
-    match read_words(rt.alloc(), words.as_slice()) {
+    match read_run_words(rt.alloc(), words.as_slice()) {
         Ok(_) => assert!(rt; false),
         Err(error) => {
             let text = format!(in rt.alloc(); "{error}")?;
@@ -140,12 +140,12 @@ fn tells_what_is_wrong(rt: HostRuntime) -> Result<(), Fail> {
         }
     }
     let words = ["histar", "--help"];
-    match read_words(rt.alloc(), words.as_slice()) {
+    match read_run_words(rt.alloc(), words.as_slice()) {
         Ok(_) => assert!(rt; false),
         Err(error) => assert!(rt; error.exit_code() == 0 && !error.use_stderr()),
     }
     let words = ["histar"];
-    match read_words(rt.alloc(), words.as_slice()) {
+    match read_run_words(rt.alloc(), words.as_slice()) {
         Ok(_) => assert!(rt; false),
         Err(error) => assert!(rt; error.exit_code() == 2),
     }
@@ -157,7 +157,7 @@ fn paths_of<'a>(
     alloc: Global,
     words: &'a [&'a str],
 ) -> Result<Option<(&'a str, Option<&'a str>)>, Fail> {
-    match read_words(alloc, words) {
+    match read_run_words(alloc, words) {
         Ok(told) => Ok(Some((told.script, told.dump))),
         Err(error) if error.kind() == ErrorKind::OutOfMemory => Ok(None),
         Err(_) => Err(Fail::from("a fault of usage")),

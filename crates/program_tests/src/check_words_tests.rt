@@ -1,11 +1,11 @@
 //! What the command line of `histar check` takes and refuses.
-use check_args::read_words;
+use histar_args::read_check_words;
 use std::test::Fail;
 
 #[test]
 fn reads_the_path_of_the_script(rt: HostRuntime) -> Result<(), Fail> {
     let words = ["histar", "check", "a.histar"];
-    assert!(rt; read_words(rt.alloc(), words.as_slice())? == "a.histar");
+    assert!(rt; read_check_words(rt.alloc(), words.as_slice())? == "a.histar");
     Ok(())
 }
 
@@ -18,7 +18,7 @@ fn refuses_other_words(rt: HostRuntime) -> Result<(), Fail> {
         &["histar", "run", "a.histar"],
     ];
     for words in unread {
-        match read_words(rt.alloc(), words) {
+        match read_check_words(rt.alloc(), words) {
             Ok(_) => assert!(rt; false, "{words:?}"),
             Err(error) => assert!(rt; error.exit_code() == 2 && error.use_stderr(), "{words:?}"),
         }
