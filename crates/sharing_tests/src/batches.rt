@@ -157,6 +157,17 @@ fn is_moved<B: Naming, R: Wait>(rt: &R, boot: &mut Seat<'_, B>, calls: &[Call]) 
     }
 }
 
+/// Whether each of all batches was done.
+fn are_moved<B: Naming, R: Wait>(rt: &R, boot: &mut Seat<'_, B>, calls: &[Call]) -> bool {
+    let mut all = true;
+    for _ in 0..BATCHES {
+        if !is_moved(rt, boot, calls) {
+            all = false;
+        }
+    }
+    all
+}
+
 /// A seat reads in a thread of its own while the boot thread's seat submits batches. False where it can't be started or a
 /// batch is not done.
 fn watch_batches<'s, B: Naming + Send, R: Threads + Wait + Sync>(
@@ -166,13 +177,8 @@ fn watch_batches<'s, B: Naming + Send, R: Threads + Wait + Sync>(
     watcher: &Mutex<Watcher<'s, B>>,
 ) -> bool {
     thread::scope(thread::scope_env(), rt, |scope| {
-        let mut all = scope.spawn(move || watch(rt, watcher)).is_ok();
-        for _ in 0..BATCHES {
-            if !is_moved(rt, boot, calls) {
-                all = false;
-            }
-        }
-        all
+        let is_watched = scope.spawn(move || watch(rt, watcher)).is_ok();
+        are_moved(rt, boot, calls) && is_watched
     })
 }
 

@@ -32,16 +32,29 @@ fn is_shown_in_place<B: Naming>(seat: &mut Seat<'_, B>) -> bool {
     seat.read_into(&Query::SelfGet, &mut reply).is_ok() && matches!(reply, Reply::Own { .. })
 }
 
+/// Whether thread 4 has a seat already, and thread 5 has none left.
+fn are_taken<B: Naming, R: Wait>(rt: &R, shared: &Shared<B>) -> bool {
+    is_refused(rt, shared, ObjectId::new(5), 43) && is_refused(rt, shared, ObjectId::new(4), 41)
+}
+
+/// The boot thread makes threads 4 and 5, and thread 4 gets the second seat.
+fn fill_two_by<B: Naming, R: Wait + Abort>(
+    rt: &R,
+    shared: &Shared<B>,
+    seat: &mut Seat<'_, B>,
+) -> Result<(), Fail> {
+    assert!(rt; makes(rt, seat, &new_thread(), 4, 1));
+    assert!(rt; makes(rt, seat, &new_thread(), 5, 2));
+    let mut other = seated(rt, shared, ObjectId::new(4))?;
+    assert!(rt; are_taken(rt, shared));
+    assert!(rt; is_shown_in_place(seat) && is_shown_in_place(&mut other));
+    Ok(())
+}
+
 /// The boot thread and thread 4 have the two seats, so thread 5 has none.
 pub fn fill_two_at<B: Naming, R: Wait + Abort>(rt: &R, shared: &Shared<B>) -> Result<(), Fail> {
     let mut seat = seated(rt, shared, boot_thread())?;
-    assert!(rt; makes(rt, &mut seat, &new_thread(), 4, 1));
-    assert!(rt; makes(rt, &mut seat, &new_thread(), 5, 2));
-    let mut other = seated(rt, shared, ObjectId::new(4))?;
-    assert!(rt; is_refused(rt, shared, ObjectId::new(5), 43));
-    assert!(rt; is_refused(rt, shared, ObjectId::new(4), 41));
-    assert!(rt; is_shown_in_place(&mut seat) && is_shown_in_place(&mut other));
-    Ok(())
+    fill_two_by(rt, shared, &mut seat)
 }
 
 #[test]

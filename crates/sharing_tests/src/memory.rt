@@ -111,18 +111,29 @@ fn make_segments<B: Naming, R: Wait + Abort>(
     Ok(())
 }
 
-// A thread and a seat for it, which makes a segment that the first seat learns of.
+// A seat makes a segment that another one learns of.
+fn make_for_another<B: Naming, R: Wait + Abort>(
+    rt: &R,
+    shared: &Shared<B>,
+    seat: &mut Seat<'_, B>,
+    other: &mut Seat<'_, B>,
+) {
+    assert!(rt; is_shown_own(other));
+    assert!(rt; is_submitted(rt, shared, other, &open_segment(), 14, 1, 11));
+    seat.learn(&other.note());
+    assert!(rt; is_one_page(seat, 14));
+}
+
+// Nine segments, and a thread and a seat for it, which makes a segment that the first seat learns of.
 fn make_another_seat<B: Naming, R: Wait + Abort>(
     rt: &R,
     shared: &Shared<B>,
     seat: &mut Seat<'_, B>,
 ) -> Result<(), Fail> {
+    make_segments(rt, shared, seat)?;
     assert!(rt; is_submitted(rt, shared, seat, &new_thread(), 13, 10, 10));
     let mut other = seated(rt, shared, ObjectId::new(13))?;
-    assert!(rt; is_shown_own(&mut other));
-    assert!(rt; is_submitted(rt, shared, &mut other, &open_segment(), 14, 1, 11));
-    seat.learn(&other.note());
-    assert!(rt; is_one_page(seat, 14));
+    make_for_another(rt, shared, seat, &mut other);
     Ok(())
 }
 
@@ -143,7 +154,6 @@ fn make_under_book<B: Naming, R: Wait + Abort>(
 /// Each read is answered, also after a call that found no memory and a seat that was opened then.
 pub fn want_memory_at<B: Naming, R: Wait + Abort>(rt: &R, shared: &Shared<B>) -> Result<(), Fail> {
     let mut seat = seated(rt, shared, boot_thread())?;
-    make_segments(rt, shared, &mut seat)?;
     make_another_seat(rt, shared, &mut seat)?;
     make_under_book(rt, shared, passed(seat))
 }
@@ -208,13 +218,23 @@ fn want_of_memory_changes_nothing(rt: HostRuntime) -> Result<(), Fail> {
     play(&rt, rt.alloc(), Case::WantedMemory)
 }
 
+// A call finds no memory, and then a seat is opened, which reads all the same.
+fn open_after_by<B: Naming, R: Wait + Abort>(
+    rt: &R,
+    shared: &Shared<B>,
+    boot: &mut Seat<'_, B>,
+) -> Result<(), Fail> {
+    assert!(rt; is_submitted(rt, shared, boot, &new_thread(), 4, 1, 1));
+    let _ = submitted(rt, boot, &Call::CatCreate);
+    let mut other = seated(rt, shared, ObjectId::new(4))?;
+    assert!(rt; is_shown_own(&mut other));
+    Ok(())
+}
+
 /// A first call finds no memory, and then a seat is opened, which reads all the same.
 pub fn open_after_at<B: Naming, R: Wait + Abort>(rt: &R, shared: &Shared<B>) -> Result<(), Fail> {
     let mut boot = seated(rt, shared, boot_thread())?;
-    assert!(rt; is_submitted(rt, shared, &mut boot, &new_thread(), 4, 1, 1));
-    let _ = submitted(rt, &mut boot, &Call::CatCreate);
-    let mut other = seated(rt, shared, ObjectId::new(4))?;
-    assert!(rt; is_shown_own(&mut other));
+    open_after_by(rt, shared, &mut boot)?;
     assert!(rt; is_shown_own(&mut boot));
     Ok(())
 }

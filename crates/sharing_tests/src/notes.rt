@@ -80,16 +80,28 @@ fn who_learns_a_note_reads_what_it_has(rt: HostRuntime) -> Result<(), Fail> {
 fn hand_on_to<B: Naming, R: Wait + Abort>(
     rt: &R,
     boot: &mut Seat<'_, B>,
-    mut one: Seat<'_, B>,
-    mut other: Seat<'_, B>,
+    one: &mut Seat<'_, B>,
+    other: &mut Seat<'_, B>,
 ) -> Result<(), Fail> {
     let early = boot.note();
     submitted(rt, boot, &open_segment())?;
-    assert!(rt; length_of_read(&mut one, 6) == Some(3));
+    assert!(rt; length_of_read(one, 6) == Some(3));
     other.learn(&one.note());
-    assert!(rt; is_at(&passed(other), 1, 2));
     one.learn(&boot.note());
     one.learn(&early);
+    Ok(())
+}
+
+/// The seats of the threads that were made, between which notes are handed on.
+fn hand_on_by<B: Naming, R: Wait + Abort>(
+    rt: &R,
+    shared: &Shared<B>,
+    boot: &mut Seat<'_, B>,
+) -> Result<(), Fail> {
+    let mut one = seated(rt, shared, ObjectId::new(4))?;
+    let mut other = seated(rt, shared, ObjectId::new(5))?;
+    hand_on_to(rt, boot, &mut one, &mut other)?;
+    assert!(rt; is_at(&passed(other), 1, 2));
     assert!(rt; is_at(&passed(one), 1, 3));
     Ok(())
 }
@@ -105,9 +117,7 @@ fn make_threads<B: Naming, R: Wait>(rt: &R, boot: &mut Seat<'_, B>) -> Result<()
 pub fn hand_on_at<B: Naming, R: Wait + Abort>(rt: &R, shared: &Shared<B>) -> Result<(), Fail> {
     let mut boot = seated(rt, shared, boot_thread())?;
     make_threads(rt, &mut boot)?;
-    let one = seated(rt, shared, ObjectId::new(4))?;
-    let other = seated(rt, shared, ObjectId::new(5))?;
-    hand_on_to(rt, &mut boot, one, other)
+    hand_on_by(rt, shared, &mut boot)
 }
 
 #[test]

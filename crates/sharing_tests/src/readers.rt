@@ -63,6 +63,17 @@ fn is_written<B: Naming, R: Wait>(rt: &R, boot: &mut Seat<'_, B>, byte: u8) -> b
     }
 }
 
+/// Whether 1, 2 and on are written.
+fn are_written<B: Naming, R: Wait>(rt: &R, boot: &mut Seat<'_, B>) -> bool {
+    let mut all = true;
+    for byte in 1..=WRITES {
+        if !is_written(rt, boot, byte) {
+            all = false;
+        }
+    }
+    all
+}
+
 /// Each reader reads in a thread of its own while the boot thread's seat writes 1, 2 and on. False
 /// where a thread can't be started or a write is not done.
 fn read_while_writing<'s, B: Naming + Send, R: Threads + Wait + Sync>(
@@ -77,12 +88,7 @@ fn read_while_writing<'s, B: Naming + Send, R: Threads + Wait + Sync>(
                 all = false;
             }
         }
-        for byte in 1..=WRITES {
-            if !is_written(rt, boot, byte) {
-                all = false;
-            }
-        }
-        all
+        are_written(rt, boot) && all
     })
 }
 
@@ -120,6 +126,18 @@ fn byte_after(
     }
 }
 
+/// What a thread is answered by a newly booted plain kernel that makes the first events, so many.
+fn replayed(
+    alloc: Global,
+    meter: &mut Meter,
+    events: &[Event],
+    length: u64,
+    thread: ObjectId,
+) -> Result<Option<u8>, Fail> {
+    let mut kernel = PlainKernel::boot(alloc, &MOST_PAGES)?;
+    Ok(byte_after(&mut kernel, meter, events, length, thread))
+}
+
 /// Whether what a reader read last is what a plain kernel answers after as many events as the
 /// reader has seen.
 fn is_replayed<B: Naming, R: Wait>(
@@ -133,8 +151,7 @@ fn is_replayed<B: Naming, R: Wait>(
     let (length, thread) = (pass.length(), pass.thread());
     let mut meter = Meter::new(alloc)?;
     let events = events_of(alloc, shared.book(rt).events())?;
-    let mut kernel = PlainKernel::boot(alloc, &MOST_PAGES)?;
-    let byte = byte_after(&mut kernel, &mut meter, events.as_slice(), length, thread);
+    let byte = replayed(alloc, &mut meter, events.as_slice(), length, thread)?;
     Ok(last.is_some() && byte == last)
 }
 
@@ -226,6 +243,8 @@ fn read_while_lent_by<B: Naming + Send, R: Threads + Wait + Sync + Abort>(
     shared: &Shared<B>,
     boot: &mut Seat<'_, B>,
 ) -> Result<(), Fail> {
+    make_two(rt, boot)?;
+    write_a(rt, boot)?;
     let reader = Mutex::new(seated(rt, shared, ObjectId::new(4))?);
     let book = shared.book(rt);
     assert!(rt; read_there(rt, &reader) == Some(b'A'));
@@ -246,8 +265,6 @@ pub fn read_while_lent_at<B: Naming + Send, R: Threads + Wait + Sync + Abort>(
     shared: &Shared<B>,
 ) -> Result<(), Fail> {
     let mut boot = seated(rt, shared, boot_thread())?;
-    make_two(rt, &mut boot)?;
-    write_a(rt, &mut boot)?;
     read_while_lent_by(rt, shared, &mut boot)
 }
 

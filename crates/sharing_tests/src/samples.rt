@@ -93,9 +93,9 @@ pub fn is_refused<B: Naming, R: Wait>(
     thread: ObjectId,
     number: u8,
 ) -> bool {
-    match shared.open_seat(rt, thread) {
-        Ok(_) => false,
-        Err(refusal) => refusal.refusal().number() == number,
+    match shared.open_seat(rt, thread).err() {
+        Some(refusal) => refusal.refusal().number() == number,
+        None => false,
     }
 }
 

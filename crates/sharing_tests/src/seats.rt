@@ -89,11 +89,23 @@ fn are_three(events: &[KeptEvent]) -> bool {
     }
 }
 
+// A call under a book that is lent for it.
+fn commit_one<B: Naming, R: Wait>(
+    rt: &R,
+    shared: &Shared<B>,
+    pass: &mut Pass<B>,
+    call: &Call,
+) -> Result<(), SubmitRefusal> {
+    let mut book = shared.book(rt);
+    committed(rt, &mut book, pass, call)?;
+    Ok(())
+}
+
 // Two calls under lent books, by the pass of the boot thread's seat.
 fn commit_two<B: Naming, R: Wait>(rt: &R, shared: &Shared<B>) -> Result<(), Fail> {
     let mut pass = passed(seated(rt, shared, boot_thread())?);
-    committed(rt, &mut shared.book(rt), &mut pass, &open_segment())?;
-    committed(rt, &mut shared.book(rt), &mut pass, &new_thread())?;
+    commit_one(rt, shared, &mut pass, &open_segment())?;
+    commit_one(rt, shared, &mut pass, &new_thread())?;
     Ok(())
 }
 

@@ -104,10 +104,7 @@ fn is_out_of_range<B: Naming>(alloc: Global, limits: &Limits, seats: usize) -> b
     requires limits { limits.now ≡ B.boot.limits }
     requires seats { seats ≡ B.boot.seats }
 {
-    matches!(
-        SoleBook::<B>::boot(alloc, limits, seats),
-        Err(BootRefusal::BadLimits)
-    )
+    SoleBook::<B>::boot(alloc, limits, seats).err() == Some(BootRefusal::BadLimits)
 }
 
 #[test]
