@@ -18,7 +18,9 @@ from gate.times import Times
 from gate.toolchain import FLAGS, library_task, toolchain
 
 HEAD = re.compile(r"^([ \t]*)(?:pub(?:\([^)]*\))?\s+)?(?:const\s+|unsafe\s+)*fn\s+(\w+)", re.M)
-PLACE = re.compile(r"(?:note: )?(?:\./)?(\S+?):(\d+):\d+: ")
+# (Of a proof that rattle makes itself, what its search left open stands behind these words.)
+MADE = "note: what antt said of a `search` in the proof that rattle made: "
+PLACE = re.compile(rf"(?:{MADE}|note: )?(?:\./)?(\S+?):(\d+):\d+: ")
 OPEN = r": it is not proved that |: error"
 GONE = r"has no field|is not in scope|has no `|was not admitted"
 NO_CONTRACT = "NOT REFUSED by a contract: a proof names what the edit takes away"
