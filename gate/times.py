@@ -9,7 +9,7 @@ KINDS = ("check", "tests", "edits")
 
 
 def running():
-    """Each process with the one that started it and its ticks of processor so far."""
+    """Each process with the one that started it, its ticks of processor so far, and when it was started."""
     found = {}
     for name in filter(str.isdigit, os.listdir("/proc")):
         try:
@@ -17,7 +17,7 @@ def running():
                 fields = it.read().rpartition(")")[2].split()
         except OSError:
             continue
-        found[int(name)] = int(fields[1]), int(fields[11]) + int(fields[12])
+        found[int(name)] = int(fields[1]), int(fields[11]) + int(fields[12]), int(fields[19])
     return found
 
 
@@ -62,10 +62,11 @@ class Times:
 
     def look(self):
         found = running()
-        for process, (_, ticks) in found.items():
-            known = self.seen.get(process) or is_below(process, os.getpid(), found) and crate_and_kind(process)
+        for process, (_, ticks, start) in found.items():
+            # (a number is given again in a long run: a process is told by its start too)
+            known = self.seen.get((process, start)) or is_below(process, os.getpid(), found) and crate_and_kind(process)
             if known:
-                self.seen[process] = (*known[:2], ticks)
+                self.seen[process, start] = (*known[:2], ticks)
 
     def seconds(self):
         """For each crate and kind of check the seconds of processor."""
