@@ -6,7 +6,7 @@ use kernel_calls::{ask, step};
 use kernel_rules::{Call, Entry, Mapping, NewAddressSpace, NewContainer, NewSegment, Query};
 use plain_state::PlainState;
 use std::test::Fail;
-use test_support::{LIMITS, answered, boot_thread, in_root, plain, refusal_in};
+use test_support::{LIMITS, agree, answered, boot_thread, in_root, plain, refusal_in};
 
 /// What refuses a call, and how many looks it took. The plain state refuses it by the same.
 fn looks_of(
@@ -71,9 +71,11 @@ fn each_id_is_found_once(rt: HostRuntime) -> Result<(), Fail> {
     let mut store = Counting::new(PlainState::boot(rt.alloc(), &LIMITS)?);
     let mut twin = PlainState::boot(rt.alloc(), &LIMITS)?;
     for call in makings() {
-        assert_eq!(rt;
-            looks_of(&mut store, &mut twin, &call, &mut meter)?,
-            (None, 2)
+        assert!(rt;
+            agree(
+                looks_of(&mut store, &mut twin, &call, &mut meter)?,
+                (None, 2)
+            )
         );
     }
     let target = ObjectId::new(4);
@@ -125,16 +127,20 @@ fn each_id_is_found_once(rt: HostRuntime) -> Result<(), Fail> {
         ),
     ];
     for (call, looks) in calls {
-        assert_eq!(rt;
-            looks_of(&mut store, &mut twin, &call, &mut meter)?,
-            (None, looks)
+        assert!(rt;
+            agree(
+                looks_of(&mut store, &mut twin, &call, &mut meter)?,
+                (None, looks)
+            )
         );
     }
-    assert_eq!(rt; looks_at(&store, &load_of_a_byte(), &mut meter), (None, 3));
+    assert!(rt; agree(looks_at(&store, &load_of_a_byte(), &mut meter), (None, 3)));
     let unref = Call::Unref { entry: segment };
-    assert_eq!(rt;
-        looks_of(&mut store, &mut twin, &unref, &mut meter)?,
-        (None, 3)
+    assert!(rt;
+        agree(
+            looks_of(&mut store, &mut twin, &unref, &mut meter)?,
+            (None, 3)
+        )
     );
     Ok(())
 }
@@ -154,17 +160,19 @@ fn a_refused_call_takes_as_many(rt: HostRuntime) -> Result<(), Fail> {
         &Call::Unref { entry: root },
         &mut meter,
     )?;
-    assert_eq!(rt; kept, (Some(Refusal::RootKept), 3));
+    assert!(rt; agree(kept, (Some(Refusal::RootKept), 3)));
     let read = Query::SegmentRead {
         entry: in_root(3),
         offset: 0,
         count: 1,
     };
     let device = looks_at(&store, &read, &mut meter);
-    assert_eq!(rt; device, (Some(Refusal::WrongType), 3));
-    assert_eq!(rt;
-        looks_at(&store, &load_of_a_byte(), &mut meter),
-        (Some(Refusal::NotMapped), 2)
+    assert!(rt; agree(device, (Some(Refusal::WrongType), 3)));
+    assert!(rt;
+        agree(
+            looks_at(&store, &load_of_a_byte(), &mut meter),
+            (Some(Refusal::NotMapped), 2)
+        )
     );
     Ok(())
 }
@@ -178,7 +186,7 @@ fn a_said_label_is_gathered_once(rt: HostRuntime) -> Result<(), Fail> {
     let mut state = PlainState::boot(rt.alloc(), &LIMITS)?;
     let [container, _, _] = makings();
     let refused = answered(step(&mut state, boot_thread(), &container, &mut meter))?;
-    assert_eq!(rt; refused, None);
-    assert_eq!(rt; meter.scans(), 7);
+    assert!(rt; agree(refused, None));
+    assert!(rt; agree(meter.scans(), 7));
     Ok(())
 }

@@ -6,12 +6,12 @@ use label_intern::LabelIx;
 use std::process::Abort;
 use std::test::Fail;
 use syscall_core::{Call, Reply};
-use test_support::{agree, boot_thread, device};
+use test_support::{agree, boot_thread, device, is_true};
 
 /// Threads, uses and live objects.
 pub fn booted<R: Abort>(rt: &R, kernel: &mut Metered) {
-    assert!(rt; kernel.is_thread(boot_thread()));
-    assert!(rt; !kernel.is_thread(device()));
+    assert!(rt; is_true(kernel.is_thread(boot_thread())));
+    assert!(rt; is_true(!kernel.is_thread(device())));
     assert!(rt; agree(kernel.kept_use(ObjectId::root()), Some(4)));
     assert!(rt; agree(kernel.kept_use(ObjectId::new(4)), None));
     assert!(rt; agree(kernel.kept_live(2), Some(device())));
@@ -50,7 +50,7 @@ fn kept_labels_have_their_order(rt: HostRuntime) -> Result<(), Fail> {
 /// The labels {1}, {3}, and what the boot thread has now: {1:*,1} and {1:3,2}.
 pub fn tables<R: Abort>(rt: &R, kernel: &mut Metered) -> Result<(), NoMemory> {
     let reply = kernel.step(&Call::CatCreate);
-    assert!(rt; matches!(reply, Reply::Category(_)));
+    assert!(rt; is_true(matches!(reply, Reply::Category(_))));
     assert!(rt; agree(kernel.labels()?, 4));
     Ok(())
 }

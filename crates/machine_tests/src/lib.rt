@@ -1,4 +1,5 @@
-//! Tests of the arena kernel: what it keeps after a boot, how many labels its calls scan, and how many cells they read.
+//! Tests of the arena kernel: what it keeps after a boot, how many labels its calls scan, how many cells they
+//! read, and a log of its calls.
 #![tactic(auto)]
 
 /// This crate has tests alone.
@@ -8,6 +9,8 @@ pub fn machines_are_tested() {}
 mod cases;
 #[cfg(test)]
 mod kept_tests;
+#[cfg(test)]
+mod logged_calls;
 #[cfg(test)]
 mod metered;
 #[cfg(test)]

@@ -6,7 +6,7 @@ use std::alloc::Global;
 use std::process::Abort;
 use std::test::Fail;
 use syscall_core::{Call, Reply};
-use test_support::boot_thread;
+use test_support::{boot_thread, is_true};
 
 /// Two categories are made.
 pub fn run_two<R: Abort>(rt: &R, alloc: Global, kernel: &mut Metered) -> Result<(), NoMemory> {
@@ -16,10 +16,10 @@ pub fn run_two<R: Abort>(rt: &R, alloc: Global, kernel: &mut Metered) -> Result<
     ];
     let replies = kernel.run(alloc, &calls)?;
     assert!(rt;
-        matches!(
+        is_true(matches!(
             replies.as_slice(),
             [Reply::Category(Category(1)), Reply::Category(Category(2))]
-        )
+        ))
     );
     Ok(())
 }

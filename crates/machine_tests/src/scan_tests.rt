@@ -7,7 +7,7 @@ use std::process::Abort;
 use std::test::Fail;
 use syscall_core::{Call, Query};
 use test_support::{
-    agree, everywhere, in_root, new_container, new_segment, new_thread, no_entry, plain,
+    agree, everywhere, in_root, is_true, new_container, new_segment, new_thread, no_entry, plain,
 };
 
 /// A call that makes a gate with the clearance {2} and without an address space.
@@ -52,13 +52,13 @@ fn few_labels_are_scanned(rt: HostRuntime) -> Result<(), Fail> {
 
 /// A boot stores three labels. A new thread stores three more.
 pub fn thread<R: Abort>(rt: &R, metered: &mut Metered) {
-    assert!(rt; matches!(metered.scans(&new_thread()), Some(0..=156)));
+    assert!(rt; is_true(matches!(metered.scans(&new_thread()), Some(0..=156))));
 }
 
 /// A new label of the caller is one more.
 pub fn new_label<R: Abort>(rt: &R, metered: &mut Metered) {
     let call = Call::SelfSetLabel { label: plain() };
-    assert!(rt; matches!(metered.scans(&call), Some(0..=60)));
+    assert!(rt; is_true(matches!(metered.scans(&call), Some(0..=60))));
 }
 
 /// What stores no label scans none.

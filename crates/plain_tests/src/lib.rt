@@ -1,5 +1,5 @@
-//! Tests of the plain machine: what it answers, the tables of its states, and each call that takes
-//! memory made again where there was none.
+//! Tests of the plain machine: what it answers, the tables of its states, its checkpoints, and each call
+//! that takes memory made again where there was none.
 #![tactic(auto)]
 
 /// This crate has tests alone.
@@ -13,5 +13,7 @@ mod plain_core_memory;
 mod plain_core_tables;
 #[cfg(test)]
 mod plain_core_tests;
+#[cfg(test)]
+mod restored;
 #[cfg(test)]
 mod samples;

@@ -7,8 +7,8 @@ use std::alloc::Global;
 use std::process::Abort;
 use std::test::Fail;
 use test_support::{
-    boot_thread, in_root, is_data, is_done, is_number, is_object, label_with, new_container,
-    new_segment, new_thread, no_entry, plain,
+    boot_thread, in_root, is_data, is_done, is_number, is_object, is_true, label_with,
+    new_container, new_segment, new_thread, no_entry, plain,
 };
 
 /// Where an allocation is refused, the state before stands.
@@ -19,12 +19,12 @@ pub fn want<R: Abort>(
     meter: &mut Meter,
 ) -> Result<(), Fail> {
     let made = step_again(kernel, &Call::CatCreate, meter)?;
-    assert!(rt; matches!(made, Reply::Category(Category(1))));
+    assert!(rt; is_true(matches!(made, Reply::Category(Category(1)))));
     let segment = new_segment(secret());
-    assert!(rt; is_object(step_again(kernel, &segment, meter)?, 4));
-    assert!(rt; is_object(step_again(kernel, &segment, meter)?, 5));
+    assert!(rt; is_true(is_object(step_again(kernel, &segment, meter)?, 4)));
+    assert!(rt; is_true(is_object(step_again(kernel, &segment, meter)?, 5)));
     let refused = step_again(kernel, &new_container(60), meter)?;
-    assert!(rt; is_number(refused, 12));
+    assert!(rt; is_true(is_number(refused, 12)));
     let write = Call::SegmentWrite {
         entry: in_root(5),
         offset: 0,
@@ -34,12 +34,12 @@ pub fn want<R: Abort>(
     let calls = [(boot, write), (boot, Call::CatCreate)];
     let replies = run_again(alloc, kernel, &calls)?;
     assert!(rt;
-        matches!(
+        is_true(matches!(
             replies.as_slice(),
             [Reply::Done, Reply::Category(Category(2))]
-        )
+        ))
     );
-    assert!(rt; sizes_again(kernel, meter)? == (5, 5, 25));
+    assert!(rt; is_true(sizes_again(kernel, meter)? == (5, 5, 25)));
     Ok(())
 }
 
@@ -238,12 +238,12 @@ pub fn want_calls<R: Abort>(
     kernel: &mut PlainKernel,
     meter: &mut Meter,
 ) -> Result<(), Fail> {
-    assert!(rt; owns(kernel, meter)?);
-    assert!(rt; are_made(kernel, meter)?);
-    assert!(rt; are_changed(kernel, meter)?);
-    assert!(rt; ends_in_zero(kernel, 6, meter)?);
-    assert!(rt; lists(kernel, 7, meter)?);
-    assert!(rt; receives(kernel, 5, meter)?);
+    assert!(rt; is_true(owns(kernel, meter)?));
+    assert!(rt; is_true(are_made(kernel, meter)?));
+    assert!(rt; is_true(are_changed(kernel, meter)?));
+    assert!(rt; is_true(ends_in_zero(kernel, 6, meter)?));
+    assert!(rt; is_true(lists(kernel, 7, meter)?));
+    assert!(rt; is_true(receives(kernel, 5, meter)?));
     Ok(())
 }
 

@@ -5,7 +5,7 @@ use base::{Level, Meter, NoMemory, ObjectId, Rights};
 use plain_core::{Call, Mapping, PlainKernel, Tables};
 use std::process::Abort;
 use std::test::Fail;
-use test_support::{in_root, new_segment, plain};
+use test_support::{in_root, is_true, new_segment, plain};
 
 /// How every two of the labels {1}, {2} and {3} compare, by rising places.
 const BOOT_ORDERS: [(usize, usize, u8); 9] = [
@@ -44,9 +44,9 @@ fn are_orders(tables: &Tables) -> bool {
 /// The tables of a boot.
 pub fn recompute<R: Abort>(rt: &R, kernel: &PlainKernel, meter: &mut Meter) -> Result<(), Fail> {
     let tables = kernel.tables(meter)?;
-    assert!(rt; tables.live.as_slice() == [1, 2, 3].map(ObjectId::new).as_slice());
-    assert!(rt; are_uses(&tables) && tables.shown.len() == 0);
-    assert!(rt; are_labels(&tables) && are_orders(&tables));
+    assert!(rt; is_true(tables.live.as_slice() == [1, 2, 3].map(ObjectId::new).as_slice()));
+    assert!(rt; is_true(are_uses(&tables) && tables.shown.len() == 0));
+    assert!(rt; is_true(are_labels(&tables) && are_orders(&tables)));
     Ok(())
 }
 
@@ -90,7 +90,9 @@ pub fn show_slots<R: Abort>(
     let [shown] = tables.shown.as_slice() else {
         return Err(Fail::from("not one row"));
     };
-    assert!(rt; shown.thread.number() == 2 && shown.slot == 2 && shown.segment.number() == 4);
+    assert!(rt;
+        is_true(shown.thread.number() == 2 && shown.slot == 2 && shown.segment.number() == 4)
+    );
     Ok(())
 }
 

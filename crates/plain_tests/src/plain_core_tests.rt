@@ -6,7 +6,9 @@ use plain_core::{BootRefusal, Call, Entry, Machine, NewSegment, PlainKernel, Que
 use std::alloc::Global;
 use std::process::Abort;
 use std::test::Fail;
-use test_support::{LIMITS, answered, boot_thread, in_root, is_object, new_container, new_segment};
+use test_support::{
+    LIMITS, agree, answered, boot_thread, in_root, is_object, is_true, new_container, new_segment,
+};
 
 /// What refuses a read of the boot thread.
 fn refused(
@@ -20,11 +22,11 @@ fn refused(
 /// A segment is made in a container, and read past its end.
 pub fn write<R: Abort>(rt: &R, kernel: &mut PlainKernel, meter: &mut Meter) -> Result<(), Fail> {
     kernel.well_formed();
-    assert!(rt; make(kernel, &Call::CatCreate, meter)?.is_none());
+    assert!(rt; is_true(make(kernel, &Call::CatCreate, meter)?.is_none()));
     let Some(container) = make(kernel, &new_container(8), meter)? else {
         return Err(Fail::from("no container"));
     };
-    assert_eq!(rt; container.number(), 4);
+    assert!(rt; agree(container.number(), 4));
     let segment = Call::SegmentCreate(NewSegment {
         container,
         label: secret(),
@@ -34,7 +36,7 @@ pub fn write<R: Abort>(rt: &R, kernel: &mut PlainKernel, meter: &mut Meter) -> R
     let Some(segment) = make(kernel, &segment, meter)? else {
         return Err(Fail::from("no segment"));
     };
-    assert_eq!(rt; segment.number(), 5);
+    assert!(rt; agree(segment.number(), 5));
     let entry = Entry {
         container,
         object: segment,
@@ -47,7 +49,7 @@ pub fn write<R: Abort>(rt: &R, kernel: &mut PlainKernel, meter: &mut Meter) -> R
     let Some(refusal) = refused(kernel, &past, meter)? else {
         return Err(Fail::from("no refusal"));
     };
-    assert_eq!(rt; refusal.number(), 18);
+    assert!(rt; agree(refusal.number(), 18));
     Ok(())
 }
 
@@ -82,9 +84,9 @@ pub fn run_three<R: Abort>(
     ];
     let replies = run(alloc, kernel, &calls)?;
     assert_eq!(rt; replies.len(), 3);
-    assert!(rt; matches!(replies[0], Reply::Category(Category(1))));
-    assert!(rt; is_object(replies[1], 4));
-    assert!(rt; matches!(replies[2], Reply::Done));
+    assert!(rt; is_true(matches!(replies[0], Reply::Category(Category(1)))));
+    assert!(rt; is_true(is_object(replies[1], 4)));
+    assert!(rt; is_true(matches!(replies[2], Reply::Done)));
     let read = Query::SegmentRead {
         entry,
         offset: 0,
@@ -93,7 +95,7 @@ pub fn run_three<R: Abort>(
     let Reply::Bytes(found) = kernel.ask(boot, &read, meter)? else {
         return Err(Fail::from("no bytes"));
     };
-    assert_eq!(rt; found.as_slice(), bytes.as_slice());
+    assert!(rt; agree(found.as_slice(), bytes.as_slice()));
     Ok(())
 }
 
@@ -108,7 +110,7 @@ fn limits_are_tested(rt: HostRuntime) {
     limits.pages = 7;
     match PlainKernel::boot(rt.alloc(), &limits) {
         Ok(_) => assert!(rt; false),
-        Err(refusal) => assert_eq!(rt; refusal.refusal().number(), 31),
+        Err(refusal) => assert!(rt; agree(refusal.refusal().number(), 31)),
     }
-    assert!(rt; BootRefusal::Unavailable.refusal().name() == "Unavailable");
+    assert!(rt; is_true(BootRefusal::Unavailable.refusal().name() == "Unavailable"));
 }

@@ -7,7 +7,7 @@ use std::io;
 use std::io::{ErrorKind, Read};
 use std::process::Abort;
 use std::test::Fail;
-use test_support::Portions;
+use test_support::{Portions, agree, is_true};
 
 #[test]
 fn faults_are_told(rt: HostRuntime) {
@@ -18,11 +18,11 @@ fn faults_are_told(rt: HostRuntime) {
     ];
     for (fault, status, line) in cases {
         let mut err = Vec::new(rt.alloc());
-        assert_eq!(rt; fault.tell("histar", &mut err), status);
-        assert_eq!(rt; err.as_slice(), line);
-        assert_eq!(rt; fault.status(), status);
+        assert!(rt; agree(fault.tell("histar", &mut err), status));
+        assert!(rt; agree(err.as_slice(), line));
+        assert!(rt; agree(fault.status(), status));
         let mut full: &mut [u8] = &mut [];
-        assert_eq!(rt; fault.tell("histar", &mut full), status);
+        assert!(rt; agree(fault.tell("histar", &mut full), status));
     }
 }
 
@@ -49,11 +49,13 @@ impl Read for Breaking {
 fn input_is_read_whole(rt: HostRuntime) -> Result<(), Fail> {
     let alloc = rt.alloc();
     let mut input = b"c = boot: cat_create\n".as_slice();
-    assert_eq!(rt;
-        bytes_of(alloc, &mut input)?.as_slice(),
-        b"c = boot: cat_create\n".as_slice()
+    assert!(rt;
+        agree(
+            bytes_of(alloc, &mut input)?.as_slice(),
+            b"c = boot: cat_create\n".as_slice()
+        )
     );
-    assert!(rt; bytes_of(alloc, &mut input)?.is_empty());
+    assert!(rt; is_true(bytes_of(alloc, &mut input)?.is_empty()));
     let cases = [
         (ErrorKind::Other, Fault::Input),
         (ErrorKind::UnexpectedEof, Fault::Input),
@@ -64,8 +66,8 @@ fn input_is_read_whole(rt: HostRuntime) -> Result<(), Fail> {
             is_read: false,
             kind,
         };
-        assert!(rt; bytes_of(alloc, &mut input).err() == Some(fault));
-        assert!(rt; input_fault(&io::Error::from(kind)) == fault);
+        assert!(rt; is_true(bytes_of(alloc, &mut input).err() == Some(fault)));
+        assert!(rt; is_true(input_fault(&io::Error::from(kind)) == fault));
     }
     Ok(())
 }
@@ -103,11 +105,11 @@ fn words_are_had(rt: HostRuntime) -> Result<(), Fail> {
     let started = (Started { words: &given }, rt.alloc());
     let words = words_of(&started)?;
     assert!(rt; words.len() == 3 && words[0].as_str() == "histar");
-    assert!(rt; words[1].as_str() == "" && words[2].as_str() == "r\u{fc}n");
+    assert!(rt; is_true(words[1].as_str() == "" && words[2].as_str() == "r\u{fc}n"));
     let broken: [&[u8]; 2] = [b"histar", b"\xff"];
     let started = (Started { words: &broken }, rt.alloc());
-    assert!(rt; words_of(&started).err() == Some(Fault::Input));
-    assert!(rt; words_of(&rt).is_ok());
+    assert!(rt; is_true(words_of(&started).err() == Some(Fault::Input)));
+    assert!(rt; is_true(words_of(&rt).is_ok()));
     Ok(())
 }
 
@@ -130,12 +132,12 @@ fn help_is_printed_or_a_fault(rt: HostRuntime) {
     let alloc = rt.alloc();
     let mut out = Portions::before_failing(alloc, 100);
     let mut err = Vec::new(alloc);
-    assert_eq!(rt; told_to(alloc, "--help", &mut out, &mut err), Some(0));
-    assert!(rt; out.taken.starts_with(b"Usage: histar") && err.is_empty());
+    assert!(rt; agree(told_to(alloc, "--help", &mut out, &mut err), Some(0)));
+    assert!(rt; is_true(out.taken.starts_with(b"Usage: histar") && err.is_empty()));
     let mut out = Portions::before_failing(alloc, 1);
-    assert_eq!(rt; told_to(alloc, "--help", &mut out, &mut err), Some(3));
-    assert_eq!(rt; out.taken.as_slice(), b"Usage: ".as_slice());
-    assert_eq!(rt; err.as_slice(), b"histar: output fault\n".as_slice());
+    assert!(rt; agree(told_to(alloc, "--help", &mut out, &mut err), Some(3)));
+    assert!(rt; agree(out.taken.as_slice(), b"Usage: ".as_slice()));
+    assert!(rt; agree(err.as_slice(), b"histar: output fault\n".as_slice()));
 }
 
 #[test]
@@ -143,8 +145,8 @@ fn faults_of_usage_go_to_the_other_stream(rt: HostRuntime) {
     let alloc = rt.alloc();
     let mut out = Portions::before_failing(alloc, 0);
     let mut err = Vec::new(alloc);
-    assert_eq!(rt; told_to(alloc, "--pages", &mut out, &mut err), Some(2));
-    assert!(rt; out.taken.is_empty() && err.starts_with(b"error: "));
+    assert!(rt; agree(told_to(alloc, "--pages", &mut out, &mut err), Some(2)));
+    assert!(rt; is_true(out.taken.is_empty() && err.starts_with(b"error: ")));
     err.clear();
     let answer = Error::from(AllocError);
     let status = tell_answer(
@@ -154,8 +156,8 @@ fn faults_of_usage_go_to_the_other_stream(rt: HostRuntime) {
         &mut Counted::new(&mut out),
         &mut err,
     );
-    assert_eq!(rt; status, 4);
-    assert_eq!(rt; err.as_slice(), b"histar: out of memory\n".as_slice());
+    assert!(rt; agree(status, 4));
+    assert!(rt; agree(err.as_slice(), b"histar: out of memory\n".as_slice()));
 }
 
 /// The bytes read and the words had are these, or there was no memory. Whether there was.
@@ -166,13 +168,13 @@ fn are_had<R: Abort + AllocGlobal>(rt: &R) -> bool {
     let had = words_of(&(Started { words: &given }, rt.alloc()));
     match (&read, &had) {
         (Ok(bytes), Ok(words)) => {
-            assert_eq!(rt; bytes.as_slice(), b"live 1\n".as_slice());
+            assert!(rt; agree(bytes.as_slice(), b"live 1\n".as_slice()));
             assert!(rt; words.len() == 2 && words[1].as_str() == "a.dump");
             true
         }
         _ => {
-            assert!(rt; read.err().is_none_or(|fault| fault == Fault::Memory));
-            assert!(rt; had.err().is_none_or(|fault| fault == Fault::Memory));
+            assert!(rt; is_true(read.err().is_none_or(|fault| fault == Fault::Memory)));
+            assert!(rt; is_true(had.err().is_none_or(|fault| fault == Fault::Memory)));
             false
         }
     }
@@ -183,5 +185,5 @@ fn are_had<R: Abort + AllocGlobal>(rt: &R) -> bool {
 fn want_of_memory_is_told(rt: HostRuntime) {
     let first = are_had(&rt);
     let second = are_had(&rt);
-    assert!(rt; first || second);
+    assert!(rt; is_true(first || second));
 }

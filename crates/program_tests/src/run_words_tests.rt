@@ -4,12 +4,15 @@ use clap::error::ErrorKind;
 use histar_args::{DEFAULTS, read_run_words};
 use std::alloc::Global;
 use std::test::Fail;
+use test_support::{agree, is_true};
 
 #[test]
 fn reads_the_options(rt: HostRuntime) -> Result<(), Fail> {
     let words = ["histar", "run", "a.histar"];
     let told = read_run_words(rt.alloc(), words.as_slice())?;
-    assert!(rt; told.script == "a.histar" && told.options == DEFAULTS && told.dump.is_none());
+    assert!(rt;
+        is_true(told.script == "a.histar" && told.options == DEFAULTS && told.dump.is_none())
+    );
     let words = [
         "histar",
         "run",
@@ -31,7 +34,9 @@ fn reads_the_options(rt: HostRuntime) -> Result<(), Fail> {
         next_id: spent,
         next_category: spent - 1,
     };
-    assert!(rt; told.options.limits == limits && limits.is_in_range() && !told.options.dump);
+    assert!(rt;
+        is_true(told.options.limits == limits && limits.is_in_range() && !told.options.dump)
+    );
     let words = [
         "histar",
         "run",
@@ -52,7 +57,9 @@ fn reads_the_options(rt: HostRuntime) -> Result<(), Fail> {
         next_id: 4,
         next_category: 1,
     };
-    assert!(rt; told.script == "b" && told.options.limits == limits && limits.is_in_range());
+    assert!(rt;
+        is_true(told.script == "b" && told.options.limits == limits && limits.is_in_range())
+    );
     Ok(())
 }
 
@@ -60,12 +67,12 @@ fn reads_the_options(rt: HostRuntime) -> Result<(), Fail> {
 fn reads_the_path_of_the_dump(rt: HostRuntime) -> Result<(), Fail> {
     let words = ["histar", "run", "--dump", "a.dump", "a.histar"];
     let told = read_run_words(rt.alloc(), words.as_slice())?;
-    assert!(rt; told.script == "a.histar" && told.dump == Some("a.dump"));
-    assert!(rt; told.options.limits == DEFAULTS.limits && told.options.dump);
+    assert!(rt; is_true(told.script == "a.histar" && told.dump == Some("a.dump")));
+    assert!(rt; is_true(told.options.limits == DEFAULTS.limits && told.options.dump));
     let words = ["histar", "run", "a.histar", "--dump=d", "--pages", "8"];
     let told = read_run_words(rt.alloc(), words.as_slice())?;
-    assert!(rt; told.script == "a.histar" && told.dump == Some("d"));
-    assert!(rt; told.options.limits.pages == 8 && told.options.dump);
+    assert!(rt; is_true(told.script == "a.histar" && told.dump == Some("d")));
+    assert!(rt; is_true(told.options.limits.pages == 8 && told.options.dump));
     Ok(())
 }
 
@@ -73,14 +80,16 @@ fn reads_the_path_of_the_dump(rt: HostRuntime) -> Result<(), Fail> {
 fn reads_the_checkpoint(rt: HostRuntime) -> Result<(), Fail> {
     let words = ["histar", "run", "a.histar", "--checkpoint", "4294967295"];
     let told = read_run_words(rt.alloc(), words.as_slice())?;
-    assert_eq!(rt; told.options.checkpoint, u32::MAX);
-    assert!(rt; told.options.limits == DEFAULTS.limits && !told.options.dump);
+    assert!(rt; agree(told.options.checkpoint, u32::MAX));
+    assert!(rt; is_true(told.options.limits == DEFAULTS.limits && !told.options.dump));
     let words = ["histar", "run", "--checkpoint=3", "a.histar", "--dump", "d"];
     let told = read_run_words(rt.alloc(), words.as_slice())?;
-    assert!(rt; told.options.checkpoint == 3 && told.options.dump && told.script == "a.histar");
+    assert!(rt;
+        is_true(told.options.checkpoint == 3 && told.options.dump && told.script == "a.histar")
+    );
     let words = ["histar", "run", "a.histar", "--dump", "d"];
     let told = read_run_words(rt.alloc(), words.as_slice())?;
-    assert_eq!(rt; told.options.checkpoint, 0);
+    assert!(rt; agree(told.options.checkpoint, 0));
     Ok(())
 }
 
@@ -133,21 +142,23 @@ fn tells_what_is_wrong(rt: HostRuntime) -> Result<(), Fail> {
         Ok(_) => assert!(rt; false),
         Err(error) => {
             let text = format!(in rt.alloc(); "{error}")?;
-            assert_eq!(rt;
-                text.as_str(),
-                "error: invalid value '7' for '--pages <N>': 7 is not in 8..=1024\n\nFor more information, try '--help'.\n"
+            assert!(rt;
+                agree(
+                    text.as_str(),
+                    "error: invalid value '7' for '--pages <N>': 7 is not in 8..=1024\n\nFor more information, try '--help'.\n"
+                )
             );
         }
     }
     let words = ["histar", "--help"];
     match read_run_words(rt.alloc(), words.as_slice()) {
         Ok(_) => assert!(rt; false),
-        Err(error) => assert!(rt; error.exit_code() == 0 && !error.use_stderr()),
+        Err(error) => assert!(rt; is_true(error.exit_code() == 0 && !error.use_stderr())),
     }
     let words = ["histar"];
     match read_run_words(rt.alloc(), words.as_slice()) {
         Ok(_) => assert!(rt; false),
-        Err(error) => assert!(rt; error.exit_code() == 2),
+        Err(error) => assert!(rt; is_true(error.exit_code() == 2)),
     }
     Ok(())
 }
@@ -171,7 +182,7 @@ fn want_of_memory_changes_nothing(rt: HostRuntime) -> Result<(), Fail> {
     let first = paths_of(rt.alloc(), words.as_slice())?;
     let second = paths_of(rt.alloc(), words.as_slice())?;
     let wanted = Some(("a.histar", Some("d")));
-    assert!(rt; first == None || first == wanted);
-    assert!(rt; second == wanted || (second == None && first == wanted));
+    assert!(rt; is_true(first == None || first == wanted));
+    assert!(rt; is_true(second == wanted || (second == None && first == wanted)));
     Ok(())
 }

@@ -3,7 +3,7 @@ use program_io::{Counted, Fault, PutFault, Sink, deliver, put};
 use std::alloc::Global;
 use std::io;
 use std::io::{ErrorKind, Write};
-use test_support::{Holding, Portions};
+use test_support::{Holding, Portions, is_true};
 
 /// 30 bytes: four writes of seven, and one of two.
 const TEXT: &[u8] = b"boot 1: cat #1\nboot 2: id #4\n ";
@@ -21,12 +21,12 @@ fn each_failing_write_leaves_a_beginning(rt: HostRuntime) {
     for writes in 0..5u32 {
         let (ended, taken, failures) = put_before(rt.alloc(), writes);
         let written = writes as usize * 7;
-        assert!(rt; ended == Err(PutFault { written }) && failures == 1);
-        assert!(rt; taken.as_slice() == &TEXT[..written]);
+        assert!(rt; is_true(ended == Err(PutFault { written }) && failures == 1));
+        assert!(rt; is_true(taken.as_slice() == &TEXT[..written]));
     }
     for writes in 5..7u32 {
         let (ended, taken, failures) = put_before(rt.alloc(), writes);
-        assert!(rt; ended.is_ok() && failures == 0 && taken.as_slice() == TEXT);
+        assert!(rt; is_true(ended.is_ok() && failures == 0 && taken.as_slice() == TEXT));
     }
 }
 
@@ -68,11 +68,11 @@ impl Write for Interrupted {
 #[test]
 fn an_interrupted_write_is_tried_a_hundred_times(rt: HostRuntime) {
     let mut sink = Counted::new(Interrupted::so_often(100));
-    assert!(rt; put(&mut sink, b"ok").is_ok());
-    assert!(rt; sink.failed_writes() == 200 && sink.into_inner().taken == 2);
+    assert!(rt; is_true(put(&mut sink, b"ok").is_ok()));
+    assert!(rt; is_true(sink.failed_writes() == 200 && sink.into_inner().taken == 2));
     let mut sink = Counted::new(Interrupted::so_often(101));
-    assert!(rt; put(&mut sink, b"ok") == Err(PutFault { written: 0 }));
-    assert!(rt; sink.failed_writes() == 101 && sink.into_inner().taken == 0);
+    assert!(rt; is_true(put(&mut sink, b"ok") == Err(PutFault { written: 0 })));
+    assert!(rt; is_true(sink.failed_writes() == 101 && sink.into_inner().taken == 0));
 }
 
 /// A writer that takes nothing.
@@ -92,16 +92,18 @@ impl Write for Full {
 #[test]
 fn a_write_that_takes_nothing_failed(rt: HostRuntime) {
     let mut sink = Counted::new(Full);
-    assert!(rt; put(&mut sink, b"").is_ok() && sink.failed_writes() == 0);
-    assert!(rt; put(&mut sink, b"ok") == Err(PutFault { written: 0 }) && sink.failed_writes() == 1);
+    assert!(rt; is_true(put(&mut sink, b"").is_ok() && sink.failed_writes() == 0));
+    assert!(rt;
+        is_true(put(&mut sink, b"ok") == Err(PutFault { written: 0 }) && sink.failed_writes() == 1)
+    );
 }
 
 #[test]
 fn what_is_delivered_is_handed_on(rt: HostRuntime) {
     let mut sink = Counted::new(Holding::nothing(rt.alloc()));
-    assert!(rt; put(&mut sink, b"ok").is_ok());
-    assert!(rt; deliver(&mut sink, TEXT).is_ok());
-    assert!(rt; sink.into_inner().handed.ends_with(TEXT));
+    assert!(rt; is_true(put(&mut sink, b"ok").is_ok()));
+    assert!(rt; is_true(deliver(&mut sink, TEXT).is_ok()));
+    assert!(rt; is_true(sink.into_inner().handed.ends_with(TEXT)));
     let mut sink = Counted::new(Portions::before_failing(rt.alloc(), 2));
-    assert!(rt; deliver(&mut sink, TEXT) == Err(Fault::Output));
+    assert!(rt; is_true(deliver(&mut sink, TEXT) == Err(Fault::Output)));
 }

@@ -7,7 +7,7 @@ use program_io::Counted;
 use std::alloc::{AllocError, Global};
 use std::io::ErrorKind;
 use std::test::Fail;
-use test_support::{Broken, EMPTY_DUMP, Holding, Portions};
+use test_support::{Broken, EMPTY_DUMP, Holding, Portions, agree, is_true};
 
 /// The dump of a run in which thread 2 made two categories and wrote to a segment, and thread 7,
 /// which there is not, made a call.
@@ -27,8 +27,8 @@ fn with_line(alloc: Global, dump: &str, line: usize, other: &str) -> Result<Vec<
 
 #[test]
 fn true_dumps_are_clean(rt: HostRuntime) -> Result<(), Fail> {
-    assert_eq!(rt; audit(rt.alloc(), EMPTY_DUMP.as_bytes())?, Verdict::Clean);
-    assert_eq!(rt; audit(rt.alloc(), CALLS.as_bytes())?, Verdict::Clean);
+    assert!(rt; agree(audit(rt.alloc(), EMPTY_DUMP.as_bytes())?, Verdict::Clean));
+    assert!(rt; agree(audit(rt.alloc(), CALLS.as_bytes())?, Verdict::Clean));
     Ok(())
 }
 
@@ -54,10 +54,10 @@ fn the_verdict_is_printed(rt: HostRuntime) -> Result<(), Fail> {
     one_verdict();
     clean_is_legal();
     migrated_verdicts();
-    assert!(rt; ends(alloc, EMPTY_DUMP.as_bytes(), 0, b"clean\n"));
+    assert!(rt; is_true(ends(alloc, EMPTY_DUMP.as_bytes(), 0, b"clean\n")));
     let untrue = with_line(alloc, EMPTY_DUMP, 6, "use 1 5")?;
-    assert!(rt; ends(alloc, untrue.as_slice(), 1, b"false at line 6\n"));
-    assert!(rt; ends(alloc, b"no dump\n", 2, b"unreadable at line 1\n"));
+    assert!(rt; is_true(ends(alloc, untrue.as_slice(), 1, b"false at line 6\n")));
+    assert!(rt; is_true(ends(alloc, b"no dump\n", 2, b"unreadable at line 1\n")));
     Ok(())
 }
 
@@ -68,22 +68,28 @@ fn the_verdict_is_handed_on(rt: HostRuntime) {
     let mut err = Vec::new(alloc);
     let mut dump = EMPTY_DUMP.as_bytes();
     let mut out = Counted::new(Holding::nothing(alloc));
-    assert_eq!(rt;
-        audit_on(alloc, &mut dump, &DEFAULTS, None, &mut out, &mut err).status,
-        0
+    assert!(rt;
+        agree(
+            audit_on(alloc, &mut dump, &DEFAULTS, None, &mut out, &mut err).status,
+            0
+        )
     );
-    assert_eq!(rt; out.into_inner().handed.as_slice(), b"clean\n".as_slice());
+    assert!(rt; agree(out.into_inner().handed.as_slice(), b"clean\n".as_slice()));
     let mut dump = b"no dump\n".as_slice();
     let mut out = Counted::new(Portions::before_failing(alloc, 2));
-    assert_eq!(rt;
-        audit_on(alloc, &mut dump, &DEFAULTS, None, &mut out, &mut err).status,
-        3
+    assert!(rt;
+        agree(
+            audit_on(alloc, &mut dump, &DEFAULTS, None, &mut out, &mut err).status,
+            3
+        )
     );
-    assert_eq!(rt;
-        out.into_inner().taken.as_slice(),
-        b"unreadable at ".as_slice()
+    assert!(rt;
+        agree(
+            out.into_inner().taken.as_slice(),
+            b"unreadable at ".as_slice()
+        )
     );
-    assert_eq!(rt; err.as_slice(), b"histar-audit: output fault\n".as_slice());
+    assert!(rt; agree(err.as_slice(), b"histar-audit: output fault\n".as_slice()));
 }
 
 #[test]
@@ -99,8 +105,10 @@ fn faults_of_streams(rt: HostRuntime) -> Result<(), Fail> {
         &mut Counted::new(&mut out),
         &mut err,
     );
-    assert_eq!(rt; ended.status, 3);
-    assert!(rt; out.is_empty() && err.as_slice() == b"histar-audit: input fault\n".as_slice());
+    assert!(rt; agree(ended.status, 3));
+    assert!(rt;
+        is_true(out.is_empty() && err.as_slice() == b"histar-audit: input fault\n".as_slice())
+    );
     let mut dump = EMPTY_DUMP.as_bytes();
     let mut told = Vec::new(alloc);
     let ended = audit_on(
@@ -111,8 +119,8 @@ fn faults_of_streams(rt: HostRuntime) -> Result<(), Fail> {
         &mut Counted::new(Broken(ErrorKind::Other)),
         &mut told,
     );
-    assert_eq!(rt; ended.status, 3);
-    assert!(rt; told.as_slice() == b"histar-audit: output fault\n".as_slice());
+    assert!(rt; agree(ended.status, 3));
+    assert!(rt; is_true(told.as_slice() == b"histar-audit: output fault\n".as_slice()));
     Ok(())
 }
 
@@ -124,7 +132,7 @@ fn want_of_memory_changes_nothing(rt: HostRuntime) -> Result<(), Fail> {
         Ok(found) => found,
         Err(NoMemory) => audit(rt.alloc(), CALLS.as_bytes())?,
     };
-    assert_eq!(rt; found, Verdict::Clean);
+    assert!(rt; agree(found, Verdict::Clean));
     let alloc = rt.alloc();
     let mut dump = EMPTY_DUMP.as_bytes();
     let mut room = [0u8; 64];
@@ -138,8 +146,8 @@ fn want_of_memory_changes_nothing(rt: HostRuntime) -> Result<(), Fail> {
         &mut Counted::new(&mut out),
         &mut err,
     );
-    assert!(rt; ended.status == 0 || ended.status == 4);
+    assert!(rt; is_true(ended.status == 0 || ended.status == 4));
     let left = out.len();
-    assert!(rt; ended.status == 0 || left == 64);
+    assert!(rt; is_true(ended.status == 0 || left == 64));
     Ok(())
 }

@@ -9,6 +9,7 @@ use std::process::Abort;
 use std::sync::Wait;
 use std::test::Fail;
 use std::thread::Threads;
+use test_support::{agree, is_true};
 
 /// A batch of three calls, of which the last is refused, and a read.
 const MADE_AND_GONE: &[u8] =
@@ -66,20 +67,20 @@ fn a_batch_is_one_event_of_the_dump(rt: HostRuntime) -> Result<(), Fail> {
         &mut Counted::new(&mut out),
         &mut err,
     );
-    assert_eq!(rt; ended.status, 0);
-    assert!(rt; out.as_slice() == TOLD);
+    assert!(rt; agree(ended.status, 0));
+    assert!(rt; is_true(out.as_slice() == TOLD));
     let dump = ended.file.as_slice();
-    assert_eq!(rt; audit(alloc, dump)?, Verdict::Clean);
+    assert!(rt; agree(audit(alloc, dump)?, Verdict::Clean));
     let events = DUMPED.len().saturating_sub(30);
     let end = dump.len().saturating_sub(TABLES);
     let head = end.saturating_sub(READ.len());
-    assert!(rt; dump[..end].ends_with(READ));
-    assert!(rt; dump[..head].ends_with(&DUMPED[DUMPED.len().saturating_sub(events)..]));
+    assert!(rt; is_true(dump[..end].ends_with(READ)));
+    assert!(rt; is_true(dump[..head].ends_with(&DUMPED[DUMPED.len().saturating_sub(events)..])));
     let tables = &dump[end..];
-    assert_eq!(rt; audited(alloc, DUMPED, tables)?, Verdict::Clean);
-    assert_eq!(rt; audited(alloc, OTHER_REPLY, tables)?, Verdict::False(4));
-    assert_eq!(rt; audited(alloc, OTHER_NUMBER, tables)?, Verdict::False(3));
-    assert_eq!(rt; audited(alloc, TOO_FEW, tables)?, Verdict::Unreadable(6));
+    assert!(rt; agree(audited(alloc, DUMPED, tables)?, Verdict::Clean));
+    assert!(rt; agree(audited(alloc, OTHER_REPLY, tables)?, Verdict::False(4)));
+    assert!(rt; agree(audited(alloc, OTHER_NUMBER, tables)?, Verdict::False(3)));
+    assert!(rt; agree(audited(alloc, TOO_FEW, tables)?, Verdict::Unreadable(6)));
     Ok(())
 }
 
@@ -97,9 +98,9 @@ fn batches_are_played_alike_both_ways(rt: HostRuntime) -> Result<(), Fail> {
     let alloc = rt.alloc();
     let script = read_script(alloc, NAMED)?;
     let one = play_all(&rt, alloc, &script, &DEFAULTS.limits, &Always)?;
-    assert!(rt; one.output.as_slice() == NAMES_TOLD && one.events.len() == 3);
+    assert!(rt; is_true(one.output.as_slice() == NAMES_TOLD && one.events.len() == 3));
     let other = play_at_once(&rt, alloc, &script, &DEFAULTS.limits, &Always)?;
-    assert!(rt; other.output.as_slice() == NAMES_TOLD && other.events.len() == 3);
+    assert!(rt; is_true(other.output.as_slice() == NAMES_TOLD && other.events.len() == 3));
     Ok(())
 }
 
@@ -129,6 +130,6 @@ fn a_batch_is_stopped(rt: HostRuntime) -> Result<(), Fail> {
     let alloc = rt.alloc();
     let script = read_script(alloc, MADE_AND_GONE)?;
     let played = play_all(&rt, alloc, &script, &DEFAULTS.limits, &Before { line: 2 });
-    assert!(rt; matches!(played, Err(PlayFault::Stopped)));
+    assert!(rt; is_true(matches!(played, Err(PlayFault::Stopped))));
     Ok(())
 }

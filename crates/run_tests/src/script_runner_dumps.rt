@@ -8,7 +8,7 @@ use std::process::Abort;
 use std::sync::Wait;
 use std::test::Fail;
 use std::thread::Threads;
-use test_support::{Broken, EIGHT_PAGES, EMPTY_DUMP};
+use test_support::{Broken, EIGHT_PAGES, EMPTY_DUMP, agree, is_true};
 
 /// A run with 8 pages, of which a dump is made.
 const DUMPED: Options = Options {
@@ -41,8 +41,8 @@ fn texts_of<R: Abort + AllocGlobal + Threads + Wait + Sync>(
         &mut Counted::new(&mut output),
         &mut err,
     );
-    assert_eq!(rt; ended.status, 0);
-    assert!(rt; err.is_empty());
+    assert!(rt; agree(ended.status, 0));
+    assert!(rt; is_true(err.is_empty()));
     Texts {
         output,
         file: ended.file,
@@ -57,11 +57,11 @@ fn ends_with(dump: &[u8], lines: &[u8]) -> bool {
 #[test]
 fn an_empty_script_is_dumped(rt: HostRuntime) {
     let texts = texts_of(&rt, b"", &DUMPED);
-    assert!(rt; texts.output.is_empty());
+    assert!(rt; is_true(texts.output.is_empty()));
     // (the dump of format 1 has two lines of 29 bytes before the tables)
     let first = EMPTY_DUMP.as_bytes();
     let tables = first.split_at(first.len().min(29)).1;
-    assert!(rt; ends_with(texts.file.as_slice(), tables));
+    assert!(rt; is_true(ends_with(texts.file.as_slice(), tables)));
 }
 
 /// Whether a text has these lines, each at its number from 1.
@@ -90,16 +90,16 @@ fn the_first_events_are_folded_into_the_checkpoint(rt: HostRuntime) -> Result<()
         (10, "event 2 2 cat_create => cat #2"),
         (11, "live 1"),
     ];
-    assert!(rt; has_lines(str::from_utf8(texts.file.as_slice())?, wanted.as_slice()));
-    assert_eq!(rt; audit(rt.alloc(), texts.file.as_slice())?, Verdict::Clean);
+    assert!(rt; is_true(has_lines(str::from_utf8(texts.file.as_slice())?, wanted.as_slice())));
+    assert!(rt; agree(audit(rt.alloc(), texts.file.as_slice())?, Verdict::Clean));
     let past = Options {
         checkpoint: u32::MAX,
         ..DUMPED
     };
     let texts = texts_of(&rt, b"boot: cat_create\nboot: cat_create\n", &past);
     let wanted = [(3, "state 4 3"), (9, "next 2 3"), (10, "live 1")];
-    assert!(rt; has_lines(str::from_utf8(texts.file.as_slice())?, wanted.as_slice()));
-    assert_eq!(rt; audit(rt.alloc(), texts.file.as_slice())?, Verdict::Clean);
+    assert!(rt; is_true(has_lines(str::from_utf8(texts.file.as_slice())?, wanted.as_slice())));
+    assert!(rt; agree(audit(rt.alloc(), texts.file.as_slice())?, Verdict::Clean));
     Ok(())
 }
 
@@ -113,10 +113,12 @@ fn events_are_dumped_in_order(rt: HostRuntime) -> Result<(), Fail> {
         (10, "event 2 2 cat_create => cat #2"),
         (11, "live 1"),
     ];
-    assert!(rt; has_lines(str::from_utf8(texts.file.as_slice())?, wanted.as_slice()));
-    assert_eq!(rt;
-        texts.output.as_slice(),
-        b"boot 1: cat #1\nboot 2: cat #2\n".as_slice()
+    assert!(rt; is_true(has_lines(str::from_utf8(texts.file.as_slice())?, wanted.as_slice())));
+    assert!(rt;
+        agree(
+            texts.output.as_slice(),
+            b"boot 1: cat #1\nboot 2: cat #2\n".as_slice()
+        )
     );
     Ok(())
 }
@@ -141,8 +143,8 @@ fn a_read_is_dumped_where_its_thread_stood(rt: HostRuntime) -> Result<(), Fail> 
         (14, "event 6 1 segment_write #1 #5 0 41 => ok"),
         (15, "live 1"),
     ];
-    assert!(rt; has_lines(str::from_utf8(texts.file.as_slice())?, wanted.as_slice()));
-    assert_eq!(rt; audit(rt.alloc(), texts.file.as_slice())?, Verdict::Clean);
+    assert!(rt; is_true(has_lines(str::from_utf8(texts.file.as_slice())?, wanted.as_slice())));
+    assert!(rt; agree(audit(rt.alloc(), texts.file.as_slice())?, Verdict::Clean));
     Ok(())
 }
 
@@ -169,8 +171,8 @@ fn reads_before_the_checkpoint_are_left_out(rt: HostRuntime) -> Result<(), Fail>
         ),
         (13, "live 1"),
     ];
-    assert!(rt; has_lines(str::from_utf8(texts.file.as_slice())?, wanted.as_slice()));
-    assert_eq!(rt; audit(rt.alloc(), texts.file.as_slice())?, Verdict::Clean);
+    assert!(rt; is_true(has_lines(str::from_utf8(texts.file.as_slice())?, wanted.as_slice())));
+    assert!(rt; agree(audit(rt.alloc(), texts.file.as_slice())?, Verdict::Clean));
     let texts = texts_of(&rt, script, &folding(9));
     let wanted = [
         (9, "next 2 3"),
@@ -180,8 +182,8 @@ fn reads_before_the_checkpoint_are_left_out(rt: HostRuntime) -> Result<(), Fail>
         ),
         (11, "live 1"),
     ];
-    assert!(rt; has_lines(str::from_utf8(texts.file.as_slice())?, wanted.as_slice()));
-    assert_eq!(rt; audit(rt.alloc(), texts.file.as_slice())?, Verdict::Clean);
+    assert!(rt; is_true(has_lines(str::from_utf8(texts.file.as_slice())?, wanted.as_slice())));
+    assert!(rt; agree(audit(rt.alloc(), texts.file.as_slice())?, Verdict::Clean));
     Ok(())
 }
 
@@ -198,8 +200,8 @@ fn reads_at_one_place_rise_by_thread(rt: HostRuntime) -> Result<(), Fail> {
         (13, "read 4 obj_quota #1 #4 => quota 1 1 0 0"),
         (14, "live 1"),
     ];
-    assert!(rt; has_lines(str::from_utf8(texts.file.as_slice())?, wanted.as_slice()));
-    assert_eq!(rt; audit(rt.alloc(), texts.file.as_slice())?, Verdict::Clean);
+    assert!(rt; is_true(has_lines(str::from_utf8(texts.file.as_slice())?, wanted.as_slice())));
+    assert!(rt; agree(audit(rt.alloc(), texts.file.as_slice())?, Verdict::Clean));
     Ok(())
 }
 
@@ -224,18 +226,18 @@ fn reads_at_once_are_dumped(rt: HostRuntime) -> Result<(), Fail> {
         (12, "read 4 segment_read #1 #5 0 1 => data 00"),
     ];
     let text = str::from_utf8(texts.file.as_slice())?;
-    assert!(rt; has_lines(text, wanted.as_slice()));
-    assert_eq!(rt; reads_in(text), 4);
-    assert!(rt; text.contains("\nread 4 segment_read #1 #5 0 1 => data 41\nlive 1\n"));
-    assert_eq!(rt; audit(rt.alloc(), texts.file.as_slice())?, Verdict::Clean);
+    assert!(rt; is_true(has_lines(text, wanted.as_slice())));
+    assert!(rt; agree(reads_in(text), 4));
+    assert!(rt; is_true(text.contains("\nread 4 segment_read #1 #5 0 1 => data 41\nlive 1\n")));
+    assert!(rt; agree(audit(rt.alloc(), texts.file.as_slice())?, Verdict::Clean));
     Ok(())
 }
 
 #[test]
 fn no_dump_is_made_unasked(rt: HostRuntime) {
     let texts = texts_of(&rt, b"boot: cat_create\n", &DEFAULTS);
-    assert_eq!(rt; texts.output.as_slice(), b"boot 1: cat #1\n".as_slice());
-    assert!(rt; texts.file.is_empty());
+    assert!(rt; agree(texts.output.as_slice(), b"boot 1: cat #1\n".as_slice()));
+    assert!(rt; is_true(texts.file.is_empty()));
 }
 
 #[test]
@@ -253,7 +255,7 @@ fn no_dump_is_made_after_a_fault(rt: HostRuntime) -> Result<(), Fail> {
         &mut Counted::new(&mut full),
         &mut err,
     );
-    assert!(rt; ended.status == 1 && ended.file.is_empty());
+    assert!(rt; is_true(ended.status == 1 && ended.file.is_empty()));
     let mut script: &[u8] = b"boot: cat_create\n";
     let ended = histar_on(
         &rt,
@@ -263,7 +265,7 @@ fn no_dump_is_made_after_a_fault(rt: HostRuntime) -> Result<(), Fail> {
         &mut Counted::new(&mut full),
         &mut err,
     );
-    assert!(rt; ended.status == 3 && ended.file.is_empty());
+    assert!(rt; is_true(ended.status == 3 && ended.file.is_empty()));
     let mut script = Broken(ErrorKind::OutOfMemory);
     let ended = histar_on(
         &rt,
@@ -273,7 +275,7 @@ fn no_dump_is_made_after_a_fault(rt: HostRuntime) -> Result<(), Fail> {
         &mut Counted::new(&mut full),
         &mut err,
     );
-    assert!(rt; ended.status == 4 && ended.file.is_empty());
+    assert!(rt; is_true(ended.status == 4 && ended.file.is_empty()));
     Ok(())
 }
 
@@ -309,15 +311,18 @@ fn is_written<R: Abort + AllocGlobal + Threads + Wait + Sync>(rt: &R) -> bool {
     );
     let left = out.len();
     if ended.status == 0 {
-        assert!(rt; ends_with(ended.file.as_slice(), BY_ENTRY_LINES));
+        assert!(rt; is_true(ends_with(ended.file.as_slice(), BY_ENTRY_LINES)));
         assert!(rt;
-            left.saturating_add(BY_ENTRY_OUTPUT.len()) == 1024 && room.starts_with(BY_ENTRY_OUTPUT)
+            is_true(
+                left.saturating_add(BY_ENTRY_OUTPUT.len()) == 1024
+                    && room.starts_with(BY_ENTRY_OUTPUT)
+            )
         );
         return true;
     }
-    assert_eq!(rt; ended.status, 4);
-    assert!(rt; left == 1024 && ended.file.is_empty());
-    assert!(rt; told.starts_with(b"histar: out of memory\n"));
+    assert!(rt; agree(ended.status, 4));
+    assert!(rt; is_true(left == 1024 && ended.file.is_empty()));
+    assert!(rt; is_true(told.starts_with(b"histar: out of memory\n")));
     false
 }
 
@@ -326,5 +331,5 @@ fn is_written<R: Abort + AllocGlobal + Threads + Wait + Sync>(rt: &R) -> bool {
 fn want_of_memory_writes_nothing(rt: HostRuntime) {
     let first = is_written(&rt);
     let second = is_written(&rt);
-    assert!(rt; first || second);
+    assert!(rt; is_true(first || second));
 }

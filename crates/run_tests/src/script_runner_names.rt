@@ -3,6 +3,7 @@ use base::{Category, ObjectId};
 use call_text::{Known, Named, Value};
 use script_runner::BoundNames;
 use std::test::Fail;
+use test_support::is_true;
 use text_words::Name;
 
 /// Whether the names answer as a list of them would.
@@ -44,11 +45,11 @@ fn want_of_memory_binds_no_name_by_half(rt: HostRuntime) -> Result<(), Fail> {
             names.bind(&named)?;
         }
     }
-    assert!(rt; are_known(&names));
+    assert!(rt; is_true(are_known(&names)));
     let mut later = BoundNames::none(rt.alloc());
     if later.bind_all(&names).is_err() {
         later.bind_all(&names)?;
     }
-    assert!(rt; are_known(&later));
+    assert!(rt; is_true(are_known(&later)));
     Ok(())
 }

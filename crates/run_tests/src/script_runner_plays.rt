@@ -9,6 +9,7 @@ use std::sync::Wait;
 use std::sync::atomic::{AtomicU64, Ordering};
 use std::test::Fail;
 use std::thread::Threads;
+use test_support::{agree, is_true};
 use text_words::Name;
 
 /// How often a worker looks for another's line.
@@ -63,7 +64,7 @@ fn two_workers_run_at_once(rt: HostRuntime) -> Result<(), Fail> {
         b"t = boot: thread_create root {1} 1 {2} 0\n--\nboot: cat_create\nboot: self_get\nboot: cat_create\nboot: self_get\nt: cat_create\nt: self_get\nt: cat_create\nt: self_get\n";
     let script = read_script(alloc, text)?;
     let played = play_all(&rt, alloc, &script, &DEFAULTS.limits, &paced(0, 3));
-    assert!(rt; played.is_ok());
+    assert!(rt; is_true(played.is_ok()));
     Ok(())
 }
 
@@ -76,7 +77,7 @@ fn workers_of_one_thread_are_stopped(rt: HostRuntime) -> Result<(), Fail> {
         b"s = boot: segment_create root {1} 1 0\nu = boot: segment_create root {1} 1 0\n--\ns: cat_create\ns: self_get\ns: cat_create\ns: self_get\nu: cat_create\nu: self_get\nu: cat_create\nu: self_get\n";
     let script = read_script(alloc, text)?;
     let played = play_all(&rt, alloc, &script, &DEFAULTS.limits, &paced(1, 4));
-    assert!(rt; matches!(played, Err(PlayFault::Stopped)));
+    assert!(rt; is_true(matches!(played, Err(PlayFault::Stopped))));
     Ok(())
 }
 
@@ -120,9 +121,11 @@ fn a_thread_is_halted_within_a_phase(rt: HostRuntime) -> Result<(), Fail> {
         parting: 3,
     };
     let played = play_all(&rt, alloc, &script, &DEFAULTS.limits, &gate)?;
-    assert_eq!(rt;
-        played.output.as_slice(),
-        b"boot 1: id a\nboot 2: id t\nboot 5: ok\nt 4: ok\nt 6: refused 1 Halted\nt 7: refused 1 Halted\n".as_slice()
+    assert!(rt;
+        agree(
+            played.output.as_slice(),
+            b"boot 1: id a\nboot 2: id t\nboot 5: ok\nt 4: ok\nt 6: refused 1 Halted\nt 7: refused 1 Halted\n".as_slice()
+        )
     );
     Ok(())
 }
@@ -139,9 +142,11 @@ fn a_list_has_the_names_of_the_end(rt: HostRuntime) -> Result<(), Fail> {
         parting: 2,
     };
     let played = play_all(&rt, alloc, &script, &DEFAULTS.limits, &gate)?;
-    assert_eq!(rt;
-        played.output.as_slice(),
-        b"boot 1: id t\nboot 4: list 4 boot dev t s\nt 3: id s\n".as_slice()
+    assert!(rt;
+        agree(
+            played.output.as_slice(),
+            b"boot 1: id t\nboot 4: list 4 boot dev t s\nt 3: id s\n".as_slice()
+        )
     );
     Ok(())
 }
@@ -179,8 +184,8 @@ fn a_line_that_is_stopped_is_not_played(rt: HostRuntime) -> Result<(), Fail> {
         answered: AtomicU64::new(0),
     };
     let played = play_all(&rt, alloc, &script, &DEFAULTS.limits, &gate);
-    assert!(rt; matches!(played, Err(PlayFault::Stopped)));
-    assert_eq!(rt; gate.answered.load(Ordering::SeqCst), 1);
+    assert!(rt; is_true(matches!(played, Err(PlayFault::Stopped))));
+    assert!(rt; agree(gate.answered.load(Ordering::SeqCst), 1));
     Ok(())
 }
 
@@ -195,8 +200,8 @@ fn the_journal_is_that_of_the_end(rt: HostRuntime) -> Result<(), Fail> {
     let events = played.events.as_slice();
     assert_eq!(rt; events.len(), 4);
     let (first, last) = (&events[0], &events[3]);
-    assert!(rt; first.number() == 1 && last.number() == 2);
-    assert!(rt; last.thread() == ObjectId::new(4));
+    assert!(rt; is_true(first.number() == 1 && last.number() == 2));
+    assert!(rt; is_true(last.thread() == ObjectId::new(4)));
     Ok(())
 }
 
@@ -224,9 +229,11 @@ fn want_of_memory_changes_nothing(rt: HostRuntime) -> Result<(), Fail> {
         answered => answered?,
     };
     let played = played_again(&rt, alloc, &script)?;
-    assert_eq!(rt;
-        played.output.as_slice(),
-        b"boot 1: cat c\nboot 2: id #4\n".as_slice()
+    assert!(rt;
+        agree(
+            played.output.as_slice(),
+            b"boot 1: cat c\nboot 2: id #4\n".as_slice()
+        )
     );
     let names = [Named {
         name: Name::from_slice(b"c"),
@@ -237,7 +244,7 @@ fn want_of_memory_changes_nothing(rt: HostRuntime) -> Result<(), Fail> {
         Ok(text) => text,
         Err(_) => write_reply(alloc, &reply, &names)?,
     };
-    assert_eq!(rt; text.as_slice(), b"cat c".as_slice());
+    assert!(rt; agree(text.as_slice(), b"cat c".as_slice()));
     Ok(())
 }
 
@@ -252,9 +259,11 @@ fn want_of_memory_stops_no_worker(rt: HostRuntime) -> Result<(), Fail> {
         answered => answered?,
     };
     let played = played_again(&rt, alloc, &script)?;
-    assert_eq!(rt;
-        played.output.as_slice(),
-        b"boot 1: id t\nboot 3: id #5\nt 4: label {1}\nt 6: cat #1\n".as_slice()
+    assert!(rt;
+        agree(
+            played.output.as_slice(),
+            b"boot 1: id t\nboot 3: id #5\nt 4: label {1}\nt 6: cat #1\n".as_slice()
+        )
     );
     Ok(())
 }

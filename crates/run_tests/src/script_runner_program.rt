@@ -7,7 +7,7 @@ use std::io::{ErrorKind, Write};
 use std::sync::Wait;
 use std::test::Fail;
 use std::thread::Threads;
-use test_support::{Broken, Holding, Portions};
+use test_support::{Broken, Holding, Portions, agree, is_true};
 
 #[test]
 fn faults_of_streams(rt: HostRuntime) -> Result<(), Fail> {
@@ -23,8 +23,8 @@ fn faults_of_streams(rt: HostRuntime) -> Result<(), Fail> {
         &mut Counted::new(&mut out),
         &mut err,
     );
-    assert_eq!(rt; ended.status, 3);
-    assert_eq!(rt; err.as_slice(), b"histar: input fault\n".as_slice());
+    assert!(rt; agree(ended.status, 3));
+    assert!(rt; agree(err.as_slice(), b"histar: input fault\n".as_slice()));
     err.clear();
     let mut script = Broken(ErrorKind::OutOfMemory);
     let ended = histar_on(
@@ -35,8 +35,8 @@ fn faults_of_streams(rt: HostRuntime) -> Result<(), Fail> {
         &mut Counted::new(&mut out),
         &mut err,
     );
-    assert_eq!(rt; ended.status, 4);
-    assert_eq!(rt; err.as_slice(), b"histar: out of memory\n".as_slice());
+    assert!(rt; agree(ended.status, 4));
+    assert!(rt; agree(err.as_slice(), b"histar: out of memory\n".as_slice()));
     err.clear();
     let mut script: &[u8] = b"boot: cat_create\n";
     let mut room = [0u8; 4];
@@ -49,9 +49,9 @@ fn faults_of_streams(rt: HostRuntime) -> Result<(), Fail> {
         &mut Counted::new(&mut full),
         &mut err,
     );
-    assert_eq!(rt; ended.status, 3);
-    assert_eq!(rt; err.as_slice(), b"histar: output fault\n".as_slice());
-    assert_eq!(rt; out.len(), 0);
+    assert!(rt; agree(ended.status, 3));
+    assert!(rt; agree(err.as_slice(), b"histar: output fault\n".as_slice()));
+    assert!(rt; agree(out.len(), 0));
     Ok(())
 }
 
@@ -63,15 +63,17 @@ fn output_is_handed_on(rt: HostRuntime) {
     let mut script: &[u8] = b"boot: cat_create\n";
     let mut out = Counted::new(Unhanded);
     let ended = histar_on(&rt, alloc, &mut script, &DEFAULTS, &mut out, &mut err);
-    assert_eq!(rt; ended.status, 3);
-    assert_eq!(rt; err.as_slice(), b"histar: output fault\n".as_slice());
+    assert!(rt; agree(ended.status, 3));
+    assert!(rt; agree(err.as_slice(), b"histar: output fault\n".as_slice()));
     let mut script: &[u8] = b"boot: cat_create\n";
     let mut out = Counted::new(Holding::nothing(alloc));
     let ended = histar_on(&rt, alloc, &mut script, &DEFAULTS, &mut out, &mut err);
-    assert_eq!(rt; ended.status, 0);
-    assert_eq!(rt;
-        out.into_inner().handed.as_slice(),
-        b"boot 1: cat #1\n".as_slice()
+    assert!(rt; agree(ended.status, 0));
+    assert!(rt;
+        agree(
+            out.into_inner().handed.as_slice(),
+            b"boot 1: cat #1\n".as_slice()
+        )
     );
 }
 
@@ -91,11 +93,11 @@ fn each_failing_write_is_an_output_fault(rt: HostRuntime) {
     let whole = b"boot 1: cat #1\nboot 2: cat #2\n".as_slice();
     for writes in 0..5u32 {
         let (status, written) = ended_after(&rt, writes);
-        assert!(rt; status == 3 && written.len() == writes as usize * 7);
-        assert!(rt; whole.starts_with(written.as_slice()));
+        assert!(rt; is_true(status == 3 && written.len() == writes as usize * 7));
+        assert!(rt; is_true(whole.starts_with(written.as_slice())));
     }
     let (status, written) = ended_after(&rt, 5);
-    assert!(rt; status == 0 && written.as_slice() == whole);
+    assert!(rt; is_true(status == 0 && written.as_slice() == whole));
 }
 
 /// A writer that takes all bytes, and fails to hand them on.

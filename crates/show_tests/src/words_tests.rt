@@ -1,13 +1,14 @@
 //! What the command line of the program takes and refuses.
 use show_args::{Colours, Verb, read_words};
 use std::test::Fail;
+use test_support::is_true;
 
 #[test]
 fn reads_the_dump_and_the_line(rt: HostRuntime) -> Result<(), Fail> {
     let told = read_words(rt.alloc(), &["histar-show", "why", "a.dump", "7"])?;
-    assert!(rt; told.dump == "a.dump" && told.verb == Verb::Why(Some(7)));
+    assert!(rt; is_true(told.dump == "a.dump" && told.verb == Verb::Why(Some(7))));
     let told = read_words(rt.alloc(), &["histar-show", "why", "a.dump"])?;
-    assert!(rt; told.dump == "a.dump" && told.verb == Verb::Why(None));
+    assert!(rt; is_true(told.dump == "a.dump" && told.verb == Verb::Why(None)));
     Ok(())
 }
 
@@ -21,22 +22,22 @@ fn reads_the_dump_and_the_count(rt: HostRuntime) -> Result<(), Fail> {
         after: Some(0),
         colours: Colours::Auto,
     };
-    assert!(rt; told.dump == "a.dump" && told.verb == first);
+    assert!(rt; is_true(told.dump == "a.dump" && told.verb == first));
     let told = read_words(rt.alloc(), &["histar-show", "tree", "a.dump"])?;
     let last = Verb::Tree {
         after: None,
         colours: Colours::Auto,
     };
-    assert!(rt; told.dump == "a.dump" && told.verb == last);
+    assert!(rt; is_true(told.dump == "a.dump" && told.verb == last));
     let told = read_words(rt.alloc(), &["histar-show", "json", "a.dump"])?;
-    assert!(rt; told.dump == "a.dump" && told.verb == Verb::Json);
+    assert!(rt; is_true(told.dump == "a.dump" && told.verb == Verb::Json));
     Ok(())
 }
 
 #[test]
 fn reads_the_dump_and_the_flows(rt: HostRuntime) -> Result<(), Fail> {
     let told = read_words(rt.alloc(), &["histar-show", "dot", "a.dump"])?;
-    assert!(rt; told.dump == "a.dump" && told.verb == Verb::Dot(None));
+    assert!(rt; is_true(told.dump == "a.dump" && told.verb == Verb::Dot(None)));
     let words = [
         "histar-show",
         "dot",
@@ -47,7 +48,7 @@ fn reads_the_dump_and_the_flows(rt: HostRuntime) -> Result<(), Fail> {
         "1",
     ];
     let told = read_words(rt.alloc(), &words)?;
-    assert!(rt; told.dump == "a.dump" && told.verb == Verb::Dot(Some((4, 1))));
+    assert!(rt; is_true(told.dump == "a.dump" && told.verb == Verb::Dot(Some((4, 1)))));
     Ok(())
 }
 
@@ -74,7 +75,9 @@ fn reads_the_dump_and_the_page(rt: HostRuntime) -> Result<(), Fail> {
     let words = ["histar-show", "page", "a.dump", "--out", "a.html"];
     let told = read_words(rt.alloc(), &words)?;
     assert!(rt;
-        told.dump == "a.dump" && told.verb == Verb::Page(None) && told.out == Some("a.html")
+        is_true(
+            told.dump == "a.dump" && told.verb == Verb::Page(None) && told.out == Some("a.html")
+        )
     );
     let words = [
         "histar-show",
@@ -87,7 +90,7 @@ fn reads_the_dump_and_the_page(rt: HostRuntime) -> Result<(), Fail> {
         "1",
     ];
     let told = read_words(rt.alloc(), &words)?;
-    assert!(rt; told.verb == Verb::Page(Some((4, 1))) && told.out == Some("a.html"));
+    assert!(rt; is_true(told.verb == Verb::Page(Some((4, 1))) && told.out == Some("a.html")));
     Ok(())
 }
 

@@ -1,5 +1,5 @@
-//! Tests of the structures that a faster kernel will stand on: values from outside, and each boot
-//! made again where there was no memory for it.
+//! Tests of the structures that the arena kernel stands on: values from outside, each boot made again where
+//! there was no memory for it, and a storm of calls of containers against what a plain twin answers.
 #![tactic(auto)]
 
 /// This crate has tests alone.
@@ -7,6 +7,12 @@ pub fn structures_are_tested() {}
 
 #[cfg(test)]
 mod address_spaces_tests;
+#[cfg(test)]
+mod containers_seen;
+#[cfg(test)]
+mod containers_tests;
+#[cfg(test)]
+mod containers_twin_tests;
 #[cfg(test)]
 mod entry_lists_tests;
 #[cfg(test)]

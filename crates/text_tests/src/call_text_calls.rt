@@ -4,6 +4,7 @@ use call_text::{Asked, Known, NameList, Named, read_script, resolve, write_scrip
 use kernel_rules::{Call, Query};
 use std::alloc::Global;
 use std::test::Fail;
+use test_support::{agree, is_true};
 use text_words::Name;
 
 /// A line of each call, with a name where it may have one.
@@ -59,14 +60,14 @@ fn each_call_is_read_and_written(rt: HostRuntime) -> Result<(), Fail> {
     let text = script_of(rt.alloc(), &LINES)?;
     let script = read_script(rt.alloc(), text.as_slice())?;
     let again = write_script(rt.alloc(), &script)?;
-    assert!(rt; again.as_slice() == text.as_slice());
+    assert!(rt; is_true(again.as_slice() == text.as_slice()));
     for phase in &script.phases {
-        assert_eq!(rt; phase.len(), 34);
+        assert!(rt; agree(phase.len(), 34));
         let binding = (0..phase.len())
             .filter_map(|place| phase.line(place))
             .filter(|line| line.binds.is_some())
             .count();
-        assert_eq!(rt; binding, 7);
+        assert!(rt; agree(binding, 7));
     }
     Ok(())
 }
@@ -103,7 +104,7 @@ fn each_call_is_resolved(rt: HostRuntime) -> Result<(), Fail> {
     let text = script_of(rt.alloc(), &LINES)?;
     let names = named_in_lines();
     let counts = asked(rt.alloc(), text.as_slice(), &NameList { named: &names })?;
-    assert!(rt; counts == (24, 10));
+    assert!(rt; is_true(counts == (24, 10)));
     Ok(())
 }
 
@@ -149,14 +150,14 @@ fn a_mapping_is_asked_for(rt: HostRuntime) -> Result<(), Fail> {
 fn numbers_of_64_bits_and_with_signs_are_asked_for(rt: HostRuntime) -> Result<(), Fail> {
     match asked_by(rt.alloc(), b"boot: load 18446744073709551615 64\n")? {
         Some(Asked::Read(Query::Load { address, count })) => {
-            assert_eq!(rt; address, u64::MAX);
-            assert_eq!(rt; count, 64);
+            assert!(rt; agree(address, u64::MAX));
+            assert!(rt; agree(count, 64));
         }
         _ => assert!(rt; false),
     }
     match asked_by(rt.alloc(), b"boot: quota_move root s -2147483648\n")? {
         Some(Asked::Write(Call::QuotaMove { change, .. })) => {
-            assert_eq!(rt; change, i32::MIN);
+            assert!(rt; agree(change, i32::MIN));
         }
         _ => assert!(rt; false),
     }

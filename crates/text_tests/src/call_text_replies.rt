@@ -6,7 +6,7 @@ use kernel_rules::{Ids, Mapping, Reply};
 use label_lattice::Label;
 use std::alloc::Global;
 use std::test::Fail;
-use test_support::{everywhere, in_root, no_entry, pair};
+use test_support::{everywhere, in_root, is_true, no_entry, pair};
 use text_words::{is_same, read_rights};
 
 /// Whether the reply has the text.
@@ -43,7 +43,7 @@ fn what_was_made_has_its_name_or_its_number(rt: HostRuntime) -> Result<(), Fail>
     put_made(&mut out, &Value::Object(ObjectId::new(1)), &list)?;
     out.push(b'\n')?;
     put_made(&mut out, &Value::Category(Category(1)), &list)?;
-    assert!(rt; is_same(out.as_slice(), b"id root\ncat #1"));
+    assert!(rt; is_true(is_same(out.as_slice(), b"id root\ncat #1")));
     Ok(())
 }
 
@@ -85,20 +85,20 @@ fn lists_of_ids(rt: HostRuntime) -> Result<(), Fail> {
         count: 3,
         ids: Ids::from_slice(&[]),
     };
-    assert!(rt; is_text(rt.alloc(), &none, "list 3")?);
+    assert!(rt; is_true(is_text(rt.alloc(), &none, "list 3")?));
     let ids = [ObjectId::new(2), ObjectId::root(), ObjectId::new(3)];
     let three = Reply::Listed {
         count: 20,
         ids: Ids::from_slice(&ids),
     };
-    assert!(rt; is_text(rt.alloc(), &three, "list 20 #2 root #3")?);
+    assert!(rt; is_true(is_text(rt.alloc(), &three, "list 20 #2 root #3")?));
     let sixteen = Reply::Listed {
         count: 16,
         ids: Ids::from_slice(&[ObjectId::root(); 16]),
     };
     let text =
         "list 16 root root root root root root root root root root root root root root root root";
-    assert!(rt; is_text(rt.alloc(), &sixteen, text)?);
+    assert!(rt; is_true(is_text(rt.alloc(), &sixteen, text)?));
     Ok(())
 }
 
@@ -118,10 +118,10 @@ fn label(alloc: Global, default: Level, pairs: &[(u64, Level)]) -> Result<Option
 fn labels_with_names(rt: HostRuntime) -> Result<(), Fail> {
     let alloc = rt.alloc();
     let plain = label(alloc, Level::L1, &[])?.expect(&rt, "a label");
-    assert!(rt; is_text(alloc, &Reply::Label(plain), "label {1}")?);
+    assert!(rt; is_true(is_text(alloc, &Reply::Label(plain), "label {1}")?));
     let pairs = [(7, Level::L0), (4, Level::Star)];
     let owning = label(alloc, Level::L3, &pairs)?.expect(&rt, "a label");
-    assert!(rt; is_text(alloc, &Reply::Label(owning), "label {c:*,#7:0,3}")?);
+    assert!(rt; is_true(is_text(alloc, &Reply::Label(owning), "label {c:*,#7:0,3}")?));
     let own = Reply::Own {
         label: owning,
         clearance: plain,
@@ -130,6 +130,6 @@ fn labels_with_names(rt: HostRuntime) -> Result<(), Fail> {
         entry_point: 5,
         closure: 6,
     };
-    assert!(rt; is_text(alloc, &own, "self {c:*,#7:0,3} {1} {1} #0 #0 5 6")?);
+    assert!(rt; is_true(is_text(alloc, &own, "self {c:*,#7:0,3} {1} {1} #0 #0 5 6")?));
     Ok(())
 }

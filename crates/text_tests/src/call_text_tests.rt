@@ -8,6 +8,7 @@ use call_text::{
 use kernel_rules::{Call, Query, Reply};
 use std::alloc::Global;
 use std::test::Fail;
+use test_support::{agree, is_true};
 use text_words::{Name, is_same};
 
 /// A script of three phases: one with a batch of two lines, one with two lines, and one with none.
@@ -26,17 +27,17 @@ fn fault(alloc: Global, text: &[u8]) -> u32 {
 #[test]
 fn a_script_is_read_and_written(rt: HostRuntime) -> Result<(), Fail> {
     let script = read_script(rt.alloc(), TEXT.as_bytes())?;
-    assert_eq!(rt; script.phases.len(), 3);
+    assert!(rt; agree(script.phases.len(), 3));
     for phase in &script.phases {
         for place in 0..phase.len() {
             let worker = phase.worker(place).expect(&rt, "a worker");
-            assert!(rt; is_same(worker.as_slice(), b"boot"));
+            assert!(rt; is_true(is_same(worker.as_slice(), b"boot")));
         }
     }
     let bytes = write_script(rt.alloc(), &script)?;
-    assert!(rt; bytes.as_slice() == TEXT.as_bytes());
+    assert!(rt; is_true(bytes.as_slice() == TEXT.as_bytes()));
     let none = read_script(rt.alloc(), b"")?;
-    assert_eq!(rt; none.phases.len(), 1);
+    assert!(rt; agree(none.phases.len(), 1));
     Ok(())
 }
 
@@ -50,7 +51,7 @@ fn lines_have_their_numbers(rt: HostRuntime) -> Result<(), Fail> {
             sum = sum.wrapping_mul(10).wrapping_add(line.number as u64);
         }
     }
-    assert_eq!(rt; sum, 1245);
+    assert!(rt; agree(sum, 1245));
     Ok(())
 }
 
@@ -100,10 +101,10 @@ fn numbers_stand_for_themselves(rt: HostRuntime) -> Result<(), Fail> {
                         },
                     ),
                 ) => {
-                    assert_eq!(rt; entry.container.number(), 1);
-                    assert_eq!(rt; entry.object.number(), 7);
-                    assert_eq!(rt; offset, 8);
-                    assert_eq!(rt; count, 9);
+                    assert!(rt; agree(entry.container.number(), 1));
+                    assert!(rt; agree(entry.object.number(), 7));
+                    assert!(rt; agree(offset, 8));
+                    assert!(rt; agree(count, 9));
                 }
                 Ok(Asked::Write(Call::CatCreate)) => assert!(rt; false),
                 _ => assert!(rt; false),
@@ -138,9 +139,9 @@ fn want_of_memory_reads_a_script_as_before(rt: HostRuntime) {
         ("c = boot: cat_create\nc = boot: cat_create\n", 2),
     ] {
         let first = fault(rt.alloc(), text.as_bytes());
-        assert!(rt; first == 0 || first == line);
+        assert!(rt; is_true(first == 0 || first == line));
         let second = fault(rt.alloc(), text.as_bytes());
-        assert!(rt; second == line || (first == line && second == 0));
+        assert!(rt; is_true(second == line || (first == line && second == 0)));
     }
 }
 
@@ -151,18 +152,18 @@ fn want_of_memory_writes_a_reply_as_before(rt: HostRuntime) {
         write_reply(rt.alloc(), &reply, &named()),
         b"refused 12 NoQuota",
     );
-    assert!(rt; first != Some(false));
+    assert!(rt; is_true(first != Some(false)));
     let second = is_text(
         write_reply(rt.alloc(), &reply, &named()),
         b"refused 12 NoQuota",
     );
-    assert!(rt; second == Some(true) || (first == Some(true) && second.is_none()));
+    assert!(rt; is_true(second == Some(true) || (first == Some(true) && second.is_none())));
 }
 
 #[test]
 fn faults_are_refusals(rt: HostRuntime) {
-    assert_eq!(rt; ScriptError::Line(7).refusal().number(), 50);
-    assert_eq!(rt; ScriptError::Memory.refusal().number(), 51);
+    assert!(rt; agree(ScriptError::Line(7).refusal().number(), 50));
+    assert!(rt; agree(ScriptError::Memory.refusal().number(), 51));
 }
 
 // Where an allocation is refused, the script that is read again is written again as it stood.
@@ -176,6 +177,6 @@ fn want_of_memory_writes_a_script_as_before(rt: HostRuntime) -> Result<(), Fail>
         Ok(bytes) => bytes,
         Err(_) => write_script(rt.alloc(), &script)?,
     };
-    assert!(rt; is_same(bytes.as_slice(), TEXT.as_bytes()));
+    assert!(rt; is_true(is_same(bytes.as_slice(), TEXT.as_bytes())));
     Ok(())
 }

@@ -1,5 +1,5 @@
-//! Tests of words, calls, scripts and replies as text: vectors from outside, what is no spelling,
-//! and each reader and writer called again where there was no memory.
+//! Tests of words, calls, scripts, replies and dumps as text: vectors from outside, what is no spelling, each
+//! fault at its line, and each reader and writer called again where there was no memory.
 #![tactic(auto)]
 
 /// This crate has tests alone.
@@ -11,6 +11,12 @@ mod call_text_calls;
 mod call_text_replies;
 #[cfg(test)]
 mod call_text_tests;
+#[cfg(test)]
+mod dump_format_2_tests;
+#[cfg(test)]
+mod dump_read_tests;
+#[cfg(test)]
+mod dump_text_tests;
 #[cfg(test)]
 mod names;
 #[cfg(test)]

@@ -2,6 +2,7 @@
 use spoken_calls::{ArgKind, SpokenCall, put_spoken, read_arguments, read_spoken};
 use std::alloc::{AllocError, Global};
 use std::test::Fail;
+use test_support::{agree, is_true};
 
 /// A line of each call.
 const ROWS: [&str; 34] = [
@@ -75,7 +76,7 @@ fn arguments_are_added_to_a_list(rt: HostRuntime) -> Result<(), Fail> {
             making = making.saturating_add(1);
         }
     }
-    assert_eq!(rt; making, 7);
+    assert!(rt; agree(making, 7));
     Ok(())
 }
 
@@ -83,7 +84,7 @@ fn arguments_are_added_to_a_list(rt: HostRuntime) -> Result<(), Fail> {
 fn other_lines_are_none(rt: HostRuntime) -> Result<(), Fail> {
     let mut args = Vec::new(rt.alloc());
     let first = read_spoken(rt.alloc(), b"unref root s", &mut args)?;
-    assert!(rt; first.is_some());
+    assert!(rt; is_true(first.is_some()));
     for line in [
         "",
         "cat_create ",
@@ -124,7 +125,7 @@ fn other_lines_are_none(rt: HostRuntime) -> Result<(), Fail> {
 fn arguments_are_read_alone(rt: HostRuntime) -> Result<(), Fail> {
     let kinds = [ArgKind::Wide, ArgKind::Rights];
     let args = read_arguments(rt.alloc(), &kinds, b"7 rw")?.expect(&rt, "arguments");
-    assert_eq!(rt; args.len(), 2);
+    assert!(rt; agree(args.len(), 2));
     for text in ["", "7", "7 ", "7  rw", "07 rw", "7 rw rw", " 7 rw"] {
         let read = read_arguments(rt.alloc(), &kinds, text.as_bytes())?;
         assert!(rt; read.is_none(), "{text}");

@@ -2,6 +2,7 @@
 use base::Level;
 use std::alloc::{AllocError, Global};
 use std::test::Fail;
+use test_support::{agree, is_true};
 use text_words::{
     Name, is_same, put_data, put_label, put_level, put_name, put_number, put_reference, put_rights,
     put_signed, put_types, read_data, read_label, read_level, read_name, read_number,
@@ -43,7 +44,7 @@ fn again(alloc: Global) -> Result<Vec<u8>, AllocError> {
 #[test]
 fn words_are_read_and_written(rt: HostRuntime) -> Result<(), Fail> {
     let out = again(rt.alloc())?;
-    assert!(rt; is_same(out.as_slice(), WORDS));
+    assert!(rt; is_true(is_same(out.as_slice(), WORDS)));
     Ok(())
 }
 
@@ -135,16 +136,16 @@ fn a_name_has_up_to_16_bytes(rt: HostRuntime) -> Result<(), Fail> {
     let name = read_name(b"abcdefghijklmn_0").expect(&rt, "a name");
     let mut out = Vec::new(rt.alloc());
     put_name(&mut out, &name)?;
-    assert!(rt; is_same(out.as_slice(), b"abcdefghijklmn_0"));
-    assert!(rt; is_same(Name::from_slice(b"dev").as_slice(), b"dev"));
+    assert!(rt; is_true(is_same(out.as_slice(), b"abcdefghijklmn_0")));
+    assert!(rt; is_true(is_same(Name::from_slice(b"dev").as_slice(), b"dev")));
     Ok(())
 }
 
 #[test]
 fn a_label_keeps_its_pairs(rt: HostRuntime) -> Result<(), Fail> {
     let label = read_label(rt.alloc(), b"{#5:0,#5:3,2}")?.expect(&rt, "a label");
-    assert_eq!(rt; label.pairs().len(), 2);
-    assert!(rt; label.default() == Level::L2);
+    assert!(rt; agree(label.pairs().len(), 2));
+    assert!(rt; is_true(label.default() == Level::L2));
     Ok(())
 }
 
@@ -160,7 +161,7 @@ fn are_kept(alloc: Global) -> Option<bool> {
 #[test]
 fn want_of_memory_writes_no_other_words(rt: HostRuntime) {
     let first = are_kept(rt.alloc());
-    assert!(rt; first != Some(false));
+    assert!(rt; is_true(first != Some(false)));
     let second = are_kept(rt.alloc());
-    assert!(rt; second == Some(true) || (first == Some(true) && second.is_none()));
+    assert!(rt; is_true(second == Some(true) || (first == Some(true) && second.is_none())));
 }

@@ -6,6 +6,7 @@ ghost use Rattle.base.specs.declared.kinds.Kind.TheVariants as kinds;
 use base::{Data, Kind, Level, Limits, Meter, ObjectId, Refusal, Rights, TypeSet, live_by_path};
 use bitflags::Flags;
 use std::test::Fail;
+use test_support::{agree, is_true};
 
 #[test]
 fn a_meter_counts(rt: HostRuntime) -> Result<(), Fail> {
@@ -13,21 +14,21 @@ fn a_meter_counts(rt: HostRuntime) -> Result<(), Fail> {
     meter.scan();
     meter.probe();
     meter.probe();
-    assert_eq!(rt; meter.scans(), 1);
-    assert_eq!(rt; meter.probes(), 2);
+    assert!(rt; agree(meter.scans(), 1));
+    assert!(rt; agree(meter.probes(), 2));
     Ok(())
 }
 
 #[test]
 fn words_are_those_of_the_table(rt: HostRuntime) {
-    assert_eq!(rt; Refusal::Halted.number(), 1);
-    assert_eq!(rt; Refusal::RootKept.number(), 16);
-    assert_eq!(rt; Refusal::NotClean.number(), 62);
-    assert!(rt; Refusal::NotFormat1.name() == "NotFormat1");
-    assert_eq!(rt; Refusal::Bounds.lesser(Refusal::NoQuota), Refusal::NoQuota);
-    assert_eq!(rt; Level::L3.rank(), 4);
-    assert_eq!(rt; ObjectId::root().number(), 1);
-    assert_eq!(rt; ObjectId::new(7).number(), 7);
+    assert!(rt; agree(Refusal::Halted.number(), 1));
+    assert!(rt; agree(Refusal::RootKept.number(), 16));
+    assert!(rt; agree(Refusal::NotClean.number(), 62));
+    assert!(rt; is_true(Refusal::NotFormat1.name() == "NotFormat1"));
+    assert!(rt; agree(Refusal::Bounds.lesser(Refusal::NoQuota), Refusal::NoQuota));
+    assert!(rt; agree(Level::L3.rank(), 4));
+    assert!(rt; agree(ObjectId::root().number(), 1));
+    assert!(rt; agree(ObjectId::new(7).number(), 7));
     live_by_path();
 }
 
@@ -50,51 +51,59 @@ fn sets_are_changed_as_sets_of_bits(rt: HostRuntime) {
     let mut set = TypeSet::SEGMENT | TypeSet::GATE;
     insert_threads(&mut set);
     set.remove(TypeSet::GATE);
-    assert!(rt; set == TypeSet::SEGMENT.union(TypeSet::THREAD) && set.contains(TypeSet::SEGMENT));
-    assert!(rt; set - TypeSet::SEGMENT == TypeSet::of(Kind::Thread));
-    assert!(rt; !(!set | set) == TypeSet::none() && TypeSet::all().is_all());
-    assert!(rt; (set & TypeSet::THREAD) ^ TypeSet::SEGMENT == set);
+    assert!(rt;
+        is_true(set == TypeSet::SEGMENT.union(TypeSet::THREAD) && set.contains(TypeSet::SEGMENT))
+    );
+    assert!(rt; is_true(set - TypeSet::SEGMENT == TypeSet::of(Kind::Thread)));
+    assert!(rt; is_true(!(!set | set) == TypeSet::none() && TypeSet::all().is_all()));
+    assert!(rt; is_true((set & TypeSet::THREAD) ^ TypeSet::SEGMENT == set));
 }
 
 #[test]
 fn rights_have_names(rt: HostRuntime) {
-    assert!(rt; Rights::from_name("WRITE") == Some(Rights::WRITE));
-    assert!(rt; Rights::from_name("EXEC").is_none());
+    assert!(rt; is_true(Rights::from_name("WRITE") == Some(Rights::WRITE)));
+    assert!(rt; is_true(Rights::from_name("EXEC").is_none()));
     let mut both = Rights::READ;
     insert_write(&mut both);
     assert!(rt;
-        both.is_all()
-            && both == Rights::READ | Rights::WRITE
-            && both - Rights::READ == Rights::WRITE
+        is_true(
+            both.is_all()
+                && both == Rights::READ | Rights::WRITE
+                && both - Rights::READ == Rights::WRITE
+        )
     );
-    assert!(rt; !Rights::READ & both == Rights::WRITE && Rights::READ ^ both == Rights::WRITE);
+    assert!(rt;
+        is_true(!Rights::READ & both == Rights::WRITE && Rights::READ ^ both == Rights::WRITE)
+    );
 }
 
 #[test]
 fn each_of_a_set_is_told(rt: HostRuntime) {
     let mut count = 0u64;
     for kind in TypeSet::all() {
-        assert!(rt; TypeSet::all().contains(kind));
+        assert!(rt; is_true(TypeSet::all().contains(kind)));
         count = count.saturating_add(1);
     }
     for right in Rights::READ {
-        assert!(rt; right == Rights::READ);
+        assert!(rt; is_true(right == Rights::READ));
         count = count.saturating_add(1);
     }
-    assert!(rt; count == 7);
+    assert!(rt; is_true(count == 7));
 }
 
 #[test]
 fn sets_hold_what_was_put_in(rt: HostRuntime) {
     let both = TypeSet::of(Kind::Gate) | TypeSet::of(Kind::Segment);
-    assert!(rt; both.has(Kind::Gate) && both.has(Kind::Segment) && !both.has(Kind::Device));
-    assert!(rt; !TypeSet::none().has(Kind::Container));
+    assert!(rt;
+        is_true(both.has(Kind::Gate) && both.has(Kind::Segment) && !both.has(Kind::Device))
+    );
+    assert!(rt; is_true(!TypeSet::none().has(Kind::Container)));
     let rights = Rights {
         read: true,
         write: true,
     };
-    assert!(rt; rights.reading().read && !rights.reading().write);
-    assert!(rt; !Rights::none().read && !Rights::none().write);
+    assert!(rt; is_true(rights.reading().read && !rights.reading().write));
+    assert!(rt; is_true(!Rights::none().read && !Rights::none().write));
 }
 
 #[test]
@@ -105,7 +114,7 @@ fn limits_have_ranges(rt: HostRuntime) {
         next_id: 4,
         next_category: 1,
     };
-    assert!(rt; limits.is_in_range());
+    assert!(rt; is_true(limits.is_in_range()));
     let spent = 1u64 << 61;
     for (pages, device, next_id, next_category, wanted) in [
         (7, Level::L1, 4, 1, false),
@@ -130,6 +139,6 @@ fn limits_have_ranges(rt: HostRuntime) {
 #[test]
 fn data_keeps_its_bytes(rt: HostRuntime) {
     let data = Data::from_slice(b"label");
-    assert_eq!(rt; data.as_slice(), b"label".as_slice());
-    assert_eq!(rt; Data::from_slice(&[7; Data::MOST]).as_slice().len(), 64);
+    assert!(rt; agree(data.as_slice(), b"label".as_slice()));
+    assert!(rt; agree(Data::from_slice(&[7; Data::MOST]).as_slice().len(), 64));
 }

@@ -10,8 +10,8 @@ use plain_state::PlainState;
 use std::alloc::Global;
 use std::test::Fail;
 use test_support::{
-    LIMITS, boot_thread, everywhere, in_root, label_with, new_segment, new_thread, plain,
-    refusal_in,
+    LIMITS, agree, boot_thread, everywhere, in_root, is_true, label_with, new_segment, new_thread,
+    plain, refusal_in,
 };
 
 /// Makes a call.
@@ -71,22 +71,26 @@ fn a_secret_is_kept_by_its_category(rt: HostRuntime) -> Result<(), Fail> {
     let query = Query::SegmentLen { entry: in_root(4) };
     let found = explain_query(&state, thread, &query)?;
     let reply = ask(&state, thread, &query, &mut meter);
-    assert_eq!(rt; refusal_in(reply), Some(Refusal::CannotObserve));
-    assert_eq!(rt;
-        refusal_among(&found, &mut meter),
-        Some(Refusal::CannotObserve)
+    assert!(rt; agree(refusal_in(reply), Some(Refusal::CannotObserve)));
+    assert!(rt;
+        agree(
+            refusal_among(&found, &mut meter),
+            Some(Refusal::CannotObserve)
+        )
     );
     let told = failing_in(rt.alloc(), &found, Refusal::CannotObserve, 0, &mut meter)?;
     let Some(failing) = told else {
         assert!(rt; false);
         return Ok(());
     };
-    assert!(rt; failing.rest.is_none());
+    assert!(rt; is_true(failing.rest.is_none()));
     assert_eq!(rt; failing.named.len(), 1);
     let failure = failing.named[0];
-    assert_eq!(rt;
-        (failure.category.0, failure.ranks.left, failure.ranks.right),
-        (1, Rank::L3, Rank::L1)
+    assert!(rt;
+        agree(
+            (failure.category.0, failure.ranks.left, failure.ranks.right),
+            (1, Rank::L3, Rank::L1)
+        )
     );
     Ok(())
 }
@@ -99,22 +103,21 @@ fn a_label_too_high_fails_at_all_but_few_categories(rt: HostRuntime) -> Result<(
     };
     let call = new_segment(label_with(Level::L2, Level::L3));
     let found = explain(&state, boot_thread(), &call)?;
-    assert_eq!(rt;
-        refusal_among(&found, &mut meter),
-        Some(Refusal::LabelRange)
-    );
+    assert!(rt; agree(refusal_among(&found, &mut meter), Some(Refusal::LabelRange)));
     let told = failing_in(rt.alloc(), &found, Refusal::LabelRange, 1, &mut meter)?;
     let Some(failing) = told else {
         assert!(rt; false);
         return Ok(());
     };
-    assert!(rt; failing.named.is_empty());
-    assert_eq!(rt;
-        failing.rest,
-        Some(Ranks {
-            left: Rank::L3,
-            right: Rank::L2
-        })
+    assert!(rt; is_true(failing.named.is_empty()));
+    assert!(rt;
+        agree(
+            failing.rest,
+            Some(Ranks {
+                left: Rank::L3,
+                right: Rank::L2
+            })
+        )
     );
     Ok(())
 }
@@ -128,9 +131,9 @@ fn a_quota_that_does_not_suffice_is_told_by_its_sum(rt: HostRuntime) -> Result<(
         change: 90,
     };
     let found = explain(&state, boot_thread(), &call)?;
-    assert_eq!(rt; refusal_among(&found, &mut meter), Some(Refusal::NoQuota));
+    assert!(rt; agree(refusal_among(&found, &mut meter), Some(Refusal::NoQuota)));
     let part = part_of(&found, Refusal::NoQuota, 0);
-    assert!(rt; matches!(part, Some(Part::Sum(4, 90, 64))));
+    assert!(rt; is_true(matches!(part, Some(Part::Sum(4, 90, 64)))));
     Ok(())
 }
 
@@ -171,20 +174,20 @@ fn pages_that_meet_are_told_by_their_slot(rt: HostRuntime) -> Result<(), Fail> {
         mapping: mapping(3),
     };
     let found = explain(&state, boot_thread(), &second)?;
-    assert_eq!(rt; refusal_among(&found, &mut meter), Some(Refusal::Overlap));
+    assert!(rt; agree(refusal_among(&found, &mut meter), Some(Refusal::Overlap)));
     for place in 0..17usize {
         let part = part_of(&found, Refusal::Overlap, place);
         let against = match part {
             Some(part) => part.is_against(&mut meter),
             None => true,
         };
-        assert_eq!(rt; against, place == 8);
+        assert!(rt; agree(against, place == 8));
     }
     assert!(rt;
-        matches!(
+        is_true(matches!(
             part_of(&found, Refusal::Overlap, 8),
             Some(Part::Apart(7, _, _))
-        )
+        ))
     );
     Ok(())
 }
@@ -194,9 +197,9 @@ fn an_accepted_call_has_no_finding_that_holds(rt: HostRuntime) -> Result<(), Fai
     let mut meter = Meter::new(rt.alloc())?;
     let state = PlainState::boot(rt.alloc(), &LIMITS)?;
     let found = explain(&state, boot_thread(), &new_segment(everywhere(Level::L2)))?;
-    assert_eq!(rt; found.len(), 12);
+    assert!(rt; agree(found.len(), 12));
     for finding in &found {
-        assert!(rt; !finding.holds(&mut meter));
+        assert!(rt; is_true(!finding.holds(&mut meter)));
     }
     Ok(())
 }
@@ -209,7 +212,7 @@ fn want_of_memory_is_told(rt: HostRuntime) -> Result<(), Fail> {
     let raw: RawLabel = plain();
     let call = Call::SelfSetLabel { label: raw };
     if let Ok(found) = explain(&state, boot_thread(), &call) {
-        assert_eq!(rt; found.len(), 3);
+        assert!(rt; agree(found.len(), 3));
     }
     Ok(())
 }

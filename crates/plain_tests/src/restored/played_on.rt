@@ -1,12 +1,12 @@
 //! A checkpoint is restored, and played on.
-use crate::samples::{add_event, after, events_of, outcome};
+use super::samples::{add_event, after, events_of, outcome};
 use base::{Data, Level, Meter, NoMemory, ObjectId, Rights};
 use kernel_rules::{Call, Mapping, NewAddressSpace, NewGate, NewSegment, Reply};
 use plain_core::{Machine, PlainKernel};
 use std::test::Fail;
 use test_support::{
-    LIMITS, agree, are_equal, boot_thread, in_root, label_with, new_container, new_segment,
-    new_thread, no_entry, plain,
+    LIMITS, agree, are_equal, boot_thread, in_root, is_true, label_with, new_container,
+    new_segment, new_thread, no_entry, plain,
 };
 
 /// What the boot thread does before the checkpoint: a category, a container, a segment, an address
@@ -123,32 +123,32 @@ fn a_restored_kernel_goes_on_alike(rt: HostRuntime) -> Result<(), Fail> {
     let mut meter = Meter::new(rt.alloc())?;
     let events = events_of(rt.alloc(), &begun())?;
     let made = after(rt.alloc(), &LIMITS, events.as_slice())?;
-    assert_eq!(rt; made.objects.len(), 8);
-    assert_eq!(rt; made.next_id, 9);
-    assert_eq!(rt; made.next_category, 2);
+    assert!(rt; agree(made.objects.len(), 8));
+    assert!(rt; agree(made.next_id, 9));
+    assert!(rt; agree(made.next_category, 2));
     let mut restored = match PlainKernel::restore(rt.alloc(), &LIMITS, &made) {
         Ok(kernel) => kernel,
         Err(_) => return Err(Fail::from("not restored")),
     };
     let mut kernel = PlainKernel::boot(rt.alloc(), &LIMITS)?;
-    assert_eq!(rt; refused_of(&mut kernel, &begun(), &mut meter)?, 0);
+    assert!(rt; agree(refused_of(&mut kernel, &begun(), &mut meter)?, 0));
     let before = kernel.tables(&mut meter)?;
-    assert!(rt; are_equal(&before, &restored.tables(&mut meter)?));
+    assert!(rt; is_true(are_equal(&before, &restored.tables(&mut meter)?)));
     for call in &further() {
         let first = asked(&mut kernel, call, &mut meter)?;
         let second = asked(&mut restored, call, &mut meter)?;
-        assert!(rt; first.0 != 0 && agree(first, second));
+        assert!(rt; is_true(first.0 != 0 && agree(first, second)));
     }
     let later = kernel.tables(&mut meter)?;
-    assert!(rt; are_equal(&later, &restored.tables(&mut meter)?));
-    assert!(rt; !are_equal(&before, &later));
+    assert!(rt; is_true(are_equal(&later, &restored.tables(&mut meter)?)));
+    assert!(rt; is_true(!are_equal(&before, &later)));
     Ok(())
 }
 
 #[test]
 fn numbers_are_told(rt: HostRuntime) -> Result<(), Fail> {
     let none = after(rt.alloc(), &LIMITS, &[])?;
-    assert_eq!(rt; none.next.len(), 0);
+    assert!(rt; agree(none.next.len(), 0));
     let mut events = Vec::new(rt.alloc());
     for thread in [3u64, 2, 2] {
         add_event(
@@ -159,15 +159,15 @@ fn numbers_are_told(rt: HostRuntime) -> Result<(), Fail> {
         )?;
     }
     let made = after(rt.alloc(), &LIMITS, events.as_slice())?;
-    assert_eq!(rt; made.next.len(), 2);
+    assert!(rt; agree(made.next.len(), 2));
     let (Some(first), Some(second)) = (made.next.get(0), made.next.get(1)) else {
         return Err(Fail::from("no numbers"));
     };
-    assert_eq!(rt; first.thread.number(), 2);
-    assert_eq!(rt; first.number, 3);
-    assert_eq!(rt; second.thread.number(), 3);
-    assert_eq!(rt; second.number, 2);
-    assert_eq!(rt; outcome(rt.alloc(), &LIMITS, &made), 0);
+    assert!(rt; agree(first.thread.number(), 2));
+    assert!(rt; agree(first.number, 3));
+    assert!(rt; agree(second.thread.number(), 3));
+    assert!(rt; agree(second.number, 2));
+    assert!(rt; agree(outcome(rt.alloc(), &LIMITS, &made), 0));
     Ok(())
 }
 
@@ -182,7 +182,7 @@ fn a_thread_that_was_never_given(rt: HostRuntime) -> Result<(), Fail> {
         &[Call::CatCreate],
     )?;
     let made = after(rt.alloc(), &LIMITS, events.as_slice())?;
-    assert_eq!(rt; outcome(rt.alloc(), &LIMITS, &made), 60);
+    assert!(rt; agree(outcome(rt.alloc(), &LIMITS, &made), 60));
     Ok(())
 }
 
@@ -193,8 +193,8 @@ fn a_batch_is_one_event(rt: HostRuntime) -> Result<(), Fail> {
     let batch = [Call::CatCreate, Call::CatCreate];
     add_event(rt.alloc(), &mut events, boot_thread(), &batch)?;
     let made = after(rt.alloc(), &LIMITS, events.as_slice())?;
-    assert_eq!(rt; made.next_category, 3);
-    assert_eq!(rt; made.next.len(), 1);
-    assert_eq!(rt; outcome(rt.alloc(), &LIMITS, &made), 0);
+    assert!(rt; agree(made.next_category, 3));
+    assert!(rt; agree(made.next.len(), 1));
+    assert!(rt; agree(outcome(rt.alloc(), &LIMITS, &made), 0));
     Ok(())
 }

@@ -1,11 +1,11 @@
 //! Checkpoints without memory: what is made again is what it would have been.
-use crate::played_on::begun;
-use crate::samples::{after, events_of, list_of, outcome};
+use super::played_on::begun;
+use super::samples::{after, events_of, list_of, outcome};
 use base::{Limits, NoMemory, ObjectId};
 use plain_core::{Checkpoint, Event, RawBody};
 use std::alloc::Global;
 use std::test::Fail;
-use test_support::LIMITS;
+use test_support::{LIMITS, agree};
 
 // The checkpoint, made once more where there was no memory.
 fn after_again(alloc: Global, limits: &Limits, events: &[Event]) -> Result<Checkpoint, NoMemory> {
@@ -35,9 +35,9 @@ fn begun_again(alloc: Global) -> Result<Vec<Event>, NoMemory> {
 fn want_of_memory_spoils_no_checkpoint(rt: HostRuntime) -> Result<(), Fail> {
     let events = begun_again(rt.alloc())?;
     let mut made = after_again(rt.alloc(), &LIMITS, events.as_slice())?;
-    assert_eq!(rt; made.objects.len(), 8);
-    assert_eq!(rt; made.next.len(), 1);
-    assert_eq!(rt; outcome_again(rt.alloc(), &LIMITS, &made), 0);
+    assert!(rt; agree(made.objects.len(), 8));
+    assert!(rt; agree(made.next.len(), 1));
+    assert!(rt; agree(outcome_again(rt.alloc(), &LIMITS, &made), 0));
     if let Some(root) = made.objects.get_mut(0) {
         if let RawBody::Container(_, _, list) = &mut root.object.body {
             *list = match list_of(rt.alloc(), &[2, 3], 1) {
@@ -46,7 +46,7 @@ fn want_of_memory_spoils_no_checkpoint(rt: HostRuntime) -> Result<(), Fail> {
             };
         }
     }
-    assert_eq!(rt; outcome_again(rt.alloc(), &LIMITS, &made), 60);
-    assert_eq!(rt; made.next_id, ObjectId::new(9).number());
+    assert!(rt; agree(outcome_again(rt.alloc(), &LIMITS, &made), 60));
+    assert!(rt; agree(made.next_id, ObjectId::new(9).number()));
     Ok(())
 }

@@ -75,24 +75,24 @@ fn links_are_kept_in_order(rt: HostRuntime) -> Result<(), Fail> {
     let mut meter = Meter::new(rt.alloc())?;
     let mut tree = family(rt.alloc(), &mut meter)?;
     let [root, four, five, six] = [1, 4, 5, 6].map(ObjectId::new);
-    assert_eq!(rt; tree.len(), 4);
-    assert_eq!(rt; tree.live(2, &mut meter), five);
-    assert_eq!(rt; tree.entry_count(root, &mut meter), 2);
-    assert_eq!(rt; tree.parent(five, &mut meter), Some(four));
-    assert_eq!(rt; tree.parent(root, &mut meter), None);
-    assert!(rt; tree.is_listed(four, six, &mut meter));
-    assert!(rt; !tree.is_listed(root, five, &mut meter));
+    assert!(rt; agree(tree.len(), 4));
+    assert!(rt; agree(tree.live(2, &mut meter), five));
+    assert!(rt; agree(tree.entry_count(root, &mut meter), 2));
+    assert!(rt; agree(tree.parent(five, &mut meter), Some(four)));
+    assert!(rt; agree(tree.parent(root, &mut meter), None));
+    assert!(rt; is_true(tree.is_listed(four, six, &mut meter)));
+    assert!(rt; is_true(!tree.is_listed(root, five, &mut meter)));
 
     let mut window = [root; 3];
-    assert_eq!(rt; tree.entries(four, 0, &mut window, &mut meter), 2);
-    assert_eq!(rt; window, [five, six, root]);
-    assert_eq!(rt; tree.entries(four, 1, &mut window, &mut meter), 1);
-    assert_eq!(rt; window, [six, six, root]);
+    assert!(rt; agree(tree.entries(four, 0, &mut window, &mut meter), 2));
+    assert!(rt; agree(window, [five, six, root]));
+    assert!(rt; agree(tree.entries(four, 1, &mut window, &mut meter), 1));
+    assert!(rt; agree(window, [six, six, root]));
 
-    assert_eq!(rt; meter.scans(), 0);
+    assert!(rt; agree(meter.scans(), 0));
     if let Some(slot) = tree.find(six, &mut meter) {
         *tree.get_mut(slot) = 'x';
-        assert_eq!(rt; *tree.get(slot), 'x');
+        assert!(rt; agree(*tree.get(slot), 'x'));
     }
     Ok(())
 }
@@ -130,14 +130,14 @@ fn what_no_path_leads_to_goes(rt: HostRuntime) -> Result<(), Fail> {
     let mut seen = nothing_seen();
     let [root, four, five, six] = [1, 4, 5, 6].map(ObjectId::new);
     tree.unref(root, four, &mut seen, &mut meter);
-    assert_eq!(rt; seen.links, 3);
-    assert_eq!(rt; seen.len, 2);
-    assert_eq!(rt; seen.objects[0].min(seen.objects[1]), 4);
-    assert_eq!(rt; seen.objects[0].max(seen.objects[1]), 5);
-    assert_eq!(rt; tree.len(), 2);
-    assert_eq!(rt; tree.find(four, &mut meter), None);
-    assert_eq!(rt; tree.find(five, &mut meter), None);
-    assert!(rt; tree.find(six, &mut meter).is_some());
+    assert!(rt; agree(seen.links, 3));
+    assert!(rt; agree(seen.len, 2));
+    assert!(rt; agree(seen.objects[0].min(seen.objects[1]), 4));
+    assert!(rt; agree(seen.objects[0].max(seen.objects[1]), 5));
+    assert!(rt; agree(tree.len(), 2));
+    assert!(rt; agree(tree.find(four, &mut meter), None));
+    assert!(rt; agree(tree.find(five, &mut meter), None));
+    assert!(rt; is_true(tree.find(six, &mut meter).is_some()));
     Ok(())
 }
 
@@ -256,12 +256,12 @@ fn want_of_memory_changes_nothing(rt: HostRuntime) -> Result<(), Fail> {
     let mut meter = meter_again(rt.alloc())?;
     let mut tree = family_again(rt.alloc(), &mut meter)?;
     let [root, four, five, six] = [1, 4, 5, 6].map(ObjectId::new);
-    assert_eq!(rt; tree.parent(five, &mut meter), Some(four));
+    assert!(rt; agree(tree.parent(five, &mut meter), Some(four)));
     let mut seen = nothing_seen();
     tree.unref(root, four, &mut seen, &mut meter);
-    assert_eq!(rt; seen.links, 3);
-    assert_eq!(rt; seen.len, 2);
+    assert!(rt; agree(seen.links, 3));
+    assert!(rt; agree(seen.len, 2));
     assert_eq!(rt; tree.len(), 2);
-    assert_eq!(rt; tree.live(1, &mut meter), six);
+    assert!(rt; agree(tree.live(1, &mut meter), six));
     Ok(())
 }

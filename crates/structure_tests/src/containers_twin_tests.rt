@@ -1,5 +1,5 @@
 //! Ten thousand random calls on containers and on their twin.
-use crate::seen::{POOL, Seen, compare_seen};
+use crate::containers_seen::{POOL, Seen, compare_seen};
 use base::{NoMemory, ObjectId, Slot};
 use containers_twin::{Guarded, Hierarchy, Twin};
 use std::process::Abort;

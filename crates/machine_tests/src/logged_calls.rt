@@ -7,7 +7,7 @@ use std::alloc::Global;
 use std::process::Abort;
 use std::test::Fail;
 use syscall_core::BootRefusal;
-use test_support::{EIGHT_PAGES, agree, boot_thread, in_root, meter_again, new_thread};
+use test_support::{EIGHT_PAGES, agree, boot_thread, in_root, is_true, meter_again, new_thread};
 
 /// A kernel, booted again where there was no memory.
 fn boot_again(alloc: Global) -> Result<LoggedKernel, BootRefusal> {
@@ -83,14 +83,14 @@ fn has_no_log(kernel: &LoggedKernel, meter: &mut Meter) -> bool {
 
 // A call that is done and one that is refused are kept, once each.
 fn keep_calls<R: Abort>(rt: &R, alloc: Global, kernel: &mut LoggedKernel, meter: &mut Meter) {
-    assert!(rt; has_no_log(kernel, meter));
-    assert!(rt; begins(kernel));
-    assert!(rt; refusal_of(kernel, &new_thread(), meter) == 0);
+    assert!(rt; is_true(has_no_log(kernel, meter)));
+    assert!(rt; is_true(begins(kernel)));
+    assert!(rt; is_true(refusal_of(kernel, &new_thread(), meter) == 0));
     let root = Call::Unref { entry: in_root(1) };
-    assert!(rt; refusal_of(kernel, &root, meter) == 16);
-    assert!(rt; !begins(kernel));
-    assert!(rt; has_boot_thread(kernel, meter));
-    assert!(rt; is_dumped(alloc, kernel, meter));
+    assert!(rt; is_true(refusal_of(kernel, &root, meter) == 16));
+    assert!(rt; is_true(!begins(kernel)));
+    assert!(rt; is_true(has_boot_thread(kernel, meter)));
+    assert!(rt; is_true(is_dumped(alloc, kernel, meter)));
 }
 
 // Also where an allocation is refused: what is made again is kept once, and the dump is clean.

@@ -4,7 +4,7 @@ use histar_args::DEFAULTS;
 use kernel_rules::{Mapping, Reply};
 use std::alloc::Global;
 use std::test::Fail;
-use test_support::is_true;
+use test_support::{agree, is_true};
 use tried_lines::{Answer, Dialogue, full_line};
 use try_text::{Word, respond, word_of};
 
@@ -157,11 +157,11 @@ fn a_line_is_taken(rt: HostRuntime) -> Result<(), Fail> {
     let alloc = rt.alloc();
     let mut dialogue = Dialogue::begin(alloc, &DEFAULTS.limits)?;
     let full = full_line(alloc, b"c = cat_create")?;
-    assert!(rt; is_told(&mut dialogue, full.as_slice())?);
-    assert_eq!(rt; dialogue.standing().names().named.len(), 4);
-    assert_eq!(rt; names_before(&dialogue)?, 3);
+    assert!(rt; is_true(is_told(&mut dialogue, full.as_slice())?));
+    assert!(rt; agree(dialogue.standing().names().named.len(), 4));
+    assert!(rt; agree(names_before(&dialogue)?, 3));
     assert!(rt; is_true(dialogue.last().is_some()));
-    assert!(rt; dialogue.undo()?);
+    assert!(rt; is_true(dialogue.undo()?));
     assert!(rt; is_true(dialogue.last().is_none()));
     Ok(())
 }

@@ -6,7 +6,7 @@ use dump_text::{
 };
 use std::alloc::Global;
 use std::test::Fail;
-use test_support::EMPTY_DUMP;
+use test_support::{EMPTY_DUMP, agree, is_true};
 
 /// The empty dump in format 2, Z being 64 bytes of 0.
 const MIGRATED: &str = "histar-dump 2
@@ -138,7 +138,7 @@ fn is_kept(alloc: Global, text: &[u8]) -> Result<bool, Fail> {
 fn dumps_of_format_2_are_read_and_written(rt: HostRuntime) -> Result<(), Fail> {
     for text in [MIGRATED, OBJECTS, FOLDED] {
         let text = filled(rt.alloc(), text)?;
-        assert!(rt; is_kept(rt.alloc(), text.as_slice())?);
+        assert!(rt; is_true(is_kept(rt.alloc(), text.as_slice())?));
     }
     Ok(())
 }
@@ -150,11 +150,11 @@ fn a_checkpoint_is_read(rt: HostRuntime) -> Result<(), Fail> {
     let Some(checkpoint) = &dump.checkpoint else {
         return Err(Fail::from("no checkpoint"));
     };
-    assert_eq!(rt; checkpoint.next_id, u64::MAX);
-    assert_eq!(rt; checkpoint.next_category, 0);
-    assert_eq!(rt; checkpoint.objects.len(), 7);
-    assert_eq!(rt; checkpoint.next.len(), 2);
-    assert_eq!(rt; dump.events.len(), 1);
+    assert!(rt; agree(checkpoint.next_id, u64::MAX));
+    assert!(rt; agree(checkpoint.next_category, 0));
+    assert!(rt; agree(checkpoint.objects.len(), 7));
+    assert!(rt; agree(checkpoint.next.len(), 2));
+    assert!(rt; agree(dump.events.len(), 1));
     Ok(())
 }
 
@@ -162,21 +162,21 @@ fn a_checkpoint_is_read(rt: HostRuntime) -> Result<(), Fail> {
 fn a_dump_of_format_1_is_migrated(rt: HostRuntime) -> Result<(), Fail> {
     let wanted = filled(rt.alloc(), MIGRATED)?;
     let text = migrate(rt.alloc(), EMPTY_DUMP.as_bytes())?;
-    assert!(rt; text.as_slice() == wanted.as_slice());
+    assert!(rt; is_true(text.as_slice() == wanted.as_slice()));
     let wanted = replaced(rt.alloc(), MIGRATED, 12, "use 1 5")?;
     let told = replaced(rt.alloc(), EMPTY_DUMP, 6, "use 1 5")?;
     let text = migrate(rt.alloc(), told.as_slice())?;
-    assert!(rt; text.as_slice() == wanted.as_slice());
+    assert!(rt; is_true(text.as_slice() == wanted.as_slice()));
     Ok(())
 }
 
 #[test]
 fn what_is_not_of_format_1_is_not_migrated(rt: HostRuntime) -> Result<(), Fail> {
     let second = filled(rt.alloc(), MIGRATED)?;
-    assert_eq!(rt; migration_fault(rt.alloc(), second.as_slice()), 1);
-    assert_eq!(rt; migration_fault(rt.alloc(), b"histar-dump 2\n"), 1);
-    assert_eq!(rt; migration_fault(rt.alloc(), b"histar-dump 2"), 1);
-    assert_eq!(rt; migration_fault(rt.alloc(), b""), 1);
+    assert!(rt; agree(migration_fault(rt.alloc(), second.as_slice()), 1));
+    assert!(rt; agree(migration_fault(rt.alloc(), b"histar-dump 2\n"), 1));
+    assert!(rt; agree(migration_fault(rt.alloc(), b"histar-dump 2"), 1));
+    assert!(rt; agree(migration_fault(rt.alloc(), b""), 1));
     for (line, other, told) in [
         (1, "histar-dump 3", 1),
         (2, "limits 513 1 4 1", 2),
@@ -192,8 +192,8 @@ fn what_is_not_of_format_1_is_not_migrated(rt: HostRuntime) -> Result<(), Fail> 
             "{other}"
         );
     }
-    assert_eq!(rt; MigrateFault::NotFormat1(7).refusal().number(), 61);
-    assert_eq!(rt; MigrateFault::Memory.refusal().number(), 51);
+    assert!(rt; agree(MigrateFault::NotFormat1(7).refusal().number(), 61));
+    assert!(rt; agree(MigrateFault::Memory.refusal().number(), 51));
     Ok(())
 }
 
@@ -201,10 +201,10 @@ fn what_is_not_of_format_1_is_not_migrated(rt: HostRuntime) -> Result<(), Fail> 
 fn the_checkpoint_of_a_boot_is_made(rt: HostRuntime) -> Result<(), Fail> {
     let dump = read_dump(rt.alloc(), EMPTY_DUMP.as_bytes())?;
     let checkpoint = boot_checkpoint(rt.alloc(), &dump.limits)?;
-    assert_eq!(rt; checkpoint.next_id, 4);
-    assert_eq!(rt; checkpoint.next_category, 1);
-    assert_eq!(rt; checkpoint.objects.len(), 3);
-    assert_eq!(rt; checkpoint.next.len(), 0);
+    assert!(rt; agree(checkpoint.next_id, 4));
+    assert!(rt; agree(checkpoint.next_category, 1));
+    assert!(rt; agree(checkpoint.objects.len(), 3));
+    assert!(rt; agree(checkpoint.next.len(), 0));
     one_reading();
     legal_is_dump();
     legal_boot_is_dump();
@@ -270,12 +270,12 @@ fn the_first_faulty_line_of_format_2_is_told(rt: HostRuntime) -> Result<(), Fail
 fn format_2_is_read_again_where_memory_was_wanting(rt: HostRuntime) -> Result<(), Fail> {
     let text = b"histar-dump 2\nlimits 8 1 4 1\nstate 4 1\nnext 2 2\nend\n";
     let first = fault(rt.alloc(), text);
-    assert!(rt; first == 0 || first == 1_000_000);
+    assert!(rt; is_true(first == 0 || first == 1_000_000));
     let second = fault(rt.alloc(), text);
-    assert!(rt; first == 1_000_000 || second == 1_000_000);
+    assert!(rt; is_true(first == 1_000_000 || second == 1_000_000));
     let first = migration_fault(rt.alloc(), EMPTY_DUMP.as_bytes());
-    assert!(rt; first == 0 || first == 1_000_000);
+    assert!(rt; is_true(first == 0 || first == 1_000_000));
     let second = migration_fault(rt.alloc(), EMPTY_DUMP.as_bytes());
-    assert!(rt; first == 1_000_000 || second == 1_000_000);
+    assert!(rt; is_true(first == 1_000_000 || second == 1_000_000));
     Ok(())
 }
