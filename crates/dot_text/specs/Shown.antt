@@ -17,13 +17,17 @@ abbrev pub IsRed : Option (ℕ × Category) → List ℕ → List ℕ → Type 0
 IsRed None text reached = reached ≡ []
 IsRed (Some flow) text reached = Traces text flow.1.0 flow.0 reached
 
--- the graph of the state that all events of a dump lead to. NotClean: flows are asked for, and an audit does not find the dump
--- clean
+-- flows are asked for, and an audit does not find the dump clean
+abbrev pub IsUntraced : Option (ℕ × Category) → List ℕ → Type 0
+IsUntraced None text = ⊥
+IsUntraced (Some flow) text = IsVerdict text is.Clean → ⊥
+
+-- the graph of the state that all events of a dump lead to
 abbrev pub IsDot : Option (ℕ × Category) → List ℕ → Result (Vec ℕ) DotFault → Type 0
 IsDot flow text (Ok told) =
     (s : State) × LeadsTo text None s × ((reached : List ℕ) × IsRed flow text reached × (told.items ≡ dot_text s reached))
 IsDot flow text (Err (faults.Unshown fault)) = IsWhyNone text fault
-IsDot flow text (Err faults.NotClean) = IsVerdict text is.Clean → ⊥
+IsDot flow text (Err faults.NotClean) = IsUntraced flow text
 
 -- the same of a dump that was read, added to what was printed
 abbrev pub PrintsDot : Option (ℕ × Category) → Option (List ℕ) → Option (List ℕ) → List ℕ → Type 0
