@@ -291,7 +291,6 @@ def built(tree, program):
 
 def try_all(report, tree="."):
     """Builds the library in a tree and tries all that the machine allows."""
-    report.heading("Bindings")
     is_built, said = run(f"{tree}/lib")
     report.counts(is_built, "./lib: the library is proved and built")
     if not is_built:

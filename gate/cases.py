@@ -266,7 +266,6 @@ def migrate_all(report, room):
 
 def play(report):
     """Plays and audits them all, by the proved programs."""
-    report.heading("Short runs and changed dumps")
     with tempfile.TemporaryDirectory(prefix="cases-") as room:
         run_all(report, room)
         audit_all(report, room)

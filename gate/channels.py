@@ -82,7 +82,6 @@ def play(report, histar, name, row):
 
 def compare(report, histar=("./histar",), auditor=("./histar-audit",)):
     """Plays all scripts against the table."""
-    report.heading("Channels")
     table = rows(text(TABLE))
     scripts = [os.path.basename(it).removesuffix(".histar") for it in sorted(glob.glob(f"{FOLDER}/*.histar"))]
     report.counts(scripts == sorted(table), f"{TABLE}: {len(table)} rows, {len(scripts)} scripts in {FOLDER}")

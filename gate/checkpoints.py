@@ -117,7 +117,6 @@ def without(lines, old, new):
 
 
 def refuse(report, histar=("./histar",), auditor=("./histar-audit",)):
-    report.heading("Checkpoints")
     with tempfile.TemporaryDirectory(prefix="checkpoints-") as room:
         script, dump = f"{room}/script", f"{room}/dump"
         with open(script, "w", encoding="utf-8") as it:

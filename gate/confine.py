@@ -438,7 +438,6 @@ def is_audited(auditor, dump):
 
 def try_all(report, library, auditor, is_long=False):
     """Plays all scenes, and has the auditor look at their dumps, where there is one."""
-    report.heading("confine")
     if not built(report, library):
         return
     probe = subprocess.run([CONFINE, "--", "/bin/true"], stdout=subprocess.PIPE, stderr=subprocess.STDOUT, text=True)

@@ -17,7 +17,6 @@ def ran(report, name, *words):
 
 
 def check(report, names):
-    report.heading("Some crates alone")
     for name in names:
         if not os.path.isdir(f"crates/{name}/src"):
             report.fails(f"{name}: there is no such crate, nor such a word of ./test: see ./test --help")

@@ -26,7 +26,6 @@ def commands_in(document):
 
 def compare(report):
     """Runs each command of the documents. A document without one fails."""
-    report.heading("Documents")
     for file in FILES:
         commands = commands_in(text(file))
         report.counts(bool(commands), f"{file} has {len(commands)} commands")

@@ -224,17 +224,16 @@ def tasks_of(rt, crates, wanted, is_built, report):
 
 
 def try_all(report, names, tree):
-    """Tries the edits of these crates, or of all: in a tree in which all is proved, or else here, over what is kept."""
-    report.heading("Must-fail edits")
-    rt = toolchain()
-    rt.rtlib.Crate.cuts_libraries = tree is not None
+    """Tries the edits of these crates, or of all: in a tree in which all is proved, or here, over what is kept."""
+    rt, is_built = toolchain(), tree != "."
+    rt.rtlib.Crate.cuts_libraries = is_built
     rt.rtlib.guarded()
-    crates = rt.rtlib.crates_below(tree or os.getcwd())
+    crates = rt.rtlib.crates_below(os.path.realpath(tree))
     known = {it.name for it in crates}
     for name in names:
         if name not in known:
             report.fails(f"{name}: crates.txt names no such crate")
     wanted = known & set(names) if names else known
     with Times() as times:
-        rt.in_lanes(tasks_of(rt, crates, wanted, tree is not None, report))
+        rt.in_lanes(tasks_of(rt, crates, wanted, is_built, report))
     times.keep(TIMES)

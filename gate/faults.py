@@ -140,7 +140,6 @@ def try_migrations(report):
 
 
 def fail(report):
-    report.heading("Faults")
     for fault in FAULTS:
         try_fault(report, fault)
     try_left_over(report)

@@ -221,7 +221,6 @@ def drawn(room, count):
 
 def trace(report, count, histar=("./histar",), auditor=("./histar-audit",)):
     """Traces the dumps of all stored scripts, and of so many drawn ones."""
-    report.heading("Flows")
     with tempfile.TemporaryDirectory(prefix="flows-") as room, ThreadPoolExecutor(os.cpu_count()) as pool:
         stored = [Case(it, text(f"{it.removesuffix('.histar')}.words").split(), None) for it in sorted(glob.glob("examples/*.histar"))]
         dumps = [Stored(it) for it in sorted(glob.glob("examples/dumps/read*.dump")) if text(f"{it.removesuffix('.dump')}.verdict") == "clean\n"]

@@ -184,7 +184,6 @@ class Trial:
 
 def fuzz(report, count, histar=("./histar",), auditor=("./histar-audit",), show=("./histar-show",)):
     """Tries so many changed texts, keeps the first that ended otherwise than it may in out/, and says how many ended how."""
-    report.heading("Broken texts")
     with tempfile.TemporaryDirectory(prefix="fuzz-") as room, ThreadPoolExecutor(os.cpu_count()) as pool:
         corpus = Corpus(histar, room)
         ended = list(pool.map(lambda it: Trial(it, corpus, histar, auditor, show).run(room), range(count)))

@@ -204,7 +204,6 @@ class Case:
 
 def compare(report, count, histar=("./histar",), auditor=("./histar-audit",)):
     """Compares what the auditor tells of so many drawn scripts, for each observer."""
-    report.heading("Hidden replies")
     with ThreadPoolExecutor(os.cpu_count()) as pool:
         told = list(pool.map(lambda at: Case(SEED * 1_000_003 + at).tried(histar, auditor), range(count)))
     compared, hidden, differ = (sum(it[place] for it in told) for place in range(3))

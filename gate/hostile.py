@@ -225,7 +225,6 @@ def closed_pipe(report, room):
 
 def use(report, is_long):
     """All of it; the long way is for `./test all`."""
-    report.heading("Hostile use")
     with tempfile.TemporaryDirectory(prefix="hostile-") as room:
         texts(report, room)
         closed_pipe(report, room)

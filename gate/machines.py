@@ -103,14 +103,13 @@ def play(report, program, counter, scripts):
     return bool(scripts) and not any(faults)
 
 
-def compare(report, tree, room):
+def compare(report, tree):
     """Plays all scripts on both machines."""
-    report.heading("Both machines")
-    program = f"{tree}/crates/both_machines/out/both_machines"
-    if not os.path.isfile(program):
-        report.fails("both_machines: not built, so no script was compared")
-        return
-    counter = library(room, "count")
+    with tempfile.TemporaryDirectory(prefix="machines-") as room:
+        compare_all(report, f"{tree}/crates/both_machines/out/both_machines", library(room, "count"))
+
+
+def compare_all(report, program, counter):
     scripts = list(stored())
     is_well = play(report, program, counter, scripts)
     report.counts(is_well, f"{len(scripts)} scripts: both machines answer and keep the same, and no call takes memory")

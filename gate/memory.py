@@ -149,14 +149,14 @@ def program_cases(tree, room):
     yield program_case(show, ["--help"])
 
 
-def refuse(report, tree, room):
+def refuse(report, tree):
     """Refuses each request in turn in the tests of want of memory and in the programs."""
-    report.heading("Refused allocations")
-    refusing = library(room, "refuse")
-    cases = [*test_cases(tree), *program_cases(tree, room)]
-    with ThreadPoolExecutor(os.cpu_count()) as pool:
+    with tempfile.TemporaryDirectory(prefix="memory-") as room, ThreadPoolExecutor(os.cpu_count()) as pool:
+        refusing = library(room, "refuse")
+        cases = [*test_cases(tree), *program_cases(tree, room)]
         for is_well, text in pool.map(lambda case: case.tried(refusing), cases):
             report.counts(is_well, text)
+        give_back(report, tree, room)
 
 
 def give_back(report, tree, room):

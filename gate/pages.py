@@ -204,7 +204,6 @@ def colour(report):
 
 
 def show(report):
-    report.heading("Pages and colours")
     with tempfile.TemporaryDirectory(prefix="pages-") as room:
         colour(report)
         compare_stored(report, room)

@@ -36,7 +36,6 @@ def parts(picture):
 
 def compare(report):
     """Draws each picture anew where Graphviz is there. A picture without parts fails."""
-    report.heading("Pictures")
     if shutil.which("dot") is None:
         report.say("Graphviz is not there: no picture was drawn")
         return

@@ -9,6 +9,9 @@ import os
 import subprocess
 import tempfile
 
+# The seconds that a command may take.
+LIMIT = 60
+
 
 def text(file, otherwise=""):
     """A file's text, or another one where there is no such file."""
@@ -20,9 +23,12 @@ def text(file, otherwise=""):
 
 def ran(*words, given=""):
     """How a command ended: its status and what it wrote to standard output, with what it wrote to standard error after it. (A
-    program that isn't proved says so there.)"""
+    program that isn't proved says so there.) One that hangs has no status."""
     how = {"input": given, "stdout": subprocess.PIPE, "stderr": subprocess.PIPE, "text": True, "errors": "replace"}
-    done = subprocess.run(words, **how)
+    try:
+        done = subprocess.run(words, timeout=LIMIT, **how)
+    except subprocess.TimeoutExpired:
+        return None, f"{' '.join(words)}: still running after {LIMIT} seconds"
     return done.returncode, done.stdout + done.stderr
 
 
@@ -69,11 +75,9 @@ def compare(report):
 def play(report, histar=("./histar",), auditor=("./histar-audit",)):
     """Plays every script and audits every dump, by the commands given. An unproved run says so on standard error, and fails."""
     scripts = [Script(it) for it in sorted(glob.glob("examples/*.histar"))]
-    report.heading("Examples")
     compare(report)
     for script in scripts:
         script.play(report, histar)
-    report.heading("Audits")
     for script in scripts:
         if script.status == 0:
             script.audit(report, histar, auditor)

@@ -62,13 +62,12 @@ def faults(said):
 
 def prove(report, tree):
     """Proves and runs all in a copy of the tree, and leaves there what was proved, tests and programs linked."""
-    report.heading("Proofs, tests and programs")
     copy_tree(tree)
     with Times() as times:
         said = run_and_log(report, tree)
     times.keep(TIMES)
     counts = re.fullmatch(r"(\d+) passed, (\d+) failed\n", said[-1] if said else "")
-    report.passed += int(counts[1]) if counts else 0
+    report.count_passed(int(counts[1]) if counts else 0)
     for line in faults(said):
         report.say(line)
     failed = [it for line in said if line.startswith("rt: FAILED: ") for it in re.findall(r"\S+(?: \(\w+\))?", line[len("rt: FAILED: ") :])]

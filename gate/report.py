@@ -17,7 +17,7 @@ def processor_seconds():
 
 class Report:
     def __init__(self, is_silent=False):
-        self.began, self.is_silent = time.monotonic(), is_silent
+        self.began, self.spent, self.is_silent = time.monotonic(), 0, is_silent
         self.passed = 0
         self.failures = []
         self.printing = threading.Lock()
@@ -31,14 +31,20 @@ class Report:
         return minutes(time.monotonic() - self.began)
 
     def heading(self, text):
-        self.say(f"\n== {text} (so far {self.so_far()}, {minutes(processor_seconds())} of processor)")
+        self.say(f"\n== {text} (so far {self.so_far()}, {minutes(self.spent + processor_seconds())} of processor)")
+
+    def count_passed(self, count):
+        self.passed += count
+
+    def count_failed(self, text):
+        self.failures.append(text)
 
     def passes(self, text):
-        self.passed += 1
+        self.count_passed(1)
         self.say(text)
 
     def fails(self, text):
-        self.failures.append(text)
+        self.count_failed(text)
         self.say(f"FAILED: {text}")
 
     def counts(self, is_well, text):

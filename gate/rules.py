@@ -52,8 +52,7 @@ class Play:
         with open(script, "w", encoding="utf-8") as it:
             it.write(text)
         ended = ran(*self.histar, "run", script, *self.rule.words, *words, "--dump", dump)
-        with open(dump, encoding="utf-8") as it:
-            return ended, it.read()
+        return ended, text_of(dump)
 
     def is_clean(self):
         return ran(*self.auditor, f"{self.room}/dump") == (0, "clean\n")
@@ -121,7 +120,6 @@ def tried(rules, find):
 
 def play(report, histar=("./histar",), auditor=("./histar-audit",)):
     """Plays all scripts of the rules, and those of examples/ from checkpoints."""
-    report.heading("Scripts of the rules")
     rules = [*played_rules(), *(Rule(*it) for it in FURTHER)]
     faults, count = tried(rules, lambda room, it: Play(room, it, histar, auditor).fault())
     is_well = not faults and count > len(rules) > len(FURTHER)

@@ -79,7 +79,6 @@ def compare_played(report, file):
 
 def compare(report):
     """Compares all dialogues."""
-    report.heading("Dialogues")
     stored = sorted(glob.glob("examples/tries/*.txt"))
     report.counts(bool(stored), f"examples/tries has {len(stored)} dialogues")
     for file in stored:

@@ -60,7 +60,6 @@ def uncited():
 
 def tell(report):
     """Counts whether each definition and lemma is cited, and tells those that aren't."""
-    report.heading("Definitions and lemmas")
     found = list(uncited())
     for file, name in found:
         report.say(f"{file}: nothing cites {name}")
