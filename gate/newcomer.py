@@ -1,0 +1,139 @@
+"""What README and docs/TOUR.md tell a newcomer to type, typed in their order in a copy of the tree where nothing is built, and run to
+its end. What a document gives a name for (SCRIPT, DUMP, ..) stands in FILLED.
+
+What README has before ./prove is started unproved, says so in one line, and is started once more after it: then it says the
+same and nothing beside. After ./prove no command writes to standard error."""
+import os
+import re
+import shutil
+import subprocess
+import tempfile
+
+from gate.plays import text
+from gate.proofs import copy_tree
+
+README, TOUR = "README.md", "docs/TOUR.md"
+FILLED = {"SCRIPT": "examples/first.histar", "DUMP": "first.dump", "FILE": "first.html", "ID": "4", "N": "1", "LABEL": "'{1}'"}
+NAMED = ("NAME", "secret")
+# What checks the whole tree: this stage is a part of it.
+CHECKS = ("./test", "./test quick")
+PROVE, LIB, TRY = "./prove", "./lib", "./histar try"
+ASKED, ANSWERED = "c = cat_create\ncat_create\n", "cat c\ncat #2\n"
+FIRST = "refused 5 CannotObserve\n"
+MANIFEST = '[package]\nname = "first"\nversion = "0.1.0"\nedition = "2021"\n\n[dependencies]\nhistar = {{ path = "{top}/bindings/rust/histar" }}\n'
+
+
+def commands_in(document):
+    """The commands of this repository that a document shows, in its order: those of its blocks and those between backticks."""
+    found = re.findall(r"^ {4}(?:\$ )?(\./.*)$|`(\./[^`]*)`", document, re.M)
+    return [filled(block or word) for block, word in found if block or word.split(" ")[-1] != "--help"]
+
+
+def filled(command):
+    return " ".join(FILLED.get(it, it.replace(*NAMED)) for it in command.split(" "))
+
+
+def blocks_in(document):
+    """The blocks of a document that are set off by four spaces."""
+    return ["\n".join(line[4:] for line in it.splitlines()) + "\n" for it in re.findall(r"(?:^ {4}.*\n|^\n(?= {4}))+", document, re.M)]
+
+
+def program_in(document, mark):
+    """The block that has a line which begins like this."""
+    return next(it for it in blocks_in(document) if re.search(rf"^{mark}", it, re.M))
+
+
+class Newcomer:
+    """Who types in a tree in which nothing is built."""
+
+    def __init__(self, report, top):
+        self.report, self.top = report, top
+        self.was_said = {}
+
+    def type(self, command):
+        """How a command ended: status, standard output, standard error. A dialogue is given two lines through a pipe."""
+        how = {"cwd": self.top, "input": ASKED if command == TRY else "", "capture_output": True, "text": True, "errors": "replace"}
+        done = subprocess.run(["sh", "-c", command], **how)
+        return done.returncode, done.stdout, done.stderr
+
+    def counts(self, is_well, command, ended):
+        """Counts how a command ended, and shows what it said where that is not well."""
+        if not is_well:
+            self.report.say("\n".join(it[-2000:] for it in map(str, ended)))
+        self.report.counts(is_well, f"{command}: status {ended[0]}")
+
+    def is_right(self, command, said):
+        """Whether an answer is the stored one, as far as one is stored."""
+        script = next((it for it in command.split(" ") if it.endswith(".histar") and " run " in command), "")
+        wanted = ANSWERED if command == TRY else text(f"{script.removesuffix('.histar')}.out") if script else said
+        return said == wanted and bool(said or "--out" in command)
+
+    def start_unproved(self, command):
+        """Types a command before ./prove: one line says that nothing is proved."""
+        ended = status, said, beside = self.type(command)
+        self.was_said[command] = said
+        is_told = beside.count("\n") == 1 and "not proved yet" in beside
+        self.counts(status == 0 and is_told and self.is_right(command, said), f"unproved, {command}", ended)
+
+    def start_proved(self, command, statuses=(0,)):
+        """Types a command after ./prove: nothing stands beside what it says, which is what it said unproved."""
+        ended = status, said, beside = self.type(command)
+        is_same = said == self.was_said.get(command, said)
+        self.counts(status in statuses and not beside and is_same and self.is_right(command, said), command, ended)
+
+    def build(self, command):
+        """Types what builds, and returns whether it ended well: it says last that it has built."""
+        ended = self.type(command)
+        self.counts(ended[0] == 0, f"{command}: {(ended[1].splitlines() or [''])[-1]}", ended)
+        return ended[0] == 0
+
+    def read_readme(self):
+        """README's commands, in its order."""
+        commands = [it for it in commands_in(text(README)) if it not in CHECKS]
+        before = list(dict.fromkeys(commands[: commands.index(PROVE)]))
+        for it in before:
+            self.start_unproved(it)
+        if self.build(PROVE):
+            for it in before + [it for it in dict.fromkeys(commands) if it not in (*before, PROVE, LIB)]:
+                self.start_proved(it)
+            self.read_tour()
+        if self.build(LIB):
+            self.compile_c()
+            self.compile_rust()
+
+    def read_tour(self):
+        """The tour's commands; one of them finds a dump to be false, and one draws by Graphviz."""
+        for it in commands_in(text(TOUR)):
+            if "| dot" in it and not shutil.which("dot"):
+                self.report.say(f"left out: {it}: there is no dot")
+            elif it != TRY:
+                self.start_proved(it, statuses=(0, 1))
+
+    def compile_c(self):
+        """README's first program in C, by the command that README has."""
+        command = re.search(r"^ {4}(cc .*)$", text(README), re.M)[1]
+        if not shutil.which("cc"):
+            self.report.say(f"left out: {command}: there is no cc")
+            return
+        with open(f"{self.top}/first.c", "w", encoding="utf-8") as it:
+            it.write(program_in(text(README), "#include"))
+        ended = self.type(command)
+        self.counts(ended == (0, FIRST, ""), command, ended)
+
+    def compile_rust(self):
+        """README's first program in Rust, in a package of its own."""
+        if not shutil.which("cargo"):
+            self.report.say("left out: README's program in Rust: there is no cargo")
+            return
+        os.makedirs(f"{self.top}/out/first/src")
+        for file, made in (("Cargo.toml", MANIFEST.format(top=self.top)), ("src/main.rs", program_in(text(README), "use histar"))):
+            with open(f"{self.top}/out/first/{file}", "w", encoding="utf-8") as it:
+                it.write(made)
+        ended = self.type("cargo run --quiet --offline --manifest-path out/first/Cargo.toml")
+        self.counts(ended[0] == 0 and "CannotObserve" in ended[1], "README's program in Rust", ended)
+
+
+def read(report):
+    with tempfile.TemporaryDirectory(prefix="newcomer-") as room:
+        copy_tree(f"{room}/tree")
+        Newcomer(report, f"{room}/tree").read_readme()
