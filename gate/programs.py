@@ -100,9 +100,9 @@ class Progress:
         return f"{len(self.left)} crates left, about {minutes(self.seconds_left())} minutes" if self.left else "none left"
 
     def begin(self):
-        """Says how much is left where an earlier start built a part."""
+        """Says how much is left where an earlier start built libraries."""
         if len(self.left) < len(self.uses):
-            print(f"prove: {len(self.uses) - len(self.left)} crates are built; {self.told()}", flush=True)
+            print(f"prove: libraries built before: {len(self.uses) - len(self.left)}; {self.told()}", flush=True)
 
     def ended(self, name, seconds):
         """Notes that a crate is built, and the seconds that it took where it was proved from nothing; says so of each that was left."""

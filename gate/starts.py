@@ -12,15 +12,20 @@ import tempfile
 import time
 
 from gate import plays
+from gate.programs import PROGRAMS, TO_RUN
 from gate.report import Report
 
-CRATES = "low:\nhistar: low\nhistar_check: low\nhistar_try: low\nhistar_audit: low\nhistar_show: low\n"
-PROVABLE = "//! A number.\n#![tactic(auto)]\n\n/// Gives one more.\npub fn more(n: u8) -> u8\nwhere\n    requires { n.now < 255 },\n{\n    n + 1\n}\n"
-WRONG = PROVABLE.replace("n.now < 255", "n.now < 256")
+CRATES = "low:\n" + "".join(f"{it}: low\n" for it in PROGRAMS)
+PROVABLE = "//! A number.\n#![tactic(auto)]\n\n/// Gives half of it.\npub fn half(n: u8) -> u8 {\n    n / 2\n}\n"
+# (of which nothing was kept)
+OTHER = PROVABLE.replace("half", "third").replace("n / 2", "n / 3")
+WRONG = PROVABLE.replace("n / 2", "2 / n")
 MAIN = "//! Prints nothing.\n#![tactic(auto)]\n\nfn main(_rt: HostRuntime) {}\n"
 UNPROVED = "histar: not proved yet: this run is compiled with checks, which takes about a minute; ./prove builds the proved program\n"
 NEEDS = "needs the proved program, which ./prove builds\n"
 ANSWERED = "run=ended status=1 runners=1 races=unchecked proved=no"
+# What the second start in the small tree says first: its one library is built.
+GOES_ON = f"prove: libraries built before: 1; {len(PROGRAMS)} crates left, about "
 STAND_IN = "#!/bin/sh\necho \"$*\"; echo 'checked: ended status=1' >&2; echo '{said}' >&2; exit 1\n"
 
 
@@ -42,7 +47,7 @@ class Tree:
             shutil.copy2(f"gate/{it}.py", f"{self.top}/gate/{it}.py")
         write(f"{self.top}/crates.txt", CRATES)
         write(f"{self.top}/crates/low/src/lib.rt", PROVABLE)
-        for it in ("histar", "histar_check", "histar_try", "histar_audit", "histar_show"):
+        for it in PROGRAMS:
             write(f"{self.top}/crates/{it}/src/main.rt", MAIN)
             write(f"{self.top}/crates/{it}/stdin", "")
         self.stand_in(ANSWERED)
@@ -94,11 +99,8 @@ def try_programs(report, tree):
     no_answer = f"{UNPROVED}histar: the unproved run gave no answer: run=none proved=no\n"
     expect(report, "./histar unproved, no answer", tree.start("./histar", "run", "none"), (70, "try -- run none\n", no_answer))
     tree.stand_in(ANSWERED)
-    tree.prove_by_hand("histar")
-    tree.prove_by_hand("histar_check")
-    tree.prove_by_hand("histar_try")
-    tree.prove_by_hand("histar_audit")
-    tree.prove_by_hand("histar_show")
+    for it in PROGRAMS:
+        tree.prove_by_hand(it)
     expect(report, "./histar proved", tree.start("./histar", "run", "script", "--dump", "d"), (0, "proved run script --dump d\n", ""))
     expect(report, "./histar check proved", tree.start("./histar", "check", "script"), (0, "proved check script\n", ""))
     expect(report, "./histar try proved", tree.start("./histar", "try", "--pages", "8"), (0, "proved try --pages 8\n", ""))
@@ -156,33 +158,132 @@ def processes_below(top):
     return found
 
 
-def try_checks(report, tree):
-    """./prove with the real rt: a proof that fails, and an interrupt, after which nothing of it is left."""
-    os.remove(f"{tree.commands}/rt")
+class Proving:
+    """./prove at work in a tree, by the real rt."""
+
+    def __init__(self, top, *words, before=()):
+        how = {"cwd": top, "stdin": subprocess.DEVNULL, "stdout": subprocess.PIPE, "stderr": subprocess.PIPE, "text": True}
+        self.top, self.started = top, subprocess.Popen([*before, "./prove", *words], **how)
+
+    def wait(self, is_so):
+        """Waits until something is so, for a minute at most, and returns whether it came."""
+        until = time.monotonic() + 60
+        while not is_so() and time.monotonic() < until and self.started.poll() is None:
+            time.sleep(0.05)
+        return is_so()
+
+    def interrupt(self):
+        self.started.send_signal(signal.SIGINT)
+        return self.end()
+
+    def end(self):
+        """How it ended: its status, what it wrote, and to standard error."""
+        said, beside = self.started.communicate(timeout=300)
+        return self.started.returncode, said, beside
+
+
+def is_at_work(top, crate):
+    return processes_below(f"{top}/crates/{crate}") > 0
+
+
+def built(top):
+    """The crates that are built in a tree."""
+    made = ["low"] if os.path.isfile(f"{top}/crates/low/out/rlib/stamp") else []
+    return made + [it for it in PROGRAMS if os.path.isfile(f"{top}/crates/{it}/out/{it}")]
+
+
+def try_wrong_proof(report, tree):
+    """A proof that fails, and the tree once it is mended."""
     write(f"{tree.top}/crates/low/src/lib.rt", WRONG)
     status, _, said = tree.start("./prove")
     line = "prove: low isn't proved or built: crates/low/out/prove.log says why\n"
-    report.counts((status, said) == (70, line), f"./prove where a proof fails: status {status}, {said.strip()}")
+    is_told = "is not proved" in plays.text(f"{tree.top}/crates/low/out/prove.log")
+    report.counts((status, said, is_told) == (70, line, True), f"./prove where a proof fails: status {status}, {said.strip()}")
     write(f"{tree.top}/crates/low/src/lib.rt", PROVABLE)
-    how = {"cwd": tree.top, "stdin": subprocess.DEVNULL, "stdout": subprocess.DEVNULL, "stderr": subprocess.PIPE, "text": True}
-    started = subprocess.Popen("./prove", **how)
-    until = time.monotonic() + 30
-    while processes_below(f"{tree.top}/crates/low") == 0 and time.monotonic() < until:
-        time.sleep(0.1)
-    was_at_work = processes_below(f"{tree.top}/crates/low") > 0
-    started.send_signal(signal.SIGINT)
-    said = started.communicate(timeout=30)[1]
-    time.sleep(1)
-    left = processes_below(tree.top)
-    is_well = (was_at_work, started.returncode, left) == (True, 130, 0)
-    report.counts(is_well, f"./prove interrupted: status {started.returncode}, {left} processes left, {said.strip()}")
+
+
+def try_interrupts(report, tree):
+    """Interrupts near the beginning, in the middle and near the end, after each of which nothing is left at work and the next start goes
+    on; the last one has two processors."""
+    for count in (0, len(PROGRAMS) // 2, len(PROGRAMS)):
+        proving, before = Proving(tree.top), "low" in built(tree.top)
+        was_at_work = proving.wait(lambda: len(built(tree.top)) >= count and processes_below(f"{tree.top}/crates") > 0)
+        status, said, beside = proving.interrupt()
+        time.sleep(1)
+        left, goes_on = processes_below(tree.top), not before or said.startswith(GOES_ON)
+        is_well = (was_at_work, status, left, goes_on) == (True, 130, 0, True)
+        report.counts(is_well, f"./prove interrupted with {len(built(tree.top))} crates built: status {status}, {left} processes left, {beside.strip()}")
+    before = len(built(tree.top))
+    status, said, beside = Proving(tree.top, before=("taskset", "-c", two_processors())).end()
+    is_well = (status, beside) == (0, "") and said.startswith(GOES_ON) and said.endswith(f"prove: {TO_RUN}\n") and sorted(built(tree.top)) == sorted(["low", *PROGRAMS])
+    report.counts(is_well, f"./prove on two processors goes on after {before} crates: status {status}, {said.splitlines()[-1:]} {beside}")
+
+
+def two_processors():
+    return ",".join(map(str, sorted(os.sched_getaffinity(0))[:2]))
+
+
+def try_stored_run(report, tree):
+    """A program whose run isn't the stored one: its status or its output is turned round."""
+    for file, made, why in (
+        ("status", "1\n", "it ended with status 0, and crates/histar/status has 1"),
+        ("stdout", "something\n", "it wrote something else than crates/histar/stdout has"),
+    ):
+        write(f"{tree.top}/crates/histar/{file}", made)
+        status, _, said = tree.start("./prove", "histar")
+        line = f"prove: histar is built, but its run isn't the stored one: {why}\n"
+        report.counts((status, said) == (70, line), f"./prove with another {file} stored: status {status}, {said.strip()}")
+        os.remove(f"{tree.top}/crates/histar/{file}")
+    os.remove(f"{tree.top}/crates/histar/stdin")
+    ended = tree.start("./prove", "histar")
+    report.counts(ended[0] == 0, f"./prove of a program with no stored input: status {ended[0]}, {ended[2].strip()}")
+
+
+def shrink(disk):
+    """Leaves a file system of memory no more than it holds."""
+    held = os.statvfs(disk)
+    size = (held.f_blocks - held.f_bfree) * held.f_frsize + 2_000_000
+    subprocess.run(["mount", "-o", f"remount,size={size}", disk], check=True)
+
+
+def try_full_disk(report, tree, room):
+    """A disk that fills up while a crate is proved, and one that is too small from the start. It is a small file system of its own, where
+    one may be mounted."""
+    disk = f"{room}/disk"
+    os.makedirs(disk)
+    if subprocess.run(["mount", "-t", "tmpfs", "-o", "size=3200M", "none", disk], capture_output=True).returncode:
+        report.say("left out: ./prove on a full disk: no file system may be mounted")
+        return
+    try:
+        shutil.copytree(tree.top, f"{disk}/tree", ignore=shutil.ignore_patterns("out"))
+        write(f"{disk}/tree/crates/low/src/lib.rt", OTHER)
+        proving = Proving(f"{disk}/tree")
+        was_at_work = proving.wait(lambda: is_at_work(f"{disk}/tree", "low"))
+        shrink(disk)
+        status, _, said = proving.end()
+        report.counts((was_at_work, status, said) == (True, 73, "prove: the disk is full\n"), f"./prove where the disk fills up: status {status}, {said.strip()}")
+        status, _, said = Proving(f"{disk}/tree").end()
+        report.counts(status == 73 and said.startswith("prove: the disk has "), f"./prove on a small disk: status {status}, {said.strip()}")
+    finally:
+        subprocess.run(["umount", "-l", disk], check=False)
+
+
+def try_checks(report, tree, room):
+    """./prove with the real rt."""
+    os.remove(f"{tree.commands}/rt")
+    shutil.rmtree(f"{tree.top}/out")
+    for it in PROGRAMS:
+        shutil.rmtree(f"{tree.top}/crates/{it}/out", ignore_errors=True)
+    try_wrong_proof(report, tree)
+    try_interrupts(report, tree)
+    try_stored_run(report, tree)
+    try_full_disk(report, tree, room)
 
 
 def start(report):
-    report.heading("Starts")
     with tempfile.TemporaryDirectory(prefix="starts-") as room:
         tree = Tree(room)
         try_programs(report, tree)
         try_gate(report, tree)
         try_prove(report, tree)
-        try_checks(report, tree)
+        try_checks(report, tree, room)
