@@ -1,146 +1,113 @@
-"""What the programs do where something outside them fails: one clear line, a status, and no file lost."""
+"""How the programs end: the commands of the table of docs/TEXTS.md, each with its status and its line, and the arguments that their help
+names. Where something outside a program fails, no file is lost."""
 import os
+import re
+import shlex
 import subprocess
 import tempfile
 
-SCRIPT = "boot: cat_create\n"
+from gate.plays import text
+
+TABLES = "docs/TEXTS.md"
+ROW = re.compile(r"^\| `(histar[^`]*)` \| (\d+) \| [^|]* \| ?(.*?) ?\|$", re.M)
+HELPED = re.compile(r"^\| `(histar[^`]*)` \| (`[^|]*) \|$", re.M)
+# What the table says of an error whose text clap makes.
+USAGE = "a text of `clap`"
+# What the commands are given: a script, a faulty one, dumps, and lines of dialogues.
+GIVEN = {
+    "script": "boot: cat_create\n",
+    "faulty": "boot: no_call\n",
+    "clean": "examples/dumps/two_categories.dump",
+    "false": "examples/dumps/leak.dump",
+    "lines": "cat_create\n",
+    "saves": "cat_create\nsave nowhere/script\n",
+}
 OLD = "what was there before\n"
+OPTIONS_OF_ALL = {"--help", "--version", "-h", "-V"}
 
 
-class Fault:
-    """A command that ends with a fault: its words, its status, its line, and where its standard output goes. The words name
-    files of a folder of its own, in which stand a script, a faulty one, and a dump of an earlier run."""
-
-    def __init__(self, program, words, status, line, out="/dev/null", given=""):
-        self.program, self.words, self.status, self.line, self.out = program, words, status, line, out
-        self.given = given
-
-    def run(self, folder):
-        with open(self.out, "wb") as out:
-            how = {"cwd": folder, "input": self.given, "stdout": out, "stderr": subprocess.PIPE, "text": True}
-            done = subprocess.run([os.path.abspath(self.program), *self.words], **how)
-        return done.returncode, done.stderr
-
-    def name(self):
-        return f"{self.program} {' '.join(self.words)}" + ("" if self.out == "/dev/null" else f" >{self.out}")
-
-
-def missing(word):
-    """What `clap` answers where one of two words is told without the other."""
-    usage = "Usage: histar-audit --from <ID> --category <N> <FILE>"
-    return f"error: the following required arguments were not provided:\n  {word}\n\n{usage}\n\nFor more information, try '--help'.\n"
-
-
-def no_label(text):
-    """What is answered to a text that is no label which can be stored."""
-    return f"error: invalid value '{text}' for '--hidden <LABEL>'\n"
-
-
-def no_page():
-    """What `clap` answers where no file is named for the page."""
-    usage = "Usage: histar-show page --out <FILE> <DUMP>"
-    return f"error: the following required arguments were not provided:\n  --out <FILE>\n\n{usage}\n\nFor more information, try '--help'.\n"
-
-
-FAULTS = [
-    Fault("./histar", ["run", "nothing"], 3, "histar: input fault\n"),
-    Fault("./histar", ["run", "faulty", "--dump", "dump"], 1, "histar: line 1: script fault\n"),
-    Fault("./histar", ["run", "script", "--dump", "dump"], 3, "histar: output fault\n", out="/dev/full"),
-    Fault("./histar", ["run", "script", "--dump", "nowhere/dump"], 3, "histar: output fault\n"),
-    Fault("./histar", ["check", "nothing"], 3, "histar-check: input fault\n"),
-    Fault("./histar", ["check", "faulty"], 3, "histar-check: output fault\n", out="/dev/full"),
-    Fault("./histar", ["try"], 3, "histar-try: output fault\n", out="/dev/full", given="cat_create\n"),
-    Fault("./histar", ["try"], 0, "", given="cat_create\nsave nowhere/script\n"),
-    Fault("./histar-audit", ["nothing"], 3, "histar-audit: input fault\n"),
-    Fault("./histar-audit", ["dump"], 3, "histar-audit: output fault\n", out="/dev/full"),
-    Fault("./histar-audit", ["old", "--migrate", "nowhere/new"], 3, "histar-audit: output fault\n"),
-    Fault("./histar-audit", ["old", "--migrate", "/dev/full"], 3, "histar-audit: output fault\n"),
-    Fault("./histar-audit", ["dump", "--migrate", "dump"], 2, ""),
-    Fault("./histar-audit", ["old", "--from", "1"], 2, missing("--category <N>")),
-    Fault("./histar-audit", ["old", "--category", "1"], 2, missing("--from <ID>")),
-    Fault("./histar-audit", ["old", "--from", "1", "--category", "2"], 3, "histar-audit: output fault\n", out="/dev/full"),
-    Fault("./histar-audit", ["old", "--hidden", "{c:3,1}"], 2, no_label("{c:3,1}")),
-    Fault("./histar-audit", ["nothing", "--hidden", "{*}"], 2, no_label("{*}")),
-    Fault("./histar-audit", ["nothing", "--migrate", "dump"], 3, "histar-audit: input fault\n"),
-    Fault("./histar-show", ["why", "nothing"], 3, "histar-show: input fault\n"),
-    Fault("./histar-show", ["why", "dump"], 2, "histar-show: unreadable at line 1\n"),
-    Fault("./histar-show", ["why", "old", "1"], 2, "histar-show: no call at this line\n"),
-    Fault("./histar-show", ["why", "old"], 3, "histar-show: output fault\n", out="/dev/full"),
-    Fault("./histar-show", ["tree", "nothing"], 3, "histar-show: input fault\n"),
-    Fault("./histar-show", ["tree", "dump"], 2, "histar-show: unreadable at line 1\n"),
-    Fault("./histar-show", ["tree", "old", "--after", "1"], 3, "histar-show: output fault\n", out="/dev/full"),
-    Fault("./histar-show", ["dot", "dump"], 2, "histar-show: unreadable at line 1\n"),
-    Fault("./histar-show", ["dot", "old"], 3, "histar-show: output fault\n", out="/dev/full"),
-    Fault("./histar-show", ["page", "nothing", "--out", "dump"], 3, "histar-show: input fault\n"),
-    Fault("./histar-show", ["page", "dump", "--out", "dump"], 2, "histar-show: unreadable at line 1\n"),
-    Fault("./histar-show", ["page", "old", "--out", "nowhere/page"], 3, "histar-show: output fault\n"),
-    Fault("./histar-show", ["page", "old", "--out", "/dev/full"], 3, "histar-show: output fault\n"),
-    Fault("./histar-show", ["page", "old"], 2, no_page()),
-    Fault("./histar-show", ["json", "dump"], 2, "histar-show: unreadable at line 1\n"),
-    Fault("./histar-show", ["json", "old"], 3, "histar-show: output fault\n", out="/dev/full"),
-]
-
-# A dump of format 1, which is clean.
-FIRST_FORMAT = "examples/dumps/two_categories.dump"
-
-
-def put(file, text):
+def put(file, made):
     with open(file, "w", encoding="utf-8") as it:
-        it.write(text)
+        it.write(made)
 
 
-def text(file):
-    with open(file, encoding="utf-8") as it:
-        return it.read()
+def lay(folder):
+    for name, made in GIVEN.items():
+        put(f"{folder}/{name}", text(made) if made.startswith("examples/") else made)
 
 
-def files_in(folder):
-    put(f"{folder}/script", SCRIPT)
-    put(f"{folder}/faulty", "boot: no_call\n")
-    put(f"{folder}/dump", OLD)
-    put(f"{folder}/old", text(FIRST_FORMAT))
+def files_of(folder):
+    return {it: text(f"{folder}/{it}") for it in os.listdir(folder)}
 
 
-def try_fault(report, fault):
-    """The fault's status and line, and the earlier dump as it was."""
+def typed(folder, command, **how):
+    """How a command of the table ended: its status, and what it wrote."""
+    program, _, rest = command.partition(" ")
+    words = f"exec {shlex.quote(os.path.abspath(program))} {rest.replace('{', chr(39) + '{').replace('}', '}' + chr(39))}"
+    done = subprocess.run(["sh", "-c", words], cwd=folder, stdin=subprocess.DEVNULL, capture_output=True, text=True, **how)
+    return done.returncode, done.stdout, done.stderr
+
+
+def is_line(said, wanted):
+    """Whether what stands on standard error is what a row says."""
+    if wanted == USAGE:
+        return said.startswith("error: ") and "--help" in said
+    return said == (f"{wanted.strip('`')}\n" if wanted else "")
+
+
+def try_row(report, command, status, line):
+    """A row's command: its status and its line. Where it fails, the files are as they were."""
     with tempfile.TemporaryDirectory(prefix="fault-") as folder:
-        files_in(folder)
-        status, said = fault.run(folder)
-        is_well = (status, said, text(f"{folder}/dump"), len(os.listdir(folder))) == (fault.status, fault.line, OLD, 4)
-        report.counts(is_well, f"{fault.name()}: status {status}, {said.strip()}")
+        lay(folder)
+        before = files_of(folder)
+        ended, _, said = typed(folder, command)
+        is_well = (ended, is_line(said, line)) == (status, True) and (not status or files_of(folder) == before)
+        report.counts(is_well, f"{command}: status {ended}, {said.strip()}")
+
+
+def try_help(report, command, arguments):
+    """What help names of a program: the arguments of its row and no other; and an option that no program has."""
+    wanted = set(re.findall(r"`([^`]+)`", arguments))
+    status, said, beside = typed(".", f"{command} --help")
+    usage = said.partition("Usage:")[2].partition("\n")[0]
+    named = set(re.findall(r"(?<![\w-])--?[a-zA-Z][\w-]*", said)) - OPTIONS_OF_ALL | set(re.findall(r"[<\[]([A-Z]+)[>\]]", re.sub(r"--\w[\w-]* <\w+>", "", usage))) - {"OPTIONS"}
+    is_well = (status, beside, named) == (0, "", wanted)
+    report.counts(is_well, f"{command} --help: {' '.join(sorted(named))}")
+    status, said, beside = typed(".", f"{command} --no-such-option")
+    report.counts((status, said) == (2, "") and is_line(beside, USAGE), f"{command} --no-such-option: status {status}")
 
 
 def try_left_over(report):
     """What a run that was killed left beside a dump doesn't stop the next one from writing it."""
     with tempfile.TemporaryDirectory(prefix="fault-") as folder:
-        files_in(folder)
+        lay(folder)
         put(f"{folder}/dump.histar-new", OLD)
-        status, said = Fault("./histar", ["run", "script", "--dump", "dump"], 0, "").run(folder)
-        is_well = (status, said, os.listdir(folder).count("dump.histar-new")) == (0, "", 0) and text(f"{folder}/dump").startswith("histar-dump ")
-        report.counts(is_well, f"a dump beside a left-over of an earlier run: status {status}, {said.strip()}")
-
-
-def begins(file, words):
-    return text(file).startswith(words)
+        ended = typed(folder, "histar run script --dump dump")
+        is_well = (ended[0], ended[2], os.listdir(folder).count("dump.histar-new")) == (0, "", 0) and text(f"{folder}/dump").startswith("histar-dump ")
+        report.counts(is_well, f"a dump beside a left-over of an earlier run: status {ended[0]}, {ended[2].strip()}")
 
 
 def try_migrations(report):
     """A dump takes its own place in format 2, once, and stays clean; a checkpoint of more events than there are has all."""
     with tempfile.TemporaryDirectory(prefix="fault-") as folder:
-        files_in(folder)
+        lay(folder)
         for before in ("histar-dump 1\n", "histar-dump 2\n"):
-            is_well = begins(f"{folder}/old", before)
-            status, said = Fault("./histar-audit", ["old", "--migrate", "old"], 0, "").run(folder)
-            is_well = is_well and (status, said) == (0, "") and begins(f"{folder}/old", "histar-dump 2\n")
+            is_well = text(f"{folder}/clean").startswith(before)
+            status, _, said = typed(folder, "histar-audit clean --migrate clean")
+            is_well = is_well and (status, said) == (0, "") and text(f"{folder}/clean").startswith("histar-dump 2\n")
             report.counts(is_well, f"a dump that begins {before.strip()} is migrated to its own file: status {status}, {said.strip()}")
-        status, said = Fault("./histar", ["run", "script", "--dump", "dump", "--checkpoint", "1000"], 0, "").run(folder)
-        audited, _ = Fault("./histar-audit", ["dump"], 0, "").run(folder)
+        status, _, said = typed(folder, "histar run script --dump dump --checkpoint 1000")
+        audited = typed(folder, "histar-audit dump")[0]
         is_well = (status, said, audited) == (0, "", 0) and "\nevent " not in text(f"{folder}/dump")
         report.counts(is_well, f"a checkpoint past the events: status {status}, audited {audited}, {said.strip()}")
 
 
 def fail(report):
-    for fault in FAULTS:
-        try_fault(report, fault)
+    rows, helped = ROW.findall(text(TABLES)), HELPED.findall(text(TABLES))
+    report.counts(len(rows) > 40 and len(helped) > 8, f"{TABLES} has {len(rows)} commands with their statuses, and the arguments of {len(helped)}")
+    for command, status, line in rows:
+        try_row(report, command, int(status), line)
+    for command, arguments in helped:
+        try_help(report, command, arguments)
     try_left_over(report)
     try_migrations(report)
