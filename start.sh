@@ -2,8 +2,8 @@
 # and unproved. To be sourced where `top` is a path of the repository's folder; then `start CRATE WORDS..` becomes the
 # program with these words.
 #
-# Statuses of its own: 69 where rt is not on the path, 70 where the unproved way gave no answer, 78 where what was asked
-# for needs the proved program. All others are the program's.
+# Statuses of its own: 69 where rt is not on the path, 70 where the unproved way gave no answer, 73 where no temporary file can
+# be made, 78 where what was asked for writes a file, which only the proved program does. All others are the program's.
 
 # The folders of the sources that a program is made of, in one line: its own crate's and those of what crates.txt says that it
 # uses, one through another. Definitions and proofs change no program: `./test` looks at them.
@@ -45,69 +45,44 @@ ends() {
     exit "$1"
 }
 
-# Ends where the words ask for a file to be written, or for the auditor, which reads one of any size.
-needs_no_file() {
-    case $crate in
-        histar | histar_check | histar_try) ;;
-        *) ends 78 'this needs the proved program, which ./prove builds' ;;
-    esac
+# Ends where a file would be written: by a word or by a line of a dialogue. The unproved program runs in a folder of its own.
+writes_no_file() {
     for word; do
-        case $word in --dump | --dump=*) ends 78 '--dump needs the proved program, which ./prove builds' ;; esac
+        case $word in --dump | --dump=* | --out | --out=* | --migrate | --migrate=*) ends 78 "${word%%=*} needs the proved program, which ./prove builds" ;; esac
     done
+    ! grep -q '^save [^=]' "$said.lines" || ends 78 'save needs the proved program, which ./prove builds'
 }
 
-# Where the script stands among the words after `run` or `check`: the number of the first that is neither an option nor its value.
-place_of_script() {
-    place=0 is_value=
-    for word; do
-        place=$((place + 1))
-        case $is_value$word in
-            run | check) [ "$place" -gt 1 ] || continue ;;
-            -- | --*=*) continue ;;
-            --help | -h | --version | -V) continue ;;
-            -*) is_value=value && continue ;;
-            value*) is_value= && continue ;;
-        esac
-        return
-    done
-    place=0
+# The name by which the program gets a file: the word itself, or its last part where it leads out of this folder.
+name_of() {
+    case $1 in /* | ../* | */../*) printf '%s\n' "${1##*/}" ;; *) printf '%s\n' "$1" ;; esac
 }
 
-# Takes the lines of a dialogue whole, in the file that is named: an unproved program answers all of them at once. Where one of
-# them saves it ends, since the program runs in a folder of its own.
-take_lines() {
-    [ ! -t 0 ] || printf '%s: until then the lines are answered together, once they end (Ctrl-D)\n' "$name" >&2
-    cat >"$1"
-    ! grep -q '^save [^=]' "$1" || ends 78 'save needs the proved program, which ./prove builds'
-}
-
-# Runs the program by `rt try`, which compiles the sources as they stand with checks and keeps nothing. It gives the program
-# a copy of the script, as the file script.histar. What rt says of a run that the program ended is left out.
+# Runs the program by `rt try`, which compiles the sources as they stand with checks and keeps nothing. Each word that is a file is
+# handed over. Its input is read whole first, since it answers all lines together. What rt says of a run that the program ended is left
+# out.
 unproved() {
-    needs_no_file "$@"
     command -v rt >/dev/null || ends 69 'rt (the Rattle toolchain) is not on the path'
-    printf '%s: not proved yet: this run is compiled with checks, which takes about a minute; ./prove builds the proved program\n' "$name" >&2
-    place_of_script "$@"
-    script= count=$#
-    for at in $(seq 1 "$count"); do
-        if [ "$at" = "$place" ] && [ -f "$1" ]; then
-            script=$(realpath "$1")
-            set -- "$@" script.histar
-        else
-            set -- "$@" "$1"
-        fi
-        shift
-    done
-    [ -z "$script" ] || set -- --data "script.histar=$script" -- "$@"
-    [ -n "$script" ] || set -- -- "$@"
+    printf '%s: not proved yet: this run is compiled with checks, which takes some minutes; ./prove builds the proved program\n' "$name" >&2
     said=$(mktemp) || ends 73 'no temporary file can be made'
     trap 'rm -f "$said" "$said.lines"' EXIT
-    if [ "$crate" = histar_try ]; then
-        take_lines "$said.lines"
-        exec <"$said.lines"
+    : >"$said.lines"
+    if [ "${1-}" = try ]; then
+        [ ! -t 0 ] || printf '%s: until then the lines are answered together, once they end (Ctrl-D)\n' "$name" >&2
+        cat >"$said.lines"
     fi
+    writes_no_file "$@"
+    words=$#
+    for word; do
+        [ ! -f "$word" ] || set -- "$@" --data "$(name_of "$word")=$(realpath "$word")"
+    done
+    set -- "$@" --
+    for _ in $(seq 1 "$words"); do
+        if [ -f "$1" ]; then set -- "$@" "$(name_of "$1")"; else set -- "$@" "$1"; fi
+        shift
+    done
     status=0
-    (cd "$top/crates/$crate" && exec rt try "$@" 2>"$said") || status=$?
+    (cd "$top/crates/$crate" && exec rt try "$@" <"$said.lines" 2>"$said") || status=$?
     if grep -q '^run=ended ' "$said"; then
         grep -vE '^(checked|interpreter): |^races: |^run=ended ' "$said" >&2 || true
         exit "$status"

@@ -17,7 +17,7 @@ from gate import times
 from gate.report import minutes
 from gate.toolchain import SECONDS, WIDE, Passed, library_task, toolchain
 
-PROGRAMS = ("histar", "histar_check", "histar_try", "histar_audit", "histar_show")
+PROGRAMS = ("histar", "histar_audit", "histar_show")
 LOG = "out/prove.log"
 LOCK = "out/prove.lock"
 TO_RUN = "all programs are proved and built: ./histar run examples/first.histar"

@@ -40,7 +40,7 @@ def scripts():
 
 def dialogues():
     for file in sorted(glob.glob("examples/tries/*.txt")):
-        yield Case("histar_try", file, ["try"], text(file), 0, text(f"{file.removesuffix('.txt')}.out"))
+        yield Case("histar", file, ["try"], text(file), 0, text(f"{file.removesuffix('.txt')}.out"))
 
 
 def dumps():
@@ -49,7 +49,7 @@ def dumps():
         yield Case("histar_audit", file, ["case"], text(file), VERDICTS[verdict.split()[0]], verdict)
 
 
-PROGRAM_OF = {"./histar run": "histar", "./histar check": "histar_check", "./histar-audit": "histar_audit", "./histar-show": "histar_show"}
+PROGRAM_OF = {"./histar run": "histar", "./histar check": "histar", "./histar-audit": "histar_audit", "./histar-show": "histar_show"}
 
 
 def shown():

@@ -21,7 +21,7 @@ PROVABLE = "//! A number.\n#![tactic(auto)]\n\n/// Gives half of it.\npub fn hal
 OTHER = PROVABLE.replace("half", "third").replace("n / 2", "n / 3")
 WRONG = PROVABLE.replace("n / 2", "2 / n")
 MAIN = "//! Prints nothing.\n#![tactic(auto)]\n\nfn main(_rt: HostRuntime) {}\n"
-UNPROVED = "histar: not proved yet: this run is compiled with checks, which takes about a minute; ./prove builds the proved program\n"
+UNPROVED = "histar: not proved yet: this run is compiled with checks, which takes some minutes; ./prove builds the proved program\n"
 NEEDS = "needs the proved program, which ./prove builds\n"
 ANSWERED = "run=ended status=1 runners=1 races=unchecked proved=no"
 # What the second start in the small tree says first: its one library is built.
@@ -75,37 +75,43 @@ def expect(report, name, got, wanted):
     report.counts(got == wanted, f"{name}: status {got[0]}" + ("" if got == wanted else f", {got}, wanted {wanted}"))
 
 
-def try_programs(report, tree):
-    """The programs, without and with what ./prove builds."""
+def unproved_of(program):
+    return UNPROVED.replace("histar:", f"{program}:")
+
+
+def try_unproved(report, tree):
+    """The programs without what ./prove builds: each word that is a file is handed over, and none is written."""
     write(f"{tree.top}/script", "")
-    given = f"try --data script.histar={os.path.realpath(tree.top)}/script -- run"
-    played = (1, f"{given} script.histar --pages 8\n", UNPROVED)
-    expect(report, "./histar unproved", tree.start("./histar", "run", "script", "--pages", "8"), played)
-    played = (1, f"{given} --pages 8 script.histar\n", UNPROVED)
-    expect(report, "./histar unproved, the script last", tree.start("./histar", "run", "--pages", "8", "script"), played)
+    given = f"try --data script={os.path.realpath(tree.top)}/script --"
+    for words in (("run", "script", "--pages", "8"), ("run", "--pages", "8", "script"), ("check", "script")):
+        expect(report, f"./histar {' '.join(words)} unproved", tree.start("./histar", *words), (1, f"{given} {' '.join(words)}\n", UNPROVED))
+    outside = os.path.realpath(f"{tree.top}/script")
+    expect(report, "./histar unproved, a script by its whole path", tree.start("./histar", "run", outside), (1, f"{given} run script\n", UNPROVED))
     expect(report, "./histar unproved, no such script", tree.start("./histar", "run", "none"), (1, "try -- run none\n", UNPROVED))
     no_rt = (69, "", "histar: rt (the Rattle toolchain) is not on the path\n")
     expect(report, "./histar without rt", tree.start("./histar", "run", "script", has_rt=False), no_rt)
-    checked = (1, f"{given.removesuffix('run')}check script.histar\n", UNPROVED.replace("histar:", "histar-check:"))
-    expect(report, "./histar check unproved", tree.start("./histar", "check", "script"), checked)
-    tried = (1, "try -- try\n", UNPROVED.replace("histar:", "histar-try:"))
-    expect(report, "./histar try unproved", tree.start("./histar", "try"), tried)
-    save = (78, "", f"{tried[2]}histar-try: save {NEEDS}")
+    expect(report, "./histar try unproved", tree.start("./histar", "try"), (1, "try -- try\n", UNPROVED))
+    save = (78, "", f"{UNPROVED}histar: save {NEEDS}")
     expect(report, "./histar try unproved, with save", tree.start("./histar", "try", given="save c\n"), save)
-    expect(report, "./histar --dump unproved", tree.start("./histar", "run", "script", "--dump", "d"), (78, "", f"histar: --dump {NEEDS}"))
-    expect(report, "./histar-audit unproved", tree.start("./histar-audit", "script"), (78, "", f"histar-audit: this {NEEDS}"))
-    expect(report, "./histar-show unproved", tree.start("./histar-show", "why", "dump"), (78, "", f"histar-show: this {NEEDS}"))
+    for program, words in (("histar", ("run", "script", "--dump", "d")), ("histar-audit", ("script", "--migrate=d")), ("histar-show", ("page", "script", "--out", "d"))):
+        option = next(it for it in words if it.startswith("--")).partition("=")[0]
+        wanted = (78, "", f"{unproved_of(program)}{program}: {option} {NEEDS}")
+        expect(report, f"./{program} {' '.join(words)} unproved", tree.start(f"./{program}", *words), wanted)
+        read = (1, f"{given} {words[0] if words[0] != 'script' else ''} script\n".replace("  ", " "), unproved_of(program))
+        expect(report, f"./{program} unproved, nothing written", tree.start(f"./{program}", *words[: words.index("script") + 1]), read)
     tree.stand_in("run=none proved=no")
     no_answer = f"{UNPROVED}histar: the unproved run gave no answer: run=none proved=no\n"
     expect(report, "./histar unproved, no answer", tree.start("./histar", "run", "none"), (70, "try -- run none\n", no_answer))
     tree.stand_in(ANSWERED)
+
+
+def try_proved(report, tree):
+    """The programs where what ./prove builds stands, and is older than a source."""
     for it in PROGRAMS:
         tree.prove_by_hand(it)
-    expect(report, "./histar proved", tree.start("./histar", "run", "script", "--dump", "d"), (0, "proved run script --dump d\n", ""))
-    expect(report, "./histar check proved", tree.start("./histar", "check", "script"), (0, "proved check script\n", ""))
-    expect(report, "./histar try proved", tree.start("./histar", "try", "--pages", "8"), (0, "proved try --pages 8\n", ""))
-    expect(report, "./histar-audit proved", tree.start("./histar-audit", "d"), (0, "proved d\n", ""))
-    expect(report, "./histar-show proved", tree.start("./histar-show", "why", "d"), (0, "proved why d\n", ""))
+    for command in ("./histar run script --dump d", "./histar check script", "./histar try --pages 8", "./histar-audit d", "./histar-show why d"):
+        program, *words = command.split()
+        expect(report, f"{command} proved", tree.start(program, *words), (0, f"proved {' '.join(words)}\n", ""))
     later = time.time() + 60
     os.utime(f"{tree.top}/crates/low/src/lib.rt", (later, later))
     expect(report, "./histar older than a source", tree.start("./histar", "run", "none"), (1, "try -- run none\n", UNPROVED))
@@ -283,7 +289,8 @@ def try_checks(report, tree, room):
 def start(report):
     with tempfile.TemporaryDirectory(prefix="starts-") as room:
         tree = Tree(room)
-        try_programs(report, tree)
+        try_unproved(report, tree)
+        try_proved(report, tree)
         try_gate(report, tree)
         try_prove(report, tree)
         try_checks(report, tree, room)

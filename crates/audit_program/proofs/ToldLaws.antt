@@ -2,7 +2,7 @@
 use Rattle.std.proofs.Common.{◌≡◌, ℕ, List, Option, Some, None, ◌∙◌, subst}
 use Rattle.std.specs.Io.KnownBytes.{Appends}
 use Rattle.std.specs.Option.{IfSome}
-use Rattle.audit_args.specs.declared.words.AuditOptions.{AuditOptions}
+use Rattle.program_io.specs.declared.options.AuditOptions.{AuditOptions}
 use Rattle.audit_program.specs.Told.{told_text, IsHiddenIn, IsMigration, IsReachedIn, IsTold}
 use Rattle.auditor.specs.Verdict.{IsVerdict, TellsFalse}
 use Rattle.auditor.specs.declared.verdicts.Verdict.{Verdict}

@@ -2,7 +2,7 @@
 use Rattle.std.specs.Prelude.{◌≡◌, ◌⊎◌, ℕ, Bool, true, List, [], ◌∷◌, ◌++◌, codes, decimal, Option, Some, None}
 use Rattle.std.specs.Io.KnownBytes.{Appends}
 use Rattle.std.specs.List.{flat_map}
-use Rattle.audit_args.specs.declared.words.AuditOptions.{AuditOptions}
+use Rattle.program_io.specs.declared.options.AuditOptions.{AuditOptions}
 use Rattle.base.specs.declared.ids.Category.{Category}
 use Rattle.audit_program.specs.Lines.{difference_line}
 use Rattle.dump_text.specs.Boot.{FirstFormatFaultsAt}

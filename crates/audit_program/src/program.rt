@@ -5,14 +5,13 @@ ghost use Rattle.audit_program.specs.Told.{verdict_status, IsHiddenIn, IsMigrati
 ghost use Rattle.audit_program.specs.Told.{TellsVerdict};
 
 use crate::lines::text_of;
-use audit_args::AuditOptions;
 use auditor::{Verdict, audit};
 use base::{Category, NoMemory, ObjectId};
 use clean_dumps::DumpFault;
 use dump_text::{MigrateFault, migrate};
 use hidden_replies::{Difference, hidden_replies};
 use label_lattice::Label;
-use program_io::{Fault, Sink, bytes_of, deliver};
+use program_io::{AuditOptions, Fault, Sink, bytes_of, deliver};
 use std::alloc::Global;
 use std::io::{Read, Write};
 use tracing::trace;

@@ -1,30 +1,26 @@
-//! `histar run SCRIPT`, with a dump of the run where one is asked for. Without words it plays its standard input with the
+//! `histar run SCRIPT` plays a script, with a dump of the run where one is asked for; `check SCRIPT` says what is wrong or doubtful in
+//! it; `try` is a dialogue with a newly booted kernel, over the standard input. Without words it plays its standard input with the
 //! default options.
 #![tactic(auto)]
 
-use histar_args::{DEFAULTS, Told, read_run_words};
-use program_io::{Counted, Fault, beside, put_file, tell_answer, words_of};
-use script_runner::{Ended, NAME, histar_on};
+mod dialogue;
+mod run;
+
+use check_text::check_on;
+use program_args::{Verb, read_words, tell_answer};
+use program_io::{Counted, DEFAULTS, Fault, Sink, words_of};
+use script_runner::{NAME, histar_on};
 use std::fs::File;
 use std::io;
 use std::io::Write;
 use std::process::ExitCode;
 
-/// Ends a run that was played: writes the dump where one is asked for. The answer is the status.
-fn ended_with<E: Write>(
-    rt: &HostRuntime,
-    told: &Told<'_>,
-    beside: &str,
-    ended: &Ended,
-    err: &mut E,
-) -> u8 {
-    let path = told.dump.unwrap_or("");
-    if told.options.dump && ended.status == 0 {
-        if let Err(fault) = put_file(rt, path, beside, ended.file.as_slice()) {
-            return fault.tell(NAME, err);
-        }
-    }
-    ended.status
+/// Checks the script of a path. The answer is the status.
+fn check<S: Sink, E: Write>(rt: &HostRuntime, path: &str, out: &mut S, err: &mut E) -> u8 {
+    let Ok(mut script) = File::open(rt, path) else {
+        return Fault::Input.tell(check_text::NAME, err);
+    };
+    check_on(rt.alloc(), path, &mut script, out, err)
 }
 
 fn main(rt: HostRuntime) -> ExitCode {
@@ -40,16 +36,11 @@ fn main(rt: HostRuntime) -> ExitCode {
         let ended = histar_on(&rt, alloc, &mut script, &DEFAULTS, &mut out, &mut err);
         return ExitCode::from(ended.status);
     }
-    let told = match read_run_words(alloc, words.as_slice()) {
-        Ok(told) => told,
-        Err(answer) => return ExitCode::from(tell_answer(alloc, NAME, &answer, &mut out, &mut err)),
+    let status = match read_words(alloc, words.as_slice()) {
+        Ok(Verb::Run(args)) => run::run(&rt, alloc, &args, &mut out, &mut err),
+        Ok(Verb::Check(path)) => check(&rt, path, &mut out, &mut err),
+        Ok(Verb::Try(limits)) => dialogue::ask(&rt, &limits, &mut out, &mut err),
+        Err(answer) => tell_answer(alloc, NAME, &answer, &mut out, &mut err),
     };
-    let Ok(mut script) = File::open(&rt, told.script) else {
-        return ExitCode::from(Fault::Input.tell(NAME, &mut err));
-    };
-    let Ok(beside) = beside(alloc, told.dump.unwrap_or("")) else {
-        return ExitCode::from(Fault::Memory.tell(NAME, &mut err));
-    };
-    let ended = histar_on(&rt, alloc, &mut script, &told.options, &mut out, &mut err);
-    ExitCode::from(ended_with(&rt, &told, beside.as_str(), &ended, &mut err))
+    ExitCode::from(status)
 }

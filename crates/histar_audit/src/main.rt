@@ -2,10 +2,10 @@
 //! audits its standard input.
 #![tactic(auto)]
 
-use audit_args::{DEFAULTS, Told, read_words};
 use audit_program::{AuditEnd, NAME, audit_on, read_label};
 use label_lattice::Label;
-use program_io::{Counted, Fault, beside, put_file, tell_answer, words_of};
+use program_args::{AuditArgs, read_audit_words, tell_answer};
+use program_io::{AUDIT_DEFAULTS, Counted, Fault, beside, put_file, words_of};
 use std::alloc::Global;
 use std::fs::File;
 use std::io;
@@ -15,7 +15,7 @@ use std::process::ExitCode;
 /// Ends an audit: writes the dump in format 2 where there is one to write. The answer is the status.
 fn ended_with<E: Write>(
     rt: &HostRuntime,
-    told: &Told<'_>,
+    told: &AuditArgs<'_>,
     beside: &str,
     ended: &AuditEnd,
     err: &mut E,
@@ -31,7 +31,11 @@ fn ended_with<E: Write>(
 
 /// The label of the observer who is told of, if any. A label that there is not is a fault of usage, told in one line, and no
 /// memory is told as ever: the error is the status.
-fn observer_of<E: Write>(alloc: Global, told: &Told<'_>, err: &mut E) -> Result<Option<Label>, u8> {
+fn observer_of<E: Write>(
+    alloc: Global,
+    told: &AuditArgs<'_>,
+    err: &mut E,
+) -> Result<Option<Label>, u8> {
     let Some(text) = told.hidden else {
         return Ok(None);
     };
@@ -55,10 +59,10 @@ fn main(rt: HostRuntime) -> ExitCode {
     };
     if words.len() <= 1 {
         let mut dump = rt.reader();
-        let ended = audit_on(alloc, &mut dump, &DEFAULTS, None, &mut out, &mut err);
+        let ended = audit_on(alloc, &mut dump, &AUDIT_DEFAULTS, None, &mut out, &mut err);
         return ExitCode::from(ended.status);
     }
-    let told = match read_words(alloc, words.as_slice()) {
+    let told = match read_audit_words(alloc, words.as_slice()) {
         Ok(told) => told,
         Err(answer) => return ExitCode::from(tell_answer(alloc, NAME, &answer, &mut out, &mut err)),
     };

@@ -7,8 +7,8 @@ use base::{Category, ObjectId};
 use dot_text::dot_on;
 use json_text::json_on;
 use page_text::page_on;
-use program_io::{Counted, Fault, Sink, beside, put_file, tell_answer, words_of};
-use show_args::{Colours, Verb, read_words};
+use program_args::{Colours, View, read_show_words, tell_answer};
+use program_io::{Counted, Fault, Sink, beside, put_file, words_of};
 use show_states::NAME;
 use show_text::why_on;
 use std::env::VarError;
@@ -17,11 +17,6 @@ use std::io::{IsTerminal, Read, Write};
 use std::process::ExitCode;
 use std::{env, io};
 use tree_text::tree_on;
-
-/// The object and the category of the flows that are asked for.
-fn flow_of(numbers: (u64, u64)) -> (ObjectId, Category) {
-    (ObjectId::new(numbers.0), Category(numbers.1))
-}
 
 /// Whether `NO_COLOR` is set to something.
 fn is_plain_asked(rt: &HostRuntime) -> bool {
@@ -76,24 +71,24 @@ fn main(rt: HostRuntime) -> ExitCode {
         let mut dump = rt.reader();
         return ExitCode::from(why_on(alloc, &mut dump, None, &mut out, &mut err));
     }
-    let told = match read_words(alloc, words.as_slice()) {
+    let told = match read_show_words(alloc, words.as_slice()) {
         Ok(told) => told,
         Err(answer) => return ExitCode::from(tell_answer(alloc, NAME, &answer, &mut out, &mut err)),
     };
     let Ok(mut dump) = File::open(&rt, told.dump) else {
         return ExitCode::from(Fault::Input.tell(NAME, &mut err));
     };
-    let status = match told.verb {
-        Verb::Why(line) => why_on(alloc, &mut dump, line, &mut out, &mut err),
-        Verb::Tree { after, colours } => {
+    let status = match told.view {
+        View::Why(line) => why_on(alloc, &mut dump, line, &mut out, &mut err),
+        View::Tree { after, colours } => {
             let is_coloured = is_coloured(&rt, colours);
             tree_on(alloc, &mut dump, after, is_coloured, &mut out, &mut err)
         }
-        Verb::Json => json_on(alloc, &mut dump, &mut out, &mut err),
-        Verb::Dot(flow) => dot_on(alloc, &mut dump, flow.map(flow_of), &mut out, &mut err),
-        Verb::Page(flow) => {
+        View::Json => json_on(alloc, &mut dump, &mut out, &mut err),
+        View::Dot(flow) => dot_on(alloc, &mut dump, flow, &mut out, &mut err),
+        View::Page(flow) => {
             let path = told.out.unwrap_or("");
-            put_page(&rt, &mut dump, flow.map(flow_of), path, &mut out, &mut err)
+            put_page(&rt, &mut dump, flow, path, &mut out, &mut err)
         }
     };
     ExitCode::from(status)

@@ -1,0 +1,22 @@
+use Rattle.std.proofs.Common.{◌∙◌, ap, ap₂}
+use Rattle.clap.specs.Simple.{app_of_fields, with_rule}
+use Rattle.program_args.proofs.audit.command.Goals as goal
+
+pub returns-clause-app : goal.returns-clause-app
+returns-clause-app c =
+    c.in_ok-five.ensures.shape c.hidden.ensures.local
+    ∙ ap₂ with_rule
+    (c.in_ok-four.ensures.shape c.category.ensures.local
+    ∙ ap₂ with_rule
+    (c.in_ok-three.ensures.shape c.from.ensures.local
+    ∙ ap₂ with_rule
+    (c.in_ok-two.ensures.shape c.migrated.ensures.local
+    ∙ ap₂ with_rule
+    (c.in_ok-one.ensures.shape c.file.ensures.local
+    ∙ ap₂ with_rule
+    (ap app_of_fields c.about-told.ensures ∙ ap app_of_fields c.in_ok-named.ensures.0 ∙ c.new.ensures.app)
+    c.file.ensures.rule)
+    c.migrated.ensures.rule)
+    c.from.ensures.rule)
+    c.category.ensures.rule)
+    c.hidden.ensures.rule

@@ -1,0 +1,186 @@
+//! The command line of `histar-audit`.
+ghost use Rattle.std.specs.Prelude.{◌≡◌, List, ℕ, Some, None, codes, false, is_some, map, option_map, IfErr, IfOk};
+ghost use Rattle.clap.specs.Matches.{first_value, found_of};
+ghost use Rattle.clap.specs.Simple.{app_of};
+ghost use Rattle.clap.specs.Walk.{rule_of};
+ghost use Rattle.clap.specs.Words.{kind_of};
+ghost use Rattle.program_args.specs.Commands.{audit_command, file_rule, hidden_rule, migrate_rule, number_rule};
+ghost use Rattle.program_args.specs.Path.{path_of};
+
+use base::{Category, ObjectId};
+use clap::error::ErrorKind;
+use clap::{Arg, ArgAction, ArgMatches, Command, Error, value_parser};
+use program_io::AuditOptions;
+use std::alloc::Global;
+use std::convert::AsStr;
+
+/// What the words ask for.
+#[derive(Clone, Copy, Debug, PartialEq, Eq)]
+pub struct AuditArgs<'a> {
+    /// How the dump is audited.
+    pub options: AuditOptions,
+    /// The path of the dump.
+    pub dump: &'a str,
+    /// The path of the file that the dump of format 2 goes to, where one is asked for.
+    pub migrate: Option<&'a str>,
+    /// The label of an observer, as it was told, where the replies that hidden threads changed are asked for.
+    pub hidden: Option<&'a str>,
+}
+
+/// The path of the dump.
+fn file<'a>(alloc: Global) -> Arg<'a>
+    ensures rule { rule_of result ≡ file_rule }
+    ensures local { result.global ≡ false }
+{
+    Arg::new(alloc, "FILE")
+        .required(true)
+        .action(ArgAction::Set)
+        .help("The dump to audit")
+}
+
+/// The path of the migrated dump.
+fn migrated<'a>(alloc: Global) -> Arg<'a>
+    ensures rule { rule_of result ≡ migrate_rule }
+    ensures local { result.global ≡ false }
+{
+    Arg::new(alloc, "migrate")
+        .long("migrate")
+        .value_name("OUT")
+        .action(ArgAction::Set)
+        .help("Where to write the dump in format 2, where it is clean and of format 1")
+}
+
+/// A number of 64 bits, behind its name.
+fn number<'a>(
+    alloc: Global,
+    name: &'a str,
+    value: &'a str,
+    help: &'a str,
+    is_needed: bool,
+) -> Arg<'a>
+    ensures rule { rule_of result ≡ number_rule name.entry.now is_needed }
+    ensures local { result.global ≡ false }
+{
+    Arg::new(alloc, name)
+        .long(name)
+        .value_name(value)
+        .required(is_needed)
+        .action(ArgAction::Set)
+        .value_parser(value_parser!(u64))
+        .help(help)
+}
+
+/// The object whose flows are told.
+fn from<'a>(alloc: Global, is_needed: bool) -> Arg<'a>
+    ensures rule { rule_of result ≡ number_rule (codes "from") is_needed }
+    ensures local { result.global ≡ false }
+{
+    number(
+        alloc,
+        "from",
+        "ID",
+        "Of a clean dump, tell which objects flows from this one reach",
+        is_needed,
+    )
+}
+
+/// The category outside of which flows are told.
+fn category<'a>(alloc: Global, is_needed: bool) -> Arg<'a>
+    ensures rule { rule_of result ≡ number_rule (codes "category") is_needed }
+    ensures local { result.global ≡ false }
+{
+    number(
+        alloc,
+        "category",
+        "N",
+        "The category outside of which these flows are: none goes on by an owner of it",
+        is_needed,
+    )
+}
+
+/// The label of the observer from whom threads are hidden.
+fn hidden<'a>(alloc: Global) -> Arg<'a>
+    ensures rule { rule_of result ≡ hidden_rule }
+    ensures local { result.global ≡ false }
+{
+    Arg::new(alloc, "hidden")
+        .long("hidden")
+        .value_name("LABEL")
+        .action(ArgAction::Set)
+        .help(
+            "Of a clean dump, tell which replies differ without the calls of threads that LABEL doesn't observe",
+        )
+}
+
+/// The command. Where flows are asked for, it needs their object and their category.
+fn command<'a>(alloc: Global, asks_flows: bool) -> Result<Command<'a>, Error>
+    ensures app { IfOk result (λ c. app_of c ≡ audit_command asks_flows) }
+    ensures memory { IfErr result (λ e. kind_of e ≡ ErrorKind.OutOfMemory) }
+{
+    let named = Command::new(alloc, "histar-audit").bin_name("histar-audit")?;
+    let told = named.about("Says whether a dump is that of a run by the rules");
+    let one = told.arg(file(alloc))?;
+    let two = one.arg(migrated(alloc))?;
+    let three = two.arg(from(alloc, asks_flows))?;
+    let four = three.arg(category(alloc, asks_flows))?;
+    let five = four.arg(hidden(alloc))?;
+    Ok(five)
+}
+
+/// The object and the category of the flows that are asked for.
+fn flow_of(matches: &ArgMatches<'_>) -> Option<(ObjectId, Category)>
+    ensures { first_value (found_of matches.now) (codes "from") ≡ None → result ≡ None }
+{
+    let _from = matches.get_str("from")?;
+    let from = matches.get_one::<u64>("from")?;
+    let category = matches.get_one::<u64>("category")?;
+    Some((ObjectId::new(from), Category(category)))
+}
+
+/// What the words say, by what `clap` finds in them.
+fn told_of<'a>(matches: &ArgMatches<'a>) -> AuditArgs<'a>
+    ensures path { (path : List ℕ)
+        → first_value (found_of matches.now) (codes "FILE") ≡ Some path → result.dump.now ≡ path }
+    ensures flow { first_value (found_of matches.now) (codes "from") ≡ None
+        → result.options.flow ≡ None }
+    ensures alone { first_value (found_of matches.now) (codes "migrate") ≡ None
+        → is_some result.migrate ≡ false }
+    ensures migrate { result.options.migrate ≡ is_some result.migrate }
+    ensures hidden { option_map (λ s. s.now) result.hidden
+        ≡ first_value (found_of matches.now) (codes "hidden") }
+{
+    let dump = matches.get_str("FILE").unwrap_or("");
+    let migrate = matches.get_str("migrate");
+    AuditArgs {
+        options: AuditOptions {
+            migrate: migrate.is_some(),
+            flow: flow_of(matches),
+        },
+        dump,
+        migrate,
+        hidden: matches.get_str("hidden"),
+    }
+}
+
+/// What the words say, the first of them being the program's name, or what `clap` answers to them: help, a fault of
+/// usage, or want of memory. An object without a category is a fault of usage, and so is a category without an object.
+pub fn read_audit_words<'a, S: AsStr>(alloc: Global, words: &'a [S]) -> Result<AuditArgs<'a>, Error>
+    ensures path { (path : List ℕ) → path_of (map S.text words.entry.now) ≡ Some path
+        → IfOk result (λ told. told.dump.now ≡ path) }
+    ensures alone { (path : List ℕ) → path_of (map S.text words.entry.now) ≡ Some path
+        → IfOk result (λ told. told.options ≡ record { migrate = false; flow = None }) }
+    ensures hidden { (path : List ℕ) → path_of (map S.text words.entry.now) ≡ Some path
+        → IfOk result (λ told. is_some told.hidden ≡ false) }
+    ensures memory { (path : List ℕ) → path_of (map S.text words.entry.now) ≡ Some path
+        → IfErr result (λ e. kind_of e ≡ ErrorKind.OutOfMemory) }
+    ensures migrate { IfOk result (λ told. told.options.migrate ≡ is_some told.migrate) }
+{
+    let either = command(alloc, false)?;
+    let found = either.try_get_matches_from(words)?;
+    if found.get_str("from").is_some() == found.get_str("category").is_some() {
+        return Ok(told_of(&found));
+    }
+    let both = command(alloc, true)?;
+    let complete = both.try_get_matches_from(words)?;
+    Ok(told_of(&complete))
+}

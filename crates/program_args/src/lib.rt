@@ -1,0 +1,21 @@
+//! The arguments of the programs: of `histar` what is asked for and of which file, of `histar-audit` and `histar-show` the path of a
+//! dump, and what is told, shown or written of it.
+//!
+//! `clap` reads them and writes what it has to say of them. Words that are taken name a file. Which words are taken, and which
+//! texts are written, is shown by tests.
+#![tactic(auto)]
+
+mod answers;
+mod args;
+mod audit;
+mod check;
+mod dialogue;
+mod run;
+mod show;
+mod words;
+
+pub use answers::tell_answer;
+pub use audit::{AuditArgs, read_audit_words};
+pub use run::RunArgs;
+pub use show::{Colours, ShowArgs, View, read_show_words};
+pub use words::{Verb, read_words};

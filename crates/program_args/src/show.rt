@@ -1,0 +1,257 @@
+//! The command line of `histar-show`.
+use base::{Category, ObjectId};
+use clap::{Arg, ArgAction, ArgMatches, Command, Error, value_parser};
+use std::alloc::{AllocError, Global};
+use std::convert::AsStr;
+
+/// Whether a tree is in colours.
+#[derive(Clone, Copy, Debug, PartialEq, Eq)]
+pub enum Colours {
+    /// Where the output is a terminal and `NO_COLOR` isn't set to something.
+    Auto,
+    /// Always.
+    Always,
+    /// Never.
+    Never,
+}
+
+/// What is shown of a dump.
+#[derive(Clone, Copy, Debug, PartialEq, Eq)]
+pub enum View {
+    /// Why the calls of a line are answered as they are, lines counting from 1; of the first false line where none is named.
+    Why(Option<u64>),
+    /// The objects as a tree.
+    Tree {
+        /// After how many events, after all where no count is told.
+        after: Option<u64>,
+        /// Whether in colours.
+        colours: Colours,
+    },
+    /// The dump as JSON.
+    Json,
+    /// The objects as a graph, and which of them flows from an object outside a category reach, where they are asked for.
+    Dot(Option<(ObjectId, Category)>),
+    /// The dump as a page, and which objects flows from an object outside a category reach, where they are asked for.
+    Page(Option<(ObjectId, Category)>),
+}
+
+/// What the words of `histar-show` ask for.
+#[derive(Clone, Copy, Debug, PartialEq, Eq)]
+pub struct ShowArgs<'a> {
+    /// The path of the dump.
+    pub dump: &'a str,
+    /// What is shown of it.
+    pub view: View,
+    /// The path of the page, where one is written.
+    pub out: Option<&'a str>,
+}
+
+/// What is told of a category beside an object that flows are from.
+const OUTSIDE: &str =
+    "The category outside of which these flows are: none goes on by an owner of it";
+
+/// The path of the dump.
+fn dump<'a>(alloc: Global) -> Arg<'a> {
+    Arg::new(alloc, "DUMP")
+        .required(true)
+        .action(ArgAction::Set)
+        .help("The dump to look at")
+}
+
+/// The line of a call.
+fn line<'a>(alloc: Global) -> Arg<'a> {
+    Arg::new(alloc, "LINE")
+        .action(ArgAction::Set)
+        .help(
+            "The line of a call, an event or a batch, from 1; the first false line where none is named",
+        )
+        .value_parser(value_parser!(u64).range(1..9223372036854775807))
+}
+
+/// After how many events a tree is.
+fn after<'a>(alloc: Global) -> Arg<'a> {
+    Arg::new(alloc, "after")
+        .long("after")
+        .value_name("N")
+        .action(ArgAction::Set)
+        .value_parser(value_parser!(u64))
+        .help("After how many events of the dump; after all where no count is told")
+}
+
+/// Whether a tree is in colours.
+fn color<'a>(alloc: Global) -> Arg<'a> {
+    Arg::new(alloc, "color")
+        .long("color")
+        .value_name("WHEN")
+        .action(ArgAction::Set)
+        .value_parser(["auto", "always", "never"].as_slice())
+        .help(
+            "Whether in colours; auto, which is the default, asks whether the output is a terminal and NO_COLOR is empty",
+        )
+}
+
+/// The file of a page.
+fn out<'a>(alloc: Global) -> Arg<'a> {
+    Arg::new(alloc, "out")
+        .long("out")
+        .value_name("FILE")
+        .required(true)
+        .action(ArgAction::Set)
+        .help("The file that the page is written to")
+}
+
+/// A number that another one has to stand beside.
+fn number_beside<'a>(
+    alloc: Global,
+    name: &'a str,
+    value: &'a str,
+    other: &'a str,
+) -> Result<Arg<'a>, AllocError> {
+    Arg::new(alloc, name)
+        .long(name)
+        .value_name(value)
+        .action(ArgAction::Set)
+        .value_parser(value_parser!(u64))
+        .requires_arg(other)
+}
+
+/// The object that flows are from, and the category outside of which they are.
+fn with_flows<'a>(
+    alloc: Global,
+    command: Command<'a>,
+    from: &'a str,
+    help: &'a str,
+) -> Result<Command<'a>, AllocError> {
+    let object = number_beside(alloc, from, "ID", "category")?.help(help);
+    let category = number_beside(alloc, "category", "N", from)?.help(OUTSIDE);
+    command.arg(object)?.arg(category)
+}
+
+/// The words of `why`.
+fn why<'a>(alloc: Global) -> Result<Command<'a>, AllocError> {
+    Command::new(alloc, "why")
+        .about("Tells why a call of a dump is refused or accepted, condition by condition")
+        .arg(dump(alloc))?
+        .arg(line(alloc))
+}
+
+/// The words of `tree`.
+fn tree<'a>(alloc: Global) -> Result<Command<'a>, AllocError> {
+    Command::new(alloc, "tree")
+        .about("Shows the objects that a dump leads to as a tree")
+        .arg(dump(alloc))?
+        .arg(after(alloc))?
+        .arg(color(alloc))
+}
+
+/// The words of `json`.
+fn json<'a>(alloc: Global) -> Result<Command<'a>, AllocError> {
+    Command::new(alloc, "json")
+        .about("Shows a dump as JSON, an object for each line")
+        .arg(dump(alloc))
+}
+
+/// The words of `dot`.
+fn dot<'a>(alloc: Global) -> Result<Command<'a>, AllocError> {
+    let dot = Command::new(alloc, "dot")
+        .about("Shows the objects that a dump leads to as a graph for Graphviz")
+        .arg(dump(alloc))?;
+    with_flows(
+        alloc,
+        dot,
+        "flows",
+        "Of a clean dump, show in red which objects flows from this one reach",
+    )
+}
+
+/// The words of `page`.
+fn page<'a>(alloc: Global) -> Result<Command<'a>, AllocError> {
+    let page = Command::new(alloc, "page")
+        .about("Writes a dump as a page of HTML, with the tree after each event")
+        .arg(dump(alloc))?
+        .arg(out(alloc))?;
+    with_flows(
+        alloc,
+        page,
+        "from",
+        "Of a clean dump, mark which objects flows from this one reach",
+    )
+}
+
+/// The flows that are asked for, from an object that this word tells.
+fn flow_of(words: &ArgMatches<'_>, from: &str) -> Option<(ObjectId, Category)> {
+    let id = words.get_one::<u64>(from)?;
+    let category = words.get_one::<u64>("category")?;
+    Some((ObjectId::new(id), Category(category)))
+}
+
+/// Whether colours are asked for.
+fn colours_of(words: &ArgMatches<'_>) -> Colours {
+    match words.get_str("color").unwrap_or("") {
+        "always" => Colours::Always,
+        "never" => Colours::Never,
+        _ => Colours::Auto,
+    }
+}
+
+/// The words with those of a verb.
+fn with_verb<'a>(
+    all: Command<'a>,
+    verb: Result<Command<'a>, AllocError>,
+) -> Result<Command<'a>, AllocError> {
+    all.subcommand(verb?)
+}
+
+/// The whole command.
+fn command<'a>(alloc: Global) -> Result<Command<'a>, AllocError> {
+    let all = Command::new(alloc, "histar-show")
+        .bin_name("histar-show")?
+        .about("Shows what a dump tells")
+        .subcommand_required(true);
+    let all = with_verb(all, why(alloc))?;
+    let all = with_verb(all, tree(alloc))?;
+    let all = with_verb(all, json(alloc))?;
+    let all = with_verb(all, dot(alloc))?;
+    with_verb(all, page(alloc))
+}
+
+/// The path of the page, where one is written.
+fn out_of<'a>(view: View, words: &ArgMatches<'a>) -> Option<&'a str> {
+    match view {
+        View::Page(_) => words.get_str("out"),
+        _ => None,
+    }
+}
+
+/// What is shown, by the name of the view.
+fn view_of(name: &str, words: &ArgMatches<'_>) -> View {
+    match name {
+        "tree" => View::Tree {
+            after: words.get_one::<u64>("after"),
+            colours: colours_of(words),
+        },
+        "json" => View::Json,
+        "dot" => View::Dot(flow_of(words, "flows")),
+        "page" => View::Page(flow_of(words, "from")),
+        _ => View::Why(words.get_one::<u64>("LINE")),
+    }
+}
+
+/// What the words ask for, the first of them being the program's name, or what `clap` answers to them: help, a fault of
+/// usage, or want of memory.
+pub fn read_show_words<'a, S: AsStr>(alloc: Global, words: &'a [S]) -> Result<ShowArgs<'a>, Error> {
+    let matches = command(alloc)?.try_get_matches_from(words)?;
+    let Some((name, args)) = matches.subcommand() else {
+        return Ok(ShowArgs {
+            dump: "",
+            view: View::Why(None),
+            out: None,
+        });
+    };
+    let view = view_of(name, args);
+    Ok(ShowArgs {
+        dump: args.get_str("DUMP").unwrap_or(""),
+        view,
+        out: out_of(view, args),
+    })
+}

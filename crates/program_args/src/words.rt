@@ -1,0 +1,44 @@
+//! The command line of `histar`.
+use crate::check::{check, check_of};
+use crate::dialogue::{dialogue, limits_of};
+use crate::run::{RunArgs, run, run_of};
+use base::Limits;
+use clap::{Command, Error};
+use std::alloc::{AllocError, Global};
+use std::convert::AsStr;
+
+/// What `histar` is asked for.
+#[derive(Clone, Copy, Debug, PartialEq, Eq)]
+pub enum Verb<'a> {
+    /// A script is played.
+    Run(RunArgs<'a>),
+    /// The script of this path is checked.
+    Check(&'a str),
+    /// Calls are asked one by one, of a kernel with these limits.
+    Try(Limits),
+}
+
+/// The whole command.
+fn command<'a>(alloc: Global) -> Result<Command<'a>, AllocError> {
+    let all = Command::new(alloc, "histar")
+        .bin_name("histar")?
+        .about("A kernel of labels, containers, segments, address spaces, threads and gates")
+        .subcommand_required(true);
+    let all = all.subcommand(run(alloc)?)?;
+    let all = all.subcommand(check(alloc)?)?;
+    all.subcommand(dialogue(alloc)?)
+}
+
+/// What the words ask for, the first of them being the program's name, or what `clap` answers to them: help, a fault of
+/// usage, or want of memory.
+pub fn read_words<'a, S: AsStr>(alloc: Global, words: &'a [S]) -> Result<Verb<'a>, Error> {
+    let matches = command(alloc)?.try_get_matches_from(words)?;
+    let Some((name, args)) = matches.subcommand() else {
+        return Ok(Verb::Check(""));
+    };
+    Ok(match name {
+        "run" => Verb::Run(run_of(args)),
+        "try" => Verb::Try(limits_of(args)),
+        _ => Verb::Check(check_of(args)),
+    })
+}
