@@ -1,4 +1,7 @@
 //! The command line of `histar`.
+ghost use Rattle.std.specs.Prelude.{IfOk};
+ghost use Rattle.program_args.specs.Asked.{HasFileOfDump};
+
 use crate::check::{check, check_of};
 use crate::dialogue::{dialogue, limits_of};
 use crate::run::{RunArgs, run, run_of};
@@ -31,7 +34,9 @@ fn command<'a>(alloc: Global) -> Result<Command<'a>, AllocError> {
 
 /// What the words ask for, the first of them being the program's name, or what `clap` answers to them: help, a fault of
 /// usage, or want of memory.
-pub fn read_words<'a, S: AsStr>(alloc: Global, words: &'a [S]) -> Result<Verb<'a>, Error> {
+pub fn read_words<'a, S: AsStr>(alloc: Global, words: &'a [S]) -> Result<Verb<'a>, Error>
+    ensures { IfOk result (λ verb. HasFileOfDump verb) }
+{
     let matches = command(alloc)?.try_get_matches_from(words)?;
     let Some((name, args)) = matches.subcommand() else {
         return Ok(Verb::Check(""));
