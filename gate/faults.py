@@ -1,5 +1,8 @@
 """What the programs do where something outside them fails: one clear line, a status, and no file lost."""
+import contextlib
 import os
+import resource
+import signal
 import subprocess
 import tempfile
 
@@ -8,21 +11,23 @@ OLD = "what was there before\n"
 
 
 class Fault:
-    """A command that ends with a fault: its words, its status, its line, and where its standard output goes. The words name
-    files of a folder of its own, in which stand a script, a faulty one, and a dump of an earlier run."""
+    """A command that ends with a fault: its words, its status, its line, and where its standard output and error go. The words name
+    files of a folder of its own, in which stand a script, a faulty one, a dump of an earlier run, and one of format 1."""
 
-    def __init__(self, program, words, status, line, out="/dev/null", given=""):
+    def __init__(self, program, words, status, line, out="/dev/null", err=None, given=""):
         self.program, self.words, self.status, self.line, self.out = program, words, status, line, out
-        self.given = given
+        self.err, self.given = err, given
 
     def run(self, folder):
         with open(self.out, "wb") as out:
-            how = {"cwd": folder, "input": self.given, "stdout": out, "stderr": subprocess.PIPE, "text": True}
-            done = subprocess.run([os.path.abspath(self.program), *self.words], **how)
-        return done.returncode, done.stderr
+            how = {"cwd": folder, "input": self.given, "stdout": out, "text": True}
+            with open(self.err, "wb") if self.err else contextlib.nullcontext(subprocess.PIPE) as err:
+                done = subprocess.run([os.path.abspath(self.program), *self.words], stderr=err, **how)
+        return done.returncode, done.stderr or ""
 
     def name(self):
-        return f"{self.program} {' '.join(self.words)}" + ("" if self.out == "/dev/null" else f" >{self.out}")
+        ends = [f" >{self.out}"] if self.out != "/dev/null" else []
+        return " ".join([self.program, *self.words]) + "".join(ends + ([f" 2>{self.err}"] if self.err else []))
 
 
 def missing(word):
@@ -44,6 +49,13 @@ def no_page():
 
 FAULTS = [
     Fault("./histar", ["run", "nothing"], 3, "histar: input fault\n"),
+    Fault("./histar", ["run", "nothing"], 3, "", err="/dev/full"),
+    Fault("./histar", ["run", "."], 3, "histar: input fault\n"),
+    Fault("./histar", ["run", "faulty"], 1, "", err="/dev/full"),
+    Fault("./histar", ["--help"], 3, "histar: output fault\n", out="/dev/full"),
+    Fault("./histar-audit", ["."], 3, "histar-audit: input fault\n"),
+    Fault("./histar-audit", ["--help"], 3, "histar-audit: output fault\n", out="/dev/full"),
+    Fault("./histar-show", ["why", "."], 3, "histar-show: input fault\n"),
     Fault("./histar", ["run", "faulty", "--dump", "dump"], 1, "histar: line 1: script fault\n"),
     Fault("./histar", ["run", "script", "--dump", "dump"], 3, "histar: output fault\n", out="/dev/full"),
     Fault("./histar", ["run", "script", "--dump", "nowhere/dump"], 3, "histar: output fault\n"),
@@ -120,6 +132,35 @@ def try_left_over(report):
         report.counts(is_well, f"a dump beside a left-over of an earlier run: status {status}, {said.strip()}")
 
 
+def cut_off(room):
+    """Makes standard output a file that may have no more than so many bytes. (What is written past them is refused, and not ended.)"""
+
+    def limit():
+        signal.signal(signal.SIGXFSZ, signal.SIG_IGN)
+        resource.setrlimit(resource.RLIMIT_FSIZE, (room, room))
+
+    return limit
+
+
+def written(command, folder, room=resource.RLIM_INFINITY):
+    """The status of a command whose output may have so many bytes, what it wrote, and its line."""
+    with open(f"{folder}/out", "wb") as out:
+        how = {"cwd": folder, "stdin": subprocess.DEVNULL, "stdout": out, "stderr": subprocess.PIPE, "text": True}
+        done = subprocess.run([os.path.abspath(command[0]), *command[1:]], preexec_fn=cut_off(room), **how)
+    return done.returncode, text(f"{folder}/out"), done.stderr
+
+
+def try_short_outputs(report, *command):
+    """Each output that is cut off, after each number of bytes: what was written is its beginning, and the status is 3."""
+    with tempfile.TemporaryDirectory(prefix="fault-") as folder:
+        files_in(folder)
+        name = os.path.basename(command[0])
+        _, whole, _ = written(command, folder)
+        wrong = [it for it in range(len(whole)) if written(command, folder, it) != (3, whole[:it], f"{name}: output fault\n")]
+        is_well = bool(whole) and not wrong and written(command, folder, len(whole))[1] == whole
+        report.counts(is_well, f"{' '.join(command)} >FILE: each of {len(whole)} outputs that are cut off is an output fault {wrong[:3]}".rstrip(" []"))
+
+
 def begins(file, words):
     return text(file).startswith(words)
 
@@ -144,3 +185,6 @@ def fail(report):
         try_fault(report, fault)
     try_left_over(report)
     try_migrations(report)
+    try_short_outputs(report, "./histar", "run", "script")
+    try_short_outputs(report, "./histar-audit", "old")
+    try_short_outputs(report, "./histar-show", "tree", "old")
