@@ -1,273 +1,260 @@
-"""Short scripts, each with what it prints, and stored dumps that are changed in one line, each with its verdict."""
+"""The cases: each file below cases/ tells what a program is given and how it has to end. docs/GATE.md has the form.
+
+python3 -m gate.cases FILE..    plays these files alone"""
+import difflib
+import glob
 import os
+import re
+import shlex
+import subprocess
+import sys
 import tempfile
+from concurrent.futures import ThreadPoolExecutor
 
-from gate.plays import ran, text
-
-BOOT, CALLS = "examples/dumps/boot.dump", "examples/dumps/calls.dump"
-BYTES = "".join(f"{it:02x}" for it in range(64))
-
-# Scripts with what they print, both a line for each element. `--` parts phases, and has no line.
-RUNS = {
-    "a write is read": (
-        ["c = boot: cat_create", "s = boot: segment_create root {c:3,1} 2 1", f"boot: segment_write root s 0 {BYTES}", "boot: segment_read root s 0 64"],
-        ["boot 1: cat c", "boot 2: id s", "boot 3: ok", f"boot 4: data {BYTES}"],
-    ),
-    "a name that no line binds": (["boot: segment_read root x 0 1"], ["boot 1: unbound x"]),
-    "names of the other kind": (
-        ["c = boot: cat_create", "boot: segment_read root c 0 1", "boot: segment_create root {root:2,1} 1 0"],
-        ["boot 1: cat c", "boot 2: unbound c", "boot 3: unbound root"],
-    ),
-    "a refused line binds no name": (
-        ["s = boot: segment_create root {1} 1 1", "boot: segment_read root s 0 1", "boot: segment_create root {1} 1 0"],
-        ["boot 1: refused 12 NoQuota", "boot 2: unbound s", "boot 3: id #4"],
-    ),
-    "refusals by the least number": (
-        [
-            "boot: segment_create root {1} 2 17",
-            "boot: segment_create root {1} 18 17",
-            "boot: segment_create root {#1:2,1} 1 0",
-            "boot: segment_create #9 {1} 1 0",
-            "boot: segment_read root boot 0 1",
-            "boot: segment_read root #9 0 1",
-            "boot: container_create root {1} 61 -",
-            "boot: segment_create root {3} 1 0",
-            "a = boot: container_create root {1} 9 s",
-            "b = boot: container_create a {1} 4 -",
-            "boot: segment_create b {1} 1 0",
-        ],
-        [
-            "boot 1: refused 12 NoQuota",
-            "boot 2: refused 18 Bounds",
-            "boot 3: refused 7 BadLabel",
-            "boot 4: refused 2 NoAccess",
-            "boot 5: refused 4 WrongType",
-            "boot 6: refused 3 NoEntry",
-            "boot 7: refused 12 NoQuota",
-            "boot 8: refused 8 LabelRange",
-            "boot 9: id a",
-            "boot 10: id b",
-            "boot 11: refused 11 AvoidType",
-        ],
-    ),
-    "a thread is gone with its container": (
-        [
-            "a = boot: container_create root {1} 4 -",
-            "t = boot: thread_create a {1} 1 {2} 0",
-            "boot: unref root a",
-            "--",
-            "t: self_get",
-            "t: segment_read root x 0 1",
-            "--",
-            "t: self_get",
-        ],
-        ["boot 1: id a", "boot 2: id t", "boot 3: ok", "t 5: refused 42 NoThread", "t 6: refused 42 NoThread", "t 8: refused 42 NoThread"],
-    ),
-    "a container and a category are no workers": (
-        ["root: cat_create", "c = boot: cat_create", "--", "c: cat_create"],
-        ["root 1: refused 42 NoThread", "boot 2: cat c", "c 4: unbound c"],
-    ),
-    # to its own worker at once, and to the others, the worker that it names among them, from the next phase on
-    "names are known from the next phase": (
-        [
-            "t = boot: thread_create root {1} 1 {2} 0",
-            "boot: obj_label root t",
-            "t: self_get",
-            "--",
-            "s = t: segment_create root {1} 1 0",
-            "boot: segment_len root s",
-            "t: segment_len root s",
-            "--",
-            "boot: segment_len root s",
-        ],
-        ["boot 1: id t", "boot 2: label {1}", "boot 6: unbound s", "boot 9: pages 0", "t 3: unbound t", "t 5: id s", "t 7: pages 0"],
-    ),
-    "a stranger in a phase is not taken for another": (["boot: cat_create", "w: self_get"], ["boot 1: cat #1", "w 2: unbound w"]),
-    "nothing": ([], []),
-}
-
-# Lines that are none, as the one line of a script.
-NO_LINES = [
-    "",
-    " ",
-    "boot:",
-    "boot: ",
-    ": self_get",
-    "boot self_get",
-    "boot : self_get",
-    "boot:  cat_create",
-    "boot: cat_create ",
-    "boot: cat_create\r",
-    "Boot: cat_create",
-    "boot: self_get #1",
-    "boot: self_get\t",
-    "boot: self_get\0",
-    "boot: SELF_GET",
-    "boot: obj_label root",
-    "boot: obj_label root s s",
-    "boot: quota_move root s +1",
-    "boot: quota_move root s -0",
-    "boot: quota_move root s 2147483648",
-    "boot: gate_enter root g {1} {1} {1",
-    "boot: gate_enter root g {1} {1}",
-    "boot: thread_create root {1} 1 {1} 18446744073709551616",
-    "boot: as_map root a 0 0 root s 0 1 wr",
-    "boot: as_get root a 4294967296",
-    "boot: dev_send root dev",
-    "boot: store 0 0",
-    "boot: load 0",
-    "boot: load -1 1",
-    "boot: load #1 1",
-    "boot: segment_read root root 00 1",
-    "boot: segment_read #01 #1 0 1",
-    "boot: segment_write root root 0 AB",
-    "boot: segment_write #1 #1 0 0F",
-    "x = boot: link root root s",
-    "x = boot: gate_enter root g {1} {1} {1}",
-    "x = boot: self_get",
-    "x = boot: segment_read root root 0 1",
-    "x = x = boot: cat_create",
-    "c =boot: cat_create",
-    "root = boot: cat_create",
-    "dev = boot: cat_create",
-    "t: cat",
-    "boot: + cat_create",
-    "boot:+ self_get",
-    "-- --",
-    "---",
-    "a" * 4097,
-]
-
-# Faulty scripts, each with the number of its first faulty line; 0 where it has none.
-FAULTS = [
-    (b"boot: cat_create", 1),
-    (b"boot: cat_create\n\n", 2),
-    (b"c = boot: cat_create\nc = boot: cat_create\nx\n", 2),
-    (b"boot: cat_create\n--\nboot\n", 3),
-    (b"--\n--", 2),
-    (b"--\n--\n-- \n", 3),
-    (b"boot: self_get\nboot: self_get\xff\n", 2),
-    (b"boot: self_get\nboot: " + b"a" * 4096 + b"\nboot: self_get\n", 2),
-    (b"boot: segment_create #1 {#1:1" + b",#1:1" * 23 + b",1} 0 0\n", 0),
-    # A batch ends in its phase, and has write calls only. The last line of an open one is faulty where no well-formed line of
-    # its worker comes in the rest of the phase, also after a malformed line.
-    (b"x = boot:+ cat_create\nboot: cat_create\n", 0),
-    (b"boot:+ cat_create\na: self_get\nboot: cat_create\nboot: self_get\n", 0),
-    (b"boot:+ cat_create\n", 1),
-    (b"boot:+ cat_create\n--\nboot: cat_create\n", 1),
-    (b"a:+ cat_create\nboot:+ cat_create\na: cat_create\n", 2),
-    (b"boot:+ cat_create\nboot: self_get\n", 2),
-    (b"boot:+ self_get\nboot: cat_create\n", 1),
-    (b"boot:+ cat_create\nx\nboot: cat_create\n", 2),
-    (b"boot:+ cat_create\nx\n--\nboot: cat_create\n", 1),
-    (b"boot:+ cat_create\nx\nboot: cat_create", 1),
-    (b"a:+ cat_create\nboot:+ cat_create\nx\na: self_get\n", 2),
-    (b"boot:+ cat_create\n" * 15, 15),
-    (b"boot:+ cat_create\n" * 15 + b"boot: cat_create\nboot: self_get\n", 0),
-    (b"boot:+ cat_create\n" * 16 + b"boot: cat_create\n", 17),
-]
-
-# A dump, one of its lines, from 1, what stands there instead, and the verdict: false at that line, or at a later one where
-# what the call did first shows.
-UNTRUE = [
-    (BOOT, 3, "live 4", 3),
-    (BOOT, 5, "live 4", 5),
-    (BOOT, 6, "use 1 5", 6),
-    (BOOT, 9, "label 1 {1}", 9),
-    (BOOT, 9, "label 0 {#1:1,1}", 9),
-    (BOOT, 10, "label 1 {1}", 10),
-    (BOOT, 12, "order 0 0 3", 12),
-    (BOOT, 14, "order 0 3 7", 14),
-    (BOOT, 20, "order 0 0 7", 20),
-    (BOOT, 20, None, 20),
-    (BOOT, 5, None, 5),
-    (CALLS, 3, "event 2 2 cat_create => cat #1", 3),
-    (CALLS, 3, "event 2 1 cat_create => cat #2", 3),
-    (CALLS, 3, "event 4 1 cat_create => cat #1", 3),
-    (CALLS, 4, "event 2 1 cat_create => cat #2", 4),
-    (CALLS, 5, "event 7 1 cat_create => ok", 5),
-    (CALLS, 5, "event 7 2 cat_create => refused 1 Halted", 5),
-    (CALLS, 6, "event 2 3 segment_create #1 {#1:3,1} 2 1 => id #5", 6),
-    (CALLS, 8, "event 2 5 dev_recv #1 #3 => data 00", 8),
-    (CALLS, 7, "event 2 4 unref #1 #4 => ok", 12),
-    (CALLS, 6, "event 2 3 segment_create #1 {#2:3,1} 2 1 => id #4", 19),
-    (CALLS, 2, "limits 8 0 4 1", 8),
-    (CALLS, 2, "limits 9 1 4 2", 3),
-]
-
-# The same of what has no spelling.
-UNREADABLE = [
-    (BOOT, 1, "histar-dump 3", 1),
-    (BOOT, 2, "limits 7 1 4 1", 2),
-    (BOOT, 2, "limits 8 1 4", 2),
-    (BOOT, 6, "use 1 04", 6),
-    (BOOT, 6, "live 4 ", 6),
-    (BOOT, 9, "label 0 { 1}", 9),
-    (BOOT, 12, "order 0 0 8", 12),
-    (BOOT, 12, "label 4294967296 {1}", 12),
-    (BOOT, 21, "End", 21),
-    (BOOT, 21, None, 21),
-    (BOOT, 22, "end", 22),
-]
+FOLDER = "cases"
+LIMIT = 60
+HEADING = "== "
+REFUSED, AGAIN = "each request refused", "each request refused, made again"
+ESCAPE = re.compile(rb"\\x([0-9a-f]{2})")
+GONE = re.compile(r"(\d+) gone")
+# The programs that the words of a case may begin with, each with what starts it.
+PROGRAMS = {"histar": "./histar", "histar-audit": "./histar-audit", "histar-show": "./histar-show", "probe": "crates/probe/out/probe"}
+USAGE = re.compile(rb"error: .*For more information, try '--help'\.\n", re.S)
 
 
-def put(file, content):
+class Unreadable(Exception):
+    """What is wrong with the text of a case."""
+
+
+def bytes_of(lines):
+    """The bytes that lines of a case stand for: `\\xNN` is a byte, and a line that ends in `\\` goes on in the next one."""
+    text = "".join(it.removesuffix("\\") if it.endswith("\\") else f"{it}\n" for it in lines)
+    return ESCAPE.sub(lambda it: bytes([int(it[1], 16)]), text.encode())
+
+
+def words_in(line):
+    """The words of a command, quoted as a shell has them."""
+    words = [bytes_of([f"{it}\\"]) for it in shlex.split(line)]
+    if not words or words[0].decode(errors="replace") not in PROGRAMS:
+        raise Unreadable(f"no program is named: {line}")
+    return words
+
+
+class Run:
+    """A command, the files that are put before it, what it reads, and how it has to end."""
+
+    def __init__(self, words, files):
+        self.words, self.files = words, files
+        self.given, self.status, self.out, self.err, self.wrote = b"", 0, b"", b"", {}
+        self.is_usage, self.says = False, None
+        # whether each request for memory is refused in turn, and whether what was refused is made again
+        self.is_refused, self.is_again = False, False
+
+    def name(self):
+        return " ".join(os.fsdecode(it) for it in self.words)
+
+    def started(self):
+        return [os.path.abspath(PROGRAMS[self.words[0].decode()]), *self.words[1:]]
+
+    def prepare(self, folder):
+        """Puts its files into a folder: all that are there then."""
+        for name, content in self.files.items():
+            write(f"{folder}/{name}", content)
+        return files_in(folder)
+
+    def ended(self, folder):
+        """How it ends in a folder: the status, both outputs, and the files that are there then."""
+        how = {"cwd": folder, "stdout": subprocess.PIPE, "stderr": subprocess.PIPE, "timeout": LIMIT}
+        try:
+            done = subprocess.run(self.started(), input=self.given, **how)
+        except subprocess.TimeoutExpired:
+            return None, b"", b"still running\n", {}
+        return done.returncode, done.stdout, done.stderr, files_in(folder)
+
+    def fault(self, folder):
+        """What is wrong with how it ends, if anything, as lines."""
+        before = self.prepare(folder)
+        status, out, err, after = self.ended(folder)
+        if self.is_usage:
+            is_well = (status, out, after) == (2, b"", before) and USAGE.fullmatch(err)
+            return [] if is_well else [f"status {status}: {os.fsdecode(out + err)}"]
+        found = [] if status == self.status else [f"status {status}, wanted {self.status}"]
+        if self.says is not None:
+            return found + differences("what it says", self.says, out + err)
+        found += differences("output", self.out, out) + differences("error", self.err, err)
+        wanted = {**before, **self.wrote}
+        for name in sorted({*wanted, *after}):
+            found += differences(f"file {name}", wanted.get(name), after.get(name))
+        return found
+
+
+def files_in(folder):
+    found = {}
+    for it in sorted(os.listdir(folder)):
+        with open(f"{folder}/{it}", "rb") as file:
+            found[it] = file.read()
+    return found
+
+
+def write(file, content):
     with open(file, "wb") as it:
         it.write(content)
-    return file
 
 
-def changed(dump, number, line):
-    """A dump with another line at a place, or with none there. One past its last line is one more."""
-    lines = text(dump).splitlines(keepends=True)
-    lines[number - 1 : number] = [] if line is None else [f"{line}\n"]
-    return "".join(lines).encode()
+def differences(name, wanted, got):
+    """The lines in which two contents differ; None stands for no content."""
+    if wanted == got:
+        return []
+    if wanted is None or got is None:
+        return [f"{name}: {'is there' if wanted is None else 'is not there'}"]
+    lines = [os.fsdecode(it).split("\n") for it in (wanted, got)]
+    return list(difflib.unified_diff(*lines, f"{name}, wanted", f"{name}, got", lineterm=""))
 
 
-def run_all(report, room):
-    for name, (script, printed) in RUNS.items():
-        file = put(f"{room}/script", "".join(f"{it}\n" for it in script).encode())
-        ended = ran("./histar", "run", file)
-        report.counts(ended == (0, "".join(f"{it}\n" for it in printed)), f"run: {name}")
-    for script, line in [(f"{it}\n".encode(), 1) for it in NO_LINES] + FAULTS:
-        status, said = ran("./histar", "run", put(f"{room}/script", script))
-        told = (1, f"histar: line {line}: script fault\n") if line else (0, said)
-        report.counts((status, said) == told, f"run: {script[:60]!r} {f'is a fault at line {line}' if line else 'is none'}")
+def with_line(content, row):
+    """A content with one line, from 1, that is another one, or gone."""
+    lines = content.splitlines(keepends=True)
+    place, _, other = row.partition("|")
+    gone = GONE.fullmatch(place)
+    number = int(gone[1] if gone else place)
+    if not 1 <= number <= len(lines) + (not gone):
+        raise Unreadable(f"there is no line {number}")
+    return b"".join([*lines[: number - 1], b"" if gone else bytes_of([other]), *lines[number:]])
 
 
-def audit_all(report, room):
-    for cases, word, status in ((UNTRUE, "false", 1), (UNREADABLE, "unreadable", 2)):
-        for dump, number, line, told in cases:
-            ended = ran("./histar-audit", put(f"{room}/dump", changed(dump, number, line)))
-            report.counts(ended == (status, f"{word} at line {told}\n"), f"audit: {os.path.basename(dump)} with {line or 'no'} line {number} is {word} at line {told}")
+class Case:
+    """A case as it is read: its runs, one after another in one folder. The file of a row is that of the run before it."""
+
+    def __init__(self, text):
+        self.runs, self.files = [], {}
+        for heading, lines in sections(text):
+            word, _, rest = heading.partition(" ")
+            if word == "file":
+                self.files[self.named(rest)] = bytes_of(lines)
+            elif word == "words":
+                self.add(Run(words_in(" ".join(lines)), self.files))
+                self.files = {}
+            elif heading == "refused words":
+                self.add_usages(lines)
+            else:
+                self.fill(self.last(), heading, lines)
+        if self.files or not self.runs:
+            raise Unreadable("no words come after its files")
+
+    def add(self, run):
+        self.runs.append(run)
+
+    def last(self):
+        if not self.runs:
+            raise Unreadable("it begins with no words")
+        return self.runs[-1]
+
+    @staticmethod
+    def named(name):
+        if not name or "/" in name:
+            raise Unreadable(f"'{name}' names no file of a folder")
+        return name
+
+    def add_usages(self, lines):
+        """Each line has words that are refused: status 2, and what is wrong with them."""
+        for line in lines:
+            run = Run(words_in(line), self.files)
+            run.is_usage = True
+            self.add(run)
+            self.files = {}
+
+    def fill(self, run, heading, lines):
+        word, _, rest = heading.partition(" ")
+        if word == "input":
+            run.given = bytes_of(lines)
+        elif word == "status":
+            run.status = int("".join(lines))
+        elif word == "output":
+            run.out = bytes_of(lines)
+        elif word == "error":
+            run.err = bytes_of(lines)
+        elif word == "wrote":
+            run.wrote[self.named(rest)] = bytes_of(lines)
+        elif word == "rows":
+            self.add_rows(run, self.named(rest), lines)
+        elif heading in (REFUSED, AGAIN) and not lines:
+            run.is_refused, run.is_again = True, heading == AGAIN
+        else:
+            raise Unreadable(f"no section is named '{heading}'")
+
+    def add_rows(self, run, name, lines):
+        """Each row is the run before it over a file with one line changed: LINE|TEXT|STATUS|WHAT IT SAYS, or LINE gone|STATUS|.."""
+        content = run.files[name]
+        for line in lines:
+            change, status, says = line.rsplit("|", 2)
+            row = Run(run.words, {name: with_line(content, change)})
+            row.status, row.says = int(status), bytes_of([says]) if says else b""
+            self.add(row)
+
+    def fault(self):
+        """What is wrong with its runs, if anything, as lines."""
+        with tempfile.TemporaryDirectory(prefix="case-") as folder:
+            for run in self.runs:
+                found = run.fault(folder)
+                if found:
+                    return [f"{run.name()}:", *found]
+        return []
 
 
-def cut_everywhere(report, room):
-    """Each beginning of a dump is unreadable in the line that it ends in."""
-    whole, wrong = text(BOOT).encode(), []
-    for length in range(len(whole)):
-        line = whole.count(b"\n", 0, length) + 1
-        if ran("./histar-audit", put(f"{room}/dump", whole[:length])) != (2, f"unreadable at line {line}\n"):
-            wrong.append(length)
-    report.counts(not wrong, f"audit: each of {len(whole)} beginnings of a dump is unreadable where it ends" + (f", but not of {wrong[:5]} bytes" if wrong else ""))
+def sections(text):
+    """The sections of a case, each with its lines. What stands before the first one says what the case shows."""
+    lines = text.split("\n")
+    if lines.pop():
+        raise Unreadable("its last line does not end")
+    found = []
+    for line in lines:
+        if line.startswith(HEADING):
+            found.append((line.removeprefix(HEADING), []))
+        elif found:
+            found[-1][1].append(line)
+    if not lines or lines[0].startswith(HEADING):
+        raise Unreadable("it does not begin with what it shows")
+    return found
 
 
-def migrate_all(report, room):
-    """What is clean and of format 1 is migrated, six lines longer, and clean; nothing else is."""
-    for dump in (BOOT, CALLS):
-        ended = ran("./histar-audit", dump, "--migrate", f"{room}/new")
-        longer = text(f"{room}/new").count("\n") - text(dump).count("\n")
-        again = ran("./histar-audit", f"{room}/new", "--migrate", f"{room}/newer")
-        is_well = ended == (0, "clean\n") == again and longer == 6 and not os.path.exists(f"{room}/newer")
-        report.counts(is_well, f"audit: {os.path.basename(dump)} is migrated, and that once")
-    ended = ran("./histar-audit", put(f"{room}/dump", changed(BOOT, 6, "use 1 5")), "--migrate", f"{room}/newer")
-    report.counts(ended == (1, "false at line 6\n") and not os.path.exists(f"{room}/newer"), "audit: what is false is not migrated")
+def read(file):
+    """The case of a file."""
+    if not file.endswith(".case"):
+        raise Unreadable("it is no .case file")
+    with open(file, encoding="utf-8") as it:
+        return Case(it.read())
 
 
-def play(report):
-    """Plays and audits them all, by the proved programs."""
-    with tempfile.TemporaryDirectory(prefix="cases-") as room:
-        run_all(report, room)
-        audit_all(report, room)
-        cut_everywhere(report, room)
-        migrate_all(report, room)
+def played(file):
+    """What is wrong with a case, if anything, as lines, and how many runs it has."""
+    try:
+        case = read(file)
+        return case.fault(), len(case.runs)
+    except (Unreadable, ValueError, KeyError, OSError) as fault:
+        return [f"{type(fault).__name__}: {fault}"], 0
+
+
+def files():
+    """All files of cases, also such as can't be played."""
+    return sorted(it for it in glob.glob(f"{FOLDER}/**", recursive=True) if os.path.isfile(it))
+
+
+def play(report, names=()):
+    """Plays these files, or all. A file that is no case fails."""
+    chosen = list(names) or files()
+    report.counts(bool(chosen), f"{len(chosen)} cases")
+    with ThreadPoolExecutor(os.cpu_count()) as pool:
+        for file, (fault, runs) in zip(chosen, pool.map(played, chosen)):
+            report.counts(not fault, f"{file}: {runs} runs" if not fault else f"{file}: " + "\n".join(fault))
+
+
+def main(names):
+    from gate.report import Report
+
+    report = Report()
+    play(report, names)
+    return report.finish()
+
+
+if __name__ == "__main__":
+    sys.exit(main(sys.argv[1:]))

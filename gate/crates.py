@@ -1,4 +1,4 @@
-"""Some crates alone: checked over what earlier checks kept, and their tests run."""
+"""Some crates alone: checked over what earlier checks kept."""
 import os
 import subprocess
 from concurrent.futures import ThreadPoolExecutor
@@ -20,5 +20,5 @@ def check(report, names):
     for name in names:
         if not os.path.isdir(f"crates/{name}/src"):
             report.fails(f"{name}: there is no such crate, nor such a word of ./test: see ./test --help")
-        elif ran(report, name, "check"):
-            ran(report, name, "test")
+        else:
+            ran(report, name, "check")

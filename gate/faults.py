@@ -2,7 +2,9 @@
 names. Where something outside a program fails, no file is lost."""
 import os
 import re
+import resource
 import shlex
+import signal
 import subprocess
 import tempfile
 
@@ -102,6 +104,31 @@ def try_migrations(report):
         report.counts(is_well, f"a checkpoint past the events: status {status}, audited {audited}, {said.strip()}")
 
 
+def cut_off(room):
+    """Makes standard output a file that may have no more than so many bytes. (What is written past them is refused, and not ended.)"""
+
+    def limit():
+        signal.signal(signal.SIGXFSZ, signal.SIG_IGN)
+        resource.setrlimit(resource.RLIMIT_FSIZE, (room, room))
+
+    return limit
+
+
+def try_short_outputs(report, command):
+    """Each output that is cut off, after each number of bytes: what was written is its beginning, and the status is 3."""
+
+    def written(room=resource.RLIM_INFINITY):
+        status, _, said = typed(folder, f"{command} >out", preexec_fn=cut_off(room))
+        return status, text(f"{folder}/out"), said
+
+    with tempfile.TemporaryDirectory(prefix="fault-") as folder:
+        lay(folder)
+        name, (_, whole, _) = command.partition(" ")[0], written()
+        wrong = [it for it in range(len(whole)) if written(it) != (3, whole[:it], f"{name}: output fault\n")]
+        is_well = bool(whole) and not wrong and written(len(whole))[1] == whole
+        report.counts(is_well, f"{command} >FILE: each of {len(whole)} outputs that are cut off is an output fault {wrong[:3]}".rstrip(" []"))
+
+
 def fail(report):
     rows, helped = ROW.findall(text(TABLES)), HELPED.findall(text(TABLES))
     report.counts(len(rows) > 40 and len(helped) > 8, f"{TABLES} has {len(rows)} commands with their statuses, and the arguments of {len(helped)}")
@@ -111,3 +138,5 @@ def fail(report):
         try_help(report, command, arguments)
     try_left_over(report)
     try_migrations(report)
+    for command in ("histar run script", "histar-audit clean", "histar-show tree clean"):
+        try_short_outputs(report, command)

@@ -211,6 +211,21 @@ def texts(report, room):
         audit(report, ("./histar-audit",), f"{room}/changed", verdict, f"a dump {name}")
 
 
+def beginnings(report, room):
+    """Each beginning of a dump is unreadable in the line that it ends in."""
+    with open("examples/dumps/boot.dump", "rb") as it:
+        whole = it.read()
+    wrong = []
+    for length in range(len(whole)):
+        with open(f"{room}/cut", "wb") as it:
+            it.write(whole[:length])
+        line = whole.count(b"\n", 0, length) + 1
+        if ran("./histar-audit", f"{room}/cut") != (2, f"unreadable at line {line}\n"):
+            wrong.append(length)
+    said = f", but not of {wrong[:5]} bytes" if wrong else ""
+    report.counts(bool(whole) and not wrong, f"each of {len(whole)} beginnings of a dump is unreadable where it ends{said}")
+
+
 def closed_pipe(report, room):
     """Standard output that nobody reads any more is an output fault, and no dump is left."""
     put(f"{room}/script", "boot: cat_create\n")
@@ -227,6 +242,7 @@ def use(report, is_long):
     """All of it; the long way is for `./test all`."""
     with tempfile.TemporaryDirectory(prefix="hostile-") as room:
         texts(report, room)
+        beginnings(report, room)
         closed_pipe(report, room)
         kills(report, 17 if is_long else 1, room)
         storms(report, LONG if is_long else SHORT, room)

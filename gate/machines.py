@@ -1,4 +1,4 @@
-"""Scripts on both machines by `both_machines`: every script of examples/ that has no fault, every one of the rules, and drawn ones, each
+"""Scripts on both machines by `probe run`: every script of examples/ that has no fault, every one of the rules, and drawn ones, each
 of a stated seed. The arena kernel and the plain one answer the same and have the same tables at the end, the arena kernel keeps just
 the rows of translation that the tables show, the replies are those that are stored, where some are, and from the kernel's boot to its
 last answer nothing asks for memory. In all stored scripts together each of the 34 calls is accepted, and in the drawn ones each is
@@ -106,7 +106,7 @@ def play(report, program, counter, scripts):
 def compare(report, tree):
     """Plays all scripts on both machines."""
     with tempfile.TemporaryDirectory(prefix="machines-") as room:
-        compare_all(report, f"{tree}/crates/both_machines/out/both_machines", library(room, "count"))
+        compare_all(report, f"{tree}/crates/probe/out/probe", library(room, "count"))
 
 
 def compare_all(report, program, counter):

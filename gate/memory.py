@@ -1,16 +1,17 @@
-"""Each request for memory refused in turn, in tests and programs that are linked already: the Nth of a run by an allocator
-that is loaded first, N from 1 until a run meets no Nth."""
-import glob
+"""Each request for memory refused in turn, in the runs of cases that ask for it: the Nth of a run by an allocator that is loaded
+first, N from 1 until a run meets no Nth. Such a run ends as the case tells, or with status 4 and its line, and nothing else written; a
+dialogue has answered the first of its lines then. One that makes calls again ends as the case tells each time."""
 import os
 import re
 import subprocess
 import tempfile
 from concurrent.futures import ThreadPoolExecutor
 
-from gate.faults import FIRST_FORMAT
+from gate import cases
 
 LIMIT = 60
-TESTS = "want_of_memory_"
+# The names by which a program tells a fault, beside its own, by the verb that it is started with.
+NAMES = {("histar", "check"): "histar-check", ("histar", "try"): "histar-try"}
 
 
 def kit():
@@ -26,135 +27,82 @@ def library(room, name):
     return made
 
 
-class Run:
-    """How one run of a command ended: its status (None where it was still running at the limit), what it wrote, and
-    whether a request was refused."""
+class Refused:
+    """A run of a case whose requests are refused, in a folder of its own with what the runs before it leave."""
 
-    def __init__(self, library, number, words, folder, given=os.devnull):
-        with tempfile.TemporaryFile() as mark, open(given, "rb") as lines:
+    def __init__(self, file, runs, tree):
+        self.file, self.before, self.run = file, runs[:-1], runs[-1]
+        words = tuple(os.fsdecode(it) for it in self.run.words[:2])
+        crate = words[0].replace("-", "_")
+        self.program = os.path.abspath(f"{tree}/crates/{crate}/out/{crate}")
+        self.is_dialogue = words == ("histar", "try")
+        self.lines = [f"{it}: out of memory\n".encode() for it in (words[0], NAMES.get(words, words[0]))]
+
+    def name(self):
+        return f"{self.file}: {self.run.name()}"
+
+    def ended(self, library, number, folder):
+        """How the run ends with this request refused, and whether there was one to refuse."""
+        with tempfile.TemporaryFile() as mark:
             environment = {**os.environ, "LD_PRELOAD": library, "REFUSE": str(number), "REFUSED": str(mark.fileno())}
-            how = {"cwd": folder, "env": environment, "stdin": lines, "stdout": subprocess.PIPE, "stderr": subprocess.PIPE}
-            started = subprocess.Popen(words, pass_fds=[mark.fileno()], **how)
+            how = {"cwd": folder, "env": environment, "stdout": subprocess.PIPE, "stderr": subprocess.PIPE, "pass_fds": [mark.fileno()]}
             try:
-                self.out, self.err = started.communicate(timeout=LIMIT)
-                self.status = started.returncode
+                done = subprocess.run([self.program, *self.run.words[1:]], input=self.run.given, timeout=LIMIT, **how)
+                told = done.returncode, done.stdout, done.stderr, cases.files_in(folder)
             except subprocess.TimeoutExpired:
-                started.kill()
-                self.out, self.err = started.communicate()
-                self.status = None
+                told = None, b"", b"", {}
             mark.seek(0)
-            self.was_refused = bool(mark.read())
+            return told, bool(mark.read())
 
-
-def first_wrong(library, words, folder, given, is_right):
-    """How many requests were refused, and whether the last of these made the run end otherwise than it should."""
-    number = 0
-    while True:
-        number += 1
-        run = Run(library, number, words, folder, given)
-        if not is_right(run):
-            return number, True
-        if not run.was_refused:
-            return number - 1, False
-
-
-def tests_of(program):
-    listed = subprocess.run([program, "--list"], check=True, stdout=subprocess.PIPE, text=True).stdout
-    return [name for name, _, kind in (line.partition(": ") for line in listed.split("\n")) if kind == "test" and TESTS in name]
-
-
-class Case:
-    """A command whose requests are refused, its name, what tells whether a run of it ended as it should, and its input."""
-
-    def __init__(self, name, words, is_right, given=os.devnull):
-        self.name, self.words, self.is_right, self.given = name, words, is_right, given
+    def is_right(self, told, files):
+        """Whether it ended as it should, in a folder that had these files."""
+        run, (status, out, err, after) = self.run, told
+        if told == (run.status, run.out, run.err, {**files, **run.wrote}):
+            return True
+        is_told = out == b"" or (self.is_dialogue and run.out.startswith(out))
+        return not run.is_again and (status, after) == (4, files) and err in self.lines and is_told
 
     def tried(self, library):
         with tempfile.TemporaryDirectory(prefix="refused-") as folder:
-            count, is_wrong = first_wrong(library, self.words, folder, self.given, lambda run: self.is_right(run, folder))
-        if is_wrong:
-            return False, f"{self.name}: request {count} refused changes an answer"
-        return True, f"{self.name}: {count} requests refused in turn"
+            for run in self.before:
+                run.prepare(folder)
+                run.ended(folder)
+            files, number = self.run.prepare(folder), 0
+            while True:
+                number += 1
+                told, was_refused = self.ended(library, number, folder)
+                if not self.is_right(told, files):
+                    return False, f"{self.name()}: request {number} refused changes an answer: {told[:3]}"
+                if not was_refused:
+                    return number > 1, f"{self.name()}: {number - 1} requests refused in turn"
+                restore(folder, files)
 
 
-def test_cases(tree):
-    """Each test of want of memory, in each linked test program below a tree: it passes whatever is refused."""
-    for program in sorted(glob.glob(f"{tree}/crates/*/out/*_tests")):
-        for test in tests_of(program):
-            crate = os.path.basename(program)[: -len("_tests")]
-            yield Case(f"{crate} {test}", [program, test], lambda run, _: run.status == 0)
+def restore(folder, files):
+    """Leaves these files alone in a folder."""
+    for name in os.listdir(folder):
+        if name not in files:
+            os.remove(f"{folder}/{name}")
+    for name, content in files.items():
+        cases.write(f"{folder}/{name}", content)
 
 
-def program_case(program, words):
-    """A program's command: it ends as it does with memory, or with status 4, its line, and nothing else written. A dump
-    goes to the file 'dump' of the folder that it runs in."""
-    name = os.path.basename(program)
-    line = f"{name.replace('_', '-')}: out of memory\n".encode()
-
-    def outcome(run, folder):
-        dump = b""
-        if os.path.exists(f"{folder}/dump"):
-            with open(f"{folder}/dump", "rb") as it:
-                dump = it.read()
-            os.remove(f"{folder}/dump")
-        return run.status, run.out, run.err, dump
-
-    with tempfile.TemporaryDirectory(prefix="refused-") as folder:
-        before = outcome(Run("", 0, [program, *words], folder), folder)
-    right = (before, (4, b"", line, b""))
-    return Case(f"{name} {' '.join(map(os.path.basename, words))}", [program, *words], lambda run, folder: outcome(run, folder) in right)
-
-
-def dialogue_case(program, file):
-    """A dialogue of stored lines: it answers all of them, or the first ones and ends with status 4 and its line."""
-    with tempfile.TemporaryDirectory(prefix="refused-") as folder:
-        before = Run("", 0, [program, "try"], folder, file)
-
-    def is_right(run, _):
-        if run.status == 4:
-            return before.out.startswith(run.out) and run.err == b"histar-try: out of memory\n"
-        return (run.status, run.out, run.err) == (before.status, before.out, before.err)
-
-    return Case(f"histar_try {os.path.basename(file)}", [program, "try"], is_right, os.path.abspath(file))
-
-
-def program_cases(tree, room):
-    """A whole run with its dump, the audit of that dump, what is shown of it, and words that are asked for help or wrong."""
-    script, dump = os.path.abspath("examples/by_entry.histar"), f"{room}/by_entry.dump"
-    histar, check, audit, show = (f"{tree}/crates/{it}/out/{it}" for it in ("histar", "histar_check", "histar_audit", "histar_show"))
-    subprocess.run([histar, "run", script, "--dump", dump], check=True, stdout=subprocess.DEVNULL)
-    yield program_case(histar, ["run", script, "--dump", "dump"])
-    yield program_case(histar, ["run", script, "--dump", "dump", "--checkpoint", "3"])
-    yield program_case(histar, ["run", script, "--pages", "7"])
-    yield program_case(histar, ["--help"])
-    yield program_case(check, ["check", script])
-    yield program_case(check, ["check", os.path.abspath("examples/checks/fault.histar")])
-    yield program_case(check, ["check", "--help"])
-    yield dialogue_case(f"{tree}/crates/histar_try/out/histar_try", "examples/tries/first.txt")
-    yield program_case(f"{tree}/crates/histar_try/out/histar_try", ["try", "--help"])
-    yield program_case(audit, [dump])
-    yield program_case(audit, [dump, "--from", "1", "--category", "2"])
-    yield program_case(audit, [dump, "--from", "1"])
-    yield program_case(audit, [os.path.abspath(FIRST_FORMAT), "--migrate", "dump"])
-    yield program_case(audit, ["--help"])
-    yield program_case(show, ["why", dump])
-    yield program_case(show, ["why", dump, "5"])
-    yield program_case(show, ["tree", dump])
-    yield program_case(show, ["tree", dump, "--after", "3"])
-    yield program_case(show, ["dot", dump, "--flows", "1", "--category", "2"])
-    yield program_case(show, ["tree", dump, "--color", "always"])
-    yield program_case(show, ["json", dump])
-    yield program_case(show, ["page", dump, "--out", "dump"])
-    yield program_case(show, ["page", dump, "--out", "dump", "--from", "1", "--category", "2"])
-    yield program_case(show, ["--help"])
+def marked(tree):
+    """The runs of all cases whose requests are to be refused. (What is no case fails where cases are played.)"""
+    for file in cases.files():
+        try:
+            runs = cases.read(file).runs
+        except (cases.Unreadable, ValueError, KeyError, OSError):
+            continue
+        yield from (Refused(file, runs[: at + 1], tree) for at, run in enumerate(runs) if run.is_refused)
 
 
 def refuse(report, tree):
-    """Refuses each request in turn in the tests of want of memory and in the programs."""
+    """Refuses each request in turn in these runs."""
     with tempfile.TemporaryDirectory(prefix="memory-") as room, ThreadPoolExecutor(os.cpu_count()) as pool:
-        refusing = library(room, "refuse")
-        cases = [*test_cases(tree), *program_cases(tree, room)]
-        for is_well, text in pool.map(lambda case: case.tried(refusing), cases):
+        refusing, runs = library(room, "refuse"), list(marked(tree))
+        report.counts(bool(runs), f"{len(runs)} runs of cases have their requests refused")
+        for is_well, text in pool.map(lambda it: it.tried(refusing), runs):
             report.counts(is_well, text)
         give_back(report, tree, room)
 

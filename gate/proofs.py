@@ -1,4 +1,4 @@
-"""Every crate and its tests proved from nothing, and the tests and programs run: rt ci, on a copy of the tree without
+"""Every crate proved from nothing, and the programs run: rt ci, on a copy of the tree without
 crates/*/must-fail, since rt ci tries edits one after another. All else of it is as strict as on the tree itself."""
 import os
 import re
@@ -61,7 +61,7 @@ def faults(said):
 
 
 def prove(report, tree):
-    """Proves and runs all in a copy of the tree, and leaves there what was proved, tests and programs linked."""
+    """Proves and runs all in a copy of the tree, and leaves there what was proved, programs linked."""
     copy_tree(tree)
     with Times() as times:
         said = run_and_log(report, tree)

@@ -37,22 +37,13 @@ class Crate:
     def __init__(self, name, uses, seconds):
         root = f"crates/{name}"
         self.name, self.uses = name, uses
-        sources = below(f"{root}/src/**/*.rt")
-        tests = [it for it in sources if self.is_test(it)]
-        self.code, self.tests = lines(set(sources) - set(tests)), lines(tests)
+        self.code = lines(below(f"{root}/src/**/*.rt"))
         self.definitions, self.proofs = lines(below(f"{root}/specs/**/*.antt")), lines(below(f"{root}/proofs/**/*.antt"))
         self.edits = len(glob.glob(f"{root}/must-fail/*.edit"))
         self.seconds = {kind: seconds.get((name, kind)) for kind in times.KINDS}
 
-    def is_test(self, file):
-        """Whether a file is of tests alone: its module is compiled for tests only, or the crate is of tests."""
-        if self.name.endswith("_tests") or self.name == "test_support":
-            return True
-        with open(f"crates/{self.name}/src/{'main' if os.path.exists(f'crates/{self.name}/src/main.rt') else 'lib'}.rt", encoding="utf-8") as it:
-            return os.path.basename(file)[: -len(".rt")] in re.findall(r"#\[cfg\(test\)\]\nmod (\w+);", it.read())
-
     def row(self, kinds):
-        cells = [f"`{self.name}`", self.code, self.tests, self.definitions, self.proofs, self.edits]
+        cells = [f"`{self.name}`", self.code, self.definitions, self.proofs, self.edits]
         seconds = [self.seconds[it] for it in kinds]
         shown = [str(it) if it else "" for it in cells] + ["" if it is None else str(it) for it in seconds]
         return f"| {' | '.join(shown)} |"
@@ -73,7 +64,7 @@ def longest_chain(found):
         if crate.name not in best:
             under = [chain_to(known[it]) for it in crate.uses if it in known]
             seconds, names = max(under, default=(0, []))
-            own = crate.seconds["check"] or crate.seconds["tests"] or 0
+            own = crate.seconds["check"] or 0
             best[crate.name] = seconds + own, [*names, crate.name]
         return best[crate.name]
 
@@ -83,18 +74,18 @@ def longest_chain(found):
 def table():
     found = crates()
     kinds = [kind for kind in times.KINDS if any(it.seconds[kind] is not None for it in found)]
-    heads = ["Crate", "Code", "Tests", "Definitions", "Proofs", "Edits", *(f"{it.capitalize()}, s" for it in kinds)]
+    heads = ["Crate", "Code", "Definitions", "Proofs", "Edits", *(f"{it.capitalize()}, s" for it in kinds)]
     yield f"| {' | '.join(heads)} |\n|{'---|' * len(heads)}"
     for crate in found:
         yield crate.row(kinds)
-    sums = [sum(getattr(it, part) for it in found) for part in ("code", "tests", "definitions", "proofs", "edits")]
+    sums = [sum(getattr(it, part) for it in found) for part in ("code", "definitions", "proofs", "edits")]
     seconds = [sum(it.seconds[kind] or 0 for it in found) for kind in kinds]
     yield f"| all | {' | '.join(map(str, sums + seconds))} |\n"
     taken, names = longest_chain(found)
     yield f"The longest chain of crates takes {taken} s of processor: {', '.join(f'`{it}`' for it in names)}.\n"
-    thousands = sum(sums[:4]) / 1000
+    thousands = sum(sums[:3]) / 1000
     shares = [f"{it / 60 / thousands:.1f} for {kind}" for it, kind in zip(seconds, kinds)]
-    yield f"Minutes of processor for each thousand lines of code, tests, definitions and proofs: {', '.join(shares)}."
+    yield f"Minutes of processor for each thousand lines of code, definitions and proofs: {', '.join(shares)}."
 
 
 def main():

@@ -6,6 +6,7 @@ played, where no phase has lines of two workers and no line is of a batch."""
 import difflib
 import glob
 import os
+import pty
 import re
 import subprocess
 import tempfile
@@ -62,6 +63,18 @@ def compare_saved(report, file):
     report.counts(answers[-1] == "saved" and played == kept, f"dialogue {file}: what it saves plays to its {len(kept)} replies")
 
 
+def compare_asked(report):
+    """On a terminal each line is asked for, and the terminal's end ends the dialogue."""
+    ours, theirs = pty.openpty()
+    how = {"stdin": theirs, "stdout": subprocess.PIPE, "stderr": subprocess.PIPE, "text": True}
+    done = subprocess.Popen(["./histar", "try"], **how)
+    os.close(theirs)
+    os.write(ours, b"c = cat_create\n\n\x04")
+    said = "".join(done.communicate(timeout=60))
+    os.close(ours)
+    report.counts((done.returncode, said) == (0, "> cat c\n> > "), f"a dialogue on a terminal: status {done.returncode}, {said!r}")
+
+
 def is_lone(script):
     """Whether no phase of a script has two workers, and no line is of a batch."""
     if ":+ " in script:
@@ -84,6 +97,7 @@ def compare(report):
     for file in stored:
         compare_stored(report, file)
         compare_saved(report, file)
+    compare_asked(report)
     for file in sorted(glob.glob("examples/*.histar")):
         is_plain = not os.path.isfile(f"{file.removesuffix('.histar')}.words") and "refused 42" not in text(f"{file.removesuffix('.histar')}.out")
         if is_plain and is_lone(text(file)):
