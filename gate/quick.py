@@ -8,7 +8,7 @@ import subprocess
 import tempfile
 from concurrent.futures import ThreadPoolExecutor
 
-from gate import documents, rules
+from gate import cases, documents, rules
 from gate.plays import Script, text
 
 VERDICTS = {"clean": 0, "false": 1, "unreadable": 2}
@@ -21,14 +21,14 @@ class Case:
 
     def __init__(self, program, name, words, given, status, out):
         self.program, self.name = program, re.sub(r"\W+", "_", name)
-        self.words, self.given, self.status, self.out = words, given, status, out
+        self.words, self.status = words, status
+        self.given, self.out = (it if isinstance(it, bytes) else it.encode() for it in (given, out))
 
     def put(self, folder):
         """Lays the case as `rt try --cases` takes it."""
-        files = {self.name: self.given, f"{self.name}.args": "".join(f"{it}\n" for it in self.words), f"{self.name}.stdout": self.out}
-        for name, made in files.items():
-            with open(f"{folder}/{name}", "w", encoding="utf-8") as it:
-                it.write(made)
+        cases.write(f"{folder}/{self.name}", self.given)
+        cases.write(f"{folder}/{self.name}.args", "".join(f"{it}\n" for it in self.words).encode())
+        cases.write(f"{folder}/{self.name}.stdout", self.out)
 
 
 def scripts():
@@ -47,6 +47,19 @@ def dumps():
     for file in sorted(glob.glob("examples/dumps/*.dump")):
         verdict = text(f"{file.removesuffix('.dump')}.verdict")
         yield Case("histar_audit", file, ["case"], text(file), VERDICTS[verdict.split()[0]], verdict)
+
+
+def stored():
+    """The runs of cases/ that read one file and write none. (What an unproved program says on standard error is not compared.)"""
+    for file in cases.files():
+        for number, run in enumerate(cases.read(file).runs):
+            words = [os.fsdecode(it) for it in run.words]
+            names = [it for it in words if it in run.files]
+            is_played = not (run.is_usage or run.wrote or run.says is not None or len(names) > 1 or len(run.files) > len(names))
+            if is_played and not (names and run.given):
+                given = run.files[names[0]] if names else run.given
+                placed = ["case" if it in names else it for it in words[1:]]
+                yield Case(words[0].replace("-", "_"), f"{file} {number}", placed, given, run.status, run.out)
 
 
 PROGRAM_OF = {"./histar run": "histar", "./histar check": "histar", "./histar-audit": "histar_audit", "./histar-show": "histar_show"}
@@ -84,7 +97,7 @@ def play_one(report, program, cases):
 def play(report):
     """Plays all cases, the programs side by side."""
     found = {}
-    for it in (*scripts(), *dialogues(), *dumps(), *shown()):
+    for it in (*scripts(), *dialogues(), *dumps(), *stored(), *shown()):
         found.setdefault(it.program, {})[it.name] = it
     with ThreadPoolExecutor(os.cpu_count()) as pool:
         list(pool.map(lambda it: play_one(report, it[0], list(it[1].values())), found.items()))
