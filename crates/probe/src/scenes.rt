@@ -1,8 +1,8 @@
 //! The scenes by their names.
 use crate::look::Look;
 use crate::{
-    arena, bound_names, hand_overs, laws, looks, numbers, plain, restored, seats, state, streams,
-    structures, turns, words,
+    arena, bound_names, findings, hand_overs, laws, looks, numbers, plain, restored, seats, state,
+    streams, structures, turns, words,
 };
 use anyhow::Result;
 use std::alloc::Global;
@@ -25,6 +25,8 @@ fn of_words(alloc: Global, scene: &str, look: &mut Look) -> Result<bool> {
         state::changes::play(alloc, look)?;
     } else if scene == "looks" {
         looks::looked::play(alloc, look)?;
+    } else if scene == "findings" {
+        findings::play(alloc, look)?;
     } else if scene == "hand_overs" {
         hand_overs::play(alloc, look)?;
     } else if scene == "streams" {
