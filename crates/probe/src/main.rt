@@ -10,6 +10,7 @@
 mod arena;
 mod both;
 mod bound_names;
+mod findings;
 mod hand_overs;
 mod laws;
 mod look;

@@ -1,8 +1,8 @@
 //! The scenes by their names.
 use crate::look::Look;
 use crate::{
-    arena, bound_names, hand_overs, laws, looks, numbers, plain, restored, seats, state, streams,
-    structures, turns, words,
+    arena, bound_names, findings, hand_overs, laws, looks, numbers, plain, restored, seats, state,
+    streams, structures, turns, words,
 };
 use anyhow::Result;
 use std::alloc::Global;
@@ -12,7 +12,7 @@ use std::thread::Threads;
 /// Scenes of words, labels, states, texts and streams. False where none is of that name.
 fn of_words(alloc: Global, scene: &str, look: &mut Look) -> Result<bool> {
     if scene == "base" {
-        words::base::play(alloc, look)?;
+        words::basics::play(alloc, look)?;
     } else if scene == "labels" {
         words::labels::play(alloc, look)?;
     } else if scene == "label_rules" {
@@ -25,6 +25,8 @@ fn of_words(alloc: Global, scene: &str, look: &mut Look) -> Result<bool> {
         state::changes::play(alloc, look)?;
     } else if scene == "looks" {
         looks::looked::play(alloc, look)?;
+    } else if scene == "findings" {
+        findings::play(alloc, look)?;
     } else if scene == "hand_overs" {
         hand_overs::play(alloc, look)?;
     } else if scene == "streams" {
@@ -38,21 +40,21 @@ fn of_words(alloc: Global, scene: &str, look: &mut Look) -> Result<bool> {
 /// Scenes of structures.
 fn of_structures(alloc: Global, scene: &str, look: &mut Look) -> Result<bool> {
     if scene == "spaces" {
-        structures::address_spaces::play(alloc, look)?;
+        structures::spaces::play(alloc, look)?;
     } else if scene == "containers" {
-        structures::containers::play(alloc, look)?;
+        structures::trees::play(alloc, look)?;
     } else if scene == "storm" {
-        structures::containers_twin::play(alloc, look)?;
+        structures::storm::play(alloc, look)?;
     } else if scene == "rings" {
-        structures::entry_lists::play(alloc, look)?;
+        structures::rings::play(alloc, look)?;
     } else if scene == "pool" {
-        structures::label_intern::play(alloc, look)?;
+        structures::pool::play(alloc, look)?;
     } else if scene == "objects" {
-        structures::object_arena::play(alloc, look)?;
+        structures::objects::play(alloc, look)?;
     } else if scene == "segments" {
-        structures::segments::play(alloc, look)?;
+        structures::pages::play(alloc, look)?;
     } else if scene == "rows" {
-        structures::translation_rows::play(alloc, look)?;
+        structures::rows::play(alloc, look)?;
     } else {
         return Ok(false);
     }
@@ -128,17 +130,17 @@ fn of_words_again(alloc: Global, scene: &str, look: &mut Look) -> Result<bool> {
 /// Scenes of structures, made again.
 fn of_structures_again(alloc: Global, scene: &str, look: &mut Look) -> Result<bool> {
     if scene == "spaces" {
-        structures::address_spaces::again(alloc, look)?;
+        structures::spaces::again(alloc, look)?;
     } else if scene == "containers" {
-        structures::containers::again(alloc, look)?;
+        structures::trees::again(alloc, look)?;
     } else if scene == "rings" {
-        structures::entry_lists::again(alloc, look)?;
+        structures::rings::again(alloc, look)?;
     } else if scene == "pool" {
-        structures::label_intern::again(alloc, look)?;
+        structures::pool::again(alloc, look)?;
     } else if scene == "objects" {
-        structures::object_arena::again(alloc, look)?;
+        structures::objects::again(alloc, look)?;
     } else if scene == "segments" {
-        structures::segments::again(alloc, look)?;
+        structures::pages::again(alloc, look)?;
     } else {
         return Ok(false);
     }

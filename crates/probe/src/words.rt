@@ -1,5 +1,5 @@
 //! The words that every layer speaks: the sets and limits, labels, the label rules, and what objects hold.
-pub mod base;
+pub mod basics;
 pub mod labels;
 pub mod parts;
 pub mod rules;

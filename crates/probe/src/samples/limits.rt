@@ -1,7 +1,7 @@
 //! What kernels are booted with.
 use base::{Level, Limits};
 
-/// The limits of most tests: 64 pages, and the first ids.
+/// The limits of most scenes: 64 pages, and the first ids.
 pub const LIMITS: Limits = Limits {
     pages: 64,
     device: Level::L1,

@@ -1,5 +1,5 @@
-//! What seats call and ask, and how their refusals and answers are looked at. What the tests call
-//! has no contract here: a test asserts what it wants, and the prover need not carry the rest.
+//! What seats call and ask, and how their refusals and answers are looked at. What scenes call
+//! has no contract here: a scene sees what it wants, and the prover need not carry the rest.
 use crate::look::Look;
 use crate::samples::{everywhere, in_root, is_object, new_segment, new_thread};
 use anyhow::Result;

@@ -3,7 +3,7 @@ use Rattle.base.specs.Sets.{only, union}
 use Rattle.base.specs.declared.kinds.Kind.TheVariants as kinds
 use Rattle.base.specs.SetBitLaws.{types_or}
 use Rattle.base.proofs.SetBitFacts.{types_is}
-use Rattle.probe.proofs.words.base.insert_threads.Goals as goal
+use Rattle.probe.proofs.words.basics.insert_threads.Goals as goal
 
 pub returns : goal.returns
 returns c =

@@ -2,7 +2,7 @@ use Rattle.std.proofs.Common.{◌||◌, sym, ◌∙◌, refl, true, false}
 use Rattle.base.specs.declared.sets.Rights.{Rights}
 use Rattle.base.specs.SetBitLaws.{rights_or}
 use Rattle.base.proofs.SetBitFacts.{rights_is}
-use Rattle.probe.proofs.words.base.insert_write.Goals as goal
+use Rattle.probe.proofs.words.basics.insert_write.Goals as goal
 
 pub returns : goal.returns
 returns c =
