@@ -1,0 +1,355 @@
+"""The packages: what is laid where, and how it is packed. All that is packed has the time of the commit, so the same commit gives the same
+bytes. ./package packs it, ./install lays it below a folder."""
+import contextlib
+import gzip
+import hashlib
+import os
+import shutil
+import subprocess
+import sys
+import tempfile
+
+from gate import manuals
+from gate.report import Report
+
+PROGRAMS = {"histar": "crates/histar/out/histar", "histar-audit": "crates/histar_audit/out/histar_audit", "histar-show": "crates/histar_show/out/histar_show"}
+CONFINE, LIBRARY, OUT = "out/confine", "out/lib/libhistar.a", "out/packages"
+NO_COMMAND, NO_ROOM, NOT_BUILT = 69, 73, 78
+SONAME = "libhistar.so.0"
+MAINTAINER = "Koalaingot maintainers <maintainers@users.noreply.koalaingot.example>"
+ABOUT = {
+    "koalaingot": ("A proved label kernel: programs and a sandbox", "libc6, libseccomp2, libstdc++6"),
+    "libhistar-dev": ("A proved label kernel for C and Rust programs", "libc6-dev"),
+}
+COPYRIGHT = """Format: https://www.debian.org/doc/packaging-manuals/copyright-format/1.0/
+Upstream-Name: koalaingot
+
+Files: *
+Copyright: Koalaingot maintainers
+License: Apache-2.0
+ The text of this licence is in /usr/share/common-licenses/Apache-2.0.
+"""
+TRIPLE = "x86_64-linux-gnu"
+
+
+class Fault(Exception):
+    """Why nothing is made, and the status."""
+
+    def __init__(self, status, text):
+        super().__init__(text)
+        self.status = status
+
+
+def said_by(*words):
+    return subprocess.run(words, check=True, stdout=subprocess.PIPE, text=True).stdout
+
+
+def version():
+    with open("VERSION", encoding="utf-8") as it:
+        return it.read().strip()
+
+
+def sources():
+    return sorted(filter(os.path.isfile, said_by("git", "ls-files", "-z").split("\0")))
+
+
+def stamp():
+    """What was packed: the commit, the toolchain, a sum of the sources, and what the gate said last in this tree."""
+    whole = hashlib.sha256()
+    for file in sources():
+        with open(file, "rb") as it:
+            whole.update(f"{file}\0".encode() + hashlib.sha256(it.read()).digest())
+    with contextlib.suppress(OSError), open("out/said", encoding="utf-8") as it:
+        return f"commit {commit()}\nkit {said_by('rt', 'version').strip()}\nsources {whole.hexdigest()}\ngate {it.read().strip()}\n"
+    return f"commit {commit()}\nkit {said_by('rt', 'version').strip()}\nsources {whole.hexdigest()}\ngate not run in this tree\n"
+
+
+def commit():
+    changed = said_by("git", "status", "--porcelain", "--untracked-files=no").strip()
+    return said_by("git", "rev-parse", "HEAD").strip() + (" and changes" if changed else "")
+
+
+def needs():
+    """Ends where something to be packed isn't built, or a command is missing."""
+    for command in ("git", "dpkg-deb", "rt", "cc"):
+        if shutil.which(command) is None:
+            raise Fault(NO_COMMAND, f"{command} is not on the path")
+    for file, by in (*((it, "./prove") for it in PROGRAMS.values()), (LIBRARY, "./lib"), (CONFINE, "bindings/confine/build.sh")):
+        if not os.path.isfile(file):
+            raise Fault(NOT_BUILT, f"{file} is missing: {by} builds it")
+
+
+class Room:
+    """A folder below which files are laid as below a prefix."""
+
+    def __init__(self, top):
+        self.top, self.laid = top, []
+
+    def put(self, to, content, mode=0o644):
+        file = f"{self.top}/{to}"
+        os.makedirs(os.path.dirname(file), exist_ok=True)
+        with open(file, "wb") as it:
+            it.write(content if isinstance(content, bytes) else content.encode())
+        os.chmod(file, mode)
+        self.laid.append(to)
+
+    def copy(self, to, file, mode=0o644):
+        with open(file, "rb") as it:
+            self.put(to, it.read(), mode)
+
+    def link(self, to, target):
+        with contextlib.suppress(FileNotFoundError):
+            os.remove(f"{self.top}/{to}")
+        os.symlink(target, f"{self.top}/{to}")
+        self.laid.append(to)
+
+    def zip(self, to, content):
+        self.put(f"{to}.gz", gzip.compress(content.encode(), 9, mtime=0))
+
+
+def lay_about(room, name):
+    """What each package says of itself."""
+    folder = f"share/doc/{name}"
+    room.put(f"{folder}/copyright", COPYRIGHT)
+    room.put(f"{folder}/stamp", stamp())
+    with open("CHANGELOG.md", encoding="utf-8") as it:
+        room.zip(f"{folder}/changelog", it.read())
+
+
+def lay_programs(room, day):
+    for name, file in PROGRAMS.items():
+        room.copy(f"bin/{name}", file, 0o755)
+        found = manuals.helps(name, os.path.abspath(file))
+        room.zip(f"share/man/man1/{name}.1", manuals.manual(name, version(), day, found))
+        room.put(f"share/bash-completion/completions/{name}", manuals.bash(name, found))
+        room.put(f"share/zsh/vendor-completions/_{name}", manuals.zsh(name, found))
+        room.put(f"share/fish/vendor_completions.d/{name}.fish", manuals.fish(name, found))
+    room.copy("bin/confine", CONFINE, 0o755)
+    for file in sources():
+        if file.startswith(("docs/", "examples/")) or file in ("README.md", "CHANGELOG.md"):
+            room.copy(f"share/doc/koalaingot/{file}", file)
+    lay_about(room, "koalaingot")
+
+
+def shared_library(to):
+    """The library as one that is loaded: only its own functions are seen."""
+    with tempfile.NamedTemporaryFile("w", suffix=".map") as names:
+        names.write("{ global: histar_*; local: *; };\n")
+        names.flush()
+        words = ["cc", "-shared", "-o", to, f"-Wl,-soname,{SONAME}", f"-Wl,--version-script={names.name}", "-Wl,--whole-archive", LIBRARY]
+        subprocess.run([*words, "-Wl,--no-whole-archive", "-Wl,--build-id=none"], check=True)
+
+
+def lay_library(room, prefix):
+    for it in ("histar.h", "histar_debug.h"):
+        if os.path.isfile(f"include/{it}"):
+            room.copy(f"include/{it}", f"include/{it}")
+    room.copy(f"lib/{TRIPLE}/libhistar.a", LIBRARY)
+    with tempfile.TemporaryDirectory() as made:
+        shared_library(f"{made}/{SONAME}")
+        room.copy(f"lib/{TRIPLE}/{SONAME}", f"{made}/{SONAME}")
+    room.link(f"lib/{TRIPLE}/libhistar.so", SONAME)
+    lines = [f"prefix={prefix}", f"libdir=${{prefix}}/lib/{TRIPLE}", "includedir=${prefix}/include", "", "Name: histar"]
+    lines += [f"Description: {ABOUT['libhistar-dev'][0]}", f"Version: {version()}", "Cflags: -I${includedir}", "Libs: -L${libdir} -lhistar"]
+    room.put(f"lib/{TRIPLE}/pkgconfig/histar.pc", "\n".join(lines) + "\n")
+    for file in sources():
+        if file.startswith("bindings/rust/histar/"):
+            room.copy(f"share/histar/rust/{file.removeprefix('bindings/rust/')}", file)
+    lay_about(room, "libhistar-dev")
+
+
+def set_times(top, seconds):
+    for at, folders, files in os.walk(top):
+        for it in (at, *(f"{at}/{name}" for name in (*folders, *files))):
+            os.utime(it, (seconds, seconds), follow_symlinks=False)
+
+
+def deb(name, lay, room, seconds):
+    """Packs what is laid by a function below usr/ of a package."""
+    top = f"{room}/{name}"
+    laid = Room(f"{top}/usr")
+    lay(laid)
+    about, depends = ABOUT[name]
+    size = sum(os.path.getsize(f"{laid.top}/{it}") for it in laid.laid) // 1024
+    lines = [f"Package: {name}", f"Version: {version()}-1", "Architecture: amd64", f"Maintainer: {MAINTAINER}", f"Installed-Size: {size}"]
+    lines += [f"Depends: {depends}", "Section: devel" if name.endswith("-dev") else "Section: utils", "Priority: optional", f"Description: {about}"]
+    lines += [" The object model of HiStar in user space: labels alone decide who observes and who", " modifies what. Its kernel is proved to follow its rules."]
+    os.makedirs(f"{top}/DEBIAN")
+    with open(f"{top}/DEBIAN/control", "w", encoding="utf-8") as it:
+        it.write("\n".join(lines) + "\n")
+    set_times(top, seconds)
+    file = f"{OUT}/{name}_{version()}-1_amd64.deb"
+    how = {"check": True, "stdout": subprocess.DEVNULL, "env": {**os.environ, "SOURCE_DATE_EPOCH": str(seconds)}}
+    subprocess.run(["dpkg-deb", "--root-owner-group", "--build", top, file], **how)
+    return file
+
+
+def tarball():
+    """The sources of the commit."""
+    name = f"koalaingot-{version()}"
+    made = subprocess.run(["git", "archive", "--format=tar", f"--prefix={name}/", "HEAD"], check=True, stdout=subprocess.PIPE).stdout
+    file = f"{OUT}/{name}.tar.gz"
+    with open(file, "wb") as it:
+        it.write(gzip.compress(made, 9, mtime=0))
+    return file
+
+
+def pack():
+    """Makes all packages, and returns their files."""
+    needs()
+    shutil.rmtree(OUT, ignore_errors=True)
+    os.makedirs(OUT)
+    seconds, day = int(said_by("git", "log", "-1", "--format=%ct")), said_by("git", "log", "-1", "--format=%cs").strip()
+    with tempfile.TemporaryDirectory(prefix="package-") as room:
+        os.chmod(room, 0o755)
+        programs = deb("koalaingot", lambda it: lay_programs(it, day), room, seconds)
+        library = deb("libhistar-dev", lambda it: lay_library(it, "/usr"), room, seconds)
+    return [tarball(), programs, library]
+
+
+def guarded(name, act):
+    """Acts, and returns the status: a fault is told in one line."""
+    try:
+        act()
+    except Fault as fault:
+        print(f"{name}: {fault}", file=sys.stderr)
+        return fault.status
+    except OSError as fault:
+        print(f"{name}: {fault.filename or OUT} can't be written: {fault.strerror}", file=sys.stderr)
+        return NO_ROOM
+    except subprocess.CalledProcessError as fault:
+        print(f"{name}: {fault.cmd[0]} ended with status {fault.returncode}", file=sys.stderr)
+        return NO_ROOM
+    return 0
+
+
+def make():
+    def act():
+        for it in pack():
+            print(f"package: {it}, {os.path.getsize(it)} bytes")
+
+    return guarded("package", act)
+
+
+def listed(prefix):
+    return f"{prefix}/share/doc/koalaingot/installed"
+
+
+def install(prefix):
+    """Lays what the packages have below a folder, with a list of it."""
+
+    def act():
+        needs()
+        room = Room(prefix)
+        lay_programs(room, said_by("git", "log", "-1", "--format=%cs").strip())
+        lay_library(room, prefix.removeprefix(os.environ.get("DESTDIR", "")))
+        room.put("share/doc/koalaingot/installed", "".join(f"{it}\n" for it in [*room.laid, "share/doc/koalaingot/installed"]))
+        print(f"install: {len(room.laid)} files below {prefix}")
+
+    return guarded("install", act)
+
+
+def uninstall(prefix):
+    """Takes away what was laid below a folder, and the folders that are empty then."""
+
+    def act():
+        if not os.path.isfile(listed(prefix)):
+            raise Fault(NOT_BUILT, f"{listed(prefix)} is missing: nothing was installed there")
+        with open(listed(prefix), encoding="utf-8") as it:
+            laid = it.read().splitlines()
+        for file in laid:
+            with contextlib.suppress(FileNotFoundError):
+                os.remove(f"{prefix}/{file}")
+        for file in laid:
+            with contextlib.suppress(OSError):
+                os.removedirs(os.path.dirname(f"{prefix}/{file}"))
+        print(f"install: {len(laid)} files taken away")
+
+    return guarded("install", act)
+
+
+C_PROGRAM = "#include <histar.h>\n#include <stdio.h>\nint main(void) { static histar k; if (histar_open(&k, 64)) return 1; puts(\"open\"); histar_close(&k); return 0; }\n"
+PYTHON = "import ctypes; it = ctypes.CDLL('{so}'); print(hasattr(it, 'histar_boot') and hasattr(it, 'histar_call') and not hasattr(it, 'memcpy_c'))"
+
+
+def sums():
+    found = {}
+    for it in sorted(os.listdir(OUT)):
+        with open(f"{OUT}/{it}", "rb") as file:
+            found[it] = hashlib.sha256(file.read()).hexdigest()
+    return found
+
+
+def ran(*words, **how):
+    done = subprocess.run(words, stdout=subprocess.PIPE, stderr=subprocess.STDOUT, text=True, **how)
+    return done.returncode, done.stdout
+
+
+def try_programs(report, top):
+    """The programs out of their package, where no toolchain is on the path."""
+    env, script = {"PATH": f"{top}/usr/bin:/usr/bin:/bin"}, f"{top}/usr/share/doc/koalaingot/examples/first.histar"
+    with open(script.replace(".histar", ".out"), encoding="utf-8") as it:
+        wanted = it.read()
+    ended = ran(f"{top}/usr/bin/histar", "run", script, "--dump", f"{top}/dump", env=env)
+    report.counts(ended == (0, wanted), f"packages: histar run: status {ended[0]}")
+    ended = ran(f"{top}/usr/bin/histar-audit", f"{top}/dump", env=env)
+    report.counts(ended == (0, "clean\n"), f"packages: histar-audit: {ended}")
+    ended = ran(f"{top}/usr/bin/histar-show", "page", f"{top}/dump", "--out", f"{top}/page.html", env=env)
+    report.counts(ended == (0, "") and os.path.getsize(f"{top}/page.html") > 1000, f"packages: histar-show page: {ended}")
+    for name in PROGRAMS:
+        ended = ran("man", "--warnings", "-l", f"{top}/usr/share/man/man1/{name}.1.gz", env={**env, "LANG": "C.UTF-8", "MANWIDTH": "80"})
+        report.counts(ended[0] == 0 and "OPTIONS" in ended[1] and "warning" not in ended[1], f"packages: man {name}")
+    typed = f". {top}/usr/share/bash-completion/completions/histar; COMP_WORDS=(histar ru); COMP_CWORD=1; _histar; echo ${{COMPREPLY[*]}}; COMP_WORDS=(histar run --pa); COMP_CWORD=2; _histar; echo ${{COMPREPLY[*]}}"
+    ended = ran("bash", "-c", typed, env=env)
+    report.counts(ended == (0, "run\n--pages\n"), f"packages: completion of histar in bash: {ended}")
+
+
+def try_library(report, top):
+    """Programs over the library out of its package."""
+    folder = f"{top}/usr/lib/{TRIPLE}"
+    env = {**os.environ, "PKG_CONFIG_PATH": f"{folder}/pkgconfig"}
+    flags = ran("pkg-config", f"--define-variable=prefix={top}/usr", "--cflags", "--libs", "histar", env=env)[1].split()
+    for compiler, name in (("cc", "c"), ("c++", "cpp")):
+        with open(f"{top}/program.{name}", "w", encoding="utf-8") as it:
+            it.write(C_PROGRAM)
+        made = ran(compiler, f"{top}/program.{name}", *flags, "-o", f"{top}/program")
+        for linked in ("shared", "static"):
+            if linked == "static":
+                made = ran(compiler, f"{top}/program.{name}", *(it for it in flags if it != "-lhistar"), f"{folder}/libhistar.a", "-o", f"{top}/program")
+            ended = ran(f"{top}/program", env={"LD_LIBRARY_PATH": folder}) if made[0] == 0 else made
+            report.counts(ended == (0, "open\n"), f"packages: {compiler} by pkg-config, {linked}: {ended}")
+    ended = ran(sys.executable, "-c", PYTHON.format(so=f"{folder}/{SONAME}"))
+    report.counts(ended == (0, "True\n"), f"packages: Python loads {SONAME}: {ended}")
+
+
+def try_all(report):
+    """Packs twice, and tries what is packed out of the packages."""
+    first, second = None, None
+    with contextlib.suppress(Fault):
+        pack()
+        first = sums()
+        pack()
+        second = sums()
+    report.counts(first is not None and first == second and len(first) == 3, f"packages: built twice, the same bytes: {', '.join(first or ())}")
+    if first is None:
+        return
+    with tempfile.TemporaryDirectory(prefix="packages-") as top:
+        for it in first:
+            if it.endswith(".deb"):
+                subprocess.run(["dpkg-deb", "-x", f"{OUT}/{it}", top], check=True)
+        try_programs(report, top)
+        try_library(report, top)
+        if shutil.which("lintian"):
+            ended = ran("lintian", "--fail-on", "error", "--suppress-tags", "no-copyright-file", *(f"{OUT}/{it}" for it in first if it.endswith(".deb")))
+            report.counts(ended[0] == 0, f"packages: lintian: {ended}")
+        else:
+            report.say("left out: lintian: it is not there")
+    with tempfile.TemporaryDirectory(prefix="installed-") as top:
+        ended = install(f"{top}/p"), os.path.isfile(f"{top}/p/bin/histar"), uninstall(f"{top}/p"), os.listdir(top)
+        report.counts(ended[:3] == (0, True, 0) and not os.path.isdir(f"{top}/p/bin"), f"packages: ./install and its reverse: {ended}")
+
+
+if __name__ == "__main__":
+    REPORT = Report()
+    try_all(REPORT)
+    sys.exit(REPORT.finish())
