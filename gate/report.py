@@ -51,6 +51,9 @@ class Report:
         """Says and counts what came out well or not."""
         (self.passes if is_well else self.fails)(text)
 
+    def last_line(self):
+        return f"{self.passed} passed, {len(self.failures)} failed"
+
     def finish(self):
         """Says how the run ended, and returns its exit status."""
         if self.failures:
@@ -58,5 +61,5 @@ class Report:
             for failure in self.failures:
                 self.say(failure)
         self.heading("All")
-        self.say(f"{self.passed} passed, {len(self.failures)} failed")
+        self.say(self.last_line())
         return 1 if self.failures else 0
