@@ -45,7 +45,7 @@ class Tried:
     def __init__(self, room):
         self.room = f"{room}/tried"
         os.makedirs(self.room, exist_ok=True)
-        for it in ("swap", "paths"):
+        for it in ("swap", "paths", "lacking"):
             words = ["cc", "-O2", "-Wall", "-Wextra", "-Werror", "-pthread", f"bindings/confine/tried/{it}.c", "-o", f"{self.room}/{it}"]
             subprocess.run(words, check=True)
 
@@ -259,6 +259,20 @@ def says_it_cannot():
     return done.returncode == UNABLE and not done.stdout and len(done.stderr.splitlines()) == 1
 
 
+# Calls without which a machine can't confine: Landlock's, those of filters, of mounts and of namespaces.
+NEEDED = (444, 445, 446, 317, 428, 429, 442, 272)
+
+
+def says_it_lacks(lacking, call):
+    """Whether it says in one line that a machine that lacks a call can't confine, soon, and starts nothing."""
+    words = [lacking, str(call), CONFINE, "--", "/bin/echo", "started"]
+    try:
+        done = subprocess.run(words, stdout=subprocess.PIPE, stderr=subprocess.PIPE, text=True, timeout=20)
+    except subprocess.TimeoutExpired:
+        return False
+    return done.returncode == UNABLE and not done.stdout and len(done.stderr.splitlines()) == 1
+
+
 def left_running(mark):
     """Whether a process runs whose words have a mark in them."""
     for it in os.listdir("/proc"):
@@ -325,13 +339,13 @@ def try_scene(report, confine, room, scene, user, audit):
     return audit is None or is_audited(audit, f"{room}/dump")
 
 
-def try_scenes(report, room, auditor, is_long):
+def try_scenes(report, room, auditor, more):
     os.chmod(room, 0o755)
     confine = shutil.copy(CONFINE, f"{room}/confine")
     os.chmod(confine, 0o755)
-    unclean = []
+    scenes, unclean = (*SCENES, *POLICY_SCENES, *ATTACKS, *more), []
     for user in users():
-        for scene in (*SCENES, *POLICY_SCENES, *ATTACKS, *Tried(room).scenes(is_long)):
+        for scene in scenes:
             if min(user, 1) in scene.users and not try_scene(report, confine, f"{room}/scene", scene, user, auditor):
                 unclean.append(scene.name)
     if auditor:
@@ -357,7 +371,10 @@ def try_all(report, library, auditor, is_long=False):
         report.counts(says_it_cannot(), "confine: where there are no user namespaces it says so, and starts nothing")
         for policy, piece in WRONG_POLICIES:
             report.counts(says_why_of_policy(f"{room}/scene", policy, piece), f"confine: a policy that is none: {piece}")
-        try_scenes(report, room, auditor, is_long)
+        tried = Tried(room)
+        for call in NEEDED:
+            report.counts(says_it_lacks(f"{tried.room}/lacking", call), f"confine: a machine without the call {call}: it says so, and starts nothing")
+        try_scenes(report, room, auditor, tried.scenes(is_long))
 
 
 if __name__ == "__main__":

@@ -25,7 +25,8 @@
 
 const char *const ALWAYS[] = {
     "/usr", "/bin", "/sbin", "/lib", "/lib64", "/etc/alternatives", "/etc/ld.so.cache", "/etc/passwd", "/etc/group",
-    "/etc/nsswitch.conf", "/etc/localtime", "/etc/mime.types", "/etc/magic", "/dev/null", "/dev/zero", "/dev/full",
+    "/etc/nsswitch.conf", "/etc/localtime", "/etc/mime.types", "/etc/magic", "/etc/fonts", "/etc/texmf", "/var/lib/texmf",
+    "/etc/java-11-openjdk", "/etc/java-17-openjdk", "/etc/java-21-openjdk", "/dev/null", "/dev/zero", "/dev/full",
     "/dev/random", "/dev/urandom", NULL};
 
 /* Links that each program finds. */
