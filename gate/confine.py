@@ -17,7 +17,7 @@ from gate.report import Report
 
 CONFINE = "out/confine"
 UNABLE = 69
-ATTACKS = (*confine_attacks.REPORTS, *confine_attacks.INODES, *confine_attacks.MEANS, *confine_attacks.HELD, *confine_attacks.LABELS)
+ATTACKS = (*confine_attacks.REPORTS, *confine_attacks.INODES, *confine_attacks.MEANS, *confine_attacks.HELD, *confine_attacks.LABELS, *confine_attacks.STARTS)
 
 # An ordinary user's number, as which root plays scenes too.
 NOBODY = 65534
@@ -45,16 +45,17 @@ class Tried:
     def __init__(self, room):
         self.room = f"{room}/tried"
         os.makedirs(self.room, exist_ok=True)
-        for it in ("swap", "paths", "lacking"):
+        for it in ("swap", "paths", "asks", "lacking"):
             words = ["cc", "-O2", "-Wall", "-Wextra", "-Werror", "-pthread", f"bindings/confine/tried/{it}.c", "-o", f"{self.room}/{it}"]
             subprocess.run(words, check=True)
 
     def scenes(self, is_long):
         words = [*TWO, "--public", self.room]
-        swaps, paths = (10_000, 1_000_000) if is_long else (1_000, 20_000)
+        swaps, paths, asks = (10_000, 1_000_000, 1_000) if is_long else (1_000, 20_000, 100)
         yield Scene("changes a path while the broker looks at it", f"{self.room}/swap $P/text $S/key {swaps} > /tmp/seen", words=words, status=None)
         yield Scene("changes a path and prints what it reads", f"{self.room}/swap $P/none $S/key {swaps}", words=words)
         yield Scene("changes a path and prints all", f"{self.room}/swap $P/text $S/key {swaps}", printed=None, words=words, status=None)
+        yield Scene("asks for starts by drawn bytes", f"{self.room}/asks {asks} 1", printed="done\n", words=words)
         yield Scene("names files by drawn paths", f"{self.room}/paths {paths} 1", printed="done\n", words=words)
 
 

@@ -149,3 +149,39 @@ LABELS = (
     Scene("tells by the failure of a gate with a file", "echo $(cat $S/key) > /gate/failing", policy=GATES.replace("broken", "failing").replace('["/no/such/program"]', '["false"]\nfile = "report"'), report="confine: the gate failing failed\n"),
     Scene("writes a report of a lower label", READ + "echo $k > $Q", policy=POLICY, told=f"open; {REFUSED}"),
 )
+
+# Programs that a program starts at a label.
+WITHHELD = "some of what a program printed that was started at a label is withheld"
+BOTH = f"start\n{SECRET}\n{SECOND}\n"
+STARTS = (
+    Scene("starts at a label and stays clean", "confine-run first -- cat $S/key > /gate/lines; echo clean", printed="clean\n", open="1\n", policy=GATES),
+    Scene("starts at a label and prints what that prints", "confine-run first -- cat $S/key; echo clean", printed="clean\n", policy=POLICY, told=WITHHELD),
+    Scene("starts at a label and reads its errors", "confine-run first -- sh -c 'cat $S/key >&2' 2>&1; echo clean", printed="clean\n", policy=POLICY, told=WITHHELD),
+    Scene("starts at a label and reads by a pipe", "confine-run first -- cat $S/key | cat; echo clean", printed="clean\n", policy=POLICY, told=WITHHELD),
+    Scene("starts at a label and reads by a file", "confine-run first -- cat $S/key > /tmp/x; cat /tmp/x; echo clean", printed="clean\n", policy=POLICY, told=WITHHELD),
+    Scene("starts at a label, which writes a report", "confine-run first -- sh -c 'cat $S/key > $R'; echo clean", printed="clean\n", report=SECRET + "\n", policy=POLICY),
+    Scene("starts at a label and looks at its status", "confine-run first -- sh -c 'exit 7'; echo $?", printed="0\n", policy=POLICY),
+    Scene("starts at a label and looks when it ends", "a=$(date +%s); confine-run first -- sleep 2; b=$(date +%s); [ $((b-a)) -lt 2 ] && echo at once", printed="at once\n", policy=POLICY),
+    Scene("starts at a label and looks when its pipe ends", "a=$(date +%s); confine-run first -- sleep 2 | cat; b=$(date +%s); [ $((b-a)) -lt 2 ] && echo at once", printed="at once\n", policy=POLICY),
+    Scene("starts at a label and looks whether it reads", "a=$(date +%s); head -c 1000000 /dev/zero | confine-run first -- sleep 2; b=$(date +%s); [ $((b-a)) -lt 2 ] && echo at once", printed="at once\n", policy=POLICY),
+    Scene("starts at no label and knows its status", "confine-run none -- sh -c 'exit 7'; echo $?", printed="7\n", policy=POLICY),
+    Scene("starts at no label and hands it much", "head -c 1000000 /dev/zero | confine-run none -- wc -c", printed="1000000\n", policy=POLICY),
+    Scene("starts what reads a secret later", "confine-run none -- sh -c 'echo before; cat $S/key; exit 3'; echo $?", printed="before\n0\n", policy=POLICY, told=WITHHELD),
+    Scene("starts what reads a secret later and writes its report", "confine-run none -- sh -c 'cat $S/key > $R'; echo clean", printed="clean\n", report=SECRET + "\n", policy=POLICY),
+    Scene("joins programs at two labels", "confine-run first -- cat $S/key | confine-run first,second -- sh -c 'cat - $T/key > $U'; echo clean", printed="clean\n", second=f"{SECRET}\n{SECOND}\n", policy=POLICY),
+    Scene("joins programs at three labels", "echo start | confine-run none -- cat | confine-run first -- cat - $S/key | confine-run first,second -- sh -c 'cat - $T/key > $U'; echo clean", printed="clean\n", second=BOTH, policy=POLICY),
+    Scene("joins programs the wrong way", "confine-run first -- cat $S/key | confine-run second -- sh -c 'cat - $T/key > $U'; echo clean", printed="clean\n", second=SECOND + "\n", policy=POLICY, told=WITHHELD),
+    Scene("joins a secret to what prints", "confine-run first -- cat $S/key | confine-run none -- cat; echo clean", printed="clean\n", policy=POLICY, told=WITHHELD),
+    Scene("starts at a label after it has read", READ + "confine-run first -- true 2> /dev/null; echo $? > $R", report="69\n", policy=POLICY),
+    Scene("starts at a lower label after it has read", READ + "confine-run none -- echo $k; echo $? > $R", report="69\n", policy=POLICY),
+    Scene("hands down by a program that it started before", "mkfifo /tmp/f; (sleep 0.3; cat $S/key > /tmp/f) & confine-run none -- cat < /tmp/f; echo clean", policy=POLICY, told=None),
+    Scene("starts at no such label", "confine-run third -- true 2> /dev/null; echo $?", printed="69\n", policy=POLICY),
+    Scene("starts above the clearance", "confine-run second -- cat $T/key 2> /dev/null; echo $?", printed="69\n", policy=POLICY + "program = {clearance = {second = 2}}\n"),
+    Scene("starts by a name of a folder", "confine-run secret -- sh -c 'cat $S/key > $R'; echo clean", printed="clean\n", report=SECRET + "\n", words=TWO),
+    Scene("starts many, one after another", "for i in $(seq 40); do confine-run none -- true || echo no; done; echo done", printed="done\n", policy=POLICY),
+    Scene("starts what it can't", "confine-run none -- /no/such/program 2> /dev/null; echo $?", printed="127\n", policy=POLICY),
+    Scene("starts in its folder, with its words", "cd /usr; X=y confine-run none -- sh -c 'pwd; echo $X'", printed="/usr\ny\n", policy=POLICY),
+    Scene("starts a program that starts another", "confine-run none -- confine-run first -- sh -c 'cat $S/key > $R'; echo clean", printed="clean\n", report=SECRET + "\n", policy=POLICY),
+    Scene("leaves what it started behind", "confine-run first -- sh -c 'sleep 1; cat $S/key > $R'; exit 0", report=SECRET + "\n", policy=POLICY),
+    Scene("goes by a gate that the started may not enter", "confine-run first,second -- cat $S/key $T/key > /gate/lines; echo clean", printed="clean\n", open="0\n", policy=GATES),
+)

@@ -209,6 +209,13 @@ static bool is_read_only(const struct plan *plan, const char *path)
     return false;
 }
 
+static void answer_run(struct family *family, uint64_t id)
+{
+    int file = open_run(family);
+    if (file < 0) respond(family->world.listener, id, errno);
+    else hand_over(family->world.listener, id, file, O_CLOEXEC);
+}
+
 /* Answers a call that names a path. */
 static void answer_naming(struct plan *plan, struct family *family, const struct seccomp_notif *asked, const struct naming *naming, const char *path)
 {
@@ -217,12 +224,13 @@ static void answer_naming(struct plan *plan, struct family *family, const struct
     if (report >= 0) respond(listener, asked->id, open_report(plan, family, report, naming, flags));
     else if (naming->kind == RENAMES) respond(listener, asked->id, 0);
     else if (writes_to(asked, naming) && is_read_only(plan, path)) respond(listener, asked->id, EROFS);
+    else if (gate < 0 && !strcmp(path, RUN)) answer_run(family, asked->id);
     else if (gate < 0) respond(listener, asked->id, open_secrets_at(plan, family, naming, path));
     else if ((file = open_gate(plan, family, gate, flags)) < 0) respond(listener, asked->id, errno);
     else hand_over(listener, asked->id, file, flags);
 }
 
-static void answer(struct plan *plan, struct family *family)
+void answer_call(struct plan *plan, struct family *family)
 {
     struct seccomp_notif asked;
     char path[PATH_MAX];
@@ -257,40 +265,57 @@ static int ends_of(void)
     return signalfd(-1, &ends, SFD_CLOEXEC);
 }
 
-/* What is printed is relayed before the next call is answered, so that all that came before a secret is shown. Gives the signal
- * that ended it, or 0. */
+/* What the program's own world waits for, first of all. */
+enum { PRINTED, ERRORS, CALLS, END, INPUT, INPUT_END, OWN };
+
+/* What the program printed is relayed before its next call is answered, so that all that came before a secret is shown. */
+static void serve_own(struct plan *plan, struct family *family, struct stream *input, struct pollfd *all)
+{
+    for (int i = PRINTED; i <= ERRORS; i++)
+        if (all[i].revents && !relay(all[i].fd, i + 1, family->prints)) close(all[i].fd), all[i].fd = -1;
+    if (all[INPUT].revents) take(input);
+    if (all[INPUT_END].revents) give(input);
+    if (all[PRINTED].revents || all[ERRORS].revents) return;
+    if (all[CALLS].revents & POLLIN) answer_call(plan, family);
+    else if (all[CALLS].revents) all[CALLS].fd = -1;
+}
+
+/* Serves the program and what it started until all have ended. Gives the signal that ended it before, or 0. */
 static int serve_all(struct plan *plan, struct family *family)
 {
-    static struct stream input;
     struct world *world = &family->world;
+    struct stream input = stream_of(world->input < 0 ? -1 : fcntl(0, F_DUPFD_CLOEXEC, 3), world->input);
     struct signalfd_siginfo end = {0};
-    struct pollfd all[5] = {{world->printed[0], POLLIN, 0}, {world->printed[1], POLLIN, 0}, {world->listener, POLLIN, 0}, {ends_of(), POLLIN, 0}};
-    input.to = world->input;
-    while (all[0].fd >= 0 || all[1].fd >= 0 || all[2].fd >= 0) {
-        all[4] = next_of(&input);
-        if (poll(all, 5, end_waits()) < 0) {
+    struct pollfd all[OWN + MOST_WAITS_OF_STARTS] = {{world->printed[0], POLLIN, 0}, {world->printed[1], POLLIN, 0}, {world->listener, POLLIN, 0}, {ends_of(), POLLIN, 0}};
+    for (;;) {
+        int more = list_starts(all + OWN), soon = end_waits();
+        if (all[PRINTED].fd < 0 && all[ERRORS].fd < 0 && all[CALLS].fd < 0 && are_starts_done()) return 0;
+        all[INPUT] = taken_from(&input);
+        all[INPUT_END] = given_to(&input);
+        if (poll(all, (nfds_t)(OWN + more), soon) < 0) {
             if (errno == EINTR) continue;
             return 0;
         }
-        for (int i = 0; i < 2; i++)
-            if (all[i].revents && !relay(all[i].fd, i + 1, family->prints)) all[i].fd = -1;
-        if (all[4].revents) feed(&input);
-        if (all[3].revents && read(all[3].fd, &end, sizeof end) == sizeof end) return (int)end.ssi_signo;
-        if (all[0].revents || all[1].revents) continue;
-        if (all[2].revents & POLLIN) answer(plan, family);
-        else if (all[2].revents) all[2].fd = -1;
+        if (all[END].revents && read(all[END].fd, &end, sizeof end) == sizeof end) return (int)end.ssi_signo;
+        serve_own(plan, family, &input, all);
+        serve_starts(plan, all + OWN);
     }
-    return 0;
+}
+
+void begin_answers(const struct plan *plan, struct family *family)
+{
+    wake_at_once(family->world.listener);
+    note_reports(plan, family);
 }
 
 int serve(struct plan *plan, struct family *family)
 {
     int ended_by, status;
     bool are_copied;
-    wake_at_once(family->world.listener);
-    note_reports(plan, family);
+    begin_answers(plan, family);
     ended_by = serve_all(plan, family);
     status = end_world(&family->world, ended_by != 0);
+    end_starts(plan);
     end_gates(plan);
     are_copied = copy_reports(plan, family);
     tell_refused(plan, family->prints);

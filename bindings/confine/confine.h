@@ -18,6 +18,7 @@
 
 #include "histar.h"
 #include <limits.h>
+#include <poll.h>
 #include <stdbool.h>
 #include <stdint.h>
 #include <stdio.h>
@@ -180,6 +181,19 @@ bool enters_gate(struct plan *plan, struct family *family, int gate);
 /* Whether what a gate's program makes may be shown, also where it goes to a report. */
 bool shows_gate(const struct plan *plan, int gate);
 
+/* Makes a thread for a program that another starts, at a label that is asked for: the other makes it. The refusal, or 0. */
+uint32_t is_spawned(const struct plan *plan, const struct family *by, const struct levels *levels, struct family *family);
+
+/* A new object of a family's label, which it writes and another reads. */
+uint64_t make_between(const struct plan *plan, const struct family *writer);
+
+/* An object or a thread goes. */
+void forget(uint64_t object);
+
+/* Whether a family may write what is between it and another, and read it. */
+bool writes_between(const struct family *writer, uint64_t between);
+bool reads_between(const struct family *reader, uint64_t between);
+
 /* Writes the dump of all decisions, where one is asked for. Whether it was written. */
 bool write_dump(const struct plan *plan);
 
@@ -196,9 +210,16 @@ void tell_refused(const struct plan *plan, bool prints);
 
 /* ---- keeper.c: the keeper, and the program's start ---- */
 
-/* Starts the program, which waits in its execve for the first answer. It ends with ENDS_UNABLE and a line where this
- * machine can't confine. */
-void start(const struct plan *plan, struct world *world);
+/* What is started. */
+struct begun {
+    char **words, **environment; /* NULL where it is that of confine */
+    const char *folder;          /* where it begins; NULL where that is the world's root */
+    bool has_input;              /* the broker fills its standard input */
+};
+
+/* Starts a program in a world of its own, in which it waits for the first answer. Where that fails a line said why, and it
+ * gives the status that confine ends with; else 0. */
+int start(const struct plan *plan, const struct begun *begun, struct world *world);
 
 /* Ends the program where it has not ended, and says with which status; -1 where it has none. */
 int end_world(struct world *world, bool is_killed);
@@ -227,7 +248,7 @@ void enter_world(void);
 /* Where the world's own folders lie, until it is the root: as struct world has them. */
 int open_scratch(void);
 
-/* How many descriptors lead to what the program may write, and which. */
+/* How many descriptors lead to what the program may write, and which they are. */
 int own_of(const int **files);
 
 /* Puts a secret into the world. An errno, 0 where it is there. */
@@ -262,6 +283,9 @@ int receive_descriptor(int socket);
 /* Starts a gate's program, and gives what leads to its input; -1 with errno. At most MOST_RUNS run at once. */
 int start_gate(const struct plan *plan, int gate);
 
+/* The gate that a descriptor leads to, or -1. */
+int gate_behind(int file);
+
 /* Waits until all gates' programs have ended. A line tells each that failed, where what the gate makes goes. */
 void end_gates(const struct plan *plan);
 
@@ -281,23 +305,72 @@ bool copy_reports(struct plan *plan, struct family *family);
 
 /* ---- broker.c ---- */
 
-/* Answers until the program has ended, and tells with which status; it is 0 where that may not be told. */
+/* Answers until the program and all that it started have ended, and tells with which status; it is 0 where that may not be told. */
 int serve(struct plan *plan, struct family *family);
+
+/* Begins to answer a family's calls. */
+void begin_answers(const struct plan *plan, struct family *family);
+
+/* Answers the next call of a family. */
+void answer_call(struct plan *plan, struct family *family);
+
+/* ---- spawn.c: programs that the program starts at a label ---- */
+
+/* Where a program asks for a start, and where the program is that does so. */
+#define RUN GATES "/run"
+#define RUN_FOLDER "/confine"
+#define RUN_NAME "confine-run"
+
+/* So many starts are asked for or run at once, and each waits for so many things. */
+enum { MOST_STARTS = 16, WAITS_OF_START = 8, MOST_WAITS_OF_STARTS = MOST_STARTS * WAITS_OF_START };
+
+/* What leads a program to the broker, to ask for a start; -1 with errno. */
+int open_run(struct family *by);
+
+/* Whether all that was started has ended, and all that it printed is where it goes. */
+bool are_starts_done(void);
+
+/* What all starts wait for, and how many things that are; and what is done once they have it. */
+int list_starts(struct pollfd *waits);
+void serve_starts(struct plan *plan, const struct pollfd *waits);
+
+/* Ends what was started and has not ended, and tells whether something of what it printed was withheld. */
+void end_starts(struct plan *plan);
+
+/* ---- run.c: the program that asks for a start ---- */
+
+/* Asks the broker, and ends as what was started ends. */
+int ask_run(int count, char **words);
 
 /* ---- streams.c: what is relayed ---- */
 
-/* What waits to go from one descriptor to another. */
+/* What waits to go from one descriptor to another. Where two families are at its ends, it is taken from the one as soon as it is
+ * there, so that no family learns how fast the other takes it, and given to the other where the kernel allows it. */
 struct stream {
-    char text[4096];
-    size_t count, begin;
-    int from, to; /* -1 once it is at its end */
+    char *text;
+    size_t size, count, begin;
+    int from, to;                          /* -1 once it is at its end */
+    const struct family *writer, *reader;  /* NULL where it is of no family, or goes through a gate */
+    uint64_t between;                      /* the object that the one writes and the other reads, or 0 */
+    bool is_held;                          /* its reader may not have it: it waits for another */
+    bool is_cut;                           /* its writer may not write it any more */
+    bool is_dropped;                       /* some of it was */
 };
 
-/* Fills it, or gives of it what is taken. */
-void feed(struct stream *stream);
+/* A stream from here to there. */
+struct stream stream_of(int from, int to);
 
-/* What a stream waits for. */
-struct pollfd next_of(const struct stream *stream);
+/* Takes what is there to be read, or gives what can be written. */
+void take(struct stream *stream);
+void give(struct stream *stream);
+
+/* Where the reader may not have what is written, it is told of the stream's end at once; and where the writer may write no more, once
+ * all is given that it wrote before. So the end of the writer is not seen by it. */
+void cut(struct stream *stream);
+
+/* What a stream waits for: its beginning, and its end. */
+struct pollfd taken_from(const struct stream *stream);
+struct pollfd given_to(const struct stream *stream);
 
 /* Shows what was printed, or drops it. Whether there may be more. */
 bool relay(int from, int to, bool is_shown);

@@ -4,7 +4,7 @@
 #include <stdlib.h>
 #include <string.h>
 
-enum { PAGES = 128, SEGMENT_QUOTA = 2, HIGHEST = 3 };
+enum { PAGES = 256, SEGMENT_QUOTA = 2, HIGHEST = 3 };
 
 static histar kernel;
 static uint64_t terminal;
@@ -206,6 +206,26 @@ bool is_born(struct plan *plan, struct family *family)
     family->prints = !writes(family->thread, terminal);
     return true;
 }
+
+uint32_t is_spawned(const struct plan *plan, const struct family *by, const struct levels *levels, struct family *family)
+{
+    histar_label label = plain_label(plan, levels), clearance = clearance_of(plan);
+    uint32_t refusal = histar_thread_create(&kernel, by->thread, HISTAR_ROOT, &label, 1, &clearance, 0, &family->thread);
+    if (!refusal) tell_id(plan, family->thread, "a program that it started");
+    return refusal;
+}
+
+uint64_t make_between(const struct plan *plan, const struct family *writer)
+{
+    struct levels levels = own_levels(plan, writer);
+    return make_segment(plan, &levels, "what a program gives to another");
+}
+
+void forget(uint64_t object) { MUST(histar_unref(&kernel, HISTAR_BOOT, entry_of(object))); }
+
+bool writes_between(const struct family *writer, uint64_t between) { return !writes(writer->thread, between); }
+
+bool reads_between(const struct family *reader, uint64_t between) { return !reads(reader->thread, between); }
 
 /* What the program knows from now on may get to all that it was given to write: the kernel is told. */
 static void write_held(const struct plan *plan, struct family *family)

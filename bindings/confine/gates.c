@@ -11,6 +11,7 @@
 #include <stdlib.h>
 #include <string.h>
 #include <sys/prctl.h>
+#include <sys/stat.h>
 #include <sys/wait.h>
 #include <unistd.h>
 
@@ -18,6 +19,7 @@
 struct run {
     pid_t pid; /* 0 where there is none */
     int gate;
+    ino_t pipe; /* what leads to its input */
 };
 
 static struct run runs[MOST_RUNS];
@@ -80,6 +82,20 @@ static struct run *free_run(const struct plan *plan)
     return NULL;
 }
 
+static ino_t inode_of(int file)
+{
+    struct stat found;
+    return fstat(file, &found) || !S_ISFIFO(found.st_mode) ? 0 : found.st_ino;
+}
+
+int gate_behind(int file)
+{
+    ino_t pipe = inode_of(file);
+    for (int i = 0; i < MOST_RUNS && pipe; i++)
+        if (runs[i].pid && runs[i].pipe == pipe) return runs[i].gate;
+    return -1;
+}
+
 int start_gate(const struct plan *plan, int i)
 {
     struct run *run = free_run(plan);
@@ -87,6 +103,7 @@ int start_gate(const struct plan *plan, int i)
     errno = EAGAIN;
     if (!run || pipe2(ends, O_CLOEXEC)) return -1;
     run->gate = i;
+    run->pipe = inode_of(ends[1]);
     run->pid = fork();
     if (!run->pid) become_gate(plan, &plan->gates[i], ends[0]);
     close(ends[0]);

@@ -3,6 +3,7 @@
 #include "confine.h"
 #include <errno.h>
 #include <fcntl.h>
+#include <limits.h>
 #include <sched.h>
 #include <signal.h>
 #include <stdlib.h>
@@ -18,6 +19,7 @@ struct ends {
     int program;    /* the program's socket to the broker */
     int proc;       /* the machine's /proc */
     int entered;    /* it is written to once the world is the root */
+    const struct begun *begun;
 };
 
 ENDS void unable(const char *what)
@@ -49,10 +51,21 @@ static void take_user(uid_t user, gid_t group)
     write_file("/proc/self/gid_map", map);
 }
 
+/* The program finds what asks for a start among its programs. */
+static void add_run(void)
+{
+    static char path[PATH_MAX];
+    const char *own = getenv("PATH");
+    if (!own || strstr(own, RUN_FOLDER)) return;
+    snprintf(path, sizeof path, "%s:" RUN_FOLDER, own);
+    setenv("PATH", path, 1);
+}
+
 /* The program. Its standard error is confine's own until nothing can fail any more but the program itself. 0 to 2 stay, and the
  * socket and the fourth go as the program begins. */
-_Noreturn static void become_program(const struct plan *plan, const struct ends *ends)
+_Noreturn static void become_program(const struct ends *ends)
 {
+    const struct begun *begun = ends->begun;
     char may_go;
     int listener, error;
     raise_walls();
@@ -68,8 +81,10 @@ _Noreturn static void become_program(const struct plan *plan, const struct ends 
     if ((listener = load_filter()) < 0) unable("seccomp's notifications");
     if (!send_descriptor(3, listener) || close(listener) || read(3, &may_go, 1) != 1) _exit(ENDS_FAULT);
     if (dup2(4, 2) < 0 || close(4)) _exit(ENDS_FAULT);
-    execvp(plan->program[0], plan->program);
-    dprintf(2, "confine: %s: %s\n", plan->program[0], strerror(errno));
+    if (begun->environment) environ = begun->environment;
+    add_run();
+    if (!begun->folder || !chdir(begun->folder)) execvp(begun->words[0], begun->words);
+    dprintf(2, "confine: %s: %s\n", begun->words[0], strerror(errno));
     _exit(errno == ENOENT ? 127 : 126);
 }
 
@@ -84,7 +99,7 @@ static int status_of(int status)
 }
 
 /* The first process of the world: it ends as the program does, and with it all that the program left running. */
-_Noreturn static void run_first(const struct plan *plan, const struct ends *ends)
+_Noreturn static void run_first(const struct ends *ends)
 {
     int status;
     pid_t program, ended;
@@ -94,7 +109,7 @@ _Noreturn static void run_first(const struct plan *plan, const struct ends *ends
     enter_world();
     NEEDS(write(ends->entered, "e", 1));
     NEEDS(program = fork());
-    if (!program) become_program(plan, ends);
+    if (!program) become_program(ends);
     close_all(ends->streams, 3);
     close(ends->program);
     while ((ended = wait(&status)) != program)
@@ -140,7 +155,7 @@ _Noreturn static void run_keeper(const struct plan *plan, struct ends *ends, int
     NEEDS(first = fork());
     if (!first) {
         close(socket);
-        run_first(plan, ends);
+        run_first(ends);
     }
     close_all(ends->streams, 3);
     close_all((int[]){ends->program, ends->proc, ends->entered}, 3);
@@ -148,45 +163,37 @@ _Noreturn static void run_keeper(const struct plan *plan, struct ends *ends, int
     keep(plan, first, socket);
 }
 
-/* The program's standard input: a pipe that the broker fills. What others read of the same file stays where they left it. What
- * is typed at a terminal is not for a program that has secrets. */
-static void make_input(const struct plan *plan, int *input)
+/* Closes all descriptors but the standard streams and these. */
+static void keep_only(const int *files, int count)
 {
-    bool is_given = fcntl(0, F_GETFD) >= 0 && (!isatty(0) || !plan->secret_count);
-    NEEDS(pipe2(input, O_CLOEXEC));
-    if (is_given) NEEDS(fcntl(input[1], F_SETFL, O_NONBLOCK));
-    else close(input[1]), input[1] = -1;
-    if (!is_given && isatty(0)) fputs("confine: what is typed here is not given to a program that has secrets\n", stderr);
+    int next = 2;
+    while (next < INT_MAX) {
+        int file = next + 1;
+        next = INT_MAX;
+        for (int i = 0; i < count; i++)
+            if (files[i] >= file && files[i] < next) next = files[i];
+        if (next > file) close_range((unsigned)file, (unsigned)next - 1, 0);
+    }
 }
 
-/* Nothing could be started: it ends as the keeper has, which said why. */
-_Noreturn static void end_with(struct world *world)
+int start(const struct plan *plan, const struct begun *begun, struct world *world)
 {
-    int status = end_world(world, false);
-    exit(status < 0 ? ENDS_FAULT : status);
-}
-
-void start(const struct plan *plan, struct world *world)
-{
-    int in[2], out[2], error[2], keeper[2], program[2];
-    make_input(plan, in);
-    NEEDS(pipe2(out, O_CLOEXEC));
-    NEEDS(pipe2(error, O_CLOEXEC));
-    NEEDS(socketpair(AF_UNIX, SOCK_STREAM | SOCK_CLOEXEC, 0, keeper));
-    NEEDS(socketpair(AF_UNIX, SOCK_STREAM | SOCK_CLOEXEC, 0, program));
-    NEEDS(world->keeper = fork());
+    int in[2], out[2], error[2], keeper[2], program[2], status;
+    if (pipe2(in, O_CLOEXEC) || pipe2(out, O_CLOEXEC) || pipe2(error, O_CLOEXEC) || socketpair(AF_UNIX, SOCK_STREAM | SOCK_CLOEXEC, 0, keeper)
+        || socketpair(AF_UNIX, SOCK_STREAM | SOCK_CLOEXEC, 0, program) || fcntl(in[1], F_SETFL, O_NONBLOCK) || (world->keeper = fork()) < 0)
+        unable("a start");
     if (!world->keeper) {
-        struct ends ends = {{in[0], out[1], error[1]}, program[1], -1, -1};
-        close_all((int[]){keeper[0], program[0], out[0], error[0]}, 4);
-        if (in[1] >= 0) close(in[1]);
+        struct ends ends = {{in[0], out[1], error[1]}, program[1], -1, -1, begun};
+        keep_only((int[]){in[0], out[1], error[1], program[1], keeper[1]}, 5);
         run_keeper(plan, &ends, keeper[1]);
     }
     close_all((int[]){keeper[1], program[1], in[0], out[1], error[1]}, 5);
+    if (!begun->has_input) close(in[1]), in[1] = -1;
     *world = (struct world){world->keeper, keeper[0], -1, in[1], {out[0], error[0]}, receive_descriptor(keeper[0])};
     if (world->scratch >= 0) world->listener = receive_descriptor(program[0]);
-    if (world->listener < 0) end_with(world);
-    NEEDS(write(program[0], "g", 1));
-    close(program[0]);
+    if (world->listener >= 0 && write(program[0], "g", 1) == 1) return close(program[0]), 0;
+    status = end_world(world, false);
+    return status > 0 ? status : ENDS_FAULT;
 }
 
 int end_world(struct world *world, bool is_killed)

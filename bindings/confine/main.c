@@ -2,9 +2,11 @@
 #define _GNU_SOURCE
 #include "confine.h"
 #include <errno.h>
+#include <fcntl.h>
 #include <signal.h>
 #include <stdlib.h>
 #include <string.h>
+#include <unistd.h>
 
 ENDS void fail(int status, const char *what)
 {
@@ -12,11 +14,28 @@ ENDS void fail(int status, const char *what)
     exit(status);
 }
 
+/* What is typed at a terminal is not for a program that has secrets. */
+static bool has_input(const struct plan *plan)
+{
+    if (fcntl(0, F_GETFD) < 0) return false;
+    if (!isatty(0) || !plan->secret_count) return true;
+    fputs("confine: what is typed here is not given to a program that has secrets\n", stderr);
+    return false;
+}
+
+static bool is_run(const char *word)
+{
+    const char *last = strrchr(word, '/');
+    return !strcmp(last ? last + 1 : word, RUN_NAME);
+}
+
 int main(int count, char **words)
 {
     static struct plan plan;
     static struct family family;
+    struct begun begun = {NULL, NULL, NULL, false};
     int status;
+    if (count && is_run(words[0])) return ask_run(count, words);
     signal(SIGPIPE, SIG_IGN);
     read_words(count, words, &plan);
     find_reports(&plan);
@@ -24,7 +43,9 @@ int main(int count, char **words)
     find_folders(&plan);
     make_objects(&plan);
     if (!is_born(&plan, &family)) refuse("the program's label is above its clearance");
-    start(&plan, &family.world);
+    begun.words = plan.program;
+    begun.has_input = has_input(&plan);
+    if ((status = start(&plan, &begun, &family.world))) return status;
     status = serve(&plan, &family);
     if (!write_dump(&plan)) fail(ENDS_FAULT, plan.dump);
     return status;

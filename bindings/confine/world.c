@@ -110,7 +110,7 @@ struct taken {
 };
 
 /* One of those things that each program finds, as it stands: a link stays a link. What isn't there is passed over. */
-static bool take(struct taken *taken, const char *path)
+static bool find(struct taken *taken, const char *path)
 {
     struct stat found;
     ssize_t length;
@@ -250,14 +250,25 @@ static void make_secret_place(const char *path)
     put_tree(tree_of(OWN "/nothing", READ_ONLY), path, true);
 }
 
+/* This program, which asks for starts in the world. */
+static int own_tree(void)
+{
+    char path[PATH_MAX];
+    ssize_t length = readlink("/proc/self/exe", path, sizeof path - 1);
+    if (length < 0) return -1;
+    path[length] = 0;
+    return tree_of(path, READ_ONLY);
+}
+
 void make_world(const struct plan *plan)
 {
     static struct taken taken[32];
-    int count = 0, folders[MOST_OPEN], secrets[MOST_SECRETS];
+    int count = 0, folders[MOST_OPEN], secrets[MOST_SECRETS], run;
     NEEDS(mount(NULL, "/", NULL, MS_REC | MS_PRIVATE, NULL));
-    for (const char *const *path = ALWAYS; *path; path++) count += take(&taken[count], *path);
+    for (const char *const *path = ALWAYS; *path; path++) count += find(&taken[count], *path);
     for (int i = 0; i < plan->open_count; i++) folders[i] = open_folder(plan->open[i]);
     for (int i = 0; i < plan->secret_count; i++) secrets[i] = open_folder(plan->secrets[i].path);
+    run = own_tree();
     NEEDS(mount("confine", BASE, "tmpfs", MS_NOSUID | MS_NODEV, "size=1m,mode=755"));
     make_own(plan);
     for (int i = 0; i < count; i++) put(&taken[i]);
@@ -269,6 +280,7 @@ void make_world(const struct plan *plan)
     for (int i = 0; i < plan->gate_count; i++) make_gate_place(&plan->gates[i]);
     for (int i = 0; i < plan->report_count; i++)
         if (report_trees[i] >= 0 && is_seen(plan, &plan->reports[i])) put_tree(report_trees[i], plan->reports[i].path, false);
+    if (run >= 0) put_tree(run, RUN_FOLDER "/" RUN_NAME, false);
     make_place("/proc", true);
 }
 
