@@ -264,8 +264,11 @@ void limit_numbers(int proc);
 
 /* ---- filter.c ---- */
 
-/* Leaves the process a list of system calls, and the descriptor by which others are asked; -1 where that fails. */
-int load_filter(void);
+/* Makes the filter, as a file; -1 where that fails. (It takes longer than all else of a start, and the world is made meanwhile.) */
+int make_filter(void);
+
+/* Leaves the process a list of system calls, and gives the descriptor by which others are asked; -1 with errno. */
+int load_filter(int made);
 
 /* ---- descriptors.c ---- */
 

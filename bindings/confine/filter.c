@@ -5,13 +5,18 @@
 #include "confine.h"
 #include <errno.h>
 #include <fcntl.h>
+#include <linux/bpf_common.h>
+#include <linux/filter.h>
+#include <linux/seccomp.h>
 #include <sched.h>
 #include <seccomp.h>
 #include <stddef.h>
 #include <sys/ioctl.h>
+#include <sys/mman.h>
 #include <sys/prctl.h>
 #include <sys/resource.h>
 #include <sys/socket.h>
+#include <sys/syscall.h>
 #include <unistd.h>
 
 /* Those that name a file: the broker is asked first, and the call then goes on in the program's world. */
@@ -129,16 +134,23 @@ static int add_some(scmp_filter_ctx filter)
     return failed;
 }
 
-int load_filter(void)
+int make_filter(void)
 {
     scmp_filter_ctx filter = seccomp_init(SCMP_ACT_ERRNO(ENOSYS));
-    int listener = -1;
-    if (!filter) return -1;
-    if (!add_all(filter, SCMP_ACT_NOTIFY, ASKED) && !add_all(filter, SCMP_ACT_ALLOW, FILES)
-        && !add_all(filter, SCMP_ACT_ALLOW, PROCESSES) && !add_all(filter, SCMP_ACT_ALLOW, MEMORY_AND_TIME)
-        && !add_some(filter) && !seccomp_attr_set(filter, SCMP_FLTATR_ACT_BADARCH, SCMP_ACT_ERRNO(ENOSYS))
-        && !seccomp_load(filter))
-        listener = dup(seccomp_notify_fd(filter));
-    seccomp_release(filter);
-    return listener;
+    int made = memfd_create("filter", MFD_CLOEXEC);
+    bool is_made = filter && made >= 0 && !add_all(filter, SCMP_ACT_NOTIFY, ASKED) && !add_all(filter, SCMP_ACT_ALLOW, FILES)
+        && !add_all(filter, SCMP_ACT_ALLOW, PROCESSES) && !add_all(filter, SCMP_ACT_ALLOW, MEMORY_AND_TIME) && !add_some(filter)
+        && !seccomp_attr_set(filter, SCMP_FLTATR_ACT_BADARCH, SCMP_ACT_ERRNO(ENOSYS)) && !seccomp_export_bpf(filter, made);
+    if (filter) seccomp_release(filter);
+    if (is_made) return made;
+    if (made >= 0) close(made);
+    return -1;
+}
+
+int load_filter(int made)
+{
+    static struct sock_filter steps[BPF_MAXINSNS];
+    ssize_t size = pread(made, steps, sizeof steps, 0);
+    struct sock_fprog filter = {(unsigned short)((size_t)(size < 0 ? 0 : size) / sizeof *steps), steps};
+    return size < 0 ? -1 : (int)syscall(SYS_seccomp, SECCOMP_SET_MODE_FILTER, SECCOMP_FILTER_FLAG_NEW_LISTENER, &filter);
 }

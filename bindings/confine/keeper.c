@@ -67,7 +67,7 @@ _Noreturn static void become_program(const struct ends *ends)
 {
     const struct begun *begun = ends->begun;
     char may_go;
-    int listener, error;
+    int listener, error, filter;
     raise_walls();
     NEEDS(dup2(ends->streams[0], 0));
     NEEDS(dup2(ends->streams[1], 1));
@@ -78,8 +78,9 @@ _Noreturn static void become_program(const struct ends *ends)
     NEEDS(close_range(5, ~0U, 0));
     setsid();
     signal(SIGPIPE, SIG_DFL);
-    if ((listener = load_filter()) < 0) unable("seccomp's notifications");
-    if (!send_descriptor(3, listener) || close(listener) || read(3, &may_go, 1) != 1) _exit(ENDS_FAULT);
+    if ((filter = receive_descriptor(3)) < 0) _exit(ENDS_FAULT);
+    if ((listener = load_filter(filter)) < 0) unable("seccomp's notifications");
+    if (close(filter) || !send_descriptor(3, listener) || close(listener) || read(3, &may_go, 1) != 1) _exit(ENDS_FAULT);
     if (dup2(4, 2) < 0 || close(4)) _exit(ENDS_FAULT);
     if (begun->environment) environ = begun->environment;
     add_run();
@@ -178,6 +179,7 @@ static void keep_only(const int *files, int count)
 
 int start(const struct plan *plan, const struct begun *begun, struct world *world)
 {
+    static int filter = -1;
     int in[2], out[2], error[2], keeper[2], program[2], status;
     if (pipe2(in, O_CLOEXEC) || pipe2(out, O_CLOEXEC) || pipe2(error, O_CLOEXEC) || socketpair(AF_UNIX, SOCK_STREAM | SOCK_CLOEXEC, 0, keeper)
         || socketpair(AF_UNIX, SOCK_STREAM | SOCK_CLOEXEC, 0, program) || fcntl(in[1], F_SETFL, O_NONBLOCK) || (world->keeper = fork()) < 0)
@@ -189,8 +191,9 @@ int start(const struct plan *plan, const struct begun *begun, struct world *worl
     }
     close_all((int[]){keeper[1], program[1], in[0], out[1], error[1]}, 5);
     if (!begun->has_input) close(in[1]), in[1] = -1;
+    if (filter < 0 && (filter = make_filter()) < 0) unable("seccomp's filters");
     *world = (struct world){world->keeper, keeper[0], -1, in[1], {out[0], error[0]}, receive_descriptor(keeper[0])};
-    if (world->scratch >= 0) world->listener = receive_descriptor(program[0]);
+    if (world->scratch >= 0 && send_descriptor(program[0], filter)) world->listener = receive_descriptor(program[0]);
     if (world->listener >= 0 && write(program[0], "g", 1) == 1) return close(program[0]), 0;
     status = end_world(world, false);
     return status > 0 ? status : ENDS_FAULT;
