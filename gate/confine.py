@@ -10,7 +10,7 @@ import subprocess
 import tempfile
 import time
 
-from gate import confine_attacks
+from gate import confine_attacks, confine_programs
 from gate.confine_scenes import BY_POLICY, ONE, POLICY_SCENES, PUBLIC, SCENES, SECOND, SECRET, TWO, Scene
 from gate.confine_seen import Watched
 from gate.report import Report
@@ -376,6 +376,7 @@ def try_all(report, library, auditor, is_long=False):
         for call in NEEDED:
             report.counts(says_it_lacks(f"{tried.room}/lacking", call), f"confine: a machine without the call {call}: it says so, and starts nothing")
         try_scenes(report, room, auditor, tried.scenes(is_long))
+    confine_programs.try_all(report)
 
 
 if __name__ == "__main__":

@@ -286,7 +286,8 @@ static int serve_all(struct plan *plan, struct family *family)
     struct world *world = &family->world;
     struct stream input = stream_of(world->input < 0 ? -1 : fcntl(0, F_DUPFD_CLOEXEC, 3), world->input);
     struct signalfd_siginfo end = {0};
-    struct pollfd all[OWN + MOST_WAITS_OF_STARTS] = {{world->printed[0], POLLIN, 0}, {world->printed[1], POLLIN, 0}, {world->listener, POLLIN, 0}, {ends_of(), POLLIN, 0}};
+    struct pollfd all[OWN + MOST_WAITS_OF_STARTS] = {
+        {world->printed[0], POLLIN, 0}, {world->printed[1], POLLIN, 0}, {world->listener, POLLIN, 0}, {ends_of(), POLLIN, 0}};
     for (;;) {
         int more = list_starts(all + OWN), soon = end_waits();
         if (all[PRINTED].fd < 0 && all[ERRORS].fd < 0 && all[CALLS].fd < 0 && are_starts_done()) return 0;
