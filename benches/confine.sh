@@ -1,7 +1,7 @@
 #!/usr/bin/env bash
 # How long a program takes in confine, by itself, and in bubblewrap, in one run: the middle of nine times, in milliseconds. It
-# needs out/confine (bindings/confine/build.sh), bubblewrap and a C compiler. The files are made anew: a thousand texts of 64 KB,
-# and one of C with a thousand functions.
+# needs out/confine (bindings/confine/build.sh), bubblewrap, git and a C compiler. The files are made anew: a thousand texts of 8 KB
+# and of 64 KB, a repository and an archive of those of 8 KB, and one of C with a thousand functions.
 set -eu
 cd "$(dirname "$0")/.."
 [ -x out/confine ] || { echo 'benches/confine.sh: out/confine is missing: run ./lib and bindings/confine/build.sh' >&2; exit 69; }
@@ -19,22 +19,37 @@ import time
 
 room = sys.argv[1]
 drawn = random.Random(7)
-os.makedirs(f"{room}/texts")
 words = ["".join(drawn.choice("abcdefghijklmnopqrstuvwxyz") for _ in range(drawn.randrange(2, 9))) for _ in range(2_000)]
-for name in range(1_000):
-    text = " ".join(drawn.choice(words) for _ in range(12_000))[: 64 << 10]
-    with open(f"{room}/texts/{name:04}", "w", encoding="utf-8") as it:
-        it.write("\n".join(text[at : at + 80] for at in range(0, len(text), 80)))
+
+
+def make_texts(folder, size):
+    os.makedirs(folder)
+    for name in range(1_000):
+        text = " ".join(drawn.choice(words) for _ in range(size // 5))[:size]
+        with open(f"{folder}/{name:04}", "w", encoding="utf-8") as it:
+            it.write("\n".join(text[at : at + 80] for at in range(0, len(text), 80)))
+
+
+make_texts(f"{room}/texts", 64 << 10)
+make_texts(f"{room}/small", 8 << 10)
+os.makedirs(f"{room}/packed")
+subprocess.run(["tar", "cf", f"{room}/packed/small.tar", "-C", room, "small"], check=True)
+for it in (["init", "-q"], ["add", "."], ["-c", "user.name=a", "-c", "user.email=a@b", "commit", "-qm", "one"], ["status"]):
+    subprocess.run(["git", "-C", f"{room}/small", *it], check=True, stdout=subprocess.DEVNULL)
 os.makedirs(f"{room}/source")
 with open(f"{room}/source/many.c", "w", encoding="utf-8") as it:
     it.writelines(f"int f{at}(int a, int b)\n{{\n    int c = a * {at} + b;\n    for (int i = 0; i < c; i++) c += i ^ b;\n    return c;\n}}\n" for at in range(1_000))
 
 BWRAP = ["bwrap", "--ro-bind", "/usr", "/usr", "--symlink", "usr/bin", "/bin", "--symlink", "usr/lib", "/lib", "--symlink", "usr/lib64", "/lib64",
          "--ro-bind", "/etc/alternatives", "/etc/alternatives", "--dev", "/dev", "--tmpfs", "/tmp", "--unshare-all", "--bind", room, room]
-CONFINE = ["out/confine", "--secret", f"{room}/texts", "--secret", f"{room}/source", "--report", f"{room}/found", "--"]
+SECRETS = [it for name in ("texts", "source", "small", "packed") for it in ("--secret", f"{room}/{name}")]
+CONFINE = ["out/confine", *SECRETS, "--report", f"{room}/found", "--"]
 ROWS = (
     ("a start", "true"),
-    ("grep -r for a word", f"grep -rl zymurgy {room}/texts"),
+    ("grep -r in a thousand files of 8 KB", f"grep -rl zymurgy {room}/small"),
+    ("git status of a thousand files", f"git -C {room}/small status"),
+    ("untar of a thousand files", f"d=$(mktemp -d {{own}}/XXXXXX) && tar xf {room}/packed/small.tar -C $d"),
+    ("grep -r for a word in files of 64 KB", f"grep -rl zymurgy {room}/texts"),
     ("grep -riE for two words", f"grep -riE 'zymurgy|quixotry' {room}/texts"),
     ("gcc -O2 of a thousand functions", f"gcc -O2 -c {room}/source/many.c -o /tmp/many.o"),
 )
@@ -49,9 +64,8 @@ def took(words):
 print("| Program | By itself, ms | In bubblewrap | In confine | Ratio |")
 print("|---|---|---|---|---|")
 for name, command in ROWS:
-    shell = ["sh", "-c", command]
-    kinds = ([], BWRAP, CONFINE)
-    times = [[took([*it, *shell]) for it in kinds] for _ in range(10)][1:]
+    kinds = (([], room), (BWRAP, room), (CONFINE, "/tmp"))
+    times = [[took([*it, "sh", "-c", command.replace("{own}", own)]) for it, own in kinds] for _ in range(10)][1:]
     alone, walled, confined = (statistics.median(it[kind] for it in times) for kind in range(3))
     print(f"| {name} | {alone:.1f} | {walled:.1f} | {confined:.1f} | {confined / alone:.2f} |")
 PROGRAM

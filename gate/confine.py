@@ -1,5 +1,6 @@
 """confine: programs that try to send a secret on. Each scene is a program in a sandbox of its own, with what it may print and
-write; a scene with a secret in it fails where a byte of the secret is seen outside.
+write; a scene with a secret in it fails where a byte of the secret is seen outside. An attack is also played without confine, where it
+has to be seen: a scene that can't fail says nothing. All are played as root and as an ordinary user, where root plays them.
 
 Where a machine lacks what confine needs (libseccomp's headers, user namespaces, Landlock), all is left out, with a line."""
 import os
@@ -9,203 +10,22 @@ import subprocess
 import tempfile
 import time
 
+from gate import confine_attacks, confine_programs
+from gate.confine_scenes import BY_POLICY, ONE, POLICY_SCENES, PUBLIC, SCENES, SECOND, SECRET, TWO, Scene
+from gate.confine_seen import Watched
 from gate.report import Report
 
 CONFINE = "out/confine"
-SECRET = "the-secret-key"
-SECOND = "the-other-key"
-PUBLIC = "for-everyone"
 UNABLE = 69
+ATTACKS = (*confine_attacks.REPORTS, *confine_attacks.INODES, *confine_attacks.MEANS, *confine_attacks.HELD, *confine_attacks.LABELS, *confine_attacks.STARTS)
 
+# An ordinary user's number, as which root plays scenes too.
+NOBODY = 65534
+AS_NOBODY = ["setpriv", "--reuid", str(NOBODY), "--regid", str(NOBODY), "--clear-groups"]
 
-class Scene:
-    """A program, and what it leaves: what it prints and its status, which may be any where there is None, its reports, and
-    how confine's last line ends, where that is asked."""
-
-    def __init__(self, name, program, printed="", report="", second="", open="", status=0, words=None, stdin=None, policy="", told=None):
-        self.name = name
-        self.program = program
-        self.printed = printed
-        self.report = report
-        self.second = second
-        self.open = open
-        self.status = status
-        self.words = words
-        self.stdin = stdin
-        self.policy = policy
-        self.told = told
-
-
-# $S, $T: the secret folders; $R, $U: their reports; $Q: a report of no secret; $P: a public folder; $O: a folder of the user's
-# that nobody named.
-ONE = ["--secret", "$S", "--report", "$R", "--public", "$P"]
-TWO = ["--secret", "$S", "--report", "$R", "--secret", "$T", "--report", "$U", "--public", "$P"]
-OPEN = ["--report", "$Q", "--secret", "$S", "--report", "$R", "--public", "$P"]
-READ = "k=$(cat $S/key); "
-
-SCENES = (
-    # What a program may do.
-    Scene("prints before it reads", "echo hello", printed="hello\n"),
-    Scene("tells its status before it reads", "exit 7", status=7),
-    Scene("prints to its standard error before it reads", "echo hello >&2", printed=""),
-    Scene("reads what is public", "cat $P/text", printed=PUBLIC + "\n"),
-    Scene("reads a secret and writes its report", READ + "echo $k > $R", report=SECRET + "\n"),
-    Scene("writes its report from the start", "echo begun > $R; cat $S/key >> $R", report=f"begun\n{SECRET}\n"),
-    Scene("counts the files of a secret", "ls $S | wc -l > $R", report="1\n"),
-    Scene("uses a folder of its own", "cat $S/key > /tmp/copy; cp /tmp/copy /tmp/more; cat /tmp/more > $R", report=SECRET + "\n"),
-    Scene("reads a secret by a child", "(cat $S/key) | cat > $R", report=SECRET + "\n"),
-    Scene("reads a secret by a relative path", "cd $S/..; cat secret/key > $R", report=SECRET + "\n"),
-    Scene("reads a secret by a path with dots", "cat $S/./../secret//key > $R", report=SECRET + "\n"),
-    Scene("reads two secrets apart", "cat $T/key > $U", second=SECOND + "\n", words=TWO),
-    Scene("reads its standard input", "cat", printed="typed\n", stdin="typed\n"),
-    Scene("reads much of its standard input", "wc -c", printed="1000000\n", stdin="x" * 1_000_000),
-    Scene("leaves its standard input unread", "echo done", printed="done\n", stdin="x" * 1_000_000),
-    Scene("writes a report of no secret", "echo done > $Q", open="done\n", words=OPEN),
-    # What it may not.
-    Scene("reads and prints", READ + "echo $k"),
-    Scene("reads and prints as an error", READ + "echo $k >&2"),
-    Scene("prints what it had begun to print", "printf begun; cat $S/key", printed="begun"),
-    Scene("tells by its status", READ + "exit ${#k}"),
-    Scene("tells by a signal that ends it", READ + "kill -9 $$"),
-    Scene("reads by a child, and the parent prints", "k=$(sh -c 'cat '$S/key); echo $k"),
-    Scene("reads by a pipe", "cat $S/key | (read k; echo $k)"),
-    Scene("reads by a socket pair", "perl -MSocket -e 'socketpair(A,B,AF_UNIX,SOCK_STREAM,0); open(F,\"<\",\"'$S'/key\"); print A <F>; close A; print <B>'"),
-    Scene("reads by a descriptor that it hands to a child", "exec 5< $S/key; sh -c 'cat <&5'"),
-    Scene("maps it and prints", "perl -e 'open(F,\"<\",\"'$S'/key\"); my $r=syscall(9,0,4096,1,2,fileno(F),0); print unpack(\"P14\",pack(\"Q\",$r))'"),
-    Scene("sends it by sendfile", "perl -e 'open(F,\"<\",\"'$S'/key\"); syscall(40,1,fileno(F),0,100)'"),
-    Scene("sends it by splice", "perl -e 'open(F,\"<\",\"'$S'/key\"); syscall(275,fileno(F),0,1,0,100,0)'"),
-    Scene("sends it by copy_file_range", "perl -e 'open(F,\"<\",\"'$S'/key\"); open(G,\">\",\"'$P'/text\"); syscall(326,fileno(F),0,fileno(G),0,100,0)'"),
-    Scene("writes it to what is public", READ + "echo $k > $P/text"),
-    Scene("writes it into a pipe with a name in what is public", READ + "echo $k > $P/pipe"),
-    Scene("makes a file in what is public", READ + "echo $k > $P/new"),
-    Scene("writes it back into the secret", READ + "echo $k > $S/key; echo $k > $S/new"),
-    Scene("makes a folder in the secret by name", READ + "mkdir $S/$k"),
-    Scene("takes a name away in the secret", "rm -f $S/key; mv $S/key $S/gone"),
-    Scene("tells by the time of a public file", READ + "touch -d @14 $P/text"),
-    Scene("tells by the rights of a public file", READ + "chmod 777 $P/text"),
-    Scene("links a secret to what is public", "ln $S/key $P/link; ln -s $S/key $P/link"),
-    Scene("links a secret to its own folder and prints", "ln -s $S/key /tmp/link; cat $S/key > /dev/null; cat /tmp/link"),
-    Scene("renames a secret to its own folder", "mv $S/key /tmp/key; cat /tmp/key"),
-    Scene("reads a folder that nobody named", "cat $O/own 2>/dev/null || echo no", printed="no\n"),
-    Scene("goes up from a secret", "cat $S/../own/own; ls $S/.. | grep -c own > $R", report="0\n"),
-    Scene("reads by /proc", "cat /proc/self/environ /proc/1/environ 2>/dev/null || echo no", printed="no\n"),
-    Scene("reads the environment of the broker", "ls /proc 2>/dev/null; echo none", printed="none\n"),
-    Scene("reads a home folder", "ls /root /home 2>/dev/null; echo none", printed="none\n"),
-    Scene("opens a terminal", "echo x > /dev/tty; ls /dev/pts; echo none", printed="none\n"),
-    Scene("listens and connects", "perl -MSocket -e 'print socket(S,PF_INET,SOCK_STREAM,0) ? 1 : 0'", printed="0"),
-    Scene("uses an abstract socket", "perl -MSocket -e 'print socket(S,PF_UNIX,SOCK_STREAM,0) ? 1 : 0'", printed="0"),
-    Scene("sends a packet", "perl -MSocket -e 'print socket(S,PF_INET,SOCK_DGRAM,17) ? 1 : 0'", printed="0"),
-    Scene("traces another process", "perl -e 'print syscall(101,16,1,0,0) < 0 ? 0 : 1'", printed="0"),
-    Scene("reads another process's memory", "perl -e 'print syscall(310,1,0,0,0,0,0) < 0 ? 0 : 1'", printed="0"),
-    Scene("signals the broker", "kill -9 -1; kill -9 1; echo alive", printed="alive\n", status=None),
-    Scene("uses io_uring", "perl -e 'print syscall(425,1,0) < 0 ? 0 : 1'", printed="0"),
-    Scene("uses shared memory", "perl -e 'print syscall(29,7,4096,0666|01000) < 0 ? 0 : 1'", printed="0"),
-    Scene("uses a queue of messages", "perl -e 'print syscall(68,7,0666|01000) < 0 ? 0 : 1'", printed="0"),
-    Scene("uses a keyring", "perl -e 'print syscall(250,0,-3,1) < 0 ? 0 : 1'", printed="0"),
-    Scene("makes a namespace", "unshare -U true; echo $?", printed="1\n"),
-    Scene("mounts", "perl -e 'my $a=\"none\"; my $b=\"/tmp\"; my $c=\"tmpfs\"; print syscall(165,$a,$b,$c,0,0) < 0 ? 0 : 1'", printed="0"),
-    Scene("loads a program into the machine's kernel", "perl -e 'print syscall(321,0,0,0) < 0 ? 0 : 1'", printed="0"),
-    Scene("opens by a handle", "perl -e 'print syscall(304,0,0,0) < 0 ? 0 : 1'", printed="0"),
-    Scene("opens by openat2", "perl -e 'my $p=\"/tmp\"; my $h=pack(\"QQQ\",0,0,0); print syscall(437,-100,$p,$h,24) < 0 ? 0 : 1'", printed="0"),
-    Scene("takes a descriptor of another process", "perl -e 'print syscall(438,0,0,0) < 0 ? 0 : 1'", printed="0"),
-    Scene("leaves its root", "perl -e 'print chroot(\"/tmp\") ? 1 : 0'", printed="0"),
-    Scene("makes a device", "perl -e 'my $p=\"/tmp/d\"; print syscall(133,$p,0020666,5) < 0 ? 0 : 1'", printed="0"),
-    Scene("puts typed characters into a terminal", "perl -e 'my $c=\"x\"; print ioctl(STDIN,0x5412,$c) ? 1 : 0'", printed="0"),
-    Scene("leaves a process behind", READ + "(sleep 60; echo $k) & exit 0"),
-    Scene("reads one secret and writes the other's report", READ + "echo $k > $U", words=TWO),
-    Scene("reads both and writes either report", READ + "cat $T/key; echo $k > $R; echo $k > $U", words=TWO),
-    Scene("holds a report of no secret and reads", "exec 5> $Q; cat $S/key >&5; echo refused >&5", open="refused\n", words=OPEN),
-    Scene("holds one report and reads the other secret", "exec 5> $R; cat $T/key >&5; echo refused >&5", report="refused\n", words=TWO),
-    Scene("reads a report back", "echo kept > $R; cat $R >> $R; echo none >> $R", report="kept\nnone\n"),
-    Scene("writes its report and then prints", "echo kept > $R; echo hello", report="kept\n"),
-    Scene("writes a report by a link", "ln -s $R /tmp/link; (echo x > /tmp/link) 2>/dev/null; echo $?", printed="2\n"),
-    Scene("is born with the secrets and prints", "echo hello; cat $S/key", words=ONE + ["--born-tainted"]),
-    Scene("is born with the secrets and writes its report", "cat $S/key > $R", report=SECRET + "\n", words=ONE + ["--born-tainted"]),
-    Scene("tells by names that confine explains", READ + "cat $S/$k $T/$k; echo > $U/$k; echo > $R.$k; echo > $U", words=TWO + ["--explain"]),
-    Scene("starts processes without end", "perl -e 'for (1..3000) { $p = fork; last if !defined $p; if (!$p) { sleep 60; exit } $n++ } print $n <= 512 ? 0 : $n'", printed="0"),
-    Scene("is not there", None, status=127, printed=""),
-)
-
-# A policy of two categories, with what it says of the program and of gates left open. The second report may have both secrets.
-POLICY = """
-categories = ["first", "second"]
-public = ["public"]
-read = [{folder = "secret", label = {first = 3}}, {folder = "second", label = {second = 3}}]
-write = [{file = "report", label = {first = 3}}, {file = "report2", label = {first = 3, second = 3}}, {file = "open"}]
-"""
-GATES = (
-    POLICY
-    + """
-[[gate]]
-name = "count"
-program = ["wc", "-c"]
-owns = ["first"]
-
-[[gate]]
-name = "lines"
-program = ["wc", "-l"]
-owns = ["first"]
-file = "open"
-
-[[gate]]
-name = "broken"
-program = ["/no/such/program"]
-owns = ["first"]
-"""
-)
-BY_POLICY = ["--policy", "$F"]
-EXPLAINED = [*BY_POLICY, "--explain"]
-COUNT = f"{len(SECRET) + 1}\n"
-READ_OTHER = "j=$(cat $T/key); "
-
-POLICY_SCENES = (
-    Scene("has a policy and writes a report", READ + "echo $k > $R", report=SECRET + "\n", policy=POLICY),
-    Scene("has a policy and prints", READ + "echo $k", policy=POLICY),
-    Scene("has a policy and reads what is public", "cat $P/text", printed=PUBLIC + "\n", policy=POLICY),
-    Scene("writes a report of two secrets", READ + READ_OTHER + "echo $k $j > $U", second=f"{SECRET} {SECOND}\n", policy=POLICY),
-    Scene("writes one secret to the report of both", READ_OTHER + "echo $j > $U", second=SECOND + "\n", policy=POLICY),
-    Scene("writes both secrets to the report of one", READ + READ_OTHER + "echo $k $j > $R", policy=POLICY),
-    Scene("writes the report of both and then that of one", "echo x > $U; echo y > $R", second="x\n", policy=POLICY),
-    Scene("is cleared for one secret and reads it", READ + "echo $k > $R", report=SECRET + "\n", policy=POLICY + "program = {clearance = {second = 2}}\n"),
-    Scene(
-        "is cleared for one secret and reads the other",
-        READ_OTHER + "echo $j > $U; echo hello",
-        policy=POLICY + "program = {clearance = {second = 2}}\n",
-        printed="hello\n",
-        words=EXPLAINED,
-        told=" in the category of second it is at 3, and the program's clearance at 2",
-    ),
-    Scene("begins at a secret's label and prints", "echo hello", policy=POLICY + "program = {label = {first = 3}}\n"),
-    Scene("begins at a secret's label and writes its report", "cat $S/key > $R", report=SECRET + "\n", policy=POLICY + "program = {label = {first = 3}}\n"),
-    Scene("writes what only a lower label may", "echo x > $Q", policy=POLICY.replace('{file = "open"}', '{file = "open", label = {first = 0}}'), status=2),
-    Scene("tells by a gate how long a secret is", "cat $S/key | cat > /gate/count", printed=COUNT, policy=GATES),
-    Scene("tells by a gate and prints as well", READ + "echo $k; echo $k > /gate/count; echo $k", printed=COUNT, policy=GATES),
-    Scene("tells by a gate that writes a file", "cat $S/key > /gate/lines", open="1\n", policy=GATES),
-    Scene("goes through a gate twice", READ + "echo $k >> /gate/lines; echo $k > /gate/lines", open="1\n1\n", policy=GATES),
-    Scene("begins a gate and fills it later", "exec 5> /gate/count; cat $S/key >&5", printed=COUNT, policy=GATES),
-    Scene("goes through a gate with another's secret", READ_OTHER + "echo $j > /gate/count", policy=GATES),
-    Scene(
-        "goes through a gate with both secrets",
-        READ + READ_OTHER + "echo $k > /gate/count",
-        policy=GATES,
-        words=EXPLAINED,
-        told="refused to enter the gate count: in the category of second the program is at 3, and it at 1",
-    ),
-    Scene(
-        "holds a gate and reads another's secret",
-        "exec 5> /gate/count; cat $T/key >&5; echo refused >&5",
-        printed="8\n",
-        policy=GATES,
-        words=EXPLAINED,
-        told="second: the program was given count to write",
-    ),
-    Scene("reads a gate", "cat /gate/count; ls /gate", printed="broken\ncount\nlines\n", policy=GATES),
-    Scene("reads back from a gate", "(exec 5<> /gate/count) 2>/dev/null || echo none", printed="none\n", policy=GATES),
-    Scene("makes a gate of its own", "echo x > /gate/more; ls /gate | wc -l", printed="3\n", policy=GATES),
-    Scene("takes a gate for a folder", "echo x > /gate/count/x; echo x > /gate/../gate/count", printed="2\n", policy=GATES),
-    Scene("tells by a gate whose program isn't there", "echo x > /gate/broken", policy=GATES, told="the gate broken failed", status=None),
-    Scene("leaves a gate open behind", "sleep 60 > /gate/count & sleep 0.3; exit 0", printed="0\n", policy=GATES),
-)
+# A program that adds a line to its report once it has come to its end, and ends as it ended.
+NOTING = 'sh -c "$PROGRAM"; s=$?; echo ended >> "$R"; exit $s'
+NOTE = "ended\n"
 
 
 def built(report, library):
@@ -224,44 +44,65 @@ class Tried:
 
     def __init__(self, room):
         self.room = f"{room}/tried"
-        os.makedirs(self.room)
-        for it in ("swap", "paths"):
+        os.makedirs(self.room, exist_ok=True)
+        for it in ("swap", "paths", "asks", "lacking"):
             words = ["cc", "-O2", "-Wall", "-Wextra", "-Werror", "-pthread", f"bindings/confine/tried/{it}.c", "-o", f"{self.room}/{it}"]
             subprocess.run(words, check=True)
 
     def scenes(self, is_long):
         words = [*TWO, "--public", self.room]
-        swaps, paths = (10_000, 1_000_000) if is_long else (1_000, 20_000)
+        swaps, paths, asks = (10_000, 1_000_000, 1_000) if is_long else (1_000, 20_000, 100)
         yield Scene("changes a path while the broker looks at it", f"{self.room}/swap $P/text $S/key {swaps} > /tmp/seen", words=words, status=None)
         yield Scene("changes a path and prints what it reads", f"{self.room}/swap $P/none $S/key {swaps}", words=words)
         yield Scene("changes a path and prints all", f"{self.room}/swap $P/text $S/key {swaps}", printed=None, words=words, status=None)
+        yield Scene("asks for starts by drawn bytes", f"{self.room}/asks {asks} 1", printed="done\n", words=words)
         yield Scene("names files by drawn paths", f"{self.room}/paths {paths} 1", printed="done\n", words=words)
 
 
 class Rooms:
-    """The folders and files of a scene, made anew."""
+    """The folders and files of a scene, made anew, for a user."""
 
-    def __init__(self, room):
-        self.names = {"S": "secret", "T": "second", "P": "public", "O": "own", "R": "report", "U": "report2", "Q": "open", "F": "policy"}
-        self.paths = {name: f"{room}/{path}" for name, path in self.names.items()}
-        shutil.rmtree(room, ignore_errors=True)
-        for name in "STPO":
+    def __init__(self, room, user=0):
+        self.names = {"S": "secret", "T": "second", "P": "public", "O": "own", "R": "report", "U": "report2", "Q": "open", "F": "policy", "H": ""}
+        self.paths = {name: f"{room}/{path}".rstrip("/") for name, path in self.names.items()}
+        self.paths["M"] = f"/tmp/{os.path.basename(os.path.dirname(room))}"
+        self.user = user
+        for it in (room, self.paths["M"]):
+            shutil.rmtree(it, ignore_errors=True)
+        for name in "STPOM":
             os.makedirs(self.paths[name])
         self.put("S", "key", SECRET)
         self.put("T", "key", SECOND)
         self.put("P", "text", PUBLIC)
         self.put("O", "own", "own")
-        os.mkfifo(f"{self.paths['P']}/pipe")
-        self.reader = os.open(f"{self.paths['P']}/pipe", os.O_RDONLY | os.O_NONBLOCK)
+        for name in "PM":
+            os.mkfifo(f"{self.paths[name]}/pipe")
+        for name in "RUQ":
+            os.close(os.open(self.paths[name], os.O_CREAT | os.O_WRONLY, 0o600))
+        self.give()
+        self.readers = [os.open(f"{self.paths[name]}/pipe", os.O_RDONLY | os.O_NONBLOCK) for name in "PM"]
+        self.piped = ""
 
-    def piped(self):
-        """What came out of the pipe, which is closed then."""
-        try:
-            return os.read(self.reader, 4096).decode(errors="replace")
-        except BlockingIOError:
-            return ""
-        finally:
-            os.close(self.reader)
+    def give(self):
+        """All of it is the user's."""
+        for top in (self.paths["H"], self.paths["M"]):
+            for path, _, files in os.walk(top):
+                for it in ("", *files):
+                    os.chown(os.path.join(path, it), self.user, self.user, follow_symlinks=False)
+
+    def pipes(self):
+        """What came out of the pipes so far."""
+        for it in self.readers:
+            try:
+                self.piped += os.read(it, 4096).decode(errors="replace")
+            except BlockingIOError:
+                pass
+        return self.piped
+
+    def end(self):
+        for it in self.readers:
+            os.close(it)
+        shutil.rmtree(self.paths["M"], ignore_errors=True)
 
     def put(self, name, file, text):
         with open(f"{self.paths[name]}/{file}", "w") as it:
@@ -282,38 +123,72 @@ class Rooms:
 
     def seen(self):
         """All that is left outside the reports of secrets and the secrets themselves, names too."""
-        left = [self.read("Q"), self.piped()]
-        for name in "PO":
+        left = [self.read("Q"), self.pipes()]
+        for name in "POM":
             for path, _, files in os.walk(self.paths[name]):
                 for it in files:
-                    left.append(it + ("" if it == "pipe" else self.read(name, os.path.relpath(f"{path}/{it}", self.paths[name]))))
+                    left.append(it + self.read(name, os.path.relpath(f"{path}/{it}", self.paths[name])))
         return "".join(left)
 
 
-def played(room, scene):
-    """What is wrong with how a scene ended, or nothing."""
-    rooms = Rooms(room)
-    with open(rooms.paths["F"], "w", encoding="utf-8") as it:
-        it.write(scene.policy)
-    program = ["/bin/sh", "-c", scene.program] if scene.program is not None else ["/no/such/program"]
-    words = [CONFINE, *rooms.words(scene.words or (BY_POLICY if scene.policy else ONE)), "--audit", f"{room}/dump", "--", *program]
-    how = {"stdout": subprocess.PIPE, "stderr": subprocess.PIPE, "text": True, "errors": "replace", "timeout": 600}
-    done = subprocess.run(words, input=scene.stdin, env={**os.environ, **rooms.paths}, **how)
-    wrong = []
-    if scene.printed is not None and done.stdout != scene.printed:
-        wrong.append(f"printed {done.stdout!r}")
-    if scene.status is not None and done.returncode != scene.status:
-        wrong.append(f"status {done.returncode} {done.stderr}")
-    if (rooms.read("R"), rooms.read("U"), rooms.read("Q")) != (scene.report, scene.second, scene.open):
-        wrong.append(f"reports {rooms.read('R')!r} {rooms.read('U')!r} {rooms.read('Q')!r}")
-    if scene.told is not None and not any(it.startswith("confine: ") and it.endswith(scene.told) for it in done.stderr.splitlines()):
-        wrong.append(f"told {done.stderr!r}")
-    seen = done.stdout + done.stderr + rooms.seen()
-    if SECRET in seen or SECOND in seen:
-        wrong.append("a secret got out")
-    if not rooms.is_secret_whole():
-        wrong.append("a secret was changed")
-    return wrong
+class Play:
+    """A scene as a user plays it, in a room, with confine or without."""
+
+    def __init__(self, confine, room, scene, user):
+        self.confine, self.room, self.scene, self.user = confine, room, scene, user
+        self.rooms = Rooms(room, user)
+        with open(self.rooms.paths["F"], "w", encoding="utf-8") as it:
+            it.write(scene.policy)
+        self.watched = Watched(self.rooms)
+
+    def program(self):
+        if self.scene.program is None:
+            return ["/no/such/program"]
+        return ["/bin/sh", "-c", NOTING if self.scene.leaks else self.scene.program]
+
+    def words(self):
+        words = self.rooms.words(self.scene.words or (BY_POLICY if self.scene.policy else ONE))
+        return [self.confine, *words, "--audit", f"{self.room}/dump", "--", *self.program()] if self.confine else self.program()
+
+    def run(self, watched):
+        as_user = AS_NOBODY if self.user and not os.getuid() else []
+        env = {**os.environ, **self.rooms.paths, "PROGRAM": self.scene.program or ""}
+        how = {"stdout": subprocess.PIPE, "stderr": subprocess.PIPE, "text": True, "errors": "replace", "timeout": 300}
+        self.done = subprocess.run([*as_user, *self.words()], input=self.scene.stdin, env=env, cwd=self.room, **how)
+        watched.said, watched.status = self.done.stdout + self.done.stderr, self.done.returncode
+
+    def seen(self):
+        """By which ways the secret is seen: as text, and as the scene leaks it."""
+        try:
+            return self.watched.during(self.run, {"text", self.scene.leaks} - {None})
+        finally:
+            self.watched.end()
+
+    def reports(self):
+        return tuple(self.rooms.read(it) for it in "RUQ")
+
+    def wrong(self):
+        """What is wrong with how a scene ended in confine, or nothing."""
+        scene, seen, wrong = self.scene, self.seen(), []
+        if scene.printed is not None and self.done.stdout != scene.printed:
+            wrong.append(f"printed {self.done.stdout!r}")
+        if scene.status is not None and self.done.returncode != scene.status:
+            wrong.append(f"status {self.done.returncode} {self.done.stderr}")
+        if self.reports() != (scene.report + (NOTE if scene.leaks else ""), scene.second, scene.open):
+            wrong.append(f"reports {self.reports()} {self.done.stderr}")
+        if scene.told is not None and not any(it.startswith("confine: ") and it.endswith(scene.told) for it in self.done.stderr.splitlines()):
+            wrong.append(f"told {self.done.stderr!r}")
+        wrong += [f"the secret is seen: {it}" for it in sorted(seen)]
+        if not self.rooms.is_secret_whole():
+            wrong.append("a secret was changed")
+        self.rooms.end()
+        return wrong
+
+    def is_seen(self):
+        """Whether an attack is seen without confine, and the program comes to its end."""
+        is_seen = self.scene.leaks in self.seen() and (self.scene.leaks == "report length" or NOTE in self.reports()[0])
+        self.rooms.end()
+        return is_seen
 
 
 # Words that make no plan, and a piece of the line that says so.
@@ -363,7 +238,7 @@ WRONG_POLICIES = (
 
 def says_why_of_policy(room, policy, piece):
     rooms = Rooms(room)
-    rooms.piped()
+    rooms.end()
     with open(rooms.paths["F"], "w", encoding="utf-8") as it:
         it.write(policy)
     return says_why(["--policy", rooms.paths["F"], "--", "true"], piece)
@@ -382,6 +257,20 @@ def says_it_cannot():
     inside = f"echo 0 > /proc/sys/user/max_user_namespaces && exec {CONFINE} -- /bin/echo started"
     words = ["unshare", "--user", "--map-root-user", "sh", "-c", inside]
     done = subprocess.run(words, stdout=subprocess.PIPE, stderr=subprocess.PIPE, text=True)
+    return done.returncode == UNABLE and not done.stdout and len(done.stderr.splitlines()) == 1
+
+
+# Calls without which a machine can't confine: Landlock's, those of filters, of mounts and of namespaces.
+NEEDED = (444, 445, 446, 317, 428, 429, 442, 272)
+
+
+def says_it_lacks(lacking, call):
+    """Whether it says in one line that a machine that lacks a call can't confine, soon, and starts nothing."""
+    words = [lacking, str(call), CONFINE, "--", "/bin/echo", "started"]
+    try:
+        done = subprocess.run(words, stdout=subprocess.PIPE, stderr=subprocess.PIPE, text=True, timeout=20)
+    except subprocess.TimeoutExpired:
+        return False
     return done.returncode == UNABLE and not done.stdout and len(done.stderr.splitlines()) == 1
 
 
@@ -424,7 +313,7 @@ def reached(auditor, dump, said, what):
 def tells_flows(auditor, room):
     """Whether the dump of a run tells that its secret can have reached its report and not what is printed."""
     rooms = Rooms(room)
-    rooms.piped()
+    rooms.end()
     words = [CONFINE, "--explain", "--audit", f"{room}/dump", *rooms.words(TWO), "--", "/bin/sh", "-c", "cat $S/key > $R; echo x > $U; echo done"]
     done = subprocess.run(words, env={**os.environ, **rooms.paths}, stdout=subprocess.PIPE, stderr=subprocess.PIPE, text=True)
     report, secret = rooms.paths["R"], rooms.paths["S"]
@@ -434,6 +323,37 @@ def tells_flows(auditor, room):
 def is_audited(auditor, dump):
     done = subprocess.run([auditor, dump], stdout=subprocess.PIPE, text=True)
     return (done.returncode, done.stdout) == (0, "clean\n")
+
+
+def users():
+    """As whom scenes are played: as root and as an ordinary user, or as who plays them."""
+    return (0, NOBODY) if not os.getuid() and shutil.which("setpriv") else (os.getuid(),)
+
+
+def try_scene(report, confine, room, scene, user, audit):
+    """Plays a scene with confine, and an attack without it too. Whether its dump audits clean."""
+    name = f"confine: {scene.name} ({'root' if not user else 'a user'})"
+    if scene.leaks:
+        report.counts(Play(None, room, scene, user).is_seen(), f"{name}: it is seen without confine")
+    wrong = Play(confine, room, scene, user).wrong()
+    report.counts(not wrong, name + "".join(f": {it}" for it in wrong))
+    return audit is None or is_audited(audit, f"{room}/dump")
+
+
+def try_scenes(report, room, auditor, more):
+    os.chmod(room, 0o755)
+    confine = shutil.copy(CONFINE, f"{room}/confine")
+    os.chmod(confine, 0o755)
+    scenes, unclean = (*SCENES, *POLICY_SCENES, *ATTACKS, *more), []
+    for user in users():
+        for scene in scenes:
+            if min(user, 1) in scene.users and not try_scene(report, confine, f"{room}/scene", scene, user, auditor):
+                unclean.append(scene.name)
+    if auditor:
+        report.counts(not unclean, f"confine: the dumps of all scenes audit clean{unclean or ''}")
+        report.counts(tells_flows(auditor, f"{room}/scene"), "confine: the dump tells what a secret can have reached")
+    else:
+        report.say("left out: audits of confine's dumps: ./histar-audit is not built")
 
 
 def try_all(report, library, auditor, is_long=False):
@@ -449,18 +369,13 @@ def try_all(report, library, auditor, is_long=False):
     with tempfile.TemporaryDirectory(prefix="confine-", dir="/var/tmp") as room:
         report.counts(ends_with_broker(), "confine: the program ends with the broker")
         report.counts(says_it_cannot(), "confine: where there are no user namespaces it says so, and starts nothing")
-        unclean = []
         for policy, piece in WRONG_POLICIES:
             report.counts(says_why_of_policy(f"{room}/scene", policy, piece), f"confine: a policy that is none: {piece}")
-        for scene in (*SCENES, *POLICY_SCENES, *Tried(room).scenes(is_long)):
-            wrong = played(f"{room}/scene", scene)
-            report.counts(not wrong, f"confine: {scene.name}" + "".join(f": {it}" for it in wrong))
-            unclean += [scene.name] if auditor and not is_audited(auditor, f"{room}/scene/dump") else []
-        if auditor:
-            report.counts(not unclean, f"confine: the dumps of all scenes audit clean{unclean or ''}")
-            report.counts(tells_flows(auditor, f"{room}/scene"), "confine: the dump tells what a secret can have reached")
-        else:
-            report.say("left out: audits of confine's dumps: ./histar-audit is not built")
+        tried = Tried(room)
+        for call in NEEDED:
+            report.counts(says_it_lacks(f"{tried.room}/lacking", call), f"confine: a machine without the call {call}: it says so, and starts nothing")
+        try_scenes(report, room, auditor, tried.scenes(is_long))
+    confine_programs.try_all(report)
 
 
 if __name__ == "__main__":

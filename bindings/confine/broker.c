@@ -5,27 +5,32 @@
 #include <fcntl.h>
 #include <poll.h>
 #include <seccomp.h>
+#include <signal.h>
 #include <stdlib.h>
 #include <string.h>
 #include <sys/ioctl.h>
+#include <sys/signalfd.h>
 #include <sys/syscall.h>
 #include <sys/uio.h>
 #include <sys/wait.h>
 #include <linux/seccomp.h>
 #include <unistd.h>
 
-enum { PAGE = 4096, MOST_SHOWN = 65536 };
+enum { PAGE = 4096 };
 
 /* A call that names a file: where its folder, its path and its flags stand among the arguments; -1 for none. */
 struct naming {
     int call, folder, path, flags;
+    enum { USES, LOOKS, RENAMES } kind; /* it looks at what is named, and goes no further; it gives a file that name */
 };
 
 static const struct naming NAMINGS[] = {
-    {SYS_open, -1, 0, 1},   {SYS_openat, 0, 1, 2},     {SYS_creat, -1, 0, -1},     {SYS_stat, -1, 0, -1},
-    {SYS_lstat, -1, 0, -1}, {SYS_newfstatat, 0, 1, -1}, {SYS_statx, 0, 1, -1},      {SYS_access, -1, 0, -1},
-    {SYS_faccessat, 0, 1, -1}, {SYS_faccessat2, 0, 1, -1}, {SYS_readlink, -1, 0, -1}, {SYS_readlinkat, 0, 1, -1},
-    {SYS_chdir, -1, 0, -1}, {SYS_execve, -1, 0, -1}};
+    {SYS_open, -1, 0, 1, USES},         {SYS_openat, 0, 1, 2, USES},        {SYS_creat, -1, 0, -1, USES},
+    {SYS_stat, -1, 0, -1, LOOKS},       {SYS_lstat, -1, 0, -1, LOOKS},      {SYS_newfstatat, 0, 1, -1, LOOKS},
+    {SYS_statx, 0, 1, -1, LOOKS},       {SYS_access, -1, 0, -1, LOOKS},     {SYS_faccessat, 0, 1, -1, LOOKS},
+    {SYS_faccessat2, 0, 1, -1, LOOKS},  {SYS_readlink, -1, 0, -1, LOOKS},   {SYS_readlinkat, 0, 1, -1, LOOKS},
+    {SYS_chdir, -1, 0, -1, USES},       {SYS_execve, -1, 0, -1, USES},      {SYS_rename, -1, 1, -1, RENAMES},
+    {SYS_renameat, 2, 3, -1, RENAMES},  {SYS_renameat2, 2, 3, -1, RENAMES}};
 
 static const struct naming *naming_of(int call)
 {
@@ -95,68 +100,44 @@ static bool path_of(pid_t pid, const struct seccomp_notif *asked, const struct n
     return add_parts(path, folder) && add_parts(path, text);
 }
 
-static bool is_below(const char *path, const char *folder)
+/* Puts a secret into the world, once the program's label has risen to it. An errno, 0 where it is there. */
+static int open_secret(struct plan *plan, struct family *family, int i)
 {
-    size_t length = strlen(folder);
-    return !strncmp(path, folder, length) && (!path[length] || path[length] == '/');
+    int answer = EIO;
+    if (family->is_open[i]) return 0;
+    if (!opens_secret(plan, family, i)) return EACCES;
+    family->is_open[i] = true;
+    if (write(family->world.keeper_socket, &i, sizeof i) != sizeof i) return EIO;
+    if (read(family->world.keeper_socket, &answer, sizeof answer) != sizeof answer) return EIO;
+    return answer;
 }
 
-/* Puts a secret into the world, once the program's label has risen to it. An errno, 0 where it is there. */
-static int open_secret(struct plan *plan, const struct child *child, int i)
+static int flags_of(const struct seccomp_notif *asked, const struct naming *naming)
 {
-    struct secret *secret = &plan->secrets[i];
-    int answer = EIO;
-    if (secret->is_open) return 0;
-    if (!opens_secret(plan, i)) return EACCES;
-    secret->is_open = true;
-    if (write(child->keeper_socket, &i, sizeof i) != sizeof i) return EIO;
-    if (read(child->keeper_socket, &answer, sizeof answer) != sizeof answer) return EIO;
-    return answer;
+    if (naming->call == SYS_creat) return O_WRONLY | O_CREAT | O_TRUNC;
+    return naming->flags < 0 ? 0 : (int)asked->data.args[naming->flags];
 }
 
 /* Whether a call asks for a file that may be written. */
 static bool writes_to(const struct seccomp_notif *asked, const struct naming *naming)
 {
-    uint64_t flags = naming->flags < 0 ? 0 : asked->data.args[naming->flags];
-    return naming->call == SYS_creat || (flags & O_ACCMODE) != O_RDONLY;
+    return naming->kind == RENAMES || (flags_of(asked, naming) & O_ACCMODE) != O_RDONLY;
 }
 
-static int flags_of(const struct seccomp_notif *asked, const struct naming *naming)
+/* The program goes on to write the file that stands for a report in its world. An errno, 0 where it may. Who writes a report of a
+ * secret is at the secret's level: the kernel lets nobody modify what he doesn't observe. */
+static int open_report(struct plan *plan, struct family *family, int i, const struct naming *naming, int flags)
 {
-    return naming->flags < 0 ? O_WRONLY | O_TRUNC : (int)asked->data.args[naming->flags];
-}
-
-/* Whether what the broker opens is asked for as something new, or to be read too; errno says why it isn't given. */
-static bool is_refused(int flags)
-{
-    errno = (flags & O_CREAT) && (flags & O_EXCL) ? EEXIST : (flags & O_ACCMODE) == O_RDWR ? EACCES : 0;
-    return errno != 0;
-}
-
-/* A report, opened anew to be written; -1 with errno where it may not be. It is never read, so that what another run
- * left there stays unseen. Who writes a report of a secret is at the secret's level: the kernel lets nobody modify what he
- * doesn't observe. */
-static int open_report(struct plan *plan, int i, int flags)
-{
-    struct report *report = &plan->reports[i];
-    char link[64];
-    if (is_refused(flags)) return -1;
-    if (!holds_report(plan, i)) {
-        errno = EACCES;
-        return -1;
-    }
-    snprintf(link, sizeof link, "/proc/self/fd/%d", report->file);
-    return open(link, O_WRONLY | O_CLOEXEC | (flags & (O_TRUNC | O_APPEND)));
+    if (!holds_report(plan, family, i)) return EACCES;
+    if (naming->kind != RENAMES) begin_report(plan, family, i, flags);
+    return 0;
 }
 
 /* What is written to a gate's program, which is started; -1 with errno where it may not be. */
-static int open_gate(struct plan *plan, int i, int flags)
+static int open_gate(struct plan *plan, struct family *family, int i, int flags)
 {
-    if (is_refused(flags)) return -1;
-    if (!enters_gate(plan, i)) {
-        errno = EACCES;
-        return -1;
-    }
+    errno = (flags & O_CREAT) && (flags & O_EXCL) ? EEXIST : EACCES;
+    if (errno == EEXIST || (flags & O_ACCMODE) == O_RDWR || !enters_gate(plan, family, i)) return -1;
     return start_gate(plan, i);
 }
 
@@ -199,67 +180,70 @@ static int gate_at(const struct plan *plan, const char *path)
     return -1;
 }
 
-/* Opens each secret that a path leads into. An errno, 0 where it may. */
-static int open_secrets_at(struct plan *plan, const struct child *child, const char *path)
+/* Opens each secret that a path leads into. To look at its folder alone opens none. An errno, 0 where it may. */
+static int open_secrets_at(struct plan *plan, struct family *family, const struct naming *naming, const char *path)
 {
     int error = 0;
-    for (int i = 0; i < plan->secret_count && !error; i++)
-        if (is_below(path, plan->secrets[i].path)) error = open_secret(plan, child, i);
+    for (int i = 0; i < plan->secret_count && !error; i++) {
+        const char *secret = plan->secrets[i].path;
+        if (is_below(path, secret) && !(naming->kind == LOOKS && !strcmp(path, secret))) error = open_secret(plan, family, i);
+    }
     return error;
 }
 
 /* Whether a call may go on whatever path it names: it asks for nothing to write, and all secrets are in the world. */
-static bool leads_nowhere_new(const struct plan *plan, const struct seccomp_notif *asked, const struct naming *naming)
+static bool leads_nowhere_new(const struct plan *plan, const struct family *family, const struct seccomp_notif *asked, const struct naming *naming)
 {
     for (int i = 0; i < plan->secret_count; i++)
-        if (!plan->secrets[i].is_open) return false;
+        if (!family->is_open[i]) return false;
     return !writes_to(asked, naming);
 }
 
-static void answer(struct plan *plan, const struct child *child)
+/* Whether a path lies in what may only be read. (The world would refuse to write there too, but a pipe with a name would wait.) */
+static bool is_read_only(const struct plan *plan, const char *path)
+{
+    for (int i = 0; i < plan->open_count; i++)
+        if (is_below(path, plan->open[i])) return true;
+    for (int i = 0; i < plan->secret_count; i++)
+        if (is_below(path, plan->secrets[i].path)) return true;
+    return false;
+}
+
+static void answer_run(struct family *family, uint64_t id)
+{
+    int file = open_run(family);
+    if (file < 0) respond(family->world.listener, id, errno);
+    else hand_over(family->world.listener, id, file, O_CLOEXEC);
+}
+
+/* Answers a call that names a path. */
+static void answer_naming(struct plan *plan, struct family *family, const struct seccomp_notif *asked, const struct naming *naming, const char *path)
+{
+    int listener = family->world.listener, flags = flags_of(asked, naming), file;
+    int report = writes_to(asked, naming) ? report_at(plan, path) : -1, gate = writes_to(asked, naming) ? gate_at(plan, path) : -1;
+    if (report >= 0) respond(listener, asked->id, open_report(plan, family, report, naming, flags));
+    else if (naming->kind == RENAMES) respond(listener, asked->id, 0);
+    else if (writes_to(asked, naming) && is_read_only(plan, path)) respond(listener, asked->id, EROFS);
+    else if (gate < 0 && !strcmp(path, RUN)) answer_run(family, asked->id);
+    else if (gate < 0) respond(listener, asked->id, open_secrets_at(plan, family, naming, path));
+    else if ((file = open_gate(plan, family, gate, flags)) < 0) respond(listener, asked->id, errno);
+    else hand_over(listener, asked->id, file, flags);
+}
+
+void answer_call(struct plan *plan, struct family *family)
 {
     struct seccomp_notif asked;
     char path[PATH_MAX];
     const struct naming *naming;
-    int report, gate, file;
+    int listener = family->world.listener;
     memset(&asked, 0, sizeof asked);
-    if (ioctl(child->listener, SECCOMP_IOCTL_NOTIF_RECV, &asked) < 0) return;
+    if (ioctl(listener, SECCOMP_IOCTL_NOTIF_RECV, &asked) < 0) return;
     naming = naming_of(asked.data.nr);
+    if (asked.data.nr == SYS_futex) delay_wait(listener, asked.id, (pid_t)asked.pid, (const uint64_t *)asked.data.args);
     /* A path that can't be read is one that the call itself will not find. */
-    if (!naming || leads_nowhere_new(plan, &asked, naming) || !path_of((pid_t)asked.pid, &asked, naming, path)) {
-        respond(child->listener, asked.id, 0);
-        return;
-    }
-    report = writes_to(&asked, naming) ? report_at(plan, path) : -1;
-    gate = writes_to(&asked, naming) ? gate_at(plan, path) : -1;
-    if (report < 0 && gate < 0) {
-        respond(child->listener, asked.id, open_secrets_at(plan, child, path));
-        return;
-    }
-    file = gate < 0 ? open_report(plan, report, flags_of(&asked, naming)) : open_gate(plan, gate, flags_of(&asked, naming));
-    if (file < 0) respond(child->listener, asked.id, errno);
-    else hand_over(child->listener, asked.id, file, flags_of(&asked, naming));
-}
-
-static void show(int to, const char *text, size_t length)
-{
-    while (length) {
-        ssize_t written = write(to, text, length);
-        if (written < 0 && errno == EINTR) continue;
-        if (written <= 0) return;
-        text += written;
-        length -= (size_t)written;
-    }
-}
-
-/* What the program printed is shown, or is dropped once it has read a secret. Whether there may be more. */
-static bool relay(int from, int to)
-{
-    static char text[MOST_SHOWN];
-    ssize_t length = read(from, text, sizeof text);
-    if (length < 0) return errno == EINTR;
-    if (may_print()) show(to, text, (size_t)length);
-    return length > 0;
+    else if (!naming || leads_nowhere_new(plan, family, &asked, naming) || !path_of((pid_t)asked.pid, &asked, naming, path))
+        respond(listener, asked.id, 0);
+    else answer_naming(plan, family, &asked, naming, path);
 }
 
 /* The program waits for an answer on the processor that gives it, where the machine's kernel can do that (Linux 6.6). */
@@ -269,70 +253,75 @@ static void wake_at_once(int listener)
     ioctl(listener, SET_FLAGS, SYNC_WAKE_UP);
 }
 
-/* What waits to be read by the program of its standard input. */
-struct input {
-    char text[PAGE];
-    size_t count, begin;
-    int from, to; /* the broker's own standard input, and the program's; -1 once it is at its end */
-};
-
-/* Fills it, or gives the program of it what it takes. */
-static void feed(struct input *input)
+/* What tells that confine is asked to end. */
+static int ends_of(void)
 {
-    ssize_t count;
-    if (input->begin < input->count) {
-        count = write(input->to, input->text + input->begin, input->count - input->begin);
-        if (count > 0) input->begin += (size_t)count;
-        else if (errno != EAGAIN && errno != EINTR) input->from = -1, input->begin = input->count;
-    } else {
-        count = read(input->from, input->text, sizeof input->text);
-        if (count < 0 && errno == EINTR) return;
-        input->begin = 0;
-        input->count = count > 0 ? (size_t)count : 0;
-        if (count <= 0) input->from = -1;
-    }
-    if (input->from < 0 && input->begin == input->count) close(input->to), input->to = -1;
+    sigset_t ends;
+    sigemptyset(&ends);
+    sigaddset(&ends, SIGINT);
+    sigaddset(&ends, SIGTERM);
+    sigaddset(&ends, SIGHUP);
+    sigprocmask(SIG_BLOCK, &ends, NULL);
+    return signalfd(-1, &ends, SFD_CLOEXEC);
 }
 
-static struct pollfd next_of(const struct input *input)
+/* What the program's own world waits for, first of all. */
+enum { PRINTED, ERRORS, CALLS, END, INPUT, INPUT_END, OWN };
+
+/* What the program printed is relayed before its next call is answered, so that all that came before a secret is shown. */
+static void serve_own(struct plan *plan, struct family *family, struct stream *input, struct pollfd *all)
 {
-    struct pollfd waits = {input->to < 0 ? -1 : input->from, POLLIN, 0};
-    if (input->begin < input->count) waits.fd = input->to, waits.events = POLLOUT;
-    return waits;
+    for (int i = PRINTED; i <= ERRORS; i++)
+        if (all[i].revents && !relay(all[i].fd, i + 1, family->prints)) close(all[i].fd), all[i].fd = -1;
+    if (all[INPUT].revents) take(input);
+    if (all[INPUT_END].revents) give(input);
+    if (all[PRINTED].revents || all[ERRORS].revents) return;
+    if (all[CALLS].revents & POLLIN) answer_call(plan, family);
+    else if (all[CALLS].revents) all[CALLS].fd = -1;
 }
 
-/* What is printed is relayed before the next call is answered, so that all that came before a secret is shown. */
-static void serve_all(struct plan *plan, const struct child *child)
+/* Serves the program and what it started until all have ended. Gives the signal that ended it before, or 0. */
+static int serve_all(struct plan *plan, struct family *family)
 {
-    static struct input input;
-    struct pollfd all[4] = {{child->printed[0], POLLIN, 0}, {child->printed[1], POLLIN, 0}, {child->listener, POLLIN, 0}};
-    input.to = child->input;
-    while (all[0].fd >= 0 || all[1].fd >= 0 || all[2].fd >= 0) {
-        all[3] = next_of(&input);
-        if (poll(all, 4, -1) < 0) {
+    struct world *world = &family->world;
+    struct stream input = stream_of(world->input < 0 ? -1 : fcntl(0, F_DUPFD_CLOEXEC, 3), world->input);
+    struct signalfd_siginfo end = {0};
+    struct pollfd all[OWN + MOST_WAITS_OF_STARTS] = {
+        {world->printed[0], POLLIN, 0}, {world->printed[1], POLLIN, 0}, {world->listener, POLLIN, 0}, {ends_of(), POLLIN, 0}};
+    for (;;) {
+        int more = list_starts(all + OWN), soon = end_waits();
+        if (all[PRINTED].fd < 0 && all[ERRORS].fd < 0 && all[CALLS].fd < 0 && are_starts_done()) return 0;
+        all[INPUT] = taken_from(&input);
+        all[INPUT_END] = given_to(&input);
+        if (poll(all, (nfds_t)(OWN + more), soon) < 0) {
             if (errno == EINTR) continue;
-            return;
+            return 0;
         }
-        for (int i = 0; i < 2; i++)
-            if (all[i].revents && !relay(all[i].fd, i + 1)) all[i].fd = -1;
-        if (all[3].revents) feed(&input);
-        if (all[0].revents || all[1].revents) continue;
-        if (all[2].revents & POLLIN) answer(plan, child);
-        else if (all[2].revents) all[2].fd = -1;
+        if (all[END].revents && read(all[END].fd, &end, sizeof end) == sizeof end) return (int)end.ssi_signo;
+        serve_own(plan, family, &input, all);
+        serve_starts(plan, all + OWN);
     }
 }
 
-int serve(struct plan *plan, const struct child *child)
+void begin_answers(const struct plan *plan, struct family *family)
 {
-    int status;
-    wake_at_once(child->listener);
-    serve_all(plan, child);
-    close(child->keeper_socket);
-    if (waitpid(child->keeper, &status, 0) != child->keeper) return ENDS_FAULT;
-    end_gates();
-    if (!may_print()) {
-        fputs("confine: a secret was read: what was printed from then on is withheld, and the status\n", stderr);
-        return 0;
-    }
-    return WIFEXITED(status) ? WEXITSTATUS(status) : ENDS_FAULT;
+    wake_at_once(family->world.listener);
+    note_reports(plan, family);
+}
+
+int serve(struct plan *plan, struct family *family)
+{
+    int ended_by, status;
+    bool are_copied;
+    begin_answers(plan, family);
+    ended_by = serve_all(plan, family);
+    status = end_world(&family->world, ended_by != 0);
+    end_starts(plan);
+    end_gates(plan);
+    are_copied = copy_reports(plan, family);
+    tell_refused(plan, family->prints);
+    if (ended_by) return 128 + ended_by;
+    if (!are_copied) return ENDS_FAULT;
+    if (!family->prints) return 0;
+    return status < 0 ? ENDS_FAULT : status;
 }

@@ -18,4 +18,4 @@ mkdir -p "$top/out"
 for file in "$top"/bindings/confine/*.c; do
     "${CC:-cc}" -std=c11 -O2 -Wall -Wextra -Wpedantic -Werror -I"$top/include" -c "$file" -o "$room/$(basename "$file").o"
 done
-"${CXX:-c++}" "$room"/*.o -L"$library" -lhistar_c -llibc_c -lseccomp -o "$top/out/confine"
+"${CXX:-c++}" -static-libstdc++ -static-libgcc "$room"/*.o -L"$library" -lhistar_c -llibc_c -lseccomp -o "$top/out/confine"

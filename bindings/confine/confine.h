@@ -2,19 +2,23 @@
  *
  * Three processes take part.
  * - The broker (main.c, broker.c) has the label kernel. It is asked before the program opens or names a file, relays what
- *   the program prints, and hands out what may be written.
- * - The keeper (world.c) makes the program's world, a mount namespace, and puts a secret into it when the broker says so.
- * - The program runs in that world under a filter of system calls (filter.c), with all that it starts.
+ *   the program prints, and copies its reports out once it has ended.
+ * - The keeper (keeper.c, world.c) makes the program's world, a mount namespace, and puts a secret into it when the broker
+ *   says so.
+ * - The program runs in that world under Landlock and limits (walls.c) and a filter of system calls (filter.c), with all
+ *   that it starts.
  * Gates (gates.c) are programs outside that are trusted with a secret: what they make of it may go where the secret may not.
  *
- * At each moment the world holds just what the program may read at the label that it then has: the public folders, a
- * folder of its own, and the secrets that it has opened so far. So a name that changes between the broker's look and the
- * program's use leads to nothing else. What may be written outside is never in the world: the broker opens it. */
+ * At each moment the world holds just what the program may read at the label that it then has: the public folders, folders
+ * of its own, and the secrets that it has opened so far. So a name that changes between the broker's look and the program's
+ * use leads to nothing else. No file that may be written outside is in the world, and no descriptor of one: a report is
+ * written in a folder of the program's own (reports.c). */
 #ifndef CONFINE_H
 #define CONFINE_H
 
 #include "histar.h"
 #include <limits.h>
+#include <poll.h>
 #include <stdbool.h>
 #include <stdint.h>
 #include <stdio.h>
@@ -51,8 +55,7 @@ struct secret {
     char path[PATH_MAX];
     struct levels levels;
     uint64_t object;
-    bool is_open; /* the program has it in its world */
-    bool is_told; /* a refusal of it was explained */
+    bool is_refused; /* the program was refused it once */
 };
 
 /* A file that the program may write as long as its label is at most the file's. */
@@ -60,9 +63,16 @@ struct report {
     char path[PATH_MAX];
     struct levels levels;
     uint64_t object;
-    int file; /* where it lies, by O_PATH */
-    bool is_held; /* the program was given it to write, for good */
-    bool is_told; /* a refusal of it was explained */
+    int file;        /* where it lies, by O_PATH */
+    int folder;      /* which of the plan's folders it stands in */
+    bool is_refused; /* the program was refused it once */
+};
+
+/* A folder of reports. In the world it is a folder of the program's own, or only the report in it is where other things of the
+ * world stand there too. */
+struct folder {
+    char path[PATH_MAX];
+    bool is_whole;
 };
 
 /* A gate: a program outside, which is trusted with what some categories keep. It reads what is written to /gate/NAME, and
@@ -74,29 +84,46 @@ struct gate {
     bool owns[MOST_CATEGORIES];
     int report; /* SHOWN where it has none */
     uint64_t object;
-    bool is_held; /* the program was given a way to it, for good */
-    bool is_told; /* a refusal of it was explained */
+    bool is_refused; /* the program was refused it once */
 };
 
 enum { SHOWN = -1 };
-
-/* A start of a gate's program, until it has ended. */
-struct run {
-    pid_t pid; /* 0 where there is none */
-    const char *name;
-};
 
 struct plan {
     struct category categories[MOST_CATEGORIES];
     struct secret secrets[MOST_SECRETS];
     struct report reports[MOST_REPORTS];
+    struct folder folders[MOST_REPORTS];
     struct gate gates[MOST_GATES];
     char open[MOST_OPEN][PATH_MAX]; /* folders that it may read at any label */
-    int category_count, secret_count, report_count, gate_count, open_count;
+    int category_count, secret_count, report_count, folder_count, gate_count, open_count;
     struct levels born, clearance; /* the program's label at its start, and the highest that it may have */
     bool explains;
     const char *dump; /* where the log's dump goes, or NULL */
     char **program;
+};
+
+/* What the broker has of a world. */
+struct world {
+    pid_t keeper;
+    int keeper_socket; /* to the keeper: a secret's number; from it: an errno */
+    int listener;      /* notifications of system calls */
+    int input;         /* what the program reads of its standard input; -1 where it has none */
+    int printed[2];    /* what the program prints: its standard output and its standard error */
+    int scratch;       /* the folder of the program's own folders: /tmp is "tmp", and the plan's folder 0 is "0" */
+};
+
+/* The program with all that it starts: one thread of the kernel, and one world. Its processes share pipes, signals and
+ * memory, which nobody looks at, so what one of them has read all may have. */
+struct family {
+    uint64_t thread;
+    bool prints;                     /* what it prints may be shown */
+    bool is_open[MOST_SECRETS];      /* it has the secret in its world */
+    bool holds_report[MOST_REPORTS]; /* it was given the report to write, for good */
+    bool holds_gate[MOST_GATES];     /* it was given a way to the gate, for good */
+    bool replaces[MOST_REPORTS];     /* it opened the report not only to add to it */
+    ino_t placed[MOST_REPORTS];      /* the file that stood for the report at first */
+    struct world world;
 };
 
 /* ---- words.c ---- */
@@ -116,6 +143,17 @@ struct report *add_report(struct plan *plan, const char *word, const char *path)
 void add_open(struct plan *plan, const char *word, const char *path);
 struct gate *add_gate(struct plan *plan, const char *name);
 
+/* ---- apart.c: what may not lie in what ---- */
+
+/* Whether a path is a folder's or lies below it. */
+bool is_below(const char *path, const char *folder);
+
+/* Ends with ENDS_USAGE and a line where one thing of the plan would be reached by the name of another. */
+void keep_apart(const struct plan *plan);
+
+/* The folders that the plan's reports stand in. */
+void find_folders(struct plan *plan);
+
 /* ---- policy.cpp ---- */
 
 /* Adds what a policy file says. It ends with ENDS_USAGE and a line where the file is none. */
@@ -123,50 +161,122 @@ void read_policy(const char *path, struct plan *plan);
 
 /* ---- decisions.c: what the label kernel says ---- */
 
-/* Makes a thread for the program and an object for each thing outside. Where the plan explains, a line tells each one's
- * id. */
+/* Makes an object for each thing outside. Where the plan explains, a line tells each one's id. */
 void make_objects(struct plan *plan);
 
-/* Whether the program's label could rise to that of its birth. */
-bool is_born(struct plan *plan);
+/* Makes a thread for the program, at the label of its birth. False where that is above its clearance. */
+bool is_born(struct plan *plan, struct family *family);
 
 /* Whether the program may read a secret: its label rises to the secret's, unless that passes its clearance, or it was given a
- * report or a gate that must not get it. Where the plan asks for it, the first refusal of each thing is explained by a line. The line
- * has no name that the program chose, which may be at the level of a secret by then. */
-bool opens_secret(struct plan *plan, int secret);
+ * report or a gate that must not get it. */
+bool opens_secret(struct plan *plan, struct family *family, int secret);
 
 /* Whether the program may write a report. Its label rises to what the report observes. From then on it has it, for good. */
-bool holds_report(struct plan *plan, int report);
+bool holds_report(struct plan *plan, struct family *family, int report);
 
 /* Whether the program may write to a gate: a thread at its label enters the gate, and may write what the gate writes. From
  * then on the program has it, for good. */
-bool enters_gate(struct plan *plan, int gate);
+bool enters_gate(struct plan *plan, struct family *family, int gate);
 
-/* Whether what the program prints may be shown. */
-bool may_print(void);
+/* Whether what a gate's program makes may be shown, also where it goes to a report. */
+bool shows_gate(const struct plan *plan, int gate);
+
+/* Makes a thread for a program that another starts, at a label that is asked for: the other makes it. The refusal, or 0. */
+uint32_t is_spawned(const struct plan *plan, const struct family *by, const struct levels *levels, struct family *family);
+
+/* A new object of a family's label, which it writes and another reads. */
+uint64_t make_between(const struct plan *plan, const struct family *writer);
+
+/* An object or a thread goes. */
+void forget(uint64_t object);
+
+/* Whether a family may write what is between it and another, and read it. */
+bool writes_between(const struct family *writer, uint64_t between);
+bool reads_between(const struct family *reader, uint64_t between);
 
 /* Writes the dump of all decisions, where one is asked for. Whether it was written. */
 bool write_dump(const struct plan *plan);
 
-/* ---- world.c: the keeper and the program ---- */
+/* ---- explain.c: lines for refusals. They have no name that the program chose, which may be at the level of a secret. ---- */
 
-/* What the broker has of the program. */
-struct child {
-    pid_t keeper;
-    int keeper_socket; /* to the keeper: a secret's number; from it: an errno, or the program's status */
-    int listener;      /* notifications of system calls */
-    int input;         /* what the program reads of its standard input; -1 where it has none */
-    int printed[2];    /* what the program prints: its standard output and its standard error */
+/* For the first refusal of each thing: a line says why, where the plan explains. */
+void explain_write(const struct plan *plan, struct report *report, const struct levels *own);
+void explain_gate(const struct plan *plan, struct gate *gate, const struct levels *own, const struct levels *behind);
+void explain_held(const struct plan *plan, const char *path, bool *is_refused, const char *held);
+void explain_clearance(const struct plan *plan, const char *path, bool *is_refused, const struct levels *levels);
+
+/* Once the program has ended: what was withheld, and a line for each thing that was refused and not explained. */
+void tell_refused(const struct plan *plan, bool prints);
+
+/* ---- keeper.c: the keeper, and the program's start ---- */
+
+/* What is started. */
+struct begun {
+    char **words, **environment; /* NULL where it is that of confine */
+    const char *folder;          /* where it begins; NULL where that is the world's root */
+    bool has_input;              /* the broker fills its standard input */
 };
 
-/* Starts the program, which waits in its execve for the first answer. It ends with ENDS_UNABLE and a line where this
- * machine can't confine. */
-void start(const struct plan *plan, struct child *child);
+/* Starts a program in a world of its own, in which it waits for the first answer. Where that fails a line said why, and it
+ * gives the status that confine ends with; else 0. */
+int start(const struct plan *plan, const struct begun *begun, struct world *world);
+
+/* Ends the program where it has not ended, and says with which status; -1 where it has none. */
+int end_world(struct world *world, bool is_killed);
+
+/* Ends with ENDS_UNABLE and a line: this machine lacks something. */
+ENDS void unable(const char *what);
+
+/* Ends as unable does where the result of a call is below 0. */
+void must(long result, const char *what);
+#define NEEDS(call) must((long)(call), #call)
+
+/* ---- world.c ---- */
+
+/* Folders, files and devices that each program finds, up to NULL. */
+extern const char *const ALWAYS[];
+
+/* Makes the world in a new mount namespace, but for /proc. */
+void make_world(const struct plan *plan);
+
+/* The world's own /proc, of its own processes, where the machine allows it. The first process of the world makes it. */
+void add_proc(void);
+
+/* Makes the world the root. */
+void enter_world(void);
+
+/* Where the world's own folders lie, until it is the root: as struct world has them. */
+int open_scratch(void);
+
+/* How many descriptors lead to what the program may write, and which they are. */
+int own_of(const int **files);
+
+/* Puts a secret into the world. An errno, 0 where it is there. */
+int put_secret(const struct plan *plan, int secret);
+
+/* ---- walls.c ---- */
+
+/* The program's second wall round the files, its bounds, and the loss of its privileges. */
+void raise_walls(void);
+
+/* Bounds the processes of the world. It is given the machine's /proc, which is closed then. */
+void limit_numbers(int proc);
 
 /* ---- filter.c ---- */
 
-/* Leaves the process a list of system calls, and the descriptor by which others are asked; -1 where that fails. */
-int load_filter(void);
+/* Makes the filter, as a file; -1 where that fails. (It takes longer than all else of a start, and the world is made meanwhile.) */
+int make_filter(void);
+
+/* Leaves the process a list of system calls, and gives the descriptor by which others are asked; -1 with errno. */
+int load_filter(int made);
+
+/* ---- descriptors.c ---- */
+
+/* Sends a descriptor through a socket. Whether it was sent. */
+bool send_descriptor(int socket, int descriptor);
+
+/* Takes one, or -1. */
+int receive_descriptor(int socket);
 
 /* ---- gates.c ---- */
 
@@ -176,13 +286,105 @@ int load_filter(void);
 /* Starts a gate's program, and gives what leads to its input; -1 with errno. At most MOST_RUNS run at once. */
 int start_gate(const struct plan *plan, int gate);
 
-/* Waits until all gates' programs have ended. A line tells each that failed. */
-void end_gates(void);
+/* The gate that a descriptor leads to, or -1. */
+int gate_behind(int file);
+
+/* Waits until all gates' programs have ended. A line tells each that failed, where what the gate makes goes. */
+void end_gates(const struct plan *plan);
+
+/* ---- reports.c ---- */
+
+/* Each report by where it lies, so that no later name leads elsewhere. */
+void find_reports(struct plan *plan);
+
+/* Notes the files that stand for the reports in a world that was just made. */
+void note_reports(const struct plan *plan, struct family *family);
+
+/* The program, which holds a report, opens it to write it, with these flags. */
+void begin_report(const struct plan *plan, struct family *family, int report, int flags);
+
+/* Adds what the program has left of each report to the report, as far as the kernel allows it. Whether all was written. */
+bool copy_reports(struct plan *plan, struct family *family);
 
 /* ---- broker.c ---- */
 
-/* Answers until the program has ended, and tells with which status; it is 0 where that may not be told. */
-int serve(struct plan *plan, const struct child *child);
+/* Answers until the program and all that it started have ended, and tells with which status; it is 0 where that may not be told. */
+int serve(struct plan *plan, struct family *family);
+
+/* Begins to answer a family's calls. */
+void begin_answers(const struct plan *plan, struct family *family);
+
+/* Answers the next call of a family. */
+void answer_call(struct plan *plan, struct family *family);
+
+/* ---- spawn.c: programs that the program starts at a label ---- */
+
+/* Where a program asks for a start, and where the program is that does so. */
+#define RUN GATES "/run"
+#define RUN_FOLDER "/confine"
+#define RUN_NAME "confine-run"
+
+/* So many starts are asked for or run at once, and each waits for so many things. */
+enum { MOST_STARTS = 16, WAITS_OF_START = 8, MOST_WAITS_OF_STARTS = MOST_STARTS * WAITS_OF_START };
+
+/* What leads a program to the broker, to ask for a start; -1 with errno. */
+int open_run(struct family *by);
+
+/* Whether all that was started has ended, and all that it printed is where it goes. */
+bool are_starts_done(void);
+
+/* What all starts wait for, and how many things that are; and what is done once they have it. */
+int list_starts(struct pollfd *waits);
+void serve_starts(struct plan *plan, const struct pollfd *waits);
+
+/* Ends what was started and has not ended, and tells whether something of what it printed was withheld. */
+void end_starts(struct plan *plan);
+
+/* ---- run.c: the program that asks for a start ---- */
+
+/* Asks the broker, and ends as what was started ends. */
+int ask_run(int count, char **words);
+
+/* ---- streams.c: what is relayed ---- */
+
+/* What waits to go from one descriptor to another. Where two families are at its ends, it is taken from the one as soon as it is
+ * there, so that no family learns how fast the other takes it, and given to the other where the kernel allows it. */
+struct stream {
+    char *text;
+    size_t size, count, begin;
+    int from, to;                          /* -1 once it is at its end */
+    const struct family *writer, *reader;  /* NULL where it is of no family, or goes through a gate */
+    uint64_t between;                      /* the object that the one writes and the other reads, or 0 */
+    bool is_held;                          /* its reader may not have it: it waits for another */
+    bool is_cut;                           /* its writer may not write it any more */
+    bool is_dropped;                       /* some of it was */
+};
+
+/* A stream from here to there. */
+struct stream stream_of(int from, int to);
+
+/* Takes what is there to be read, or gives what can be written. */
+void take(struct stream *stream);
+void give(struct stream *stream);
+
+/* Where the reader may not have what is written, it is told of the stream's end at once; and where the writer may write no more, once
+ * all is given that it wrote before. So the end of the writer is not seen by it. */
+void cut(struct stream *stream);
+
+/* What a stream waits for: its beginning, and its end. */
+struct pollfd taken_from(const struct stream *stream);
+struct pollfd given_to(const struct stream *stream);
+
+/* Shows what was printed, or drops it. Whether there may be more. */
+bool relay(int from, int to, bool is_shown);
+
+/* ---- waits.c ---- */
+
+/* Answers a wait for a word of memory that processes share: after a short while the program looks again. */
+void delay_wait(int listener, uint64_t id, pid_t pid, const uint64_t *arguments);
+
+/* Answers what is due. How long it may take until the next is, in milliseconds; -1 where none is. */
+int end_waits(void);
 
 /* ---- all ---- */
 

@@ -1,17 +1,13 @@
-/* The label kernel's side: one thread for the program and all that it starts, one object for each thing outside.
- *
- * All processes of the program are one thread of the kernel. They share pipes, signals and memory, which nobody
- * looks at, so what one of them has read all may have. */
+/* The label kernel's side: one thread for the program and all that it starts, one object for each thing outside. */
 #define _GNU_SOURCE
 #include "confine.h"
 #include <stdlib.h>
 #include <string.h>
 
-enum { PAGES = 128, SEGMENT_QUOTA = 2, HIGHEST = 3 };
+enum { PAGES = 256, SEGMENT_QUOTA = 2, HIGHEST = 3 };
 
 static histar kernel;
-static uint64_t family, terminal;
-static bool prints;
+static uint64_t terminal;
 
 _Noreturn static void refused(const char *call, uint32_t refusal)
 {
@@ -43,23 +39,22 @@ static uint8_t level_in(const histar_label *label, uint64_t category)
     return label->default_level;
 }
 
-/* The label that the program's thread has. */
-static histar_label own_label(void)
+/* The levels of the label that the program's thread has. */
+static struct levels own_levels(const struct plan *plan, const struct family *family)
 {
+    struct levels own = {{1, 1, 1, 1, 1, 1, 1, 1}};
     histar_self self;
-    MUST(histar_self_get(&kernel, family, &self));
-    return self.label;
+    MUST(histar_self_get(&kernel, family->thread, &self));
+    for (int i = 0; i < plan->category_count; i++) own.in[i] = level_in(&self.label, plan->categories[i].number);
+    return own;
 }
 
 /* The program's label, risen to these levels where it is below them. */
-static histar_label risen(const struct plan *plan, const struct levels *levels)
+static histar_label risen(const struct plan *plan, const struct family *family, const struct levels *levels)
 {
-    histar_label own = own_label();
-    struct levels both = *levels;
-    for (int i = 0; i < plan->category_count; i++) {
-        uint8_t mine = level_in(&own, plan->categories[i].number);
-        if (mine > both.in[i]) both.in[i] = mine;
-    }
+    struct levels both = own_levels(plan, family);
+    for (int i = 0; i < plan->category_count; i++)
+        if (levels->in[i] > both.in[i]) both.in[i] = levels->in[i];
     return plain_label(plan, &both);
 }
 
@@ -103,10 +98,10 @@ static uint32_t writes(uint64_t thread, uint64_t object)
     return histar_segment_write(&kernel, thread, entry_of(object), 0, "w", 1);
 }
 
-static uint32_t reads(uint64_t object)
+static uint32_t reads(uint64_t thread, uint64_t object)
 {
     char byte;
-    return histar_segment_read(&kernel, family, entry_of(object), 0, &byte, 1);
+    return histar_segment_read(&kernel, thread, entry_of(object), 0, &byte, 1);
 }
 
 static void make_category(struct plan *plan, struct category *category)
@@ -126,7 +121,6 @@ static uint64_t make_thread(const struct plan *plan, const histar_label *label)
 void make_objects(struct plan *plan)
 {
     struct levels plain = {{1, 1, 1, 1, 1, 1, 1, 1}};
-    histar_label first;
     MUST(histar_open(&kernel, PAGES));
     if (plan->dump) MUST(histar_log_on(&kernel));
     for (int i = 0; i < plan->category_count; i++) make_category(plan, &plan->categories[i]);
@@ -135,10 +129,6 @@ void make_objects(struct plan *plan)
         plan->reports[i].object = make_segment(plan, &plan->reports[i].levels, plan->reports[i].path);
     for (int i = 0; i < plan->gate_count; i++) make_gate(plan, &plan->gates[i]);
     terminal = make_segment(plan, &plain, "what is printed");
-    first = plain_label(plan, &plain);
-    family = make_thread(plan, &first);
-    tell_id(plan, family, "the program");
-    prints = !writes(family, terminal);
 }
 
 /* The refusal of a write by a thread of this label, which is made for that and goes again. */
@@ -161,68 +151,28 @@ static uint32_t enter(const struct plan *plan, const struct gate *gate, uint64_t
     return histar_gate_enter(&kernel, thread, entry_of(gate->object), &label, &clearance, &verify, NULL, NULL);
 }
 
-/* Whether a thread of this label, which is made for that and goes again, gets through a gate and writes what the gate writes. */
-static bool gets_through(const struct plan *plan, const struct gate *gate, const histar_label *label)
+/* What a gate writes. */
+static uint64_t behind(const struct plan *plan, const struct gate *gate)
 {
-    uint64_t behind = gate->report == SHOWN ? terminal : plan->reports[gate->report].object;
+    return gate->report == SHOWN ? terminal : plan->reports[gate->report].object;
+}
+
+/* Whether a thread of this label, which is made for that and goes again, gets through a gate and writes an object. */
+static bool gets_through(const struct plan *plan, const struct gate *gate, const histar_label *label, uint64_t object)
+{
     uint64_t thread = make_thread(plan, label);
-    bool is_through = !enter(plan, gate, thread, label) && !writes(thread, behind);
+    bool is_through = !enter(plan, gate, thread, label) && !writes(thread, object);
     MUST(histar_unref(&kernel, HISTAR_BOOT, entry_of(thread)));
     return is_through;
 }
 
-/* Tells each category in which the program is above what it would write. */
-static void tell_above(const struct plan *plan, const histar_label *own, const struct levels *levels)
-{
-    for (int i = 0; i < plan->category_count; i++) {
-        unsigned mine = level_in(own, plan->categories[i].number), its = levels->in[i];
-        if (mine > its) fprintf(stderr, " in the category of %s the program is at %u, and it at %u", plan->categories[i].name, mine, its);
-    }
-    fputc('\n', stderr);
-}
-
-/* Whether this is the first refusal of a thing, and is to be explained. */
-static bool is_first(const struct plan *plan, bool *is_told)
-{
-    bool is = plan->explains && !*is_told;
-    *is_told = true;
-    return is;
-}
-
-static void tell_write(const struct plan *plan, struct report *report)
-{
-    histar_label own = own_label();
-    if (!is_first(plan, &report->is_told)) return;
-    fprintf(stderr, "confine: refused to write %s:", report->path);
-    tell_above(plan, &own, &report->levels);
-}
-
-/* A line for what must not get to a report. */
-static void tell_held(const struct plan *plan, const char *path, bool *is_told, const char *held)
-{
-    if (is_first(plan, is_told))
-        fprintf(stderr, "confine: refused to open %s: the program was given %s to write\n", path, held);
-}
-
-/* A line for what is above the program's clearance. */
-static void tell_clearance(const struct plan *plan, const char *path, bool *is_told, const struct levels *levels)
-{
-    if (!is_first(plan, is_told)) return;
-    fprintf(stderr, "confine: refused to open %s:", path);
-    for (int i = 0; i < plan->category_count; i++)
-        if (levels->in[i] > plan->clearance.in[i])
-            fprintf(stderr, " in the category of %s it is at %u, and the program's clearance at %u", plan->categories[i].name,
-                    levels->in[i], plan->clearance.in[i]);
-    fputc('\n', stderr);
-}
-
 /* The name of the first report or gate that the program holds and may not write at this label, or NULL. */
-static const char *held_below(const struct plan *plan, const histar_label *label)
+static const char *held_below(const struct plan *plan, const struct family *family, const histar_label *label)
 {
     for (int i = 0; i < plan->report_count; i++)
-        if (plan->reports[i].is_held && would_write(plan, label, plan->reports[i].object)) return plan->reports[i].path;
+        if (family->holds_report[i] && would_write(plan, label, plan->reports[i].object)) return plan->reports[i].path;
     for (int i = 0; i < plan->gate_count; i++)
-        if (plan->gates[i].is_held && !gets_through(plan, &plan->gates[i], label)) return plan->gates[i].name;
+        if (family->holds_gate[i] && !gets_through(plan, &plan->gates[i], label, behind(plan, &plan->gates[i]))) return plan->gates[i].name;
     return NULL;
 }
 
@@ -234,92 +184,119 @@ static bool is_cleared(const struct plan *plan, const struct levels *levels)
 }
 
 /* Whether the program's label may rise to that of a thing. A line tells it by its path where it may not. */
-static bool may_rise(const struct plan *plan, const struct levels *levels, const char *path, bool *is_told)
+static bool may_rise(const struct plan *plan, const struct family *family, const struct levels *levels, const char *path, bool *is_refused)
 {
-    histar_label label = risen(plan, levels);
+    histar_label label = risen(plan, family, levels);
     const char *held;
-    if (!is_cleared(plan, levels)) tell_clearance(plan, path, is_told, levels);
-    else if ((held = held_below(plan, &label))) tell_held(plan, path, is_told, held);
+    if (!is_cleared(plan, levels)) explain_clearance(plan, path, is_refused, levels);
+    else if ((held = held_below(plan, family, &label))) explain_held(plan, path, is_refused, held);
     else return true;
     return false;
 }
 
-bool is_born(struct plan *plan)
+bool is_born(struct plan *plan, struct family *family)
 {
-    histar_label label = risen(plan, &plan->born);
-    bool is = is_cleared(plan, &plan->born);
-    if (is) MUST(histar_self_set_label(&kernel, family, &label));
-    prints = !writes(family, terminal);
-    return is;
+    struct levels plain = {{1, 1, 1, 1, 1, 1, 1, 1}};
+    histar_label label = plain_label(plan, &plain);
+    if (!is_cleared(plan, &plan->born)) return false;
+    family->thread = make_thread(plan, &label);
+    tell_id(plan, family->thread, "the program");
+    label = plain_label(plan, &plan->born);
+    MUST(histar_self_set_label(&kernel, family->thread, &label));
+    family->prints = !writes(family->thread, terminal);
+    return true;
 }
+
+uint32_t is_spawned(const struct plan *plan, const struct family *by, const struct levels *levels, struct family *family)
+{
+    histar_label label = plain_label(plan, levels), clearance = clearance_of(plan);
+    uint32_t refusal = histar_thread_create(&kernel, by->thread, HISTAR_ROOT, &label, 1, &clearance, 0, &family->thread);
+    if (!refusal) tell_id(plan, family->thread, "a program that it started");
+    return refusal;
+}
+
+uint64_t make_between(const struct plan *plan, const struct family *writer)
+{
+    struct levels levels = own_levels(plan, writer);
+    return make_segment(plan, &levels, "what a program gives to another");
+}
+
+void forget(uint64_t object) { MUST(histar_unref(&kernel, HISTAR_BOOT, entry_of(object))); }
+
+bool writes_between(const struct family *writer, uint64_t between) { return !writes(writer->thread, between); }
+
+bool reads_between(const struct family *reader, uint64_t between) { return !reads(reader->thread, between); }
 
 /* What the program knows from now on may get to all that it was given to write: the kernel is told. */
-static void write_held(const struct plan *plan)
+static void write_held(const struct plan *plan, struct family *family)
 {
-    prints = !writes(family, terminal);
+    family->prints = !writes(family->thread, terminal);
     for (int i = 0; i < plan->report_count; i++)
-        if (plan->reports[i].is_held) MUST(writes(family, plan->reports[i].object));
+        if (family->holds_report[i]) MUST(writes(family->thread, plan->reports[i].object));
 }
 
-bool opens_secret(struct plan *plan, int i)
+bool opens_secret(struct plan *plan, struct family *family, int i)
 {
     struct secret *secret = &plan->secrets[i];
-    histar_label label = risen(plan, &secret->levels), clearance = clearance_of(plan), verify = histar_level(HIGHEST);
-    if (!may_rise(plan, &secret->levels, secret->path, &secret->is_told)) return false;
-    MUST(histar_gate_enter(&kernel, family, entry_of(secret->object), &label, &clearance, &verify, NULL, NULL));
-    write_held(plan);
+    histar_label label = risen(plan, family, &secret->levels), clearance = clearance_of(plan), verify = histar_level(HIGHEST);
+    if (!may_rise(plan, family, &secret->levels, secret->path, &secret->is_refused)) return false;
+    MUST(histar_gate_enter(&kernel, family->thread, entry_of(secret->object), &label, &clearance, &verify, NULL, NULL));
+    write_held(plan, family);
     return true;
 }
 
 /* The program's label rises so that it observes a report. Whether it may. */
-static bool rises_to(const struct plan *plan, struct report *report)
+static bool rises_to(const struct plan *plan, struct family *family, struct report *report)
 {
-    histar_label label = risen(plan, &report->levels);
-    if (!reads(report->object)) return true;
-    if (!may_rise(plan, &report->levels, report->path, &report->is_told)) return false;
-    MUST(histar_self_set_label(&kernel, family, &label));
-    prints = !writes(family, terminal);
+    histar_label label = risen(plan, family, &report->levels);
+    if (!reads(family->thread, report->object)) return true;
+    if (!may_rise(plan, family, &report->levels, report->path, &report->is_refused)) return false;
+    MUST(histar_self_set_label(&kernel, family->thread, &label));
+    family->prints = !writes(family->thread, terminal);
     return true;
 }
 
-bool holds_report(struct plan *plan, int i)
+/* The write is asked for at the label that the program would have, before it rises: a refusal leaves it where it is. */
+bool holds_report(struct plan *plan, struct family *family, int i)
 {
     struct report *report = &plan->reports[i];
-    if (!rises_to(plan, report)) return false;
-    if (writes(family, report->object)) {
-        tell_write(plan, report);
+    histar_label label = risen(plan, family, &report->levels);
+    struct levels own = own_levels(plan, family);
+    if (is_cleared(plan, &report->levels) && would_write(plan, &label, report->object)) {
+        explain_write(plan, report, &own);
         return false;
     }
-    report->is_held = true;
+    if (!rises_to(plan, family, report)) return false;
+    MUST(writes(family->thread, report->object));
+    family->holds_report[i] = true;
     return true;
 }
 
-/* A line for each category that the gate doesn't own, and in which the program is above what the gate writes. */
-static void tell_gate(const struct plan *plan, struct gate *gate)
-{
-    histar_label own = own_label();
-    struct levels levels = {{1, 1, 1, 1, 1, 1, 1, 1}};
-    if (!is_first(plan, &gate->is_told)) return;
-    if (gate->report != SHOWN) levels = plan->reports[gate->report].levels;
-    for (int i = 0; i < plan->category_count; i++)
-        if (gate->owns[i]) levels.in[i] = HIGHEST;
-    fprintf(stderr, "confine: refused to enter the gate %s:", gate->name);
-    tell_above(plan, &own, &levels);
-}
-
-bool enters_gate(struct plan *plan, int i)
+bool enters_gate(struct plan *plan, struct family *family, int i)
 {
     struct gate *gate = &plan->gates[i];
-    histar_label own = own_label();
-    if (!gets_through(plan, gate, &own)) {
-        tell_gate(plan, gate);
-        return false;
-    }
-    gate->is_held = true;
-    return true;
+    struct levels own = own_levels(plan, family), most = {{1, 1, 1, 1, 1, 1, 1, 1}};
+    histar_label label = plain_label(plan, &own);
+    if (gets_through(plan, gate, &label, behind(plan, gate))) return family->holds_gate[i] = true;
+    if (gate->report != SHOWN) most = plan->reports[gate->report].levels;
+    for (int j = 0; j < plan->category_count; j++)
+        if (gate->owns[j]) most.in[j] = HIGHEST;
+    explain_gate(plan, gate, &own, &most);
+    return false;
 }
 
-bool may_print(void) { return prints; }
+/* A thread as high as any that gets to what the gate writes is asked for. */
+bool shows_gate(const struct plan *plan, int i)
+{
+    const struct gate *gate = &plan->gates[i];
+    struct levels highest = plan->clearance;
+    histar_label label;
+    if (gate->report == SHOWN) return true;
+    for (int j = 0; j < plan->category_count; j++)
+        if (plan->reports[gate->report].levels.in[j] < highest.in[j]) highest.in[j] = plan->reports[gate->report].levels.in[j];
+    label = plain_label(plan, &highest);
+    return !would_write(plan, &label, terminal);
+}
 
 bool write_dump(const struct plan *plan)
 {

@@ -6,6 +6,7 @@
 #include <signal.h>
 #include <stdlib.h>
 #include <string.h>
+#include <unistd.h>
 
 ENDS void fail(int status, const char *what)
 {
@@ -13,28 +14,39 @@ ENDS void fail(int status, const char *what)
     exit(status);
 }
 
-/* Each report by where it lies, so that no later name leads elsewhere. */
-static void find_reports(struct plan *plan)
+/* What is typed at a terminal is not for a program that has secrets. */
+static bool has_input(const struct plan *plan)
 {
-    for (int i = 0; i < plan->report_count; i++) {
-        struct report *report = &plan->reports[i];
-        report->file = open(report->path, O_PATH | O_CLOEXEC | O_NOFOLLOW);
-        if (report->file < 0) fail(ENDS_FAULT, report->path);
-    }
+    if (fcntl(0, F_GETFD) < 0) return false;
+    if (!isatty(0) || !plan->secret_count) return true;
+    fputs("confine: what is typed here is not given to a program that has secrets\n", stderr);
+    return false;
+}
+
+static bool is_run(const char *word)
+{
+    const char *last = strrchr(word, '/');
+    return !strcmp(last ? last + 1 : word, RUN_NAME);
 }
 
 int main(int count, char **words)
 {
     static struct plan plan;
-    struct child child;
+    static struct family family;
+    struct begun begun = {NULL, NULL, NULL, false};
     int status;
+    if (count && is_run(words[0])) return ask_run(count, words);
     signal(SIGPIPE, SIG_IGN);
     read_words(count, words, &plan);
     find_reports(&plan);
+    keep_apart(&plan);
+    find_folders(&plan);
     make_objects(&plan);
-    if (!is_born(&plan)) refuse("the program's label is above its clearance");
-    start(&plan, &child);
-    status = serve(&plan, &child);
+    if (!is_born(&plan, &family)) refuse("the program's label is above its clearance");
+    begun.words = plan.program;
+    begun.has_input = has_input(&plan);
+    if ((status = start(&plan, &begun, &family.world))) return status;
+    status = serve(&plan, &family);
     if (!write_dump(&plan)) fail(ENDS_FAULT, plan.dump);
     return status;
 }

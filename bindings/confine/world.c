@@ -1,82 +1,71 @@
-/* The keeper, which makes the program's world, and the program's start in it.
+/* The program's world, a mount namespace.
  *
- * The world is a mount namespace: an empty folder in memory, with the public folders and those secrets that the program
- * has opened, all read-only, and /tmp for itself. It has no network, no process and no queue of others. */
+ * It is an empty folder in memory, with what each program finds, the public folders and those secrets that the program has
+ * opened, all read-only, and folders of its own: /tmp, /dev/shm and those that its reports stand in. It has no network, no process
+ * and no queue of others.
+ *
+ * A public folder or a secret is an overlay of nothing over the folder. So what a program does to a file there by its
+ * descriptor (a lock, a lease) or by its name (a pipe, a socket) stays in the world, also where the folder lies in one of the
+ * program's own. */
 #define _GNU_SOURCE
 #include "confine.h"
 #include <errno.h>
 #include <fcntl.h>
-#include <linux/capability.h>
-#include <linux/landlock.h>
 #include <linux/mount.h>
-#include <sched.h>
-#include <signal.h>
 #include <stdlib.h>
 #include <string.h>
 #include <sys/mount.h>
-#include <sys/prctl.h>
-#include <sys/resource.h>
-#include <sys/socket.h>
 #include <sys/stat.h>
 #include <sys/syscall.h>
-#include <sys/uio.h>
-#include <sys/utsname.h>
-#include <sys/wait.h>
 #include <unistd.h>
 
-/* Where the world is put together, before it becomes the root. */
+/* Where the world is put together, before it becomes the root, and in it the program's own folders. */
 #define BASE "/tmp"
+#define OWN BASE "/own"
 
-/* Folders, files and devices that each program finds. */
-static const char *const ALWAYS[] = {
+const char *const ALWAYS[] = {
     "/usr", "/bin", "/sbin", "/lib", "/lib64", "/etc/alternatives", "/etc/ld.so.cache", "/etc/passwd", "/etc/group",
-    "/etc/nsswitch.conf", "/etc/localtime", "/etc/mime.types", "/etc/magic", "/dev/null", "/dev/zero", "/dev/full",
+    "/etc/nsswitch.conf", "/etc/localtime", "/etc/mime.types", "/etc/magic", "/etc/fonts", "/etc/texmf", "/var/lib/texmf",
+    "/etc/java-11-openjdk", "/etc/java-17-openjdk", "/etc/java-21-openjdk", "/dev/null", "/dev/zero", "/dev/full",
     "/dev/random", "/dev/urandom", NULL};
 
-/* How much the program may use: bytes of /tmp and of one file, processes of one user. */
-static const char SCRATCH[] = "size=256m,nr_inodes=65536,mode=1777";
-enum { MOST_PROCESSES = 512 };
-static const rlim_t MOST_FILE = (rlim_t)1 << 30;
+/* Links that each program finds. */
+static const struct { const char *from, *to; } LINKS[] = {
+    {"/dev/fd", "/proc/self/fd"}, {"/dev/stdin", "/proc/self/fd/0"}, {"/dev/stdout", "/proc/self/fd/1"}, {"/dev/stderr", "/proc/self/fd/2"}};
 
-static int trees[MOST_SECRETS]; /* each secret as a mount that has no place yet */
+/* How much the program's own folders hold. */
+static const char SCRATCH[] = "size=1g,nr_inodes=65536,mode=755";
 
-_Noreturn static void unable(const char *what)
+static int trees[MOST_SECRETS];        /* each secret as a mount that has no place yet */
+static int report_trees[MOST_REPORTS]; /* each report that stands in a folder which is not the program's own */
+static int own[2 + MOST_REPORTS];      /* what the program may write: folders of its own, and reports that stand elsewhere */
+static int own_count;
+
+enum { READ_ONLY = MOUNT_ATTR_RDONLY | MOUNT_ATTR_NOSUID | MOUNT_ATTR_NODEV };
+
+/* What the machine has at a path as a mount of its own, with these attributes; -1 where it isn't there. */
+static int tree_of(const char *path, uint64_t attributes)
 {
-    fprintf(stderr, "confine: this machine can't confine: %s: %s\n", what, strerror(errno));
-    exit(ENDS_UNABLE);
-}
-
-static void must(long result, const char *what)
-{
-    if (result < 0) unable(what);
-}
-
-#define MUST(call) must((long)(call), #call)
-
-static void write_file(const char *path, const char *text)
-{
-    int file = open(path, O_WRONLY | O_CLOEXEC);
-    if (file < 0 || write(file, text, strlen(text)) < 0) unable(path);
-    close(file);
-}
-
-static void take_user(uid_t user, gid_t group)
-{
-    char map[64];
-    write_file("/proc/self/setgroups", "deny");
-    snprintf(map, sizeof map, "1000 %u 1", user);
-    write_file("/proc/self/uid_map", map);
-    snprintf(map, sizeof map, "1000 %u 1", group);
-    write_file("/proc/self/gid_map", map);
-}
-
-/* A folder or a file as a mount of its own, read-only for a secret and for what is public. */
-static int tree_of(const char *path, bool is_device)
-{
-    struct mount_attr attributes = {.attr_set = MOUNT_ATTR_NOSUID};
+    struct mount_attr set = {.attr_set = attributes};
     int tree = (int)syscall(SYS_open_tree, AT_FDCWD, path, OPEN_TREE_CLONE | OPEN_TREE_CLOEXEC | AT_RECURSIVE);
-    if (!is_device) attributes.attr_set |= MOUNT_ATTR_RDONLY | MOUNT_ATTR_NODEV;
-    if (tree >= 0) MUST(syscall(SYS_mount_setattr, tree, "", AT_EMPTY_PATH | AT_RECURSIVE, &attributes, sizeof attributes));
+    if (tree >= 0) NEEDS(syscall(SYS_mount_setattr, tree, "", AT_EMPTY_PATH | AT_RECURSIVE, &set, sizeof set));
+    return tree;
+}
+
+/* An overlay of nothing over a folder that is open, as a mount that has no place yet; -1 where the machine can't make it. */
+static int overlay_of(int folder)
+{
+    char both[128];
+    int nothing = open(OWN "/nothing", O_PATH | O_CLOEXEC), tree = -1;
+    int context = (int)syscall(SYS_fsopen, "overlay", FSOPEN_CLOEXEC);
+    snprintf(both, sizeof both, "/proc/self/fd/%d:/proc/self/fd/%d", folder, nothing);
+    if (context >= 0 && nothing >= 0 && !syscall(SYS_fsconfig, context, FSCONFIG_SET_STRING, "lowerdir", both, 0)
+        && !syscall(SYS_fsconfig, context, FSCONFIG_SET_FLAG, "userxattr", NULL, 0)
+        && !syscall(SYS_fsconfig, context, FSCONFIG_SET_STRING, "xino", "off", 0)
+        && !syscall(SYS_fsconfig, context, FSCONFIG_CMD_CREATE, NULL, NULL, 0))
+        tree = (int)syscall(SYS_fsmount, context, FSMOUNT_CLOEXEC, READ_ONLY);
+    close(context);
+    close(nothing);
     return tree;
 }
 
@@ -103,11 +92,12 @@ static void make_place(const char *path, bool is_folder)
     else if ((made = open(at, O_CREAT | O_WRONLY | O_CLOEXEC, 0644)) >= 0) close(made);
 }
 
-static void put_tree(int tree, const char *base, const char *path)
+static void put_tree(int tree, const char *path, bool is_folder)
 {
     char at[PATH_MAX + sizeof BASE];
-    snprintf(at, sizeof at, "%s%s", base, path);
-    MUST(syscall(SYS_move_mount, tree, "", AT_FDCWD, at, MOVE_MOUNT_F_EMPTY_PATH));
+    make_place(path, is_folder);
+    snprintf(at, sizeof at, "%s%s", BASE, path);
+    NEEDS(syscall(SYS_move_mount, tree, "", AT_FDCWD, at, MOVE_MOUNT_F_EMPTY_PATH));
     close(tree);
 }
 
@@ -119,8 +109,8 @@ struct taken {
     char link[PATH_MAX];
 };
 
-/* One of those things as it stands: a link stays a link. What isn't there is passed over. */
-static bool take(struct taken *taken, const char *path)
+/* One of those things that each program finds, as it stands: a link stays a link. What isn't there is passed over. */
+static bool find(struct taken *taken, const char *path)
 {
     struct stat found;
     ssize_t length;
@@ -135,21 +125,50 @@ static bool take(struct taken *taken, const char *path)
     }
     if (stat(path, &found)) return false;
     taken->is_folder = S_ISDIR(found.st_mode);
-    taken->tree = tree_of(path, S_ISCHR(found.st_mode));
+    taken->tree = tree_of(path, S_ISCHR(found.st_mode) ? READ_ONLY & ~MOUNT_ATTR_NODEV : READ_ONLY);
     return taken->tree >= 0;
+}
+
+static void put_link(const char *from, const char *to)
+{
+    char at[PATH_MAX + sizeof BASE];
+    make_above(from);
+    snprintf(at, sizeof at, "%s%s", BASE, from);
+    NEEDS(symlink(to, at));
 }
 
 static void put(const struct taken *taken)
 {
-    char at[PATH_MAX + sizeof BASE];
-    if (taken->is_link) {
-        snprintf(at, sizeof at, "%s%s", BASE, taken->path);
-        make_above(taken->path);
-        MUST(symlink(taken->link, at));
-        return;
-    }
-    make_place(taken->path, taken->is_folder);
-    put_tree(taken->tree, BASE, taken->path);
+    if (taken->is_link) put_link(taken->path, taken->link);
+    else put_tree(taken->tree, taken->path, taken->is_folder);
+}
+
+/* Whether a path lies in a folder of the program's own. */
+static bool is_in_own(const struct plan *plan, const char *path)
+{
+    for (int i = 0; i < plan->folder_count; i++)
+        if (plan->folders[i].is_whole && is_below(path, plan->folders[i].path)) return true;
+    return is_below(path, "/tmp");
+}
+
+/* A folder that the program may read. One with mounts in it can't be overlaid by a user: it is taken as it is, which
+ * is safe where it does not lie in a folder of the program's own. */
+static int readable(const struct plan *plan, const char *path, int folder)
+{
+    char link[64];
+    int tree = overlay_of(folder);
+    snprintf(link, sizeof link, "/proc/self/fd/%d", folder);
+    if (tree < 0 && !is_in_own(plan, path)) tree = tree_of(link, READ_ONLY);
+    if (tree < 0) unable(path);
+    close(folder);
+    return tree;
+}
+
+static int open_folder(const char *path)
+{
+    int folder = open(path, O_PATH | O_DIRECTORY | O_CLOEXEC);
+    if (folder < 0) unable(path);
+    return folder;
 }
 
 /* A gate as an empty file that nobody may change: who opens it to write gets what leads to its program. */
@@ -160,240 +179,148 @@ static void make_gate_place(const struct gate *gate)
     make_place(path, false);
 }
 
-static void make_world(const struct plan *plan)
+static void note_own(const char *name)
 {
-    static struct taken taken[sizeof ALWAYS / sizeof *ALWAYS + MOST_OPEN];
-    int count = 0;
-    MUST(mount(NULL, "/", NULL, MS_REC | MS_PRIVATE, NULL));
-    for (const char *const *path = ALWAYS; *path; path++) count += take(&taken[count], *path);
-    for (int i = 0; i < plan->open_count; i++) count += take(&taken[count], plan->open[i]);
-    for (int i = 0; i < plan->secret_count; i++) MUST(trees[i] = tree_of(plan->secrets[i].path, false));
-    MUST(mount("confine", BASE, "tmpfs", MS_NOSUID | MS_NODEV, "size=1m,mode=755"));
-    make_place("/tmp", true);
-    MUST(mount("confine", BASE "/tmp", "tmpfs", MS_NOSUID | MS_NODEV, SCRATCH));
+    NEEDS(own[own_count++] = open(name, O_PATH | O_CLOEXEC));
+}
+
+int own_of(const int **files)
+{
+    *files = own;
+    return own_count;
+}
+
+/* The program's own folders, and those of its reports, the outer ones first. */
+static void make_own(const struct plan *plan)
+{
+    static const struct { const char *name, *path; mode_t mode; } NAMED[] = {{OWN "/tmp", "/tmp", 01777}, {OWN "/shm", "/dev/shm", 01777}};
+    char name[64];
+    NEEDS(mkdir(OWN, 0755));
+    NEEDS(mount("confine", OWN, "tmpfs", MS_NOSUID | MS_NODEV, SCRATCH));
+    NEEDS(mkdir(OWN "/nothing", 0755));
+    for (size_t i = 0; i < sizeof NAMED / sizeof *NAMED; i++) {
+        NEEDS(mkdir(NAMED[i].name, NAMED[i].mode));
+        NEEDS(chmod(NAMED[i].name, NAMED[i].mode));
+        note_own(NAMED[i].name);
+        put_tree(tree_of(NAMED[i].name, MOUNT_ATTR_NOSUID | MOUNT_ATTR_NODEV), NAMED[i].path, true);
+    }
+    for (int i = 0; i < plan->folder_count; i++) {
+        snprintf(name, sizeof name, OWN "/%d", i);
+        NEEDS(mkdir(name, 0755));
+    }
+    for (size_t length = 0; length < PATH_MAX; length++)
+        for (int i = 0; i < plan->folder_count; i++) {
+            if (!plan->folders[i].is_whole || strlen(plan->folders[i].path) != length) continue;
+            snprintf(name, sizeof name, OWN "/%d", i);
+            note_own(name);
+            put_tree(tree_of(name, MOUNT_ATTR_NOSUID | MOUNT_ATTR_NODEV), plan->folders[i].path, true);
+        }
+}
+
+/* Each report as an empty file of long ago, that the program may not write yet. */
+static void make_report_places(const struct plan *plan)
+{
+    static const struct timespec LONG_AGO[2] = {{0, 0}, {0, 0}};
+    for (int i = 0; i < plan->report_count; i++) {
+        const struct report *report = &plan->reports[i];
+        char name[PATH_MAX + 64];
+        int made;
+        snprintf(name, sizeof name, OWN "/%d%s", report->folder, strrchr(report->path, '/'));
+        NEEDS(made = open(name, O_CREAT | O_WRONLY | O_CLOEXEC, 0400));
+        NEEDS(futimens(made, LONG_AGO));
+        close(made);
+        report_trees[i] = -1;
+        if (plan->folders[report->folder].is_whole) continue;
+        note_own(name);
+        report_trees[i] = tree_of(name, MOUNT_ATTR_NOSUID | MOUNT_ATTR_NODEV);
+    }
+}
+
+/* Whether a report is seen in the world from the start, and not only with a secret that it lies in. */
+static bool is_seen(const struct plan *plan, const struct report *report)
+{
+    for (int i = 0; i < plan->secret_count; i++)
+        if (is_below(report->path, plan->secrets[i].path)) return false;
+    return true;
+}
+
+/* A place for a secret that can't be moved, as a folder of nothing. */
+static void make_secret_place(const char *path)
+{
+    put_tree(tree_of(OWN "/nothing", READ_ONLY), path, true);
+}
+
+/* This program, which asks for starts in the world. */
+static int own_tree(void)
+{
+    char path[PATH_MAX];
+    ssize_t length = readlink("/proc/self/exe", path, sizeof path - 1);
+    if (length < 0) return -1;
+    path[length] = 0;
+    return tree_of(path, READ_ONLY);
+}
+
+void make_world(const struct plan *plan)
+{
+    static struct taken taken[32];
+    int count = 0, folders[MOST_OPEN], secrets[MOST_SECRETS], run;
+    NEEDS(mount(NULL, "/", NULL, MS_REC | MS_PRIVATE, NULL));
+    for (const char *const *path = ALWAYS; *path; path++) count += find(&taken[count], *path);
+    for (int i = 0; i < plan->open_count; i++) folders[i] = open_folder(plan->open[i]);
+    for (int i = 0; i < plan->secret_count; i++) secrets[i] = open_folder(plan->secrets[i].path);
+    run = own_tree();
+    NEEDS(mount("confine", BASE, "tmpfs", MS_NOSUID | MS_NODEV, "size=1m,mode=755"));
+    make_own(plan);
     for (int i = 0; i < count; i++) put(&taken[i]);
-    for (int i = 0; i < plan->secret_count; i++) make_place(plan->secrets[i].path, true);
+    for (size_t i = 0; i < sizeof LINKS / sizeof *LINKS; i++) put_link(LINKS[i].from, LINKS[i].to);
+    make_report_places(plan);
+    for (int i = 0; i < plan->secret_count; i++) trees[i] = readable(plan, plan->secrets[i].path, secrets[i]);
+    for (int i = 0; i < plan->open_count; i++) put_tree(readable(plan, plan->open[i], folders[i]), plan->open[i], true);
+    for (int i = 0; i < plan->secret_count; i++) make_secret_place(plan->secrets[i].path);
     for (int i = 0; i < plan->gate_count; i++) make_gate_place(&plan->gates[i]);
-    MUST(chdir(BASE));
-    MUST(syscall(SYS_pivot_root, ".", "."));
-    MUST(umount2(".", MNT_DETACH));
-    MUST(chdir("/"));
-    MUST(mount(NULL, "/", NULL, MS_REMOUNT | MS_BIND | MS_RDONLY | MS_NOSUID | MS_NODEV, NULL));
+    for (int i = 0; i < plan->report_count; i++)
+        if (report_trees[i] >= 0 && is_seen(plan, &plan->reports[i])) put_tree(report_trees[i], plan->reports[i].path, false);
+    if (run >= 0) put_tree(run, RUN_FOLDER "/" RUN_NAME, false);
+    make_place("/proc", true);
 }
 
-/* A second wall round the files: reads of all that the world has, writes of /tmp and of the devices alone. */
-static void limit_files(void)
+int open_scratch(void)
 {
-    enum { READS = LANDLOCK_ACCESS_FS_EXECUTE | LANDLOCK_ACCESS_FS_READ_FILE | LANDLOCK_ACCESS_FS_READ_DIR };
-    static const struct { const char *path; uint64_t rights; } RULES[] = {
-        {"/", READS}, {"/tmp", (1ULL << 15) - 1}, {"/dev", READS | LANDLOCK_ACCESS_FS_WRITE_FILE}};
-    /* (newer headers name the network's rights and the scopes of signals and sockets) */
-    struct { uint64_t files, network, scopes; } all = {(1ULL << 15) - 1, 3, 3};
-    long version = syscall(SYS_landlock_create_ruleset, NULL, 0, LANDLOCK_CREATE_RULESET_VERSION);
-    size_t size = version >= 6 ? sizeof all : version >= 4 ? 2 * sizeof(uint64_t) : sizeof(uint64_t);
-    int rules;
-    if (version < 3) {
-        errno = ENOSYS;
-        unable("Landlock");
-    }
-    MUST(rules = (int)syscall(SYS_landlock_create_ruleset, &all, size, 0));
-    for (size_t i = 0; i < sizeof RULES / sizeof *RULES; i++) {
-        struct landlock_path_beneath_attr rule = {.allowed_access = RULES[i].rights};
-        MUST(rule.parent_fd = open(RULES[i].path, O_PATH | O_CLOEXEC));
-        MUST(syscall(SYS_landlock_add_rule, rules, LANDLOCK_RULE_PATH_BENEATH, &rule, 0));
-        close(rule.parent_fd);
-    }
-    MUST(syscall(SYS_landlock_restrict_self, rules, 0));
-    close(rules);
+    int scratch;
+    NEEDS(scratch = open(OWN, O_RDONLY | O_DIRECTORY | O_CLOEXEC));
+    return scratch;
 }
 
-static void limit(int resource, rlim_t most)
+/* It is read-only, and has nothing of the machine but what every process has. */
+void add_proc(void)
 {
-    struct rlimit limits = {most, most};
-    MUST(setrlimit((unsigned)resource, &limits));
+    int context = (int)syscall(SYS_fsopen, "proc", FSOPEN_CLOEXEC), tree = -1;
+    if (context >= 0 && !syscall(SYS_fsconfig, context, FSCONFIG_SET_STRING, "subset", "pid", 0)
+        && !syscall(SYS_fsconfig, context, FSCONFIG_CMD_CREATE, NULL, NULL, 0))
+        tree = (int)syscall(SYS_fsmount, context, FSMOUNT_CLOEXEC, READ_ONLY | MOUNT_ATTR_NOEXEC);
+    if (tree >= 0) put_tree(tree, "/proc", true);
+    close(context);
 }
 
-static void lose_privileges(void)
+void enter_world(void)
 {
-    struct __user_cap_header_struct header = {_LINUX_CAPABILITY_VERSION_3, 0};
-    struct __user_cap_data_struct none[2] = {{0, 0, 0}, {0, 0, 0}};
-    for (unsigned long capability = 0; capability < 64; capability++) prctl(PR_CAPBSET_DROP, capability, 0, 0, 0);
-    MUST(syscall(SYS_capset, &header, none));
-    MUST(prctl(PR_SET_NO_NEW_PRIVS, 1, 0, 0, 0));
+    NEEDS(chdir(BASE));
+    NEEDS(umount2(OWN, MNT_DETACH));
+    NEEDS(rmdir(OWN));
+    NEEDS(syscall(SYS_pivot_root, ".", "."));
+    NEEDS(umount2(".", MNT_DETACH));
+    NEEDS(chdir("/"));
+    NEEDS(mount(NULL, "/", NULL, MS_REMOUNT | MS_BIND | MS_RDONLY | MS_NOSUID | MS_NODEV, NULL));
 }
 
-static void send_descriptor(int socket, int descriptor)
+/* Reports that lie in it stand over it. */
+int put_secret(const struct plan *plan, int i)
 {
-    char byte = 'l';
-    struct iovec part = {&byte, 1};
-    union { char room[CMSG_SPACE(sizeof(int))]; struct cmsghdr aligned; } control;
-    struct msghdr message = {.msg_iov = &part, .msg_iovlen = 1, .msg_control = control.room, .msg_controllen = sizeof control.room};
-    struct cmsghdr *head = CMSG_FIRSTHDR(&message);
-    head->cmsg_level = SOL_SOCKET;
-    head->cmsg_type = SCM_RIGHTS;
-    head->cmsg_len = CMSG_LEN(sizeof descriptor);
-    memcpy(CMSG_DATA(head), &descriptor, sizeof descriptor);
-    if (sendmsg(socket, &message, MSG_NOSIGNAL) != 1) _exit(ENDS_FAULT);
-}
-
-static int receive_descriptor(int socket)
-{
-    char byte;
-    int descriptor = -1;
-    struct iovec part = {&byte, 1};
-    union { char room[CMSG_SPACE(sizeof(int))]; struct cmsghdr aligned; } control;
-    struct msghdr message = {.msg_iov = &part, .msg_iovlen = 1, .msg_control = control.room, .msg_controllen = sizeof control.room};
-    struct cmsghdr *head;
-    if (recvmsg(socket, &message, MSG_CMSG_CLOEXEC) != 1 || byte != 'l') return -1;
-    head = CMSG_FIRSTHDR(&message);
-    if (head && head->cmsg_type == SCM_RIGHTS) memcpy(&descriptor, CMSG_DATA(head), sizeof descriptor);
-    return descriptor;
-}
-
-/* The program: 0 to 2 and the socket stay, and the socket goes as the program begins. */
-_Noreturn static void become_program(const struct plan *plan, const int *streams, int socket)
-{
-    char may_go;
-    int listener;
-    MUST(dup2(streams[0], 0));
-    MUST(dup2(streams[1], 1));
-    MUST(dup2(socket, 3));
-    MUST(fcntl(3, F_SETFD, FD_CLOEXEC));
-    if (dup2(streams[2], 2) < 0) _exit(ENDS_FAULT);
-    if (close_range(4, ~0U, 0)) _exit(ENDS_FAULT);
-    setsid();
-    signal(SIGPIPE, SIG_DFL);
-    lose_privileges();
-    limit_files();
-    limit(RLIMIT_NPROC, MOST_PROCESSES);
-    limit(RLIMIT_FSIZE, MOST_FILE);
-    limit(RLIMIT_CORE, 0);
-    if ((listener = load_filter()) < 0) unable("seccomp's notifications");
-    send_descriptor(3, listener);
-    close(listener);
-    if (read(3, &may_go, 1) != 1) _exit(ENDS_FAULT);
-    execvp(plan->program[0], plan->program);
-    dprintf(2, "confine: %s: %s\n", plan->program[0], strerror(errno));
-    _exit(errno == ENOENT ? 127 : 126);
-}
-
-static void close_all(const int *files, int count)
-{
-    for (int i = 0; i < count; i++) close(files[i]);
-}
-
-static int status_of(int status)
-{
-    return WIFEXITED(status) ? WEXITSTATUS(status) : 128 + WTERMSIG(status);
-}
-
-/* Whether a world has its own greatest process number. Before, there is one for the whole machine. */
-static bool numbers_are_own(void)
-{
-    struct utsname machine;
-    int version, release;
-    return !uname(&machine) && sscanf(machine.release, "%d.%d", &version, &release) == 2
-        && (version > 6 || (version == 6 && release >= 14));
-}
-
-/* The world has so many processes, threads among them, also where the user is root, whom RLIMIT_NPROC does not bind. */
-static void limit_numbers(int proc)
-{
-    char text[16];
-    int file = numbers_are_own() ? openat(proc, "sys/kernel/pid_max", O_WRONLY | O_CLOEXEC) : -1;
-    snprintf(text, sizeof text, "%d", MOST_PROCESSES + 1);
-    if (file >= 0) {
-        MUST(write(file, text, strlen(text)));
-        close(file);
-    }
-    close(proc);
-}
-
-/* The first process of the world: it ends as the program does, and with it all that the program left running. */
-_Noreturn static void run_first(const struct plan *plan, const int *streams, int socket, int proc)
-{
-    int status;
-    pid_t program, ended;
-    MUST(prctl(PR_SET_PDEATHSIG, SIGKILL, 0, 0, 0));
-    limit_numbers(proc);
-    MUST(program = fork());
-    if (!program) become_program(plan, streams, socket);
-    close(socket);
-    close_all(streams, 3);
-    while ((ended = wait(&status)) != program)
-        if (ended < 0 && errno != EINTR) _exit(ENDS_FAULT);
-    _exit(status_of(status));
-}
-
-/* Puts secrets into the world as the broker names them, until the program has ended, and tells its status. */
-_Noreturn static void keep(const struct plan *plan, pid_t first, int socket)
-{
-    int asked, answer, status;
-    while (read(socket, &asked, sizeof asked) == sizeof asked) {
-        char at[PATH_MAX + 1];
-        snprintf(at, sizeof at, "%s", plan->secrets[asked].path);
-        answer = syscall(SYS_move_mount, trees[asked], "", AT_FDCWD, at, MOVE_MOUNT_F_EMPTY_PATH) ? errno : 0;
-        if (write(socket, &answer, sizeof answer) != sizeof answer) break;
-    }
-    if (waitpid(first, &status, 0) != first) _exit(ENDS_FAULT);
-    _exit(status_of(status));
-}
-
-_Noreturn static void run_keeper(const struct plan *plan, const int *streams, int keeper_socket, int program_socket)
-{
-    uid_t user = getuid();
-    gid_t group = getgid();
-    pid_t first;
-    int proc;
-    MUST(proc = open("/proc", O_PATH | O_DIRECTORY | O_CLOEXEC));
-    MUST(unshare(CLONE_NEWUSER | CLONE_NEWNS | CLONE_NEWNET | CLONE_NEWIPC | CLONE_NEWPID | CLONE_NEWUTS));
-    MUST(prctl(PR_SET_PDEATHSIG, SIGKILL, 0, 0, 0));
-    take_user(user, group);
-    make_world(plan);
-    MUST(first = fork());
-    if (!first) {
-        close(keeper_socket);
-        run_first(plan, streams, program_socket, proc);
-    }
-    close(program_socket);
-    close(proc);
-    close_all(streams, 3);
-    keep(plan, first, keeper_socket);
-}
-
-/* The program's standard input: a pipe that the broker fills, or nothing where it would be a terminal. What is typed there
- * is not for the program, and what others read of the same file stays where they left it. */
-static void make_input(int *input)
-{
-    MUST(pipe2(input, O_CLOEXEC));
-    if (!isatty(0) && fcntl(0, F_GETFD) >= 0) MUST(fcntl(input[1], F_SETFL, O_NONBLOCK));
-    else close(input[1]), input[1] = -1;
-}
-
-void start(const struct plan *plan, struct child *child)
-{
-    int in[2], out[2], error[2], keeper[2], program[2], status;
-    make_input(in);
-    MUST(pipe2(out, O_CLOEXEC));
-    MUST(pipe2(error, O_CLOEXEC));
-    MUST(socketpair(AF_UNIX, SOCK_STREAM | SOCK_CLOEXEC, 0, keeper));
-    MUST(socketpair(AF_UNIX, SOCK_STREAM | SOCK_CLOEXEC, 0, program));
-    MUST(child->keeper = fork());
-    if (!child->keeper) {
-        int streams[3] = {in[0], out[1], error[1]}, others[5] = {keeper[0], program[0], in[1], out[0], error[0]};
-        close_all(others, 5);
-        run_keeper(plan, streams, keeper[1], program[1]);
-    }
-    close_all((int[]){keeper[1], program[1], in[0], out[1], error[1]}, 5);
-    child->listener = receive_descriptor(program[0]);
-    if (child->listener < 0) {
-        if (waitpid(child->keeper, &status, 0) == child->keeper && WIFEXITED(status)) exit(WEXITSTATUS(status));
-        exit(ENDS_FAULT);
-    }
-    MUST(write(program[0], "g", 1));
-    close(program[0]);
-    child->keeper_socket = keeper[0];
-    child->input = in[1];
-    child->printed[0] = out[0];
-    child->printed[1] = error[0];
+    const char *path = plan->secrets[i].path;
+    if (syscall(SYS_move_mount, trees[i], "", AT_FDCWD, path, MOVE_MOUNT_F_EMPTY_PATH)) return errno;
+    for (int j = 0; j < plan->report_count; j++)
+        if (report_trees[j] >= 0 && is_below(plan->reports[j].path, path)
+            && syscall(SYS_move_mount, report_trees[j], "", AT_FDCWD, plan->reports[j].path, MOVE_MOUNT_F_EMPTY_PATH))
+            return errno;
+    return 0;
 }

@@ -1,0 +1,34 @@
+/* Descriptors that go through a socket. */
+#define _GNU_SOURCE
+#include "confine.h"
+#include <string.h>
+#include <sys/socket.h>
+#include <sys/uio.h>
+
+bool send_descriptor(int socket, int descriptor)
+{
+    char byte = 'd';
+    struct iovec part = {&byte, 1};
+    union { char room[CMSG_SPACE(sizeof(int))]; struct cmsghdr aligned; } control;
+    struct msghdr message = {.msg_iov = &part, .msg_iovlen = 1, .msg_control = control.room, .msg_controllen = sizeof control.room};
+    struct cmsghdr *head = CMSG_FIRSTHDR(&message);
+    head->cmsg_level = SOL_SOCKET;
+    head->cmsg_type = SCM_RIGHTS;
+    head->cmsg_len = CMSG_LEN(sizeof descriptor);
+    memcpy(CMSG_DATA(head), &descriptor, sizeof descriptor);
+    return sendmsg(socket, &message, MSG_NOSIGNAL) == 1;
+}
+
+int receive_descriptor(int socket)
+{
+    char byte;
+    int descriptor = -1;
+    struct iovec part = {&byte, 1};
+    union { char room[CMSG_SPACE(sizeof(int))]; struct cmsghdr aligned; } control;
+    struct msghdr message = {.msg_iov = &part, .msg_iovlen = 1, .msg_control = control.room, .msg_controllen = sizeof control.room};
+    struct cmsghdr *head;
+    if (recvmsg(socket, &message, MSG_CMSG_CLOEXEC) != 1 || byte != 'd') return -1;
+    head = CMSG_FIRSTHDR(&message);
+    if (head && head->cmsg_type == SCM_RIGHTS) memcpy(&descriptor, CMSG_DATA(head), sizeof descriptor);
+    return descriptor;
+}

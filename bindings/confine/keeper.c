@@ -1,0 +1,209 @@
+/* The keeper, which has the program's world, and the program's start in it. */
+#define _GNU_SOURCE
+#include "confine.h"
+#include <errno.h>
+#include <fcntl.h>
+#include <limits.h>
+#include <sched.h>
+#include <signal.h>
+#include <stdlib.h>
+#include <string.h>
+#include <sys/prctl.h>
+#include <sys/socket.h>
+#include <sys/wait.h>
+#include <unistd.h>
+
+/* Where the first process finds what it goes on with. */
+struct ends {
+    int streams[3]; /* the program's standard streams */
+    int program;    /* the program's socket to the broker */
+    int proc;       /* the machine's /proc */
+    int entered;    /* it is written to once the world is the root */
+    const struct begun *begun;
+};
+
+ENDS void unable(const char *what)
+{
+    fprintf(stderr, "confine: this machine can't confine: %s: %s\n", what, strerror(errno));
+    exit(ENDS_UNABLE);
+}
+
+void must(long result, const char *what)
+{
+    if (result < 0) unable(what);
+}
+
+static void write_file(const char *path, const char *text)
+{
+    int file = open(path, O_WRONLY | O_CLOEXEC);
+    if (file < 0 || write(file, text, strlen(text)) < 0) unable(path);
+    close(file);
+}
+
+/* The user has his own number inside, and no other. */
+static void take_user(uid_t user, gid_t group)
+{
+    char map[64];
+    write_file("/proc/self/setgroups", "deny");
+    snprintf(map, sizeof map, "%u %u 1", user, user);
+    write_file("/proc/self/uid_map", map);
+    snprintf(map, sizeof map, "%u %u 1", group, group);
+    write_file("/proc/self/gid_map", map);
+}
+
+/* The program finds what asks for a start among its programs. */
+static void add_run(void)
+{
+    static char path[PATH_MAX];
+    const char *own = getenv("PATH");
+    if (!own || strstr(own, RUN_FOLDER)) return;
+    snprintf(path, sizeof path, "%s:" RUN_FOLDER, own);
+    setenv("PATH", path, 1);
+}
+
+/* The program. Its standard error is confine's own until nothing can fail any more but the program itself. 0 to 2 stay, and the
+ * socket and the fourth go as the program begins. */
+_Noreturn static void become_program(const struct ends *ends)
+{
+    const struct begun *begun = ends->begun;
+    char may_go;
+    int listener, error, filter;
+    raise_walls();
+    NEEDS(dup2(ends->streams[0], 0));
+    NEEDS(dup2(ends->streams[1], 1));
+    NEEDS(error = fcntl(ends->streams[2], F_DUPFD, 5));
+    NEEDS(dup2(ends->program, 3));
+    NEEDS(dup2(error, 4));
+    NEEDS(fcntl(3, F_SETFD, FD_CLOEXEC));
+    NEEDS(close_range(5, ~0U, 0));
+    setsid();
+    signal(SIGPIPE, SIG_DFL);
+    if ((filter = receive_descriptor(3)) < 0) _exit(ENDS_FAULT);
+    if ((listener = load_filter(filter)) < 0) unable("seccomp's notifications");
+    if (close(filter) || !send_descriptor(3, listener) || close(listener) || read(3, &may_go, 1) != 1) _exit(ENDS_FAULT);
+    if (dup2(4, 2) < 0 || close(4)) _exit(ENDS_FAULT);
+    if (begun->environment) environ = begun->environment;
+    add_run();
+    if (!begun->folder || !chdir(begun->folder)) execvp(begun->words[0], begun->words);
+    dprintf(2, "confine: %s: %s\n", begun->words[0], strerror(errno));
+    _exit(errno == ENOENT ? 127 : 126);
+}
+
+static void close_all(const int *files, int count)
+{
+    for (int i = 0; i < count; i++) close(files[i]);
+}
+
+static int status_of(int status)
+{
+    return WIFEXITED(status) ? WEXITSTATUS(status) : 128 + WTERMSIG(status);
+}
+
+/* The first process of the world: it ends as the program does, and with it all that the program left running. */
+_Noreturn static void run_first(const struct ends *ends)
+{
+    int status;
+    pid_t program, ended;
+    NEEDS(prctl(PR_SET_PDEATHSIG, SIGKILL, 0, 0, 0));
+    limit_numbers(ends->proc);
+    add_proc();
+    enter_world();
+    NEEDS(write(ends->entered, "e", 1));
+    NEEDS(program = fork());
+    if (!program) become_program(ends);
+    close_all(ends->streams, 3);
+    close(ends->program);
+    while ((ended = wait(&status)) != program)
+        if (ended < 0 && errno != EINTR) _exit(ENDS_FAULT);
+    _exit(status_of(status));
+}
+
+/* Puts secrets into the world as the broker names them, until the program has ended, and tells its status. A name below
+ * 0 ends the program. */
+_Noreturn static void keep(const struct plan *plan, pid_t first, int socket)
+{
+    int asked, answer, status;
+    while (read(socket, &asked, sizeof asked) == sizeof asked) {
+        if (asked < 0) {
+            kill(first, SIGKILL);
+            break;
+        }
+        answer = put_secret(plan, asked);
+        if (write(socket, &answer, sizeof answer) != sizeof answer) break;
+    }
+    if (waitpid(first, &status, 0) != first) _exit(ENDS_FAULT);
+    _exit(status_of(status));
+}
+
+_Noreturn static void run_keeper(const struct plan *plan, struct ends *ends, int socket)
+{
+    uid_t user = getuid();
+    gid_t group = getgid();
+    int entered[2], scratch;
+    char byte;
+    pid_t first;
+    setsid();
+    NEEDS(ends->proc = open("/proc", O_PATH | O_DIRECTORY | O_CLOEXEC));
+    NEEDS(pipe2(entered, O_CLOEXEC));
+    ends->entered = entered[1];
+    NEEDS(unshare(CLONE_NEWUSER | CLONE_NEWNS | CLONE_NEWNET | CLONE_NEWIPC | CLONE_NEWPID | CLONE_NEWUTS));
+    NEEDS(prctl(PR_SET_PDEATHSIG, SIGKILL, 0, 0, 0));
+    take_user(user, group);
+    make_world(plan);
+    scratch = open_scratch();
+    if (!send_descriptor(socket, scratch)) _exit(ENDS_FAULT);
+    close(scratch);
+    NEEDS(first = fork());
+    if (!first) {
+        close(socket);
+        run_first(ends);
+    }
+    close_all(ends->streams, 3);
+    close_all((int[]){ends->program, ends->proc, ends->entered}, 3);
+    if (read(entered[0], &byte, 1) == 1) NEEDS(chdir("/"));
+    keep(plan, first, socket);
+}
+
+/* Closes all descriptors but the standard streams and these. */
+static void keep_only(const int *files, int count)
+{
+    int next = 2;
+    while (next < INT_MAX) {
+        int file = next + 1;
+        next = INT_MAX;
+        for (int i = 0; i < count; i++)
+            if (files[i] >= file && files[i] < next) next = files[i];
+        if (next > file) close_range((unsigned)file, (unsigned)next - 1, 0);
+    }
+}
+
+int start(const struct plan *plan, const struct begun *begun, struct world *world)
+{
+    static int filter = -1;
+    int in[2], out[2], error[2], keeper[2], program[2], status;
+    if (pipe2(in, O_CLOEXEC) || pipe2(out, O_CLOEXEC) || pipe2(error, O_CLOEXEC) || socketpair(AF_UNIX, SOCK_STREAM | SOCK_CLOEXEC, 0, keeper)
+        || socketpair(AF_UNIX, SOCK_STREAM | SOCK_CLOEXEC, 0, program) || fcntl(in[1], F_SETFL, O_NONBLOCK) || (world->keeper = fork()) < 0)
+        unable("a start");
+    if (!world->keeper) {
+        struct ends ends = {{in[0], out[1], error[1]}, program[1], -1, -1, begun};
+        keep_only((int[]){in[0], out[1], error[1], program[1], keeper[1]}, 5);
+        run_keeper(plan, &ends, keeper[1]);
+    }
+    close_all((int[]){keeper[1], program[1], in[0], out[1], error[1]}, 5);
+    if (!begun->has_input) close(in[1]), in[1] = -1;
+    if (filter < 0 && (filter = make_filter()) < 0) unable("seccomp's filters");
+    *world = (struct world){world->keeper, keeper[0], -1, in[1], {out[0], error[0]}, receive_descriptor(keeper[0])};
+    if (world->scratch >= 0 && send_descriptor(program[0], filter)) world->listener = receive_descriptor(program[0]);
+    if (world->listener >= 0 && write(program[0], "g", 1) == 1) return close(program[0]), 0;
+    status = end_world(world, false);
+    return status > 0 ? status : ENDS_FAULT;
+}
+
+int end_world(struct world *world, bool is_killed)
+{
+    int status, none = -1;
+    if (is_killed && write(world->keeper_socket, &none, sizeof none) != sizeof none) {}
+    close(world->keeper_socket);
+    if (waitpid(world->keeper, &status, 0) != world->keeper || !WIFEXITED(status)) return -1;
+    return WEXITSTATUS(status);
+}
