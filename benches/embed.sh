@@ -8,10 +8,10 @@ set -eu
 top=$(cd "$(dirname "$0")/.." && pwd)
 runs=${RUNS:-400}
 library=$top/out/lib
-[ -f "$library/libhistar_c.a" ] || { echo "embed.sh: $library has no library: run ./lib" >&2; exit 2; }
+[ -f "$library/libhistar.a" ] || { echo "embed.sh: $library has no library: run ./lib" >&2; exit 2; }
 folder=$(mktemp -d)
 trap 'rm -rf "$folder"' EXIT
-cc -std=gnu11 -O2 -I"$top/include" "$top/bindings/c/bench.c" "$library/libhistar_c.a" "$library/liblibc_c.a" -o "$folder/bench"
+cc -std=gnu11 -O2 -I"$top/include" "$top/bindings/c/bench.c" "$library/libhistar.a" -o "$folder/bench"
 cargo build --quiet --release --offline --manifest-path "$top/benches/simple/Cargo.toml"
 echo "== through C"
 "$folder/bench" 64 56 1 "$runs"

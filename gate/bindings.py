@@ -1,7 +1,7 @@
 """The kernel as a library for C and Rust: it is built, and programs in bindings/ are compiled against it and run. The scripts
 of examples/ print by them what is stored, and ./histar-audit finds the dumps of their logs clean; the scripts of the rules
 print what is stored of them; random scripts print what ./histar prints, leave the tables that its dump has, and dump what it
-dumps; random records leave the heap as it was. The programs of docs/EMBED.md print what it says.
+dumps; random records leave the heap as it was; each row of the table of misuse is refused and changes nothing. The programs of docs/EMBED.md print what it says.
 
 What a machine lacks (compilers, cargo, valgrind, clang's runtime) is left out, with a line for each."""
 import glob
@@ -11,7 +11,7 @@ import subprocess
 import tempfile
 
 from gate import confine
-from gate.headers import wrong
+from gate.headers import unguarded, wrong
 from gate.plays import Script, ran, text
 from gate.rules import played_rules
 from gate.scripts import script
@@ -23,7 +23,13 @@ WARNINGS = ["-Wall", "-Wextra", "-Wpedantic", "-Werror"]
 MANIFEST = ["--offline", "--manifest-path", "bindings/rust/Cargo.toml"]
 
 
+# What a compiler warns of: a refusal that nobody looks at, and NULL.
+MISUSED_CALLS = ("histar_cat_create(k, 2, 0)", "if (histar_open(0, 64)) return", "if (histar_self_set_label(k, 2, 0)) return",
+                 "if (histar_meta_get(k, 2, histar_in(1, 3), 0, 64)) return")
 RANDOM_WORDS = ["--pages", "512"]
+
+# What the login gates of bindings/ print.
+LOGIN = "sword: refused 5 CannotObserve\nsword: sends a packet\nswordfish: reads mail of ann\nswordfish: sends CannotModify\n"
 TABLES = ("live", "use", "map", "label", "order")
 
 
@@ -89,7 +95,7 @@ class Bindings:
         words = [*compiler, "-g", *flags, *files, "-o", program]
         if "-x" in flags:
             words += ["-x", "none"]
-        return [*words, f"{self.library}/libhistar_c.a", f"{self.library}/liblibc_c.a"]
+        return [*words, f"{self.library}/libhistar.a"]
 
     def compile(self, compiler, source, name, *flags):
         """A program of bindings/c, none where it is not compiled."""
@@ -159,11 +165,16 @@ class Bindings:
             self.kept[seed] = status, said + tables, "".join(it for it in lines if not it.startswith("read ")).encode()
         return self.kept[seed]
 
+    def write_wrong(self, header):
+        """Puts a wrong header where programs are compiled against it."""
+        os.makedirs(f"{self.room}/wrong", exist_ok=True)
+        for name, written in (("histar.h", header), ("histar_debug.h", text("include/histar_debug.h"))):
+            with open(f"{self.room}/wrong/{name}", "w", encoding="utf-8") as it:
+                it.write(written)
+
     def is_told(self, compiler, header):
         """Whether a header is none that C compiles, or some script tells it from the true one."""
-        os.makedirs(f"{self.room}/wrong", exist_ok=True)
-        with open(f"{self.room}/wrong/histar.h", "w", encoding="utf-8") as it:
-            it.write(header)
+        self.write_wrong(header)
         player = f"{self.room}/wrong/play"
         if not run(*self.words_of([compiler, "-std=gnu11"], "play", player, "-O0", f"-I{self.room}/wrong"))[0]:
             return False
@@ -177,6 +188,29 @@ class Bindings:
             tried = [(line, self.is_told(compiler, header)) for line, header in wrong(it.read())]
         missed = [f"line {line}" for line, is_told in tried if not is_told]
         self.report.counts(tried and not missed, f"the player tells {len(tried)} wrong headers from the true one" + but_not(missed))
+
+    def try_misuse(self, compiler):
+        """The table of misuse, by the header, by one without each guard, and what a compiler warns of."""
+        misuse = self.compile([compiler, "-std=gnu11"], "misuse.c", "misuse", *WARNINGS, "-pthread")
+        if misuse:
+            self.counts("C: each row of the table of misuse is refused, and changes nothing", misuse)
+        missed = [str(line) for line, header in unguarded(text("include/histar.h")) if not (header and self.is_seen(compiler, header))]
+        self.report.counts(not missed, "the table of misuse tells each header that lacks a guard" + but_not(missed))
+        for call in MISUSED_CALLS:
+            self.report.counts(not self.is_warned_of(compiler, "(void)0") and self.is_warned_of(compiler, call), f"{compiler} warns of {call}")
+
+    def is_seen(self, compiler, header):
+        """Whether some row of the table of misuse goes otherwise by a header. A row that ends the program, or does not end, goes otherwise."""
+        self.write_wrong(header)
+        misuse = f"{self.room}/wrong/misuse"
+        words = self.words_of([compiler, "-std=gnu11"], "misuse.c", misuse, "-O2", "-pthread", "-w", f"-I{self.room}/wrong")
+        return run(*words)[0] and not run("timeout", "60", misuse)[0]
+
+    def is_warned_of(self, compiler, call):
+        """Whether a compiler warns of a statement."""
+        with open(f"{self.room}/warned.c", "w", encoding="utf-8") as it:
+            it.write(f'#include "histar.h"\nvoid f(histar *k);\nvoid f(histar *k) {{ (void)k; {call}; }}\n')
+        return not run(compiler, "-std=c11", "-Wall", "-Werror", "-Iinclude", "-c", f"{self.room}/warned.c", "-o", f"{self.room}/warned.o")[0]
 
     def try_header(self, compiler, standard, *flags):
         """The header by a compiler, without a warning, and the first program."""
@@ -203,8 +237,7 @@ class Bindings:
             self.leave_out("C", "neither gcc nor clang is on the path")
         for compiler in compilers:
             self.try_header(compiler, "c11")
-            links = [f"{self.library}/libhistar_c.a", f"{self.library}/liblibc_c.a"]
-            self.try_documented("c", [compiler, "-std=c11", "-Iinclude", *WARNINGS], *links)
+            self.try_documented("c", [compiler, "-std=c11", "-Iinclude", *WARNINGS], f"{self.library}/libhistar.a")
             player = self.compile([compiler, "-std=gnu11"], "play", f"play-{compiler}", *WARNINGS)
             if player:
                 self.play([player], f"C by {compiler}")
@@ -218,6 +251,10 @@ class Bindings:
         if compilers:
             self.try_memory(compilers[0])
             self.try_wrong_headers(compilers[0])
+            self.try_misuse(compilers[0])
+            login = self.compile([compilers[0], "-std=c11"], "login.c", "login", *WARNINGS)
+            if login:
+                self.report.counts(ran(login) == (0, LOGIN), "C: a login gate")
         self.try_sanitizers()
 
     def try_memory(self, compiler):
@@ -274,9 +311,14 @@ class Bindings:
             return
         env = {"HISTAR_LIB": os.path.realpath(self.library)}
         self.counts("cargo test: the crate histar, with the examples of its documents", "cargo", "test", "--quiet", *MANIFEST, env=env)
+        self.counts("cargo check without the library", "cargo", "check", "--quiet", *MANIFEST, env={"HISTAR_LIB": self.room})
+        if shutil.which("cargo-clippy"):
+            words = ["cargo", "clippy", "--quiet", "--all-targets", *MANIFEST, "--", "-D", "warnings"]
+            self.counts("cargo clippy without a warning", *words, env=env)
         self.counts("cargo doc without a warning", "cargo", "doc", "--no-deps", *MANIFEST, env={**env, "RUSTDOCFLAGS": "-D warnings"})
         if self.counts("cargo build of the crate, examples and benches", "cargo", "build", "--release", "--lib", "--examples", "--benches", *MANIFEST, env=env):
             player = ["bindings/rust/target/release/examples/play"]
+            self.report.counts(ran("bindings/rust/target/release/examples/login") == (0, LOGIN), "Rust: a login gate")
             self.try_documented("rust", ["rustc", "--edition=2021", "--extern", "histar=bindings/rust/target/release/libhistar.rlib"])
             self.play(player, "Rust")
             self.play_rules(player, "Rust")

@@ -1,17 +1,39 @@
-"""Wrong headers: include/histar.h with one thing turned. Nothing proves the header, so the scripts that the player in C plays have
-to tell each of them from the true one."""
+"""Wrong headers: include/histar.h with one thing turned, and with one guard taken away. Nothing proves the header, so the scripts
+that the player in C plays have to tell each of the first from the true one, and the table of misuse each of the others."""
 import re
 
 # What is turned, and into what: the number of a call, a number or a label that is not written, an entry the wrong way round, and
 # a number of the answer that is taken from the next place.
 TURNS = (
-    (r"histar_asks\(k, (\d+), ", lambda it: f"histar_asks(k, {int(it[1]) % 42 + 1}, "),
-    (r"r->numbers\[\d\] = \w+;", lambda it: ""),
-    (r"r->(?:label|clearance|verify) = \*(\w+);", lambda it: f"(void){it[1]};"),
-    (r"(r->other_\w+) = (\w+)\.container;", lambda it: f"{it[1]} = {it[2]}.object;"),
-    (r"(r->other_\w+) = (\w+)\.object;", lambda it: f"{it[1]} = {it[2]}.container;"),
+    (r"(HISTAR_CALL_\w+) = (\d+)", lambda it: f"{it[1]} = {int(it[2]) % 42 + 1}" if int(it[2]) < 43 else None),
+    (r"k->request\.numbers\[\d\] = (?!at|change)\w+;", lambda it: ""),
+    (r"k->request\.(?:label|clearance|verify) = \*(\w+);", lambda it: f"(void){it[1]};"),
+    (r"(k->request\.other_\w+) = (\w+)\.container;", lambda it: f"{it[1]} = {it[2]}.object;"),
+    (r"(k->request\.other_\w+) = (\w+)\.object;", lambda it: f"{it[1]} = {it[2]}.container;"),
     (r"k->answer\.numbers\[(\d)\]", lambda it: f"k->answer.numbers[{int(it[1]) + 1}]"),
     (r"\(n\[(\d)\]", lambda it: f"(n[{int(it[1]) + 1}]"),
+)
+
+# Guards, and what stands there without them: a line of the header each.
+GUARDS = (
+    ("    if (!histar_is_open(k)) return HISTAR_UNAVAILABLE;\n    if (histar_taken(k)) return HISTAR_BUSY;\n    if (!histar_is_open(k)) return",
+     "    if (histar_taken(k)) return HISTAR_BUSY;\n    if (0) return"),
+    ("    if (histar_taken(k)) return HISTAR_BUSY;\n    if (!histar_is_open(k))", "    if (!histar_is_open(k))"),
+    ("    if (histar_taken(k)) return HISTAR_BUSY;\n    if (histar_is_open(k)) {", "    if (histar_is_open(k)) {"),
+    ("    if (histar_taken(k)) return HISTAR_BUSY;\n    if (histar_is_open(k)) return histar_released(k, HISTAR_BUSY);\n", "    (void)histar_taken(k);\n"),
+    ("    if (histar_is_open(k)) return histar_released(k, HISTAR_BUSY);\n", ""),
+    ("    if (pages > UINT32_MAX) pages = UINT32_MAX; /* no kernel has so many, either */\n", ""),
+    ("return level > HISTAR_STAR ? 255 : (uint8_t)level;", "return (uint8_t)level;"),
+    ("change >= INT32_MIN && change <= INT32_MAX ? (uint32_t)change : UINT64_MAX", "(uint32_t)change"),
+    ("    if (len > 64) return histar_released(k, HISTAR_NO_CALL);\n", "    len = len > 64 ? 64 : len;\n"),
+    ("    if (size < 64) return histar_released(k, HISTAR_NO_CALL);\n", ""),
+    ("    if (!refusal && size < len) refusal = HISTAR_BOUNDS;\n", "    if (!refusal && size < len) len = size;\n"),
+    ("    if (label.count < 25) label.count++;", "    if (label.count < 24) label.count++;"),
+    ("    histar_wipes(k->request.bytes, sizeof k->request.bytes);\n", ""),
+    ("    histar_wipes(k->answer.bytes, sizeof k->answer.bytes);\n", ""),
+    ("        histar_wipes(k->room, sizeof k->room);\n", ""),
+    (", uint64_t offset,", ", uint32_t offset,"),
+    ("void *bytes, uint64_t len)", "void *bytes, uint32_t len)"),
 )
 
 
@@ -19,4 +41,11 @@ def wrong(text):
     """Each wrong header of a header's text, with the line in which it differs."""
     for pattern, turned in TURNS:
         for found in re.finditer(pattern, text):
-            yield text.count("\n", 0, found.start()) + 1, text[: found.start()] + turned(found) + text[found.end() :]
+            if turned(found) is not None:
+                yield text.count("\n", 0, found.start()) + 1, text[: found.start()] + turned(found) + text[found.end() :]
+
+
+def unguarded(text):
+    """Each header without a guard, with the line in which the guard stood; a guard that is not there is told by no header."""
+    for guard, without in GUARDS:
+        yield text.count("\n", 0, text.index(guard)) + 1 if guard in text else guard, text.replace(guard, without) if guard in text else None

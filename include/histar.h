@@ -9,13 +9,17 @@
  * - HISTAR_HALTED comes where `thread` is no live thread, so it is not listed again below. A call that names an
  *   entry may be refused HISTAR_NO_ACCESS (its container is not there, or the thread does not observe it) and
  *   HISTAR_NO_ENTRY (the container does not list the object, and is not the object).
- * - HISTAR_NO_CALL comes where the arguments make no call: a level above 4, 25 pairs in a label, 65 bytes.
+ * - HISTAR_NO_CALL comes where the arguments make no call: a level above 4, 25 pairs in a label, 65 bytes, a number that
+ *   is too large for its place. Numbers are taken as 64 bits, and no bit is lost on the way.
+ * - HISTAR_UNAVAILABLE comes where the kernel is not open: it was closed, was never opened, or is a copy of another's
+ *   bytes. HISTAR_BUSY comes where another call uses it: by another thread, or by the code that a signal interrupted.
+ *   Nothing is done then, and the call may be made again.
  * - It takes no memory, prints nothing and never waits. Only histar_open takes memory, and what the log needs: a
  *   write call after histar_log_on, which is refused HISTAR_MEMORY where there is none, and histar_dump.
+ * - The bytes and labels that it gave or took stand in no record of the kernel once it returns. The library keeps the last
+ *   call and the last reply inside the room, and histar_close wipes all of it.
  *
- * One call at a time uses a kernel. It may be called by one thread and then by another, if a lock, or the start or the
- * end of a thread, stands between the two calls. It is not to be called from a signal handler, or in the forked child
- * of a process with several threads. */
+ * One call at a time uses a kernel. Threads that call one kernel keep a lock around the calls, or are told HISTAR_BUSY. */
 #ifndef HISTAR_H
 #define HISTAR_H
 
@@ -25,10 +29,15 @@
 
 #ifdef __cplusplus
 #define HISTAR_ALIGNED alignas(16)
+#define HISTAR_INIT {}
 extern "C" {
 #else
 #define HISTAR_ALIGNED _Alignas(16)
+#define HISTAR_INIT {{0}, 0, 0, {0}, {0}}
 #endif
+
+/* What such a function returns is looked at, and these of its arguments are not NULL: gcc and clang warn. */
+#define HISTAR_LOOKED_AT(...) __attribute__((warn_unused_result, nonnull(__VA_ARGS__)))
 
 /* ---- Words ---- */
 
@@ -79,10 +88,11 @@ enum histar_refusal {
     HISTAR_DEVICE_FULL = 23,     /* 4 packets wait */
     HISTAR_DEVICE_EMPTY = 24,    /* no packet waits */
     HISTAR_SPENT = 25,           /* no id or category is left */
-    HISTAR_UNAVAILABLE = 30,     /* there is no memory for a kernel */
+    HISTAR_UNAVAILABLE = 30,     /* the kernel is not open, or there is no memory for one */
     HISTAR_BAD_LIMITS = 31,      /* a limit is out of its range */
     HISTAR_MEMORY = 40,          /* there is no memory for the call's event in the log */
     HISTAR_NO_CALL = 45,         /* the arguments make no call */
+    HISTAR_BUSY = 46,            /* another call uses the kernel, or it is open already */
     HISTAR_TEXT_MEMORY = 51      /* there is no memory for the text of a dump */
 };
 
@@ -119,6 +129,7 @@ static inline const char *histar_refusal_name(uint32_t refusal)
     case HISTAR_BAD_LIMITS: return "BadLimits";
     case HISTAR_MEMORY: return "Memory";
     case HISTAR_NO_CALL: return "NoCall";
+    case HISTAR_BUSY: return "Busy";
     case HISTAR_TEXT_MEMORY: return "TextMemory";
     default: return "";
     }
@@ -145,27 +156,76 @@ typedef struct {
     uint64_t categories[24];
 } histar_label;
 
+/* A level as a byte: one that is none makes a label that every call refuses. */
+static inline uint8_t histar_level_byte(uint64_t level) { return level > HISTAR_STAR ? 255 : (uint8_t)level; }
+
 /* The label of this level in every category. */
-static inline histar_label histar_level(uint8_t level)
+static inline histar_label histar_level(uint64_t level)
 {
     histar_label label;
     memset(&label, 0, sizeof label);
-    label.default_level = level;
+    label.default_level = histar_level_byte(level);
     return label;
 }
 
 /* The label with another level for a category. The 25th pair makes a label that every call refuses. */
-static inline histar_label histar_with(histar_label label, uint64_t category, uint8_t level)
+static inline histar_label histar_with(histar_label label, uint64_t category, uint64_t level)
 {
     if (label.count < 24) {
         label.categories[label.count] = category;
-        label.levels[label.count] = level;
+        label.levels[label.count] = histar_level_byte(level);
     }
     if (label.count < 25) label.count++;
     return label;
 }
 
 /* ---- The library ---- */
+
+/* What a record asks for. 1 to 24 are write calls, 25 to 34 read calls, 35 to 39 look-ups, 40 to 42 of the log. */
+enum histar_call_number {
+    HISTAR_CALL_CAT_CREATE = 1,
+    HISTAR_CALL_SELF_SET_LABEL = 2,
+    HISTAR_CALL_SELF_SET_CLEARANCE = 3,
+    HISTAR_CALL_SELF_SET_AS = 4,
+    HISTAR_CALL_CONTAINER_CREATE = 5,
+    HISTAR_CALL_SEGMENT_CREATE = 6,
+    HISTAR_CALL_SEGMENT_COPY = 7,
+    HISTAR_CALL_AS_CREATE = 8,
+    HISTAR_CALL_THREAD_CREATE = 9,
+    HISTAR_CALL_GATE_CREATE = 10,
+    HISTAR_CALL_LINK = 11,
+    HISTAR_CALL_UNREF = 12,
+    HISTAR_CALL_QUOTA_MOVE = 13,
+    HISTAR_CALL_SET_FIXED = 14,
+    HISTAR_CALL_SET_IMMUTABLE = 15,
+    HISTAR_CALL_META_SET = 16,
+    HISTAR_CALL_SEGMENT_RESIZE = 17,
+    HISTAR_CALL_SEGMENT_WRITE = 18,
+    HISTAR_CALL_AS_MAP = 19,
+    HISTAR_CALL_AS_UNMAP = 20,
+    HISTAR_CALL_STORE = 21,
+    HISTAR_CALL_GATE_ENTER = 22,
+    HISTAR_CALL_DEV_SEND = 23,
+    HISTAR_CALL_DEV_RECV = 24,
+    HISTAR_CALL_SELF_GET = 25,
+    HISTAR_CALL_OBJ_LABEL = 26,
+    HISTAR_CALL_OBJ_QUOTA = 27,
+    HISTAR_CALL_CONTAINER_LIST = 28,
+    HISTAR_CALL_CONTAINER_PARENT = 29,
+    HISTAR_CALL_SEGMENT_LEN = 30,
+    HISTAR_CALL_SEGMENT_READ = 31,
+    HISTAR_CALL_META_GET = 32,
+    HISTAR_CALL_AS_GET = 33,
+    HISTAR_CALL_LOAD = 34,
+    HISTAR_CALL_KEPT_LIVE = 35,
+    HISTAR_CALL_KEPT_USE = 36,
+    HISTAR_CALL_KEPT_TRANSLATION = 37,
+    HISTAR_CALL_KEPT_LABEL = 38,
+    HISTAR_CALL_KEPT_ORDER = 39,
+    HISTAR_CALL_LOG_ON = 40,
+    HISTAR_CALL_DUMP = 41,
+    HISTAR_CALL_DUMP_TEXT = 42
+};
 
 /* What a thread asks for. The functions below fill it. */
 typedef struct {
@@ -193,323 +253,437 @@ void histar_end(void *room);
 
 /* ---- A kernel ---- */
 
-/* A kernel, or one that is closed. It is not to be copied while it is open. */
+/* A kernel, or one that is closed. It begins as HISTAR_INIT, or is static; it is not to be copied while it is open. */
 typedef struct {
     HISTAR_ALIGNED unsigned char room[3072];
-    int is_open;
+    const void *open_at;         /* where it stands while it is open */
+    unsigned char is_busy;       /* a call uses it */
     histar_request request;
     histar_answer answer;
 } histar;
 
-/* Gives all memory back. A kernel that was opened, with or without success, may be closed and opened again. */
-static inline void histar_close(histar *k)
+/* Wipes bytes that nobody reads again, so that the compiler may not leave it out. */
+static inline void histar_wipes(void *bytes, size_t len)
 {
-    if (k->is_open) histar_end(k->room);
-    k->is_open = 0;
+    memset(bytes, 0, len);
+    __asm__ __volatile__("" : : "r"(bytes) : "memory");
+}
+
+/* Takes the kernel for one call; it is open, or not: HISTAR_BUSY where another call has it. */
+static inline uint32_t histar_taken(histar *k)
+{
+    return __atomic_test_and_set(&k->is_busy, __ATOMIC_ACQUIRE) ? HISTAR_BUSY : HISTAR_DONE;
+}
+static inline int histar_is_open(const histar *k) { return __atomic_load_n(&k->open_at, __ATOMIC_RELAXED) == k; }
+static inline uint32_t histar_released(histar *k, uint32_t refusal)
+{
+    __atomic_clear(&k->is_busy, __ATOMIC_RELEASE);
+    return refusal;
+}
+
+/* Gives all memory back and wipes the kernel, which may be opened again. A kernel that is closed stays so. HISTAR_BUSY where
+ * a call uses it: it is open then as before. */
+__attribute__((nonnull)) static inline uint32_t histar_close(histar *k)
+{
+    if (!histar_is_open(k)) return HISTAR_DONE;
+    if (histar_taken(k)) return HISTAR_BUSY;
+    if (histar_is_open(k)) {
+        histar_end(k->room);
+        __atomic_store_n(&k->open_at, NULL, __ATOMIC_RELAXED);
+        histar_wipes(k->room, sizeof k->room);
+        histar_wipes(&k->request, sizeof k->request);
+        histar_wipes(&k->answer, sizeof k->answer);
+    }
+    return histar_released(k, HISTAR_DONE);
+}
+
+/* Boots a kernel that is taken and closed. */
+static inline uint32_t histar_boots(histar *k, uint32_t pages, uint8_t device_level, uint64_t next_id, uint64_t next_category)
+{
+    uint32_t refusal;
+    if (histar_size() > sizeof k->room) return HISTAR_UNAVAILABLE;
+    memset(&k->request, 0, sizeof k->request);
+    memset(&k->answer, 0, sizeof k->answer);
+    histar_boot(pages, device_level, next_id, next_category, k->room);
+    /* A record of zeros asks for nothing: a kernel that is there says so. */
+    refusal = histar_call(k->room, &k->request, &k->answer);
+    if (refusal == HISTAR_NO_CALL) {
+        __atomic_store_n(&k->open_at, k, __ATOMIC_RELAXED);
+        return HISTAR_DONE;
+    }
+    histar_end(k->room);
+    return refusal;
 }
 
 /* Opens a kernel with all limits: pages of 256 bytes, 8 to 1,024; the level of the device's label, 0 to 3; the first id
  * that a call gives, 4 to 2^61; the first category that a call gives, 1 to 2^61. Refused HISTAR_BAD_LIMITS or
- * HISTAR_UNAVAILABLE, and the kernel is then closed. */
-static inline uint32_t histar_open_with(histar *k, uint32_t pages, uint8_t device_level, uint64_t next_id,
+ * HISTAR_UNAVAILABLE, and the kernel is closed as before; or HISTAR_BUSY where it is open, and it stays open. */
+HISTAR_LOOKED_AT(1)
+static inline uint32_t histar_open_with(histar *k, uint64_t pages, uint64_t device_level, uint64_t next_id,
                                         uint64_t next_category)
 {
-    uint32_t refusal;
-    memset(k, 0, sizeof *k);
-    if (histar_size() > sizeof k->room) return HISTAR_UNAVAILABLE;
-    histar_boot(pages, device_level, next_id, next_category, k->room);
-    k->is_open = 1;
-    /* A record of zeros asks for nothing: a kernel that is there says so. */
-    refusal = histar_call(k->room, &k->request, &k->answer);
-    if (refusal == HISTAR_NO_CALL) return HISTAR_DONE;
-    histar_close(k);
-    return refusal;
+    if (pages > UINT32_MAX) pages = UINT32_MAX; /* no kernel has so many, either */
+    if (histar_taken(k)) return HISTAR_BUSY;
+    if (histar_is_open(k)) return histar_released(k, HISTAR_BUSY);
+    return histar_released(k, histar_boots(k, (uint32_t)pages, histar_level_byte(device_level), next_id, next_category));
 }
 
 /* Opens a kernel of so many pages of 256 bytes, 8 to 1,024, as a script does: the device's label is 1, the first id 4 and
- * the first category 1. Refused HISTAR_BAD_LIMITS or HISTAR_UNAVAILABLE, and the kernel is then closed. */
-static inline uint32_t histar_open(histar *k, uint32_t pages)
-{
-    return histar_open_with(k, pages, 1, 4, 1);
-}
+ * the first category 1. Refused as histar_open_with. */
+HISTAR_LOOKED_AT(1)
+static inline uint32_t histar_open(histar *k, uint64_t pages) { return histar_open_with(k, pages, 1, 4, 1); }
 
 /* ---- How the functions below fill a record and read an answer ---- */
 
-static inline histar_request *histar_asks(histar *k, uint32_t call, uint64_t thread, histar_entry entry)
+/* Takes the kernel for a call, and fills what each call has. */
+static inline uint32_t histar_asks(histar *k, uint32_t call, uint64_t thread, histar_entry entry)
 {
+    if (!histar_is_open(k)) return HISTAR_UNAVAILABLE;
+    if (histar_taken(k)) return HISTAR_BUSY;
+    if (!histar_is_open(k)) return histar_released(k, HISTAR_UNAVAILABLE); /* it was closed in between */
     k->request.call = call;
     k->request.thread = thread;
     k->request.container = entry.container;
     k->request.object = entry.object;
-    return &k->request;
+    return HISTAR_DONE;
 }
-static inline uint32_t histar_done(histar *k)
+static inline uint32_t histar_serves(histar *k) { return histar_call(k->room, &k->request, &k->answer); }
+
+/* The ends of a call: of one that answers nothing but its refusal, of one whose answer was read, of one that made something,
+ * of one that gives bytes, and of one that takes some, of which 64 may be written. */
+static inline uint32_t histar_done(histar *k) { return histar_released(k, histar_serves(k)); }
+static inline uint32_t histar_told(histar *k, uint32_t refusal)
 {
-    return histar_call(k->room, &k->request, &k->answer);
+    histar_wipes(&k->answer, sizeof k->answer);
+    return histar_released(k, refusal);
 }
 static inline uint32_t histar_made(histar *k, uint64_t *made)
 {
-    uint32_t refusal = histar_done(k);
+    uint32_t refusal = histar_serves(k);
     if (!refusal && made) *made = k->answer.numbers[0];
-    return refusal;
+    k->answer.numbers[0] = 0;
+    return histar_released(k, refusal);
 }
-static inline uint32_t histar_gives(histar *k, const void *bytes, size_t len)
+static inline uint32_t histar_gives(histar *k, const void *bytes, uint64_t len)
 {
-    if (len > 64) return HISTAR_NO_CALL;
+    uint32_t refusal;
+    if (len > 64) return histar_released(k, HISTAR_NO_CALL);
     k->request.len = (uint32_t)len;
     if (len) memcpy(k->request.bytes, bytes, len);
-    return histar_done(k);
+    refusal = histar_serves(k);
+    histar_wipes(k->request.bytes, sizeof k->request.bytes);
+    return histar_released(k, refusal);
 }
-static inline uint32_t histar_takes(histar *k, void *bytes)
+static inline uint32_t histar_takes(histar *k, void *bytes, uint64_t size, size_t *len)
 {
-    uint32_t refusal = histar_done(k);
+    uint32_t refusal;
+    if (size < 64) return histar_released(k, HISTAR_NO_CALL);
+    refusal = histar_serves(k);
     if (!refusal) memcpy(bytes, k->answer.bytes, k->answer.len);
-    return refusal;
+    if (!refusal && len) *len = k->answer.len;
+    histar_wipes(k->answer.bytes, sizeof k->answer.bytes);
+    return histar_released(k, refusal);
 }
 
 /* ---- Write calls. A result goes where its pointer says; for `made` and `category`, NULL is allowed. ---- */
 
 /* A new category, which the thread owns: star in its label, 3 in its clearance. HISTAR_LABEL_FULL, HISTAR_SPENT. */
+HISTAR_LOOKED_AT(1)
 static inline uint32_t histar_cat_create(histar *k, uint64_t thread, uint64_t *category)
 {
-    histar_asks(k, 1, thread, histar_in(0, 0));
+    uint32_t refusal = histar_asks(k, HISTAR_CALL_CAT_CREATE, thread, histar_in(0, 0));
+    if (refusal) return refusal;
     return histar_made(k, category);
 }
 
 /* The thread's label rises, to its clearance at most. HISTAR_BAD_LABEL, HISTAR_LABEL_RANGE. */
+HISTAR_LOOKED_AT(1, 3)
 static inline uint32_t histar_self_set_label(histar *k, uint64_t thread, const histar_label *label)
 {
-    histar_asks(k, 2, thread, histar_in(0, 0))->label = *label;
+    uint32_t refusal = histar_asks(k, HISTAR_CALL_SELF_SET_LABEL, thread, histar_in(0, 0));
+    if (refusal) return refusal;
+    k->request.label = *label;
     return histar_done(k);
 }
 
 /* The thread's clearance: at least its label, and at most the maximum of the old clearance and of the label with star
  * raised. HISTAR_BAD_LABEL, HISTAR_CLEARANCE_RANGE. */
+HISTAR_LOOKED_AT(1, 3)
 static inline uint32_t histar_self_set_clearance(histar *k, uint64_t thread, const histar_label *clearance)
 {
-    histar_asks(k, 3, thread, histar_in(0, 0))->clearance = *clearance;
+    uint32_t refusal = histar_asks(k, HISTAR_CALL_SELF_SET_CLEARANCE, thread, histar_in(0, 0));
+    if (refusal) return refusal;
+    k->request.clearance = *clearance;
     return histar_done(k);
 }
 
 /* The thread's address space, or none for the entry (0, 0). HISTAR_WRONG_TYPE. */
+HISTAR_LOOKED_AT(1)
 static inline uint32_t histar_self_set_as(histar *k, uint64_t thread, histar_entry space)
 {
-    histar_asks(k, 4, thread, space);
+    uint32_t refusal = histar_asks(k, HISTAR_CALL_SELF_SET_AS, thread, space);
+    if (refusal) return refusal;
     return histar_done(k);
 }
 
 /* A new container, last in `container`'s list, with a quota in pages and the kinds that it will not hold.
  * HISTAR_NO_ACCESS, HISTAR_CANNOT_OBSERVE, HISTAR_CANNOT_MODIFY, HISTAR_BAD_LABEL, HISTAR_LABEL_RANGE,
  * HISTAR_AVOID_TYPE, HISTAR_NO_QUOTA, HISTAR_IMMUTABLE, HISTAR_SPENT: these refuse each new object. */
+HISTAR_LOOKED_AT(1, 4)
 static inline uint32_t histar_container_create(histar *k, uint64_t thread, uint64_t container,
-                                               const histar_label *label, uint32_t quota, uint32_t avoid,
+                                               const histar_label *label, uint64_t quota, uint64_t avoid,
                                                uint64_t *made)
 {
-    histar_request *r = histar_asks(k, 5, thread, histar_in(container, 0));
-    r->label = *label;
-    r->numbers[0] = quota;
-    r->numbers[1] = avoid;
+    uint32_t refusal = histar_asks(k, HISTAR_CALL_CONTAINER_CREATE, thread, histar_in(container, 0));
+    if (refusal) return refusal;
+    k->request.label = *label;
+    k->request.numbers[0] = quota;
+    k->request.numbers[1] = avoid;
     return histar_made(k, made);
 }
 
 /* A new segment of `pages` pages of zeros, 0 to 16, last in `container`'s list; its quota is at least one page more.
  * What refuses each new object, and HISTAR_BOUNDS. */
+HISTAR_LOOKED_AT(1, 4)
 static inline uint32_t histar_segment_create(histar *k, uint64_t thread, uint64_t container,
-                                             const histar_label *label, uint32_t quota, uint32_t pages,
+                                             const histar_label *label, uint64_t quota, uint64_t pages,
                                              uint64_t *made)
 {
-    histar_request *r = histar_asks(k, 6, thread, histar_in(container, 0));
-    r->label = *label;
-    r->numbers[0] = quota;
-    r->numbers[1] = pages;
+    uint32_t refusal = histar_asks(k, HISTAR_CALL_SEGMENT_CREATE, thread, histar_in(container, 0));
+    if (refusal) return refusal;
+    k->request.label = *label;
+    k->request.numbers[0] = quota;
+    k->request.numbers[1] = pages;
     return histar_made(k, made);
 }
 
 /* A new segment with the bytes of `source`, last in `container`'s list. What refuses each new object, and
  * HISTAR_WRONG_TYPE. */
+HISTAR_LOOKED_AT(1, 4)
 static inline uint32_t histar_segment_copy(histar *k, uint64_t thread, uint64_t container, const histar_label *label,
-                                           uint32_t quota, histar_entry source, uint64_t *made)
+                                           uint64_t quota, histar_entry source, uint64_t *made)
 {
-    histar_request *r = histar_asks(k, 7, thread, histar_in(container, 0));
-    r->label = *label;
-    r->numbers[0] = quota;
-    r->other_container = source.container;
-    r->other_object = source.object;
+    uint32_t refusal = histar_asks(k, HISTAR_CALL_SEGMENT_COPY, thread, histar_in(container, 0));
+    if (refusal) return refusal;
+    k->request.label = *label;
+    k->request.numbers[0] = quota;
+    k->request.other_container = source.container;
+    k->request.other_object = source.object;
     return histar_made(k, made);
 }
 
 /* A new address space of 16 empty slots, last in `container`'s list. What refuses each new object. */
+HISTAR_LOOKED_AT(1, 4)
 static inline uint32_t histar_as_create(histar *k, uint64_t thread, uint64_t container, const histar_label *label,
-                                        uint32_t quota, uint64_t *made)
+                                        uint64_t quota, uint64_t *made)
 {
-    histar_request *r = histar_asks(k, 8, thread, histar_in(container, 0));
-    r->label = *label;
-    r->numbers[0] = quota;
+    uint32_t refusal = histar_asks(k, HISTAR_CALL_AS_CREATE, thread, histar_in(container, 0));
+    if (refusal) return refusal;
+    k->request.label = *label;
+    k->request.numbers[0] = quota;
     return histar_made(k, made);
 }
 
 /* A new thread, last in `container`'s list, with the verify label {3}, no address space and closure 0. What refuses
  * each new object, and HISTAR_CLEARANCE_RANGE. */
+HISTAR_LOOKED_AT(1, 4, 6)
 static inline uint32_t histar_thread_create(histar *k, uint64_t thread, uint64_t container,
-                                            const histar_label *label, uint32_t quota,
+                                            const histar_label *label, uint64_t quota,
                                             const histar_label *clearance, uint64_t entry_point, uint64_t *made)
 {
-    histar_request *r = histar_asks(k, 9, thread, histar_in(container, 0));
-    r->label = *label;
-    r->clearance = *clearance;
-    r->numbers[0] = quota;
-    r->numbers[1] = entry_point;
+    uint32_t refusal = histar_asks(k, HISTAR_CALL_THREAD_CREATE, thread, histar_in(container, 0));
+    if (refusal) return refusal;
+    k->request.label = *label;
+    k->request.clearance = *clearance;
+    k->request.numbers[0] = quota;
+    k->request.numbers[1] = entry_point;
     return histar_made(k, made);
 }
 
 /* A new gate, last in `container`'s list, to an address space, or to none for (0, 0). What refuses a new thread, and
  * HISTAR_WRONG_TYPE. */
+HISTAR_LOOKED_AT(1, 4, 6)
 static inline uint32_t histar_gate_create(histar *k, uint64_t thread, uint64_t container, const histar_label *label,
-                                          uint32_t quota, const histar_label *clearance, histar_entry space,
+                                          uint64_t quota, const histar_label *clearance, histar_entry space,
                                           uint64_t entry_point, uint64_t closure, uint64_t *made)
 {
-    histar_request *r = histar_asks(k, 10, thread, histar_in(container, 0));
-    r->label = *label;
-    r->clearance = *clearance;
-    r->other_container = space.container;
-    r->other_object = space.object;
-    r->numbers[0] = quota;
-    r->numbers[1] = entry_point;
-    r->numbers[2] = closure;
+    uint32_t refusal = histar_asks(k, HISTAR_CALL_GATE_CREATE, thread, histar_in(container, 0));
+    if (refusal) return refusal;
+    k->request.label = *label;
+    k->request.clearance = *clearance;
+    k->request.other_container = space.container;
+    k->request.other_object = space.object;
+    k->request.numbers[0] = quota;
+    k->request.numbers[1] = entry_point;
+    k->request.numbers[2] = closure;
     return histar_made(k, made);
 }
 
 /* A second link to an object whose quota is fixed, last in `target`'s list, which is charged its whole quota.
  * HISTAR_WRONG_TYPE for a container, HISTAR_CANNOT_OBSERVE, HISTAR_CANNOT_MODIFY, HISTAR_LABEL_RANGE,
  * HISTAR_AVOID_TYPE, HISTAR_NO_QUOTA, HISTAR_NOT_FIXED, HISTAR_ALREADY_LINKED, HISTAR_IMMUTABLE. */
+HISTAR_LOOKED_AT(1)
 static inline uint32_t histar_link(histar *k, uint64_t thread, uint64_t target, histar_entry entry)
 {
-    histar_asks(k, 11, thread, entry)->other_container = target;
+    uint32_t refusal = histar_asks(k, HISTAR_CALL_LINK, thread, entry);
+    if (refusal) return refusal;
+    k->request.other_container = target;
     return histar_done(k);
 }
 
 /* The object leaves the container's list, and what no path from the root leads to is gone. HISTAR_CANNOT_OBSERVE,
  * HISTAR_CANNOT_MODIFY, HISTAR_ROOT_KEPT, HISTAR_IMMUTABLE. */
+HISTAR_LOOKED_AT(1)
 static inline uint32_t histar_unref(histar *k, uint64_t thread, histar_entry entry)
 {
-    histar_asks(k, 12, thread, entry);
+    uint32_t refusal = histar_asks(k, HISTAR_CALL_UNREF, thread, entry);
+    if (refusal) return refusal;
     return histar_done(k);
 }
 
 /* The object's quota grows or shrinks by `change` pages. HISTAR_CANNOT_OBSERVE, HISTAR_CANNOT_MODIFY,
  * HISTAR_LABEL_RANGE, HISTAR_NO_QUOTA, HISTAR_FIXED_QUOTA, HISTAR_IMMUTABLE. */
-static inline uint32_t histar_quota_move(histar *k, uint64_t thread, histar_entry entry, int32_t change)
+HISTAR_LOOKED_AT(1)
+static inline uint32_t histar_quota_move(histar *k, uint64_t thread, histar_entry entry, int64_t change)
 {
-    histar_asks(k, 13, thread, entry)->numbers[0] = (uint32_t)change;
+    uint32_t refusal = histar_asks(k, HISTAR_CALL_QUOTA_MOVE, thread, entry);
+    if (refusal) return refusal;
+    /* 32 bits in two's complement; any other number makes no call */
+    k->request.numbers[0] = change >= INT32_MIN && change <= INT32_MAX ? (uint32_t)change : UINT64_MAX;
     return histar_done(k);
 }
 
 /* The object's quota never changes again. HISTAR_CANNOT_OBSERVE, HISTAR_CANNOT_MODIFY, HISTAR_IMMUTABLE. */
+HISTAR_LOOKED_AT(1)
 static inline uint32_t histar_set_fixed(histar *k, uint64_t thread, histar_entry entry)
 {
-    histar_asks(k, 14, thread, entry);
+    uint32_t refusal = histar_asks(k, HISTAR_CALL_SET_FIXED, thread, entry);
+    if (refusal) return refusal;
     return histar_done(k);
 }
 
 /* The object is read-only for good. HISTAR_WRONG_TYPE for a thread or a device, HISTAR_CANNOT_OBSERVE,
  * HISTAR_CANNOT_MODIFY. */
+HISTAR_LOOKED_AT(1)
 static inline uint32_t histar_set_immutable(histar *k, uint64_t thread, histar_entry entry)
 {
-    histar_asks(k, 15, thread, entry);
+    uint32_t refusal = histar_asks(k, HISTAR_CALL_SET_IMMUTABLE, thread, entry);
+    if (refusal) return refusal;
     return histar_done(k);
 }
 
 /* The object's metadata are these 0 to 64 bytes, and then zeros. HISTAR_WRONG_TYPE for a thread,
  * HISTAR_CANNOT_OBSERVE, HISTAR_CANNOT_MODIFY, HISTAR_IMMUTABLE. */
-static inline uint32_t histar_meta_set(histar *k, uint64_t thread, histar_entry entry, const void *bytes, size_t len)
+HISTAR_LOOKED_AT(1)
+static inline uint32_t histar_meta_set(histar *k, uint64_t thread, histar_entry entry, const void *bytes, uint64_t len)
 {
-    histar_asks(k, 16, thread, entry);
+    uint32_t refusal = histar_asks(k, HISTAR_CALL_META_SET, thread, entry);
+    if (refusal) return refusal;
     return histar_gives(k, bytes, len);
 }
 
 /* The segment has so many pages, 0 to 16: what is cut off is gone, what is new is 0. HISTAR_WRONG_TYPE,
  * HISTAR_CANNOT_OBSERVE, HISTAR_CANNOT_MODIFY, HISTAR_NO_QUOTA, HISTAR_IMMUTABLE, HISTAR_BOUNDS. */
-static inline uint32_t histar_segment_resize(histar *k, uint64_t thread, histar_entry entry, uint32_t pages)
+HISTAR_LOOKED_AT(1)
+static inline uint32_t histar_segment_resize(histar *k, uint64_t thread, histar_entry entry, uint64_t pages)
 {
-    histar_asks(k, 17, thread, entry)->numbers[0] = pages;
+    uint32_t refusal = histar_asks(k, HISTAR_CALL_SEGMENT_RESIZE, thread, entry);
+    if (refusal) return refusal;
+    k->request.numbers[0] = pages;
     return histar_done(k);
 }
 
 /* These 1 to 64 bytes, in one page of 256, are written from `offset` on. HISTAR_WRONG_TYPE, HISTAR_CANNOT_OBSERVE,
  * HISTAR_CANNOT_MODIFY, HISTAR_IMMUTABLE, HISTAR_BOUNDS. */
-static inline uint32_t histar_segment_write(histar *k, uint64_t thread, histar_entry entry, uint32_t offset,
-                                            const void *bytes, size_t len)
+HISTAR_LOOKED_AT(1, 5)
+static inline uint32_t histar_segment_write(histar *k, uint64_t thread, histar_entry entry, uint64_t offset,
+                                            const void *bytes, uint64_t len)
 {
-    histar_asks(k, 18, thread, entry)->numbers[0] = offset;
+    uint32_t refusal = histar_asks(k, HISTAR_CALL_SEGMENT_WRITE, thread, entry);
+    if (refusal) return refusal;
+    k->request.numbers[0] = offset;
     return histar_gives(k, bytes, len);
 }
 
 /* An empty slot, 0 to 15, of the address space shows `count` pages of a segment, from its page `first` on, at the
  * virtual page `page`; `rights` are HISTAR_READ, HISTAR_WRITE or both. HISTAR_WRONG_TYPE, HISTAR_CANNOT_OBSERVE,
  * HISTAR_CANNOT_MODIFY, HISTAR_IMMUTABLE, HISTAR_BOUNDS, HISTAR_OVERLAP. */
-static inline uint32_t histar_as_map(histar *k, uint64_t thread, histar_entry space, uint32_t slot, uint32_t page,
-                                     histar_entry segment, uint32_t first, uint32_t count, uint32_t rights)
+HISTAR_LOOKED_AT(1)
+static inline uint32_t histar_as_map(histar *k, uint64_t thread, histar_entry space, uint64_t slot, uint64_t page,
+                                     histar_entry segment, uint64_t first, uint64_t count, uint64_t rights)
 {
-    histar_request *r = histar_asks(k, 19, thread, space);
-    r->other_container = segment.container;
-    r->other_object = segment.object;
-    r->numbers[0] = slot;
-    r->numbers[1] = page;
-    r->numbers[2] = first;
-    r->numbers[3] = count;
-    r->numbers[4] = rights;
+    uint32_t refusal = histar_asks(k, HISTAR_CALL_AS_MAP, thread, space);
+    if (refusal) return refusal;
+    k->request.other_container = segment.container;
+    k->request.other_object = segment.object;
+    k->request.numbers[0] = slot;
+    k->request.numbers[1] = page;
+    k->request.numbers[2] = first;
+    k->request.numbers[3] = count;
+    k->request.numbers[4] = rights;
     return histar_done(k);
 }
 
 /* A filled slot, 0 to 15, is emptied. HISTAR_WRONG_TYPE, HISTAR_CANNOT_OBSERVE, HISTAR_CANNOT_MODIFY,
  * HISTAR_IMMUTABLE, HISTAR_BOUNDS, HISTAR_NOT_MAPPED. */
-static inline uint32_t histar_as_unmap(histar *k, uint64_t thread, histar_entry space, uint32_t slot)
+HISTAR_LOOKED_AT(1)
+static inline uint32_t histar_as_unmap(histar *k, uint64_t thread, histar_entry space, uint64_t slot)
 {
-    histar_asks(k, 20, thread, space)->numbers[0] = slot;
+    uint32_t refusal = histar_asks(k, HISTAR_CALL_AS_UNMAP, thread, space);
+    if (refusal) return refusal;
+    k->request.numbers[0] = slot;
     return histar_done(k);
 }
 
 /* These 1 to 64 bytes, in one page of 256, are written through the thread's address space. HISTAR_BOUNDS,
  * HISTAR_NOT_MAPPED, HISTAR_RIGHTS_DENIED. */
-static inline uint32_t histar_store(histar *k, uint64_t thread, uint64_t address, const void *bytes, size_t len)
+HISTAR_LOOKED_AT(1, 4)
+static inline uint32_t histar_store(histar *k, uint64_t thread, uint64_t address, const void *bytes, uint64_t len)
 {
-    histar_asks(k, 21, thread, histar_in(0, 0))->numbers[0] = address;
+    uint32_t refusal = histar_asks(k, HISTAR_CALL_STORE, thread, histar_in(0, 0));
+    if (refusal) return refusal;
+    k->request.numbers[0] = address;
     return histar_gives(k, bytes, len);
 }
 
 /* The thread enters the gate: it has these labels, and the gate's address space, entry point and closure. NULL is
  * allowed for the two results. HISTAR_WRONG_TYPE, HISTAR_BAD_LABEL, HISTAR_GATE_DENIED. */
+HISTAR_LOOKED_AT(1, 4, 5, 6)
 static inline uint32_t histar_gate_enter(histar *k, uint64_t thread, histar_entry gate, const histar_label *label,
                                          const histar_label *clearance, const histar_label *verify,
                                          uint64_t *entry_point, uint64_t *closure)
 {
-    uint32_t refusal;
-    histar_request *r = histar_asks(k, 22, thread, gate);
-    r->label = *label;
-    r->clearance = *clearance;
-    r->verify = *verify;
-    refusal = histar_made(k, entry_point);
+    uint32_t refusal = histar_asks(k, HISTAR_CALL_GATE_ENTER, thread, gate);
+    if (refusal) return refusal;
+    k->request.label = *label;
+    k->request.clearance = *clearance;
+    k->request.verify = *verify;
+    refusal = histar_serves(k);
+    if (!refusal && entry_point) *entry_point = k->answer.numbers[0];
     if (!refusal && closure) *closure = k->answer.numbers[1];
-    return refusal;
+    return histar_told(k, refusal);
 }
 
 /* A packet of 1 to 64 bytes is last in the device's queue. HISTAR_WRONG_TYPE, HISTAR_CANNOT_OBSERVE,
  * HISTAR_CANNOT_MODIFY, HISTAR_BOUNDS, HISTAR_DEVICE_FULL. */
-static inline uint32_t histar_dev_send(histar *k, uint64_t thread, histar_entry device, const void *bytes, size_t len)
+HISTAR_LOOKED_AT(1, 4)
+static inline uint32_t histar_dev_send(histar *k, uint64_t thread, histar_entry device, const void *bytes, uint64_t len)
 {
-    histar_asks(k, 23, thread, device);
+    uint32_t refusal = histar_asks(k, HISTAR_CALL_DEV_SEND, thread, device);
+    if (refusal) return refusal;
     return histar_gives(k, bytes, len);
 }
 
-/* The first packet of the device's queue is taken out: `bytes` has room for 64, and *len are its. HISTAR_WRONG_TYPE,
- * HISTAR_CANNOT_OBSERVE, HISTAR_CANNOT_MODIFY, HISTAR_DEVICE_EMPTY. */
-static inline uint32_t histar_dev_recv(histar *k, uint64_t thread, histar_entry device, void *bytes, size_t *len)
+/* The first packet of the device's queue is taken out into `bytes`, which has room for `size`: 64 or more, whatever the
+ * packet's length, which is told in *len. HISTAR_WRONG_TYPE, HISTAR_CANNOT_OBSERVE, HISTAR_CANNOT_MODIFY,
+ * HISTAR_DEVICE_EMPTY. */
+HISTAR_LOOKED_AT(1, 4, 6)
+static inline uint32_t histar_dev_recv(histar *k, uint64_t thread, histar_entry device, void *bytes, uint64_t size,
+                                       size_t *len)
 {
-    uint32_t refusal;
-    histar_asks(k, 24, thread, device);
-    refusal = histar_takes(k, bytes);
-    if (!refusal) *len = k->answer.len;
-    return refusal;
+    uint32_t refusal = histar_asks(k, HISTAR_CALL_DEV_RECV, thread, device);
+    if (refusal) return refusal;
+    return histar_takes(k, bytes, size, len);
 }
 
 /* ---- Read calls. They change nothing. ---- */
@@ -522,29 +696,32 @@ typedef struct {
 } histar_self;
 
 /* What the thread is. */
+HISTAR_LOOKED_AT(1, 3)
 static inline uint32_t histar_self_get(histar *k, uint64_t thread, histar_self *self)
 {
-    uint32_t refusal;
-    histar_asks(k, 25, thread, histar_in(0, 0));
-    refusal = histar_done(k);
+    uint32_t refusal = histar_asks(k, HISTAR_CALL_SELF_GET, thread, histar_in(0, 0));
     if (refusal) return refusal;
-    self->label = k->answer.label;
-    self->clearance = k->answer.clearance;
-    self->verify = k->answer.verify;
-    self->space = histar_in(k->answer.numbers[0], k->answer.numbers[1]);
-    self->entry_point = k->answer.numbers[2];
-    self->closure = k->answer.numbers[3];
-    return HISTAR_DONE;
+    refusal = histar_serves(k);
+    if (!refusal) {
+        self->label = k->answer.label;
+        self->clearance = k->answer.clearance;
+        self->verify = k->answer.verify;
+        self->space = histar_in(k->answer.numbers[0], k->answer.numbers[1]);
+        self->entry_point = k->answer.numbers[2];
+        self->closure = k->answer.numbers[3];
+    }
+    return histar_told(k, refusal);
 }
 
 /* The object's label. HISTAR_CANNOT_OBSERVE for a thread whose label the caller may not see. */
+HISTAR_LOOKED_AT(1, 4)
 static inline uint32_t histar_obj_label(histar *k, uint64_t thread, histar_entry entry, histar_label *label)
 {
-    uint32_t refusal;
-    histar_asks(k, 26, thread, entry);
-    refusal = histar_done(k);
+    uint32_t refusal = histar_asks(k, HISTAR_CALL_OBJ_LABEL, thread, entry);
+    if (refusal) return refusal;
+    refusal = histar_serves(k);
     if (!refusal) *label = k->answer.label;
-    return refusal;
+    return histar_told(k, refusal);
 }
 
 /* What an object may use and uses, in pages of 256 bytes; 1 where its quota is fixed, and where it is read-only. */
@@ -553,17 +730,19 @@ typedef struct {
 } histar_quota;
 
 /* The object's quota and use. HISTAR_CANNOT_OBSERVE. */
+HISTAR_LOOKED_AT(1, 4)
 static inline uint32_t histar_obj_quota(histar *k, uint64_t thread, histar_entry entry, histar_quota *quota)
 {
-    uint32_t refusal;
-    histar_asks(k, 27, thread, entry);
-    refusal = histar_done(k);
+    uint32_t refusal = histar_asks(k, HISTAR_CALL_OBJ_QUOTA, thread, entry);
     if (refusal) return refusal;
-    quota->quota = (uint32_t)k->answer.numbers[0];
-    quota->used = (uint32_t)k->answer.numbers[1];
-    quota->fixed = (uint32_t)k->answer.numbers[2];
-    quota->immutable = (uint32_t)k->answer.numbers[3];
-    return HISTAR_DONE;
+    refusal = histar_serves(k);
+    if (!refusal) {
+        quota->quota = (uint32_t)k->answer.numbers[0];
+        quota->used = (uint32_t)k->answer.numbers[1];
+        quota->fixed = (uint32_t)k->answer.numbers[2];
+        quota->immutable = (uint32_t)k->answer.numbers[3];
+    }
+    return histar_told(k, refusal);
 }
 
 /* Ids that a container lists: its whole length, and up to 16 ids. */
@@ -574,49 +753,62 @@ typedef struct {
 } histar_list;
 
 /* Up to 16 ids of a container's list, from the place `from` on, counted from 0. HISTAR_NO_ACCESS, HISTAR_BOUNDS. */
-static inline uint32_t histar_container_list(histar *k, uint64_t thread, uint64_t container, uint32_t from,
+HISTAR_LOOKED_AT(1, 5)
+static inline uint32_t histar_container_list(histar *k, uint64_t thread, uint64_t container, uint64_t from,
                                              histar_list *list)
 {
-    uint32_t refusal;
-    histar_asks(k, 28, thread, histar_in(container, 0))->numbers[0] = from;
-    refusal = histar_done(k);
+    uint32_t refusal = histar_asks(k, HISTAR_CALL_CONTAINER_LIST, thread, histar_in(container, 0));
     if (refusal) return refusal;
-    list->length = k->answer.numbers[0];
-    list->count = k->answer.len;
-    memcpy(list->ids, k->answer.numbers + 1, sizeof list->ids);
-    return HISTAR_DONE;
+    k->request.numbers[0] = from;
+    refusal = histar_serves(k);
+    if (!refusal) {
+        list->length = k->answer.numbers[0];
+        list->count = k->answer.len;
+        memcpy(list->ids, k->answer.numbers + 1, sizeof list->ids);
+    }
+    return histar_told(k, refusal);
 }
 
 /* The container that lists a container; the root's is the root. HISTAR_NO_ACCESS. */
+HISTAR_LOOKED_AT(1, 4)
 static inline uint32_t histar_container_parent(histar *k, uint64_t thread, uint64_t container, uint64_t *parent)
 {
-    histar_asks(k, 29, thread, histar_in(container, 0));
+    uint32_t refusal = histar_asks(k, HISTAR_CALL_CONTAINER_PARENT, thread, histar_in(container, 0));
+    if (refusal) return refusal;
     return histar_made(k, parent);
 }
 
 /* The segment's length in pages of 256 bytes. HISTAR_WRONG_TYPE, HISTAR_CANNOT_OBSERVE. */
+HISTAR_LOOKED_AT(1, 4)
 static inline uint32_t histar_segment_len(histar *k, uint64_t thread, histar_entry entry, uint64_t *pages)
 {
-    histar_asks(k, 30, thread, entry);
+    uint32_t refusal = histar_asks(k, HISTAR_CALL_SEGMENT_LEN, thread, entry);
+    if (refusal) return refusal;
     return histar_made(k, pages);
 }
 
 /* 1 to 64 bytes of the segment, in one page of 256, from `offset` on. HISTAR_WRONG_TYPE, HISTAR_CANNOT_OBSERVE,
  * HISTAR_BOUNDS. */
-static inline uint32_t histar_segment_read(histar *k, uint64_t thread, histar_entry entry, uint32_t offset,
-                                           void *bytes, uint32_t len)
+HISTAR_LOOKED_AT(1, 5)
+static inline uint32_t histar_segment_read(histar *k, uint64_t thread, histar_entry entry, uint64_t offset,
+                                           void *bytes, uint64_t len)
 {
-    histar_request *r = histar_asks(k, 31, thread, entry);
-    r->numbers[0] = offset;
-    r->numbers[1] = len;
-    return histar_takes(k, bytes);
+    uint32_t refusal = histar_asks(k, HISTAR_CALL_SEGMENT_READ, thread, entry);
+    if (refusal) return refusal;
+    k->request.numbers[0] = offset;
+    k->request.numbers[1] = len;
+    return histar_takes(k, bytes, 64, NULL);
 }
 
-/* The 64 bytes of the object's metadata. HISTAR_WRONG_TYPE for a thread, HISTAR_CANNOT_OBSERVE. */
-static inline uint32_t histar_meta_get(histar *k, uint64_t thread, histar_entry entry, void *bytes)
+/* The 64 bytes of the object's metadata, into `bytes`, which has room for `size`: 64 or more. HISTAR_WRONG_TYPE for a
+ * thread, HISTAR_CANNOT_OBSERVE. */
+HISTAR_LOOKED_AT(1, 4)
+static inline uint32_t histar_meta_get(histar *k, uint64_t thread, histar_entry entry, void *bytes,
+                                       uint64_t size)
 {
-    histar_asks(k, 32, thread, entry);
-    return histar_takes(k, bytes);
+    uint32_t refusal = histar_asks(k, HISTAR_CALL_META_GET, thread, entry);
+    if (refusal) return refusal;
+    return histar_takes(k, bytes, size, NULL);
 }
 
 /* What a slot maps, as histar_as_map has it; nothing, and zeros, where is_mapped is 0. */
@@ -627,100 +819,37 @@ typedef struct {
 } histar_mapping;
 
 /* What a slot, 0 to 15, of the address space maps. HISTAR_WRONG_TYPE, HISTAR_CANNOT_OBSERVE, HISTAR_BOUNDS. */
-static inline uint32_t histar_as_get(histar *k, uint64_t thread, histar_entry space, uint32_t slot,
+HISTAR_LOOKED_AT(1, 5)
+static inline uint32_t histar_as_get(histar *k, uint64_t thread, histar_entry space, uint64_t slot,
                                      histar_mapping *mapping)
 {
-    uint32_t refusal;
     const uint64_t *n = k->answer.numbers;
-    histar_asks(k, 33, thread, space)->numbers[0] = slot;
-    refusal = histar_done(k);
+    uint32_t refusal = histar_asks(k, HISTAR_CALL_AS_GET, thread, space);
     if (refusal) return refusal;
-    memset(mapping, 0, sizeof *mapping);
-    if (k->answer.len == 0) return HISTAR_DONE;
-    mapping->is_mapped = 1;
-    mapping->page = (uint32_t)n[0];
-    mapping->segment = histar_in(n[1], n[2]);
-    mapping->first = (uint32_t)n[3];
-    mapping->count = (uint32_t)n[4];
-    mapping->rights = (uint32_t)(n[5] * HISTAR_READ + n[6] * HISTAR_WRITE);
-    return HISTAR_DONE;
+    k->request.numbers[0] = slot;
+    refusal = histar_serves(k);
+    if (!refusal) memset(mapping, 0, sizeof *mapping);
+    if (!refusal && k->answer.len) {
+        mapping->is_mapped = 1;
+        mapping->page = (uint32_t)n[0];
+        mapping->segment = histar_in(n[1], n[2]);
+        mapping->first = (uint32_t)n[3];
+        mapping->count = (uint32_t)n[4];
+        mapping->rights = (uint32_t)(n[5] * HISTAR_READ + n[6] * HISTAR_WRITE);
+    }
+    return histar_told(k, refusal);
 }
 
 /* 1 to 64 bytes, in one page of 256, read through the thread's address space. HISTAR_BOUNDS, HISTAR_NOT_MAPPED,
  * HISTAR_RIGHTS_DENIED. */
-static inline uint32_t histar_load(histar *k, uint64_t thread, uint64_t address, void *bytes, uint32_t len)
+HISTAR_LOOKED_AT(1, 4)
+static inline uint32_t histar_load(histar *k, uint64_t thread, uint64_t address, void *bytes, uint64_t len)
 {
-    histar_request *r = histar_asks(k, 34, thread, histar_in(0, 0));
-    r->numbers[0] = address;
-    r->numbers[1] = len;
-    return histar_takes(k, bytes);
-}
-
-/* ---- Look-ups in what the kernel keeps, for tests and audits. No thread makes them, so no label guards them. ----
- * Each returns 0, and says in *is_there whether there is one; what it gives is written only where there is. */
-
-static inline uint32_t histar_finds(histar *k, int *is_there)
-{
-    uint32_t refusal = histar_done(k);
-    *is_there = !refusal && k->answer.len == 1;
-    return refusal;
-}
-
-/* The live id at a place, from 0, among all live ids, which rise. */
-static inline uint32_t histar_kept_live(histar *k, uint32_t place, int *is_there, uint64_t *id)
-{
-    uint32_t refusal;
-    histar_asks(k, 35, 0, histar_in(0, 0))->numbers[0] = place;
-    refusal = histar_finds(k, is_there);
-    if (!refusal && *is_there) *id = k->answer.numbers[0];
-    return refusal;
-}
-
-/* What an object uses, in pages of 256 bytes. There is one for each live id. */
-static inline uint32_t histar_kept_use(histar *k, uint64_t object, int *is_there, uint32_t *pages)
-{
-    uint32_t refusal;
-    histar_asks(k, 36, 0, histar_in(0, object));
-    refusal = histar_finds(k, is_there);
-    if (!refusal && *is_there) *pages = (uint32_t)k->answer.numbers[0];
-    return refusal;
-}
-
-/* What a slot, 0 to 15, of a live thread's address space shows: a segment, and HISTAR_READ and HISTAR_WRITE. */
-static inline uint32_t histar_kept_translation(histar *k, uint64_t thread, uint32_t slot, int *is_there,
-                                               uint64_t *segment, uint32_t *rights)
-{
-    uint32_t refusal;
-    const uint64_t *n = k->answer.numbers;
-    histar_asks(k, 37, 0, histar_in(0, thread))->numbers[0] = slot;
-    refusal = histar_finds(k, is_there);
-    if (refusal || !*is_there) return refusal;
-    *segment = n[0];
-    *rights = (uint32_t)(n[1] * HISTAR_READ + n[2] * HISTAR_WRITE);
-    return HISTAR_DONE;
-}
-
-/* The label of an index, from 0 to 65,535. Each stored label has one index. */
-static inline uint32_t histar_kept_label(histar *k, uint16_t index, int *is_there, histar_label *label)
-{
-    uint32_t refusal;
-    histar_asks(k, 38, 0, histar_in(0, 0))->numbers[0] = index;
-    refusal = histar_finds(k, is_there);
-    if (!refusal && *is_there) *label = k->answer.label;
-    return refusal;
-}
-
-/* How the label A of an index compares with the label B of another: the sum of 1 where A is at most B, 2 where it is once
- * B's star is raised, and 4 where it is once the star of both is raised. There is one where both indexes have a label. */
-static inline uint32_t histar_kept_order(histar *k, uint16_t first, uint16_t second, int *is_there, uint32_t *bits)
-{
-    uint32_t refusal;
-    histar_request *r = histar_asks(k, 39, 0, histar_in(0, 0));
-    r->numbers[0] = first;
-    r->numbers[1] = second;
-    refusal = histar_finds(k, is_there);
-    if (!refusal && *is_there) *bits = (uint32_t)k->answer.numbers[0];
-    return refusal;
+    uint32_t refusal = histar_asks(k, HISTAR_CALL_LOAD, thread, histar_in(0, 0));
+    if (refusal) return refusal;
+    k->request.numbers[0] = address;
+    k->request.numbers[1] = len;
+    return histar_takes(k, bytes, 64, NULL);
 }
 
 /* ---- The log: each write call since histar_open, refused or not, with its answer. Its dump is the text that
@@ -728,31 +857,33 @@ static inline uint32_t histar_kept_order(histar *k, uint16_t first, uint16_t sec
 
 /* Begins the log, before the first write call. From here on each write call takes memory, and is refused HISTAR_MEMORY
  * and not made where there is none. HISTAR_NO_CALL where a write call was made already. */
+HISTAR_LOOKED_AT(1)
 static inline uint32_t histar_log_on(histar *k)
 {
-    histar_asks(k, 40, 0, histar_in(0, 0));
+    uint32_t refusal = histar_asks(k, HISTAR_CALL_LOG_ON, 0, histar_in(0, 0));
+    if (refusal) return refusal;
     return histar_done(k);
 }
 
 /* Writes the text of the log's dump, and its length in bytes to *needed; no zero byte ends it. HISTAR_BOUNDS where it is
  * longer than `size`: nothing but *needed is written then. HISTAR_NO_CALL where no log was begun, HISTAR_TEXT_MEMORY
  * where there is no memory for the text. The log stays as it is, so it may be dumped again, and calls may follow. */
+HISTAR_LOOKED_AT(1, 4)
 static inline uint32_t histar_dump(histar *k, void *text, size_t size, size_t *needed)
 {
-    uint32_t refusal;
-    size_t at, len;
-    histar_asks(k, 41, 0, histar_in(0, 0));
-    refusal = histar_done(k);
+    size_t at, len = 0;
+    uint32_t refusal = histar_asks(k, HISTAR_CALL_DUMP, 0, histar_in(0, 0));
     if (refusal) return refusal;
-    *needed = len = (size_t)k->answer.numbers[0];
-    if (size < len) return HISTAR_BOUNDS;
-    for (at = 0; at < len; at += 64) {
-        histar_asks(k, 42, 0, histar_in(0, 0))->numbers[0] = at;
-        refusal = histar_done(k);
-        if (refusal) return refusal;
-        memcpy((unsigned char *)text + at, k->answer.bytes, len - at < 64 ? len - at : 64);
+    refusal = histar_serves(k);
+    if (!refusal) *needed = len = (size_t)k->answer.numbers[0];
+    if (!refusal && size < len) refusal = HISTAR_BOUNDS;
+    k->request.call = HISTAR_CALL_DUMP_TEXT;
+    for (at = 0; !refusal && at < len; at += 64) {
+        k->request.numbers[0] = at;
+        refusal = histar_serves(k);
+        if (!refusal) memcpy((unsigned char *)text + at, k->answer.bytes, len - at < 64 ? len - at : 64);
     }
-    return HISTAR_DONE;
+    return histar_told(k, refusal);
 }
 
 #ifdef __cplusplus

@@ -127,7 +127,8 @@ static void opens(int with_log)
 static void fills(void)
 {
     uint64_t made;
-    for (int i = 0; i < objects; i++) histar_segment_create(&k, HISTAR_BOOT, HISTAR_ROOT, &guarded, 1, 0, &made);
+    for (int i = 0; i < objects; i++)
+        if (histar_segment_create(&k, HISTAR_BOOT, HISTAR_ROOT, &guarded, 1, 0, &made)) return;
 }
 
 /* A segment of one page, which the boot thread's space maps. */

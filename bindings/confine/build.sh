@@ -6,7 +6,7 @@ top=$(cd "$(dirname "$0")/../.." && pwd)
 library=${HISTAR_LIB:-$top/out/lib}
 lacks() { echo "confine: $1" >&2; exit 69; }
 has() { echo "#include <$2>" | "$1" -E -x "$3" - >/dev/null 2>&1; }
-[ -f "$library/libhistar_c.a" ] || lacks 'the library is missing: run ./lib first'
+[ -f "$library/libhistar.a" ] || lacks 'the library is missing: run ./lib first'
 command -v "${CC:-cc}" >/dev/null || lacks 'no C compiler (cc) is on the path'
 command -v "${CXX:-c++}" >/dev/null || lacks 'no C++ compiler (c++) is on the path'
 has "${CC:-cc}" seccomp.h c || lacks "seccomp.h is missing: install libseccomp's headers (libseccomp-dev)"
@@ -18,4 +18,4 @@ mkdir -p "$top/out"
 for file in "$top"/bindings/confine/*.c; do
     "${CC:-cc}" -std=c11 -O2 -Wall -Wextra -Wpedantic -Werror -I"$top/include" -c "$file" -o "$room/$(basename "$file").o"
 done
-"${CXX:-c++}" -static-libstdc++ -static-libgcc "$room"/*.o -L"$library" -lhistar_c -llibc_c -lseccomp -o "$top/out/confine"
+"${CXX:-c++}" -static-libstdc++ -static-libgcc "$room"/*.o -L"$library" -lhistar -lseccomp -o "$top/out/confine"

@@ -20,14 +20,14 @@ static void creates(const char *call, uint64_t t)
 {
     uint64_t container = object(), made = 0, entry_point, closure;
     histar_label l = label(), c;
-    uint32_t quota = small(), last;
+    uint64_t quota = number(), last;
     histar_entry other;
     if (!strcmp(call, "container_create")) {
         last = set("csatgd");
         KNOWN();
         now->refusal = histar_container_create(&k, t, container, &l, quota, last, &made);
     } else if (!strcmp(call, "segment_create")) {
-        last = small();
+        last = number();
         KNOWN();
         now->refusal = histar_segment_create(&k, t, container, &l, quota, last, &made);
     } else if (!strcmp(call, "segment_copy")) {
@@ -93,7 +93,7 @@ static void about_container(const char *call, uint64_t t)
 {
     uint64_t container = object(), parent = 0;
     if (!strcmp(call, "container_list")) {
-        uint32_t from = small();
+        uint64_t from = number();
         histar_list list;
         KNOWN();
         now->refusal = histar_container_list(&k, t, container, from, &list);
@@ -123,7 +123,7 @@ static void by_address(const char *call, uint64_t t)
         now->refusal = histar_store(&k, t, address, now->bytes, now->len);
         now->len = 0;
     } else {
-        uint32_t count = small();
+        uint64_t count = number();
         says("data");
         now->refusal = histar_load(&k, t, address, now->bytes, count);
         now->len = count;
@@ -132,10 +132,10 @@ static void by_address(const char *call, uint64_t t)
 
 static void maps(uint64_t t, histar_entry space)
 {
-    uint32_t slot = small(), page = small(), first, count, rights;
+    uint64_t slot = number(), page = number(), first, count, rights;
     histar_entry segment = entry();
-    first = small();
-    count = small();
+    first = number();
+    count = number();
     rights = set("rw");
     KNOWN();
     now->refusal = histar_as_map(&k, t, space, slot, page, segment, first, count, rights);
@@ -155,14 +155,14 @@ static void enters(uint64_t t, histar_entry gate)
 static void writes_entry(const char *call, uint64_t t, histar_entry e)
 {
     uint8_t given[64];
-    uint32_t n = 0;
+    uint64_t n = 0;
     size_t len = 0;
     says("ok");
-    if (!strcmp(call, "segment_resize") || !strcmp(call, "segment_write") || !strcmp(call, "as_unmap")) n = small();
+    if (!strcmp(call, "segment_resize") || !strcmp(call, "segment_write") || !strcmp(call, "as_unmap")) n = number();
     if (!strcmp(call, "meta_set") || !strcmp(call, "segment_write") || !strcmp(call, "dev_send")) len = bytes(given);
     KNOWN();
     if (!strcmp(call, "unref")) now->refusal = histar_unref(&k, t, e);
-    if (!strcmp(call, "quota_move")) now->refusal = histar_quota_move(&k, t, e, (int32_t)strtol(word(), NULL, 10));
+    if (!strcmp(call, "quota_move")) now->refusal = histar_quota_move(&k, t, e, strtoll(word(), NULL, 10));
     if (!strcmp(call, "set_fixed")) now->refusal = histar_set_fixed(&k, t, e);
     if (!strcmp(call, "set_immutable")) now->refusal = histar_set_immutable(&k, t, e);
     if (!strcmp(call, "meta_set")) now->refusal = histar_meta_set(&k, t, e, given, len);
@@ -174,16 +174,16 @@ static void writes_entry(const char *call, uint64_t t, histar_entry e)
 
 static void reads_entry(const char *call, uint64_t t, histar_entry e)
 {
-    uint32_t n = 0, count = 0;
+    uint64_t n = 0, count = 0;
     histar_quota quota = {0, 0, 0, 0};
     histar_label l = histar_level(0);
     uint64_t pages = 0;
-    if (!strcmp(call, "segment_read") || !strcmp(call, "as_get")) n = small();
-    if (!strcmp(call, "segment_read")) count = small();
+    if (!strcmp(call, "segment_read") || !strcmp(call, "as_get")) n = number();
+    if (!strcmp(call, "segment_read")) count = number();
     KNOWN();
     says("data");
-    if (!strcmp(call, "dev_recv")) now->refusal = histar_dev_recv(&k, t, e, now->bytes, &now->len);
-    if (!strcmp(call, "meta_get")) now->refusal = histar_meta_get(&k, t, e, now->bytes), now->len = 64;
+    if (!strcmp(call, "dev_recv")) now->refusal = histar_dev_recv(&k, t, e, now->bytes, sizeof now->bytes, &now->len);
+    if (!strcmp(call, "meta_get")) now->refusal = histar_meta_get(&k, t, e, now->bytes, sizeof now->bytes), now->len = 64;
     if (!strcmp(call, "segment_read")) now->refusal = histar_segment_read(&k, t, e, n, now->bytes, count), now->len = count;
     if (!strcmp(call, "segment_len")) {
         now->refusal = histar_segment_len(&k, t, e, &pages);

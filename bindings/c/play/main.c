@@ -131,16 +131,15 @@ static void writes_dump(const char *path)
 
 int main(int count, char **given)
 {
-    uint32_t pages = 64, refusal;
-    uint8_t device = 1;
-    uint64_t next_id = 4, next_category = 1;
+    uint64_t pages = 64, device = 1, next_id = 4, next_category = 1;
+    uint32_t refusal;
     int with_tables = 0;
     const char *dump = NULL;
     if (count < 2) faulty("play SCRIPT [--pages N] [--device L] [--next-id N] [--next-category N] [--tables yes] [--dump FILE]");
     for (int i = 2; i + 1 < count; i += 2) {
         uint64_t n = strtoull(given[i + 1], NULL, 10);
-        if (!strcmp(given[i], "--pages")) pages = (uint32_t)n;
-        if (!strcmp(given[i], "--device")) device = (uint8_t)n;
+        if (!strcmp(given[i], "--pages")) pages = n;
+        if (!strcmp(given[i], "--device")) device = n;
         if (!strcmp(given[i], "--next-id")) next_id = n;
         if (!strcmp(given[i], "--next-category")) next_category = n;
         if (!strcmp(given[i], "--tables")) with_tables = 1;

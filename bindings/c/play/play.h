@@ -54,7 +54,6 @@ const struct name *name_of(const char *text, const char *worker, unsigned phase)
 char *word(void);
 uint64_t object(void);
 uint64_t number(void);
-uint32_t small(void);
 histar_entry entry(void);
 histar_label label(void);
 size_t bytes(uint8_t *to);

@@ -1,4 +1,5 @@
 /* What a kernel keeps, as a dump has it. */
+#include "histar_debug.h"
 #include "play.h"
 
 /* A label that is kept, with its index. */
@@ -39,7 +40,7 @@ static void print_labels(void)
     for (unsigned i = 0; i <= UINT16_MAX && kept_count < sizeof kept / sizeof kept[0]; i++) {
         struct kept *it = &kept[kept_count];
         it->index = (uint16_t)i;
-        asked(histar_kept_label(&k, it->index, &is_there, &it->label));
+        asked(histar_kept_label(&k, i, &is_there, &it->label));
         kept_count += is_there != 0;
     }
     qsort(kept, kept_count, sizeof kept[0], compare);

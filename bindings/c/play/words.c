@@ -20,7 +20,6 @@ static uint64_t value_of(const char *text, int is_category)
 
 uint64_t object(void) { return value_of(word(), 0); }
 uint64_t number(void) { return strtoull(word(), NULL, 10); }
-uint32_t small(void) { return (uint32_t)number(); }
 
 histar_entry entry(void)
 {

@@ -1,11 +1,13 @@
 //! The least time of a call over many short runs, beside `pread` and `pwrite` of 64 bytes in the same run.
 #![allow(missing_docs)]
-use histar::{label, Call, Entry, Kernel, Mapping, Object, Replicas, Rights, Thread};
+#![allow(clippy::incompatible_msrv)] // black_box: the crate itself needs no more than Cargo.toml says
+use histar::trusted::Thread;
+use histar::{label, Call, Entry, Kernel, Mapping, Object, Replicas, Rights};
+use std::hint::black_box;
 use std::os::unix::fs::FileExt;
 use std::sync::Mutex;
 use std::time::Instant;
 
-const BOOT: Thread = Thread::BOOT;
 const ROUNDS: u32 = 1000;
 
 fn runs() -> u32 {
@@ -24,6 +26,11 @@ fn timed(work: &mut impl FnMut(), rounds: u32) -> f64 {
 fn least(name: &str, mut work: impl FnMut()) {
     let least = (0..runs()).map(|_| timed(&mut work, ROUNDS)).fold(f64::MAX, f64::min);
     println!("{name}: {least:.1} ns");
+}
+
+/// Takes a value that is made for its time alone.
+fn seen<T>(value: T) {
+    black_box(value);
 }
 
 /// A file of 4,096 bytes in memory, which has no name.
@@ -54,45 +61,40 @@ fn two_threads(name: &str, read: impl Fn(&mut dyn FnMut(&mut dyn FnMut())) + Syn
 }
 
 fn main() {
-    let mut kernel = Kernel::boot(64).expect("a kernel");
-    let c = kernel.cat_create(BOOT).expect("a category");
+    let kernel = Kernel::boot(64).expect("a kernel");
+    let boot = kernel.session();
+    let c = boot.cat_create().expect("a category");
     let guarded = label! { c => L3; L1 };
-    let create = Call::SegmentCreate { container: Object::ROOT, label: guarded.clone(), quota: 2, pages: 1 };
-    let segment = kernel.segment_create(BOOT, Object::ROOT, &guarded, 2, 1).expect("a segment");
-    let entry = Entry::in_root(segment);
-    let space = Entry::in_root(kernel.as_create(BOOT, Object::ROOT, &label! { L1 }, 1).expect("a space"));
+    let entry = Entry::in_root(boot.segment_create(Object::ROOT, &guarded, 2, 1).expect("a segment"));
+    let space = Entry::in_root(boot.as_create(Object::ROOT, &label! { L1 }, 1).expect("a space"));
     let mapping = Mapping { page: 0, segment: entry, first: 0, count: 1, rights: Rights::READ_WRITE };
-    kernel.as_map(BOOT, space, 0, mapping).expect("a mapping");
-    kernel.self_set_as(BOOT, space).expect("the space");
+    boot.as_map(space, 0, mapping).expect("a mapping");
+    boot.self_set_as(space).expect("the space");
 
     let (file, mut place) = (file(), [0u8; 64]);
     least("pread of 64 bytes", || file.read_exact_at(&mut place, 128).expect("a read"));
     least("pwrite of 64 bytes", || file.write_all_at(&[1; 64], 128).expect("a write"));
-    least("read_into of 64 bytes", || kernel.read_into(BOOT, entry, 128, &mut place).expect("a read"));
-    least("write_from of 64 bytes", || kernel.write_from(BOOT, entry, 128, &[1; 64]).expect("a write"));
-    let read = Call::SegmentRead { entry, offset: 128, count: 64 };
-    least("call of SegmentRead, a Vec each", || drop(kernel.call(BOOT, &read).expect("a read")));
+    least("segment_read of 64 bytes", || seen(boot.segment_read(entry, 128, 64).expect("a read")));
+    least("segment_write of 64 bytes", || boot.segment_write(entry, 128, &[1; 64]).expect("a write"));
     let load = Call::Load { address: 128, count: 64 };
-    least("call of Load, a Vec each", || drop(kernel.call(BOOT, &load).expect("a load")));
+    least("load of 64 bytes, as a value", || seen(boot.call(&load).expect("a load")));
     least("segment_create with its unref", || {
-        let made = kernel.segment_create(BOOT, Object::ROOT, &guarded, 1, 0).expect("a segment");
-        kernel.unref(BOOT, Entry::in_root(made)).expect("an unref");
+        let made = boot.segment_create(Object::ROOT, &guarded, 1, 0).expect("a segment");
+        boot.unref(Entry::in_root(made)).expect("an unref");
     });
     let mutex = Mutex::new(kernel);
-    least("read_into of 64 bytes under a free Mutex", || {
-        mutex.lock().expect("the lock").read_into(BOOT, entry, 128, &mut place).expect("a read");
-    });
+    let under_lock = || seen(mutex.lock().expect("the lock").session().segment_read(entry, 128, 64).expect("a read"));
+    least("segment_read of 64 bytes under a free Mutex", under_lock);
 
     let all = Replicas::new(64);
     let mut first = all.seat().expect("a seat");
-    first.call(BOOT, &Call::CatCreate).expect("a category");
-    first.call(BOOT, &create).expect("a segment");
-    two_threads("two threads that read, one Mutex", |measure| {
-        let mut place = [0u8; 64];
-        measure(&mut || mutex.lock().expect("the lock").read_into(BOOT, entry, 128, &mut place).expect("a read"));
-    });
+    first.call(Thread::BOOT, &Call::CatCreate).expect("a category");
+    let create = Call::SegmentCreate { container: Object::ROOT, label: (&guarded).into(), quota: 2, pages: 1 };
+    first.call(Thread::BOOT, &create).expect("a segment");
+    let read = Call::SegmentRead { entry, offset: 128, count: 64 };
+    two_threads("two threads that read, one Mutex", |measure| measure(&mut || under_lock()));
     two_threads("two threads that read, a replica each", |measure| {
-        let (mut seat, mut place) = (all.seat().expect("a seat"), [0u8; 64]);
-        measure(&mut || seat.read_into(BOOT, entry, 128, &mut place).expect("a read"));
+        let mut seat = all.seat().expect("a seat");
+        measure(&mut || seen(seat.call(Thread::BOOT, &read).expect("a read")));
     });
 }

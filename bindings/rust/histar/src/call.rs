@@ -1,20 +1,21 @@
 //! What a thread asks of a kernel.
 use crate::{Entry, Kinds, Label, Mapping, Object};
+use std::borrow::Cow;
 
-/// A call. docs/CALLS.md has the rule and the refusals of each.
+/// A call. docs/CALLS.md has the rule and the refusals of each. Labels and bytes are the caller's, or its own.
 #[derive(Clone, PartialEq, Eq, Debug)]
-pub enum Call {
+pub enum Call<'a> {
     /// A new category, which the thread owns.
     CatCreate,
     /// The thread's label rises.
     SelfSetLabel {
         /// The new label: at least the old one, at most the clearance.
-        label: Label,
+        label: Cow<'a, Label>,
     },
     /// The thread's clearance changes.
     SelfSetClearance {
         /// The new clearance: at least the label.
-        clearance: Label,
+        clearance: Cow<'a, Label>,
     },
     /// The thread's address space changes.
     SelfSetAs {
@@ -26,7 +27,7 @@ pub enum Call {
         /// Where it is listed.
         container: Object,
         /// Its label, without star.
-        label: Label,
+        label: Cow<'a, Label>,
         /// What it may use, in pages of 256 bytes: at least 1.
         quota: u32,
         /// The kinds that it will not hold.
@@ -37,7 +38,7 @@ pub enum Call {
         /// Where it is listed.
         container: Object,
         /// Its label, without star.
-        label: Label,
+        label: Cow<'a, Label>,
         /// What it may use, in pages of 256 bytes: at least one more than its length.
         quota: u32,
         /// Its length in pages: 0 to 16.
@@ -48,7 +49,7 @@ pub enum Call {
         /// Where it is listed.
         container: Object,
         /// Its label, without star.
-        label: Label,
+        label: Cow<'a, Label>,
         /// What it may use, in pages of 256 bytes.
         quota: u32,
         /// The segment that is copied.
@@ -59,7 +60,7 @@ pub enum Call {
         /// Where it is listed.
         container: Object,
         /// Its label, without star.
-        label: Label,
+        label: Cow<'a, Label>,
         /// What it may use, in pages of 256 bytes: at least 1.
         quota: u32,
     },
@@ -68,31 +69,16 @@ pub enum Call {
         /// Where it is listed.
         container: Object,
         /// Its label.
-        label: Label,
+        label: Cow<'a, Label>,
         /// What it may use, in pages of 256 bytes: at least 1.
         quota: u32,
         /// Its clearance.
-        clearance: Label,
+        clearance: Cow<'a, Label>,
         /// Where it runs: any number.
         entry_point: u64,
     },
     /// A new gate.
-    GateCreate {
-        /// Where it is listed.
-        container: Object,
-        /// Its label.
-        label: Label,
-        /// What it may use, in pages of 256 bytes: at least 1.
-        quota: u32,
-        /// What a thread's label has to be at most.
-        clearance: Label,
-        /// The address space of who enters, `Entry::NONE` for none.
-        space: Entry,
-        /// Where who enters runs: any number.
-        entry_point: u64,
-        /// What it is handed: any number.
-        closure: u64,
-    },
+    GateCreate(NewGate<'a>),
     /// A second link to an object.
     Link {
         /// Where the object comes last.
@@ -127,7 +113,7 @@ pub enum Call {
         /// The object.
         entry: Entry,
         /// 0 to 64 bytes.
-        bytes: Vec<u8>,
+        bytes: Cow<'a, [u8]>,
     },
     /// The segment gets another length: what is cut off is gone, what is new is 0.
     SegmentResize {
@@ -143,7 +129,7 @@ pub enum Call {
         /// The place of the first byte, from 0.
         offset: u32,
         /// 1 to 64 bytes that lie in one page of 256.
-        bytes: Vec<u8>,
+        bytes: Cow<'a, [u8]>,
     },
     /// An empty slot shows pages of a segment.
     AsMap {
@@ -166,25 +152,25 @@ pub enum Call {
         /// The address of the first byte.
         address: u64,
         /// 1 to 64 bytes that lie in one page of 256.
-        bytes: Vec<u8>,
+        bytes: Cow<'a, [u8]>,
     },
     /// The thread enters a gate.
     GateEnter {
         /// The gate.
         gate: Entry,
         /// The thread's new label.
-        label: Label,
+        label: Cow<'a, Label>,
         /// Its new clearance.
-        clearance: Label,
+        clearance: Cow<'a, Label>,
         /// The label that it proves to the gate's owner.
-        verify: Label,
+        verify: Cow<'a, Label>,
     },
     /// A packet is last in the device's queue.
     DevSend {
         /// The device.
         entry: Entry,
         /// 1 to 64 bytes.
-        bytes: Vec<u8>,
+        bytes: Cow<'a, [u8]>,
     },
     /// The first packet of the device's queue is taken out.
     DevRecv {
@@ -250,7 +236,100 @@ pub enum Call {
     },
 }
 
-impl Call {
+/// A gate that is to be made.
+#[derive(Clone, PartialEq, Eq, Debug)]
+pub struct NewGate<'a> {
+    /// Where it is listed.
+    pub container: Object,
+    /// Its label.
+    pub label: Cow<'a, Label>,
+    /// What it may use, in pages of 256 bytes: at least 1.
+    pub quota: u32,
+    /// What a thread's label has to be at most.
+    pub clearance: Cow<'a, Label>,
+    /// The address space of who enters, `Entry::NONE` for none.
+    pub space: Entry,
+    /// Where who enters runs: any number.
+    pub entry_point: u64,
+    /// What it is handed: any number.
+    pub closure: u64,
+}
+
+impl<'a> NewGate<'a> {
+    /// A gate in the root container with a quota of 1, no address space, and entry point and closure 0.
+    pub fn new(label: &'a Label, clearance: &'a Label) -> NewGate<'a> {
+        NewGate {
+            container: Object::ROOT,
+            label: label.into(),
+            quota: 1,
+            clearance: clearance.into(),
+            space: Entry::NONE,
+            entry_point: 0,
+            closure: 0,
+        }
+    }
+}
+
+/// Labels and bytes of its own.
+fn owned<T: ToOwned + ?Sized>(value: Cow<'_, T>) -> Cow<'static, T> {
+    Cow::Owned(value.into_owned())
+}
+
+impl Call<'_> {
+    /// The same call, with labels and bytes of its own.
+    pub fn into_owned(self) -> Call<'static> {
+        match self {
+            Call::SelfSetLabel { label } => Call::SelfSetLabel { label: owned(label) },
+            Call::SelfSetClearance { clearance } => Call::SelfSetClearance { clearance: owned(clearance) },
+            Call::ContainerCreate { container, label, quota, avoid } => {
+                Call::ContainerCreate { container, label: owned(label), quota, avoid }
+            }
+            Call::SegmentCreate { container, label, quota, pages } => {
+                Call::SegmentCreate { container, label: owned(label), quota, pages }
+            }
+            Call::SegmentCopy { container, label, quota, source } => {
+                Call::SegmentCopy { container, label: owned(label), quota, source }
+            }
+            Call::AsCreate { container, label, quota } => Call::AsCreate { container, label: owned(label), quota },
+            Call::ThreadCreate { container, label, quota, clearance, entry_point } => {
+                let (label, clearance) = (owned(label), owned(clearance));
+                Call::ThreadCreate { container, label, quota, clearance, entry_point }
+            }
+            Call::GateCreate(NewGate { container, label, quota, clearance, space, entry_point, closure }) => {
+                let (label, clearance) = (owned(label), owned(clearance));
+                Call::GateCreate(NewGate { container, label, quota, clearance, space, entry_point, closure })
+            }
+            Call::MetaSet { entry, bytes } => Call::MetaSet { entry, bytes: owned(bytes) },
+            Call::SegmentWrite { entry, offset, bytes } => Call::SegmentWrite { entry, offset, bytes: owned(bytes) },
+            Call::Store { address, bytes } => Call::Store { address, bytes: owned(bytes) },
+            Call::GateEnter { gate, label, clearance, verify } => {
+                Call::GateEnter { gate, label: owned(label), clearance: owned(clearance), verify: owned(verify) }
+            }
+            Call::DevSend { entry, bytes } => Call::DevSend { entry, bytes: owned(bytes) },
+            Call::CatCreate => Call::CatCreate,
+            Call::SelfSetAs { space } => Call::SelfSetAs { space },
+            Call::Link { target, entry } => Call::Link { target, entry },
+            Call::Unref { entry } => Call::Unref { entry },
+            Call::QuotaMove { entry, change } => Call::QuotaMove { entry, change },
+            Call::SetFixed { entry } => Call::SetFixed { entry },
+            Call::SetImmutable { entry } => Call::SetImmutable { entry },
+            Call::SegmentResize { entry, pages } => Call::SegmentResize { entry, pages },
+            Call::AsMap { space, slot, mapping } => Call::AsMap { space, slot, mapping },
+            Call::AsUnmap { space, slot } => Call::AsUnmap { space, slot },
+            Call::DevRecv { entry } => Call::DevRecv { entry },
+            Call::SelfGet => Call::SelfGet,
+            Call::ObjLabel { entry } => Call::ObjLabel { entry },
+            Call::ObjQuota { entry } => Call::ObjQuota { entry },
+            Call::ContainerList { container, from } => Call::ContainerList { container, from },
+            Call::ContainerParent { container } => Call::ContainerParent { container },
+            Call::SegmentLen { entry } => Call::SegmentLen { entry },
+            Call::SegmentRead { entry, offset, count } => Call::SegmentRead { entry, offset, count },
+            Call::MetaGet { entry } => Call::MetaGet { entry },
+            Call::AsGet { space, slot } => Call::AsGet { space, slot },
+            Call::Load { address, count } => Call::Load { address, count },
+        }
+    }
+
     /// Whether the call changes nothing.
     pub fn is_read(&self) -> bool {
         matches!(

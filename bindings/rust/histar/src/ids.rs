@@ -1,4 +1,5 @@
 //! How objects and categories are named.
+use std::fmt;
 
 /// A category: 1 to 2^61 - 1, given once.
 #[derive(Clone, Copy, PartialEq, Eq, PartialOrd, Ord, Debug, Hash)]
@@ -17,27 +18,6 @@ impl Object {
     pub const DEVICE: Object = Object(3);
 }
 
-/// The id of a thread, which makes calls.
-#[derive(Clone, Copy, PartialEq, Eq, PartialOrd, Ord, Debug, Hash)]
-pub struct Thread(pub u64);
-
-impl Thread {
-    /// The boot thread.
-    pub const BOOT: Thread = Thread(2);
-}
-
-impl From<Object> for Thread {
-    fn from(object: Object) -> Thread {
-        Thread(object.0)
-    }
-}
-
-impl From<Thread> for Object {
-    fn from(thread: Thread) -> Object {
-        Object(thread.0)
-    }
-}
-
 /// How a call names an object: by a container, and an object that it lists or that it is.
 #[derive(Clone, Copy, PartialEq, Eq, Debug, Hash)]
 pub struct Entry {
@@ -51,13 +31,34 @@ impl Entry {
     /// No object: as an address space, none.
     pub const NONE: Entry = Entry { container: Object::NONE, object: Object::NONE };
 
-    /// The entry of an object in a container.
-    pub const fn new(container: Object, object: Object) -> Entry {
-        Entry { container, object }
+    /// The entry of an object, or of a session's thread, in a container.
+    pub fn new(container: Object, object: impl Into<Object>) -> Entry {
+        Entry { container, object: object.into() }
     }
 
-    /// The entry of an object in the root container.
-    pub const fn in_root(object: Object) -> Entry {
+    /// The entry of an object, or of a session's thread, in the root container.
+    pub fn in_root(object: impl Into<Object>) -> Entry {
         Entry::new(Object::ROOT, object)
+    }
+}
+
+/// As scripts and dumps name it: `#3`.
+impl fmt::Display for Category {
+    fn fmt(&self, f: &mut fmt::Formatter<'_>) -> fmt::Result {
+        write!(f, "#{}", self.0)
+    }
+}
+
+/// As scripts and dumps name it: `#3`.
+impl fmt::Display for Object {
+    fn fmt(&self, f: &mut fmt::Formatter<'_>) -> fmt::Result {
+        write!(f, "#{}", self.0)
+    }
+}
+
+/// As calls have it: `#1 #3`.
+impl fmt::Display for Entry {
+    fn fmt(&self, f: &mut fmt::Formatter<'_>) -> fmt::Result {
+        write!(f, "{} {}", self.container, self.object)
     }
 }

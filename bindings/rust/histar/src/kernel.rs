@@ -1,6 +1,7 @@
 //! A kernel.
 use crate::raw::Raw;
-use crate::{Call, Entry, Limits, Refusal, Reply, Thread};
+use crate::trusted::Thread;
+use crate::{Call, Limits, Refusal, Reply, Session};
 
 /// A label kernel. It can be sent to another thread, and one thread at a time calls it: share it by a `Mutex`, or use
 /// [`Replicas`](crate::Replicas).
@@ -18,65 +19,47 @@ pub struct Kernel {
     pub(crate) raw: Raw,
 }
 
-/// The value of a reply that the call gives.
-macro_rules! expect_reply {
-    ($reply:expr, $variant:path) => {
-        match $reply {
-            $variant(value) => Ok(value),
-            other => unreachable!("the library told another reply: {other:?}"),
-        }
-    };
-}
-pub(crate) use expect_reply;
-
 /// The refusal of a number that the library told.
 pub(crate) fn refusal(number: u32) -> Refusal {
     Refusal::of(number).unwrap_or_else(|| unreachable!("the library told no refusal: {number}"))
 }
 
 impl Kernel {
-    /// A new kernel, with all limits. Refused `BadLimits` where one is out of its range, and `Unavailable` for want of
-    /// memory.
+    /// A new kernel, with all limits.
+    ///
+    /// # Errors
+    /// `BadLimits` where a limit is out of its range, and `Unavailable` for want of memory.
     pub fn boot_with(limits: &Limits) -> Result<Kernel, Refusal> {
         Raw::boot(limits).map(|raw| Kernel { raw }).map_err(refusal)
     }
 
     /// A new kernel of so many pages of 256 bytes, 8 to 1,024, with the limits of a script.
+    ///
+    /// # Errors
+    /// As [`boot_with`](Kernel::boot_with).
     pub fn boot(pages: u32) -> Result<Kernel, Refusal> {
         Kernel::boot_with(&Limits::pages(pages))
     }
 
-    /// Makes the call that the request has.
-    fn ask(&mut self, thread: Thread) -> Result<(), Refusal> {
-        self.raw.request.thread = thread.0;
-        match self.raw.call() {
-            0 => Ok(()),
-            number => Err(refusal(number)),
-        }
+    /// The session of the boot thread, which may do all that the rules allow: it makes the other sessions.
+    pub fn session(&self) -> Session<'_> {
+        Session::new(self, Thread::BOOT)
     }
 
-    /// One call of a thread. If several checks fail, the refusal with the lowest number is returned. A refused call changes
-    /// nothing.
-    pub fn call(&mut self, thread: Thread, call: &Call) -> Result<Reply, Refusal> {
-        self.raw.request.put_call(call);
-        self.ask(thread)?;
-        Ok(self.raw.answer.reply().unwrap_or_else(|| unreachable!("the library told no reply")))
-    }
-
-    /// As `segment_read`, into a place of the caller's: 1 to 64 bytes that lie in one page of 256. It takes no memory. A
-    /// refused call writes nothing there.
-    pub fn read_into(&mut self, thread: Thread, entry: Entry, offset: u32, place: &mut [u8]) -> Result<(), Refusal> {
-        self.raw.request.put(31, &entry, [u64::from(offset), place.len() as u64]);
-        self.ask(thread)?;
-        place.copy_from_slice(self.raw.answer.data());
-        Ok(())
-    }
-
-    /// As `segment_write`, from a place of the caller's: 1 to 64 bytes that lie in one page of 256. It takes no memory.
-    pub fn write_from(&mut self, thread: Thread, entry: Entry, offset: u32, bytes: &[u8]) -> Result<(), Refusal> {
-        self.raw.request.put_bytes(bytes);
-        self.raw.request.put(18, &entry, [u64::from(offset)]);
-        self.ask(thread)
+    /// One call of a thread, as a value.
+    ///
+    /// # Errors
+    /// The refusal of the call's row in docs/CALLS.md; if several checks fail, the one with the lowest number. A refused call
+    /// changes nothing.
+    pub fn call(&self, thread: Thread, call: &Call<'_>) -> Result<Reply, Refusal> {
+        let asked = self.raw.ask(
+            |request| {
+                request.thread = thread.0;
+                request.put_call(call);
+            },
+            |answer| answer.reply().unwrap_or_else(|| unreachable!("the library told no reply")),
+        );
+        asked.map_err(refusal)
     }
 }
 

@@ -4,41 +4,45 @@
 //! is proved of the code that this crate links; the crate itself is ordinary Rust, with all unsafe code in one file.
 //!
 //! ```
-//! use histar::{label, Entry, Kernel, Object, Refusal, Thread};
+//! use histar::{label, Entry, Kernel, Object, Refusal};
 //!
-//! let mut kernel = Kernel::boot(64)?;
-//! let c = kernel.cat_create(Thread::BOOT)?;
-//! let secret = kernel.segment_create(Thread::BOOT, Object::ROOT, &label! { c => L3; L1 }, 2, 1)?;
-//! let entry = Entry::in_root(secret);
-//! kernel.segment_write(Thread::BOOT, entry, 0, b"key")?;
+//! let kernel = Kernel::boot(64)?;
+//! let boot = kernel.session();
+//! let c = boot.cat_create()?;
+//! let secret = Entry::in_root(boot.segment_create(Object::ROOT, &label! { c => L3; L1 }, 2, 1)?);
+//! boot.segment_write(secret, 0, b"key")?;
 //!
-//! let stranger = kernel.thread_create(Thread::BOOT, Object::ROOT, &label! { L1 }, 1, &label! { L2 }, 0)?;
-//! assert_eq!(kernel.segment_read(Thread::BOOT, entry, 0, 3)?, b"key");
-//! assert_eq!(kernel.segment_read(stranger, entry, 0, 3), Err(Refusal::CannotObserve));
+//! let stranger = boot.thread_create(Object::ROOT, &label! { L1 }, 1, &label! { L2 }, 0)?;
+//! assert_eq!(boot.segment_read(secret, 0, 3)?, b"key");
+//! assert_eq!(stranger.segment_read(secret, 0, 3).err(), Some(Refusal::CannotObserve));
 //! # Ok::<(), Refusal>(())
 //! ```
 
+mod bytes;
 mod call;
 mod ids;
 mod kept;
 mod kernel;
 mod label;
 mod log;
-mod methods;
 #[allow(unsafe_code)] // the one file that has any
 mod raw;
 mod records;
 mod refusal;
 mod replicas;
 mod reply;
+mod session;
+pub mod trusted;
 mod words;
 
-pub use call::Call;
-pub use ids::{Category, Entry, Object, Thread};
+pub use bytes::Bytes;
+pub use call::{Call, NewGate};
+pub use ids::{Category, Entry, Object};
 pub use kept::Order;
 pub use kernel::Kernel;
-pub use label::{Label, Level, NoLabel};
-pub use refusal::Refusal;
+pub use label::{Label, Level, ParseLabelError};
+pub use refusal::{NoRefusal, Refusal};
 pub use replicas::{Replicas, Seat};
 pub use reply::{Entered, Listed, Own, Quota, Reply};
+pub use session::Session;
 pub use words::{Kinds, Limits, Mapping, Rights};

@@ -1,7 +1,9 @@
 //! The library's functions and records, as `include/histar.h` has them, and a safe kernel over them. All unsafe code of
 //! the crate stands here.
 use crate::Limits;
+use std::cell::{RefCell, UnsafeCell};
 use std::marker::PhantomData;
+use std::mem::{align_of, size_of};
 
 /// A label in a record.
 #[repr(C)]
@@ -46,6 +48,8 @@ pub(crate) struct Answer {
 const _: () = assert!(size_of::<LabelRecord>() == 224);
 const _: () = assert!(size_of::<Request>() == 8 + 5 * 8 + 5 * 8 + 64 + 3 * 224);
 const _: () = assert!(size_of::<Answer>() == 8 + 17 * 8 + 64 + 3 * 224);
+// The bytes stand after 11 and 18 words of 8 bytes.
+const _: () = assert!(align_of::<Request>() == 8 && align_of::<Answer>() == 8);
 
 impl LabelRecord {
     const ZEROS: LabelRecord = LabelRecord { default_level: 0, count: 0, levels: [0; 24], categories: [0; 24] };
@@ -92,13 +96,48 @@ extern "C" {
 }
 
 /// The number that a record is told which asks for nothing.
-pub(crate) const NO_CALL: u32 = 45;
+const NO_CALL: u32 = 45;
+
+/// Writes zeros over a value that nobody reads again, so that the compiler may not leave it out.
+fn wipe<const N: usize>(words: &mut [u64; N]) {
+    // SAFETY: a reference is a place that may be written.
+    unsafe { std::ptr::write_volatile(words, [0; N]) }
+}
+
+/// The same of the 64 bytes of a record, which begin at a multiple of 8.
+fn wipe_bytes(bytes: &mut [u8; 64]) {
+    let words = bytes.as_mut_ptr().cast::<u64>();
+    for place in 0..8 {
+        // SAFETY: the eight words are the 64 bytes, and the records of `repr(C)` have them at a multiple of 8, as is asserted above.
+        unsafe { std::ptr::write_volatile(words.add(place), 0) }
+    }
+}
+
+/// What a call is asked by and answered in.
+struct Records {
+    request: Request,
+    answer: Answer,
+}
+
+impl Records {
+    /// Wipes the bytes, numbers and labels of a call that is over.
+    fn wipe(&mut self) {
+        if self.request.len > 0 {
+            wipe_bytes(&mut self.request.bytes);
+            self.request.len = 0;
+        }
+        match self.answer.reply {
+            0 | 12 => {}
+            4 => wipe_bytes(&mut self.answer.bytes),
+            _ => self.answer = Answer::ZEROS,
+        }
+    }
+}
 
 /// A booted kernel, with the records of its last call.
 pub(crate) struct Raw {
-    room: Box<Room>,
-    pub request: Box<Request>,
-    pub answer: Box<Answer>,
+    room: UnsafeCell<Box<Room>>,
+    records: RefCell<Box<Records>>,
     // Not `Sync`: one call at a time uses a kernel.
     one_caller: PhantomData<*mut Room>,
 }
@@ -110,41 +149,60 @@ unsafe impl Send for Raw {}
 impl Raw {
     /// Boots a kernel. The error is the number that tells why there is none.
     pub fn boot(limits: &Limits) -> Result<Raw, u32> {
-        let mut raw = Raw {
-            room: Box::new(Room([0; 384])),
-            request: Box::new(Request::ZEROS),
-            answer: Box::new(Answer::ZEROS),
+        let raw = Raw {
+            room: UnsafeCell::new(Box::new(Room([0; 384]))),
+            records: RefCell::new(Box::new(Records { request: Request::ZEROS, answer: Answer::ZEROS })),
             one_caller: PhantomData,
         };
         // SAFETY: the room is this kernel's own and nothing is held in it yet. It is large enough, which is asserted first,
         // and stands at a multiple of 16. From here on it holds a kernel, or why there is none.
         unsafe {
             assert!(histar_size() <= size_of::<Room>(), "the library needs a larger room than this crate gives");
-            histar_boot(limits.pages, limits.device.number(), limits.next_id, limits.next_category, &mut *raw.room);
+            let room: *mut Room = &mut **raw.room.get();
+            histar_boot(limits.pages, limits.device.number(), limits.next_id, limits.next_category, room);
         }
         // A record of zeros asks for nothing: a kernel that is there says so.
-        match raw.call() {
-            NO_CALL => Ok(raw),
-            why => Err(why),
+        match raw.ask(|_| (), |_| ()) {
+            Err(NO_CALL) => Ok(raw),
+            Err(why) => Err(why),
+            Ok(()) => unreachable!("the library did what was not asked"),
         }
     }
 
-    /// Does what the request asks for. Gives the number of the refusal, 0 for none.
-    pub fn call(&mut self) -> u32 {
-        // SAFETY: `boot` made the room hold what `histar_call` requires, each call keeps that, and `&mut self` keeps every
-        // other call away. The records are whole and have the layout of the library's.
-        unsafe { histar_call(&mut *self.room, &*self.request, &mut *self.answer) }
+    /// Does what the records ask for. Gives the number of the refusal, 0 for none.
+    fn serve(&self, records: &mut Records) -> u32 {
+        // SAFETY: `boot` made the room hold what `histar_call` requires, and each call keeps that. The records are borrowed for the
+        // length of the call, so no other call is made meanwhile: a `Raw` is not `Sync`. They are whole and have the layout of the
+        // library's.
+        unsafe {
+            let room: *mut Room = &mut **self.room.get();
+            histar_call(room, &records.request, &mut records.answer)
+        }
+    }
+
+    /// Does what is asked for, and reads the answer; or gives the number of the refusal. Nothing of either stays in the records.
+    pub fn ask<R>(&self, fill: impl FnOnce(&mut Request), read: impl FnOnce(&Answer) -> R) -> Result<R, u32> {
+        let mut records = self.records.borrow_mut();
+        let records = &mut **records;
+        fill(&mut records.request);
+        let number = self.serve(records);
+        let told = if number == 0 { Ok(read(&records.answer)) } else { Err(number) };
+        records.wipe();
+        told
     }
 }
 
 impl Drop for Raw {
     fn drop(&mut self) {
+        let room = &mut **self.room.get_mut();
         // SAFETY: a `Raw` is dropped only after `histar_boot` filled its room, or by a panic before that in `boot`, where
         // the program's library doesn't fit and no room was filled.
         unsafe {
             if histar_size() <= size_of::<Room>() {
-                histar_end(&mut *self.room)
+                histar_end(room);
             }
         }
+        wipe(&mut room.0);
+        self.records.get_mut().request = Request::ZEROS;
     }
 }

@@ -1,6 +1,8 @@
 //! Calls as records, and answers as replies.
 use crate::raw::{Answer, LabelRecord, Request};
-use crate::{Call, Category, Entered, Entry, Kinds, Label, Level, Listed, Mapping, Object, Own, Quota, Reply, Rights};
+use crate::{
+    Bytes, Call, Category, Entered, Entry, Kinds, Label, Level, Listed, Mapping, Object, Own, Quota, Reply, Rights,
+};
 
 impl LabelRecord {
     /// Writes a label. 25 pairs and more are no label, and the library tells so.
@@ -60,7 +62,7 @@ impl Request {
     }
 
     /// Writes a call.
-    pub fn put_call(&mut self, call: &Call) {
+    pub fn put_call(&mut self, call: &Call<'_>) {
         match call {
             Call::CatCreate => self.call = 1,
             Call::SelfSetLabel { label } => {
@@ -87,10 +89,11 @@ impl Request {
                 self.clearance.put(clearance);
                 self.put_new(9, container, label, [u64::from(*quota), *entry_point]);
             }
-            Call::GateCreate { container, label, quota, clearance, space, entry_point, closure } => {
-                self.clearance.put(clearance);
-                self.put_other(space);
-                self.put_new(10, container, label, [u64::from(*quota), *entry_point, *closure]);
+            Call::GateCreate(gate) => {
+                self.clearance.put(&gate.clearance);
+                self.put_other(&gate.space);
+                let numbers = [u64::from(gate.quota), gate.entry_point, gate.closure];
+                self.put_new(10, &gate.container, &gate.label, numbers);
             }
             Call::Link { target, entry } => {
                 self.other_container = target.0;
@@ -186,7 +189,7 @@ impl Answer {
             1 => Reply::Category(Category(n[0])),
             2 => Reply::Object(Object(n[0])),
             3 => Reply::Entered(Entered { entry_point: n[0], closure: n[1] }),
-            4 => Reply::Bytes(self.data().to_vec()),
+            4 => Reply::Bytes(Bytes::new(self.data())),
             5 => Reply::Own(self.own()),
             6 => Reply::Label(self.label.label()),
             7 => Reply::Quota(Quota { quota: n[0] as u32, used: n[1] as u32, fixed: n[2] == 1, immutable: n[3] == 1 }),

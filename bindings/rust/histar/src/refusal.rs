@@ -56,7 +56,7 @@ pub enum Refusal {
     DeviceEmpty = 24,
     /// No id or category is left.
     Spent = 25,
-    /// There is no memory for a kernel.
+    /// There is no memory for a kernel or a seat.
     Unavailable = 30,
     /// A limit is out of its range.
     BadLimits = 31,
@@ -64,12 +64,14 @@ pub enum Refusal {
     Memory = 40,
     /// The arguments make no call, as a label of 25 pairs or 65 bytes.
     NoCall = 45,
+    /// Another call uses the kernel, which the crate rules out.
+    Busy = 46,
     /// There is no memory for the text of a dump.
     TextMemory = 51,
 }
 
 /// All refusals.
-const REFUSALS: [Refusal; 30] = [
+const REFUSALS: [Refusal; 31] = [
     Refusal::Halted,
     Refusal::NoAccess,
     Refusal::NoEntry,
@@ -99,6 +101,7 @@ const REFUSALS: [Refusal; 30] = [
     Refusal::BadLimits,
     Refusal::Memory,
     Refusal::NoCall,
+    Refusal::Busy,
     Refusal::TextMemory,
 ];
 
@@ -122,3 +125,40 @@ impl fmt::Display for Refusal {
 }
 
 impl std::error::Error for Refusal {}
+
+/// The number is none of a refusal.
+#[derive(Clone, Copy, PartialEq, Eq, Debug)]
+pub struct NoRefusal;
+
+impl fmt::Display for NoRefusal {
+    fn fmt(&self, f: &mut fmt::Formatter<'_>) -> fmt::Result {
+        f.write_str("the number is none of a refusal")
+    }
+}
+
+impl std::error::Error for NoRefusal {}
+
+impl TryFrom<u32> for Refusal {
+    type Error = NoRefusal;
+
+    fn try_from(number: u32) -> Result<Refusal, NoRefusal> {
+        Refusal::of(number).ok_or(NoRefusal)
+    }
+}
+
+/// `PermissionDenied` where labels refuse it, `OutOfMemory` for want of memory, and else `Other`.
+impl From<Refusal> for std::io::Error {
+    fn from(refusal: Refusal) -> std::io::Error {
+        use std::io::ErrorKind;
+        let kind = match refusal {
+            Refusal::CannotObserve | Refusal::CannotModify | Refusal::GateDenied | Refusal::RightsDenied => {
+                ErrorKind::PermissionDenied
+            }
+            Refusal::NoAccess | Refusal::NoEntry => ErrorKind::NotFound,
+            Refusal::Unavailable | Refusal::Memory | Refusal::TextMemory => ErrorKind::OutOfMemory,
+            Refusal::NoCall | Refusal::BadLimits | Refusal::Bounds => ErrorKind::InvalidInput,
+            _ => ErrorKind::Other,
+        };
+        std::io::Error::new(kind, refusal)
+    }
+}

@@ -1,5 +1,6 @@
 //! Many threads: each has a kernel of its own, which plays the same write calls in the same order.
-use crate::{Call, Entry, Kernel, Limits, Refusal, Reply, Thread};
+use crate::trusted::Thread;
+use crate::{Call, Kernel, Limits, Refusal, Reply};
 use std::sync::atomic::{AtomicUsize, Ordering};
 use std::sync::{Mutex, MutexGuard, PoisonError};
 
@@ -8,7 +9,8 @@ use std::sync::{Mutex, MutexGuard, PoisonError};
 /// the seats that come later.
 ///
 /// ```
-/// use histar::{Call, Replicas, Reply, Thread};
+/// use histar::trusted::Thread;
+/// use histar::{Call, Replicas, Reply};
 ///
 /// let all = Replicas::new(64);
 /// let mut first = all.seat()?;
@@ -18,9 +20,8 @@ use std::sync::{Mutex, MutexGuard, PoisonError};
 /// assert_eq!(made, Reply::Category(own.label.pairs[0].0));
 /// # Ok::<(), histar::Refusal>(())
 /// ```
-#[derive(Debug)]
 pub struct Replicas {
-    done: Mutex<Vec<(Thread, Call)>>,
+    done: Mutex<Vec<(Thread, Call<'static>)>>,
     // How many calls are done. It is written with the lock held.
     count: AtomicUsize,
     limits: Limits,
@@ -50,15 +51,22 @@ impl Replicas {
         Ok(Seat { all: self, kernel: Kernel::boot_with(&self.limits)?, played: 0 })
     }
 
-    fn lock(&self) -> MutexGuard<'_, Vec<(Thread, Call)>> {
+    fn lock(&self) -> MutexGuard<'_, Vec<(Thread, Call<'static>)>> {
         // (a call stands in the list whole or not at all, so a panic with the lock spoils nothing)
         self.done.lock().unwrap_or_else(PoisonError::into_inner)
     }
 }
 
+/// It tells nothing of the calls, which have bytes in them.
+impl std::fmt::Debug for Replicas {
+    fn fmt(&self, f: &mut std::fmt::Formatter<'_>) -> std::fmt::Result {
+        f.debug_struct("Replicas").finish_non_exhaustive()
+    }
+}
+
 impl Seat<'_> {
     /// Plays what others did since.
-    fn play(&mut self, done: &[(Thread, Call)]) {
+    fn play(&mut self, done: &[(Thread, Call<'static>)]) {
         for (thread, call) in &done[self.played..] {
             self.kernel.call(*thread, call).expect("a call that was done on an equal kernel is done");
         }
@@ -73,29 +81,23 @@ impl Seat<'_> {
         }
     }
 
-    fn write(&mut self, thread: Thread, call: &Call) -> Result<Reply, Refusal> {
+    fn write(&mut self, thread: Thread, call: &Call<'_>) -> Result<Reply, Refusal> {
         let all = self.all;
         let mut done = all.lock();
         self.play(&done);
         let reply = self.kernel.call(thread, call)?;
-        done.push((thread, call.clone()));
+        done.push((thread, call.clone().into_owned()));
         self.played = done.len();
         all.count.store(self.played, Ordering::SeqCst);
         Ok(reply)
     }
 
     /// One call of a thread, as `Kernel::call`. A read call sees every write call that had returned before it began.
-    pub fn call(&mut self, thread: Thread, call: &Call) -> Result<Reply, Refusal> {
+    pub fn call(&mut self, thread: Thread, call: &Call<'_>) -> Result<Reply, Refusal> {
         if !call.is_read() {
             return self.write(thread, call);
         }
         self.catch_up();
         self.kernel.call(thread, call)
-    }
-
-    /// As `Kernel::read_into`. It sees every write call that had returned before it began.
-    pub fn read_into(&mut self, thread: Thread, entry: Entry, offset: u32, place: &mut [u8]) -> Result<(), Refusal> {
-        self.catch_up();
-        self.kernel.read_into(thread, entry, offset, place)
     }
 }

@@ -1,5 +1,5 @@
 //! What a kernel answers.
-use crate::{Category, Entry, Label, Mapping, Object};
+use crate::{Bytes, Category, Entry, Label, Mapping, Object};
 
 /// What a thread is.
 #[derive(Clone, PartialEq, Eq, Debug)]
@@ -61,7 +61,7 @@ pub enum Reply {
     /// The thread entered a gate.
     Entered(Entered),
     /// Bytes that were read or received: 1 to 64.
-    Bytes(Vec<u8>),
+    Bytes(Bytes),
     /// What the thread is.
     Own(Own),
     /// The label of an object.

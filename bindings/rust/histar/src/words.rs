@@ -1,5 +1,6 @@
 //! What calls and replies name beside ids and labels.
 use crate::{Entry, Level};
+use std::ops::BitOr;
 
 /// What a mapping allows.
 #[derive(Clone, Copy, PartialEq, Eq, Debug, Hash)]
@@ -38,6 +39,34 @@ impl Kinds {
     /// The set of no kind.
     pub const NONE: Kinds =
         Kinds { container: false, segment: false, address_space: false, thread: false, gate: false, device: false };
+    /// Containers.
+    pub const CONTAINERS: Kinds = Kinds { container: true, ..Kinds::NONE };
+    /// Segments.
+    pub const SEGMENTS: Kinds = Kinds { segment: true, ..Kinds::NONE };
+    /// Address spaces.
+    pub const ADDRESS_SPACES: Kinds = Kinds { address_space: true, ..Kinds::NONE };
+    /// Threads.
+    pub const THREADS: Kinds = Kinds { thread: true, ..Kinds::NONE };
+    /// Gates.
+    pub const GATES: Kinds = Kinds { gate: true, ..Kinds::NONE };
+    /// Devices.
+    pub const DEVICES: Kinds = Kinds { device: true, ..Kinds::NONE };
+}
+
+/// The kinds of either set.
+impl BitOr for Kinds {
+    type Output = Kinds;
+
+    fn bitor(self, other: Kinds) -> Kinds {
+        Kinds {
+            container: self.container | other.container,
+            segment: self.segment | other.segment,
+            address_space: self.address_space | other.address_space,
+            thread: self.thread | other.thread,
+            gate: self.gate | other.gate,
+            device: self.device | other.device,
+        }
+    }
 }
 
 /// Pages of a segment, of 256 bytes each, shown from a virtual page on.
@@ -72,5 +101,12 @@ impl Limits {
     /// The limits of a script with so many pages: the device's label is 1, the first id 4 and the first category 1.
     pub const fn pages(pages: u32) -> Limits {
         Limits { pages, device: Level::L1, next_id: 4, next_category: 1 }
+    }
+}
+
+/// The limits of a script that says none: 64 pages.
+impl Default for Limits {
+    fn default() -> Limits {
+        Limits::pages(64)
     }
 }

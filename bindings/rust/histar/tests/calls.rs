@@ -1,12 +1,12 @@
 //! What the kernel answers through the binding: each call once, malformed arguments, and a kernel that goes from thread to
 //! thread.
 use histar::{
-    label, Call, Category, Entered, Entry, Kernel, Kinds, Label, Level, Limits, Listed, Mapping, Object, Quota,
-    Refusal, Reply, Rights, Thread,
+    label, Call, Category, Entered, Entry, Kernel, Kinds, Label, Level, Limits, Listed, Mapping, NewGate, Object,
+    Quota, Refusal, Reply, Rights,
 };
+use std::cmp::Ordering;
 use std::sync::Mutex;
 
-const BOOT: Thread = Thread::BOOT;
 const ROOT: Object = Object::ROOT;
 
 fn kernel() -> Kernel {
@@ -15,92 +15,92 @@ fn kernel() -> Kernel {
 
 #[test]
 fn a_stranger_is_refused_and_the_owner_is_not() {
-    let mut kernel = kernel();
-    let c = kernel.cat_create(BOOT).unwrap();
-    let secret = Entry::in_root(kernel.segment_create(BOOT, ROOT, &label! { c => L3; L1 }, 2, 1).unwrap());
-    let stranger = kernel.thread_create(BOOT, ROOT, &label! { L1 }, 1, &label! { L2 }, 7).unwrap();
-    kernel.segment_write(BOOT, secret, 250, b"secret").unwrap();
-    assert_eq!(kernel.segment_read(BOOT, secret, 250, 6).unwrap(), b"secret");
-    assert_eq!(kernel.segment_read(stranger, secret, 250, 6), Err(Refusal::CannotObserve));
-    assert_eq!(kernel.segment_write(stranger, secret, 250, b"x"), Err(Refusal::CannotObserve));
-    let mut place = *b"------";
-    assert_eq!(kernel.read_into(stranger, secret, 250, &mut place), Err(Refusal::CannotObserve));
-    assert_eq!(&place, b"------");
-    kernel.read_into(BOOT, secret, 250, &mut place).unwrap();
-    assert_eq!(&place, b"secret");
+    let kernel = kernel();
+    let boot = kernel.session();
+    let c = boot.cat_create().unwrap();
+    let secret = Entry::in_root(boot.segment_create(ROOT, &label! { c => L3; L1 }, 2, 1).unwrap());
+    let stranger = boot.thread_create(ROOT, &label! { L1 }, 1, &label! { L2 }, 7).unwrap();
+    boot.segment_write(secret, 250, b"secret").unwrap();
+    assert_eq!(boot.segment_read(secret, 250, 6).unwrap(), b"secret");
+    assert_eq!(stranger.segment_read(secret, 250, 6), Err(Refusal::CannotObserve));
+    assert_eq!(stranger.segment_write(secret, 250, b"x"), Err(Refusal::CannotObserve));
 }
 
 #[test]
 fn each_call_answers() {
-    let mut kernel = kernel();
+    let kernel = kernel();
+    let boot = kernel.session();
     let plain = label! { L1 };
-    let c = kernel.cat_create(BOOT).unwrap();
+    let c = boot.cat_create().unwrap();
     assert_eq!(c, Category(1));
-    let folder = kernel.container_create(BOOT, ROOT, &plain, 40, Kinds { thread: true, ..Kinds::NONE }).unwrap();
-    let other = kernel.container_create(BOOT, ROOT, &plain, 40, Kinds::NONE).unwrap();
-    let created = kernel.thread_create(BOOT, folder, &plain, 1, &plain, 0);
-    assert_eq!(created, Err(Refusal::AvoidType));
-    let segment = kernel.segment_create(BOOT, folder, &plain, 4, 2).unwrap();
+    let folder = boot.container_create(ROOT, &plain, 40, Kinds { thread: true, ..Kinds::NONE }).unwrap();
+    let other = boot.container_create(ROOT, &plain, 40, Kinds::NONE).unwrap();
+    let created = boot.thread_create(folder, &plain, 1, &plain, 0);
+    assert_eq!(created.err(), Some(Refusal::AvoidType));
+    let segment = boot.segment_create(folder, &plain, 4, 2).unwrap();
     let entry = Entry::new(folder, segment);
-    let copy = kernel.segment_copy(BOOT, ROOT, &plain, 3, entry).unwrap();
-    assert_eq!(kernel.segment_len(BOOT, Entry::in_root(copy)), Ok(2));
-    kernel.quota_move(BOOT, entry, 2).unwrap();
-    kernel.quota_move(BOOT, entry, -1).unwrap();
-    kernel.segment_resize(BOOT, entry, 3).unwrap();
-    kernel.set_fixed(BOOT, entry).unwrap();
+    let copy = boot.segment_copy(ROOT, &plain, 3, entry).unwrap();
+    assert_eq!(boot.segment_len(Entry::in_root(copy)), Ok(2));
+    boot.quota_move(entry, 2).unwrap();
+    boot.quota_move(entry, -1).unwrap();
+    boot.segment_resize(entry, 3).unwrap();
+    boot.set_fixed(entry).unwrap();
     let quota = Quota { quota: 5, used: 4, fixed: true, immutable: false };
-    assert_eq!(kernel.obj_quota(BOOT, entry), Ok(quota));
-    kernel.link(BOOT, other, entry).unwrap();
-    assert_eq!(kernel.container_list(BOOT, other, 0), Ok(Listed { length: 1, ids: vec![segment] }));
-    assert_eq!(kernel.container_parent(BOOT, other), Ok(ROOT));
-    kernel.unref(BOOT, entry).unwrap();
+    assert_eq!(boot.obj_quota(entry), Ok(quota));
+    boot.link(other, entry).unwrap();
+    assert_eq!(boot.container_list(other, 0), Ok(Listed { length: 1, ids: vec![segment] }));
+    assert_eq!(boot.container_parent(other), Ok(ROOT));
+    boot.unref(entry).unwrap();
     let entry = Entry::new(other, segment);
-    kernel.meta_set(BOOT, entry, b"name").unwrap();
-    assert_eq!(kernel.meta_get(BOOT, entry).unwrap()[..5], *b"name\0");
-    let space = Entry::in_root(kernel.as_create(BOOT, ROOT, &plain, 1).unwrap());
+    boot.meta_set(entry, b"name").unwrap();
+    assert_eq!(boot.meta_get(entry).unwrap()[..5], *b"name\0");
+    let space = Entry::in_root(boot.as_create(ROOT, &plain, 1).unwrap());
     let mapping = Mapping { page: 4, segment: entry, first: 1, count: 2, rights: Rights::READ_WRITE };
-    kernel.as_map(BOOT, space, 3, mapping).unwrap();
-    assert_eq!(kernel.as_get(BOOT, space, 3), Ok(Some(mapping)));
+    boot.as_map(space, 3, mapping).unwrap();
+    assert_eq!(boot.as_get(space, 3), Ok(Some(mapping)));
     let shown = Mapping { page: 9, first: 0, rights: Rights::READ, ..mapping };
-    kernel.as_map(BOOT, space, 4, shown).unwrap();
-    assert_eq!(kernel.as_get(BOOT, space, 4), Ok(Some(shown)));
-    kernel.self_set_as(BOOT, space).unwrap();
-    kernel.store(BOOT, 4 * 256 + 9, b"stored").unwrap();
-    assert_eq!(kernel.load(BOOT, 4 * 256 + 9, 6).unwrap(), b"stored");
-    assert_eq!(kernel.segment_read(BOOT, entry, 256 + 9, 6).unwrap(), b"stored");
-    kernel.as_unmap(BOOT, space, 3).unwrap();
-    assert_eq!(kernel.as_get(BOOT, space, 3), Ok(None));
-    assert_eq!(kernel.load(BOOT, 4 * 256, 1), Err(Refusal::NotMapped));
+    boot.as_map(space, 4, shown).unwrap();
+    assert_eq!(boot.as_get(space, 4), Ok(Some(shown)));
+    boot.self_set_as(space).unwrap();
+    boot.store(4 * 256 + 9, b"stored").unwrap();
+    assert_eq!(boot.load(4 * 256 + 9, 6).unwrap(), b"stored");
+    assert_eq!(boot.segment_read(entry, 256 + 9, 6).unwrap(), b"stored");
+    boot.as_unmap(space, 3).unwrap();
+    assert_eq!(boot.as_get(space, 3), Ok(None));
+    assert_eq!(boot.load(4 * 256, 1), Err(Refusal::NotMapped));
     let device = Entry::in_root(Object::DEVICE);
-    kernel.dev_send(BOOT, device, b"packet").unwrap();
-    assert_eq!(kernel.dev_recv(BOOT, device).unwrap(), b"packet");
+    boot.dev_send(device, b"packet").unwrap();
+    assert_eq!(boot.dev_recv(device).unwrap(), b"packet");
     let owned = label! { c => Star; L1 };
-    let gate = kernel.gate_create(BOOT, ROOT, &owned, 1, &label! { c => L3; L2 }, space, 7, 9).unwrap();
-    kernel.self_set_label(BOOT, &plain).unwrap();
-    kernel.self_set_clearance(BOOT, &label! { L2 }).unwrap();
-    let entered = kernel.gate_enter(BOOT, Entry::in_root(gate), &owned, &label! { c => L3; L2 }, &label! { L3 });
+    let guarded = label! { c => L3; L2 };
+    let gate = NewGate { space, entry_point: 7, closure: 9, ..NewGate::new(&owned, &guarded) };
+    let gate = boot.gate_create(&gate).unwrap();
+    boot.self_set_label(&plain).unwrap();
+    boot.self_set_clearance(&label! { L2 }).unwrap();
+    let entered = boot.gate_enter(Entry::in_root(gate), &owned, &label! { c => L3; L2 }, &label! { L3 });
     assert_eq!(entered, Ok(Entered { entry_point: 7, closure: 9 }));
-    let own = kernel.self_get(BOOT).unwrap();
+    let own = boot.self_get().unwrap();
     assert_eq!((own.label, own.clearance, own.verify), (owned, label! { c => L3; L2 }, label! { L3 }));
     assert_eq!((own.space, own.entry_point, own.closure), (space, 7, 9));
-    kernel.set_immutable(BOOT, entry).unwrap();
-    assert_eq!(kernel.segment_write(BOOT, entry, 0, b"x"), Err(Refusal::Immutable));
-    assert!(kernel.obj_quota(BOOT, entry).unwrap().immutable);
-    assert_eq!(kernel.obj_label(BOOT, entry), Ok(plain));
+    boot.set_immutable(entry).unwrap();
+    assert_eq!(boot.segment_write(entry, 0, b"x"), Err(Refusal::Immutable));
+    assert!(boot.obj_quota(entry).unwrap().immutable);
+    assert_eq!(boot.obj_label(entry), Ok(plain));
 }
 
 #[test]
 fn what_is_no_call_changes_nothing() {
-    let mut kernel = kernel();
-    let segment = Entry::in_root(kernel.segment_create(BOOT, ROOT, &label! { L1 }, 2, 1).unwrap());
-    assert_eq!(kernel.segment_write(BOOT, segment, 0, &[1; 65]), Err(Refusal::NoCall));
-    assert_eq!(kernel.write_from(BOOT, segment, 0, &[1; 65]), Err(Refusal::NoCall));
+    let kernel = kernel();
+    let boot = kernel.session();
+    let segment = Entry::in_root(boot.segment_create(ROOT, &label! { L1 }, 2, 1).unwrap());
+    assert_eq!(boot.segment_write(segment, 0, &[1; 65]), Err(Refusal::NoCall));
+    assert_eq!(boot.meta_set(segment, &[1; 65]), Err(Refusal::NoCall));
     let wide = (1..26).fold(label! { L1 }, |label, c| label.with(Category(c), Level::L2));
-    assert_eq!(kernel.self_set_label(BOOT, &wide), Err(Refusal::NoCall));
-    assert_eq!(kernel.segment_write(BOOT, segment, 200, &[1; 64]), Err(Refusal::Bounds));
-    assert_eq!(kernel.segment_read(BOOT, segment, 192, 64).unwrap(), [0; 64]);
-    kernel.write_from(BOOT, segment, 0, &[1; 64]).unwrap();
-    assert_eq!(kernel.segment_read(BOOT, segment, 0, 64).unwrap(), [1; 64]);
+    assert_eq!(boot.self_set_label(&wide), Err(Refusal::NoCall));
+    assert_eq!(boot.segment_write(segment, 200, &[1; 64]), Err(Refusal::Bounds));
+    assert_eq!(boot.segment_read(segment, 192, 64).unwrap(), [0; 64]);
+    boot.segment_write(segment, 0, &[1; 64]).unwrap();
+    assert_eq!(boot.segment_read(segment, 0, 64).unwrap(), [1; 64]);
 }
 
 #[test]
@@ -109,9 +109,41 @@ fn limits_out_of_range_boot_no_kernel() {
     assert_eq!(Kernel::boot(1025).err(), Some(Refusal::BadLimits));
     let star = Limits { device: Level::Star, ..Limits::pages(64) };
     assert_eq!(Kernel::boot_with(&star).err(), Some(Refusal::BadLimits));
-    let mut last = Kernel::boot_with(&Limits { next_category: (1 << 61) - 1, ..Limits::pages(8) }).unwrap();
-    assert_eq!(last.cat_create(BOOT), Ok(Category((1 << 61) - 1)));
-    assert_eq!(last.cat_create(BOOT), Err(Refusal::Spent));
+    let last = Kernel::boot_with(&Limits { next_category: (1 << 61) - 1, ..Limits::pages(8) }).unwrap();
+    assert_eq!(last.session().cat_create(), Ok(Category((1 << 61) - 1)));
+    assert_eq!(last.session().cat_create(), Err(Refusal::Spent));
+}
+
+#[test]
+fn labels_are_values() {
+    let (c, d) = (Category(3), Category(4));
+    let one = label! { c => L3, d => Star; L1 };
+    assert_eq!(one, label! { d => Star, c => L3; L1 });
+    assert_ne!(one, label! { c => L3; L1 });
+    assert_eq!((one.get(c), one.get(d), one.get(Category(5))), (Level::L3, Level::Star, Level::L1));
+    let mut other = one.clone();
+    other.set(c, Level::L2);
+    other.set(Category(5), Level::L0);
+    assert_eq!(other, label! { c => L2, d => Star, Category(5) => L0; L1 });
+    assert_eq!(other.partial_cmp(&one), Some(Ordering::Less));
+    assert_eq!(one.partial_cmp(&other), Some(Ordering::Greater));
+    assert_eq!(one.partial_cmp(&label! { c => L0, d => L3; L1 }), None);
+    assert_eq!(one.join(&label! { L2 }), label! { c => L3; L2 });
+    assert_eq!(one.meet(&label! { L2 }), label! { c => L2, d => Star; L1 });
+    assert!(Level::Star < Level::L0 && Level::L0 < Level::L1 && Level::L2 < Level::L3);
+    assert_eq!((Level::try_from(3), Level::try_from(4).is_err()), (Ok(Level::L3), true));
+    assert_eq!(Kinds::THREADS | Kinds::GATES, Kinds { thread: true, gate: true, ..Kinds::NONE });
+    assert_eq!(Limits::default(), Limits::pages(64));
+    assert_eq!((Refusal::try_from(5), Refusal::try_from(26).is_err()), (Ok(Refusal::CannotObserve), true));
+    assert_eq!(std::io::Error::from(Refusal::CannotObserve).kind(), std::io::ErrorKind::PermissionDenied);
+    assert_eq!(Entry::in_root(Object(7)).to_string(), "#1 #7");
+    // (what the kernel tells of a label equals the label that was given, in whatever order)
+    let kernel = kernel();
+    let boot = kernel.session();
+    let (c, d) = (boot.cat_create().unwrap(), boot.cat_create().unwrap());
+    let given = label! { d => L3, c => L0; L1 };
+    let made = boot.segment_create(ROOT, &given, 1, 0).unwrap();
+    assert_eq!(boot.obj_label(Entry::in_root(made)), Ok(given));
 }
 
 #[test]
@@ -136,10 +168,10 @@ fn labels_are_spelled_as_in_scripts() {
 #[test]
 fn four_threads_share_a_kernel_by_a_mutex() {
     let kernel = Mutex::new(kernel());
-    let create = Call::SegmentCreate { container: ROOT, label: label! { L1 }, quota: 1, pages: 0 };
+    let create = Call::SegmentCreate { container: ROOT, label: label! { L1 }.into(), quota: 1, pages: 0 };
     let mut made = std::thread::scope(|scope| {
         let work = || -> Vec<u64> {
-            let one = |_| match kernel.lock().unwrap().call(BOOT, &create) {
+            let one = |_| match kernel.lock().unwrap().session().call(&create) {
                 Ok(Reply::Object(id)) => id.0,
                 other => panic!("{other:?}"),
             };

@@ -1,7 +1,6 @@
 //! The log of the calls, and its dump.
-use histar::{label, Entry, Kernel, Object, Refusal, Thread};
+use histar::{label, Entry, Kernel, Object, Refusal};
 
-const BOOT: Thread = Thread::BOOT;
 const ROOT: Object = Object::ROOT;
 
 /// The lines of a dump that tell of calls.
@@ -11,17 +10,18 @@ fn events(dump: &str) -> Vec<&str> {
 
 #[test]
 fn each_write_call_is_an_event() {
-    let mut kernel = Kernel::boot(64).unwrap();
+    let kernel = Kernel::boot(64).unwrap();
+    let boot = kernel.session();
     kernel.log_on().unwrap();
-    let c = kernel.cat_create(BOOT).unwrap();
-    let secret = Entry::in_root(kernel.segment_create(BOOT, ROOT, &label! { c => L3; L1 }, 2, 1).unwrap());
-    let stranger = kernel.thread_create(BOOT, ROOT, &label! { L1 }, 1, &label! { L2 }, 0).unwrap();
-    kernel.segment_write(BOOT, secret, 0, b"key").unwrap();
-    assert_eq!(kernel.segment_write(stranger, secret, 0, b"x"), Err(Refusal::CannotObserve));
+    let c = boot.cat_create().unwrap();
+    let secret = Entry::in_root(boot.segment_create(ROOT, &label! { c => L3; L1 }, 2, 1).unwrap());
+    let stranger = boot.thread_create(ROOT, &label! { L1 }, 1, &label! { L2 }, 0).unwrap();
+    boot.segment_write(secret, 0, b"key").unwrap();
+    assert_eq!(stranger.segment_write(secret, 0, b"x"), Err(Refusal::CannotObserve));
     // (reads, refused or not, what is no call, and look-ups are no events)
-    assert_eq!(kernel.segment_read(stranger, secret, 0, 3), Err(Refusal::CannotObserve));
-    assert_eq!(kernel.segment_read(BOOT, secret, 0, 3).unwrap(), b"key");
-    assert_eq!(kernel.segment_write(BOOT, secret, 0, &[0; 65]), Err(Refusal::NoCall));
+    assert_eq!(stranger.segment_read(secret, 0, 3), Err(Refusal::CannotObserve));
+    assert_eq!(boot.segment_read(secret, 0, 3).unwrap(), b"key");
+    assert_eq!(boot.segment_write(secret, 0, &[0; 65]), Err(Refusal::NoCall));
     assert_eq!(kernel.kept_live(0), Some(ROOT));
     let dump = kernel.dump().unwrap();
     assert_eq!(
@@ -35,7 +35,7 @@ fn each_write_call_is_an_event() {
         ]
     );
     assert_eq!(kernel.dump().unwrap(), dump);
-    kernel.unref(BOOT, secret).unwrap();
+    boot.unref(secret).unwrap();
     let longer = kernel.dump().unwrap();
     assert_eq!(events(&longer)[..5], events(&dump)[..]);
     assert_eq!(events(&longer)[5..], ["event 2 5 unref #1 #4 => ok"]);
@@ -43,18 +43,19 @@ fn each_write_call_is_an_event() {
 
 #[test]
 fn a_log_begins_with_the_first_call() {
-    let mut kernel = Kernel::boot(64).unwrap();
+    let kernel = Kernel::boot(64).unwrap();
+    let boot = kernel.session();
     assert_eq!(kernel.dump(), Err(Refusal::NoCall));
-    kernel.self_get(BOOT).unwrap();
+    boot.self_get().unwrap();
     kernel.log_on().unwrap();
     assert_eq!(events(&kernel.dump().unwrap()), [""; 0]);
     kernel.log_on().unwrap();
-    assert_eq!(kernel.unref(BOOT, Entry::in_root(ROOT)), Err(Refusal::RootKept));
+    assert_eq!(boot.unref(Entry::in_root(ROOT)), Err(Refusal::RootKept));
     assert_eq!(kernel.log_on(), Err(Refusal::NoCall));
     assert_eq!(events(&kernel.dump().unwrap()), ["event 2 1 unref #1 #1 => refused 16 RootKept"]);
 
-    let mut late = Kernel::boot(64).unwrap();
-    late.cat_create(BOOT).unwrap();
+    let late = Kernel::boot(64).unwrap();
+    late.session().cat_create().unwrap();
     assert_eq!(late.log_on(), Err(Refusal::NoCall));
     assert_eq!(late.dump(), Err(Refusal::NoCall));
 }

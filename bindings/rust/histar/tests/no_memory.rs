@@ -1,6 +1,6 @@
 //! What takes no memory. The library's own requests are counted by `bindings/c/refused_memory.c`.
 #![allow(unsafe_code)] // the allocator that counts
-use histar::{label, Entry, Kernel, Object, Refusal, Thread};
+use histar::{label, Entry, Kernel, Object, Refusal};
 use std::alloc::{GlobalAlloc, Layout, System};
 use std::sync::atomic::{AtomicU64, Ordering};
 
@@ -31,20 +31,20 @@ fn requests(work: impl FnOnce()) -> u64 {
 }
 
 #[test]
-fn reads_into_a_place_and_writes_from_one_take_no_memory() {
-    let mut kernel = Kernel::boot(64).unwrap();
+fn reads_and_writes_take_no_memory() {
+    let kernel = Kernel::boot(64).unwrap();
+    let boot = kernel.session();
     let plain = label! { L1 };
-    let entry = Entry::in_root(kernel.segment_create(Thread::BOOT, Object::ROOT, &plain, 2, 1).unwrap());
-    let mut place = [0; 64];
+    let entry = Entry::in_root(boot.segment_create(Object::ROOT, &plain, 2, 1).unwrap());
     let none = requests(|| {
         for offset in 0..192 {
-            kernel.write_from(Thread::BOOT, entry, offset, &[7; 64]).unwrap();
-            kernel.read_into(Thread::BOOT, entry, offset, &mut place).unwrap();
-            assert_eq!(place, [7; 64]);
-            assert_eq!(kernel.read_into(Thread::BOOT, entry, 300, &mut place), Err(Refusal::Bounds));
+            boot.segment_write(entry, offset, &[7; 64]).unwrap();
+            assert_eq!(boot.segment_read(entry, offset, 64).unwrap(), [7; 64]);
+            assert_eq!(boot.segment_read(entry, 300, 64).err(), Some(Refusal::Bounds));
         }
     });
     assert_eq!(none, 0);
-    // (what answers with bytes of its own takes some: so requests are counted)
-    assert!(requests(|| drop(kernel.segment_read(Thread::BOOT, entry, 0, 64).unwrap())) > 0);
+    // (a label that is answered has pairs of its own, and takes some: so requests are counted)
+    boot.cat_create().unwrap();
+    assert!(requests(|| drop(boot.self_get().unwrap())) > 0);
 }

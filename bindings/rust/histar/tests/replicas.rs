@@ -1,11 +1,12 @@
 //! Many threads, each with a replica of one kernel.
-use histar::{label, Call, Entry, Object, Refusal, Replicas, Reply, Seat, Thread};
+use histar::trusted::Thread;
+use histar::{label, Call, Entry, Object, Refusal, Replicas, Reply, Seat};
 use std::sync::atomic::{AtomicU64, Ordering};
 
 const BOOT: Thread = Thread::BOOT;
 
-fn create() -> Call {
-    Call::SegmentCreate { container: Object::ROOT, label: label! { L1 }, quota: 2, pages: 1 }
+fn create() -> Call<'static> {
+    Call::SegmentCreate { container: Object::ROOT, label: label! { L1 }.into(), quota: 2, pages: 1 }
 }
 
 fn made(reply: Result<Reply, Refusal>) -> Object {
@@ -16,9 +17,10 @@ fn made(reply: Result<Reply, Refusal>) -> Object {
 }
 
 fn number_in(seat: &mut Seat<'_>, entry: Entry) -> u64 {
-    let mut bytes = [0; 8];
-    seat.read_into(BOOT, entry, 0, &mut bytes).unwrap();
-    u64::from_le_bytes(bytes)
+    match seat.call(BOOT, &Call::SegmentRead { entry, offset: 0, count: 8 }) {
+        Ok(Reply::Bytes(bytes)) => u64::from_le_bytes(bytes[..].try_into().unwrap()),
+        other => panic!("{other:?}"),
+    }
 }
 
 #[test]
@@ -30,8 +32,11 @@ fn all_seats_see_what_each_wrote() {
                 let mut seat = all.seat().unwrap();
                 for _ in 0..50 {
                     let id = made(seat.call(BOOT, &create()));
-                    let write =
-                        Call::SegmentWrite { entry: Entry::in_root(id), offset: 0, bytes: id.0.to_le_bytes().to_vec() };
+                    let write = Call::SegmentWrite {
+                        entry: Entry::in_root(id),
+                        offset: 0,
+                        bytes: id.0.to_le_bytes().to_vec().into(),
+                    };
                     assert_eq!(seat.call(BOOT, &write), Ok(Reply::Done));
                 }
             });
@@ -64,7 +69,7 @@ fn no_read_is_stale() {
             });
         }
         for number in 1..=LAST {
-            let bytes = number.to_le_bytes().to_vec();
+            let bytes = number.to_le_bytes().to_vec().into();
             writer.call(BOOT, &Call::SegmentWrite { entry, offset: 0, bytes }).unwrap();
             written.store(number, Ordering::SeqCst);
         }
@@ -75,7 +80,7 @@ fn no_read_is_stale() {
 fn a_refused_call_is_refused_for_one_seat_and_plays_for_none() {
     let all = Replicas::new(8);
     let (mut first, mut second) = (all.seat().unwrap(), all.seat().unwrap());
-    let large = Call::SegmentCreate { container: Object::ROOT, label: label! { L1 }, quota: 9, pages: 1 };
+    let large = Call::SegmentCreate { container: Object::ROOT, label: label! { L1 }.into(), quota: 9, pages: 1 };
     assert_eq!(first.call(BOOT, &large), Err(Refusal::NoQuota));
     assert_eq!(made(second.call(BOOT, &create())), Object(4));
     assert_eq!(made(first.call(BOOT, &create())), Object(5));

@@ -9,7 +9,8 @@ mod names;
 mod saying;
 mod words;
 
-use histar::{Kernel, Limits, Object, Refusal, Reply, Thread};
+use histar::trusted::{session_of, Thread};
+use histar::{Kernel, Limits, Object, Refusal, Reply};
 use names::{Names, Unbound, Value};
 use saying::{print_tables, said, Answer};
 use std::collections::BTreeSet;
@@ -60,7 +61,7 @@ impl<'a> Player<'a> {
         for line in lines.iter().filter(|it| it.phase == phase) {
             let Some(Value::Object(id)) = self.names.value(line.worker, "", phase) else { continue };
             if !self.seated.contains(line.worker) {
-                match self.kernel.self_get(Thread::from(id)) {
+                match session_of(&self.kernel, id.into()).self_get() {
                     Err(Refusal::Halted) => self.turned_away.insert(line.worker),
                     _ => self.seated.insert(line.worker),
                 };
@@ -95,7 +96,7 @@ impl<'a> Player<'a> {
 }
 
 fn limits(words: &[String]) -> Limits {
-    let mut limits = Limits::pages(64);
+    let mut limits = Limits::default();
     for pair in words.chunks(2) {
         match pair[0].as_str() {
             "--pages" => limits.pages = pair[1].parse().expect("pages"),
@@ -113,7 +114,7 @@ fn main() {
     let words: Vec<String> = std::env::args().skip(1).collect();
     let script = std::fs::read_to_string(&words[0]).expect("the script can be read");
     let lines = lines(&script);
-    let mut kernel = Kernel::boot_with(&limits(&words[1..])).expect("a kernel");
+    let kernel = Kernel::boot_with(&limits(&words[1..])).expect("a kernel");
     let dump = words.iter().position(|it| it == "--dump").map(|place| &words[place + 1]);
     if dump.is_some() {
         kernel.log_on().expect("a log");
@@ -146,7 +147,7 @@ fn main() {
         }
     }
     if words.iter().any(|it| it == "--tables") {
-        print_tables(&mut player.kernel);
+        print_tables(&player.kernel);
     }
     if let Some(file) = dump {
         std::fs::write(file, player.kernel.dump().expect("a dump")).expect("the dump can be written");

@@ -1,6 +1,6 @@
 //! Answers, and what a kernel keeps, as they are printed.
 use crate::names::{Names, Value};
-use histar::{Category, Entry, Kernel, Label, Level, Object, Refusal, Reply, Rights, Thread};
+use histar::{Category, Entry, Kernel, Label, Level, Object, Refusal, Reply, Rights};
 
 /// What a line answered.
 pub enum Answer<'a> {
@@ -64,21 +64,14 @@ pub fn said(answer: &Answer, names: &Names) -> String {
 }
 
 /// A label's place in a list of labels: by its default, and then by its pairs, place by place.
-pub fn rank(label: &Label) -> (u8, Vec<(u64, u8)>) {
-    let of = |level: Level| match level {
-        Level::Star => 0,
-        Level::L0 => 1,
-        Level::L1 => 2,
-        Level::L2 => 3,
-        Level::L3 => 4,
-    };
-    (of(label.default), label.pairs.iter().map(|(category, level)| (category.0, of(*level))).collect())
+pub fn rank(label: &Label) -> (Level, &[(Category, Level)]) {
+    (label.default, &label.pairs)
 }
 
-pub fn print_labels(kernel: &mut Kernel) {
+pub fn print_labels(kernel: &Kernel) {
     let none = Names::default();
     let mut labels: Vec<(u16, Label)> = (0..=u16::MAX).filter_map(|it| Some((it, kernel.kept_label(it)?))).collect();
-    labels.sort_by_key(|(_, label)| rank(label));
+    labels.sort_by(|(_, one), (_, other)| rank(one).cmp(&rank(other)));
     for (place, (_, label)) in labels.iter().enumerate() {
         println!("label {place} {}", said_label(label, &none));
     }
@@ -92,7 +85,7 @@ pub fn print_labels(kernel: &mut Kernel) {
 }
 
 /// Prints what the kernel keeps, as a dump has it.
-pub fn print_tables(kernel: &mut Kernel) {
+pub fn print_tables(kernel: &Kernel) {
     let live: Vec<Object> = (0..).map_while(|place| kernel.kept_live(place)).collect();
     for id in &live {
         println!("live {}", id.0);
@@ -102,7 +95,7 @@ pub fn print_tables(kernel: &mut Kernel) {
     }
     for id in &live {
         for slot in 0..16 {
-            if let Some((segment, rights)) = kernel.kept_translation(Thread::from(*id), slot) {
+            if let Some((segment, rights)) = kernel.kept_translation(*id, slot) {
                 println!("map {} {slot} {} {}", id.0, segment.0, said_rights(rights));
             }
         }

@@ -1,6 +1,7 @@
 //! The words of a call.
 use crate::names::{Names, Unbound, Value};
-use histar::{Call, Category, Entry, Kinds, Label, Level, Mapping, Object, Rights};
+use histar::{Call, Category, Entry, Kinds, Label, Level, Mapping, NewGate, Object, Rights};
+use std::borrow::Cow;
 
 /// The words of a call, read from left to right by one worker in one phase.
 pub struct Words<'a, 'n> {
@@ -48,19 +49,20 @@ impl<'a> Words<'a, '_> {
         }
     }
 
-    fn label(&mut self) -> Result<Label, Unbound<'a>> {
+    /// A label as it is spelled, so a category may stand in it twice.
+    fn label(&mut self) -> Result<Cow<'static, Label>, Unbound<'a>> {
         let word = self.word();
         let mut parts: Vec<&str> = word[1..word.len() - 1].split(',').collect();
         let level = |word: &str| -> Level { word.parse().expect("a level") };
         let mut label = Label::new(level(parts.pop().expect("a default")));
         for part in parts {
             let (category, word) = part.split_once(':').expect("a pair");
-            label = label.with(self.category(category)?, level(word));
+            label.pairs.push((self.category(category)?, level(word)));
         }
-        Ok(label)
+        Ok(label.into())
     }
 
-    fn bytes(&mut self) -> Vec<u8> {
+    fn bytes(&mut self) -> Cow<'static, [u8]> {
         let word = self.word();
         let digits = if word == "-" { "" } else { word };
         let byte = |place| u8::from_str_radix(&digits[place..place + 2], 16).expect("two digits");
@@ -86,7 +88,7 @@ impl<'a> Words<'a, '_> {
     }
 
     /// The call that the words spell.
-    pub fn call(&mut self) -> Result<Call, Unbound<'a>> {
+    pub fn call(&mut self) -> Result<Call<'static>, Unbound<'a>> {
         Ok(match self.word() {
             "cat_create" => Call::CatCreate,
             "self_set_label" => Call::SelfSetLabel { label: self.label()? },
@@ -118,7 +120,7 @@ impl<'a> Words<'a, '_> {
                 clearance: self.label()?,
                 entry_point: self.number(),
             },
-            "gate_create" => Call::GateCreate {
+            "gate_create" => Call::GateCreate(NewGate {
                 container: self.object()?,
                 label: self.label()?,
                 quota: self.number(),
@@ -126,7 +128,7 @@ impl<'a> Words<'a, '_> {
                 space: self.entry()?,
                 entry_point: self.number(),
                 closure: self.number(),
-            },
+            }),
             "link" => Call::Link { target: self.object()?, entry: self.entry()? },
             "unref" => Call::Unref { entry: self.entry()? },
             "quota_move" => Call::QuotaMove { entry: self.entry()?, change: self.number() },

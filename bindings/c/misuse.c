@@ -1,0 +1,362 @@
+/* The table of misuse: what a program does wrong with a kernel, one thing a row. Each row is refused with its number, and leaves
+ * the kernel as it was: the dump of its log, which has the state, is the same before and after.
+ *
+ * misuse   prints how many rows there are, and each that went otherwise */
+#define _GNU_SOURCE
+#include "histar.h"
+#include "histar_debug.h"
+#include <pthread.h>
+#include <signal.h>
+#include <stdio.h>
+#include <stdlib.h>
+#include <sys/time.h>
+#include <sys/wait.h>
+#include <unistd.h>
+
+#define FAR ((uint64_t)1 << 32)
+
+/* The kernel that is misused: it has a log, a secret at level 3 in a category, a stranger, an address space and a packet. And
+ * others: one that is closed, and one that was never open. */
+static histar k, closed, never;
+static uint64_t secret, stranger, space;
+static histar_label plain, guarded;
+static char place[64];
+static const char KEY[] = "the-key-that-nobody-may-see";
+
+static void must(uint32_t refusal)
+{
+    if (!refusal) return;
+    fprintf(stderr, "misuse: refused %u %s\n", refusal, histar_refusal_name(refusal));
+    exit(2);
+}
+
+static histar_entry in_root(uint64_t object) { return histar_in(HISTAR_ROOT, object); }
+
+static void opens(void)
+{
+    uint64_t category;
+    histar_label clearance = histar_level(2);
+    must(histar_open(&k, 64));
+    must(histar_log_on(&k));
+    must(histar_cat_create(&k, HISTAR_BOOT, &category));
+    plain = histar_level(1);
+    guarded = histar_with(plain, category, 3);
+    must(histar_segment_create(&k, HISTAR_BOOT, HISTAR_ROOT, &guarded, 2, 1, &secret));
+    must(histar_segment_write(&k, HISTAR_BOOT, in_root(secret), 0, KEY, sizeof KEY));
+    must(histar_as_create(&k, HISTAR_BOOT, HISTAR_ROOT, &guarded, 1, &space));
+    must(histar_thread_create(&k, HISTAR_BOOT, HISTAR_ROOT, &plain, 1, &clearance, 0, &stranger));
+    must(histar_dev_send(&k, HISTAR_BOOT, in_root(HISTAR_DEVICE), "packet", 6));
+    must(histar_open(&closed, 8));
+    must(histar_close(&closed));
+}
+
+/* ---- Kernels that are not open, or are already ---- */
+
+static uint32_t is_called(histar *kernel) { return histar_cat_create(kernel, HISTAR_BOOT, NULL); }
+static uint32_t never_opened(void) { return is_called(&never); }
+static uint32_t new_on_the_stack(void)
+{
+    histar it = HISTAR_INIT;
+    return histar_segment_read(&it, HISTAR_BOOT, in_root(secret), 0, place, 3);
+}
+static uint32_t read_closed(void) { return histar_segment_read(&closed, HISTAR_BOOT, in_root(secret), 0, place, 3); }
+static uint32_t write_closed(void) { return histar_segment_write(&closed, HISTAR_BOOT, in_root(secret), 0, "new", 3); }
+static uint32_t create_closed(void) { return histar_segment_create(&closed, HISTAR_BOOT, HISTAR_ROOT, &plain, 2, 1, NULL); }
+static uint32_t look_up_closed(void)
+{
+    int is_there;
+    uint64_t id;
+    return histar_kept_live(&closed, 0, &is_there, &id);
+}
+static uint32_t log_closed(void) { return histar_log_on(&closed); }
+static uint32_t dump_closed(void)
+{
+    size_t needed;
+    return histar_dump(&closed, place, sizeof place, &needed);
+}
+static uint32_t closed_twice(void) { return histar_close(&closed); }
+static uint32_t opened_twice(void) { return histar_open(&k, 64); }
+static uint32_t open_of_seven_pages(void) { return histar_open(&closed, 7); }
+static uint32_t called_after_a_refused_open(void) { return open_of_seven_pages() ? is_called(&closed) : 0; }
+static uint32_t copied(void)
+{
+    static histar copy;
+    memcpy(&copy, &k, sizeof k);
+    must(histar_close(&copy));
+    return is_called(&copy);
+}
+static uint32_t open_of_far_more_pages(void) { return histar_open(&closed, FAR + 64); }
+static uint32_t device_at_257(void) { return histar_open_with(&closed, 64, 257, 4, 1); }
+
+/* ---- Numbers, lengths and labels that make no call ---- */
+
+static uint32_t write_far(void) { return histar_segment_write(&k, HISTAR_BOOT, in_root(secret), FAR, "new", 3); }
+static uint32_t read_far_more(void) { return histar_segment_read(&k, HISTAR_BOOT, in_root(secret), 0, place, FAR + 3); }
+static uint32_t read_far(void) { return histar_segment_read(&k, HISTAR_BOOT, in_root(secret), FAR, place, 3); }
+static uint32_t load_far_more(void) { return histar_load(&k, HISTAR_BOOT, 0, place, FAR + 3); }
+static uint32_t pages_far(void) { return histar_segment_create(&k, HISTAR_BOOT, HISTAR_ROOT, &plain, 2, FAR + 1, NULL); }
+static uint32_t quota_far(void) { return histar_segment_create(&k, HISTAR_BOOT, HISTAR_ROOT, &plain, FAR + 2, 1, NULL); }
+static uint32_t avoid_far(void) { return histar_container_create(&k, HISTAR_BOOT, HISTAR_ROOT, &plain, 2, FAR, NULL); }
+static uint32_t resized_far(void) { return histar_segment_resize(&k, HISTAR_BOOT, in_root(secret), FAR); }
+static uint32_t moved_far(void) { return histar_quota_move(&k, HISTAR_BOOT, in_root(secret), (int64_t)FAR + 1); }
+static uint32_t moved_far_down(void) { return histar_quota_move(&k, HISTAR_BOOT, in_root(secret), -(int64_t)FAR + 1); }
+static uint32_t slot_far(void) { return histar_as_map(&k, HISTAR_BOOT, in_root(space), FAR, 0, in_root(secret), 0, 1, HISTAR_READ); }
+static uint32_t page_far(void) { return histar_as_map(&k, HISTAR_BOOT, in_root(space), 0, FAR, in_root(secret), 0, 1, HISTAR_READ); }
+static uint32_t first_far(void) { return histar_as_map(&k, HISTAR_BOOT, in_root(space), 0, 0, in_root(secret), FAR, 1, HISTAR_READ); }
+static uint32_t count_far(void) { return histar_as_map(&k, HISTAR_BOOT, in_root(space), 0, 0, in_root(secret), 0, FAR + 1, HISTAR_READ); }
+static uint32_t rights_far(void) { return histar_as_map(&k, HISTAR_BOOT, in_root(space), 0, 0, in_root(secret), 0, 1, FAR + HISTAR_READ); }
+static uint32_t unmapped_far(void) { return histar_as_unmap(&k, HISTAR_BOOT, in_root(space), FAR); }
+static uint32_t slot_read_far(void)
+{
+    histar_mapping mapping;
+    return histar_as_get(&k, HISTAR_BOOT, in_root(space), FAR, &mapping);
+}
+static uint32_t listed_far(void)
+{
+    histar_list list;
+    return histar_container_list(&k, HISTAR_BOOT, HISTAR_ROOT, FAR, &list);
+}
+static uint32_t index_far(void)
+{
+    int is_there;
+    histar_label label;
+    return histar_kept_label(&k, 65536, &is_there, &label);
+}
+static uint32_t created(histar_label label) { return histar_segment_create(&k, HISTAR_BOOT, HISTAR_ROOT, &label, 2, 1, NULL); }
+static uint32_t level_257(void) { return created(histar_level(257)); }
+static uint32_t level_259(void) { return created(histar_with(plain, 1, 259)); }
+static uint32_t pairs_25(void)
+{
+    histar_label label = plain;
+    for (int i = 0; i < 25; i++) label = histar_with(label, 1, 3);
+    return created(label);
+}
+static uint32_t bytes_65(void) { return histar_segment_write(&k, HISTAR_BOOT, in_root(secret), 0, (char[65]){0}, 65); }
+static uint32_t bytes_far(void) { return histar_store(&k, HISTAR_BOOT, 0, "new", FAR + 3); }
+static uint32_t metadata_65(void) { return histar_meta_set(&k, HISTAR_BOOT, in_root(secret), (char[65]){0}, 65); }
+static uint32_t packet_65(void) { return histar_dev_send(&k, HISTAR_BOOT, in_root(HISTAR_DEVICE), (char[65]){0}, 65); }
+static uint32_t no_bytes(void) { return histar_segment_read(&k, HISTAR_BOOT, in_root(secret), 0, place, 0); }
+static uint32_t packet_in_63(void)
+{
+    size_t len;
+    return histar_dev_recv(&k, HISTAR_BOOT, in_root(HISTAR_DEVICE), place, 63, &len);
+}
+static uint32_t metadata_in_63(void) { return histar_meta_get(&k, HISTAR_BOOT, in_root(secret), place, 63); }
+static uint32_t dump_in_63(void)
+{
+    size_t needed = 0;
+    uint32_t refusal = histar_dump(&k, place, 63, &needed);
+    return needed > 63 && !place[0] ? refusal : 0;
+}
+static uint32_t log_begun_late(void) { return histar_log_on(&k); }
+
+/* ---- Two calls at once ---- */
+
+/* What a signal's handler is told while a dump is made, and whether it came in the middle of one. */
+static volatile sig_atomic_t by_handler, close_by_handler, open_by_handler;
+
+static void handler(int signal)
+{
+    (void)signal;
+    by_handler = (sig_atomic_t)histar_segment_read(&k, stranger, in_root(secret), 0, place, 3);
+    if (by_handler != HISTAR_BUSY) return;
+    close_by_handler = (sig_atomic_t)histar_close(&k);
+    open_by_handler = (sig_atomic_t)histar_open(&k, 64);
+}
+
+static void dumps(void)
+{
+    static char text[1 << 16];
+    size_t needed;
+    must(histar_dump(&k, text, sizeof text, &needed));
+}
+
+static int is_interrupted(void)
+{
+    struct itimerval often = {{0, 50}, {0, 50}}, never_again = {{0, 0}, {0, 0}};
+    by_handler = 0;
+    signal(SIGALRM, handler);
+    setitimer(ITIMER_REAL, &often, NULL);
+    for (int i = 0; i < 100000 && by_handler != HISTAR_BUSY; i++) dumps();
+    setitimer(ITIMER_REAL, &never_again, NULL);
+    return by_handler == HISTAR_BUSY;
+}
+static uint32_t called_by_a_handler(void) { return is_interrupted() ? (uint32_t)by_handler : 0; }
+static uint32_t closed_by_a_handler(void) { return is_interrupted() ? (uint32_t)close_by_handler : 0; }
+static uint32_t opened_by_a_handler(void) { return is_interrupted() ? (uint32_t)open_by_handler : 0; }
+
+/* A second thread reads as the stranger until it is stopped: how often it was told that the kernel is busy, and how often it got
+ * the secret. */
+static int stop;
+static long busy, got;
+
+static void *reads_as_stranger(void *given)
+{
+    char bytes[64] = {0};
+    (void)given;
+    while (!__atomic_load_n(&stop, __ATOMIC_SEQ_CST)) {
+        uint32_t refusal = histar_segment_read(&k, stranger, in_root(secret), 0, bytes, sizeof KEY);
+        busy += refusal == HISTAR_BUSY;
+        got += refusal == HISTAR_DONE || !memcmp(bytes, KEY, sizeof KEY);
+    }
+    return NULL;
+}
+
+/* Two threads call at once: some call is told so, and no call gives another's answer. */
+static uint32_t two_threads(void)
+{
+    pthread_t other;
+    char bytes[64];
+    long own_busy = 0, own_done = 0, wrong = 0;
+    stop = 0;
+    busy = got = 0;
+    must((uint32_t)pthread_create(&other, NULL, reads_as_stranger, NULL));
+    for (long i = 0; i < 1000000000 && (own_done < 1000000 || !own_busy); i++) {
+        uint32_t refusal = histar_segment_read(&k, HISTAR_BOOT, in_root(secret), 0, bytes, sizeof KEY);
+        own_busy += refusal == HISTAR_BUSY;
+        own_done += refusal == HISTAR_DONE;
+        if (refusal != HISTAR_BUSY) wrong += refusal != HISTAR_DONE || memcmp(bytes, KEY, sizeof KEY);
+    }
+    __atomic_store_n(&stop, 1, __ATOMIC_SEQ_CST);
+    pthread_join(other, NULL);
+    return busy && own_busy && !got && !wrong ? HISTAR_BUSY : HISTAR_DONE;
+}
+
+static void *dumps_until_stopped(void *given)
+{
+    (void)given;
+    while (!__atomic_load_n(&stop, __ATOMIC_SEQ_CST)) dumps();
+    return NULL;
+}
+
+/* In a child that was forked in the middle of another thread's call, the kernel stays busy. */
+static uint32_t forked_in_a_call(void)
+{
+    pthread_t other;
+    int status = 0;
+    stop = 0;
+    must((uint32_t)pthread_create(&other, NULL, dumps_until_stopped, NULL));
+    for (int i = 0; i < 10000 && status != HISTAR_BUSY << 8; i++) {
+        pid_t child = fork();
+        if (!child) _exit((int)is_called(&k));
+        waitpid(child, &status, 0);
+    }
+    __atomic_store_n(&stop, 1, __ATOMIC_SEQ_CST);
+    pthread_join(other, NULL);
+    return status == HISTAR_BUSY << 8 ? HISTAR_BUSY : HISTAR_DONE;
+}
+
+/* ---- Bytes that stay ---- */
+
+static int has_key(const void *bytes, size_t len) { return memmem(bytes, len, KEY, sizeof KEY) != NULL; }
+static int records_have_key(const histar *it) { return has_key(&it->request, sizeof it->request) || has_key(&it->answer, sizeof it->answer); }
+
+static uint32_t read_after_a_reader(void)
+{
+    char bytes[64];
+    uint32_t refusal;
+    must(histar_segment_read(&k, HISTAR_BOOT, in_root(secret), 0, bytes, sizeof KEY));
+    if (records_have_key(&k)) return HISTAR_DONE;
+    refusal = histar_segment_read(&k, stranger, in_root(secret), 0, bytes, sizeof KEY);
+    return records_have_key(&k) ? HISTAR_DONE : refusal;
+}
+static uint32_t closed_with_the_key(void)
+{
+    uint64_t made;
+    char bytes[64];
+    must(histar_open(&closed, 8));
+    must(histar_segment_create(&closed, HISTAR_BOOT, HISTAR_ROOT, &plain, 2, 1, &made));
+    must(histar_segment_write(&closed, HISTAR_BOOT, in_root(made), 0, KEY, sizeof KEY));
+    if (records_have_key(&closed)) return HISTAR_DONE;
+    must(histar_segment_read(&closed, HISTAR_BOOT, in_root(made), 0, bytes, sizeof KEY));
+    must(histar_close(&closed));
+    return has_key(&closed, sizeof closed) ? HISTAR_DONE : is_called(&closed);
+}
+
+static const struct row {
+    const char *what;
+    uint32_t refusal;
+    uint32_t (*misuses)(void);
+} ROWS[] = {
+    {"a kernel that was never opened", HISTAR_UNAVAILABLE, never_opened},
+    {"a kernel on the stack that was never opened", HISTAR_UNAVAILABLE, new_on_the_stack},
+    {"a read after the close", HISTAR_UNAVAILABLE, read_closed},
+    {"a write after the close", HISTAR_UNAVAILABLE, write_closed},
+    {"a new segment after the close", HISTAR_UNAVAILABLE, create_closed},
+    {"a look-up after the close", HISTAR_UNAVAILABLE, look_up_closed},
+    {"a log after the close", HISTAR_UNAVAILABLE, log_closed},
+    {"a dump after the close", HISTAR_UNAVAILABLE, dump_closed},
+    {"a second close", HISTAR_DONE, closed_twice},
+    {"a second open", HISTAR_BUSY, opened_twice},
+    {"7 pages", HISTAR_BAD_LIMITS, open_of_seven_pages},
+    {"a call after a refused open", HISTAR_UNAVAILABLE, called_after_a_refused_open},
+    {"a copy of an open kernel", HISTAR_UNAVAILABLE, copied},
+    {"2^32 + 64 pages", HISTAR_BAD_LIMITS, open_of_far_more_pages},
+    {"a device at level 257", HISTAR_BAD_LIMITS, device_at_257},
+    {"a write at 2^32", HISTAR_NO_CALL, write_far},
+    {"a read at 2^32", HISTAR_NO_CALL, read_far},
+    {"a read of 2^32 + 3 bytes", HISTAR_NO_CALL, read_far_more},
+    {"a load of 2^32 + 3 bytes", HISTAR_NO_CALL, load_far_more},
+    {"a segment of 2^32 + 1 pages", HISTAR_NO_CALL, pages_far},
+    {"a quota of 2^32 + 2", HISTAR_NO_CALL, quota_far},
+    {"a container that avoids kind 32", HISTAR_NO_CALL, avoid_far},
+    {"a segment resized to 2^32 pages", HISTAR_NO_CALL, resized_far},
+    {"a quota moved by 2^32 + 1", HISTAR_NO_CALL, moved_far},
+    {"a quota moved by 1 - 2^32", HISTAR_NO_CALL, moved_far_down},
+    {"a mapping in slot 2^32", HISTAR_NO_CALL, slot_far},
+    {"a mapping at page 2^32", HISTAR_NO_CALL, page_far},
+    {"a mapping from page 2^32 on", HISTAR_NO_CALL, first_far},
+    {"a mapping of 2^32 + 1 pages", HISTAR_NO_CALL, count_far},
+    {"a mapping with rights 2^32 + 1", HISTAR_NO_CALL, rights_far},
+    {"slot 2^32 unmapped", HISTAR_NO_CALL, unmapped_far},
+    {"slot 2^32 looked at", HISTAR_NO_CALL, slot_read_far},
+    {"a list from place 2^32 on", HISTAR_NO_CALL, listed_far},
+    {"the label of index 2^16", HISTAR_NO_CALL, index_far},
+    {"the level 257 by default", HISTAR_NO_CALL, level_257},
+    {"the level 259 in a category", HISTAR_NO_CALL, level_259},
+    {"a label of 25 pairs", HISTAR_NO_CALL, pairs_25},
+    {"65 bytes written", HISTAR_NO_CALL, bytes_65},
+    {"2^32 + 3 bytes stored", HISTAR_NO_CALL, bytes_far},
+    {"65 bytes of metadata", HISTAR_NO_CALL, metadata_65},
+    {"a packet of 65 bytes", HISTAR_NO_CALL, packet_65},
+    {"no byte read", HISTAR_BOUNDS, no_bytes},
+    {"a packet received in room for 63 bytes", HISTAR_NO_CALL, packet_in_63},
+    {"metadata read in room for 63 bytes", HISTAR_NO_CALL, metadata_in_63},
+    {"a dump in room for 63 bytes", HISTAR_BOUNDS, dump_in_63},
+    {"a log begun after a call", HISTAR_NO_CALL, log_begun_late},
+    {"a call by the handler of a signal", HISTAR_BUSY, called_by_a_handler},
+    {"a close by the handler of a signal", HISTAR_BUSY, closed_by_a_handler},
+    {"an open by the handler of a signal", HISTAR_BUSY, opened_by_a_handler},
+    {"calls by two threads at once", HISTAR_BUSY, two_threads},
+    {"a call in a child that was forked in a call", HISTAR_BUSY, forked_in_a_call},
+    {"a stranger's read after a reader", HISTAR_CANNOT_OBSERVE, read_after_a_reader},
+    {"a call after a close with the key in it", HISTAR_UNAVAILABLE, closed_with_the_key},
+};
+
+/* The log's dump, which has the state. */
+static size_t dump_of(char *text, size_t size)
+{
+    size_t needed = 0;
+    must(histar_dump(&k, text, size, &needed));
+    return needed;
+}
+
+int main(void)
+{
+    static char before[1 << 16], after[1 << 16];
+    size_t count = sizeof ROWS / sizeof ROWS[0], went_well = 0;
+    opens();
+    for (size_t i = 0; i < count; i++) {
+        const struct row *row = &ROWS[i];
+        size_t len = dump_of(before, sizeof before);
+        uint32_t refusal;
+        memset(place, 0, sizeof place);
+        refusal = row->misuses();
+        if (refusal != row->refusal) printf("%s: %u in place of %u\n", row->what, refusal, row->refusal);
+        else if (dump_of(after, sizeof after) != len || memcmp(before, after, len)) printf("%s: the kernel is changed\n", row->what);
+        else went_well++;
+    }
+    printf("%zu of %zu misuses are refused and change nothing\n", went_well, count);
+    must(histar_close(&k));
+    return went_well != count;
+}
