@@ -269,7 +269,7 @@ def uninstall(prefix):
 
 
 C_PROGRAM = "#include <histar.h>\n#include <stdio.h>\nint main(void) { static histar k; if (histar_open(&k, 64)) return 1; puts(\"open\"); histar_close(&k); return 0; }\n"
-PYTHON = "import ctypes; it = ctypes.CDLL('{so}'); print(hasattr(it, 'histar_boot') and hasattr(it, 'histar_call') and not hasattr(it, 'memcpy_c'))"
+PYTHON = "import ctypes; it = ctypes.CDLL('{so}'); print(hasattr(it, 'histar_boot') and hasattr(it, 'histar_call') and not hasattr(it, 'rattle_alloc'))"
 
 
 def sums():
