@@ -12,7 +12,7 @@ import tempfile
 from concurrent.futures import ThreadPoolExecutor
 
 FOLDER = "cases"
-LIMIT = 60
+LIMIT = 120
 HEADING = "== "
 REFUSED, AGAIN = "each request refused", "each request refused, made again"
 ESCAPE = re.compile(rb"\\x([0-9a-f]{2})")
