@@ -51,7 +51,7 @@ class Tried:
 
     def scenes(self, is_long):
         words = [*TWO, "--public", self.room]
-        swaps, paths, asks = (10_000, 1_000_000, 1_000) if is_long else (1_000, 20_000, 100)
+        swaps, paths, asks = (10_000, 1_000_000, 60) if is_long else (1_000, 20_000, 20)
         yield Scene("changes a path while the broker looks at it", f"{self.room}/swap $P/text $S/key {swaps} > /tmp/seen", words=words, status=None)
         yield Scene("changes a path and prints what it reads", f"{self.room}/swap $P/none $S/key {swaps}", words=words)
         yield Scene("changes a path and prints all", f"{self.room}/swap $P/text $S/key {swaps}", printed=None, words=words, status=None)
