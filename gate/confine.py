@@ -51,7 +51,7 @@ class Tried:
 
     def scenes(self, is_long):
         words = [*TWO, "--public", self.room]
-        swaps, paths, asks = (10_000, 1_000_000, 1_000) if is_long else (1_000, 20_000, 100)
+        swaps, paths, asks = (10_000, 1_000_000, 60) if is_long else (1_000, 20_000, 20)
         yield Scene("changes a path while the broker looks at it", f"{self.room}/swap $P/text $S/key {swaps} > /tmp/seen", words=words, status=None)
         yield Scene("changes a path and prints what it reads", f"{self.room}/swap $P/none $S/key {swaps}", words=words)
         yield Scene("changes a path and prints all", f"{self.room}/swap $P/text $S/key {swaps}", printed=None, words=words, status=None)
@@ -208,6 +208,9 @@ WRONG_WORDS = (
     (["--public", "/etc", "--secret", "/etc/alternatives", "--", "true"], "one lies in the other"),
     (["--report", "/var/tmp/confine-tried", "--secret", "/var/tmp", "--", "true"], "of which it is no report"),
     (["--secret", "/var", "--public", "/var/tmp", "--", "true"], "one lies in the other"),
+    (["--secret", "/etc/alternatives", "--", "true"], "one lies in the other"),
+    (["--secret", "/etc", "--", "true"], "one lies in the other"),
+    (["--public", "/var/tmp", "--report", "/var/tmp/confine-tried", "--", "true"], "which is public"),
     (["--secret", "/etc"] * 9 + ["--", "true"], "at most 8"),
     (["--policy", "/no/such/file", "--", "true"], "/no/such/file: "),
 )
@@ -230,6 +233,7 @@ WRONG_POLICIES = (
     ('write = [{file = "secret"}]', "can't be written"),
     ('gate = [{name = "a b", program = ["true"]}]', "a name has up to 31"),
     ('gate = [{name = "a"}]', "program is wanted"),
+    ('gate = [{name = "run", program = ["true"]}]', "a gate of its own"),
     ('gate = [{name = "a", program = ["true"], owns = ["first"]}]', "no category: first"),
     ('gate = [{name = "a", program = ["true"], file = "open"}]', "no file of [[write]]"),
     ('public = ["secret/key"]', "is no folder"),

@@ -167,7 +167,9 @@ void take_gate(const Reading &reading, const toml::node &node)
     const toml::table &table = table_of(reading, node);
     has_only(reading, table, {"name", "program", "owns", "file"});
     if (!table.get("name")) fault(reading, node, "name is wanted");
-    gate *gate = add_gate(reading.into, name_of(reading, *table.get("name")).c_str());
+    std::string name = name_of(reading, *table.get("name"));
+    if (GATES "/" + name == RUN) fault(reading, node, "confine has a gate of its own named " + name);
+    gate *gate = add_gate(reading.into, name.c_str());
     each(reading, table, "program", [&](const toml::node &it) {
         if (gate->word_count == MOST_WORDS) fault(reading, it, "at most 16 words");
         std::strcpy(gate->words[gate->word_count++], text_of(reading, it).c_str());

@@ -69,12 +69,14 @@ struct asked {
 static bool take_files(struct msghdr *message, struct asked *asked)
 {
     struct cmsghdr *head = CMSG_FIRSTHDR(message);
-    int count = 0;
-    if (head && head->cmsg_level == SOL_SOCKET && head->cmsg_type == SCM_RIGHTS) {
-        count = (int)((head->cmsg_len - CMSG_LEN(0)) / sizeof(int));
-        memcpy(asked->files, CMSG_DATA(head), (size_t)count * sizeof(int));
-    }
-    for (int i = 0; count != STREAMS && i < count; i++) close(asked->files[i]);
+    int came[STREAMS + 1]; /* (the room for three has room for a fourth) */
+    size_t count = 0;
+    if (head && head->cmsg_level == SOL_SOCKET && head->cmsg_type == SCM_RIGHTS) count = (head->cmsg_len - CMSG_LEN(0)) / sizeof(int);
+    if (count > STREAMS + 1) count = STREAMS + 1;
+    if (count) memcpy(came, CMSG_DATA(head), count * sizeof(int));
+    if (count == STREAMS) memcpy(asked->files, came, sizeof asked->files);
+    else
+        for (size_t i = 0; i < count; i++) close(came[i]);
     return count == STREAMS;
 }
 
@@ -149,6 +151,7 @@ static void join(struct start *first, struct start *second)
         from->is_held = false;
         to->from = to->to = -1;
         second->ends[0] = 0;
+        cut(from);
     }
 }
 

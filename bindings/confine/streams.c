@@ -75,6 +75,10 @@ void give(struct stream *stream)
 {
     ssize_t count;
     if (stream->to < 0) return;
+    if (stream->between && !reads_between(stream->reader, stream->between)) {
+        cut(stream);
+        return;
+    }
     count = write(stream->to, stream->text + stream->begin, stream->count - stream->begin);
     if (count > 0) stream->begin += (size_t)count;
     else if (errno != EAGAIN && errno != EINTR) {
