@@ -1,6 +1,6 @@
 /* Koalaingot's label kernel for C and C++ programs.
  *
- * The four functions of the static library lib/libhistar_c.a, and over them a function for each call, named as the
+ * The four functions of the static library libhistar.a, and over them a function for each call, named as the
  * call's word in a script. docs/EMBED.md has a first program; docs/CALLS.md has the rule of each call.
  *
  * What holds for every function of a call:
