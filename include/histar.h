@@ -361,7 +361,7 @@ static inline uint32_t histar_made(histar *k, uint64_t *made)
 {
     uint32_t refusal = histar_serves(k);
     if (!refusal && made) *made = k->answer.numbers[0];
-    k->answer.numbers[0] = 0;
+    histar_wipes(k->answer.numbers, sizeof(uint64_t));
     return histar_released(k, refusal);
 }
 static inline uint32_t histar_gives(histar *k, const void *bytes, uint64_t len)
