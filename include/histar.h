@@ -1,6 +1,6 @@
 /* Koalaingot's label kernel for C and C++ programs.
  *
- * The four functions of the static library lib/libhistar_c.a, and over them a function for each call, named as the
+ * The four functions of the static library libhistar.a, and over them a function for each call, named as the
  * call's word in a script. docs/EMBED.md has a first program; docs/CALLS.md has the rule of each call.
  *
  * What holds for every function of a call:
@@ -361,7 +361,7 @@ static inline uint32_t histar_made(histar *k, uint64_t *made)
 {
     uint32_t refusal = histar_serves(k);
     if (!refusal && made) *made = k->answer.numbers[0];
-    k->answer.numbers[0] = 0;
+    histar_wipes(k->answer.numbers, sizeof(uint64_t));
     return histar_released(k, refusal);
 }
 static inline uint32_t histar_gives(histar *k, const void *bytes, uint64_t len)
