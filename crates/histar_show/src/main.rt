@@ -7,7 +7,7 @@ use base::{Category, ObjectId};
 use dot_text::dot_on;
 use json_text::json_on;
 use page_text::page_on;
-use program_args::{Colours, View, read_show_words, tell_answer};
+use program_args::{Colours, ShowArgs, View, read_show_words, tell_answer};
 use program_io::{Counted, Fault, Sink, beside, put_file, words_of};
 use show_states::NAME;
 use show_text::why_on;
@@ -71,14 +71,18 @@ fn main(rt: HostRuntime) -> ExitCode {
         let mut dump = rt.reader();
         return ExitCode::from(why_on(alloc, &mut dump, None, &mut out, &mut err));
     }
-    let told = match read_show_words(alloc, words.as_slice()) {
+    let ShowArgs {
+        dump,
+        view,
+        out: page,
+    } = match read_show_words(alloc, words.as_slice()) {
         Ok(told) => told,
         Err(answer) => return ExitCode::from(tell_answer(alloc, NAME, &answer, &mut out, &mut err)),
     };
-    let Ok(mut dump) = File::open(&rt, told.dump) else {
+    let Ok(mut dump) = File::open(&rt, dump) else {
         return ExitCode::from(Fault::Input.tell(NAME, &mut err));
     };
-    let status = match told.view {
+    let status = match view {
         View::Why(line) => why_on(alloc, &mut dump, line, &mut out, &mut err),
         View::Tree { after, colours } => {
             let is_coloured = is_coloured(&rt, colours);
@@ -86,10 +90,7 @@ fn main(rt: HostRuntime) -> ExitCode {
         }
         View::Json => json_on(alloc, &mut dump, &mut out, &mut err),
         View::Dot(flow) => dot_on(alloc, &mut dump, flow, &mut out, &mut err),
-        View::Page(flow) => {
-            let path = told.out.unwrap_or("");
-            put_page(&rt, &mut dump, flow, path, &mut out, &mut err)
-        }
+        View::Page(flow) => put_page(&rt, &mut dump, flow, page.unwrap_or(""), &mut out, &mut err),
     };
     ExitCode::from(status)
 }
