@@ -39,7 +39,7 @@ use std::fs::File;
 use std::io;
 use std::io::Write;
 use std::process::ExitCode;
-use texts::{Again, Kind, again};
+use texts::{Again, Kind, written_again};
 
 /// The program's name.
 pub const NAME: &str = "probe";
@@ -91,7 +91,11 @@ fn write_again(rt: &HostRuntime, kind: Kind, path: &str) -> u8 {
     let Ok(mut file) = File::open(rt, path) else {
         return Fault::Input.tell(NAME, &mut err);
     };
-    printed(again(rt.alloc(), kind, &mut file), &mut out, &mut err)
+    printed(
+        written_again(rt.alloc(), kind, &mut file),
+        &mut out,
+        &mut err,
+    )
 }
 
 /// Tells how a scene was played, and answers the status: 0 where all facts hold.

@@ -60,7 +60,7 @@ fn in_second_format(alloc: Global, text: &[u8]) -> Again {
 }
 
 /// What an input's text of this kind is when it was read and written.
-pub fn again<I: Read>(alloc: Global, kind: Kind, input: &mut I) -> Again {
+pub fn written_again<I: Read>(alloc: Global, kind: Kind, input: &mut I) -> Again {
     let text = match bytes_of(alloc, input) {
         Ok(text) => text,
         Err(fault) => return Again::Fault(fault),

@@ -192,19 +192,23 @@ impl Storm {
         self.lives.count(id.is_some());
     }
 
-    // Both list the same, in the same order, and no object lost its record.
+    // Both list the same, in the same order, and the object did not lose its record.
+    fn compare_entries(&mut self, id: ObjectId, look: &mut Look) {
+        let mut one = [ObjectId::root(); POOL];
+        let mut other = [ObjectId::root(); POOL];
+        let count = self.guarded.entries(id, 0, &mut one);
+        look.sees(agree(self.twin.entries(id, 0, &mut other), count));
+        look.sees(agree(other, one));
+        look.sees(agree(self.twin.parent(id), self.guarded.parent(id)));
+        look.sees(agree(self.guarded.record(id), Some(id.number())));
+    }
+
+    // The same objects are live, and have the same entries.
     fn compare(&mut self, look: &mut Look) {
         for place in 0..POOL {
-            let id = self.guarded.live(place);
-            look.sees(agree(self.twin.live(place), id));
-            if let Some(id) = id {
-                let mut one = [ObjectId::root(); POOL];
-                let mut other = [ObjectId::root(); POOL];
-                let count = self.guarded.entries(id, 0, &mut one);
-                look.sees(agree(self.twin.entries(id, 0, &mut other), count));
-                look.sees(agree(other, one));
-                look.sees(agree(self.twin.parent(id), self.guarded.parent(id)));
-                look.sees(agree(self.guarded.record(id), Some(id.number())));
+            look.sees(agree(self.twin.live(place), self.guarded.live(place)));
+            if let Some(id) = self.guarded.live(place) {
+                self.compare_entries(id, look);
             }
         }
         look.sees(agree(self.twin.count(), self.guarded.count()));
