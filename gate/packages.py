@@ -231,6 +231,12 @@ def make():
     return guarded("package", act)
 
 
+def folders_above(file):
+    """The folders below the prefix that a file stands in, one in another."""
+    parts = file.split("/")[:-1]
+    return ["/".join(parts[: count + 1]) for count in range(len(parts))]
+
+
 def listed(prefix):
     return f"{prefix}/share/doc/koalaingot/installed"
 
@@ -260,9 +266,9 @@ def uninstall(prefix):
         for file in laid:
             with contextlib.suppress(FileNotFoundError):
                 os.remove(f"{prefix}/{file}")
-        for file in laid:
+        for folder in sorted({above for it in laid for above in folders_above(it)}, reverse=True):
             with contextlib.suppress(OSError):
-                os.removedirs(os.path.dirname(f"{prefix}/{file}"))
+                os.rmdir(f"{prefix}/{folder}")
         print(f"install: {len(laid)} files taken away")
 
     return guarded("install", act)
@@ -322,8 +328,21 @@ def try_library(report, top):
     report.counts(ended == (0, "True\n"), f"packages: Python loads {SONAME}: {ended}")
 
 
-def try_all(report):
+def hand_over(tree):
+    """Takes the library that ./lib built in a tree, and builds confine over it; returns what is lacking, if anything."""
+    if os.path.abspath(tree) != os.getcwd() and os.path.isfile(f"{tree}/{LIBRARY}"):
+        os.makedirs(os.path.dirname(LIBRARY), exist_ok=True)
+        shutil.copyfile(f"{tree}/{LIBRARY}", LIBRARY)
+    status, said = ran("bindings/confine/build.sh")
+    return said.strip() if status else None
+
+
+def try_all(report, tree="."):
     """Packs twice, and tries what is packed out of the packages."""
+    lacking = hand_over(tree)
+    if lacking and "install" in lacking:
+        report.say(f"left out: packages: {lacking}")
+        return
     first, second = None, None
     with contextlib.suppress(Fault):
         pack()
@@ -346,7 +365,7 @@ def try_all(report):
             report.say("left out: lintian: it is not there")
     with tempfile.TemporaryDirectory(prefix="installed-") as top:
         ended = install(f"{top}/p"), os.path.isfile(f"{top}/p/bin/histar"), uninstall(f"{top}/p"), os.listdir(top)
-        report.counts(ended[:3] == (0, True, 0) and not os.path.isdir(f"{top}/p/bin"), f"packages: ./install and its reverse: {ended}")
+        report.counts(ended[:3] == (0, True, 0) and not os.listdir(f"{top}/p"), f"packages: ./install and its reverse: {ended}")
 
 
 if __name__ == "__main__":
