@@ -83,11 +83,14 @@ fn a_secret_is_kept_by_its_category(alloc: Global, look: &mut Look) -> Result<()
     };
     look.sees(failing.rest.is_none());
     look.sees(agree(failing.named.len(), 1));
-    let failure = failing.named[0];
-    look.sees(agree(
-        (failure.category.0, failure.ranks.left, failure.ranks.right),
-        (1, Rank::L3, Rank::L1),
-    ));
+    let is_of_the_category = match failing.named.as_slice().first() {
+        Some(failure) => agree(
+            (failure.category.0, failure.ranks.left, failure.ranks.right),
+            (1, Rank::L3, Rank::L1),
+        ),
+        None => false,
+    };
+    look.sees(is_of_the_category);
     Ok(())
 }
 

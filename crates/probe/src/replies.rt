@@ -1,9 +1,9 @@
 //! A reply of each kind, as text.
-use crate::samples::{everywhere, in_root, no_entry, pair, plain};
+use crate::samples::{in_root, no_entry, pair, plain};
 use base::{Category, Data, Level, Meter, NoMemory, ObjectId, Refusal, Rights};
 use call_text::{NameList, Named, Value, put_made, write_reply};
 use kernel_rules::{Ids, Mapping, Reply};
-use label_lattice::Label;
+use label_lattice::{Label, RawLabel};
 use label_rules::stored_of;
 use std::alloc::Global;
 use text_words::Name;
@@ -105,9 +105,7 @@ fn lists() -> [Reply; 3] {
 
 /// A plain label, and one that owns a category and has another at level 0.
 fn labels(meter: &mut Meter) -> Option<(Label, Label)> {
-    let mut raw = everywhere(Level::L3);
-    raw.pairs.push(pair(7, Level::L0));
-    raw.pairs.push(pair(4, Level::Star));
+    let raw = RawLabel::new(Level::L3, &[pair(7, Level::L0), pair(4, Level::Star)]);
     Some((stored_of(&plain(), meter)?, stored_of(&raw, meter)?))
 }
 

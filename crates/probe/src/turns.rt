@@ -213,9 +213,11 @@ fn the_journal_is_that_of_the_end<R: Threads + Wait + Sync + AllocGlobal>(
     let played = play_all(rt, alloc, &script, &DEFAULTS.limits, &Always)?;
     let events = played.events.as_slice();
     look.sees(agree(events.len(), 4));
-    let (first, last) = (&events[0], &events[3]);
-    look.sees(first.number() == 1 && last.number() == 2);
-    look.sees(last.thread() == ObjectId::new(4));
+    if events.len() == 4 {
+        let (first, last) = (&events[0], &events[3]);
+        look.sees(first.number() == 1 && last.number() == 2);
+        look.sees(last.thread() == ObjectId::new(4));
+    }
     Ok(())
 }
 

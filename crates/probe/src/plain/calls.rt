@@ -58,6 +58,20 @@ fn a_write_is_read(alloc: Global, look: &mut Look) -> Result<()> {
     play_case(look, alloc, Case::Write)
 }
 
+// Whether the boot thread reads these bytes.
+fn is_read(
+    kernel: &mut PlainKernel,
+    read: &Query,
+    bytes: &[u8],
+    meter: &mut Meter,
+) -> Result<bool> {
+    let reply = kernel.ask(boot_thread(), read, meter)?;
+    Ok(match &reply {
+        Reply::Bytes(found) => agree(found.as_slice(), bytes),
+        _ => false,
+    })
+}
+
 /// Three calls are run, and what they wrote is read.
 pub fn run_three(
     look: &mut Look,
@@ -92,10 +106,7 @@ pub fn run_three(
         offset: 0,
         count: 64,
     };
-    let Reply::Bytes(found) = kernel.ask(boot, &read, meter)? else {
-        return bail!("no bytes");
-    };
-    look.sees(agree(found.as_slice(), bytes.as_slice()));
+    look.sees(is_read(kernel, &read, &bytes, meter)?);
     Ok(())
 }
 

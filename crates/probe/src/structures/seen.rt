@@ -72,11 +72,11 @@ pub fn compare_seen(look: &mut Look, one: &Seen, other: &Seen) {
     look.sees(agree(one.object_count, other.object_count));
     look.sees(one.link_count <= POOL);
     look.sees(one.object_count <= POOL);
-    for i in 0..one.link_count {
+    for i in 0..one.link_count.min(POOL) {
         look.sees(agree(one.times_link(one.links[i]), 1));
         look.sees(agree(other.times_link(one.links[i]), 1));
     }
-    for i in 0..one.object_count {
+    for i in 0..one.object_count.min(POOL) {
         look.sees(agree(one.times_object(one.objects[i].0), 1));
         look.sees(agree(other.times_object(one.objects[i].0), 1));
     }

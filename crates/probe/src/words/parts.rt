@@ -122,7 +122,11 @@ fn want_of_memory_changes_nothing(alloc: Global, look: &mut Look) -> Result<()> 
         }
     }
     look.sees(agree(packets.as_slice().len(), 6));
-    look.sees(agree(packets.as_slice()[5].as_slice(), [6].as_slice()));
+    let is_last = match packets.as_slice().get(5) {
+        Some(last) => agree(last.as_slice(), [6].as_slice()),
+        None => false,
+    };
+    look.sees(is_last);
     Ok(())
 }
 
