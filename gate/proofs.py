@@ -6,7 +6,6 @@ import shutil
 import subprocess
 
 from gate.times import Times
-from gate.toolchain import lanes, toolchain
 
 LOG = "out/test.log"
 TIMES = "out/times"
@@ -34,12 +33,11 @@ def show(report, line):
 
 
 def run_and_log(report, tree):
-    """Runs rt ci in the tree, shows how far it is, and returns all its lines, which the log has too. Each crate has one job, which
-    takes less of the processors than several do."""
-    said, jobs = [], os.environ.get("RT_JOBS") or str(lanes(toolchain()))
+    """Runs rt ci in the tree, shows how far it is, and returns all its lines, which the log has too. A crate has one job where others
+    are ready, which takes less of the processors than several do, and more where none is."""
+    said = []
     with open(LOG, "w", encoding="utf-8") as log:
         how = {"cwd": tree, "stdin": subprocess.DEVNULL, "stdout": subprocess.PIPE, "stderr": subprocess.STDOUT, "errors": "replace"}
-        how["env"] = {**os.environ, "RT_JOBS": jobs}
         with subprocess.Popen(["rt", "ci"], **how) as ran:
             for line in ran.stdout:
                 log.write(line)

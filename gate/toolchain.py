@@ -11,8 +11,6 @@ FLAGS = ["--jobs", "1"]
 # waits for.
 LIBRARY, WIDE = "library", "proof"
 SECONDS = "gate/seconds"
-# What the largest check takes, in bytes.
-LARGEST = 5_000_000_000
 
 
 def toolchain():
@@ -22,11 +20,6 @@ def toolchain():
     made = importlib.util.module_from_spec(importlib.util.spec_from_loader("rt", loader))
     loader.exec_module(made)
     return made
-
-
-def lanes(rt):
-    """How many checks of one job run side by side: one a processor, as far as memory holds the largest."""
-    return max(1, min(rt.processors(), rt.free() // LARGEST))
 
 
 def library_task(rt, crate, weight, build, kind=LIBRARY):
