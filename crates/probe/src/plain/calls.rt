@@ -7,7 +7,9 @@ use crate::samples::{
 };
 use anyhow::{Result, bail};
 use base::{Category, Data, Meter, NoMemory, Refusal};
-use plain_core::{BootRefusal, Call, Entry, Machine, NewSegment, PlainKernel, Query, Reply, run};
+use plain_core::{
+    BootRefusal, Call, Entry, Machine, Mapping, NewSegment, PlainKernel, Query, Reply, run,
+};
 use std::alloc::Global;
 
 /// What refuses a read of the boot thread.
@@ -65,6 +67,9 @@ fn is_read(
     bytes: &[u8],
     meter: &mut Meter,
 ) -> Result<bool> {
+    // (types that a reply has, which the proof names)
+    let _reply: Option<Reply> = None;
+    let _mapping: Option<Mapping> = None;
     let reply = kernel.ask(boot_thread(), read, meter)?;
     Ok(match &reply {
         Reply::Bytes(found) => agree(found.as_slice(), bytes),
