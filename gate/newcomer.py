@@ -66,7 +66,7 @@ class Newcomer:
         """Whether an answer is the stored one, as far as one is stored."""
         script = next((it for it in command.split(" ") if it.endswith(".histar") and " run " in command), "")
         wanted = ANSWERED if command == TRY else text(f"{script.removesuffix('.histar')}.out") if script else said
-        return said == wanted and bool(said or "--out" in command)
+        return said == wanted and bool(said or "--out" in command or " check " in command)
 
     def start_unproved(self, command):
         """Types a command before ./prove: one line says that nothing is proved."""
