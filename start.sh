@@ -98,5 +98,6 @@ start() {
     program=$top/crates/$crate/out/$crate
     kept=$top/crates/$crate/out/sources
     if is_proved; then exec "$program" "$@"; fi
+    case "$*" in --version | -V) printf '%s %s\n' "$name" "$(cat "$top/VERSION")" && exit 0 ;; esac
     unproved "$@"
 }

@@ -15,6 +15,9 @@ cc -std=gnu11 -O2 -I"$top/include" "$top/bindings/c/bench.c" "$library/libhistar
 cargo build --quiet --release --offline --manifest-path "$top/benches/simple/Cargo.toml"
 echo "== through C"
 "$folder/bench" 64 56 1 "$runs"
+cc -std=gnu11 -O2 -pthread -I"$top/include" "$top/bindings/c/shared_bench.c" "$library/libhistar.a" -o "$folder/shared"
+echo "== through seats of a shared kernel"
+"$folder/shared"
 echo "== through Rust"
 RUNS=$runs HISTAR_LIB=$library cargo bench --quiet --offline --manifest-path "$top/bindings/rust/Cargo.toml" | grep ' ns$'
 echo "== the simple kernel, of 64 pages"

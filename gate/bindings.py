@@ -1,7 +1,8 @@
 """The kernel as a library for C and Rust: it is built, and programs in bindings/ are compiled against it and run. The scripts
 of examples/ print by them what is stored, and ./histar-audit finds the dumps of their logs clean; the scripts of the rules
 print what is stored of them; random scripts print what ./histar prints, leave the tables that its dump has, and dump what it
-dumps; random records leave the heap as it was; each row of the table of misuse is refused and changes nothing. The programs of docs/EMBED.md print what it says.
+dumps; random records leave the heap as it was; each row of the table of misuse is refused and changes nothing; threads share a
+kernel. The programs of docs/EMBED.md print what it says.
 
 What a machine lacks (compilers, cargo, valgrind, clang's runtime) is left out, with a line for each."""
 import glob
@@ -19,6 +20,7 @@ from gate.scripts import script
 SEEDS = range(1, 41)
 RECORDS = 10_000_000
 FUZZ_SECONDS = int(os.environ.get("FUZZ_SECONDS", "60"))
+THREAD_SECONDS = int(os.environ.get("THREAD_SECONDS", "60"))
 WARNINGS = ["-Wall", "-Wextra", "-Wpedantic", "-Werror"]
 MANIFEST = ["--offline", "--manifest-path", "bindings/rust/Cargo.toml"]
 
@@ -252,6 +254,7 @@ class Bindings:
             self.try_memory(compilers[0])
             self.try_wrong_headers(compilers[0])
             self.try_misuse(compilers[0])
+            self.try_threads(compilers[0])
             login = self.compile([compilers[0], "-std=c11"], "login.c", "login", *WARNINGS)
             if login:
                 self.report.counts(ran(login) == (0, LOGIN), "C: a login gate")
@@ -273,6 +276,21 @@ class Bindings:
             self.play([*checked, player], "C under valgrind")
         if records:
             self.counts("random records under valgrind", *checked, records, "20000")
+
+    def try_threads(self, compiler):
+        """Eight threads that share a kernel: for some time, under valgrind, and with clang's sanitizer of threads."""
+        threads = self.compile([compiler, "-std=gnu11"], "threads.c", "threads", *WARNINGS, "-pthread")
+        if threads:
+            self.counts(f"C: eight threads share a kernel for {THREAD_SECONDS} seconds", threads, str(THREAD_SECONDS))
+        self.compile([compiler, "-std=gnu11"], "shared_bench.c", "shared_bench", *WARNINGS, "-pthread")
+        if threads and shutil.which("valgrind"):
+            self.counts("C: eight threads share a kernel, under valgrind", "valgrind", "-q", "--error-exitcode=9", "--leak-check=full", threads, "0", "0")
+        if not self.has_runtime("thread"):
+            self.leave_out("the sanitizer of threads", "clang or its runtime is missing")
+            return
+        watched = self.compile(["clang", "-std=gnu11", "-fsanitize=thread"], "threads.c", "threads-watched", "-pthread")
+        if watched:
+            self.counts("C: eight threads share a kernel, with clang's sanitizer of threads", watched, "5", "0")
 
     def try_refused(self, compiler):
         """A kernel is opened with each request for memory refused in turn, and calls take none."""
@@ -316,6 +334,8 @@ class Bindings:
             words = ["cargo", "clippy", "--quiet", "--all-targets", *MANIFEST, "--", "-D", "warnings"]
             self.counts("cargo clippy without a warning", *words, env=env)
         self.counts("cargo doc without a warning", "cargo", "doc", "--no-deps", *MANIFEST, env={**env, "RUSTDOCFLAGS": "-D warnings"})
+        is_packed, said = run("cargo", "package", "--allow-dirty", "--no-metadata", "--package", "histar", *MANIFEST, env=env)
+        self.report.counts(is_packed and "warning" not in said, "cargo package without a warning")
         if self.counts("cargo build of the crate, examples and benches", "cargo", "build", "--release", "--lib", "--examples", "--benches", *MANIFEST, env=env):
             player = ["bindings/rust/target/release/examples/play"]
             self.report.counts(ran("bindings/rust/target/release/examples/login") == (0, LOGIN), "Rust: a login gate")

@@ -8,6 +8,7 @@ import os
 import re
 import tempfile
 
+from gate.hidden import NO_REPLY
 from gate.plays import ran, text
 
 FOLDER = "examples/channels"
@@ -62,6 +63,7 @@ def audit(report, histar, auditor, name, row):
         ran(*histar, "run", f"{stem}.histar", *text(f"{stem}.words").split(), "--dump", f"{folder}/dump")
         status, said = ran(*auditor, f"{folder}/dump", "--hidden", OBSERVER)
     verdict, *told = said.rstrip("\n").split("\n")
+    told = [] if told == [NO_REPLY] else told or ["nothing"]
     wanted = wanted_of(text(f"{stem}.histar"), row)
     is_well = (status, verdict, len(told)) == (0, "clean", len(wanted)) and all(
         line.startswith("differs at event ") and line.endswith(end) for line, end in zip(told, wanted)

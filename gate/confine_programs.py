@@ -69,7 +69,7 @@ ROWS = (
     ("rsync", "rsync", "rsync -a $S/ /tmp/r/ && cat /tmp/r/text > $R", b"fever"),
     ("iconv", "iconv", "iconv -f UTF-8 -t UTF-16LE $S/text -o $R", b"f\0e\0v\0e\0r"),
     ("ffmpeg", "ffmpeg", "cat $S/text; ffmpeg -v error -f lavfi -i sine=duration=1 -y -f wav $R", b"RIFF"),
-    ("convert", "convert", "cat $S/text; convert -size 8x8 xc:red png:$R", b"PNG"),
+    ("convert", "/usr/bin/convert", "cat $S/text; /usr/bin/convert -size 8x8 xc:red png:$R", b"PNG"),
     ("pandoc", "pandoc", "pandoc $S/note.md -o $R -t html", b"<em>note</em>"),
     ("pdflatex", "pdflatex", "cd /tmp && pdflatex -interaction=batchmode $S/hello.tex && cp hello.pdf $R", b"%PDF"),
     ("tmux", "tmux", "cat $S/text; tmux -L x new-session -d 'cat $S/text > $R'; sleep 1", b"fever"),

@@ -1,12 +1,24 @@
-"""What the documents say that a command prints, against what it prints. In these documents a line `$ COMMAND` of a block has
-the command's whole output below it. A line `> LINE` there is one that the command reads."""
+"""What the documents say that a command prints, against what it prints: in these documents a line `$ COMMAND` of a block has the
+command's whole output below it, and a line `> LINE` there is one that the command reads. And how many words the documents have,
+and the version, against what each place says."""
 import difflib
+import glob
+import os
+import re
+import subprocess
 
-from gate.plays import ran, text
+from gate import versions
+from gate.plays import text
 
 MARGIN = "    "
 PROMPT = "> "
-FILES = ["docs/CHECK.md", "docs/TRY.md", "docs/TOUR.md", "docs/SHOW.md", "docs/COOKBOOK.md"]
+TUTORIAL = "docs/TUTORIAL.md"
+FILES = [TUTORIAL, "docs/PROGRAMS.md"]
+# What counts as documents, and how many words they may have. A word has a letter; what a script made is left out.
+PAGES = ("README.md", "CONTRIBUTING.md", "CHANGELOG.md", "examples/README.md", "crates/README.md", "docs/*.md")
+MOST_WORDS = 30_000
+MADE = re.compile(r"<!-- made by .*?<!-- end of what [^>]*-->", re.S)
+LINK = re.compile(r"\]\(([^)#:\s]*)(?:#([^)\s]*))?\)")
 
 
 def commands_in(document):
@@ -24,16 +36,55 @@ def commands_in(document):
     return [(command, "".join(lines)) for command, lines in found]
 
 
+def ran_in(top, command, given):
+    """What a command prints in a folder that is given these lines. (What it says beside is not compared.)"""
+    how = {"cwd": top, "input": given, "stdout": subprocess.PIPE, "stderr": subprocess.DEVNULL, "text": True, "errors": "replace"}
+    return subprocess.run(["sh", "-c", command], **how).stdout
+
+
+def compare_page(report, file, top="."):
+    """Runs each command of a document in a tree. A document without one fails."""
+    commands = commands_in(text(file))
+    report.counts(bool(commands), f"{file} has {len(commands)} commands")
+    os.makedirs(f"{top}/out", exist_ok=True)
+    for command, below in commands:
+        lines = below.splitlines(keepends=True)
+        asked = "".join(it.removeprefix(PROMPT) for it in lines if it.startswith(PROMPT))
+        wanted = "".join(it for it in lines if not it.startswith(PROMPT))
+        said = ran_in(top, command, asked)
+        if said != wanted:
+            report.say("\n".join(difflib.unified_diff(wanted.split("\n"), said.split("\n"), file, "printed", lineterm="")))
+        report.counts(said == wanted, f"{command}: {'as' if said == wanted else 'not as'} in {file}")
+
+
+def pages():
+    return sorted({it for names in PAGES for it in glob.glob(names)})
+
+
+def words_in(page):
+    return sum(bool(re.search("[A-Za-z]", it)) for it in MADE.sub("", page).split())
+
+
+def headings_in(page):
+    """The anchors of a page's headings."""
+    return {re.sub(r"[^\w\- ]", "", it.lower()).replace(" ", "-") for it in re.findall(r"^#+ (.*)$", page, re.M)}
+
+
+def broken_links(file):
+    """The links of a page to files or headings that are not there."""
+    for place, heading in LINK.findall(text(file)):
+        target = os.path.normpath(os.path.join(os.path.dirname(file), place)) if place else file
+        if not os.path.exists(target) or heading and heading not in headings_in(text(target)):
+            yield f"{place}#{heading}" if heading else place
+
+
 def compare(report):
-    """Runs each command of the documents. A document without one fails."""
+    """Runs the commands of the documents, follows their links, and counts their words; and compares versions."""
+    versions.compare(report)
     for file in FILES:
-        commands = commands_in(text(file))
-        report.counts(bool(commands), f"{file} has {len(commands)} commands")
-        for command, below in commands:
-            lines = below.splitlines(keepends=True)
-            asked = "".join(it.removeprefix(PROMPT) for it in lines if it.startswith(PROMPT))
-            wanted = "".join(it for it in lines if not it.startswith(PROMPT))
-            _, said = ran("sh", "-c", command, given=asked)
-            if said != wanted:
-                report.say("\n".join(difflib.unified_diff(wanted.split("\n"), said.split("\n"), file, "printed", lineterm="")))
-            report.counts(said == wanted, f"{command}: {'as' if said == wanted else 'not as'} in {file}")
+        compare_page(report, file)
+    for file in pages():
+        broken = list(broken_links(file))
+        report.counts(not broken, f"{file}: links that lead nowhere: {broken}" if broken else f"{file}: each link leads somewhere")
+    count = sum(words_in(text(it)) for it in pages())
+    report.counts(count <= MOST_WORDS, f"the documents have {count} words, at most {MOST_WORDS}")

@@ -1,4 +1,4 @@
-"""How the programs end: the commands of the table of docs/TEXTS.md, each with its status and its line, and the arguments that their help
+"""How the programs end: the commands of the table of docs/PROGRAMS.md, each with its status and its line, and the arguments that their help
 names. Where something outside a program fails, no file is lost."""
 import os
 import re
@@ -10,7 +10,7 @@ import tempfile
 
 from gate.plays import text
 
-TABLES = "docs/TEXTS.md"
+TABLES = "docs/PROGRAMS.md"
 ROW = re.compile(r"^\| `(histar[^`]*)` \| (\d+) \| [^|]* \| ?(.*?) ?\|$", re.M)
 HELPED = re.compile(r"^\| `(histar[^`]*)` \| (`[^|]*) \|$", re.M)
 # What the table says of an error whose text clap makes.

@@ -169,6 +169,10 @@ class Two:
         return end, end - sum(kept[:end]), lines
 
 
+# What the auditor says where no reply differs.
+NO_REPLY = "no reply differs"
+
+
 class Case:
     """A drawn script."""
 
@@ -179,8 +183,9 @@ class Case:
         """The lines that the auditor prints of events up to a place, without their channels, and whether each has one."""
         done = subprocess.run([*auditor, dump, "--hidden", observer], stdout=subprocess.PIPE, text=True)
         verdict, *lines = done.stdout.rstrip("\n").split("\n")
+        lines = [] if lines == [NO_REPLY] else lines
         told = [it.rpartition(", by ") for it in lines if int(it.split(" ")[3].rstrip(",")) <= end]
-        return [it[0] for it in told], (done.returncode, verdict) == (0, "clean") and all(it[2] in CHANNELS for it in told)
+        return [it[0] for it in told], (done.returncode, verdict) == (0, "clean") and "\n" in done.stdout.rstrip("\n") and all(it[2] in CHANNELS for it in told)
 
     def tried(self, histar, auditor):
         """How many events were compared for all observers, how many of them are hidden, how many differ, and the first fault."""

@@ -66,6 +66,16 @@ def manual(name, version, date, found):
     return "\n".join(lines) + "\n"
 
 
+def plain_manual(name, version, date, said):
+    """The man page of a program whose help is how it is used, what it does, and its words, each part behind an empty line."""
+    usage, about, *rest = said.strip().split("\n\n")
+    about = " ".join(about.split())
+    lines = [f'.TH {name.upper()} 1 "{date}" "koalaingot {version}" "User Commands"', ".SH NAME", f"{name} \\- {escaped(about[:1].lower() + about[1:].partition('.')[0])}"]
+    lines += [".SH SYNOPSIS", ".nf", escaped(usage), ".fi", ".SH DESCRIPTION", escaped(about), ".SH OPTIONS", ".nf", escaped(rest[0]), ".fi"]
+    lines += [".SH EXIT STATUS", escaped(" ".join(" ".join(rest[1:]).split())), ".SH SEE ALSO", "The documents below /usr/share/doc/koalaingot."]
+    return "\n".join(lines) + "\n"
+
+
 def bash(name, found):
     """Completion for bash: the commands and options that may come, and files."""
     cases = "".join(f'        "{" ".join(it.words)}") words="{" ".join([*it.commands(), *it.options()])}" ;;\n' for it in reversed(found))

@@ -1,4 +1,4 @@
-"""What README and docs/TOUR.md tell a newcomer to type, typed in their order in a copy of the tree where nothing is built, and run to
+"""What README and docs/TUTORIAL.md tell a newcomer to type, typed in their order in a copy of the tree where nothing is built, and run to
 its end. What a document gives a name for (SCRIPT, DUMP, ..) stands in FILLED.
 
 What README has before ./prove is started unproved, says so in one line, and is started once more after it: then it says the
@@ -9,14 +9,15 @@ import shutil
 import subprocess
 import tempfile
 
+from gate import documents
 from gate.plays import text
 from gate.proofs import copy_tree
 
-README, TOUR = "README.md", "docs/TOUR.md"
+README = "README.md"
 FILLED = {"SCRIPT": "examples/first.histar", "DUMP": "first.dump", "FILE": "first.html", "ID": "4", "N": "1", "LABEL": "'{1}'"}
 NAMED = ("NAME", "secret")
-# What checks the whole tree: this stage is a part of it.
-CHECKS = ("./test", "./test quick")
+# What checks the whole tree, of which this stage is a part, and what the stage `packages` types.
+ELSEWHERE = ("./test", "./test quick", "./package", "./install PREFIX")
 PROVE, LIB, TRY = "./prove", "./lib", "./histar try"
 ASKED, ANSWERED = "c = cat_create\ncat_create\n", "cat c\ncat #2\n"
 FIRST = "refused 5 CannotObserve\n"
@@ -89,25 +90,17 @@ class Newcomer:
 
     def read_readme(self):
         """README's commands, in its order."""
-        commands = [it for it in commands_in(text(README)) if it not in CHECKS]
+        commands = [it for it in commands_in(text(README)) if it not in ELSEWHERE]
         before = list(dict.fromkeys(commands[: commands.index(PROVE)]))
         for it in before:
             self.start_unproved(it)
         if self.build(PROVE):
             for it in before + [it for it in dict.fromkeys(commands) if it not in (*before, PROVE, LIB)]:
                 self.start_proved(it)
-            self.read_tour()
+            documents.compare_page(self.report, documents.TUTORIAL, self.top)
         if self.build(LIB):
             self.compile_c()
             self.compile_rust()
-
-    def read_tour(self):
-        """The tour's commands; one of them finds a dump to be false, and one draws by Graphviz."""
-        for it in commands_in(text(TOUR)):
-            if "| dot" in it and not shutil.which("dot"):
-                self.report.say(f"left out: {it}: there is no dot")
-            elif it != TRY:
-                self.start_proved(it, statuses=(0, 1))
 
     def compile_c(self):
         """README's first program in C, by the command that README has."""

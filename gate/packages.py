@@ -1,6 +1,7 @@
 """The packages: what is laid where, and how it is packed. All that is packed has the time of the commit, so the same commit gives the same
 bytes. ./package packs it, ./install lays it below a folder."""
 import contextlib
+import email.utils
 import gzip
 import hashlib
 import os
@@ -9,7 +10,7 @@ import subprocess
 import sys
 import tempfile
 
-from gate import manuals
+from gate import manuals, roots, versions
 from gate.report import Report
 
 PROGRAMS = {"histar": "crates/histar/out/histar", "histar-audit": "crates/histar_audit/out/histar_audit", "histar-show": "crates/histar_show/out/histar_show"}
@@ -18,18 +19,30 @@ NO_COMMAND, NO_ROOM, NOT_BUILT = 69, 73, 78
 SONAME = "libhistar.so.0"
 MAINTAINER = "Koalaingot maintainers <maintainers@users.noreply.koalaingot.example>"
 ABOUT = {
-    "koalaingot": ("A proved label kernel: programs and a sandbox", "libc6, libseccomp2, libstdc++6"),
-    "libhistar-dev": ("A proved label kernel for C and Rust programs", "libc6-dev"),
+    "koalaingot": ("proved label kernel: programs and a sandbox", "libc6 (>= 2.36)"),
+    "libhistar-dev": ("proved label kernel for C, C++ and Rust programs", "libc6-dev (>= 2.36)"),
 }
 COPYRIGHT = """Format: https://www.debian.org/doc/packaging-manuals/copyright-format/1.0/
 Upstream-Name: koalaingot
 
 Files: *
-Copyright: Koalaingot maintainers
+Copyright: 2026 Koalaingot maintainers
 License: Apache-2.0
  The text of this licence is in /usr/share/common-licenses/Apache-2.0.
 """
 TRIPLE = "x86_64-linux-gnu"
+
+
+# What starts histar, and tells of what the package was made.
+STARTER = """#!/bin/sh
+# Starts histar. "histar --version --long" also tells of what it was made.
+here=${0%/*}
+[ ! -L "$0" ] || here=$(dirname "$(readlink -f "$0")")
+if [ "$#" = 2 ] && [ "$1" = --version ] && [ "$2" = --long ]; then
+    "$here/../libexec/koalaingot/histar" --version && exec cat "$here/../share/doc/koalaingot/stamp"
+fi
+exec "$here/../libexec/koalaingot/histar" "$@"
+"""
 
 
 class Fault(Exception):
@@ -42,11 +55,6 @@ class Fault(Exception):
 
 def said_by(*words):
     return subprocess.run(words, check=True, stdout=subprocess.PIPE, text=True).stdout
-
-
-def version():
-    with open("VERSION", encoding="utf-8") as it:
-        return it.read().strip()
 
 
 def sources():
@@ -71,7 +79,7 @@ def commit():
 
 def needs():
     """Ends where something to be packed isn't built, or a command is missing."""
-    for command in ("git", "dpkg-deb", "rt", "cc"):
+    for command in ("git", "dpkg-deb", "rt", "cc", "strip"):
         if shutil.which(command) is None:
             raise Fault(NO_COMMAND, f"{command} is not on the path")
     for file, by in (*((it, "./prove") for it in PROGRAMS.values()), (LIBRARY, "./lib"), (CONFINE, "bindings/confine/build.sh")):
@@ -97,6 +105,12 @@ class Room:
         with open(file, "rb") as it:
             self.put(to, it.read(), mode)
 
+    def program(self, to, file):
+        """A program or a loaded library, without what only a debugger reads."""
+        with tempfile.TemporaryDirectory() as made:
+            subprocess.run(["strip", "--strip-unneeded", "-o", f"{made}/it", file], check=True)
+            self.copy(to, f"{made}/it", 0o644 if ".so" in to else 0o755)
+
     def link(self, to, target):
         with contextlib.suppress(FileNotFoundError):
             os.remove(f"{self.top}/{to}")
@@ -107,9 +121,21 @@ class Room:
         self.put(f"{to}.gz", gzip.compress(content.encode(), 9, mtime=0))
 
 
+def debian_changelog(name, seconds):
+    """What Debian wants to know of a package's versions: one line for this one, since the changes stand beside it."""
+    day = email.utils.formatdate(seconds)
+    return f"{name} ({versions.read()}-1) unstable; urgency=medium\n\n  * As changelog.gz has it.\n\n -- {MAINTAINER}  {day}\n"
+
+
+def committed():
+    """When the commit was made."""
+    return int(said_by("git", "log", "-1", "--format=%ct"))
+
+
 def lay_about(room, name):
     """What each package says of itself."""
     folder = f"share/doc/{name}"
+    room.zip(f"{folder}/changelog.Debian", debian_changelog(name, committed()))
     room.put(f"{folder}/copyright", COPYRIGHT)
     room.put(f"{folder}/stamp", stamp())
     with open("CHANGELOG.md", encoding="utf-8") as it:
@@ -118,13 +144,15 @@ def lay_about(room, name):
 
 def lay_programs(room, day):
     for name, file in PROGRAMS.items():
-        room.copy(f"bin/{name}", file, 0o755)
+        room.program(f"libexec/koalaingot/{name}" if name == "histar" else f"bin/{name}", file)
         found = manuals.helps(name, os.path.abspath(file))
-        room.zip(f"share/man/man1/{name}.1", manuals.manual(name, version(), day, found))
+        room.zip(f"share/man/man1/{name}.1", manuals.manual(name, versions.read(), day, found))
         room.put(f"share/bash-completion/completions/{name}", manuals.bash(name, found))
         room.put(f"share/zsh/vendor-completions/_{name}", manuals.zsh(name, found))
         room.put(f"share/fish/vendor_completions.d/{name}.fish", manuals.fish(name, found))
-    room.copy("bin/confine", CONFINE, 0o755)
+    room.put("bin/histar", STARTER, 0o755)
+    room.program("bin/confine", CONFINE)
+    room.zip("share/man/man1/confine.1", manuals.plain_manual("confine", versions.read(), day, said_by(os.path.abspath(CONFINE), "--help")))
     for file in sources():
         if file.startswith(("docs/", "examples/")) or file in ("README.md", "CHANGELOG.md"):
             room.copy(f"share/doc/koalaingot/{file}", file)
@@ -147,10 +175,10 @@ def lay_library(room, prefix):
     room.copy(f"lib/{TRIPLE}/libhistar.a", LIBRARY)
     with tempfile.TemporaryDirectory() as made:
         shared_library(f"{made}/{SONAME}")
-        room.copy(f"lib/{TRIPLE}/{SONAME}", f"{made}/{SONAME}")
+        room.program(f"lib/{TRIPLE}/{SONAME}", f"{made}/{SONAME}")
     room.link(f"lib/{TRIPLE}/libhistar.so", SONAME)
     lines = [f"prefix={prefix}", f"libdir=${{prefix}}/lib/{TRIPLE}", "includedir=${prefix}/include", "", "Name: histar"]
-    lines += [f"Description: {ABOUT['libhistar-dev'][0]}", f"Version: {version()}", "Cflags: -I${includedir}", "Libs: -L${libdir} -lhistar"]
+    lines += [f"Description: {ABOUT['libhistar-dev'][0]}", f"Version: {versions.read()}", "Cflags: -I${includedir}", "Libs: -L${libdir} -lhistar"]
     room.put(f"lib/{TRIPLE}/pkgconfig/histar.pc", "\n".join(lines) + "\n")
     for file in sources():
         if file.startswith("bindings/rust/histar/"):
@@ -171,14 +199,18 @@ def deb(name, lay, room, seconds):
     lay(laid)
     about, depends = ABOUT[name]
     size = sum(os.path.getsize(f"{laid.top}/{it}") for it in laid.laid) // 1024
-    lines = [f"Package: {name}", f"Version: {version()}-1", "Architecture: amd64", f"Maintainer: {MAINTAINER}", f"Installed-Size: {size}"]
+    lines = [f"Package: {name}", f"Version: {versions.read()}-1", "Architecture: amd64", f"Maintainer: {MAINTAINER}", f"Installed-Size: {size}"]
     lines += [f"Depends: {depends}", "Section: devel" if name.endswith("-dev") else "Section: utils", "Priority: optional", f"Description: {about}"]
-    lines += [" The object model of HiStar in user space: labels alone decide who observes and who", " modifies what. Its kernel is proved to follow its rules."]
+    lines += [" The object model of HiStar in user space: labels alone decide who observes", " and who modifies what. Its kernel is proved to follow its rules."]
+    told = {"control": "\n".join(lines) + "\n"}
+    if name.startswith("lib"):
+        told.update(shlibs=f"libhistar 0 {name} (>= {versions.read()})\n", triggers="activate-noawait ldconfig\n")
     os.makedirs(f"{top}/DEBIAN")
-    with open(f"{top}/DEBIAN/control", "w", encoding="utf-8") as it:
-        it.write("\n".join(lines) + "\n")
+    for file, text in told.items():
+        with open(f"{top}/DEBIAN/{file}", "w", encoding="utf-8") as it:
+            it.write(text)
     set_times(top, seconds)
-    file = f"{OUT}/{name}_{version()}-1_amd64.deb"
+    file = f"{OUT}/{name}_{versions.read()}-1_amd64.deb"
     how = {"check": True, "stdout": subprocess.DEVNULL, "env": {**os.environ, "SOURCE_DATE_EPOCH": str(seconds)}}
     subprocess.run(["dpkg-deb", "--root-owner-group", "--build", top, file], **how)
     return file
@@ -186,7 +218,7 @@ def deb(name, lay, room, seconds):
 
 def tarball():
     """The sources of the commit."""
-    name = f"koalaingot-{version()}"
+    name = f"koalaingot-{versions.read()}"
     made = subprocess.run(["git", "archive", "--format=tar", f"--prefix={name}/", "HEAD"], check=True, stdout=subprocess.PIPE).stdout
     file = f"{OUT}/{name}.tar.gz"
     with open(file, "wb") as it:
@@ -199,7 +231,7 @@ def pack():
     needs()
     shutil.rmtree(OUT, ignore_errors=True)
     os.makedirs(OUT)
-    seconds, day = int(said_by("git", "log", "-1", "--format=%ct")), said_by("git", "log", "-1", "--format=%cs").strip()
+    seconds, day = committed(), said_by("git", "log", "-1", "--format=%cs").strip()
     with tempfile.TemporaryDirectory(prefix="package-") as room:
         os.chmod(room, 0o755)
         programs = deb("koalaingot", lambda it: lay_programs(it, day), room, seconds)
@@ -359,10 +391,11 @@ def try_all(report, tree="."):
         try_programs(report, top)
         try_library(report, top)
         if shutil.which("lintian"):
-            ended = ran("lintian", "--fail-on", "error", "--suppress-tags", "no-copyright-file", *(f"{OUT}/{it}" for it in first if it.endswith(".deb")))
+            ended = ran("lintian", "--fail-on", "error", *(f"{OUT}/{it}" for it in first if it.endswith(".deb")))
             report.counts(ended[0] == 0, f"packages: lintian: {ended}")
         else:
             report.say("left out: lintian: it is not there")
+    roots.try_packages(report, OUT)
     with tempfile.TemporaryDirectory(prefix="installed-") as top:
         ended = install(f"{top}/p"), os.path.isfile(f"{top}/p/bin/histar"), uninstall(f"{top}/p"), os.listdir(top)
         report.counts(ended[:3] == (0, True, 0) and not os.listdir(f"{top}/p"), f"packages: ./install and its reverse: {ended}")

@@ -24,7 +24,11 @@ FLOWS = ("examples/dumps/objects.dump", "4", "7")
 DATA = re.compile(r"<script type='application/json' id='data'>([^<]*)</script>")
 ESCAPE = re.compile(r"\x1b\[[0-9]*m")
 # what the page's script is sent, after it has begun
-KEYS = "<script>for (const key of ['End', 'ArrowLeft', 'ArrowLeft', 'ArrowRight']) document.dispatchEvent(new KeyboardEvent('keydown', { key }));</script>"
+KEYS = "<script>for (const key of ['e', 'ArrowLeft', 'ArrowLeft', 'ArrowRight', 'ArrowDown', 'End']) document.dispatchEvent(new KeyboardEvent('keydown', { key }));</script>"
+# and with a modifier, which it leaves to the browser; and to the first refused event, from the beginning
+HELD = "<script>for (const key of ['e', 'ArrowLeft']) document.dispatchEvent(new KeyboardEvent('keydown', { key, ctrlKey: key !== 'e' }));</script>"
+REFUSED = "<script>for (const key of ['g', 'n']) document.dispatchEvent(new KeyboardEvent('keydown', { key }));</script>"
+LEAK = "examples/dumps/leak.dump"
 
 
 def page_of(dump, file, *words):
@@ -150,20 +154,37 @@ def tree_in(document):
     return html.unescape(re.sub(r"<[^>]*>", "", found.group(1))) if found else None
 
 
+def first_refused(dump):
+    """The place of the first event with a call that the rules refuse, from 1; none where no event has one."""
+    place = 0
+    for number, line in told_lines(dump):
+        place += not line.startswith("call ")
+        if why_of(dump, number, line):
+            return place
+    return None
+
+
+def browse_dump(report, room, dump, *words):
+    """The script shows the tree that the address names; by itself the first refused event, or the last; and others by keys."""
+    page = page_of(dump, f"{room}/page.html", *words) or ""
+    events = sum(it.startswith(("event ", "batch ")) for _, it in told_lines(dump))
+    opened = first_refused(dump) or events
+    for name, script in (("keys", KEYS), ("held", HELD), ("refused", REFUSED)):
+        with open(f"{room}/{name}.html", "w", encoding="utf-8") as it:
+            it.write(page.replace("</body>", f"{script}</body>"))
+    cases = [("page", "", opened), ("page", "#3", 3), ("page", "#99", events), ("keys", "", events - 1), ("held", "", events), ("refused", "", first_refused(dump) or 0)]
+    for file, fragment, after in cases:
+        shown = tree_in(dom(f"{room}/{file}.html", fragment))
+        wanted = ran("./histar-show", "tree", dump, "--after", str(after))[1]
+        report.counts(shown == wanted, f"{dump}, {file}.html{fragment} in Chromium: {'the' if shown == wanted else 'not the'} tree after {after} events")
+
+
 def browse(report, room):
-    """The script shows the tree that the address names, and by keys the one before the last."""
     if shutil.which("chromium") is None:
         report.say("Chromium is not there: the script of a page was left out")
         return
-    dump = FLOWS[0]
-    page = page_of(dump, f"{room}/page.html", "--from", FLOWS[1], "--category", FLOWS[2]) or ""
-    events = sum(it.startswith(("event ", "batch ")) for _, it in told_lines(dump))
-    with open(f"{room}/keys.html", "w", encoding="utf-8") as it:
-        it.write(page.replace("</body>", f"{KEYS}</body>"))
-    for file, fragment, after in (("page", "", 0), ("page", "#7", 7), ("page", "#99", events), ("keys", "", events - 1)):
-        shown = tree_in(dom(f"{room}/{file}.html", fragment))
-        wanted = ran("./histar-show", "tree", dump, "--after", str(after))[1]
-        report.counts(shown == wanted, f"{file}.html{fragment} in Chromium: {'the' if shown == wanted else 'not the'} tree after {after} events")
+    browse_dump(report, room, FLOWS[0], "--from", FLOWS[1], "--category", FLOWS[2])
+    browse_dump(report, room, LEAK)
 
 
 def on_terminal(*words, **environment):
@@ -216,7 +237,7 @@ def draw(dump, picture, *words):
     with tempfile.TemporaryDirectory(prefix="pages-") as room:
         if page_of(dump, f"{room}/page.html", *words) is None:
             sys.exit(f"pages: {dump} has no page")
-        browser = ["chromium", "--headless", "--no-sandbox", "--disable-gpu", f"--user-data-dir={room}/home", "--window-size=900,420"]
+        browser = ["chromium", "--headless", "--no-sandbox", "--disable-gpu", f"--user-data-dir={room}/home", "--window-size=1280,560"]
         subprocess.run([*browser, f"--screenshot={picture}", f"file://{room}/page.html#99999"], check=True, stderr=subprocess.DEVNULL)
 
 

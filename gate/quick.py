@@ -49,15 +49,27 @@ def dumps():
         yield Case("histar_audit", file, ["case"], text(file), VERDICTS[verdict.split()[0]], verdict)
 
 
+def is_text(word):
+    """Whether a word is UTF-8: a file of words has no other."""
+    try:
+        return bool(word.decode()) or word == b""
+    except UnicodeDecodeError:
+        return False
+
+
 def stored():
-    """The runs of cases/ that read one file and write none. (What an unproved program says on standard error is not compared.)"""
+    """The runs of cases/ that read one file and write none. (What an unproved program says on standard error is not compared.) A file
+    that an earlier run had, or wrote, is still there."""
     for file in cases.files():
+        there = {}
         for number, run in enumerate(cases.read(file).runs):
+            there |= run.files
             words = [os.fsdecode(it) for it in run.words]
-            names = [it for it in words if it in run.files]
-            is_played = not (run.is_usage or run.wrote or run.says is not None or len(names) > 1 or len(run.files) > len(names))
-            if is_played and not (names and run.given):
-                given = run.files[names[0]] if names else run.given
+            names = [it for it in words if it in there]
+            there |= run.wrote
+            is_played = not (run.is_usage or run.wrote or run.says is not None or len(names) > 1)
+            if is_played and all(map(is_text, run.words)) and not (names and run.given):
+                given = there[names[0]] if names else run.given
                 placed = ["case" if it in names else it for it in words[1:]]
                 yield Case(words[0].replace("-", "_"), f"{file} {number}", placed, given, run.status, run.out)
 

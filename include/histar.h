@@ -1,6 +1,6 @@
 /* Koalaingot's label kernel for C and C++ programs.
  *
- * The four functions of the static library libhistar.a, and over them a function for each call, named as the
+ * The functions of the static library libhistar.a, and over them a function for each call, named as the
  * call's word in a script. docs/EMBED.md has a first program; docs/CALLS.md has the rule of each call.
  *
  * What holds for every function of a call:
@@ -9,32 +9,43 @@
  * - HISTAR_HALTED comes where `thread` is no live thread, so it is not listed again below. A call that names an
  *   entry may be refused HISTAR_NO_ACCESS (its container is not there, or the thread does not observe it) and
  *   HISTAR_NO_ENTRY (the container does not list the object, and is not the object).
- * - HISTAR_NO_CALL comes where the arguments make no call: a level above 4, 25 pairs in a label, 65 bytes, a number that
+ * - HISTAR_BAD_BATCH comes where the arguments make no call: a level above 4, 25 pairs in a label, 65 bytes, a number that
  *   is too large for its place. Numbers are taken as 64 bits, and no bit is lost on the way.
  * - HISTAR_UNAVAILABLE comes where the kernel is not open: it was closed, was never opened, or is a copy of another's
  *   bytes. HISTAR_BUSY comes where another call uses it: by another thread, or by the code that a signal interrupted.
  *   Nothing is done then, and the call may be made again.
  * - It takes no memory, prints nothing and never waits. Only histar_open takes memory, and what the log needs: a
- *   write call after histar_log_on, which is refused HISTAR_MEMORY where there is none, and histar_dump.
+ *   write call after histar_log_on, which is refused HISTAR_MEMORY where there is none, and histar_dump. Of a kernel that
+ *   threads share, the opens and each write call take memory, and a write call may sleep where another's is not ended.
  * - The bytes and labels that it gave or took stand in no record of the kernel once it returns. The library keeps the last
  *   call and the last reply inside the room, and histar_close wipes all of it.
  *
- * One call at a time uses a kernel. Threads that call one kernel keep a lock around the calls, or are told HISTAR_BUSY. */
+ * One call at a time uses a kernel. Threads that call one kernel keep a lock around the calls, or are told HISTAR_BUSY; or
+ * they share it, each by a seat of its own (histar_share). */
 #ifndef HISTAR_H
 #define HISTAR_H
 
+#include <poll.h>
+#include <sched.h>
 #include <stddef.h>
 #include <stdint.h>
 #include <string.h>
+#include <time.h>
 
 #ifdef __cplusplus
 #define HISTAR_ALIGNED alignas(16)
 #define HISTAR_INIT {}
+#define HISTAR_SHARED_INIT {}
 extern "C" {
 #else
 #define HISTAR_ALIGNED _Alignas(16)
-#define HISTAR_INIT {{0}, 0, 0, {0}, {0}}
+#define HISTAR_INIT {{0}, 0, 0, 0, {0, 0, 0}, {0}, {0}}
+#define HISTAR_SHARED_INIT {{0}, 0, 0, {0, 0, 0}}
 #endif
+
+/* The version of this header. The library that it is used with has the same, or nothing is opened. */
+#define HISTAR_VERSION "0.1.0"
+#define HISTAR_VERSION_NUMBER 100
 
 /* What such a function returns is looked at, and these of its arguments are not NULL: gcc and clang warn. */
 #define HISTAR_LOOKED_AT(...) __attribute__((warn_unused_result, nonnull(__VA_ARGS__)))
@@ -90,9 +101,12 @@ enum histar_refusal {
     HISTAR_SPENT = 25,           /* no id or category is left */
     HISTAR_UNAVAILABLE = 30,     /* the kernel is not open, or there is no memory for one */
     HISTAR_BAD_LIMITS = 31,      /* a limit is out of its range */
-    HISTAR_MEMORY = 40,          /* there is no memory for the call's event in the log */
-    HISTAR_NO_CALL = 45,         /* the arguments make no call */
-    HISTAR_BUSY = 46,            /* another call uses the kernel, or it is open already */
+    HISTAR_OTHER_VERSION = 32,   /* the library is of another version than this header */
+    HISTAR_MEMORY = 40,          /* there is no memory to keep the call: in the log, or in the list of a shared kernel */
+    HISTAR_BAD_BATCH = 45,       /* the arguments make no call */
+    HISTAR_BUSY = 46,            /* another call uses the kernel or has not ended adding itself to the list, or it is open already */
+    HISTAR_LIST_FULL = 47,       /* the list of a shared kernel has no room for the call */
+    HISTAR_OTHER_LIST = 48,      /* the note is not of this shared kernel */
     HISTAR_TEXT_MEMORY = 51      /* there is no memory for the text of a dump */
 };
 
@@ -127,9 +141,12 @@ static inline const char *histar_refusal_name(uint32_t refusal)
     case HISTAR_SPENT: return "Spent";
     case HISTAR_UNAVAILABLE: return "Unavailable";
     case HISTAR_BAD_LIMITS: return "BadLimits";
+    case HISTAR_OTHER_VERSION: return "OtherVersion";
     case HISTAR_MEMORY: return "Memory";
-    case HISTAR_NO_CALL: return "NoCall";
+    case HISTAR_BAD_BATCH: return "BadBatch";
     case HISTAR_BUSY: return "Busy";
+    case HISTAR_LIST_FULL: return "ListFull";
+    case HISTAR_OTHER_LIST: return "OtherList";
     case HISTAR_TEXT_MEMORY: return "TextMemory";
     default: return "";
     }
@@ -181,7 +198,7 @@ static inline histar_label histar_with(histar_label label, uint64_t category, ui
 
 /* ---- The library ---- */
 
-/* What a record asks for. 1 to 24 are write calls, 25 to 34 read calls, 35 to 39 look-ups, 40 to 42 of the log. */
+/* What a record asks for. 1 to 24 are write calls, 25 to 34 read calls, 35 to 39 look-ups, 40 to 42 of the log, 43 and 44 of a seat. */
 enum histar_call_number {
     HISTAR_CALL_CAT_CREATE = 1,
     HISTAR_CALL_SELF_SET_LABEL = 2,
@@ -224,7 +241,9 @@ enum histar_call_number {
     HISTAR_CALL_KEPT_ORDER = 39,
     HISTAR_CALL_LOG_ON = 40,
     HISTAR_CALL_DUMP = 41,
-    HISTAR_CALL_DUMP_TEXT = 42
+    HISTAR_CALL_DUMP_TEXT = 42,
+    HISTAR_CALL_SEEN = 43,
+    HISTAR_CALL_LEARN = 44
 };
 
 /* What a thread asks for. The functions below fill it. */
@@ -247,17 +266,36 @@ typedef struct {
  * histar_boot makes it hold a kernel, or why there is none, which histar_call then returns. histar_end makes it room
  * again. A room that holds a kernel is not to be copied or booted again. */
 size_t histar_size(void);
+uint32_t histar_version(void); /* as HISTAR_VERSION_NUMBER */
 void histar_boot(uint32_t pages, uint8_t device_level, uint64_t next_id, uint64_t next_category, void *room);
 uint32_t histar_call(void *room, const histar_request *request, histar_answer *answer);
 void histar_end(void *room);
 
+/* The same of a kernel that threads share, and of its seats, in rooms of histar_shared_size() and histar_seat_size() bytes.
+ * Seats of one shared kernel are called at once, each by one thread at a time. Nothing here waits: histar_seat_call is refused
+ * HISTAR_BUSY where another seat adds its call at this moment, and the call is not made. */
+size_t histar_shared_size(void);
+size_t histar_seat_size(void);
+void histar_shared_boot(uint32_t pages, uint8_t device_level, uint64_t next_id, uint64_t next_category, uint64_t calls, void *shared);
+void histar_seat_boot(void *shared, void *seat);
+uint32_t histar_seat_call(void *seat, const histar_request *request, histar_answer *answer);
+void histar_seat_end(void *seat);
+void histar_shared_end(void *shared);
+
 /* ---- A kernel ---- */
 
-/* A kernel, or one that is closed. It begins as HISTAR_INIT, or is static; it is not to be copied while it is open. */
+/* What a seat has seen: how many calls, of which shared kernel: where it stands, and since when. */
+typedef struct {
+    uint64_t at, since, calls;
+} histar_note;
+
+/* A kernel or a seat, or one that is closed. It begins as HISTAR_INIT, or is static; it is not to be copied while it is open. */
 typedef struct {
     HISTAR_ALIGNED unsigned char room[3072];
     const void *open_at;         /* where it stands while it is open */
     unsigned char is_busy;       /* a call uses it */
+    unsigned char is_seat;       /* it is a seat of a kernel that threads share, */
+    histar_note shared;          /* of this one, with no calls */
     histar_request request;
     histar_answer answer;
 } histar;
@@ -288,7 +326,8 @@ __attribute__((nonnull)) static inline uint32_t histar_close(histar *k)
     if (!histar_is_open(k)) return HISTAR_DONE;
     if (histar_taken(k)) return HISTAR_BUSY;
     if (histar_is_open(k)) {
-        histar_end(k->room);
+        if (k->is_seat) histar_seat_end(k->room);
+        else histar_end(k->room);
         __atomic_store_n(&k->open_at, NULL, __ATOMIC_RELAXED);
         histar_wipes(k->room, sizeof k->room);
         histar_wipes(&k->request, sizeof k->request);
@@ -301,13 +340,15 @@ __attribute__((nonnull)) static inline uint32_t histar_close(histar *k)
 static inline uint32_t histar_boots(histar *k, uint32_t pages, uint8_t device_level, uint64_t next_id, uint64_t next_category)
 {
     uint32_t refusal;
+    if (histar_version() != HISTAR_VERSION_NUMBER) return HISTAR_OTHER_VERSION;
     if (histar_size() > sizeof k->room) return HISTAR_UNAVAILABLE;
     memset(&k->request, 0, sizeof k->request);
     memset(&k->answer, 0, sizeof k->answer);
+    k->is_seat = 0;
     histar_boot(pages, device_level, next_id, next_category, k->room);
     /* A record of zeros asks for nothing: a kernel that is there says so. */
     refusal = histar_call(k->room, &k->request, &k->answer);
-    if (refusal == HISTAR_NO_CALL) {
+    if (refusal == HISTAR_BAD_BATCH) {
         __atomic_store_n(&k->open_at, k, __ATOMIC_RELAXED);
         return HISTAR_DONE;
     }
@@ -316,8 +357,8 @@ static inline uint32_t histar_boots(histar *k, uint32_t pages, uint8_t device_le
 }
 
 /* Opens a kernel with all limits: pages of 256 bytes, 8 to 1,024; the level of the device's label, 0 to 3; the first id
- * that a call gives, 4 to 2^61; the first category that a call gives, 1 to 2^61. Refused HISTAR_BAD_LIMITS or
- * HISTAR_UNAVAILABLE, and the kernel is closed as before; or HISTAR_BUSY where it is open, and it stays open. */
+ * that a call gives, 4 to 2^61; the first category that a call gives, 1 to 2^61. Refused HISTAR_BAD_LIMITS,
+ * HISTAR_UNAVAILABLE or HISTAR_OTHER_VERSION, and the kernel is closed as before; or HISTAR_BUSY where it is open, and it stays open. */
 HISTAR_LOOKED_AT(1)
 static inline uint32_t histar_open_with(histar *k, uint64_t pages, uint64_t device_level, uint64_t next_id,
                                         uint64_t next_category)
@@ -333,6 +374,118 @@ static inline uint32_t histar_open_with(histar *k, uint64_t pages, uint64_t devi
 HISTAR_LOOKED_AT(1)
 static inline uint32_t histar_open(histar *k, uint64_t pages) { return histar_open_with(k, pages, 1, 4, 1); }
 
+/* ---- A kernel that threads share ---- */
+
+/* A kernel that threads share, or one that is closed. It begins as HISTAR_SHARED_INIT, or is static; it is not to be copied while
+ * it is open. */
+typedef struct {
+    HISTAR_ALIGNED unsigned char room[256];
+    const void *open_at;         /* where it stands while it is open */
+    unsigned char is_busy;       /* a function uses it */
+    histar_note none;            /* what a seat of it has seen that has seen nothing */
+} histar_shared;
+
+/* Takes it for one function, as a kernel is taken. */
+static inline uint32_t histar_shared_taken(histar_shared *shared)
+{
+    return __atomic_test_and_set(&shared->is_busy, __ATOMIC_ACQUIRE) ? HISTAR_BUSY : HISTAR_DONE;
+}
+static inline int histar_is_shared(const histar_shared *shared) { return __atomic_load_n(&shared->open_at, __ATOMIC_RELAXED) == shared; }
+static inline uint32_t histar_shared_released(histar_shared *shared, uint32_t refusal)
+{
+    __atomic_clear(&shared->is_busy, __ATOMIC_RELEASE);
+    return refusal;
+}
+
+/* Lets go of the shared kernel: it opens no more seats. Those that are open stay, and its list goes with the last of them. One that
+ * is closed stays so. HISTAR_BUSY where another thread opens a seat. */
+__attribute__((nonnull)) static inline uint32_t histar_unshare(histar_shared *shared)
+{
+    if (!histar_is_shared(shared)) return HISTAR_DONE;
+    if (histar_shared_taken(shared)) return HISTAR_BUSY;
+    if (histar_is_shared(shared)) {
+        histar_shared_end(shared->room);
+        __atomic_store_n(&shared->open_at, NULL, __ATOMIC_RELAXED);
+        histar_wipes(shared->room, sizeof shared->room);
+    }
+    return histar_shared_released(shared, HISTAR_DONE);
+}
+
+/* Boots a seat that is taken and closed, of a shared kernel that is taken and open. */
+static inline uint32_t histar_seat_boots(histar *seat, histar_shared *shared)
+{
+    uint32_t refusal;
+    if (histar_version() != HISTAR_VERSION_NUMBER) return HISTAR_OTHER_VERSION;
+    if (histar_seat_size() > sizeof seat->room) return HISTAR_UNAVAILABLE;
+    memset(&seat->request, 0, sizeof seat->request);
+    memset(&seat->answer, 0, sizeof seat->answer);
+    histar_seat_boot(shared->room, seat->room);
+    /* A record of zeros asks for nothing: a seat that is there says so. */
+    refusal = histar_seat_call(seat->room, &seat->request, &seat->answer);
+    if (refusal == HISTAR_BAD_BATCH) {
+        seat->is_seat = 1;
+        seat->shared = shared->none;
+        __atomic_store_n(&seat->open_at, seat, __ATOMIC_RELAXED);
+        return HISTAR_DONE;
+    }
+    histar_seat_end(seat->room);
+    return refusal;
+}
+
+/* Opens a seat, which is a kernel to every function below: one call at a time uses it, and the seats of one shared kernel are used at
+ * once. All of them are in one state: each write call stands in one list, and a call through a seat first plays what others added to
+ * it since, on the seat's own kernel. No lock is taken: a read waits for nobody, and a write is refused HISTAR_BUSY only where
+ * another thread stands still in the middle of adding its call. A seat keeps no log of its own: histar_log_on is refused
+ * HISTAR_BAD_BATCH, and so is a look-up of histar_debug.h. histar_close ends it.
+ * HISTAR_UNAVAILABLE where there is no memory or the shared kernel is not open, HISTAR_BUSY where another thread opens a seat of it or
+ * the seat is open. */
+HISTAR_LOOKED_AT(1, 2)
+static inline uint32_t histar_seat_open(histar *seat, histar_shared *shared)
+{
+    uint32_t refusal = HISTAR_UNAVAILABLE;
+    if (histar_taken(seat)) return HISTAR_BUSY;
+    if (histar_is_open(seat)) return histar_released(seat, HISTAR_BUSY);
+    if (histar_shared_taken(shared)) return histar_released(seat, HISTAR_BUSY);
+    if (histar_is_shared(shared)) refusal = histar_seat_boots(seat, shared);
+    histar_shared_released(shared, HISTAR_DONE);
+    return histar_released(seat, refusal);
+}
+
+/* Opens a kernel for threads to share, with the limits of histar_open_with, whose list has room for so many write calls. Refused as
+ * histar_open_with, which it finds out by a seat that it ends again. */
+HISTAR_LOOKED_AT(1)
+static inline uint32_t histar_share_with(histar_shared *shared, uint64_t pages, uint64_t device_level, uint64_t next_id,
+                                         uint64_t next_category, uint64_t calls)
+{
+    histar tried = HISTAR_INIT;
+    struct timespec since;
+    uint32_t refusal;
+    if (pages > UINT32_MAX) pages = UINT32_MAX; /* no kernel has so many, either */
+    if (histar_shared_taken(shared)) return HISTAR_BUSY;
+    if (histar_is_shared(shared)) return histar_shared_released(shared, HISTAR_BUSY);
+    if (histar_shared_size() > sizeof shared->room) return histar_shared_released(shared, HISTAR_UNAVAILABLE);
+    histar_shared_boot((uint32_t)pages, histar_level_byte(device_level), next_id, next_category, calls, shared->room);
+    refusal = HISTAR_UNAVAILABLE;
+    if (timespec_get(&since, TIME_UTC)) refusal = histar_seat_boots(&tried, shared);
+    if (!refusal) {
+        histar_seat_end(tried.room);
+        shared->none.at = (uint64_t)(uintptr_t)shared;
+        shared->none.since = (uint64_t)since.tv_sec * 1000000000 + (uint64_t)since.tv_nsec;
+        shared->none.calls = 0;
+        __atomic_store_n(&shared->open_at, shared, __ATOMIC_RELAXED);
+    } else {
+        histar_shared_end(shared->room);
+    }
+    return histar_shared_released(shared, refusal);
+}
+
+/* The same, with the limits of histar_open. */
+HISTAR_LOOKED_AT(1)
+static inline uint32_t histar_share(histar_shared *shared, uint64_t pages, uint64_t calls)
+{
+    return histar_share_with(shared, pages, 1, 4, 1, calls);
+}
+
 /* ---- How the functions below fill a record and read an answer ---- */
 
 /* Takes the kernel for a call, and fills what each call has. */
@@ -347,7 +500,17 @@ static inline uint32_t histar_asks(histar *k, uint32_t call, uint64_t thread, hi
     k->request.object = entry.object;
     return HISTAR_DONE;
 }
-static inline uint32_t histar_serves(histar *k) { return histar_call(k->room, &k->request, &k->answer); }
+/* A seat asks again while another adds its call, which takes a few nanoseconds: at once, then after others had a turn, then after a
+ * millisecond each. After a fifth of a second it is refused: the other's thread may be stopped. */
+static inline uint32_t histar_serves(histar *k)
+{
+    uint32_t refusal, tries;
+    if (!k->is_seat) return histar_call(k->room, &k->request, &k->answer);
+    for (tries = 0; (refusal = histar_seat_call(k->room, &k->request, &k->answer)) == HISTAR_BUSY && tries < 400; tries++)
+        if (tries >= 200) poll(NULL, 0, 1);
+        else if (tries >= 100) sched_yield();
+    return refusal;
+}
 
 /* The ends of a call: of one that answers nothing but its refusal, of one whose answer was read, of one that made something,
  * of one that gives bytes, and of one that takes some, of which 64 may be written. */
@@ -367,7 +530,7 @@ static inline uint32_t histar_made(histar *k, uint64_t *made)
 static inline uint32_t histar_gives(histar *k, const void *bytes, uint64_t len)
 {
     uint32_t refusal;
-    if (len > 64) return histar_released(k, HISTAR_NO_CALL);
+    if (len > 64) return histar_released(k, HISTAR_BAD_BATCH);
     k->request.len = (uint32_t)len;
     if (len) memcpy(k->request.bytes, bytes, len);
     refusal = histar_serves(k);
@@ -377,7 +540,7 @@ static inline uint32_t histar_gives(histar *k, const void *bytes, uint64_t len)
 static inline uint32_t histar_takes(histar *k, void *bytes, uint64_t size, size_t *len)
 {
     uint32_t refusal;
-    if (size < 64) return histar_released(k, HISTAR_NO_CALL);
+    if (size < 64) return histar_released(k, HISTAR_BAD_BATCH);
     refusal = histar_serves(k);
     if (!refusal) memcpy(bytes, k->answer.bytes, k->answer.len);
     if (!refusal && len) *len = k->answer.len;
@@ -852,11 +1015,39 @@ static inline uint32_t histar_load(histar *k, uint64_t thread, uint64_t address,
     return histar_takes(k, bytes, 64, NULL);
 }
 
+/* ---- Notes between seats of a shared kernel ---- */
+
+/* A note of what the seat has seen, for another seat to learn. HISTAR_BAD_BATCH of a kernel that is no seat. */
+HISTAR_LOOKED_AT(1, 2)
+static inline uint32_t histar_seen(histar *seat, histar_note *note)
+{
+    uint32_t refusal = histar_asks(seat, HISTAR_CALL_SEEN, 0, histar_in(0, 0));
+    if (refusal) return refusal;
+    refusal = histar_serves(seat);
+    if (!refusal) {
+        *note = seat->shared;
+        note->calls = seat->answer.numbers[0];
+    }
+    return histar_told(seat, refusal);
+}
+
+/* The seat sees all that the note tells, so its reads from here on do. HISTAR_OTHER_LIST where the note is of another shared kernel,
+ * and nothing changes; or tells more calls than there are. */
+HISTAR_LOOKED_AT(1)
+static inline uint32_t histar_learn(histar *seat, histar_note note)
+{
+    uint32_t refusal = histar_asks(seat, HISTAR_CALL_LEARN, 0, histar_in(0, 0));
+    if (refusal) return refusal;
+    if (note.at != seat->shared.at || note.since != seat->shared.since) return histar_released(seat, HISTAR_OTHER_LIST);
+    seat->request.numbers[0] = note.calls;
+    return histar_done(seat);
+}
+
 /* ---- The log: each write call since histar_open, refused or not, with its answer. Its dump is the text that
  * `./histar run --dump` writes of a run, and histar-audit tells whether its answers are those of the rules. ---- */
 
 /* Begins the log, before the first write call. From here on each write call takes memory, and is refused HISTAR_MEMORY
- * and not made where there is none. HISTAR_NO_CALL where a write call was made already. */
+ * and not made where there is none. HISTAR_BAD_BATCH where a write call was made already. */
 HISTAR_LOOKED_AT(1)
 static inline uint32_t histar_log_on(histar *k)
 {
@@ -866,7 +1057,7 @@ static inline uint32_t histar_log_on(histar *k)
 }
 
 /* Writes the text of the log's dump, and its length in bytes to *needed; no zero byte ends it. HISTAR_BOUNDS where it is
- * longer than `size`: nothing but *needed is written then. HISTAR_NO_CALL where no log was begun, HISTAR_TEXT_MEMORY
+ * longer than `size`: nothing but *needed is written then. HISTAR_BAD_BATCH where no log was begun, HISTAR_TEXT_MEMORY
  * where there is no memory for the text. The log stays as it is, so it may be dumped again, and calls may follow. */
 HISTAR_LOOKED_AT(1, 4)
 static inline uint32_t histar_dump(histar *k, void *text, size_t size, size_t *needed)

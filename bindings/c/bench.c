@@ -102,7 +102,7 @@ static void a_self_get(void)
 static void no_call(void)
 {
     k.request.call = 99;
-    done(histar_call(k.room, &k.request, &k.answer) != HISTAR_NO_CALL);
+    done(histar_call(k.room, &k.request, &k.answer) != HISTAR_BAD_BATCH);
 }
 
 static void a_kernel(void)

@@ -18,6 +18,10 @@
 /* The kernel that is misused: it has a log, a secret at level 3 in a category, a stranger, an address space and a packet. And
  * others: one that is closed, and one that was never open. */
 static histar k, closed, never;
+/* A shared kernel with a seat, and seats and shared kernels that are closed. Its list has room for three calls, of which one is made. */
+static histar_shared shared, unshared, bare;
+static histar seat, unseated;
+static uint64_t shared_segment;
 static uint64_t secret, stranger, space;
 static histar_label plain, guarded;
 static char place[64];
@@ -48,6 +52,13 @@ static void opens(void)
     must(histar_dev_send(&k, HISTAR_BOOT, in_root(HISTAR_DEVICE), "packet", 6));
     must(histar_open(&closed, 8));
     must(histar_close(&closed));
+    must(histar_share(&shared, 8, 3));
+    must(histar_seat_open(&seat, &shared));
+    must(histar_segment_create(&seat, HISTAR_BOOT, HISTAR_ROOT, &plain, 2, 1, &shared_segment));
+    must(histar_share(&unshared, 8, 3));
+    must(histar_seat_open(&unseated, &unshared));
+    must(histar_close(&unseated));
+    must(histar_unshare(&unshared));
 }
 
 /* ---- Kernels that are not open, or are already ---- */
@@ -273,6 +284,156 @@ static uint32_t closed_with_the_key(void)
     return has_key(&closed, sizeof closed) ? HISTAR_DONE : is_called(&closed);
 }
 
+/* ---- A kernel that threads share ---- */
+
+static uint32_t shared_twice(void) { return histar_share(&shared, 8, 3); }
+static uint32_t shared_with_seven_pages(void) { return histar_share(&unshared, 7, 3); }
+static uint32_t shared_with_far_more_pages(void) { return histar_share(&unshared, FAR + 64, 3); }
+static uint32_t shared_with_a_device_at_257(void) { return histar_share_with(&unshared, 64, 257, 4, 1, 3); }
+static uint32_t shared_with_room_for_all_calls(void) { return histar_share(&unshared, 8, UINT64_MAX); }
+static uint32_t unshared_twice(void) { return histar_unshare(&unshared); }
+static uint32_t seat_of_a_bare_one(void) { return histar_seat_open(&unseated, &bare); }
+static uint32_t seat_of_an_unshared_one(void) { return histar_seat_open(&unseated, &unshared); }
+static uint32_t seat_of_a_copy(void)
+{
+    static histar_shared copy;
+    memcpy(&copy, &shared, sizeof shared);
+    must(histar_unshare(&copy));
+    return histar_seat_open(&unseated, &copy);
+}
+static uint32_t seat_opened_twice(void) { return histar_seat_open(&seat, &shared); }
+static uint32_t seat_where_a_kernel_is(void) { return histar_seat_open(&k, &shared); }
+static uint32_t kernel_where_a_seat_is(void) { return histar_open(&seat, 8); }
+static uint32_t seat_opened_in_a_call(void)
+{
+    uint32_t refusal;
+    must(histar_taken(&unseated));
+    refusal = histar_seat_open(&unseated, &shared);
+    histar_released(&unseated, HISTAR_DONE);
+    return refusal;
+}
+static uint32_t seats_opened_at_once(void)
+{
+    uint32_t refusal, other, third;
+    must(histar_shared_taken(&shared));
+    refusal = histar_seat_open(&unseated, &shared);
+    other = histar_unshare(&shared);
+    third = histar_share(&shared, 8, 3);
+    histar_shared_released(&shared, HISTAR_DONE);
+    return refusal == other && refusal == third ? refusal : HISTAR_DONE;
+}
+static uint32_t shared_by_another_at_once(void)
+{
+    uint32_t refusal;
+    must(histar_shared_taken(&unshared));
+    refusal = histar_share(&unshared, 8, 3);
+    histar_shared_released(&unshared, HISTAR_DONE);
+    return refusal;
+}
+static histar_note a_note(void)
+{
+    histar_note note;
+    must(histar_seen(&seat, &note));
+    return note;
+}
+static uint32_t note_of_another(void)
+{
+    histar_note note = a_note();
+    note.since++;
+    return histar_learn(&seat, note);
+}
+static uint32_t note_of_another_place(void)
+{
+    histar_note note = a_note();
+    note.at++;
+    return histar_learn(&seat, note);
+}
+static uint32_t note_of_more_calls(void)
+{
+    histar_note note = a_note();
+    note.calls++;
+    return histar_learn(&seat, note);
+}
+static uint32_t noted_by_a_kernel(void)
+{
+    histar_note note;
+    return histar_seen(&k, &note);
+}
+static uint32_t learned_by_a_kernel(void)
+{
+    histar_note none = {0, 0, 0};
+    return histar_learn(&k, none);
+}
+static uint32_t called_by_a_closed_seat(void) { return is_called(&unseated); }
+static uint32_t copied_seat(void)
+{
+    static histar copy;
+    memcpy(&copy, &seat, sizeof seat);
+    must(histar_close(&copy));
+    return is_called(&copy);
+}
+static uint32_t log_of_a_seat(void) { return histar_log_on(&seat); }
+static uint32_t look_up_by_a_seat(void)
+{
+    int is_there;
+    uint64_t id;
+    return histar_kept_live(&seat, 0, &is_there, &id);
+}
+static uint32_t seat_after_the_unshare(void)
+{
+    histar_shared other = HISTAR_SHARED_INIT;
+    histar its = HISTAR_INIT;
+    uint32_t refusal;
+    must(histar_share(&other, 8, 3));
+    must(histar_seat_open(&its, &other));
+    must(histar_unshare(&other));
+    must(is_called(&its));
+    refusal = histar_seat_open(&unseated, &other);
+    must(histar_close(&its));
+    return refusal;
+}
+static uint32_t opened_after_a_seat(void)
+{
+    histar it = HISTAR_INIT;
+    uint32_t refusal;
+    must(histar_seat_open(&it, &shared));
+    must(histar_close(&it));
+    must(histar_open(&it, 8));
+    must(histar_log_on(&it)); /* which a seat is refused */
+    refusal = is_called(&it);
+    must(histar_close(&it));
+    return refusal;
+}
+static uint32_t calls_past_the_room(void)
+{
+    histar_shared other = HISTAR_SHARED_INIT;
+    histar its = HISTAR_INIT;
+    uint32_t refusal;
+    must(histar_share(&other, 8, 1));
+    must(histar_seat_open(&its, &other));
+    must(is_called(&its));
+    refusal = is_called(&its);
+    must(histar_close(&its));
+    must(histar_unshare(&other));
+    return refusal;
+}
+static uint32_t shared_key_after_a_close(void)
+{
+    histar_shared other = HISTAR_SHARED_INIT;
+    static histar its;
+    char bytes[64];
+    uint64_t it;
+    must(histar_share(&other, 8, 2));
+    must(histar_seat_open(&its, &other));
+    must(histar_segment_create(&its, HISTAR_BOOT, HISTAR_ROOT, &plain, 2, 1, &it));
+    must(histar_segment_write(&its, HISTAR_BOOT, in_root(it), 0, KEY, sizeof KEY));
+    must(histar_segment_read(&its, HISTAR_BOOT, in_root(it), 0, bytes, sizeof KEY));
+    if (records_have_key(&its)) return HISTAR_DONE;
+    must(histar_close(&its));
+    must(histar_unshare(&other));
+    return has_key(&its, sizeof its) ? HISTAR_DONE : is_called(&its);
+}
+
 static const struct row {
     const char *what;
     uint32_t refusal;
@@ -293,37 +454,37 @@ static const struct row {
     {"a copy of an open kernel", HISTAR_UNAVAILABLE, copied},
     {"2^32 + 64 pages", HISTAR_BAD_LIMITS, open_of_far_more_pages},
     {"a device at level 257", HISTAR_BAD_LIMITS, device_at_257},
-    {"a write at 2^32", HISTAR_NO_CALL, write_far},
-    {"a read at 2^32", HISTAR_NO_CALL, read_far},
-    {"a read of 2^32 + 3 bytes", HISTAR_NO_CALL, read_far_more},
-    {"a load of 2^32 + 3 bytes", HISTAR_NO_CALL, load_far_more},
-    {"a segment of 2^32 + 1 pages", HISTAR_NO_CALL, pages_far},
-    {"a quota of 2^32 + 2", HISTAR_NO_CALL, quota_far},
-    {"a container that avoids kind 32", HISTAR_NO_CALL, avoid_far},
-    {"a segment resized to 2^32 pages", HISTAR_NO_CALL, resized_far},
-    {"a quota moved by 2^32 + 1", HISTAR_NO_CALL, moved_far},
-    {"a quota moved by 1 - 2^32", HISTAR_NO_CALL, moved_far_down},
-    {"a mapping in slot 2^32", HISTAR_NO_CALL, slot_far},
-    {"a mapping at page 2^32", HISTAR_NO_CALL, page_far},
-    {"a mapping from page 2^32 on", HISTAR_NO_CALL, first_far},
-    {"a mapping of 2^32 + 1 pages", HISTAR_NO_CALL, count_far},
-    {"a mapping with rights 2^32 + 1", HISTAR_NO_CALL, rights_far},
-    {"slot 2^32 unmapped", HISTAR_NO_CALL, unmapped_far},
-    {"slot 2^32 looked at", HISTAR_NO_CALL, slot_read_far},
-    {"a list from place 2^32 on", HISTAR_NO_CALL, listed_far},
-    {"the label of index 2^16", HISTAR_NO_CALL, index_far},
-    {"the level 257 by default", HISTAR_NO_CALL, level_257},
-    {"the level 259 in a category", HISTAR_NO_CALL, level_259},
-    {"a label of 25 pairs", HISTAR_NO_CALL, pairs_25},
-    {"65 bytes written", HISTAR_NO_CALL, bytes_65},
-    {"2^32 + 3 bytes stored", HISTAR_NO_CALL, bytes_far},
-    {"65 bytes of metadata", HISTAR_NO_CALL, metadata_65},
-    {"a packet of 65 bytes", HISTAR_NO_CALL, packet_65},
+    {"a write at 2^32", HISTAR_BAD_BATCH, write_far},
+    {"a read at 2^32", HISTAR_BAD_BATCH, read_far},
+    {"a read of 2^32 + 3 bytes", HISTAR_BAD_BATCH, read_far_more},
+    {"a load of 2^32 + 3 bytes", HISTAR_BAD_BATCH, load_far_more},
+    {"a segment of 2^32 + 1 pages", HISTAR_BAD_BATCH, pages_far},
+    {"a quota of 2^32 + 2", HISTAR_BAD_BATCH, quota_far},
+    {"a container that avoids kind 32", HISTAR_BAD_BATCH, avoid_far},
+    {"a segment resized to 2^32 pages", HISTAR_BAD_BATCH, resized_far},
+    {"a quota moved by 2^32 + 1", HISTAR_BAD_BATCH, moved_far},
+    {"a quota moved by 1 - 2^32", HISTAR_BAD_BATCH, moved_far_down},
+    {"a mapping in slot 2^32", HISTAR_BAD_BATCH, slot_far},
+    {"a mapping at page 2^32", HISTAR_BAD_BATCH, page_far},
+    {"a mapping from page 2^32 on", HISTAR_BAD_BATCH, first_far},
+    {"a mapping of 2^32 + 1 pages", HISTAR_BAD_BATCH, count_far},
+    {"a mapping with rights 2^32 + 1", HISTAR_BAD_BATCH, rights_far},
+    {"slot 2^32 unmapped", HISTAR_BAD_BATCH, unmapped_far},
+    {"slot 2^32 looked at", HISTAR_BAD_BATCH, slot_read_far},
+    {"a list from place 2^32 on", HISTAR_BAD_BATCH, listed_far},
+    {"the label of index 2^16", HISTAR_BAD_BATCH, index_far},
+    {"the level 257 by default", HISTAR_BAD_BATCH, level_257},
+    {"the level 259 in a category", HISTAR_BAD_BATCH, level_259},
+    {"a label of 25 pairs", HISTAR_BAD_BATCH, pairs_25},
+    {"65 bytes written", HISTAR_BAD_BATCH, bytes_65},
+    {"2^32 + 3 bytes stored", HISTAR_BAD_BATCH, bytes_far},
+    {"65 bytes of metadata", HISTAR_BAD_BATCH, metadata_65},
+    {"a packet of 65 bytes", HISTAR_BAD_BATCH, packet_65},
     {"no byte read", HISTAR_BOUNDS, no_bytes},
-    {"a packet received in room for 63 bytes", HISTAR_NO_CALL, packet_in_63},
-    {"metadata read in room for 63 bytes", HISTAR_NO_CALL, metadata_in_63},
+    {"a packet received in room for 63 bytes", HISTAR_BAD_BATCH, packet_in_63},
+    {"metadata read in room for 63 bytes", HISTAR_BAD_BATCH, metadata_in_63},
     {"a dump in room for 63 bytes", HISTAR_BOUNDS, dump_in_63},
-    {"a log begun after a call", HISTAR_NO_CALL, log_begun_late},
+    {"a log begun after a call", HISTAR_BAD_BATCH, log_begun_late},
     {"a call by the handler of a signal", HISTAR_BUSY, called_by_a_handler},
     {"a close by the handler of a signal", HISTAR_BUSY, closed_by_a_handler},
     {"an open by the handler of a signal", HISTAR_BUSY, opened_by_a_handler},
@@ -331,6 +492,34 @@ static const struct row {
     {"a call in a child that was forked in a call", HISTAR_BUSY, forked_in_a_call},
     {"a stranger's read after a reader", HISTAR_CANNOT_OBSERVE, read_after_a_reader},
     {"a call after a close with the key in it", HISTAR_UNAVAILABLE, closed_with_the_key},
+    {"a second share", HISTAR_BUSY, shared_twice},
+    {"a share of 7 pages", HISTAR_BAD_LIMITS, shared_with_seven_pages},
+    {"a share of 2^32 + 64 pages", HISTAR_BAD_LIMITS, shared_with_far_more_pages},
+    {"a share with a device at level 257", HISTAR_BAD_LIMITS, shared_with_a_device_at_257},
+    {"a share with room for 2^64 - 1 calls", HISTAR_UNAVAILABLE, shared_with_room_for_all_calls},
+    {"a second unshare", HISTAR_DONE, unshared_twice},
+    {"a seat of what was never shared", HISTAR_UNAVAILABLE, seat_of_a_bare_one},
+    {"a seat after the unshare", HISTAR_UNAVAILABLE, seat_of_an_unshared_one},
+    {"a seat after the unshare, beside one before", HISTAR_UNAVAILABLE, seat_after_the_unshare},
+    {"a seat of a copy", HISTAR_UNAVAILABLE, seat_of_a_copy},
+    {"a seat that is opened twice", HISTAR_BUSY, seat_opened_twice},
+    {"a seat where a kernel is", HISTAR_BUSY, seat_where_a_kernel_is},
+    {"a kernel where a seat is", HISTAR_BUSY, kernel_where_a_seat_is},
+    {"a seat that is opened in a call", HISTAR_BUSY, seat_opened_in_a_call},
+    {"two seats opened at once", HISTAR_BUSY, seats_opened_at_once},
+    {"a share by another at once", HISTAR_BUSY, shared_by_another_at_once},
+    {"a note of another shared kernel", HISTAR_OTHER_LIST, note_of_another},
+    {"a note of one at another place", HISTAR_OTHER_LIST, note_of_another_place},
+    {"a note of more calls than there are", HISTAR_OTHER_LIST, note_of_more_calls},
+    {"a note by a kernel", HISTAR_BAD_BATCH, noted_by_a_kernel},
+    {"a note learned by a kernel", HISTAR_BAD_BATCH, learned_by_a_kernel},
+    {"a call by a closed seat", HISTAR_UNAVAILABLE, called_by_a_closed_seat},
+    {"a copy of a seat", HISTAR_UNAVAILABLE, copied_seat},
+    {"a log of a seat", HISTAR_BAD_BATCH, log_of_a_seat},
+    {"a look-up by a seat", HISTAR_BAD_BATCH, look_up_by_a_seat},
+    {"a kernel after a seat", HISTAR_DONE, opened_after_a_seat},
+    {"a call past the list's room", HISTAR_LIST_FULL, calls_past_the_room},
+    {"a call after a seat's close with the key in it", HISTAR_UNAVAILABLE, shared_key_after_a_close},
 };
 
 /* The log's dump, which has the state. */
@@ -345,6 +534,7 @@ int main(void)
 {
     static char before[1 << 16], after[1 << 16];
     size_t count = sizeof ROWS / sizeof ROWS[0], went_well = 0;
+    uint64_t next;
     opens();
     for (size_t i = 0; i < count; i++) {
         const struct row *row = &ROWS[i];
@@ -356,6 +546,11 @@ int main(void)
         else if (dump_of(after, sizeof after) != len || memcmp(before, after, len)) printf("%s: the kernel is changed\n", row->what);
         else went_well++;
     }
+    /* The shared kernel is as it was: its list has one call, and its next object is the one after. */
+    must(histar_segment_create(&seat, HISTAR_BOOT, HISTAR_ROOT, &plain, 2, 1, &next));
+    if (next != shared_segment + 1) went_well--, printf("the shared kernel is changed\n");
+    must(histar_close(&seat));
+    must(histar_unshare(&shared));
     printf("%zu of %zu misuses are refused and change nothing\n", went_well, count);
     must(histar_close(&k));
     return went_well != count;

@@ -16,12 +16,21 @@ static void keep_two_apart(const char *one, const char *other)
     if (is_below(one, other) || is_below(other, one)) refuse("%s and %s: one lies in the other", one, other);
 }
 
+/* The real path of one of those things that each program finds; "" where it isn't there. */
+static const char *real_of(size_t i)
+{
+    static char real[MOST_ALWAYS][PATH_MAX];
+    static bool is_known[MOST_ALWAYS];
+    if (!is_known[i] && !realpath(ALWAYS[i], real[i])) *real[i] = 0;
+    is_known[i] = true;
+    return real[i];
+}
+
 /* A secret has nothing of what each program finds. */
 static void keep_from_all(const char *secret)
 {
-    char real[PATH_MAX];
-    for (const char *const *path = ALWAYS; *path; path++)
-        if (realpath(*path, real)) keep_two_apart(secret, real), keep_two_apart(secret, *path);
+    for (size_t i = 0; ALWAYS[i]; i++)
+        if (*real_of(i)) keep_two_apart(secret, real_of(i)), keep_two_apart(secret, ALWAYS[i]);
     keep_two_apart(secret, "/proc");
 }
 
@@ -31,14 +40,13 @@ static bool are_equal(const struct levels *one, const struct levels *other) { re
  * lies in a public folder would be read by all. */
 static void keep_report_apart(const struct plan *plan, const struct report *report)
 {
-    char real[PATH_MAX];
     for (int i = 0; i < plan->secret_count; i++)
         if (!are_equal(&report->levels, &plan->secrets[i].levels) && is_below(report->path, plan->secrets[i].path))
             refuse("%s: it lies in %s, of which it is no report", report->path, plan->secrets[i].path);
     for (int i = 0; i < plan->open_count; i++)
         if (is_below(report->path, plan->open[i])) refuse("%s: it lies in %s, which is public", report->path, plan->open[i]);
-    for (const char *const *path = ALWAYS; *path; path++)
-        if (realpath(*path, real) && is_below(report->path, real)) refuse("%s: it lies in %s, which is public", report->path, real);
+    for (size_t i = 0; ALWAYS[i]; i++)
+        if (*real_of(i) && is_below(report->path, real_of(i))) refuse("%s: it lies in %s, which is public", report->path, real_of(i));
 }
 
 /* One file under two names has one label. */

@@ -100,8 +100,7 @@ static bool path_of(pid_t pid, const struct seccomp_notif *asked, const struct n
     return add_parts(path, folder) && add_parts(path, text);
 }
 
-/* Puts a secret into the world, once the program's label has risen to it. An errno, 0 where it is there. */
-static int open_secret(struct plan *plan, struct family *family, int i)
+int open_secret(struct plan *plan, struct family *family, int i)
 {
     int answer = EIO;
     if (family->is_open[i]) return 0;
@@ -266,7 +265,7 @@ static int ends_of(void)
 }
 
 /* What the program's own world waits for, first of all. */
-enum { PRINTED, ERRORS, CALLS, END, INPUT, INPUT_END, OWN };
+enum { PRINTED, ERRORS, CALLS, END, INPUT, INPUT_END, DOORS, OWN = DOORS + MOST_SECRETS };
 
 /* What the program printed is relayed before its next call is answered, so that all that came before a secret is shown. */
 static void serve_own(struct plan *plan, struct family *family, struct stream *input, struct pollfd *all)
@@ -276,6 +275,7 @@ static void serve_own(struct plan *plan, struct family *family, struct stream *i
     if (all[INPUT].revents) take(input);
     if (all[INPUT_END].revents) give(input);
     if (all[PRINTED].revents || all[ERRORS].revents) return;
+    answer_doors(plan, family, all + DOORS);
     if (all[CALLS].revents & POLLIN) answer_call(plan, family);
     else if (all[CALLS].revents) all[CALLS].fd = -1;
 }
@@ -289,10 +289,11 @@ static int serve_all(struct plan *plan, struct family *family)
     struct pollfd all[OWN + MOST_WAITS_OF_STARTS] = {
         {world->printed[0], POLLIN, 0}, {world->printed[1], POLLIN, 0}, {world->listener, POLLIN, 0}, {ends_of(), POLLIN, 0}};
     for (;;) {
-        int more = list_starts(all + OWN), soon = end_waits();
+        int more = list_starts(plan, all + OWN), soon = end_waits();
         if (all[PRINTED].fd < 0 && all[ERRORS].fd < 0 && all[CALLS].fd < 0 && are_starts_done()) return 0;
         all[INPUT] = taken_from(&input);
         all[INPUT_END] = given_to(&input);
+        list_doors(plan, world, all + DOORS);
         if (poll(all, (nfds_t)(OWN + more), soon) < 0) {
             if (errno == EINTR) continue;
             return 0;

@@ -1,8 +1,8 @@
 /* confine: a program runs over secrets that it may read and can't send on.
  *
  * Three processes take part.
- * - The broker (main.c, broker.c) has the label kernel. It is asked before the program opens or names a file, relays what
- *   the program prints, and copies its reports out once it has ended.
+ * - The broker (main.c, broker.c) has the label kernel. It is asked before the program looks into a secret (doors.c) or opens a
+ *   file to write it, relays what the program prints, and copies its reports out once it has ended.
  * - The keeper (keeper.c, world.c) makes the program's world, a mount namespace, and puts a secret into it when the broker
  *   says so.
  * - The program runs in that world under Landlock and limits (walls.c) and a filter of system calls (filter.c), with all
@@ -111,6 +111,7 @@ struct world {
     int input;         /* what the program reads of its standard input; -1 where it has none */
     int printed[2];    /* what the program prints: its standard output and its standard error */
     int scratch;       /* the folder of the program's own folders: /tmp is "tmp", and the plan's folder 0 is "0" */
+    int doors[MOST_SECRETS]; /* where the broker is asked for a secret; -1 where it has no door */
 };
 
 /* The program with all that it starts: one thread of the kernel, and one world. Its processes share pipes, signals and
@@ -217,9 +218,12 @@ struct begun {
     bool has_input;              /* the broker fills its standard input */
 };
 
-/* Starts a program in a world of its own, in which it waits for the first answer. Where that fails a line said why, and it
- * gives the status that confine ends with; else 0. */
-int start(const struct plan *plan, const struct begun *begun, struct world *world);
+/* Begins to start a program in a world of its own. */
+void begin_start(const struct plan *plan, const struct begun *begun, struct world *world);
+
+/* Waits until the program waits for the first answer. Where that fails a line said why, and it gives the status that confine ends
+ * with; else 0. */
+int end_start(struct world *world);
 
 /* Ends the program where it has not ended, and says with which status; -1 where it has none. */
 int end_world(struct world *world, bool is_killed);
@@ -234,7 +238,8 @@ void must(long result, const char *what);
 /* ---- world.c ---- */
 
 /* Folders, files and devices that each program finds, up to NULL. */
-extern const char *const ALWAYS[];
+enum { MOST_ALWAYS = 32 };
+extern const char *const ALWAYS[MOST_ALWAYS];
 
 /* Makes the world in a new mount namespace, but for /proc. */
 void make_world(const struct plan *plan);
@@ -242,8 +247,9 @@ void make_world(const struct plan *plan);
 /* The world's own /proc, of its own processes, where the machine allows it. The first process of the world makes it. */
 void add_proc(void);
 
-/* Makes the world the root. */
+/* Makes the world the root, and takes the machine's own files away; the program is made ready meanwhile. */
 void enter_world(void);
+void leave_machine(void);
 
 /* Where the world's own folders lie, until it is the root: as struct world has them. */
 int open_scratch(void);
@@ -251,7 +257,10 @@ int open_scratch(void);
 /* How many descriptors lead to what the program may write, and which they are. */
 int own_of(const int **files);
 
-/* Puts a secret into the world. An errno, 0 where it is there. */
+/* Where the broker is asked for each secret, in the order of the plan; NULL where the world has no doors. */
+const int *doors_of(void);
+
+/* Puts a secret into the world, in place of its door. An errno, 0 where it is there. */
 int put_secret(const struct plan *plan, int secret);
 
 /* ---- walls.c ---- */
@@ -264,11 +273,17 @@ void limit_numbers(int proc);
 
 /* ---- filter.c ---- */
 
-/* Makes the filter, as a file; -1 where that fails. (It takes longer than all else of a start, and the world is made meanwhile.) */
-int make_filter(void);
-
 /* Leaves the process a list of system calls, and gives the descriptor by which others are asked; -1 with errno. */
-int load_filter(int made);
+int load_filter(bool has_doors);
+
+/* ---- doors.c ---- */
+
+/* What the doors of a world wait for, a place for each secret; and answers what was asked there. */
+void list_doors(const struct plan *plan, const struct world *world, struct pollfd *waits);
+void answer_doors(struct plan *plan, struct family *family, const struct pollfd *waits);
+
+/* The program can ask there no more. */
+void close_doors(const struct plan *plan, struct world *world);
 
 /* ---- descriptors.c ---- */
 
@@ -314,6 +329,9 @@ int serve(struct plan *plan, struct family *family);
 /* Begins to answer a family's calls. */
 void begin_answers(const struct plan *plan, struct family *family);
 
+/* Puts a secret into a family's world, once its label has risen to it. An errno, 0 where it is there. */
+int open_secret(struct plan *plan, struct family *family, int secret);
+
 /* Answers the next call of a family. */
 void answer_call(struct plan *plan, struct family *family);
 
@@ -325,7 +343,7 @@ void answer_call(struct plan *plan, struct family *family);
 #define RUN_NAME "confine-run"
 
 /* So many starts are asked for or run at once, and each waits for so many things. */
-enum { MOST_STARTS = 16, WAITS_OF_START = 8, MOST_WAITS_OF_STARTS = MOST_STARTS * WAITS_OF_START };
+enum { MOST_STARTS = 16, DOORS_OF_START = 8, WAITS_OF_START = DOORS_OF_START + MOST_SECRETS, MOST_WAITS_OF_STARTS = MOST_STARTS * WAITS_OF_START };
 
 /* What leads a program to the broker, to ask for a start; -1 with errno. */
 int open_run(struct family *by);
@@ -334,7 +352,7 @@ int open_run(struct family *by);
 bool are_starts_done(void);
 
 /* What all starts wait for, and how many things that are; and what is done once they have it. */
-int list_starts(struct pollfd *waits);
+int list_starts(const struct plan *plan, struct pollfd *waits);
 void serve_starts(struct plan *plan, const struct pollfd *waits);
 
 /* Ends what was started and has not ended, and tells whether something of what it printed was withheld. */

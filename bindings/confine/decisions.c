@@ -4,7 +4,8 @@
 #include <stdlib.h>
 #include <string.h>
 
-enum { PAGES = 256, SEGMENT_QUOTA = 2, HIGHEST = 3 };
+/* (8 secrets, reports and gates, 16 starts with a thread and two segments each, and what is probed take some 120 pages.) */
+enum { PAGES = 160, SEGMENT_QUOTA = 2, HIGHEST = 3 };
 
 static histar kernel;
 static uint64_t terminal;

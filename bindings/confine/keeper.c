@@ -67,7 +67,7 @@ _Noreturn static void become_program(const struct ends *ends)
 {
     const struct begun *begun = ends->begun;
     char may_go;
-    int listener, error, filter;
+    int listener, error;
     raise_walls();
     NEEDS(dup2(ends->streams[0], 0));
     NEEDS(dup2(ends->streams[1], 1));
@@ -78,9 +78,8 @@ _Noreturn static void become_program(const struct ends *ends)
     NEEDS(close_range(5, ~0U, 0));
     setsid();
     signal(SIGPIPE, SIG_DFL);
-    if ((filter = receive_descriptor(3)) < 0) _exit(ENDS_FAULT);
-    if ((listener = load_filter(filter)) < 0) unable("seccomp's notifications");
-    if (close(filter) || !send_descriptor(3, listener) || close(listener) || read(3, &may_go, 1) != 1) _exit(ENDS_FAULT);
+    if ((listener = load_filter(doors_of() != NULL)) < 0) unable("seccomp's notifications");
+    if (!send_descriptor(3, listener) || close(listener) || read(3, &may_go, 1) != 1) _exit(ENDS_FAULT);
     if (dup2(4, 2) < 0 || close(4)) _exit(ENDS_FAULT);
     if (begun->environment) environ = begun->environment;
     add_run();
@@ -108,9 +107,10 @@ _Noreturn static void run_first(const struct ends *ends)
     limit_numbers(ends->proc);
     add_proc();
     enter_world();
-    NEEDS(write(ends->entered, "e", 1));
     NEEDS(program = fork());
     if (!program) become_program(ends);
+    leave_machine();
+    NEEDS(write(ends->entered, "e", 1));
     close_all(ends->streams, 3);
     close(ends->program);
     while ((ended = wait(&status)) != program)
@@ -118,11 +118,19 @@ _Noreturn static void run_first(const struct ends *ends)
     _exit(status_of(status));
 }
 
+/* Ends as the first process of the world did. */
+_Noreturn static void exit_as(pid_t first)
+{
+    int status;
+    _exit(waitpid(first, &status, 0) == first ? status_of(status) : ENDS_FAULT);
+}
+
 /* Puts secrets into the world as the broker names them, until the program has ended, and tells its status. A name below
- * 0 ends the program. */
+ * 0 ends the program. (The broker does not wait for the end of this process, in which the world's mounts go.) */
 _Noreturn static void keep(const struct plan *plan, pid_t first, int socket)
 {
-    int asked, answer, status;
+    int asked, answer = 0, status;
+    if (write(socket, &answer, sizeof answer) != sizeof answer) kill(first, SIGKILL);
     while (read(socket, &asked, sizeof asked) == sizeof asked) {
         if (asked < 0) {
             kill(first, SIGKILL);
@@ -132,14 +140,26 @@ _Noreturn static void keep(const struct plan *plan, pid_t first, int socket)
         if (write(socket, &answer, sizeof answer) != sizeof answer) break;
     }
     if (waitpid(first, &status, 0) != first) _exit(ENDS_FAULT);
-    _exit(status_of(status));
+    answer = status_of(status);
+    if (write(socket, &answer, sizeof answer) < 0) {}
+    _exit(answer);
+}
+
+/* Hands the broker what it needs of the world: the program's own folders, and the doors, which stay with it alone. */
+static bool send_world(const struct plan *plan, int socket)
+{
+    const int *doors = doors_of();
+    int scratch = open_scratch(), count = doors ? plan->secret_count : 0;
+    bool is_sent = send_descriptor(socket, scratch) && write(socket, &count, sizeof count) == sizeof count;
+    for (int i = 0; i < count; i++) is_sent = is_sent && send_descriptor(socket, doors[i]) && !close(doors[i]);
+    return is_sent && !close(scratch);
 }
 
 _Noreturn static void run_keeper(const struct plan *plan, struct ends *ends, int socket)
 {
     uid_t user = getuid();
     gid_t group = getgid();
-    int entered[2], scratch;
+    int entered[2];
     char byte;
     pid_t first;
     setsid();
@@ -150,9 +170,7 @@ _Noreturn static void run_keeper(const struct plan *plan, struct ends *ends, int
     NEEDS(prctl(PR_SET_PDEATHSIG, SIGKILL, 0, 0, 0));
     take_user(user, group);
     make_world(plan);
-    scratch = open_scratch();
-    if (!send_descriptor(socket, scratch)) _exit(ENDS_FAULT);
-    close(scratch);
+    if (!send_world(plan, socket)) _exit(ENDS_FAULT);
     NEEDS(first = fork());
     if (!first) {
         close(socket);
@@ -161,6 +179,7 @@ _Noreturn static void run_keeper(const struct plan *plan, struct ends *ends, int
     close_all(ends->streams, 3);
     close_all((int[]){ends->program, ends->proc, ends->entered}, 3);
     if (read(entered[0], &byte, 1) == 1) NEEDS(chdir("/"));
+    else exit_as(first);
     keep(plan, first, socket);
 }
 
@@ -177,10 +196,12 @@ static void keep_only(const int *files, int count)
     }
 }
 
-int start(const struct plan *plan, const struct begun *begun, struct world *world)
+/* What waits for the end of a start. */
+static int socket_of_program = -1;
+
+void begin_start(const struct plan *plan, const struct begun *begun, struct world *world)
 {
-    static int filter = -1;
-    int in[2], out[2], error[2], keeper[2], program[2], status;
+    int in[2], out[2], error[2], keeper[2], program[2];
     if (pipe2(in, O_CLOEXEC) || pipe2(out, O_CLOEXEC) || pipe2(error, O_CLOEXEC) || socketpair(AF_UNIX, SOCK_STREAM | SOCK_CLOEXEC, 0, keeper)
         || socketpair(AF_UNIX, SOCK_STREAM | SOCK_CLOEXEC, 0, program) || fcntl(in[1], F_SETFL, O_NONBLOCK) || (world->keeper = fork()) < 0)
         unable("a start");
@@ -191,10 +212,35 @@ int start(const struct plan *plan, const struct begun *begun, struct world *worl
     }
     close_all((int[]){keeper[1], program[1], in[0], out[1], error[1]}, 5);
     if (!begun->has_input) close(in[1]), in[1] = -1;
-    if (filter < 0 && (filter = make_filter()) < 0) unable("seccomp's filters");
-    *world = (struct world){world->keeper, keeper[0], -1, in[1], {out[0], error[0]}, receive_descriptor(keeper[0])};
-    if (world->scratch >= 0 && send_descriptor(program[0], filter)) world->listener = receive_descriptor(program[0]);
-    if (world->listener >= 0 && write(program[0], "g", 1) == 1) return close(program[0]), 0;
+    world->keeper_socket = keeper[0];
+    world->listener = world->scratch = -1;
+    world->input = in[1];
+    world->printed[0] = out[0];
+    world->printed[1] = error[0];
+    socket_of_program = program[0];
+}
+
+static bool receive_number(int socket, int *number) { return recv(socket, number, sizeof *number, MSG_WAITALL) == sizeof *number; }
+
+/* Takes what the keeper hands over. Whether all came. */
+static bool receive_world(struct world *world)
+{
+    int count = 0;
+    for (int i = 0; i < MOST_SECRETS; i++) world->doors[i] = -1;
+    if ((world->scratch = receive_descriptor(world->keeper_socket)) < 0) return false;
+    if (!receive_number(world->keeper_socket, &count)) return false;
+    for (int i = 0; i < count; i++)
+        if ((world->doors[i] = receive_descriptor(world->keeper_socket)) < 0) return false;
+    return true;
+}
+
+int end_start(struct world *world)
+{
+    int program = socket_of_program, status;
+    bool is_there;
+    if (receive_world(world)) world->listener = receive_descriptor(program);
+    is_there = receive_number(world->keeper_socket, &status);
+    if (is_there && world->listener >= 0 && write(program, "g", 1) == 1) return close(program), 0;
     status = end_world(world, false);
     return status > 0 ? status : ENDS_FAULT;
 }
@@ -202,8 +248,12 @@ int start(const struct plan *plan, const struct begun *begun, struct world *worl
 int end_world(struct world *world, bool is_killed)
 {
     int status, none = -1;
+    bool is_told;
     if (is_killed && write(world->keeper_socket, &none, sizeof none) != sizeof none) {}
+    shutdown(world->keeper_socket, SHUT_WR);
+    is_told = receive_number(world->keeper_socket, &status);
     close(world->keeper_socket);
+    if (is_told) return status;
     if (waitpid(world->keeper, &status, 0) != world->keeper || !WIFEXITED(status)) return -1;
     return WEXITSTATUS(status);
 }

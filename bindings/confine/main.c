@@ -41,11 +41,12 @@ int main(int count, char **words)
     find_reports(&plan);
     keep_apart(&plan);
     find_folders(&plan);
-    make_objects(&plan);
-    if (!is_born(&plan, &family)) refuse("the program's label is above its clearance");
     begun.words = plan.program;
     begun.has_input = has_input(&plan);
-    if ((status = start(&plan, &begun, &family.world))) return status;
+    begin_start(&plan, &begun, &family.world);
+    make_objects(&plan);
+    if (!is_born(&plan, &family)) refuse("the program's label is above its clearance");
+    if ((status = end_start(&family.world))) return status;
     status = serve(&plan, &family);
     if (!write_dump(&plan)) fail(ENDS_FAULT, plan.dump);
     return status;

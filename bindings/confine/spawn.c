@@ -14,6 +14,7 @@
 #include <string.h>
 #include <sys/socket.h>
 #include <sys/stat.h>
+#include <sys/wait.h>
 #include <unistd.h>
 
 enum { MOST_ASKED = 128 << 10, MOST_TEXTS = 4096, STREAMS = 3 };
@@ -198,7 +199,8 @@ static bool split(struct asked *asked, struct begun *begun)
 
 static bool start_world(const struct plan *plan, const struct begun *begun, struct family *family)
 {
-    if (start(plan, begun, &family->world)) return false;
+    begin_start(plan, begun, &family->world);
+    if (end_start(&family->world)) return false;
     begin_answers(plan, family);
     return true;
 }
@@ -267,11 +269,13 @@ static bool is_done(const struct start *start)
 static void finish(struct plan *plan, struct start *start, bool is_killed)
 {
     int status = end_world(&start->family->world, is_killed);
+    waitpid(start->family->world.keeper, NULL, 0);
     mask(start);
     copy_reports(plan, start->family);
     tell_end(start, status < 0 ? ENDS_FAULT : status, "");
     close(start->family->world.listener);
     close(start->family->world.scratch);
+    close_doors(plan, &start->family->world);
     for (int i = 0; i < 2; i++) {
         int *end = i ? &start->streams[0].to : &start->streams[0].from;
         if (*end >= 0) close(*end);
@@ -304,7 +308,7 @@ static bool has_own(const struct start *start)
 
 static bool is_held(const struct start *start) { return start->streams[1].is_held || start->streams[2].is_held; }
 
-int list_starts(struct pollfd *waits)
+int list_starts(const struct plan *plan, struct pollfd *waits)
 {
     listed = 0;
     for (int i = 0; i < MOST_STARTS; i++) {
@@ -316,6 +320,8 @@ int list_starts(struct pollfd *waits)
             own[2 + 2 * j] = start->by ? taken_from(&start->streams[j]) : (struct pollfd){-1, 0, 0};
             own[3 + 2 * j] = start->by ? given_to(&start->streams[j]) : (struct pollfd){-1, 0, 0};
         }
+        for (int j = 0; j < MOST_SECRETS; j++) own[DOORS_OF_START + j] = (struct pollfd){-1, 0, 0};
+        if (own[1].fd >= 0) list_doors(plan, &start->family->world, own + DOORS_OF_START);
         if (start->by) listed = i + 1;
     }
     return listed * WAITS_OF_START;
@@ -339,6 +345,7 @@ static void serve_start(struct plan *plan, struct start *start, const struct pol
         if (own[2 + 2 * j].revents) take(&start->streams[j]);
         if (own[3 + 2 * j].revents) give(&start->streams[j]);
     }
+    if (!own[4].revents && !own[6].revents && start->family && start->listener >= 0) answer_doors(plan, start->family, own + DOORS_OF_START), mask(start);
     if (own[1].revents && !own[4].revents && !own[6].revents) {
         if (own[1].revents & POLLIN) answer_call(plan, start->family), mask(start);
         else start->listener = -1;

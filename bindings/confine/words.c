@@ -22,6 +22,7 @@ static const char USAGE[] =
     "  --born-tainted   it counts as having read all secrets from its start\n"
     "  --audit DUMP     writes all decisions as a dump, for histar-audit\n"
     "  --explain        prints the id of each thing, and a line for each refusal, and why\n"
+    "  --version        prints the version, where it stands alone\n"
     "\n"
     "It ends with the program's status, or with 0 once a secret was read. 2: wrong words; 69: this machine can't\n"
     "confine; 70: something failed.\n";
@@ -149,6 +150,10 @@ void read_words(int count, char **texts, struct plan *plan)
     int at = 1;
     if (count == 2 && (!strcmp(texts[1], "--help") || !strcmp(texts[1], "-h"))) {
         fputs(USAGE, stdout);
+        exit(fflush(stdout) ? ENDS_FAULT : 0);
+    }
+    if (count == 2 && (!strcmp(texts[1], "--version") || !strcmp(texts[1], "-V"))) {
+        puts("confine " HISTAR_VERSION);
         exit(fflush(stdout) ? ENDS_FAULT : 0);
     }
     plan->born = plan->clearance = plain();

@@ -19,11 +19,12 @@
 #include <sys/syscall.h>
 #include <unistd.h>
 
-/* Where the world is put together, before it becomes the root, and in it the program's own folders. */
+/* Where the world is put together, before it becomes the root, and where the program's own folders are until then. They go out of sight
+ * with the machine's own files. */
 #define BASE "/tmp"
-#define OWN BASE "/own"
+#define OWN "/dev"
 
-const char *const ALWAYS[] = {
+const char *const ALWAYS[MOST_ALWAYS] = {
     "/usr", "/bin", "/sbin", "/lib", "/lib64", "/etc/alternatives", "/etc/ld.so.cache", "/etc/passwd", "/etc/group",
     "/etc/nsswitch.conf", "/etc/localtime", "/etc/mime.types", "/etc/magic", "/etc/fonts", "/etc/texmf", "/var/lib/texmf",
     "/etc/java-11-openjdk", "/etc/java-17-openjdk", "/etc/java-21-openjdk", "/dev/null", "/dev/zero", "/dev/full",
@@ -37,6 +38,8 @@ static const struct { const char *from, *to; } LINKS[] = {
 static const char SCRATCH[] = "size=1g,nr_inodes=65536,mode=755";
 
 static int trees[MOST_SECRETS];        /* each secret as a mount that has no place yet */
+static int doors[MOST_SECRETS];        /* where each is asked for */
+static bool has_doors;
 static int report_trees[MOST_REPORTS]; /* each report that stands in a folder which is not the program's own */
 static int own[2 + MOST_REPORTS];      /* what the program may write: folders of its own, and reports that stand elsewhere */
 static int own_count;
@@ -62,6 +65,7 @@ static int overlay_of(int folder)
     if (context >= 0 && nothing >= 0 && !syscall(SYS_fsconfig, context, FSCONFIG_SET_STRING, "lowerdir", both, 0)
         && !syscall(SYS_fsconfig, context, FSCONFIG_SET_FLAG, "userxattr", NULL, 0)
         && !syscall(SYS_fsconfig, context, FSCONFIG_SET_STRING, "xino", "off", 0)
+        && !syscall(SYS_fsconfig, context, FSCONFIG_SET_STRING, "redirect_dir", "nofollow", 0)
         && !syscall(SYS_fsconfig, context, FSCONFIG_CMD_CREATE, NULL, NULL, 0))
         tree = (int)syscall(SYS_fsmount, context, FSMOUNT_CLOEXEC, READ_ONLY);
     close(context);
@@ -195,7 +199,6 @@ static void make_own(const struct plan *plan)
 {
     static const struct { const char *name, *path; mode_t mode; } NAMED[] = {{OWN "/tmp", "/tmp", 01777}, {OWN "/shm", "/dev/shm", 01777}};
     char name[64];
-    NEEDS(mkdir(OWN, 0755));
     NEEDS(mount("confine", OWN, "tmpfs", MS_NOSUID | MS_NODEV, SCRATCH));
     NEEDS(mkdir(OWN "/nothing", 0755));
     for (size_t i = 0; i < sizeof NAMED / sizeof *NAMED; i++) {
@@ -244,10 +247,45 @@ static bool is_seen(const struct plan *plan, const struct report *report)
     return true;
 }
 
-/* A place for a secret that can't be moved, as a folder of nothing. */
-static void make_secret_place(const char *path)
+/* Opens what the broker is asked by, for all secrets or for none. */
+static void open_doors(const struct plan *plan)
 {
-    put_tree(tree_of(OWN "/nothing", READ_ONLY), path, true);
+    has_doors = true;
+    for (int i = 0; i < plan->secret_count && has_doors; i++) {
+        doors[i] = open("/dev/fuse", O_RDWR | O_NONBLOCK | O_CLOEXEC);
+        if (doors[i] < 0) has_doors = false;
+        while (!has_doors && i--) close(doors[i]);
+    }
+}
+
+const int *doors_of(void) { return has_doors ? doors : NULL; }
+
+/* Sets a word of a file system that is to be mounted, to a number. */
+static bool set_number(int context, const char *word, const char *form, unsigned number)
+{
+    char text[16];
+    snprintf(text, sizeof text, form, number);
+    return !syscall(SYS_fsconfig, context, FSCONFIG_SET_STRING, word, text, 0);
+}
+
+/* A file system of the broker's, as a mount that has no place yet; -1 where the machine can't make it. */
+static int door_of(int door)
+{
+    int context = (int)syscall(SYS_fsopen, "fuse", FSOPEN_CLOEXEC), tree = -1;
+    if (context >= 0 && set_number(context, "fd", "%u", (unsigned)door) && set_number(context, "rootmode", "%o", S_IFDIR)
+        && set_number(context, "user_id", "%u", getuid()) && set_number(context, "group_id", "%u", getgid())
+        && !syscall(SYS_fsconfig, context, FSCONFIG_CMD_CREATE, NULL, NULL, 0))
+        tree = (int)syscall(SYS_fsmount, context, FSMOUNT_CLOEXEC, READ_ONLY);
+    close(context);
+    return tree;
+}
+
+/* Where a secret will stand: its door, or a folder of nothing. */
+static void make_secret_place(const char *path, int i)
+{
+    int tree = has_doors ? door_of(doors[i]) : tree_of(OWN "/nothing", READ_ONLY);
+    if (tree < 0) unable("a door");
+    put_tree(tree, path, true);
 }
 
 /* This program, which asks for starts in the world. */
@@ -262,13 +300,14 @@ static int own_tree(void)
 
 void make_world(const struct plan *plan)
 {
-    static struct taken taken[32];
+    static struct taken taken[MOST_ALWAYS];
     int count = 0, folders[MOST_OPEN], secrets[MOST_SECRETS], run;
     NEEDS(mount(NULL, "/", NULL, MS_REC | MS_PRIVATE, NULL));
     for (const char *const *path = ALWAYS; *path; path++) count += find(&taken[count], *path);
     for (int i = 0; i < plan->open_count; i++) folders[i] = open_folder(plan->open[i]);
     for (int i = 0; i < plan->secret_count; i++) secrets[i] = open_folder(plan->secrets[i].path);
     run = own_tree();
+    open_doors(plan);
     NEEDS(mount("confine", BASE, "tmpfs", MS_NOSUID | MS_NODEV, "size=1m,mode=755"));
     make_own(plan);
     for (int i = 0; i < count; i++) put(&taken[i]);
@@ -276,7 +315,7 @@ void make_world(const struct plan *plan)
     make_report_places(plan);
     for (int i = 0; i < plan->secret_count; i++) trees[i] = readable(plan, plan->secrets[i].path, secrets[i]);
     for (int i = 0; i < plan->open_count; i++) put_tree(readable(plan, plan->open[i], folders[i]), plan->open[i], true);
-    for (int i = 0; i < plan->secret_count; i++) make_secret_place(plan->secrets[i].path);
+    for (int i = 0; i < plan->secret_count; i++) make_secret_place(plan->secrets[i].path, i);
     for (int i = 0; i < plan->gate_count; i++) make_gate_place(&plan->gates[i]);
     for (int i = 0; i < plan->report_count; i++)
         if (report_trees[i] >= 0 && is_seen(plan, &plan->reports[i])) put_tree(report_trees[i], plan->reports[i].path, false);
@@ -305,19 +344,26 @@ void add_proc(void)
 void enter_world(void)
 {
     NEEDS(chdir(BASE));
-    NEEDS(umount2(OWN, MNT_DETACH));
-    NEEDS(rmdir(OWN));
     NEEDS(syscall(SYS_pivot_root, ".", "."));
-    NEEDS(umount2(".", MNT_DETACH));
-    NEEDS(chdir("/"));
     NEEDS(mount(NULL, "/", NULL, MS_REMOUNT | MS_BIND | MS_RDONLY | MS_NOSUID | MS_NODEV, NULL));
 }
 
-/* Reports that lie in it stand over it. */
+/* (It stands over the root, where no path but this one leads.) */
+void leave_machine(void)
+{
+    NEEDS(umount2(".", MNT_DETACH));
+    NEEDS(chdir("/"));
+}
+
+/* It is put below its door, which goes then; where the machine's kernel can't (before Linux 6.5), it stands there once the door has gone.
+ * Reports that lie in it stand over it. */
 int put_secret(const struct plan *plan, int i)
 {
+    enum { BELOW = 0x200 }; /* (newer headers name it) */
     const char *path = plan->secrets[i].path;
-    if (syscall(SYS_move_mount, trees[i], "", AT_FDCWD, path, MOVE_MOUNT_F_EMPTY_PATH)) return errno;
+    bool is_below_door = !syscall(SYS_move_mount, trees[i], "", AT_FDCWD, path, MOVE_MOUNT_F_EMPTY_PATH | BELOW);
+    if (umount2(path, MNT_DETACH)) return errno;
+    if (!is_below_door && syscall(SYS_move_mount, trees[i], "", AT_FDCWD, path, MOVE_MOUNT_F_EMPTY_PATH)) return errno;
     for (int j = 0; j < plan->report_count; j++)
         if (report_trees[j] >= 0 && is_below(plan->reports[j].path, path)
             && syscall(SYS_move_mount, report_trees[j], "", AT_FDCWD, plan->reports[j].path, MOVE_MOUNT_F_EMPTY_PATH))

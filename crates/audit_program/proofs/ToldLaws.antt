@@ -3,7 +3,7 @@ use Rattle.std.proofs.Common.{◌≡◌, ℕ, List, Option, Some, None, ◌∙�
 use Rattle.std.specs.Io.KnownBytes.{Appends}
 use Rattle.std.specs.Option.{IfSome}
 use Rattle.program_io.specs.declared.options.AuditOptions.{AuditOptions}
-use Rattle.audit_program.specs.Told.{told_text, IsHiddenIn, IsMigration, IsReachedIn, IsTold}
+use Rattle.audit_program.specs.Told.{audit_text, IsHiddenIn, IsMigration, IsReachedIn, IsTold}
 use Rattle.auditor.specs.Verdict.{IsVerdict, TellsFalse}
 use Rattle.auditor.specs.declared.verdicts.Verdict.{Verdict}
 use Rattle.hidden_replies.specs.declared.differences.Difference.{Difference}
@@ -14,7 +14,7 @@ pub told_if : (read : Option (List ℕ)) (bytes text added file reached : List �
     (hidden : Option LabelValue) (verdict : Verdict) (before after : Option (List ℕ)) → IfSome read (λ left. bytes ≡ left)
     → IsVerdict bytes verdict → TellsFalse bytes verdict → IsReachedIn asked.flow bytes verdict reached
     → IsHiddenIn hidden bytes verdict told → IsMigration asked.migrate bytes verdict file
-    → text ≡ told_text verdict reached told → added ≡ text → Appends before after added
+    → text ≡ audit_text asked hidden verdict reached told → added ≡ text → Appends before after added
     → IfSome read (IsTold before after asked hidden verdict file)
 told_if None bytes text added file reached told asked hidden verdict before after r v f i h m t d w = tt
 told_if (Some left) bytes text added file reached told asked hidden verdict before after read_is is tells reaches hides migrates t d w = record {

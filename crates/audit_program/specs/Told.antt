@@ -1,5 +1,5 @@
 -- What an audit prints, and the status that it ends with.
-use Rattle.std.specs.Prelude.{◌≡◌, ◌⊎◌, ℕ, Bool, true, List, [], ◌∷◌, ◌++◌, codes, decimal, Option, Some, None}
+use Rattle.std.specs.Prelude.{◌≡◌, ◌⊎◌, ◌==◌, ◌&&◌, ℕ, Bool, true, false, List, [], ◌∷◌, ◌++◌, codes, decimal, length, Option, Some, None, is_some}
 use Rattle.std.specs.Io.KnownBytes.{Appends}
 use Rattle.std.specs.List.{flat_map}
 use Rattle.program_io.specs.declared.options.AuditOptions.{AuditOptions}
@@ -20,10 +20,28 @@ use Rattle.tracing.specs.Traces.{Traces}
 abbrev pub reached_line : ℕ → List ℕ
 reached_line id = codes "reaches " ++ decimal id ++ 10 ∷ []
 
+-- where lines are asked for and there is none, a line says so
+abbrev pub none_line : Bool → List ℕ → List ℕ
+none_line true line = line
+none_line false line = []
+
+-- whether lines after the verdict are asked for: of a clean dump alone
+abbrev pub is_asked : Bool → Verdict → Bool
+is_asked asked is.Clean = asked
+is_asked asked verdict = false
+
 -- the line of a verdict, those of the objects that are reached, and those of the replies that differ
-abbrev pub told_text : Verdict → List ℕ → List Difference → List ℕ
-told_text verdict reached told =
-    verdict_line verdict ++ flat_map reached_line reached ++ flat_map difference_line told
+abbrev pub told_text : Verdict → Bool → List ℕ → Bool → List Difference → List ℕ
+told_text verdict flows reached hidden told =
+    verdict_line verdict ++ flat_map reached_line reached
+    ++ none_line (flows && length reached == 0) (codes "reaches nothing\n")
+    ++ flat_map difference_line told
+    ++ none_line (hidden && length told == 0) (codes "no reply differs\n")
+
+-- what is printed of a verdict, with the answers to what was asked
+abbrev pub audit_text : AuditOptions → Option LabelValue → Verdict → List ℕ → List Difference → List ℕ
+audit_text asked hidden verdict reached told =
+    told_text verdict (is_asked (is_some asked.flow) verdict) reached (is_asked (is_some hidden) verdict) told
 
 -- the status that tells it
 abbrev pub verdict_status : Verdict → ℕ
@@ -60,7 +78,7 @@ pub record IsTold (before after : Option (List ℕ)) (asked : AuditOptions) (hid
   pub is_reached : IsReachedIn asked.flow bytes verdict reached
   pub told : List Difference
   pub is_hidden : IsHiddenIn hidden bytes verdict told
-  pub added : Appends before after (told_text verdict reached told)
+  pub added : Appends before after (audit_text asked hidden verdict reached told)
   pub migration : IsMigration asked.migrate bytes verdict file
 
 -- a verdict on the bytes was printed with what is asked for, whose status is this one, with this file

@@ -1,7 +1,7 @@
 //! The program, over a reader, a sink and a writer.
-ghost use Rattle.std.specs.Prelude.{◌≡◌, ◌<◌, IfOk, IfSome, Some};
+ghost use Rattle.std.specs.Prelude.{◌≡◌, ◌<◌, IfOk, IfSome, Some, is_some};
 ghost use Rattle.auditor.specs.Verdict.{IsVerdict};
-ghost use Rattle.audit_program.specs.Told.{verdict_status, IsHiddenIn, IsMigration, IsReachedIn, IsTold};
+ghost use Rattle.audit_program.specs.Told.{is_asked, verdict_status, IsHiddenIn, IsMigration, IsReachedIn, IsTold};
 ghost use Rattle.audit_program.specs.Told.{TellsVerdict};
 
 use crate::lines::text_of;
@@ -47,6 +47,17 @@ fn status_of(verdict: Verdict) -> u8
         Verdict::Clean => 0,
         Verdict::False(_) => 1,
         Verdict::Unreadable(_) => 2,
+    }
+}
+
+/// Whether lines after the verdict are asked for: of a clean dump alone.
+fn is_asked(asked: bool, verdict: Verdict) -> bool
+    ensures { result ≡ is_asked asked verdict }
+{
+    match verdict {
+        Verdict::Clean => asked,
+        Verdict::False(_) => false,
+        Verdict::Unreadable(_) => false,
     }
 }
 
@@ -153,8 +164,17 @@ fn run<I: Read, S: Sink>(
     let verdict = audit(alloc, bytes)?;
     let file = file_of(alloc, options, bytes, verdict)?;
     let reached = reached_in(alloc, options, bytes, verdict)?;
+    let flows = is_asked(options.flow.is_some(), verdict);
+    let observed = is_asked(hidden.is_some(), verdict);
     let told = hidden_in(alloc, hidden, bytes, verdict)?;
-    let text = text_of(alloc, verdict, reached.as_slice(), told.as_slice())?;
+    let text = text_of(
+        alloc,
+        verdict,
+        flows,
+        reached.as_slice(),
+        observed,
+        told.as_slice(),
+    )?;
     deliver(out, text.as_slice())?;
     Ok(Audited { verdict, file })
 }
@@ -162,7 +182,8 @@ fn run<I: Read, S: Sink>(
 /// Audits the dump that a reader gives, and prints `clean`, `false at line N` or `unreadable at line N`. Where flows are asked
 /// for and the dump is clean, a line `reaches ID` follows for each object that they reach, rising. Where an observer's label
 /// is told and the dump is clean, a line follows for each reply that differs without the calls of threads that the observer
-/// doesn't observe, as `differs at event 9, call 1, thread #5: id #8, else id #7, by next id`. The faults are found in
+/// doesn't observe, as `differs at event 9, call 1, thread #5: id #8, else id #7, by next id`. Where there is no such line,
+/// `reaches nothing` or `no reply differs` says so. The faults are found in
 /// this order, the first one ending the audit with one line on `err`: reading, want of memory, writing. A status below 3 is
 /// the verdict's, whose lines were printed and handed on then.
 pub fn audit_on<I: Read, S: Sink, E: Write>(

@@ -8,19 +8,18 @@ mod run;
 
 use check_text::check_on;
 use program_args::{Verb, read_words, tell_answer};
-use program_io::{Counted, DEFAULTS, Fault, Sink, words_of};
+use program_io::{Counted, DEFAULTS, Sink, open_input, words_of};
 use script_runner::{NAME, histar_on};
-use std::fs::File;
 use std::io;
 use std::io::Write;
 use std::process::ExitCode;
 
 /// Checks the script of a path. The answer is the status.
 fn check<S: Sink, E: Write>(rt: &HostRuntime, path: &str, out: &mut S, err: &mut E) -> u8 {
-    let Ok(mut script) = File::open(rt, path) else {
-        return Fault::Input.tell(check_text::NAME, err);
-    };
-    check_on(rt.alloc(), path, &mut script, out, err)
+    match open_input(rt, check_text::NAME, path, err) {
+        Ok(mut script) => check_on(rt.alloc(), path, &mut script, out, err),
+        Err(status) => status,
+    }
 }
 
 fn main(rt: HostRuntime) -> ExitCode {

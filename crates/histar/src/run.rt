@@ -1,9 +1,8 @@
 //! `histar run`.
 use program_args::RunArgs;
-use program_io::{Fault, Sink, beside, put_file};
+use program_io::{Fault, Sink, beside, open_input, put_file};
 use script_runner::{Ended, NAME, histar_on};
 use std::alloc::Global;
-use std::fs::File;
 use std::io::Write;
 use std::rt::Files;
 use std::sync::Wait;
@@ -34,8 +33,9 @@ pub fn run<R: Threads + Wait + Sync + Files, S: Sink, E: Write>(
     out: &mut S,
     err: &mut E,
 ) -> u8 {
-    let Ok(mut script) = File::open(rt, args.script) else {
-        return Fault::Input.tell(NAME, err);
+    let mut script = match open_input(rt, NAME, args.script, err) {
+        Ok(script) => script,
+        Err(status) => return status,
     };
     let Ok(beside) = beside(alloc, args.dump.unwrap_or("")) else {
         return Fault::Memory.tell(NAME, err);

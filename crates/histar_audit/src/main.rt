@@ -5,9 +5,8 @@
 use audit_program::{AuditEnd, NAME, audit_on, read_label};
 use label_lattice::Label;
 use program_args::{AuditArgs, read_audit_words, tell_answer};
-use program_io::{AUDIT_DEFAULTS, Counted, Fault, beside, put_file, words_of};
+use program_io::{AUDIT_DEFAULTS, Counted, Fault, beside, open_input, put_file, words_of};
 use std::alloc::Global;
-use std::fs::File;
 use std::io;
 use std::io::Write;
 use std::process::ExitCode;
@@ -70,8 +69,9 @@ fn main(rt: HostRuntime) -> ExitCode {
         Ok(hidden) => hidden,
         Err(status) => return ExitCode::from(status),
     };
-    let Ok(mut dump) = File::open(&rt, told.dump) else {
-        return ExitCode::from(Fault::Input.tell(NAME, &mut err));
+    let mut dump = match open_input(&rt, NAME, told.dump, &mut err) {
+        Ok(dump) => dump,
+        Err(status) => return ExitCode::from(status),
     };
     let Ok(beside) = beside(alloc, told.migrate.unwrap_or("")) else {
         return ExitCode::from(Fault::Memory.tell(NAME, &mut err));

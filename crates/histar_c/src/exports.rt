@@ -1,6 +1,9 @@
 //! The functions that C calls. Each only finds what lies in C's memory, and calls a safe function.
+ghost use Rattle.std.specs.Prelude.{◌≡◌};
 ghost use Rattle.std.specs.Borrow.{full_share, sem};
 ghost use Rattle.std.specs.Ptr.{lies_at, room_at};
+ghost use denote.Param.{layout};
+ghost use prog.Memory.{capped, size};
 ghost use Rattle.histar_c.specs.contracts.held.Held.{the_row as HeldRow};
 ghost use Rattle.histar_c.specs.Served.{IsBoot, IsServed, held_kernel, limits_of};
 
@@ -50,8 +53,19 @@ pub unsafe extern "C" fn histar_end(at: *mut u8)
     end(at.cast::<Held>().read());
 }
 
+/// The version of this library as one number: 10,000 times its first number, 100 times its second, and its third. The file VERSION has
+/// it, and the gate compares the two.
+#[unsafe(no_mangle)]
+pub extern "C" fn histar_version() -> u32
+    ensures { result ≡ 100 }
+{
+    100
+}
+
 /// How many bytes the room for a kernel has, at a multiple of 16.
 #[unsafe(no_mangle)]
-pub extern "C" fn histar_size() -> usize {
+pub extern "C" fn histar_size() -> usize
+    ensures { result ≡ capped (size (layout HeldRow)) }
+{
     std::mem::size_of::<Held>()
 }

@@ -12,5 +12,5 @@ mod held;
 mod logs;
 mod looking;
 
-pub use exports::{histar_boot, histar_call, histar_end, histar_size};
+pub use exports::{histar_boot, histar_call, histar_end, histar_size, histar_version};
 pub use held::{Held, Kept};

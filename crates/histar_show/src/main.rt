@@ -8,11 +8,10 @@ use dot_text::dot_on;
 use json_text::json_on;
 use page_text::page_on;
 use program_args::{Colours, ShowArgs, View, read_show_words, tell_answer};
-use program_io::{Counted, Fault, Sink, beside, put_file, words_of};
+use program_io::{Counted, Fault, Sink, beside, open_input, put_file, words_of};
 use show_states::NAME;
 use show_text::why_on;
 use std::env::VarError;
-use std::fs::File;
 use std::io::{IsTerminal, Read, Write};
 use std::process::ExitCode;
 use std::{env, io};
@@ -79,8 +78,9 @@ fn main(rt: HostRuntime) -> ExitCode {
         Ok(told) => told,
         Err(answer) => return ExitCode::from(tell_answer(alloc, NAME, &answer, &mut out, &mut err)),
     };
-    let Ok(mut dump) = File::open(&rt, dump) else {
-        return ExitCode::from(Fault::Input.tell(NAME, &mut err));
+    let mut dump = match open_input(&rt, NAME, dump, &mut err) {
+        Ok(dump) => dump,
+        Err(status) => return ExitCode::from(status),
     };
     let status = match view {
         View::Why(line) => why_on(alloc, &mut dump, line, &mut out, &mut err),

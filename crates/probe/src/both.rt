@@ -4,7 +4,6 @@ mod compared;
 mod plain;
 mod rows;
 
-use crate::samples::are_equal;
 use arena::{Replies, asked_again};
 use base::{Limits, NoMemory};
 use call_text::{Script, ScriptError, read_script};
@@ -13,6 +12,7 @@ use plain::{Played, play};
 use program_io::{Fault, bytes_of};
 use std::alloc::Global;
 use std::io::{Read, Write};
+use test_structures::samples::are_equal;
 
 /// What is told of a script.
 #[derive(Clone, Copy)]

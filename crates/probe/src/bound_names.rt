@@ -1,10 +1,10 @@
 //! The names that a script binds.
-use crate::look::Look;
 use anyhow::Result;
 use base::{Category, ObjectId};
 use call_text::{Known, Named, Value};
 use script_runner::BoundNames;
 use std::alloc::Global;
+use test_structures::look::Look;
 use text_words::Name;
 
 /// Whether the names answer as a list of them would.

@@ -7,38 +7,26 @@
 //! `replies` prints a reply of each kind. Without words it plays its standard input on both machines.
 #![tactic(auto)]
 
-mod arena;
 mod both;
 mod bound_names;
-mod findings;
-mod hand_overs;
+mod breaking;
 mod laws;
-mod look;
-mod looks;
 mod numbers;
-mod plain;
 mod replies;
-mod restored;
-mod samples;
 mod scenes;
-mod seats;
-mod state;
 mod streams;
-mod structures;
 mod texts;
 mod turns;
-mod words;
 
 use anyhow::Result;
 use base::NoMemory;
-use look::Look;
 use program_args::{Verb, read_words, tell_answer};
-use program_io::{Counted, DEFAULTS, Fault, Sink, deliver, words_of};
+use program_io::{Counted, DEFAULTS, Fault, Sink, deliver, open_input, words_of};
 use std::alloc::Global;
-use std::fs::File;
 use std::io;
 use std::io::Write;
 use std::process::ExitCode;
+use test_structures::look::Look;
 use texts::{Again, Kind, written_again};
 
 /// The program's name.
@@ -78,8 +66,9 @@ fn run_both(rt: &HostRuntime, words: &[String]) -> u8 {
         Ok(_) => return tell(rt, "run", "no script is named"),
         Err(answer) => return tell_answer(alloc, NAME, &answer, &mut out, &mut err),
     };
-    let Ok(mut script) = File::open(rt, args.script) else {
-        return Fault::Input.tell(NAME, &mut err);
+    let mut script = match open_input(rt, NAME, args.script, &mut err) {
+        Ok(script) => script,
+        Err(status) => return status,
     };
     both::ended(rt, &mut script, &args.options.limits)
 }
@@ -88,8 +77,9 @@ fn run_both(rt: &HostRuntime, words: &[String]) -> u8 {
 fn write_again(rt: &HostRuntime, kind: Kind, path: &str) -> u8 {
     let mut out = Counted::new(io::writer(rt));
     let mut err = rt.stderr();
-    let Ok(mut file) = File::open(rt, path) else {
-        return Fault::Input.tell(NAME, &mut err);
+    let mut file = match open_input(rt, NAME, path, &mut err) {
+        Ok(file) => file,
+        Err(status) => return status,
     };
     printed(
         written_again(rt.alloc(), kind, &mut file),

@@ -1,10 +1,10 @@
 //! The number of each refusal that a library answers.
-use crate::look::{Look, agree};
 use anyhow::Result;
 use call_text::ScriptError;
 use clean_dumps::DumpFault;
 use dump_text::{DumpError, MigrateFault};
 use published_copy::{BootRefusal, SeatRefusal, SubmitRefusal, Unread};
+use test_structures::look::{Look, agree};
 
 fn of_texts(look: &mut Look) {
     look.part("of_texts");

@@ -1,13 +1,13 @@
 //! The scenes by their names.
-use crate::look::Look;
-use crate::{
-    arena, bound_names, findings, hand_overs, laws, looks, numbers, plain, restored, seats, state,
-    streams, structures, turns, words,
-};
+use crate::{bound_names, laws, numbers, streams, turns};
 use anyhow::Result;
 use std::alloc::Global;
 use std::sync::Wait;
 use std::thread::Threads;
+use test_kernels::{arena, seats};
+use test_states::{findings, hand_overs, looks, plain, restored, state};
+use test_structures::look::Look;
+use test_structures::{structures, words};
 
 /// Scenes of words, labels, states, texts and streams. False where none is of that name.
 fn of_words(alloc: Global, scene: &str, look: &mut Look) -> Result<bool> {

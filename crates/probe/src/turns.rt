@@ -1,5 +1,4 @@
 //! Plays scripts under gates that pace their workers, and where memory is refused.
-use crate::look::{Look, agree};
 use anyhow::Result;
 use base::{Category, ObjectId};
 use call_text::{Named, Script, ScriptError, Value, read_script, write_reply};
@@ -10,6 +9,7 @@ use std::alloc::Global;
 use std::sync::Wait;
 use std::sync::atomic::{AtomicU64, Ordering};
 use std::thread::Threads;
+use test_structures::look::{Look, agree};
 use text_words::Name;
 
 /// How often a worker looks for another's line.

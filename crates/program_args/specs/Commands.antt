@@ -1,6 +1,6 @@
 -- The command of `histar-audit`, as `clap`'s definitions see it.
 use Rattle.std.specs.Prelude.{Bool, true, Some, codes}
-use Rattle.clap.specs.Simple.{App, new_app, new_rule, with_rule}
+use Rattle.clap.specs.Simple.{App, new_app, new_rule, on_top, with_rule}
 use Rattle.clap.specs.Walk.{Rule, Text}
 use Rattle.clap.specs.declared.builder.ArgAction.TheVariants.{Set}
 use Rattle.clap.specs.declared.builder.value_parser.ValueParser.TheVariants as parsers
@@ -35,13 +35,17 @@ hidden_rule = record (new_rule (codes "hidden")) {
   value_names = 1;
 }
 
+-- the command's name, and that it has a version
+abbrev pub named_audit : App
+named_audit = on_top (λ s. record s { has_version = true }) (new_app (codes "histar-audit"))
+
 -- the command, with the object and the category of flows, which are both needed or neither
 abbrev pub audit_command : Bool → App
 audit_command asks_flows =
     with_rule
     (with_rule
     (with_rule
-    (with_rule (with_rule (new_app (codes "histar-audit")) file_rule) migrate_rule)
+    (with_rule (with_rule named_audit file_rule) migrate_rule)
     (number_rule (codes "from") asks_flows))
     (number_rule (codes "category") asks_flows))
     hidden_rule

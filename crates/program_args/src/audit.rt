@@ -7,6 +7,7 @@ ghost use Rattle.clap.specs.Words.{kind_of};
 ghost use Rattle.program_args.specs.Commands.{audit_command, file_rule, hidden_rule, migrate_rule, number_rule};
 ghost use Rattle.program_args.specs.Path.{path_of};
 
+use crate::versions::VERSION;
 use base::{Category, ObjectId};
 use clap::error::ErrorKind;
 use clap::{Arg, ArgAction, ArgMatches, Command, Error, value_parser};
@@ -118,7 +119,9 @@ fn command<'a>(alloc: Global, asks_flows: bool) -> Result<Command<'a>, Error>
     ensures memory { IfErr result (λ e. kind_of e ≡ ErrorKind.OutOfMemory) }
 {
     let named = Command::new(alloc, "histar-audit").bin_name("histar-audit")?;
-    let told = named.about("Says whether a dump is that of a run by the rules");
+    let told = named
+        .about("Says whether a dump is that of a run by the rules")
+        .version(VERSION);
     let one = told.arg(file(alloc))?;
     let two = one.arg(migrated(alloc))?;
     let three = two.arg(from(alloc, asks_flows))?;

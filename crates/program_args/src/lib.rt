@@ -12,6 +12,7 @@ mod check;
 mod dialogue;
 mod run;
 mod show;
+mod versions;
 mod words;
 
 pub use answers::tell_answer;

@@ -1,4 +1,5 @@
 //! The command line of `histar-show`.
+use crate::versions::VERSION;
 use base::{Category, ObjectId};
 use clap::{Arg, ArgAction, ArgMatches, Command, Error, value_parser};
 use std::alloc::{AllocError, Global};
@@ -207,6 +208,7 @@ fn command<'a>(alloc: Global) -> Result<Command<'a>, AllocError> {
     let all = Command::new(alloc, "histar-show")
         .bin_name("histar-show")?
         .about("Shows what a dump tells")
+        .version(VERSION)
         .subcommand_required(true);
     let all = with_verb(all, why(alloc))?;
     let all = with_verb(all, tree(alloc))?;

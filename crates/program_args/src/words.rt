@@ -5,6 +5,7 @@ ghost use Rattle.program_args.specs.Asked.{HasFileOfDump};
 use crate::check::{check, check_of};
 use crate::dialogue::{dialogue, limits_of};
 use crate::run::{RunArgs, run, run_of};
+use crate::versions::VERSION;
 use base::Limits;
 use clap::{Command, Error};
 use std::alloc::{AllocError, Global};
@@ -26,6 +27,7 @@ fn command<'a>(alloc: Global) -> Result<Command<'a>, AllocError> {
     let all = Command::new(alloc, "histar")
         .bin_name("histar")?
         .about("A kernel of labels, containers, segments, address spaces, threads and gates")
+        .version(VERSION)
         .subcommand_required(true);
     let all = all.subcommand(run(alloc)?)?;
     let all = all.subcommand(check(alloc)?)?;

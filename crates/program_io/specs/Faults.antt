@@ -18,3 +18,9 @@ text_of Memory = codes "out of memory"
 abbrev pub input_fault_of : ErrorKind → Fault
 input_fault_of kind.OutOfMemory = Memory
 input_fault_of _ = Input
+
+-- why a file can't be opened, in words
+abbrev pub reason_of : ErrorKind → List ℕ
+reason_of kind.NotFound = codes "no such file"
+reason_of kind.PermissionDenied = codes "no right to read it"
+reason_of _ = codes "it can't be opened"

@@ -1,15 +1,19 @@
 //! Files that are written whole.
+ghost use Rattle.std.specs.Prelude.{◌≡◌, ◌++◌, None, IfOk, IfErr, codes};
+
 use crate::faults::Fault;
+use crate::saving::{Place, save};
 use crate::sinks::{Counted, deliver};
 use base::NoMemory;
 use std::alloc::Global;
 use std::fs::{File, OpenFile};
-use std::io::Write;
 use std::rt::Files;
 use std::{fs, io};
 
 /// The name of the new file beside a path, which takes the path's name once it is whole. Want of memory is the only error.
-pub fn beside(alloc: Global, path: &str) -> Result<String, NoMemory> {
+pub fn beside(alloc: Global, path: &str) -> Result<String, NoMemory>
+    ensures { IfOk result (λ name. name.bytes.items ≡ path.now ++ codes ".histar-new") }
+{
     match format!(in alloc; "{path}.histar-new") {
         Ok(name) => Ok(name),
         Err(_) => Err(NoMemory),
@@ -17,30 +21,65 @@ pub fn beside(alloc: Global, path: &str) -> Result<String, NoMemory> {
 }
 
 /// The fault where an output fails.
-fn written<T: Drop>(told: io::Result<T>) -> Result<T, Fault> {
+fn written<T: Drop>(told: io::Result<T>) -> Result<T, Fault>
+    ensures { IfErr result (λ fault. fault ≡ Fault.Output) }
+{
     match told {
         Ok(value) => Ok(value),
         Err(_) => Err(Fault::Output),
     }
 }
 
-/// Writes a new file, and gives it its name once it is whole.
-fn put_new<R: Files>(
-    rt: &R,
-    file: R::File,
-    beside: &str,
-    path: &str,
-    bytes: &[u8],
-) -> Result<(), Fault> {
-    let mut file = Counted::new(file);
-    deliver(&mut file, bytes)?;
-    let mut file = file.into_inner();
-    written(file.sync_all())?;
-    written(fs::rename(rt, beside, path))
+/// The folder that a path leads into: what stands before its last `/`.
+fn folder_of(path: &str) -> &str {
+    match path.rsplit_once('/') {
+        None => ".",
+        Some((folder, _)) => { if folder.is_empty() { "/" } else { folder } }
+    }
 }
 
-/// Writes a file: whole or not at all where its path names a plain file, or nothing yet. A file `beside` takes the path's
-/// name then; what a run that was killed left there goes first.
+/// A path on the disk, with the name beside it. What is there is not known to a proof: each step is one request of the
+/// system.
+#[derive(Drop)]
+struct OnDisk<'a, R: Files> {
+    rt: &'a R,
+    path: &'a str,
+    beside: &'a str,
+}
+
+impl<'a, R: Files> Place for OnDisk<'a, R> {
+    type File = R::File;
+
+    ghost folder = { λ _. None };
+
+    fn clear(&mut self) {
+        let _ = fs::remove_file(self.rt, self.beside);
+    }
+
+    fn create(&mut self) -> Result<R::File, Fault> {
+        written(File::create_new(self.rt, self.beside))
+    }
+
+    fn write(&mut self, file: &mut R::File, bytes: &[u8]) -> Result<(), Fault> {
+        deliver(&mut Counted::new(file), bytes)
+    }
+
+    fn flush(&mut self, file: R::File) -> Result<(), Fault> {
+        written(file.sync_all())
+    }
+
+    fn rename(&mut self) -> Result<(), Fault> {
+        written(fs::rename(self.rt, self.beside, self.path))
+    }
+
+    fn settle(&mut self) -> Result<(), Fault> {
+        let folder = written(File::open(self.rt, folder_of(self.path)))?;
+        written(folder.sync_all())
+    }
+}
+
+/// Writes a file: whole or not at all, as `save` has it, where its path names a plain file, or nothing yet. A file `beside`
+/// takes the path's name then. Anything else that the path names, such as a pipe or a link, is written itself.
 pub fn put_file<R: Files>(rt: &R, path: &str, beside: &str, bytes: &[u8]) -> Result<(), Fault> {
     if let Ok(found) = fs::symlink_metadata(rt, path) {
         if !found.is_file() {
@@ -48,11 +87,5 @@ pub fn put_file<R: Files>(rt: &R, path: &str, beside: &str, bytes: &[u8]) -> Res
             return deliver(&mut file, bytes);
         }
     }
-    let _ = fs::remove_file(rt, beside);
-    let file = written(File::create_new(rt, beside))?;
-    let put = put_new(rt, file, beside, path, bytes);
-    if put.is_err() {
-        let _ = fs::remove_file(rt, beside);
-    }
-    put
+    save(&mut OnDisk { rt, path, beside }, bytes)
 }

@@ -1,12 +1,54 @@
-//! Reading the input whole.
+//! Opening an input, and reading it whole.
 ghost use Rattle.std.specs.Prelude.{◌≡◌, ◌≢◌, IfErr, IfOk, IfSome};
 ghost use Rattle.std.specs.IoError.{error_kind};
-ghost use Rattle.program_io.specs.Faults.{input_fault_of};
+ghost use Rattle.program_io.specs.Faults.{input_fault_of, reason_of, status_of};
 
 use crate::faults::Fault;
 use std::alloc::Global;
-use std::io;
-use std::io::{ErrorKind, Read};
+use std::fs::{File, OpenFile};
+use std::io::{ErrorKind, Read, Write};
+use std::rt::Files;
+use std::{fs, io};
+
+/// Why a file can't be opened, in words.
+fn reason(kind: ErrorKind) -> &'static str
+    ensures { result.now ≡ reason_of kind }
+{
+    match kind {
+        ErrorKind::NotFound => "no such file",
+        ErrorKind::PermissionDenied => "no right to read it",
+        _ => "it can't be opened",
+    }
+}
+
+/// Says in one line which file can't be read and why, as `histar: input fault: FILE: no such file`. The answer is the
+/// status of such a fault, whether it could be said or not.
+fn say_unread<E: Write>(program: &str, path: &str, why: &str, err: &mut E) -> u8
+    ensures { result ≡ status_of Fault.Input }
+{
+    let _ = writeln!(err, "{program}: {}: {path}: {why}", Fault::Input.text());
+    Fault::Input.status()
+}
+
+/// Opens the file of an input. Where it can't be opened, or is a folder, one line says so, and the answer is the status.
+pub fn open_input<R: Files, E: Write>(
+    rt: &R,
+    program: &str,
+    path: &str,
+    err: &mut E,
+) -> Result<R::File, u8>
+    ensures { IfErr result (λ status. status ≡ status_of Fault.Input) }
+{
+    if let Ok(found) = fs::metadata(rt, path) {
+        if found.is_dir() {
+            return Err(say_unread(program, path, "it is a folder", err));
+        }
+    }
+    match File::open(rt, path) {
+        Ok(file) => Ok(file),
+        Err(error) => Err(say_unread(program, path, reason(error.kind()), err)),
+    }
+}
 
 /// The fault of an error met in reading: want of memory where it was that, and else the input's.
 pub fn input_fault(error: &io::Error) -> Fault

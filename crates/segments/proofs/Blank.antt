@@ -31,6 +31,9 @@ kept_blank n = record {
   within = λ i k lt. omega (arith, first_is n i k lt, (first_alone n i k lt).1, length-replicate n (replicate {A = ℕ} 256 0));
   all = omega (arith, sum_by-cons length (range_with_len 0 n) (replicate n []), sum_by-replicate {X = List ℕ} length n [], length-range_with_len 0 n, length-replicate {A = List ℕ} n []);
   few = λ slot. omega (arith, ap length (blank_row n slot));
+  blank = λ k lt.
+      let less : k < n = omega (arith, lt, length-range_with_len 0 n) in
+      ap (λ (i : ℕ). get_or (replicate n (replicate {A = ℕ} 256 0)) i []) (get_or-range_with_len 0 n k 0 less ∙ omega arith) ∙ get_or-replicate n k (replicate {A = ℕ} 256 0) [] less;
   whole = λ frame lt. ap length (get_or-replicate n frame (replicate {A = ℕ} 256 0) [] (omega (arith, lt, length-replicate n (replicate {A = ℕ} 256 0)))) ∙ length-replicate {A = ℕ} 256 0;
 }
 

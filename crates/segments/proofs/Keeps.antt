@@ -1,9 +1,9 @@
 -- What is kept of the frames by each change.
-use Rattle.std.proofs.Common.{◌≡◌, ◌≢◌, ℕ, zero, suc, ◌+◌, ◌-◌, ◌<◌, ◌≤◌, inl, inr, List, [], ◌∷◌, ◌++◌, map, length, get_or, set, take, sym, ap, ◌∙◌, arith, length-append, length-set, get_or-set_same, get_or-set_other}
-use Rattle.std.proofs.lemmas.Bool.{cases_eq}
-use Rattle.std.proofs.lemmas.List.{length-map, length-take, take_more, take_all}
+use Rattle.std.proofs.Common.{◌≡◌, ◌≢◌, ℕ, zero, suc, ◌+◌, ◌-◌, ◌<◌, ◌≤◌, inl, inr, List, [], ◌∷◌, ◌++◌, map, length, get_or, set, take, sym, ap, ◌∙◌, arith, replicate, length-append, length-set, get_or-set_same, get_or-set_other}
+use Rattle.std.proofs.lemmas.Bool.{cases_eq, cases_lt}
+use Rattle.std.proofs.lemmas.List.{length-map, length-take, take_more, take_all, get_or_append_left, get_or_push}
 use Rattle.std.proofs.lemmas.List.Sums.{sum_by-cons}
-use Rattle.segments.specs.Pages.{pages_from, page_total, IsPaged, IsKept}
+use Rattle.segments.specs.Pages.{pages_from, IsPaged, IsKept}
 use Rattle.segments.proofs.Sums.{sum_by-map}
 use Rattle.segments.proofs.Moves.{apart_moved, within_moved, as_many}
 use Rattle.segments.proofs.Views.{pages_at_is, page_in, length-pages}
@@ -30,9 +30,10 @@ few_set (u ∷ us) zero t all few (suc s) = all (suc s)
 few_set (u ∷ us) (suc slot) t all few zero = all zero
 few_set (u ∷ us) (suc slot) t all few (suc s) = few_set us slot t (λ r. all (suc r)) few s
 
--- a page is written
-pub kept_written : (frames : List (List ℕ)) (tables : List (List ℕ)) (free : List ℕ) (f : ℕ) (page : List ℕ) → IsKept frames tables free → length page ≡ 256 → IsKept (set frames f page) tables free
-kept_written frames tables free f page kept size = record {
+-- a page is written, of a frame that is not free
+pub kept_written : (frames : List (List ℕ)) (tables : List (List ℕ)) (free : List ℕ) (f : ℕ) (page : List ℕ) → IsKept frames tables free → length page ≡ 256 → ((k : ℕ) → k < length free → get_or free k 0 ≢ f)
+    → IsKept (set frames f page) tables free
+kept_written frames tables free f page kept size taken = record {
   apart = kept.apart;
   within = λ i k lt. omega (arith, kept.within i k lt, length-set frames f page);
   all = kept.all;
@@ -41,6 +42,7 @@ kept_written frames tables free f page kept size = record {
     | inl e ↦ ap (λ (i : ℕ). length (get_or (set frames f page) i [])) e ∙ ap length (get_or-set_same frames f page [] (omega (arith, lt, e, length-set frames f page))) ∙ size
     | inr ne ↦ ap length (get_or-set_other frames f g page [] ne) ∙ kept.whole g (omega (arith, lt, length-set frames f page))
   ];
+  blank = λ k lt. get_or-set_other frames f (get_or free k 0) page [] (taken k lt) ∙ kept.blank k lt;
 }
 
 -- a frame that was free goes to a slot
@@ -52,6 +54,8 @@ kept_given frames tables free rest f slot kept was lt few = record {
   all = as_many (free ∷ tables) 0 (suc slot) f rest (omega arith) (omega arith) (λ (e : 0 ≡ suc slot). omega arith) was ∙ kept.all ∙ sym (length-set tables slot (get_or tables slot [] ++ f ∷ []));
   few = few_set tables slot _ kept.few (omega (arith, length-append (get_or tables slot []) (f ∷ [])));
   whole = kept.whole;
+  blank = λ k lt. ap (λ (i : ℕ). get_or frames i []) (sym (get_or_append_left rest (f ∷ []) 0 k lt) ∙ ap (λ (ys : List ℕ). get_or ys k 0) (sym was))
+      ∙ kept.blank k (omega (arith, lt, ap length was, length-append rest (f ∷ [])));
 }
 
 pub front_last : (xs : List ℕ) → 0 < length xs → xs ≡ take (length xs - 1) xs ++ get_or xs (length xs - 1) 0 ∷ []
@@ -59,10 +63,10 @@ front_last xs some =
     let n : length xs - 1 + 1 ≡ length xs = omega arith in
     sym (take_all (length xs) xs (omega arith)) ∙ sym (ap (λ (n : ℕ). take n xs) n) ∙ take_more xs (length xs - 1) 0 (omega arith)
 
--- the last frame of a slot is free again
+-- the last frame of a slot, which is blank, is free again
 pub kept_back : (frames : List (List ℕ)) (tables : List (List ℕ)) (free : List ℕ) (slot : ℕ) → IsKept frames tables free → slot < length tables → 0 < length (get_or tables slot [])
-    → (let t = get_or tables slot [] in IsKept frames (set tables slot (take (length t - 1) t)) (free ++ get_or t (length t - 1) 0 ∷ []))
-kept_back frames tables free slot kept lt some =
+    → (let t = get_or tables slot [] in get_or frames (get_or t (length t - 1) 0) [] ≡ replicate 256 0 → IsKept frames (set tables slot (take (length t - 1) t)) (free ++ get_or t (length t - 1) 0 ∷ []))
+kept_back frames tables free slot kept lt some clear =
     let t = get_or tables slot [] in
     let front = take (length t - 1) t in
     let last = get_or t (length t - 1) 0 in
@@ -73,4 +77,8 @@ kept_back frames tables free slot kept lt some =
       all = as_many (free ∷ tables) (suc slot) 0 last front (omega arith) (omega arith) ne (front_last t some) ∙ kept.all ∙ sym (length-set tables slot front);
       few = few_set tables slot front kept.few (omega (arith, length-take (length t - 1) t, kept.few slot));
       whole = kept.whole;
+      blank = λ k less. elim (cases_lt k (length free)) [
+        | inl before ↦ ap (λ (i : ℕ). get_or frames i []) (get_or_append_left free (last ∷ []) 0 k before) ∙ kept.blank k before
+        | inr le ↦ ap (λ (i : ℕ). get_or frames i []) (get_or_push free last 0 k (omega (arith, less, le, length-append free (last ∷ [])))) ∙ clear
+      ];
     }

@@ -1,7 +1,7 @@
 -- The pages of segments, by slot, and the frames that they lie in. No public clause cites this
 -- module.
 use Rattle.std.specs.Prelude.{◌≡◌, ℕ, ◌<◌, ◌≤◌, List, [], ◌∷◌, map, length, sum_by}
-use Rattle.std.specs.Prelude.{slice_index, slice_index_or}
+use Rattle.std.specs.Prelude.{slice_index, slice_index_or, replicate}
 use Rattle.kernel_rules.specs.Sizes.{page_bytes, most_pages}
 
 -- the pages of a slot
@@ -37,7 +37,8 @@ IsApart lists =
     (i j k l : ℕ) → k < length (slice_index_or lists i []) → l < length (slice_index_or lists j [])
     → frame_at lists i k ≡ frame_at lists j l → (i ≡ j) × (k ≡ l)
 
--- the frames: each stands once, free or in a slot's table
+-- the frames: each stands once, free or in a slot's table; one that is free holds 0 alone, so that
+-- nothing is left of what was given back
 pub record IsKept (frames : List (List ℕ)) (tables : List (List ℕ)) (free : List ℕ) : Type 0 where
   pub apart : IsApart (free ∷ tables)
   pub within : (i k : ℕ) → k < length (slice_index_or (free ∷ tables) i [])
@@ -46,3 +47,5 @@ pub record IsKept (frames : List (List ℕ)) (tables : List (List ℕ)) (free : 
   pub few : (slot : ℕ) → length (slice_index_or tables slot []) ≤ most_pages
   pub whole : (frame : ℕ) → frame < length frames
       → length (slice_index_or frames frame []) ≡ page_bytes
+  pub blank : (k : ℕ) → k < length free
+      → slice_index_or frames (slice_index free k) [] ≡ replicate page_bytes 0

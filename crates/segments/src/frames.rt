@@ -9,7 +9,7 @@ use base::{Data, Meter, NoMemory};
 use std::alloc::Global;
 use std::marker::Model;
 
-/// The pages of each slot, of 256 bytes. A contract sees the list of them, by slot.
+/// The pages of each slot, of 256 bytes. A contract sees the list of them, by slot. A frame that no slot has holds 0 alone.
 #[derive(Drop)]
 pub struct Frames {
     frames: Vec<[u8; 256]>,
@@ -129,7 +129,7 @@ impl Frames {
         }
     }
 
-    /// Takes the last page from a slot. All others stay. One probe.
+    /// Takes the last page from a slot. All others stay. One probe. (Its frame is cleared: a frame that is free holds 0 alone.)
     pub fn pop(&mut self, slot: usize, meter: &mut Meter)
         requires slot { slot < length self.old }
         requires some { 0 < length (pages_at self.old slot) }
@@ -140,6 +140,7 @@ impl Frames {
         meter.probe();
         let table = &mut self.tables[slot];
         let frame = table.pop();
+        self.frames[frame] = [0; 256];
         self.free.push_reserved(frame);
     }
 

@@ -3,8 +3,8 @@ use crate::raw::Raw;
 use crate::trusted::Thread;
 use crate::{Call, Limits, Refusal, Reply, Session};
 
-/// A label kernel. It can be sent to another thread, and one thread at a time calls it: share it by a `Mutex`, or use
-/// [`Replicas`](crate::Replicas).
+/// A label kernel. It can be sent to another thread, and one thread at a time calls it: many threads
+/// [share](crate::Shared) one.
 ///
 /// ```
 /// fn can_be_sent<T: Send>() {}

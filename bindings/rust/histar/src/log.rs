@@ -27,7 +27,7 @@ impl Kernel {
     /// Begins the log, before the first write call. From here on each write call takes memory.
     ///
     /// # Errors
-    /// `NoCall` where a write call was made already.
+    /// `BadBatch` where a write call was made already.
     pub fn log_on(&self) -> Result<(), Refusal> {
         self.ask_log(40, [], |_| ())
     }
@@ -35,7 +35,7 @@ impl Kernel {
     /// The dump of the log. The log stays as it is, so it may be dumped again, and calls may follow.
     ///
     /// # Errors
-    /// `NoCall` where no log was begun, and `TextMemory` where the library has no memory for the text.
+    /// `BadBatch` where no log was begun, and `TextMemory` where the library has no memory for the text.
     pub fn dump(&self) -> Result<String, Refusal> {
         let len = self.ask_log(41, [], |answer| answer.numbers[0])? as usize;
         let mut text = Vec::with_capacity(len);

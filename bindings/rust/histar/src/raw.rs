@@ -4,6 +4,7 @@ use crate::Limits;
 use std::cell::{RefCell, UnsafeCell};
 use std::marker::PhantomData;
 use std::mem::{align_of, size_of};
+use std::time::Duration;
 
 /// A label in a record.
 #[repr(C)]
@@ -84,19 +85,82 @@ impl Answer {
     };
 }
 
-/// The memory that a kernel stands in, which only the library looks at.
+/// The memory that a kernel, a shared kernel or a seat stands in, which only the library looks at.
 #[repr(C, align(16))]
 struct Room([u64; 384]);
 
+impl Room {
+    /// Room in which nothing is held.
+    fn new() -> Box<Room> {
+        // SAFETY: these functions look at nothing.
+        let needed = unsafe { histar_size().max(histar_seat_size()).max(histar_shared_size()) };
+        assert!(needed <= size_of::<Room>(), "the library needs a larger room than this crate gives");
+        Box::new(Room([0; 384]))
+    }
+}
+
 extern "C" {
+    fn histar_shared_size() -> usize;
+    fn histar_seat_size() -> usize;
+    fn histar_shared_boot(
+        pages: u32,
+        device_level: u8,
+        next_id: u64,
+        next_category: u64,
+        calls: u64,
+        shared: *mut Room,
+    );
+    fn histar_seat_boot(shared: *mut Room, seat: *mut Room);
+    fn histar_seat_call(seat: *mut Room, request: *const Request, answer: *mut Answer) -> u32;
+    fn histar_seat_end(seat: *mut Room);
+    fn histar_shared_end(shared: *mut Room);
     fn histar_size() -> usize;
+    fn histar_version() -> u32;
     fn histar_boot(pages: u32, device_level: u8, next_id: u64, next_category: u64, room: *mut Room);
     fn histar_call(room: *mut Room, request: *const Request, answer: *mut Answer) -> u32;
     fn histar_end(room: *mut Room);
 }
 
 /// The number that a record is told which asks for nothing.
-const NO_CALL: u32 = 45;
+const BAD_BATCH: u32 = 45;
+
+/// The number that tells that the library is of another version.
+const OTHER_VERSION: u32 = 32;
+
+/// A number of this crate's version.
+const fn number(digits: &str) -> u32 {
+    let digits = digits.as_bytes();
+    let (mut place, mut value) = (0, 0);
+    while place < digits.len() {
+        value = 10 * value + (digits[place] - b'0') as u32;
+        place += 1;
+    }
+    value
+}
+
+/// This crate's version, as the library tells its own.
+const VERSION: u32 = 10_000 * number(env!("CARGO_PKG_VERSION_MAJOR"))
+    + 100 * number(env!("CARGO_PKG_VERSION_MINOR"))
+    + number(env!("CARGO_PKG_VERSION_PATCH"));
+
+/// The number that a seat's call is told while another seat adds its own.
+const BUSY: u32 = 46;
+
+/// A seat that is told so asks again: at once, then after others had a turn, then after a millisecond each. After a fifth of a second it is
+/// refused: the other's thread may be stopped.
+const TRIES_AT_ONCE: u32 = 100;
+const TRIES_IN_TURN: u32 = 200;
+const TRIES: u32 = 400;
+
+/// Whether the library is of this crate's version. The error is the number that tells that it is not.
+fn check_version() -> Result<(), u32> {
+    // SAFETY: the function takes nothing and looks at nothing.
+    if unsafe { histar_version() } == VERSION {
+        Ok(())
+    } else {
+        Err(OTHER_VERSION)
+    }
+}
 
 /// Writes zeros over a value that nobody reads again, so that the compiler may not leave it out.
 fn wipe<const N: usize>(words: &mut [u64; N]) {
@@ -134,9 +198,17 @@ impl Records {
     }
 }
 
-/// A booted kernel, with the records of its last call.
+/// What a room holds.
+#[derive(Clone, Copy, PartialEq, Eq)]
+enum Holds {
+    Kernel,
+    Seat,
+}
+
+/// A booted kernel or a seat, with the records of its last call.
 pub(crate) struct Raw {
     room: UnsafeCell<Box<Room>>,
+    holds: Holds,
     records: RefCell<Box<Records>>,
     // Not `Sync`: one call at a time uses a kernel.
     one_caller: PhantomData<*mut Room>,
@@ -147,36 +219,56 @@ pub(crate) struct Raw {
 unsafe impl Send for Raw {}
 
 impl Raw {
-    /// Boots a kernel. The error is the number that tells why there is none.
-    pub fn boot(limits: &Limits) -> Result<Raw, u32> {
+    /// A kernel or a seat in a room that holds it, or why there is none: then the error is the number that tells why.
+    ///
+    /// # Safety
+    /// `histar_boot` or, for a seat, `histar_seat_boot` filled the room.
+    unsafe fn of(room: Box<Room>, holds: Holds) -> Result<Raw, u32> {
         let raw = Raw {
-            room: UnsafeCell::new(Box::new(Room([0; 384]))),
+            room: UnsafeCell::new(room),
+            holds,
             records: RefCell::new(Box::new(Records { request: Request::ZEROS, answer: Answer::ZEROS })),
             one_caller: PhantomData,
         };
-        // SAFETY: the room is this kernel's own and nothing is held in it yet. It is large enough, which is asserted first,
-        // and stands at a multiple of 16. From here on it holds a kernel, or why there is none.
-        unsafe {
-            assert!(histar_size() <= size_of::<Room>(), "the library needs a larger room than this crate gives");
-            let room: *mut Room = &mut **raw.room.get();
-            histar_boot(limits.pages, limits.device.number(), limits.next_id, limits.next_category, room);
-        }
         // A record of zeros asks for nothing: a kernel that is there says so.
         match raw.ask(|_| (), |_| ()) {
-            Err(NO_CALL) => Ok(raw),
+            Err(BAD_BATCH) => Ok(raw),
             Err(why) => Err(why),
             Ok(()) => unreachable!("the library did what was not asked"),
         }
     }
 
-    /// Does what the records ask for. Gives the number of the refusal, 0 for none.
+    /// Boots a kernel. The error is the number that tells why there is none.
+    pub fn boot(limits: &Limits) -> Result<Raw, u32> {
+        check_version()?;
+        let mut room = Room::new();
+        // SAFETY: the room is this kernel's own and nothing is held in it yet. It is large enough and stands at a multiple of 16. From
+        // here on it holds a kernel, or why there is none.
+        unsafe {
+            histar_boot(limits.pages, limits.device.number(), limits.next_id, limits.next_category, &mut *room);
+            Raw::of(room, Holds::Kernel)
+        }
+    }
+
+    /// Does what the records ask for. Gives the number of the refusal, 0 for none. A seat asks again while another adds its call.
     fn serve(&self, records: &mut Records) -> u32 {
-        // SAFETY: `boot` made the room hold what `histar_call` requires, and each call keeps that. The records are borrowed for the
+        // SAFETY: a boot made the room hold what the call requires, and each call keeps that. The records are borrowed for the
         // length of the call, so no other call is made meanwhile: a `Raw` is not `Sync`. They are whole and have the layout of the
         // library's.
         unsafe {
             let room: *mut Room = &mut **self.room.get();
-            histar_call(room, &records.request, &mut records.answer)
+            if self.holds == Holds::Kernel {
+                return histar_call(room, &records.request, &mut records.answer);
+            }
+            for tries in 0..TRIES {
+                match histar_seat_call(room, &records.request, &mut records.answer) {
+                    BUSY if tries < TRIES_AT_ONCE => std::hint::spin_loop(),
+                    BUSY if tries < TRIES_IN_TURN => std::thread::yield_now(),
+                    BUSY => std::thread::sleep(Duration::from_millis(1)),
+                    number => return number,
+                }
+            }
+            BUSY
         }
     }
 
@@ -195,14 +287,63 @@ impl Raw {
 impl Drop for Raw {
     fn drop(&mut self) {
         let room = &mut **self.room.get_mut();
-        // SAFETY: a `Raw` is dropped only after `histar_boot` filled its room, or by a panic before that in `boot`, where
-        // the program's library doesn't fit and no room was filled.
+        // SAFETY: a `Raw` is made of a room that a boot filled, and of no other.
         unsafe {
-            if histar_size() <= size_of::<Room>() {
-                histar_end(room);
+            match self.holds {
+                Holds::Kernel => histar_end(room),
+                Holds::Seat => histar_seat_end(room),
             }
         }
         wipe(&mut room.0);
         self.records.get_mut().request = Request::ZEROS;
+    }
+}
+
+/// A kernel that threads share.
+pub(crate) struct RawShared {
+    room: Box<Room>,
+    // Not `Sync`: one seat at a time is opened.
+    one_caller: PhantomData<*mut Room>,
+}
+
+// SAFETY: as for `Raw`. The library's proof has that what the room holds is `Send`.
+unsafe impl Send for RawShared {}
+
+impl RawShared {
+    /// A kernel to share, whose list has room for so many write calls. Why there is none is told by its first seat.
+    pub fn boot(limits: &Limits, calls: u64) -> RawShared {
+        let mut room = Room::new();
+        // SAFETY: the room is its own and nothing is held in it yet. It is large enough and stands at a multiple of 16.
+        unsafe {
+            histar_shared_boot(
+                limits.pages,
+                limits.device.number(),
+                limits.next_id,
+                limits.next_category,
+                calls,
+                &mut *room,
+            );
+        }
+        RawShared { room, one_caller: PhantomData }
+    }
+
+    /// A seat. The error is the number that tells why there is none.
+    pub fn seat(&mut self) -> Result<Raw, u32> {
+        check_version()?;
+        let mut room = Room::new();
+        // SAFETY: `boot` made this room hold what `histar_seat_boot` requires, which keeps it, and `&mut self` keeps every other call
+        // away. The seat's room is its own and nothing is held in it yet; from here on it holds a seat, or why there is none.
+        unsafe {
+            histar_seat_boot(&mut *self.room, &mut *room);
+            Raw::of(room, Holds::Seat)
+        }
+    }
+}
+
+impl Drop for RawShared {
+    fn drop(&mut self) {
+        // SAFETY: `boot` filled the room.
+        unsafe { histar_shared_end(&mut *self.room) }
+        wipe(&mut self.room.0);
     }
 }

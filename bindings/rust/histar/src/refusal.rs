@@ -60,18 +60,24 @@ pub enum Refusal {
     Unavailable = 30,
     /// A limit is out of its range.
     BadLimits = 31,
-    /// There is no memory for the call's event in the log.
+    /// The library is of another version than this crate.
+    OtherVersion = 32,
+    /// There is no memory to keep the call: in the log, or in the list of a shared kernel.
     Memory = 40,
     /// The arguments make no call, as a label of 25 pairs or 65 bytes.
-    NoCall = 45,
-    /// Another call uses the kernel, which the crate rules out.
+    BadBatch = 45,
+    /// Another thread stands still in the middle of adding its call to the list of a shared kernel. The call may be made again.
     Busy = 46,
+    /// The list of a shared kernel has no room for the call.
+    ListFull = 47,
+    /// The note is of another shared kernel.
+    OtherList = 48,
     /// There is no memory for the text of a dump.
     TextMemory = 51,
 }
 
 /// All refusals.
-const REFUSALS: [Refusal; 31] = [
+const REFUSALS: [Refusal; 34] = [
     Refusal::Halted,
     Refusal::NoAccess,
     Refusal::NoEntry,
@@ -99,9 +105,12 @@ const REFUSALS: [Refusal; 31] = [
     Refusal::Spent,
     Refusal::Unavailable,
     Refusal::BadLimits,
+    Refusal::OtherVersion,
     Refusal::Memory,
-    Refusal::NoCall,
+    Refusal::BadBatch,
     Refusal::Busy,
+    Refusal::ListFull,
+    Refusal::OtherList,
     Refusal::TextMemory,
 ];
 
@@ -156,7 +165,7 @@ impl From<Refusal> for std::io::Error {
             }
             Refusal::NoAccess | Refusal::NoEntry => ErrorKind::NotFound,
             Refusal::Unavailable | Refusal::Memory | Refusal::TextMemory => ErrorKind::OutOfMemory,
-            Refusal::NoCall | Refusal::BadLimits | Refusal::Bounds => ErrorKind::InvalidInput,
+            Refusal::BadBatch | Refusal::BadLimits | Refusal::Bounds => ErrorKind::InvalidInput,
             _ => ErrorKind::Other,
         };
         std::io::Error::new(kind, refusal)

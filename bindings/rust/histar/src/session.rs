@@ -18,7 +18,7 @@ macro_rules! expect_reply {
 /// A kernel and one thread of it. Whoever has a session calls as its thread and as no other: it leads to no other thread's calls
 /// but to those of threads that it makes. [`Kernel::session`] is the boot thread's.
 ///
-/// Each call may be refused [`Halted`](Refusal::Halted), where the thread is gone, [`NoCall`](Refusal::NoCall), where the arguments
+/// Each call may be refused [`Halted`](Refusal::Halted), where the thread is gone, [`BadBatch`](Refusal::BadBatch), where the arguments
 /// make no call, as 65 bytes, and [`Memory`](Refusal::Memory), where calls are kept and there is no memory for it. One that names an
 /// entry may be refused [`NoAccess`](Refusal::NoAccess), where its container is not there or not observed, and
 /// [`NoEntry`](Refusal::NoEntry), where the container does not list the object. A method's Errors name the refusals beside these.

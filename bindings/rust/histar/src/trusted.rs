@@ -1,7 +1,7 @@
 //! Ids of threads, and sessions of any of them. Whoever has a thread's id and the kernel calls as that thread, so this is for what
 //! decides who calls: a program that maps its clients to threads, or plays scripts. What serves clients is given a
 //! [`Session`], which leads to no other thread.
-use crate::{Kernel, Object, Session};
+use crate::{Kernel, Object, Seat, Session};
 
 /// The id of a thread, which makes calls.
 #[derive(Clone, Copy, PartialEq, Eq, PartialOrd, Ord, Debug, Hash)]
@@ -35,4 +35,9 @@ impl From<Thread> for Object {
 /// ```
 pub fn session_of(kernel: &Kernel, thread: Thread) -> Session<'_> {
     Session::new(kernel, thread)
+}
+
+/// The session of any thread, through a seat.
+pub fn session_at(seat: &Seat, thread: Thread) -> Session<'_> {
+    seat.session_of(thread)
 }

@@ -93,10 +93,10 @@ fn what_is_no_call_changes_nothing() {
     let kernel = kernel();
     let boot = kernel.session();
     let segment = Entry::in_root(boot.segment_create(ROOT, &label! { L1 }, 2, 1).unwrap());
-    assert_eq!(boot.segment_write(segment, 0, &[1; 65]), Err(Refusal::NoCall));
-    assert_eq!(boot.meta_set(segment, &[1; 65]), Err(Refusal::NoCall));
+    assert_eq!(boot.segment_write(segment, 0, &[1; 65]), Err(Refusal::BadBatch));
+    assert_eq!(boot.meta_set(segment, &[1; 65]), Err(Refusal::BadBatch));
     let wide = (1..26).fold(label! { L1 }, |label, c| label.with(Category(c), Level::L2));
-    assert_eq!(boot.self_set_label(&wide), Err(Refusal::NoCall));
+    assert_eq!(boot.self_set_label(&wide), Err(Refusal::BadBatch));
     assert_eq!(boot.segment_write(segment, 200, &[1; 64]), Err(Refusal::Bounds));
     assert_eq!(boot.segment_read(segment, 192, 64).unwrap(), [0; 64]);
     boot.segment_write(segment, 0, &[1; 64]).unwrap();
@@ -161,7 +161,7 @@ fn labels_are_spelled_as_in_scripts() {
     assert_eq!(spelled(24).parse::<Label>().unwrap().to_string(), spelled(24));
     assert!(spelled(25).parse::<Label>().is_err());
     assert_eq!(Refusal::CannotObserve.to_string(), "5 CannotObserve");
-    assert_eq!(Refusal::of(45), Some(Refusal::NoCall));
+    assert_eq!(Refusal::of(45), Some(Refusal::BadBatch));
     assert_eq!(Refusal::of(26), None);
 }
 

@@ -21,7 +21,7 @@ fn each_write_call_is_an_event() {
     // (reads, refused or not, what is no call, and look-ups are no events)
     assert_eq!(stranger.segment_read(secret, 0, 3), Err(Refusal::CannotObserve));
     assert_eq!(boot.segment_read(secret, 0, 3).unwrap(), b"key");
-    assert_eq!(boot.segment_write(secret, 0, &[0; 65]), Err(Refusal::NoCall));
+    assert_eq!(boot.segment_write(secret, 0, &[0; 65]), Err(Refusal::BadBatch));
     assert_eq!(kernel.kept_live(0), Some(ROOT));
     let dump = kernel.dump().unwrap();
     assert_eq!(
@@ -45,17 +45,17 @@ fn each_write_call_is_an_event() {
 fn a_log_begins_with_the_first_call() {
     let kernel = Kernel::boot(64).unwrap();
     let boot = kernel.session();
-    assert_eq!(kernel.dump(), Err(Refusal::NoCall));
+    assert_eq!(kernel.dump(), Err(Refusal::BadBatch));
     boot.self_get().unwrap();
     kernel.log_on().unwrap();
     assert_eq!(events(&kernel.dump().unwrap()), [""; 0]);
     kernel.log_on().unwrap();
     assert_eq!(boot.unref(Entry::in_root(ROOT)), Err(Refusal::RootKept));
-    assert_eq!(kernel.log_on(), Err(Refusal::NoCall));
+    assert_eq!(kernel.log_on(), Err(Refusal::BadBatch));
     assert_eq!(events(&kernel.dump().unwrap()), ["event 2 1 unref #1 #1 => refused 16 RootKept"]);
 
     let late = Kernel::boot(64).unwrap();
     late.session().cat_create().unwrap();
-    assert_eq!(late.log_on(), Err(Refusal::NoCall));
-    assert_eq!(late.dump(), Err(Refusal::NoCall));
+    assert_eq!(late.log_on(), Err(Refusal::BadBatch));
+    assert_eq!(late.dump(), Err(Refusal::BadBatch));
 }

@@ -1,6 +1,6 @@
-use Rattle.std.proofs.Common.{List, ℕ, ap₂, ◌∙◌, subst}
+use Rattle.std.proofs.Common.{Bool, List, ℕ, ap, ap₂, ◌∙◌, subst}
 use Rattle.auditor.specs.Verdict.{IsVerdict, TellsFalse}
-use Rattle.audit_program.specs.Told.{told_text, IsHiddenIn, IsMigration, IsReachedIn}
+use Rattle.audit_program.specs.Told.{is_asked, told_text, IsHiddenIn, IsMigration, IsReachedIn}
 use Rattle.audit_program.proofs.ToldLaws.{told_if}
 use Rattle.audit_program.proofs.program.run.Goals as goal
 
@@ -20,5 +20,8 @@ returns g c =
     (subst (λ (b : List ℕ). IsReachedIn asked.flow b verdict reached) seen c.in_ok-reached.ensures)
     (subst (λ (b : List ℕ). IsHiddenIn hidden b verdict told) seen c.in_ok-told.ensures)
     (subst (λ (b : List ℕ). IsMigration asked.migrate b verdict file) seen c.in_ok-file.ensures)
-    (c.in_ok-text.ensures ∙ ap₂ (told_text verdict) c.as_slice.ensures.value c.as_slice-2.ensures.value) c.as_slice-3.ensures.value
+    (c.in_ok-text.ensures ∙ ap₂ (λ rs ts. told_text verdict c.is_asked-flows.result rs c.is_asked-observed.result ts) c.as_slice.ensures.value c.as_slice-2.ensures.value
+    ∙ ap₂ (λ flows observed. told_text verdict flows reached observed told)
+    (c.is_asked-flows.ensures ∙ ap (λ (b : Bool). is_asked b verdict) c.is_some.ensures)
+    (c.is_asked-observed.ensures ∙ ap (λ (b : Bool). is_asked b verdict) c.is_some-2.ensures)) c.as_slice-3.ensures.value
     c.in_ok-deliver.ensures.whole

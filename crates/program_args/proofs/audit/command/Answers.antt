@@ -1,6 +1,10 @@
-use Rattle.std.proofs.Common.{◌∙◌, ap, ap₂}
-use Rattle.clap.specs.Simple.{app_of_fields, with_rule}
+use Rattle.std.proofs.Common.{◌∙◌, ap, ap₂, true}
+use Rattle.clap.specs.Simple.{App, app_of_fields, on_top, with_rule}
 use Rattle.program_args.proofs.audit.command.Goals as goal
+
+-- a command that has a version
+abbrev versioned : App → App
+versioned = on_top (λ s. record s { has_version = true })
 
 pub returns-clause-app : goal.returns-clause-app
 returns-clause-app c =
@@ -14,7 +18,8 @@ returns-clause-app c =
     ∙ ap₂ with_rule
     (c.in_ok-one.ensures.shape c.file.ensures.local
     ∙ ap₂ with_rule
-    (ap app_of_fields c.about-told.ensures ∙ ap app_of_fields c.in_ok-named.ensures.0 ∙ c.new.ensures.app)
+    (ap app_of_fields c.version-told.ensures ∙ ap (λ x. versioned (app_of_fields x)) c.about.ensures
+    ∙ ap (λ x. versioned (app_of_fields x)) c.in_ok-named.ensures.0 ∙ ap versioned c.new.ensures.app)
     c.file.ensures.rule)
     c.migrated.ensures.rule)
     c.from.ensures.rule)

@@ -1,0 +1,33 @@
+#!/bin/sh
+# What the packages of ./package weigh, as the table of README: the packages, what they lay, a program in C that is linked with the archive,
+# and a start, the least of twenty in milliseconds.
+set -eu
+cd "$(dirname "$0")/.."
+[ -d out/packages ] || { echo 'benches/packages.sh: out/packages is missing: run ./package' >&2; exit 69; }
+room=$(mktemp -d)
+trap 'rm -rf "$room"' EXIT
+kb() { echo "$(($(stat -c %s "$1") / 1000)) KB"; }
+for it in out/packages/*.deb; do
+    name=${it##*/}
+    dpkg-deb -x "$it" "$room/${name%%_*}"
+    echo "| the package ${name%%_*} | $(kb "$it"), $(du -sk --apparent-size "$room/${name%%_*}" | cut -f1) KB installed |"
+done
+echo "| the sources | $(kb out/packages/*.tar.gz) |"
+cc -O2 -Iinclude bindings/c/first_refusal.c out/lib/libhistar.a -Wl,--gc-sections -s -o "$room/linked"
+echo "| a program in C, linked | $(kb "$room/linked") |"
+python3 - "$room" <<'PROGRAM'
+import subprocess
+import sys
+import time
+
+
+def took(words):
+    begin = time.monotonic()
+    subprocess.run(words, stdout=subprocess.DEVNULL, check=True)
+    return 1_000 * (time.monotonic() - begin)
+
+
+room = sys.argv[1]
+for what, words in (("histar run first.histar", [f"{room}/koalaingot/usr/bin/histar", "run", "examples/first.histar"]), ("that program in C", [f"{room}/linked"])):
+    print(f"| a start of {what} | {min(took(words) for _ in range(20)):.1f} ms |")
+PROGRAM

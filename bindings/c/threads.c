@@ -1,0 +1,198 @@
+/* Threads share one kernel, each through a seat of its own, with no lock but one for the notes that they leave one another. Each makes segments and writes numbers, and
+ * reads what the others write: no id is given twice or left out, no read goes back, each thread sees its own writes and what it was
+ * told of, and a seat that comes late is in the state of the others. This is done again and again, for so many seconds. Then a thread
+ * is stopped in the middle of adding a call: reads go on, and a write is refused 46 and is made once the thread goes on. For that the
+ * thread is stopped wherever it is, until it is there; with 0 tries it is left out.
+ *
+ * threads [SECONDS TRIES]   2 seconds and 3,000 tries without words */
+#define _GNU_SOURCE
+#include "histar.h"
+#include <pthread.h>
+#include <signal.h>
+#include <stdio.h>
+#include <stdlib.h>
+#include <time.h>
+
+enum { THREADS = 8, MOST = 5000, ROOM = 3 * THREADS * MOST + 1000 };
+
+static histar_shared shared;
+static histar seats[THREADS], late;
+static uint64_t segments[THREADS], ids[THREADS][MOST];
+static uint64_t told[THREADS];       /* the number that each thread wrote last, in ordinary memory */
+static pthread_barrier_t start;
+
+/* What each thread last noted. */
+static histar_note notes[THREADS];
+static pthread_mutex_t notes_lock = PTHREAD_MUTEX_INITIALIZER;
+
+static void must(int holds, const char *what)
+{
+    if (holds) return;
+    fprintf(stderr, "threads: %s\n", what);
+    exit(1);
+}
+static void done(uint32_t refusal)
+{
+    if (refusal) fprintf(stderr, "threads: refused %u %s\n", refusal, histar_refusal_name(refusal));
+    must(!refusal, "a call was refused");
+}
+static histar_entry in_root(uint64_t object) { return histar_in(HISTAR_ROOT, object); }
+
+/* Eight numbers, all alike unless a write is seen in part. */
+static void writes(histar *seat, uint64_t segment, uint64_t number)
+{
+    uint64_t eight[8];
+    for (int i = 0; i < 8; i++) eight[i] = number;
+    done(histar_segment_write(seat, HISTAR_BOOT, in_root(segment), 0, eight, 64));
+}
+static uint64_t reads(histar *seat, uint64_t segment)
+{
+    uint64_t eight[8];
+    done(histar_segment_read(seat, HISTAR_BOOT, in_root(segment), 0, eight, 64));
+    for (int i = 1; i < 8; i++) must(eight[i] == eight[0], "a write was seen in part");
+    return eight[0];
+}
+
+static void *work(void *given)
+{
+    size_t me = (size_t)given;
+    histar *seat = &seats[me];
+    histar_label plain = histar_level(1);
+    uint64_t last[THREADS] = {0};
+    pthread_barrier_wait(&start);
+    for (long round = 0; round < MOST; round++) {
+        done(histar_segment_create(seat, HISTAR_BOOT, HISTAR_ROOT, &plain, 1, 0, &ids[me][round]));
+        done(histar_unref(seat, HISTAR_BOOT, in_root(ids[me][round])));
+        writes(seat, segments[me], (uint64_t)round);
+        __atomic_store_n(&told[me], (uint64_t)round, __ATOMIC_SEQ_CST);
+        if (round % 16 == 0) {
+            histar_note note;
+            size_t from = (me + 1) % THREADS;
+            pthread_mutex_lock(&notes_lock);
+            note = notes[from];
+            pthread_mutex_unlock(&notes_lock);
+            if (note.at) done(histar_learn(seat, note));
+            done(histar_seen(seat, &note));
+            pthread_mutex_lock(&notes_lock);
+            notes[me] = note;
+            pthread_mutex_unlock(&notes_lock);
+        }
+        for (size_t other = 0; other < THREADS; other++) {
+            uint64_t at_least = __atomic_load_n(&told[other], __ATOMIC_SEQ_CST), read = reads(seat, segments[other]);
+            must(read >= last[other], "a read went back");
+            must(read >= at_least, "a read did not see a call that had returned");
+            must(other != me || read == (uint64_t)round, "a thread does not see its own write");
+            last[other] = read;
+        }
+    }
+    return NULL;
+}
+
+static int compare(const void *one, const void *other)
+{
+    uint64_t a = *(const uint64_t *)one, b = *(const uint64_t *)other;
+    return a < b ? -1 : a > b;
+}
+
+/* Each id was given once, and no number between is left out: the calls are one list. */
+static void counts_ids(void)
+{
+    static uint64_t all[THREADS * MOST];
+    size_t count = THREADS * (size_t)MOST;
+    for (size_t i = 0; i < count; i++) all[i] = ids[i % THREADS][i / THREADS];
+    qsort(all, count, sizeof *all, compare);
+    for (size_t i = 0; i < count; i++) must(all[i] == segments[THREADS - 1] + 1 + i, "an id was given twice, or left out");
+}
+
+/* A shared kernel with a seat and a segment for each thread. */
+static void opens(uint64_t room)
+{
+    histar_label plain = histar_level(1);
+    done(histar_share(&shared, 64, room));
+    for (size_t i = 0; i < THREADS; i++) done(histar_seat_open(&seats[i], &shared));
+    for (size_t i = 0; i < THREADS; i++) {
+        done(histar_segment_create(&seats[i], HISTAR_BOOT, HISTAR_ROOT, &plain, 2, 1, &segments[i]));
+        told[i] = 0;
+        memset(&notes[i], 0, sizeof notes[i]);
+    }
+}
+
+/* A seat that comes late is in the state of the others. */
+static void closes(void)
+{
+    done(histar_seat_open(&late, &shared));
+    done(histar_unshare(&shared));
+    for (size_t i = 0; i < THREADS; i++) must(reads(&late, segments[i]) == reads(&seats[THREADS - 1 - i], segments[i]), "a late seat is in another state");
+    for (size_t i = 0; i < THREADS; i++) done(histar_close(&seats[i]));
+    done(histar_close(&late));
+}
+
+static void storm(void)
+{
+    pthread_t threads[THREADS];
+    opens(ROOM);
+    for (size_t i = 0; i < THREADS; i++) must(!pthread_create(&threads[i], NULL, work, (void *)i), "no thread");
+    for (size_t i = 0; i < THREADS; i++) pthread_join(threads[i], NULL);
+    counts_ids();
+    closes();
+}
+
+/* ---- A thread that is stopped in the middle of adding a call ---- */
+
+static int held, go_on, stop;
+static pthread_t writer;
+
+/* The writer stands here, in the middle of whatever it did, until it may go on. */
+static void stands(int signal)
+{
+    (void)signal;
+    __atomic_store_n(&held, 1, __ATOMIC_SEQ_CST);
+    while (!__atomic_load_n(&go_on, __ATOMIC_SEQ_CST)) sched_yield();
+    __atomic_store_n(&held, 0, __ATOMIC_SEQ_CST);
+}
+
+static void *writes_on(void *given)
+{
+    (void)given;
+    for (uint64_t number = 0; !__atomic_load_n(&stop, __ATOMIC_RELAXED); number++) writes(&seats[0], segments[0], number);
+    return NULL;
+}
+
+/* How often the writer was stopped until a write was refused because of it. */
+static long stops_in_the_middle(long most)
+{
+    long tries = 0;
+    uint64_t eight[8] = {0};
+    uint32_t refusal = HISTAR_DONE;
+    signal(SIGUSR1, stands);
+    opens(1000000);
+    must(!pthread_create(&writer, NULL, writes_on, NULL), "no thread");
+    while (refusal != HISTAR_BUSY && tries++ < most) {
+        __atomic_store_n(&go_on, 0, __ATOMIC_SEQ_CST);
+        pthread_kill(writer, SIGUSR1);
+        while (!__atomic_load_n(&held, __ATOMIC_SEQ_CST)) sched_yield();
+        refusal = histar_segment_write(&seats[1], HISTAR_BOOT, in_root(segments[1]), 0, eight, 64);
+        must(refusal == HISTAR_DONE || refusal == HISTAR_BUSY, "a write was refused otherwise");
+        for (size_t other = 1; other < THREADS; other++) reads(&seats[other], segments[0]);
+        __atomic_store_n(&go_on, 1, __ATOMIC_SEQ_CST);
+        while (__atomic_load_n(&held, __ATOMIC_SEQ_CST)) sched_yield();
+        for (volatile int wait = 0; wait < 200 + (int)(tries % 37); wait++);
+    }
+    done(histar_segment_write(&seats[1], HISTAR_BOOT, in_root(segments[1]), 0, eight, 64));
+    __atomic_store_n(&stop, 1, __ATOMIC_SEQ_CST);
+    pthread_join(writer, NULL);
+    must(refusal == HISTAR_BUSY, "the writer was never stopped in the middle of adding its call");
+    closes();
+    return tries;
+}
+
+int main(int count, char **words)
+{
+    time_t until = time(NULL) + (count > 1 ? atoi(words[1]) : 2);
+    long most = count > 2 ? atol(words[2]) : 3000, storms = 0;
+    pthread_barrier_init(&start, NULL, THREADS);
+    do storm(), storms++;
+    while (time(NULL) < until);
+    printf("%d threads: %ld histories of %d calls that write, each one list\n", THREADS, storms, 3 * THREADS * MOST + THREADS);
+    if (most) printf("a thread was stopped in the middle of adding a call, at try %ld, and reads went on\n", stops_in_the_middle(most));
+}

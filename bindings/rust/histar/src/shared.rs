@@ -1,0 +1,156 @@
+//! One kernel for many threads, with no lock: each thread has a seat.
+use crate::kernel::refusal;
+use crate::raw::RawShared;
+use crate::trusted::Thread;
+use crate::{Call, Entry, Kernel, Limits, Refusal, Reply, Session};
+use std::sync::atomic::{AtomicU64, Ordering};
+use std::sync::{Mutex, PoisonError};
+
+/// A kernel that threads share. Each thread opens a seat and calls through it, and all seats are in one state: each write call
+/// stands in one list, and a call through a seat first plays what others added to it since, on the seat's own kernel. No call takes a
+/// lock, and a read waits for nobody. That the calls are one history, and that each seat answers by the rules, is proved of the library.
+///
+/// ```
+/// use histar::{label, Entry, Object, Shared};
+///
+/// let shared = Shared::boot(64, 1000)?;
+/// let seat = shared.seat()?;
+/// let made = Entry::in_root(seat.session().segment_create(Object::ROOT, &label! { L1 }, 2, 1)?);
+/// let other = shared.seat()?;
+/// std::thread::spawn(move || other.session().segment_write(made, 0, b"mine")).join().unwrap()?;
+/// assert_eq!(seat.session().segment_read(made, 0, 4)?, b"mine");
+/// # Ok::<(), histar::Refusal>(())
+/// ```
+///
+/// ```
+/// fn can_be_shared<T: Send + Sync>() {}
+/// can_be_shared::<histar::Shared>();
+/// ```
+pub struct Shared {
+    // The lock is taken by the opening of a seat, and by no call.
+    raw: Mutex<RawShared>,
+    number: u64,
+}
+
+/// How many kernels were shared: each has a number of its own.
+static COUNT: AtomicU64 = AtomicU64::new(0);
+
+/// What a seat has seen, for another seat of the same kernel to [learn](Seat::learn).
+#[derive(Clone, Copy, PartialEq, Eq, Debug)]
+pub struct Note {
+    shared: u64,
+    calls: u64,
+}
+
+/// One thread's seat at a [`Shared`] kernel. It keeps what it needs of the shared kernel, which may be dropped before it.
+///
+/// ```
+/// fn can_be_sent<T: Send + 'static>() {}
+/// can_be_sent::<histar::Seat>();
+/// ```
+///
+/// ```compile_fail
+/// fn can_be_shared<T: Sync>() {}
+/// can_be_shared::<histar::Seat>();
+/// ```
+pub struct Seat {
+    kernel: Kernel,
+    shared: u64,
+}
+
+impl Shared {
+    /// A kernel for threads to share, with all limits, whose list has room for so many write calls.
+    ///
+    /// # Errors
+    /// `BadLimits` where a limit is out of its range, and `Unavailable` for want of memory.
+    pub fn boot_with(limits: &Limits, calls: u64) -> Result<Shared, Refusal> {
+        let mut raw = RawShared::boot(limits, calls);
+        raw.seat().map_err(refusal)?; // (a seat is tried: why there is none is told here)
+        Ok(Shared { raw: Mutex::new(raw), number: COUNT.fetch_add(1, Ordering::Relaxed) })
+    }
+
+    /// The same, of so many pages of 256 bytes, 8 to 1,024, with the limits of a script.
+    ///
+    /// # Errors
+    /// As [`boot_with`](Shared::boot_with).
+    pub fn boot(pages: u32, calls: u64) -> Result<Shared, Refusal> {
+        Shared::boot_with(&Limits::pages(pages), calls)
+    }
+
+    /// A seat, which has a kernel of its own. Its first call plays all calls of the list.
+    ///
+    /// # Errors
+    /// `Unavailable` for want of memory.
+    pub fn seat(&self) -> Result<Seat, Refusal> {
+        // (a panic with the lock leaves the shared kernel as it was)
+        let mut raw = self.raw.lock().unwrap_or_else(PoisonError::into_inner);
+        raw.seat().map(|raw| Seat { kernel: Kernel { raw }, shared: self.number }).map_err(refusal)
+    }
+}
+
+impl Seat {
+    /// The session of the boot thread, as [`Kernel::session`].
+    pub fn session(&self) -> Session<'_> {
+        self.kernel.session()
+    }
+
+    /// The session of any thread: for what decides who calls, as [`trusted::session_of`](crate::trusted::session_of).
+    pub(crate) fn session_of(&self, thread: Thread) -> Session<'_> {
+        Session::new(&self.kernel, thread)
+    }
+
+    /// One call of a thread, as [`Kernel::call`]. A write call becomes the last of the list.
+    ///
+    /// # Errors
+    /// Those of the call; and of a write call `Memory`, where there is none to keep it, `ListFull`, where the list has no room, and `Busy`,
+    /// where another thread stands still in the middle of adding its call. It is not made then.
+    pub fn call(&self, thread: Thread, call: &Call<'_>) -> Result<Reply, Refusal> {
+        self.kernel.call(thread, call)
+    }
+
+    /// A note of what the seat has seen.
+    ///
+    /// ```
+    /// use histar::{Refusal, Shared};
+    ///
+    /// let (shared, another) = (Shared::boot(64, 10)?, Shared::boot(64, 10)?);
+    /// let (first, second) = (shared.seat()?, shared.seat()?);
+    /// first.session().cat_create()?;
+    /// second.learn(first.seen())?;
+    /// assert_eq!(second.seen(), first.seen());
+    /// assert_eq!(another.seat()?.learn(first.seen()), Err(Refusal::OtherList));
+    /// # Ok::<(), Refusal>(())
+    /// ```
+    pub fn seen(&self) -> Note {
+        let calls = self.kernel.raw.ask(|request| request.put(43, &Entry::NONE, []), |answer| answer.numbers[0]);
+        Note {
+            shared: self.shared,
+            calls: calls.unwrap_or_else(|_| unreachable!("a seat has seen something or nothing")),
+        }
+    }
+
+    /// The seat sees all that the note tells, so its reads from here on do.
+    ///
+    /// # Errors
+    /// `OtherList` where the note is of another shared kernel, and nothing changes.
+    pub fn learn(&self, note: Note) -> Result<(), Refusal> {
+        if note.shared != self.shared {
+            return Err(Refusal::OtherList);
+        }
+        self.kernel.raw.ask(|request| request.put(44, &Entry::NONE, [note.calls]), |_| ()).map_err(refusal)
+    }
+}
+
+/// It tells nothing of the calls, which have bytes in them.
+impl std::fmt::Debug for Shared {
+    fn fmt(&self, f: &mut std::fmt::Formatter<'_>) -> std::fmt::Result {
+        f.debug_struct("Shared").finish_non_exhaustive()
+    }
+}
+
+/// The same.
+impl std::fmt::Debug for Seat {
+    fn fmt(&self, f: &mut std::fmt::Formatter<'_>) -> std::fmt::Result {
+        f.debug_struct("Seat").finish_non_exhaustive()
+    }
+}

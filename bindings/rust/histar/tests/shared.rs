@@ -1,0 +1,187 @@
+//! Many threads share one kernel, each through a seat.
+use histar::trusted::{session_at, Thread};
+use histar::{label, Call, Entry, Object, Refusal, Reply, Seat, Shared};
+use std::sync::atomic::{AtomicU64, Ordering};
+use std::sync::Arc;
+
+const BOOT: Thread = Thread::BOOT;
+
+fn create() -> Call<'static> {
+    Call::SegmentCreate { container: Object::ROOT, label: label! { L1 }.into(), quota: 2, pages: 1 }
+}
+
+fn made(reply: Result<Reply, Refusal>) -> Object {
+    match reply {
+        Ok(Reply::Object(id)) => id,
+        other => panic!("{other:?}"),
+    }
+}
+
+fn number_in(seat: &Seat, entry: Entry) -> u64 {
+    match seat.call(BOOT, &Call::SegmentRead { entry, offset: 0, count: 8 }) {
+        Ok(Reply::Bytes(bytes)) => u64::from_le_bytes(bytes[..].try_into().unwrap()),
+        other => panic!("{other:?}"),
+    }
+}
+
+#[test]
+fn all_seats_see_what_each_wrote() {
+    let all = Shared::boot(1024, 400).unwrap();
+    std::thread::scope(|scope| {
+        for _ in 0..4 {
+            scope.spawn(|| {
+                let seat = all.seat().unwrap();
+                for _ in 0..50 {
+                    let id = made(seat.call(BOOT, &create()));
+                    let write = Call::SegmentWrite {
+                        entry: Entry::in_root(id),
+                        offset: 0,
+                        bytes: id.0.to_le_bytes().to_vec().into(),
+                    };
+                    assert_eq!(seat.call(BOOT, &write), Ok(Reply::Done));
+                }
+            });
+        }
+    });
+    let last = all.seat().unwrap();
+    for id in 4..204 {
+        assert_eq!(number_in(&last, Entry::in_root(Object(id))), id);
+    }
+}
+
+/// A reader that is told of a write, by an ordinary number in memory, reads that write or a later one.
+#[test]
+fn no_read_is_stale() {
+    let all = Shared::boot(64, 30_000).unwrap();
+    let writer = all.seat().unwrap();
+    let entry = Entry::in_root(made(writer.call(BOOT, &create())));
+    let written = AtomicU64::new(0);
+    const LAST: u64 = 20_000;
+    std::thread::scope(|scope| {
+        for _ in 0..3 {
+            scope.spawn(|| {
+                let seat = all.seat().unwrap();
+                let mut seen = 0;
+                while seen < LAST {
+                    let told = written.load(Ordering::SeqCst);
+                    seen = number_in(&seat, entry);
+                    assert!(told <= seen, "told of {told}, read {seen}");
+                }
+            });
+        }
+        for number in 1..=LAST {
+            let bytes = number.to_le_bytes().to_vec().into();
+            writer.call(BOOT, &Call::SegmentWrite { entry, offset: 0, bytes }).unwrap();
+            written.store(number, Ordering::SeqCst);
+        }
+    });
+}
+
+/// Two readers that are told by each other: of two reads one after the other, the second sees no less.
+#[test]
+fn no_read_goes_back() {
+    let all = Shared::boot(64, 30_000).unwrap();
+    let writer = all.seat().unwrap();
+    let entry = Entry::in_root(made(writer.call(BOOT, &create())));
+    let last = AtomicU64::new(0);
+    const LAST: u64 = 20_000;
+    std::thread::scope(|scope| {
+        for _ in 0..3 {
+            scope.spawn(|| {
+                let seat = all.seat().unwrap();
+                while last.load(Ordering::SeqCst) < LAST {
+                    let told = last.load(Ordering::SeqCst);
+                    let read = number_in(&seat, entry);
+                    assert!(told <= read, "another read {told} before, read {read}");
+                    last.fetch_max(read, Ordering::SeqCst);
+                }
+            });
+        }
+        for number in 1..=LAST {
+            let bytes = number.to_le_bytes().to_vec().into();
+            writer.call(BOOT, &Call::SegmentWrite { entry, offset: 0, bytes }).unwrap();
+        }
+    });
+}
+
+/// Threads that write and read at once: each id is given once, each sees its own write, and a seat that comes late is in the state of
+/// the others.
+#[test]
+fn a_storm_is_one_history() {
+    const THREADS: usize = 8;
+    const ROUNDS: u64 = 1_000;
+    let all = Arc::new(Shared::boot(64, 10 + 3 * THREADS as u64 * ROUNDS).unwrap());
+    let boot = all.seat().unwrap();
+    let own: Vec<Entry> = (0..THREADS).map(|_| Entry::in_root(made(boot.call(BOOT, &create())))).collect();
+    let threads: Vec<_> = own.iter().map(|&entry| (all.clone(), entry)).collect();
+    let threads: Vec<_> = threads
+        .into_iter()
+        .map(|(all, entry)| {
+            std::thread::spawn(move || {
+                let seat = all.seat().unwrap();
+                let mut ids = Vec::new();
+                for round in 0..ROUNDS {
+                    let session = seat.session();
+                    let id = session.segment_create(Object::ROOT, &label! { L1 }, 1, 0).unwrap();
+                    session.unref(Entry::in_root(id)).unwrap();
+                    session.segment_write(entry, 0, &round.to_le_bytes()).unwrap();
+                    assert_eq!(number_in(&seat, entry), round);
+                    ids.push(id.0);
+                }
+                ids
+            })
+        })
+        .collect();
+    let mut ids: Vec<u64> = threads.into_iter().flat_map(|it| it.join().unwrap()).collect();
+    ids.sort_unstable();
+    let first = 4 + THREADS as u64;
+    assert!(ids.into_iter().eq(first..first + THREADS as u64 * ROUNDS));
+    let late = all.seat().unwrap();
+    drop(all);
+    for entry in own {
+        assert_eq!(number_in(&late, entry), ROUNDS - 1);
+        assert_eq!(number_in(&boot, entry), ROUNDS - 1);
+    }
+}
+
+#[test]
+fn a_refused_call_stands_in_the_list_too() {
+    let all = Shared::boot(8, 3).unwrap();
+    let (first, second) = (all.seat().unwrap(), all.seat().unwrap());
+    let large = Call::SegmentCreate { container: Object::ROOT, label: label! { L1 }.into(), quota: 9, pages: 1 };
+    assert_eq!(first.call(BOOT, &large), Err(Refusal::NoQuota));
+    assert_eq!(made(second.call(BOOT, &create())), Object(4));
+    assert_eq!(made(first.call(BOOT, &create())), Object(5));
+    assert_eq!(first.call(BOOT, &create()), Err(Refusal::ListFull));
+    assert_eq!(number_in(&second, Entry::in_root(Object(5))), 0);
+}
+
+#[test]
+fn a_note_is_learned_and_one_of_another_is_refused() {
+    let (all, others) = (Shared::boot(64, 10).unwrap(), Shared::boot(64, 10).unwrap());
+    let (first, second, other) = (all.seat().unwrap(), all.seat().unwrap(), others.seat().unwrap());
+    first.call(BOOT, &create()).unwrap();
+    let note = first.seen();
+    assert_ne!(second.seen(), note);
+    second.learn(note).unwrap();
+    assert_eq!(second.seen(), note);
+    let before = other.seen();
+    assert_eq!(other.learn(note), Err(Refusal::OtherList));
+    assert_eq!(other.seen(), before);
+}
+
+#[test]
+fn limits_are_refused_at_the_boot() {
+    assert_eq!(Shared::boot(7, 10).err(), Some(Refusal::BadLimits));
+    assert_eq!(Shared::boot(64, u64::MAX).err(), Some(Refusal::Unavailable));
+}
+
+#[test]
+fn a_session_is_of_one_seat_and_any_thread() {
+    let all = Shared::boot(64, 10).unwrap();
+    let (first, second) = (all.seat().unwrap(), all.seat().unwrap());
+    let made = first.session().thread_create(Object::ROOT, &label! { L1 }, 1, &label! { L2 }, 0).unwrap().id();
+    let other = session_at(&second, made.into());
+    assert_eq!(other.self_get().unwrap().label, label! { L1 });
+    assert_eq!(session_at(&second, Thread(99)).self_get().err(), Some(Refusal::Halted));
+}

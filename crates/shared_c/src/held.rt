@@ -1,0 +1,196 @@
+//! What C's memory holds: a kernel that is shared, or a seat of it, or why there is none.
+ghost use Rattle.std.specs.Prelude.{◌≡◌, Some, Ok};
+ghost use Rattle.call_records.specs.Calls.{call_of};
+ghost use Rattle.call_records.specs.Queries.{query_of};
+ghost use Rattle.shared_c.specs.Asking.{seat_request_of};
+ghost use Rattle.shared_c.specs.Served.{IsAsked, IsCalled, IsDone, IsSeat, IsServed, IsShare, limits_of, seat_in};
+
+use crate::asking::{SeatRequest, seat_request_of, tell_count};
+use base::{Limits, Meter, ObjectId};
+use call_records::{Answer, Request, call_into, level_of, query_of, tell};
+use kernel_rules::{Call, Reply};
+use shared_calls::{Seat, Shared, SubmitRefusal};
+use std::alloc::Global;
+
+/// A kernel that threads share, or the number that tells why there is none: 30 for want of memory, 31 for limits out of range.
+#[derive(Drop)]
+pub struct HeldShare {
+    /// The kernel, or why there is none.
+    pub share: Result<Shared, u32>,
+}
+
+/// A seat, with what its calls need beside it.
+#[derive(Drop)]
+pub struct KeptSeat {
+    /// The seat.
+    pub seat: Seat,
+    /// Where its calls take memory.
+    pub alloc: Global,
+    /// What telling counts on.
+    pub meter: Meter,
+    /// The last call. A call is large, so none is made anew.
+    pub call: Call,
+    /// The last reply. A reply is large, so none is made anew.
+    pub reply: Reply,
+}
+
+/// A seat, or the number that tells why there is none.
+#[derive(Drop)]
+pub struct HeldSeat {
+    /// The seat, or why there is none.
+    pub seat: Result<KeptSeat, u32>,
+}
+
+/// A kernel to share, or why there is none.
+fn new_share(alloc: Global, limits: &Limits, calls: u64) -> Result<Shared, u32>
+    ensures { IsShare (Some limits.now) result }
+{
+    if !limits.is_in_range() {
+        return Err(31);
+    }
+    match Shared::new(alloc, limits, calls as usize) {
+        Ok(shared) => Ok(shared),
+        Err(_) => Err(30),
+    }
+}
+
+/// A kernel to share, with these limits, or why there is none.
+pub(crate) fn shared(
+    alloc: Global,
+    pages: u32,
+    device: u8,
+    next_id: u64,
+    next_category: u64,
+    calls: u64,
+) -> HeldShare
+    ensures { IsShare (limits_of pages device next_id next_category) result.share }
+{
+    let Some(device) = level_of(device) else {
+        return HeldShare { share: Err(31) };
+    };
+    let limits = Limits {
+        pages,
+        device,
+        next_id,
+        next_category,
+    };
+    HeldShare {
+        share: new_share(alloc, &limits, calls),
+    }
+}
+
+/// A seat, or why there is none.
+fn new_seat(alloc: Global, shared: &Shared) -> Result<KeptSeat, u32>
+    ensures { IsSeat (Ok shared.now) (seat_in result) }
+{
+    let Ok(seat) = Seat::open(alloc, shared) else {
+        return Err(30);
+    };
+    match Meter::new(alloc) {
+        Ok(meter) => Ok(KeptSeat {
+            seat,
+            alloc,
+            meter,
+            call: Call::CatCreate,
+            reply: Reply::Done,
+        }),
+        Err(_) => Err(30),
+    }
+}
+
+/// A seat of what is held, or why there is none.
+pub(crate) fn seated(held: &mut HeldShare, alloc: Global) -> HeldSeat
+    ensures { (held.new ≡ held.old) × IsSeat held.old.share (seat_in result.seat) }
+{
+    let seat = match &held.share {
+        Ok(shared) => new_seat(alloc, shared),
+        Err(why) => Err(*why),
+    };
+    HeldSeat { seat }
+}
+
+/// Makes the call that stands in the seat, and gives the number of the refusal: 0 for none, 40 for want of memory, 46 where
+/// another seat adds its call at this moment, 47 where the list has no room.
+fn make(kept: &mut KeptSeat, thread: ObjectId, answer: &mut Answer) -> u32
+    ensures { IsCalled kept.old.call thread kept.old.seat kept.new.seat result answer.old answer.new }
+{
+    let made = kept
+        .seat
+        .submit_into(kept.alloc, thread, &kept.call, &mut kept.reply);
+    match made {
+        Ok(()) => tell(&kept.reply, answer, &mut kept.meter),
+        Err(SubmitRefusal::Memory) => 40,
+        Err(SubmitRefusal::Busy) => 46,
+        Err(SubmitRefusal::Full) => 47,
+    }
+}
+
+/// Does what is asked of the seat, and gives the number of the refusal: 48 where the list has fewer calls than a note tells.
+fn answer_asked(kept: &mut KeptSeat, asked: SeatRequest, answer: &mut Answer) -> u32
+    ensures { IsAsked (Some asked) kept.old.seat kept.new.seat result answer.old answer.new }
+{
+    match asked {
+        SeatRequest::Seen => {
+            tell_count(kept.seat.count() as u64, answer);
+            0
+        }
+        SeatRequest::Learn { count } => {
+            if kept.seat.learn(count as usize) {
+                return 0;
+            }
+            48
+        }
+    }
+}
+
+/// Does what the record asks for, and gives the number of the refusal: 45 where the record asks for nothing.
+fn answer_kept(kept: &mut KeptSeat, request: &Request, answer: &mut Answer) -> u32
+    ensures { IsDone (call_of request.now) (query_of request.now) (seat_request_of request.now) request.now.thread
+        kept.old.seat kept.new.seat result answer.old answer.new }
+{
+    let thread = ObjectId::new(request.thread);
+    if call_into(request, &mut kept.call).is_some() {
+        return make(kept, thread, answer);
+    }
+    if let Some(query) = query_of(request) {
+        kept.seat.read_into(thread, &query, &mut kept.reply);
+        return tell(&kept.reply, answer, &mut kept.meter);
+    }
+    match seat_request_of(request) {
+        Some(asked) => answer_asked(kept, asked, answer),
+        None => 45,
+    }
+}
+
+/// The same, or why there is no seat.
+pub(crate) fn serve(held: &mut HeldSeat, request: &Request, answer: &mut Answer) -> u32
+    ensures { IsServed request.now held.old.seat held.new.seat result answer.old answer.new }
+{
+    match &mut held.seat {
+        Ok(kept) => answer_kept(kept, request, answer),
+        Err(why) => *why,
+    }
+}
+
+/// Gives back what a seat took.
+pub(crate) fn end_seat(held: HeldSeat) {
+    drop(held);
+}
+
+/// Gives back what a share took, once no seat has it.
+pub(crate) fn end_share(held: HeldShare) {
+    drop(held);
+}
+
+/// What may be handed to another thread.
+fn crosses<T: Send>(_value: &T) {}
+
+/// A seat in C's memory may be called by one thread and then by another, while others call other seats.
+fn seat_crosses(held: &HeldSeat) {
+    crosses(held);
+}
+
+/// A share in C's memory may be handed to another thread.
+fn share_crosses(held: &HeldShare) {
+    crosses(held);
+}

@@ -1,0 +1,4 @@
+pub mod Names
+pub mod Lists
+pub mod Rules
+pub mod Seats

@@ -1,0 +1,108 @@
+//! Calls that are kept.
+use anyhow::Result;
+use auditor::{Verdict, audit};
+use base::Meter;
+use kernel_rules::{Call, Reply};
+use logged_kernel::LoggedKernel;
+use std::alloc::Global;
+use syscall_core::BootRefusal;
+use test_structures::look::{Look, agree};
+use test_structures::samples::{EIGHT_PAGES, boot_thread, in_root, meter_again, new_thread};
+
+/// A kernel, booted again where there was no memory.
+fn boot_again(alloc: Global) -> Result<LoggedKernel, BootRefusal> {
+    match LoggedKernel::boot(alloc, &EIGHT_PAGES) {
+        Ok(kernel) => Ok(kernel),
+        Err(_) => LoggedKernel::boot(alloc, &EIGHT_PAGES),
+    }
+}
+
+/// The number of what refused a call, made again where there was no memory; 0 for nothing.
+fn refusal_of(kernel: &mut LoggedKernel, call: &Call, meter: &mut Meter) -> u8 {
+    let mut reply = Reply::Done;
+    let made = kernel
+        .step_into(boot_thread(), call, &mut reply, meter)
+        .is_ok()
+        || kernel
+            .step_into(boot_thread(), call, &mut reply, meter)
+            .is_ok();
+    match (made, reply) {
+        (false, _) => 40,
+        (true, Reply::Refused(refusal)) => refusal.number(),
+        (true, _) => 0,
+    }
+}
+
+/// The dump of the log, made again where there was no memory.
+fn text_of(kernel: &LoggedKernel, meter: &mut Meter) -> Option<Vec<u8>> {
+    match kernel.dump(meter) {
+        Ok(text) => text,
+        Err(_) => match kernel.dump(meter) {
+            Ok(text) => text,
+            Err(_) => None,
+        },
+    }
+}
+
+/// Whether a dump is clean, asked again where there was no memory.
+fn is_clean(alloc: Global, text: &[u8]) -> bool {
+    match audit(alloc, text) {
+        Ok(verdict) => agree(verdict, Verdict::Clean),
+        Err(_) => matches!(audit(alloc, text), Ok(Verdict::Clean)),
+    }
+}
+
+/// Whether the log begins.
+fn begins(kernel: &mut LoggedKernel) -> bool {
+    kernel.begin_log()
+}
+
+/// Whether the boot thread is there.
+fn has_boot_thread(kernel: &LoggedKernel, meter: &mut Meter) -> bool {
+    kernel.kernel().is_thread(boot_thread(), meter)
+}
+
+/// Whether there is a dump, and it is clean.
+fn is_dump(alloc: Global, text: &Option<Vec<u8>>) -> bool {
+    match text {
+        Some(text) => is_clean(alloc, text.as_slice()),
+        None => false,
+    }
+}
+
+/// Whether the kernel's dump is clean.
+fn is_dumped(alloc: Global, kernel: &LoggedKernel, meter: &mut Meter) -> bool {
+    let text = text_of(kernel, meter);
+    is_dump(alloc, &text)
+}
+
+/// Whether no log is kept.
+fn has_no_log(kernel: &LoggedKernel, meter: &mut Meter) -> bool {
+    text_of(kernel, meter).is_none()
+}
+
+// A call that is done and one that is refused are kept, once each.
+fn keep_calls(look: &mut Look, alloc: Global, kernel: &mut LoggedKernel, meter: &mut Meter) {
+    look.sees(has_no_log(kernel, meter));
+    look.sees(begins(kernel));
+    look.sees(refusal_of(kernel, &new_thread(), meter) == 0);
+    let root = Call::Unref { entry: in_root(1) };
+    look.sees(refusal_of(kernel, &root, meter) == 16);
+    look.sees(!begins(kernel));
+    look.sees(has_boot_thread(kernel, meter));
+    look.sees(is_dumped(alloc, kernel, meter));
+}
+
+// Also where an allocation is refused: what is made again is kept once, and the dump is clean.
+fn want_of_memory_keeps_each_call_once(alloc: Global, look: &mut Look) -> Result<()> {
+    look.part("want_of_memory_keeps_each_call_once");
+    let mut meter = meter_again(alloc)?;
+    let mut kernel = boot_again(alloc)?;
+    keep_calls(look, alloc, &mut kernel, &mut meter);
+    Ok(())
+}
+
+/// Plays what is made again where there was no memory.
+pub fn again(alloc: Global, look: &mut Look) -> Result<()> {
+    want_of_memory_keeps_each_call_once(alloc, look)
+}
