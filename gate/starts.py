@@ -41,9 +41,9 @@ class Tree:
     def __init__(self, room):
         self.top, self.commands = f"{room}/tree", f"{room}/commands"
         os.makedirs(f"{self.top}/gate")
-        for it in ("histar", "histar-audit", "histar-show", "start.sh", "prove", "HANDLES"):
+        for it in ("histar", "histar-audit", "histar-show", "start.sh", "prove", "HANDLES", "VERSION"):
             shutil.copy2(it, f"{self.top}/{it}")
-        for it in ("programs", "report", "times", "toolchain"):
+        for it in ("programs", "report", "times", "toolchain", "versions"):
             shutil.copy2(f"gate/{it}.py", f"{self.top}/gate/{it}.py")
         write(f"{self.top}/crates.txt", CRATES)
         write(f"{self.top}/crates/low/src/lib.rt", PROVABLE)
@@ -112,10 +112,21 @@ def try_proved(report, tree):
     for command in ("./histar run script --dump d", "./histar check script", "./histar try --pages 8", "./histar-audit d", "./histar-show why d"):
         program, *words = command.split()
         expect(report, f"{command} proved", tree.start(program, *words), (0, f"proved {' '.join(words)}\n", ""))
-    later = time.time() + 60
-    os.utime(f"{tree.top}/crates/low/src/lib.rt", (later, later))
-    expect(report, "./histar older than a source", tree.start("./histar", "run", "none"), (1, "try -- run none\n", UNPROVED))
-    os.utime(f"{tree.top}/crates/low/src/lib.rt")
+    proved, unproved = (0, "proved run none\n", ""), (1, "try -- run none\n", UNPROVED)
+    source, later = f"{tree.top}/crates/low/src/lib.rt", time.time() + 60
+    os.utime(source, (later, later))
+    expect(report, "./histar older than a source", tree.start("./histar", "run", "none"), unproved)
+    os.utime(source, (1, 1))
+    expect(report, "./histar, that source older again", tree.start("./histar", "run", "none"), proved)
+    write(f"{tree.top}/crates/low/src/other.rt", "")
+    expect(report, "./histar older than a source newly made", tree.start("./histar", "run", "none"), unproved)
+    os.remove(f"{tree.top}/crates/low/src/other.rt")
+    for count in ("looks at all sources", "looks at what it kept"):
+        expect(report, f"./histar {count}", tree.start("./histar", "run", "none"), proved)
+    write(f"{tree.top}/crates.txt", CRATES + "more:\n")
+    expect(report, "./histar older than crates.txt", tree.start("./histar", "run", "none"), unproved)
+    write(f"{tree.top}/crates.txt", CRATES)
+    tree.prove_by_hand("histar")
 
 
 def failures_of_play(tree, status, out):
