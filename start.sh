@@ -117,16 +117,61 @@ unproved() {
     ends 70 "the unproved run gave no answer: $(tail -n 1 "$said")"
 }
 
+# Becomes the program. A dialogue at a terminal gets lines back by the arrow keys, where rlwrap is on the path; it keeps none of them.
+becomes_program() {
+    if [ "${1-}" = try ] && [ -t 0 ] && [ -t 1 ] && command -v rlwrap >/dev/null; then
+        exec rlwrap -s -1000 "$program" "$@"
+    fi
+    exec "$program" "$@"
+}
+
+# Whether these words ask for help.
+asks_for_help() {
+    case " $* " in
+        *" -- "*) return 1 ;;
+        " help "* | *" --help " | *" -h ") ;;
+        *) return 1 ;;
+    esac
+}
+
+# Prints what the program answers to a call for help, as a case stores it, which the gate compares.
+stored_help() {
+    if [ "$1" = help ]; then shift && set -- "$@" --help; fi
+    typed="$name $*"
+    case $typed in *" -h") typed="${typed% -h} --help" ;; esac
+    awk -v "typed=$typed" '
+        FNR == 1 { is_typed = is_read = 0 }
+        /^== / {
+            is_shown = is_typed && $2 == "output"
+            is_found = is_found || is_shown
+            is_read = $2 == "words"
+            is_typed = 0
+            next
+        }
+        is_read { is_typed = $0 == typed; is_read = 0 }
+        is_shown
+        END { exit !is_found }' "$top/cases/words/"*.case
+}
+
+# Answers a call for help and ends: by the program where it stands, else by what is stored, since nothing is proved for it.
+help() {
+    . "$top/gate/answer.sh"
+    if [ -x "$program" ]; then said=$("$program" "$@") || exit; else said=$(stored_help "$@") || return 0; fi
+    printf '%s\n' "$said" | wrapped
+    exit 0
+}
+
 start() {
     crate=$1
     name=$crate
     case $crate in *_*) name=${crate%%_*}-${crate#*_} ;; esac
     shift
     stands_at "$top"
-    if is_unchanged; then exec "$program" "$@"; fi
+    if asks_for_help "$@" && { [ -t 1 ] || [ ! -x "$program" ]; }; then help "$@"; fi
+    if is_unchanged; then becomes_program "$@"; fi
     case $top in /*) ;; *) top=$PWD/$top ;; esac
     stands_at "$top"
-    if is_proved; then exec "$program" "$@"; fi
+    if is_proved; then becomes_program "$@"; fi
     case "$*" in --version | -V) printf '%s %s\n' "$name" "$(cat "$top/VERSION")" && exit 0 ;; esac
     unproved "$@"
 }

@@ -5,10 +5,13 @@ It tries the repository's own scripts in a small tree of their own, with a stand
 `rt try`. Only what needs a real check takes the real rt."""
 import fcntl
 import os
+import pty
 import shutil
 import signal
+import struct
 import subprocess
 import tempfile
+import termios
 import time
 
 from gate import plays
@@ -43,8 +46,10 @@ class Tree:
         os.makedirs(f"{self.top}/gate")
         for it in ("histar", "histar-audit", "histar-show", "start.sh", "prove", "HANDLES", "VERSION"):
             shutil.copy2(it, f"{self.top}/{it}")
-        for it in ("programs", "report", "times", "toolchain", "versions"):
+        for it in ("programs", "report", "times", "toolchain", "usage", "versions"):
             shutil.copy2(f"gate/{it}.py", f"{self.top}/gate/{it}.py")
+        for it in ("gate/answer.sh", "gate/wrap.awk", "cases/words"):
+            subprocess.run(["cp", "-r", "--parents", it, self.top], check=True)
         write(f"{self.top}/crates.txt", CRATES)
         write(f"{self.top}/crates/low/src/lib.rt", PROVABLE)
         for it in PROGRAMS:
@@ -57,9 +62,9 @@ class Tree:
         write(f"{self.commands}/rt", STAND_IN.format(said=said))
         os.chmod(f"{self.commands}/rt", 0o755)
 
-    def prove_by_hand(self, name):
-        """Puts a program where ./prove would build it: it prints its words."""
-        write(f"{self.top}/crates/{name}/out/{name}", '#!/bin/sh\necho "proved $*"\n')
+    def prove_by_hand(self, name, does='echo "proved $*"'):
+        """Puts a program where ./prove would build it: it prints its words, or does something else."""
+        write(f"{self.top}/crates/{name}/out/{name}", f"#!/bin/sh\n{does}\n")
         os.chmod(f"{self.top}/crates/{name}/out/{name}", 0o755)
 
     def start(self, *words, has_rt=True, given=""):
@@ -68,6 +73,27 @@ class Tree:
         how = {"cwd": self.top, "env": {**os.environ, "PATH": path}, "input": given, "capture_output": True, "text": True}
         done = subprocess.run(words, **how)
         return done.returncode, done.stdout, done.stderr
+
+
+def at_terminal(tree, words, columns=80, typed=()):
+    """What a command of the tree shows at a terminal so many columns wide, where these lines are typed, each after some time."""
+    ours, theirs = pty.openpty()
+    fcntl.ioctl(theirs, termios.TIOCSWINSZ, struct.pack("HHHH", 24, columns, 0, 0))
+    env = {**os.environ, "PATH": f"{tree.commands}:{os.environ['PATH']}", "TERM": "xterm"}
+    started = subprocess.Popen(words, cwd=tree.top, env=env, stdin=theirs, stdout=theirs, stderr=theirs, start_new_session=True)
+    os.close(theirs)
+    for line in typed:
+        time.sleep(0.5)
+        os.write(ours, line)
+    shown = b""
+    try:
+        while piece := os.read(ours, 4096):
+            shown += piece
+    except OSError:  # the other end is closed
+        pass
+    os.close(ours)
+    started.wait()
+    return shown.decode(errors="replace").replace("\r", "")
 
 
 def expect(report, name, got, wanted):
@@ -103,6 +129,29 @@ def try_unproved(report, tree):
     no_answer = f"{UNPROVED}histar: the unproved run gave no answer: run=none proved=no\n"
     expect(report, "./histar unproved, no answer", tree.start("./histar", "run", "none"), (70, "try -- run none\n", no_answer))
     tree.stand_in(ANSWERED)
+
+
+def try_help(report, tree):
+    """Help proves nothing, whole and on a narrow terminal."""
+    stored = {it: plays.text(f"cases/words/{it}_help.case") for it in ("run", "audit")}
+    for command, case in (("./histar --help", "run"), ("./histar help check", "run"), ("./histar-audit -h", "audit")):
+        status, said, beside = tree.start(*command.split(), has_rt=False)
+        report.counts((status, beside) == (0, "") and "Usage: " in said and said in stored[case], f"{command} unproved: status {status}, as stored")
+    for command, last in (("./histar --help", "Print version"), ("./histar-audit --help", "Print version"), ("./prove --help", "interrupted.")):
+        shown = at_terminal(tree, command.split(), columns=40)
+        longest = max(map(len, shown.splitlines()))
+        report.counts(longest <= 40 and shown.rstrip().endswith(last), f"{command} on a terminal of 40 columns: the longest line has {longest}")
+
+
+def try_arrows(report, tree):
+    """The arrow keys give lines of a dialogue back."""
+    if not shutil.which("rlwrap"):
+        report.say("left out: arrow keys: rlwrap is not on the path")
+        return
+    tree.prove_by_hand("histar", 'while read -r line && [ "$line" != quit ]; do echo "read $line"; done')
+    shown = at_terminal(tree, ("./histar", "try"), typed=(b"tree\n", b"\x1b[A\n", b"quit\n"))
+    report.counts(shown.count("read tree") == 2, f"./histar try: an arrow key gives a line back: {shown!r}")
+    tree.prove_by_hand("histar")
 
 
 def try_proved(report, tree):
@@ -301,7 +350,9 @@ def start(report):
     with tempfile.TemporaryDirectory(prefix="starts-") as room:
         tree = Tree(room)
         try_unproved(report, tree)
+        try_help(report, tree)
         try_proved(report, tree)
+        try_arrows(report, tree)
         try_gate(report, tree)
         try_prove(report, tree)
         try_checks(report, tree, room)
