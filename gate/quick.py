@@ -22,7 +22,7 @@ class Case:
     def __init__(self, program, name, words, given, status, out):
         self.program, self.name = program, re.sub(r"\W+", "_", name)
         self.words, self.status = words, status
-        self.given, self.out = (it if isinstance(it, bytes) else it.encode() for it in (given, out))
+        self.given, self.out = (it if isinstance(it, bytes) else os.fsencode(it) for it in (given, out))
 
     def put(self, folder):
         """Lays the case as `rt try --cases` takes it."""
@@ -41,6 +41,11 @@ def scripts():
 def dialogues():
     for file in sorted(glob.glob("examples/tries/*.txt")):
         yield Case("histar", file, ["try"], text(file), 0, text(f"{file.removesuffix('.txt')}.out"))
+
+
+def renamed(out, name):
+    """What a program says where it is given the file `case` in place of one with this name: a fault begins with the name."""
+    return re.sub(rf"^{re.escape(name)}:", "case:", out, flags=re.M)
 
 
 def dumps():
@@ -71,7 +76,8 @@ def stored():
             if is_played and all(map(is_text, run.words)) and not (names and run.given):
                 given = there[names[0]] if names else run.given
                 placed = ["case" if it in names else it for it in words[1:]]
-                yield Case(words[0].replace("-", "_"), f"{file} {number}", placed, given, run.status, run.out)
+                out = renamed(os.fsdecode(run.out), names[0]) if names else run.out
+                yield Case(words[0].replace("-", "_"), f"{file} {number}", placed, given, run.status, out)
 
 
 PROGRAM_OF = {"./histar run": "histar", "./histar check": "histar", "./histar-audit": "histar_audit", "./histar-show": "histar_show"}
@@ -85,7 +91,8 @@ def shown():
             words = shlex.split(command)[1:]
             files = [it for it in words if os.path.isfile(it)]
             if program and len(files) == 1 and not re.search(r"[|;&>]", command) and "--out" not in words:
-                yield Case(program, f"{document} {command}", ["case" if it in files else it for it in words], text(files[0]), None, out)
+                placed = ["case" if it in files else it for it in words]
+                yield Case(program, f"{document} {command}", placed, text(files[0]), None, renamed(out, files[0]))
 
 
 def play_one(report, program, cases):
