@@ -11,7 +11,7 @@ import tempfile
 import time
 
 from gate import confine_attacks, confine_programs
-from gate.confine_scenes import BY_POLICY, ONE, POLICY_SCENES, PUBLIC, SCENES, SECOND, SECRET, TWO, Scene
+from gate.confine_scenes import BY_POLICY, ONE, OWN, POLICY_SCENES, PUBLIC, SCENES, SECOND, SECRET, TWO, Scene
 from gate.confine_seen import Watched
 from gate.report import Report
 
@@ -26,6 +26,9 @@ AS_NOBODY = ["setpriv", "--reuid", str(NOBODY), "--regid", str(NOBODY), "--clear
 # A program that adds a line to its report once it has come to its end, and ends as it ended.
 NOTING = 'sh -c "$PROGRAM"; s=$?; echo ended >> "$R"; exit $s'
 NOTE = "ended\n"
+
+# Without confine there are no labels: what is started at one is just started.
+WITHOUT_LABELS = '#!/bin/sh\nshift 2\nexec "$@"\n'
 
 
 def built(report, library):
@@ -74,7 +77,7 @@ class Rooms:
         self.put("S", "key", SECRET)
         self.put("T", "key", SECOND)
         self.put("P", "text", PUBLIC)
-        self.put("O", "own", "own")
+        self.put("O", "own", OWN)
         for name in "PM":
             os.mkfifo(f"{self.paths[name]}/pipe")
         for name in "RUQ":
@@ -152,7 +155,8 @@ class Play:
 
     def run(self, watched):
         as_user = AS_NOBODY if self.user and not os.getuid() else []
-        env = {**os.environ, **self.rooms.paths, "PROGRAM": self.scene.program or ""}
+        path = os.environ["PATH"] if self.confine else f"{os.path.dirname(self.room)}/bare:{os.environ['PATH']}"
+        env = {**os.environ, **self.rooms.paths, "PROGRAM": self.scene.program or "", "PATH": path}
         how = {"stdout": subprocess.PIPE, "stderr": subprocess.PIPE, "text": True, "errors": "replace", "timeout": 300}
         self.done = subprocess.run([*as_user, *self.words()], input=self.scene.stdin, env=env, cwd=self.room, **how)
         watched.said, watched.status = self.done.stdout + self.done.stderr, self.done.returncode
@@ -344,10 +348,19 @@ def try_scene(report, confine, room, scene, user, audit):
     return audit is None or is_audited(audit, f"{room}/dump")
 
 
+def lay_without_labels(room):
+    """Lays what stands for confine-run where a scene is played without confine."""
+    os.makedirs(f"{room}/bare")
+    with open(f"{room}/bare/confine-run", "w", encoding="utf-8") as it:
+        it.write(WITHOUT_LABELS)
+    os.chmod(f"{room}/bare/confine-run", 0o755)
+
+
 def try_scenes(report, room, auditor, more):
     os.chmod(room, 0o755)
     confine = shutil.copy(CONFINE, f"{room}/confine")
     os.chmod(confine, 0o755)
+    lay_without_labels(room)
     scenes, unclean = (*SCENES, *POLICY_SCENES, *ATTACKS, *more), []
     for user in users():
         for scene in scenes:
