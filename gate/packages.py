@@ -341,9 +341,25 @@ def try_programs(report, top):
     for name in PROGRAMS:
         ended = ran("man", "--warnings", "-l", f"{top}/usr/share/man/man1/{name}.1.gz", env={**env, "LANG": "C.UTF-8", "MANWIDTH": "80"})
         report.counts(ended[0] == 0 and "OPTIONS" in ended[1] and "warning" not in ended[1], f"packages: man {name}")
-    typed = f". {top}/usr/share/bash-completion/completions/histar; COMP_WORDS=(histar ru); COMP_CWORD=1; _histar; echo ${{COMPREPLY[*]}}; COMP_WORDS=(histar run --pa); COMP_CWORD=2; _histar; echo ${{COMPREPLY[*]}}"
-    ended = ran("bash", "-c", typed, env=env)
-    report.counts(ended == (0, "run\n--pages\n"), f"packages: completion of histar in bash: {ended}")
+    try_completions(report, f"{top}/usr/share", env)
+
+
+# What completes `histar ru` and `histar run --pa` in each shell, with the files of a folder, and prints it.
+COMPLETED = {
+    "bash": ". {0}/bash-completion/completions/histar; COMP_WORDS=(histar ru); COMP_CWORD=1; _histar; echo ${{COMPREPLY[*]}}; COMP_WORDS=(histar run --pa); COMP_CWORD=2; _histar; echo ${{COMPREPLY[*]}}",
+    "fish": "set fish_complete_path {0}/fish/vendor_completions.d; complete -C 'histar ru'; complete -C 'histar run --pa'",
+    "zsh": "compadd() {{ print -rl -- ${{(M)@:#$typing*}} }}; _files() {{ }}; words=(histar ru) CURRENT=2 typing=ru; . {0}/zsh/vendor-completions/_histar; "
+    "words=(histar run --pa) CURRENT=3 typing=--pa; . {0}/zsh/vendor-completions/_histar",
+}
+
+
+def try_completions(report, share, env):
+    for shell, typed in COMPLETED.items():
+        if shutil.which(shell) is None:
+            report.say(f"left out: completion in {shell}: it is not on the path")
+            continue
+        ended = ran(shell, "-c", typed.format(share), env=env)
+        report.counts(ended == (0, "run\n--pages\n"), f"packages: completion of histar in {shell}: {ended}")
 
 
 def try_library(report, top):
