@@ -13,7 +13,7 @@ from gate.plays import ran, text
 OBJECTS = "examples/dumps/objects.dump"
 PICTURES = {
     "docs/objects.svg": (OBJECTS,),
-    "docs/flows.svg": (OBJECTS, "--flows", "4", "--category", "7"),
+    "docs/flows.svg": (OBJECTS, "--from", "4", "--category", "7"),
 }
 PART = re.compile(r'<g id="[^"]*" class="(node|edge|cluster)">\s*<title>(.*?)</title>(.*?)</g>', re.S)
 
