@@ -24,19 +24,46 @@ sources_of() {
         }' "$top/crates.txt"
 }
 
-# Whether the proved program stands, and is newer than each source of its crates. Which these are is kept in a file beside
-# it, since each start asks.
+# Where the program stands, and beside it what was looked at when it was last newer than all sources.
+stands_at() {
+    program=$1/crates/$crate/out/$crate
+    kept=$1/crates/$crate/out/looked_at
+}
+
+# Whether nothing changed since is_proved last looked at all sources: by the shell alone, since `find` takes longer than a short run.
+is_unchanged() {
+    [ -x "$program" ] && [ -f "$kept" ] || return 1
+    is_newer=
+    # shellcheck disable=SC1090 # made by tests_of
+    . "$kept"
+    [ -z "$is_newer" ]
+}
+
+# Whether the proved program stands, and is newer than each source of its crates. What was looked at is kept: the next start has only to
+# test that no file is newer than the program, and no folder newer than what was kept, since a file was made there or taken away then.
 is_proved() {
     [ -x "$program" ] || return 1
-    if [ -f "$kept" ] && [ ! "$top/crates.txt" -nt "$kept" ]; then
-        read -r sources <"$kept"
-    else
-        sources=$(sources_of "$crate")
-        printf '%s\n' "$sources" 2>/dev/null >"$kept" || true
-    fi
+    sources=$(sources_of "$crate")
+    made=$kept.$$
+    tests_of 2>/dev/null >"$made" || made=
     # shellcheck disable=SC2086 # a word for each folder
     newer=$(cd "$top/crates" && exec find ../crates.txt $sources -type f -newer "$program" -print -quit)
+    [ -n "$newer" ] || [ -z "$made" ] || mv "$made" "$kept"
+    rm -f "$kept.$$"
     [ -z "$newer" ]
+}
+
+# Prints what sets is_newer where a source changed, for the shell.
+tests_of() {
+    echo 'if'
+    tests_for d kept && tests_for f program && echo 'false; then is_newer=yes; fi'
+}
+
+# Prints a test for each folder or file among the sources: whether it is newer than a file. A name that is not plain is taken for newer.
+tests_for() {
+    # shellcheck disable=SC2016,SC2086 # a word for each folder; what is printed is the shell's to read
+    (cd "$top/crates" && exec find ../crates.txt $sources -type "$1") |
+        sed 's:^[A-Za-z0-9_./-]*$:[ "$top/crates/&" -nt "$'"$2"'" ] ||:; t; s/.*/true ||/'
 }
 
 # Says one line, and ends with a status.
@@ -90,14 +117,61 @@ unproved() {
     ends 70 "the unproved run gave no answer: $(tail -n 1 "$said")"
 }
 
+# Becomes the program. A dialogue at a terminal gets lines back by the arrow keys, where rlwrap is on the path; it keeps none of them.
+becomes_program() {
+    if [ "${1-}" = try ] && [ -t 0 ] && [ -t 1 ] && command -v rlwrap >/dev/null; then
+        exec rlwrap -s -1000 "$program" "$@"
+    fi
+    exec "$program" "$@"
+}
+
+# Whether these words ask for help.
+asks_for_help() {
+    case " $* " in
+        *" -- "*) return 1 ;;
+        " help "* | *" --help " | *" -h ") ;;
+        *) return 1 ;;
+    esac
+}
+
+# Prints what the program answers to a call for help, as a case stores it, which the gate compares.
+stored_help() {
+    if [ "$1" = help ]; then shift && set -- "$@" --help; fi
+    typed="$name $*"
+    case $typed in *" -h") typed="${typed% -h} --help" ;; esac
+    awk -v "typed=$typed" '
+        FNR == 1 { is_typed = is_read = 0 }
+        /^== / {
+            is_shown = is_typed && $2 == "output"
+            is_found = is_found || is_shown
+            is_read = $2 == "words"
+            is_typed = 0
+            next
+        }
+        is_read { is_typed = $0 == typed; is_read = 0 }
+        is_shown
+        END { exit !is_found }' "$top/cases/words/"*.case
+}
+
+# Answers a call for help and ends: by the program where it stands, else by what is stored, since nothing is proved for it.
+help() {
+    . "$top/gate/answer.sh"
+    if [ -x "$program" ]; then said=$("$program" "$@") || exit; else said=$(stored_help "$@") || return 0; fi
+    printf '%s\n' "$said" | wrapped
+    exit 0
+}
+
 start() {
-    case $top in /*) ;; *) top=$PWD/$top ;; esac
     crate=$1
-    name=$(printf '%s' "$crate" | tr _ -)
+    name=$crate
+    case $crate in *_*) name=${crate%%_*}-${crate#*_} ;; esac
     shift
-    program=$top/crates/$crate/out/$crate
-    kept=$top/crates/$crate/out/sources
-    if is_proved; then exec "$program" "$@"; fi
+    stands_at "$top"
+    if asks_for_help "$@" && { [ -t 1 ] || [ ! -x "$program" ]; }; then help "$@"; fi
+    if is_unchanged; then becomes_program "$@"; fi
+    case $top in /*) ;; *) top=$PWD/$top ;; esac
+    stands_at "$top"
+    if is_proved; then becomes_program "$@"; fi
     case "$*" in --version | -V) printf '%s %s\n' "$name" "$(cat "$top/VERSION")" && exit 0 ;; esac
     unproved "$@"
 }

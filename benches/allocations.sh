@@ -4,6 +4,8 @@
 # where they differ, where nothing was counted, or where nothing was played.
 set -eu
 top=$(cd "$(dirname "$0")/.." && pwd)
+. "$top/gate/answer.sh"
+answer "$@"
 rounds=${1:-1000}
 bench=$top/crates/benches/out/benches
 folder=$(mktemp -d)

@@ -4,6 +4,8 @@
 # modifies. Not a test: it ends zero whatever the times are, but not where a dump isn't clean.
 set -eu
 top=$(cd "$(dirname "$0")/.." && pwd)
+. "$top/gate/answer.sh"
+answer "$@"
 program=$top/crates/histar_audit/out/histar_audit
 folder=$(mktemp -d)
 trap 'rm -rf "$folder"' EXIT

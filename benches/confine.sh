@@ -4,7 +4,10 @@
 # and of 64 KB, a repository and an archive of those of 8 KB, and one of C with a hundred functions. Where other programs are at
 # work, run it as "chrt -r 1 benches/confine.sh".
 set -eu
-cd "$(dirname "$0")/.."
+top=$(cd "$(dirname "$0")/.." && pwd)
+. "$top/gate/answer.sh"
+answer "$@"
+cd "$top"
 [ -x out/confine ] || { echo 'benches/confine.sh: out/confine is missing: run ./lib and bindings/confine/build.sh' >&2; exit 69; }
 command -v bwrap >/dev/null || { echo 'benches/confine.sh: bubblewrap is missing' >&2; exit 69; }
 room=$(mktemp -d /var/tmp/bench-confine-XXXXXX)

@@ -6,6 +6,8 @@
 # embed.sh   RUNS=400 may be set
 set -eu
 top=$(cd "$(dirname "$0")/.." && pwd)
+. "$top/gate/answer.sh"
+answer "$@"
 runs=${RUNS:-400}
 library=$top/out/lib
 [ -f "$library/libhistar.a" ] || { echo "embed.sh: $library has no library: run ./lib" >&2; exit 2; }

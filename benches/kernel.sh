@@ -10,6 +10,8 @@
 # kernel.sh   RUNS=30 and ROUNDS=1000 may be set
 set -eu
 top=$(cd "$(dirname "$0")/.." && pwd)
+. "$top/gate/answer.sh"
+answer "$@"
 bench=$top/crates/benches/out/benches
 simple=$top/benches/simple/target/release/simple
 command -v cargo >/dev/null || { echo "kernel.sh: cargo is not on the path, and the simple kernel is built with it" >&2; exit 2; }

@@ -2,7 +2,10 @@
 # What the packages of ./package weigh, as the table of README: the packages, what they lay, a program in C that is linked with the archive,
 # and a start, the least of twenty in milliseconds.
 set -eu
-cd "$(dirname "$0")/.."
+top=$(cd "$(dirname "$0")/.." && pwd)
+. "$top/gate/answer.sh"
+answer "$@"
+cd "$top"
 [ -d out/packages ] || { echo 'benches/packages.sh: out/packages is missing: run ./package' >&2; exit 69; }
 room=$(mktemp -d)
 trap 'rm -rf "$room"' EXIT

@@ -6,6 +6,8 @@
 # little of four threads, which then read for a few milliseconds.
 set -eu
 top=$(cd "$(dirname "$0")/.." && pwd)
+. "$top/gate/answer.sh"
+answer "$@"
 bench=$top/crates/benches/out/benches
 built=$(cd "$top/crates/benches" && rt run --jobs 1 2>&1) || { echo "$built" >&2; exit 1; }
 file=$(mktemp)

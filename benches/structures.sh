@@ -3,6 +3,8 @@
 # zero whatever the times are.
 set -eu
 top=$(cd "$(dirname "$0")/.." && pwd)
+. "$top/gate/answer.sh"
+answer "$@"
 bench=$top/crates/benches/out/benches
 built=$(cd "$top/crates/benches" && rt run --jobs 1 2>&1) || { echo "$built" >&2; exit 1; }
 

@@ -6,6 +6,8 @@
 # whole.sh [WORKLOAD..]   these workloads, or all; ROUNDS=7 and LINES="4096 16384 65536" may be set
 set -eu
 top=$(cd "$(dirname "$0")/.." && pwd)
+. "$top/gate/answer.sh"
+answer "$@"
 command -v cargo >/dev/null || { echo "whole.sh: cargo is not on the path, and the twin is built with it" >&2; exit 2; }
 cargo build --quiet --release --offline --manifest-path "$top/benches/twin/Cargo.toml"
 "$top/histar" run "$top/examples/first.histar" >/dev/null

@@ -25,9 +25,10 @@ WARNINGS = ["-Wall", "-Wextra", "-Wpedantic", "-Werror"]
 MANIFEST = ["--offline", "--manifest-path", "bindings/rust/Cargo.toml"]
 
 
-# What a compiler warns of: a refusal that nobody looks at, and NULL.
-MISUSED_CALLS = ("histar_cat_create(k, 2, 0)", "if (histar_open(0, 64)) return", "if (histar_self_set_label(k, 2, 0)) return",
-                 "if (histar_meta_get(k, 2, histar_in(1, 3), 0, 64)) return")
+# What a compiler warns of: a refusal that nobody looks at, NULL, and a number or a category for an object.
+MISUSED_CALLS = ("histar_cat_create(k, HISTAR_BOOT, 0)", "if (histar_open(0, 64)) return", "if (histar_self_set_label(k, HISTAR_BOOT, 0)) return",
+                 "if (histar_meta_get(k, HISTAR_BOOT, histar_in(HISTAR_ROOT, HISTAR_DEVICE), 0, 64)) return",
+                 "if (histar_unref(k, 2, HISTAR_NOWHERE)) return", "if (histar_unref(k, HISTAR_BOOT, histar_in(HISTAR_ROOT, histar_category_of(4)))) return")
 RANDOM_WORDS = ["--pages", "512"]
 
 # What the login gates of bindings/ print.

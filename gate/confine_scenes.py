@@ -42,6 +42,8 @@ SCENES = (
     Scene("reads what is public", "cat $P/text", printed=PUBLIC + "\n"),
     Scene("reads a secret and writes its report", READ + "echo $k > $R", report=SECRET + "\n"),
     Scene("writes its report from the start", "echo begun > $R; cat $S/key >> $R", report=f"begun\n{SECRET}\n"),
+    Scene("begins in the folder of its report, where it was called", "echo x > report; cat secret/key >> report", report=f"x\n{SECRET}\n"),
+    Scene("begins at the root, where it was called elsewhere", "pwd", printed="/\n", words=["--public", "$P"]),
     Scene("counts the files of a secret", "ls $S | wc -l > $R", report="1\n"),
     Scene("uses a folder of its own", "cat $S/key > /tmp/copy; cp /tmp/copy /tmp/more; cat /tmp/more > $R", report=SECRET + "\n"),
     Scene("reads a secret by a child", "(cat $S/key) | cat > $R", report=SECRET + "\n"),

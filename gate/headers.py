@@ -8,8 +8,8 @@ TURNS = (
     (r"(HISTAR_CALL_\w+) = (\d+)", lambda it: f"{it[1]} = {int(it[2]) % 42 + 1}" if int(it[2]) < 43 else None),
     (r"k->request\.numbers\[\d\] = (?!at|change)\w+;", lambda it: ""),
     (r"k->request\.(?:label|clearance|verify) = \*(\w+);", lambda it: f"(void){it[1]};"),
-    (r"(k->request\.other_\w+) = (\w+)\.container;", lambda it: f"{it[1]} = {it[2]}.object;"),
-    (r"(k->request\.other_\w+) = (\w+)\.object;", lambda it: f"{it[1]} = {it[2]}.container;"),
+    (r"(k->request\.other_\w+) = (\w+)\.container\.id;", lambda it: f"{it[1]} = {it[2]}.object.id;"),
+    (r"(k->request\.other_\w+) = (\w+)\.object\.id;", lambda it: f"{it[1]} = {it[2]}.container.id;"),
     (r"k->answer\.numbers\[(\d)\]", lambda it: f"k->answer.numbers[{int(it[1]) + 1}]"),
     (r"\(n\[(\d)\]", lambda it: f"(n[{int(it[1]) + 1}]"),
 )

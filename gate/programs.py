@@ -1,85 +1,56 @@
-"""./prove: the programs, or other crates, and the crates below them proved and built, side by side, over what earlier builds kept.
+"""./prove: the programs, or other crates, and the crates below them proved and built.
 
-A crate is one task, so all cores are at work as long as crates are left that do not wait for each other. A large crate that
-nothing else waits beside gets a job for each core that is idle. A start that is interrupted ends with all its processes; what
-it built stays, and the next start goes on there."""
-import contextlib
+`rt ci` proves them from nothing in a copy of these crates, side by side, and keeps on the machine what passes. So a start that
+is interrupted loses the crates alone that it was at, and ./test proves none of them again. What was built is laid beside the
+sources. Of a library for C `rt lib` makes the archive there."""
 import fcntl
 import os
+import re
 import shutil
 import signal
 import subprocess
 import sys
-import threading
-import time
+import tempfile
 
-from gate import times
+from gate import stages, times
 from gate.report import minutes
-from gate.toolchain import SECONDS, WIDE, Passed, library_task, toolchain
+from gate.toolchain import SECONDS, toolchain
 
 PROGRAMS = ("histar", "histar_audit", "histar_show")
 LOG = "out/prove.log"
 LOCK = "out/prove.lock"
 TO_RUN = "all programs are proved and built: ./histar run examples/first.histar"
 WRONG_WORDS, NO_RT, NOT_PROVED, NO_ROOM, AT_WORK = 2, 69, 70, 73, 75
-# What the disk has to have left, in MB, and what a build that fails for want of it leaves.
+# What the disks have to have left, in MB, and what a build that fails for want of it leaves.
 WANTED, FULL = 3000, 200
-# The seconds of a crate's check for which one more job pays its start.
-WORTH_A_JOB = 60
-# One thread alone ends a start.
-ENDING = threading.RLock()
+# What rt ci reads of a crate.
+PARTS = ("src", "specs", "proofs", "data", "stdin", "stdout", "args", "status")
+# What it says last of a crate.
+SAID = re.compile(r"rt: (\w+) (proved|NOT PROVED|is kept)\b")
 
 
-def is_guarded(process):
-    """Whether a process that was started has joined the group that rt's guard ends, or is gone."""
-    try:
-        return os.getpgid(process) != os.getpgrp()
-    except ProcessLookupError:
-        return True
+class Ended(Exception):
+    """Why a start ends without what it was to build: its status, and what it says."""
+
+    def __init__(self, status, text):
+        super().__init__(text)
+        self.status = status
 
 
-def not_yet_guarded():
-    """The processes that this one's threads started and that rt's guard would not end yet."""
-    found = []
-    for thread in os.listdir("/proc/self/task"):
-        with contextlib.suppress(OSError), open(f"/proc/self/task/{thread}/children", encoding="utf-8") as children:
-            found += map(int, children.read().split())
-    return {it for it in found if not is_guarded(it)}
-
-
-def end(status, text):
-    """Says why it ends, and ends at once, with each process that was started: rt's guard ends those in its group."""
-    ENDING.acquire()  # and never gives it back: a thread whose process ends here has nothing to say
-    print(f"prove: {text}", file=sys.stderr, flush=True)
-    ended = set()
-    while found := not_yet_guarded() - ended:
-        for it in found:
-            with contextlib.suppress(ProcessLookupError):
-                os.kill(it, signal.SIGKILL)
-        ended |= found
-    os._exit(status)
-
-
-def left_on_disk():
-    found = os.statvfs(".")
-    return found.f_bavail * found.f_frsize >> 20
-
-
-def is_library(crate):
-    """Whether other crates stand on it: it is no program, and no library for C."""
-    return not (crate.is_program or crate.is_static)
+def left_on_disks():
+    """The MB that are left on the disk of the tree and on that of the copy, whichever has less."""
+    found = [os.statvfs(it) for it in (".", tempfile.gettempdir())]
+    return min(it.f_bavail * it.f_frsize >> 20 for it in found)
 
 
 class Progress:
-    """Which crates are left, and about how long they take: by the seconds of an earlier run, at the pace of the crates that this
-    one proved from nothing. What was kept sets no pace."""
+    """Which crates are left, and about how long they take: by the seconds of an earlier run, at the pace of those that this one
+    proved. What was kept sets no pace."""
 
-    def __init__(self, crates):
+    def __init__(self, crates, spent):
         self.known = {name: seconds for (name, kind), seconds in times.read(SECONDS).items() if kind == "check"}
         self.uses = {it.name: [below.name for below in it.deps] for it in crates}
-        self.left = {it.name for it in crates if not is_library(it) or not it.is_built()}
-        self.spent = self.expected = 0
-        self.printing = threading.Lock()
+        self.left, self.proved, self.spent = {it.name for it in crates}, set(), spent
 
     def expects(self, name):
         return self.known.get(name, 30)
@@ -91,27 +62,25 @@ class Progress:
             known[name] = below + (self.expects(name) if name in self.left else 0)
         return known[name]
 
+    def pace(self):
+        """The processor's seconds that this run takes for one of the earlier run."""
+        spent = sum(seconds for (name, _), seconds in self.spent.seconds().items() if name in self.proved)
+        return spent / sum(map(self.expects, self.proved)) if spent else 1
+
     def seconds_left(self):
         whole, known = sum(map(self.expects, self.left)) / len(os.sched_getaffinity(0)), {}
-        pace = self.spent / self.expected if self.expected else 1
-        return pace * max(whole, *(self.chain(it, known) for it in self.left))
+        return self.pace() * max(whole, *(self.chain(it, known) for it in self.left))
 
     def told(self):
         return f"{len(self.left)} crates left, about {minutes(self.seconds_left())} minutes" if self.left else "none left"
 
-    def begin(self):
-        """Says how much is left where an earlier start built libraries."""
-        if len(self.left) < len(self.uses):
-            print(f"prove: libraries built before: {len(self.uses) - len(self.left)}; {self.told()}", flush=True)
-
-    def ended(self, name, seconds):
-        """Notes that a crate is built, and the seconds that it took where it was proved from nothing; says so of each that was left."""
-        with self.printing:
-            if seconds:
-                self.spent, self.expected = self.spent + seconds, self.expected + self.expects(name)
-            if name in self.left:
-                self.left.discard(name)
-                print(f"prove: {name} is built; {self.told()}", flush=True)
+    def ended(self, name, is_kept):
+        """Notes that a crate has passed, and says so where it was proved now."""
+        self.left.discard(name)
+        if not is_kept:
+            self.proved.add(name)
+            kept = len(self.uses) - len(self.left) - len(self.proved)
+            print(f"prove: {name} is proved; kept from before: {kept}; {self.told()}", flush=True)
 
 
 class Run:
@@ -144,109 +113,173 @@ class Run:
         return f"it wrote something else than {self.folder}/stdout has" if wrote != self.stored("stdout") else None
 
 
-class Build:
-    """The building of one crate: a library, one for C, or a program, which then runs once on its stored input."""
+def lay_program(name, tree):
+    """Lays the program that stands in a copy of the tree beside its sources here."""
+    made, to = f"{tree}/crates/{name}/out/{name}", f"crates/{name}/out/{name}"
+    os.makedirs(os.path.dirname(to), exist_ok=True)
+    shutil.copyfile(made, f"{to}.new")
+    shutil.copymode(made, f"{to}.new")
+    os.replace(f"{to}.new", to)
 
-    def __init__(self, rt, crate, progress, passed):
-        self.rt, self.crate, self.progress, self.passed = rt, crate, progress, passed
-        self.log, self.is_anew = f"crates/{crate.name}/{LOG}", False
 
-    def prove(self, jobs):
-        """Proves and builds the crate, and returns rt's status and, of a program, how its run ended."""
-        flags = ["--jobs", str(jobs)]
-        if self.crate.is_static:
-            return self.crate.build_static(flags), None
-        if not self.crate.is_program:
-            self.is_anew = not self.crate.has_kept()
-            return self.crate.build_rlib(flags, anew=False), None
-        run = Run(self.crate.name)
-        ended = run.of(*self.rt.rtlib.guarded(), "rt", "run", *flags, "--", *run.words, log=self.crate.out)
-        with open(self.log, encoding="utf-8", errors="replace") as log:
-            is_built = "\nrt: running out/" in log.read()
-        return (0, ended) if is_built else (ended[0] or 1, None)
+class Copy:
+    """A copy of crates, in which rt ci proves them."""
 
-    def call(self, jobs):
-        """Builds the crate where it isn't built yet, by what `rt ci` passed where that serves, and returns rt's status and, of a
-        program, how its run ended."""
-        if is_library(self.crate) and self.crate.is_built():
-            return 0, None
-        if self.passed.give(self.crate):
-            run = Run(self.crate.name)
-            return 0, run.of(f"out/{run.name}", *run.words) if self.crate.is_program else None
-        return self.prove(jobs)
+    def __init__(self, top, crates):
+        self.top, self.crates = top, crates
+        self.stamps = {it.name: it.stamp() for it in crates}
+        # (what rt takes for the top of a repository)
+        os.makedirs(f"{top}/.git")
+        for it in crates:
+            self.lay(it.name)
+        self.lay_list()
 
-    def fail(self, why):
-        end(NO_ROOM, "the disk is full") if left_on_disk() < FULL else end(NOT_PROVED, why)
+    def lay(self, name):
+        """Copies what rt ci reads of a crate, but for its must-fail edits, which ./test edits tries."""
+        os.makedirs(f"{self.top}/crates/{name}")
+        for part in PARTS:
+            file, to = f"crates/{name}/{part}", f"{self.top}/crates/{name}/{part}"
+            if os.path.isdir(file):
+                shutil.copytree(file, to)
+            elif os.path.isfile(file):
+                shutil.copy2(file, to)
 
-    def run(self, _, idle):
-        """Builds it, with up to as many jobs as there are processors that nothing else waits for."""
-        began, worth = time.monotonic(), self.progress.expects(self.crate.name) // WORTH_A_JOB
+    def lay_list(self):
+        """Copies the lines of crates.txt that tell of these crates."""
+        if os.path.isfile("HANDLES"):
+            shutil.copy2("HANDLES", self.top)
+        with open("crates.txt", encoding="utf-8") as it:
+            lines = [line for line in it if line.split(":")[0].split()[:1] and line.split(":")[0].split()[0] in self.stamps]
+        with open(f"{self.top}/crates.txt", "w", encoding="utf-8") as it:
+            it.writelines(lines)
+
+    def prove(self, progress):
+        """Proves the crates, and says how far it is. It ends at the first crate that is not proved."""
+        how = {"cwd": self.top, "stdin": subprocess.DEVNULL, "stdout": subprocess.PIPE, "stderr": subprocess.STDOUT, "text": True}
+        ran = subprocess.Popen(["rt", "ci"], errors="replace", start_new_session=True, **how)
         try:
-            os.makedirs(os.path.dirname(self.log), exist_ok=True)
-            with open(self.log, "w", encoding="utf-8") as self.crate.out:
-                status, ended = self.call(max(1, min(idle, worth)))
-            if ended:
-                os.utime(f"crates/{self.crate.name}/out/{self.crate.name}")
-        except OSError as fault:
-            end(NO_ROOM, f"{fault.filename or 'this tree'} can't be written: {fault.strerror}")
-        if status:
-            self.fail(f"{self.crate.name} isn't proved or built: {self.log} says why")
-        differs = ended and Run(self.crate.name).differs(ended)
-        if differs:
-            self.fail(f"{self.crate.name} is built, but its run isn't the stored one: {differs}")
-        self.passed.note(self.crate)
-        self.progress.ended(self.crate.name, time.monotonic() - began if self.is_anew else 0)
-        return status
+            said = []
+            for line in ran.stdout:
+                said.append(line)
+                told = SAID.match(line)
+                if told:
+                    self.note(told[1], told[2], said, progress)
+                    said = []
+            if ran.wait():
+                self.tell_of_runs()
+                raise Ended(NOT_PROVED, f"rt ci ended with status {ran.returncode}: {''.join(said[-3:]).strip()}")
+        finally:
+            stages.end_session(ran.pid)
+            ran.wait()
+
+    def note(self, name, how, said, progress):
+        """Writes what was said of a crate to its log, and notes whether it passed."""
+        log = f"crates/{name}/{LOG}"
+        os.makedirs(os.path.dirname(log), exist_ok=True)
+        with open(log, "w", encoding="utf-8") as it:
+            it.writelines(said)
+        if how == "NOT PROVED":
+            raise Ended(NOT_PROVED, f"{name} isn't proved: {log} says why")
+        progress.ended(name, how == "is kept")
+
+    def tell_of_runs(self):
+        """Tells of a program whose run is not the stored one, if there is such a program."""
+        for it in self.crates:
+            program = os.path.abspath(f"{self.top}/crates/{it.name}/out/{it.name}")
+            if it.is_program and os.path.isfile(program):
+                run = Run(it.name)
+                differs = run.differs(run.of(program, *run.words))
+                if differs:
+                    raise Ended(NOT_PROVED, f"{it.name} is proved, but its run isn't the stored one: {differs}")
+
+    def lay_built(self):
+        """Lays what was built beside the sources. A library has the stamp of the sources that it was made of."""
+        for it in self.crates:
+            made, to = f"{self.top}/crates/{it.name}/out/rlib", f"crates/{it.name}/out/rlib"
+            if it.is_program:
+                lay_program(it.name, self.top)
+            elif not it.is_static:
+                shutil.rmtree(to, ignore_errors=True)
+                shutil.move(made, to)
+                with open(f"{to}/stamp", "w", encoding="utf-8") as stamp:
+                    stamp.write(self.stamps[it.name])
 
 
-def tasks_of(rt, crates, progress, passed):
-    """For rt's scheduler: each library, and each program after all below it."""
-    tasks = {}
-    for crate in crates:
-        key, task = library_task(rt, crate, progress.expects(crate.name), Build(rt, crate, progress, passed).run, WIDE)
-        tasks[key] = task
-    return tasks
+def archive(name):
+    """Makes the archive of a library for C, over the libraries that stand beside their sources."""
+    print(f"prove: {name}: its archive is made", flush=True)
+    with open(f"crates/{name}/{LOG}", "a", encoding="utf-8") as log:
+        ran = subprocess.Popen(["rt", "lib"], cwd=f"crates/{name}", stdin=subprocess.DEVNULL, stdout=log, stderr=log, start_new_session=True)
+        try:
+            if ran.wait():
+                raise Ended(NOT_PROVED, f"{name} isn't built: crates/{name}/{LOG} says why")
+        finally:
+            stages.end_session(ran.pid)
+            ran.wait()
 
 
 def locked():
-    """What keeps other starts out until this one ends."""
-    try:
-        os.makedirs(os.path.dirname(LOCK), exist_ok=True)
-        lock = open(LOCK, "w", encoding="utf-8")
-    except OSError as fault:
-        end(NO_ROOM, f"{fault.filename} can't be written: {fault.strerror}")
+    """What keeps other starts out until it is closed."""
+    os.makedirs(os.path.dirname(LOCK), exist_ok=True)
+    lock = open(LOCK, "w", encoding="utf-8")
     try:
         fcntl.flock(lock, fcntl.LOCK_EX | fcntl.LOCK_NB)
     except BlockingIOError:
-        end(AT_WORK, "another start of ./prove is at work in this tree")
+        raise Ended(AT_WORK, "another start of ./prove is at work in this tree") from None
     return lock
 
 
-def interrupted(number, _):
-    end(128 + number, "interrupted: the next start goes on from here")
+def interrupt(number, _):
+    for it in (signal.SIGINT, signal.SIGTERM, signal.SIGHUP):
+        signal.signal(it, signal.SIG_IGN)
+    raise Ended(128 + number, "interrupted: the next start goes on from here")
+
+
+def crates_for(names):
+    """These crates and those below them, lowest first."""
+    every = toolchain().rtlib.crates_below(os.getcwd())
+    for name in names:
+        if name not in [it.name for it in every]:
+            raise Ended(WRONG_WORDS, f"{name}: crates.txt names no such crate")
+    wanted = {below.name for it in every if it.name in names for below in [it, *it.below()]}
+    return [it for it in every if it.name in wanted]
+
+
+def build(names):
+    """Proves and builds these crates and those below them."""
+    if left_on_disks() < WANTED:
+        raise Ended(NO_ROOM, f"the disk has {left_on_disks()} MB left, and this wants {WANTED}")
+    crates = crates_for(names)
+    print(f"prove: {len(crates)} crates; what this machine has passed before is kept", flush=True)
+    with tempfile.TemporaryDirectory(prefix="prove-", ignore_cleanup_errors=True) as room, times.Times() as spent:
+        copy = Copy(f"{room}/tree", crates)
+        copy.prove(Progress(crates, spent))
+        copy.lay_built()
+    for it in crates:
+        if it.is_static:
+            archive(it.name)
+
+
+def end(status, text):
+    """Says why a start ends, and returns its status. What fails on a full disk fails for that."""
+    if status in (NOT_PROVED, NO_ROOM) and left_on_disks() < FULL:
+        status, text = NO_ROOM, "the disk is full"
+    print(f"prove: {text}", file=sys.stderr, flush=True)
+    return status
 
 
 def prove(names=PROGRAMS):
     """Proves and builds these crates, and returns the status."""
-    if shutil.which("rt") is None:
-        end(NO_RT, "rt (the Rattle toolchain) is not on the path")
-    held = locked()
-    if left_on_disk() < WANTED:
-        end(NO_ROOM, f"the disk has {left_on_disk()} MB left, and this wants {WANTED}")
-    rt = toolchain()
-    rt.share_work(True)
-    rt.rtlib.guarded()
     for it in (signal.SIGINT, signal.SIGTERM, signal.SIGHUP):
-        signal.signal(it, interrupted)
-    every = rt.rtlib.crates_below(os.getcwd())
-    for name in names:
-        if name not in [it.name for it in every]:
-            end(WRONG_WORDS, f"{name}: crates.txt names no such crate")
-    wanted = {below.name for it in every if it.name in names for below in [it, *it.below()]}
-    crates = [it for it in every if it.name in wanted]
-    progress = Progress(crates)
-    progress.begin()
-    rt.in_lanes(tasks_of(rt, crates, progress, Passed(rt, crates)))
+        signal.signal(it, interrupt)
+    try:
+        if shutil.which("rt") is None:
+            raise Ended(NO_RT, "rt (the Rattle toolchain) is not on the path")
+        with locked():
+            build(names)
+    except Ended as fault:
+        return end(fault.status, fault)
+    except OSError as fault:
+        return end(NO_ROOM, f"{fault.filename or 'this tree'} can't be written: {fault.strerror}")
     print(f"prove: {TO_RUN if names == PROGRAMS else f'{chr(32).join(names)}: proved and built'}", flush=True)
-    held.close()
     return 0

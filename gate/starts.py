@@ -5,10 +5,15 @@ It tries the repository's own scripts in a small tree of their own, with a stand
 `rt try`. Only what needs a real check takes the real rt."""
 import fcntl
 import os
+import pty
+import re
 import shutil
 import signal
+import struct
 import subprocess
 import tempfile
+import termios
+import threading
 import time
 
 from gate import plays
@@ -16,7 +21,8 @@ from gate.programs import PROGRAMS, TO_RUN
 from gate.report import Report
 
 CRATES = "low:\n" + "".join(f"{it}: low\n" for it in PROGRAMS)
-PROVABLE = "//! A number.\n#![tactic(auto)]\n\n/// Gives half of it.\npub fn half(n: u8) -> u8 {\n    n / 2\n}\n"
+# (No run has proved it before, since its number is of this one.)
+PROVABLE = f"//! Number {time.time_ns()}.\n#![tactic(auto)]\n\n/// Gives half of it.\npub fn half(n: u8) -> u8 {{\n    n / 2\n}}\n"
 # (of which nothing was kept)
 OTHER = PROVABLE.replace("half", "third").replace("n / 2", "n / 3")
 WRONG = PROVABLE.replace("n / 2", "2 / n")
@@ -24,8 +30,8 @@ MAIN = "//! Prints nothing.\n#![tactic(auto)]\n\nfn main(_rt: HostRuntime) {}\n"
 UNPROVED = "histar: not proved yet: this run is compiled with checks, which takes some minutes; ./prove builds the proved program\n"
 NEEDS = "needs the proved program, which ./prove builds\n"
 ANSWERED = "run=ended status=1 runners=1 races=unchecked proved=no"
-# What the second start in the small tree says first: its one library is built.
-GOES_ON = f"prove: libraries built before: 1; {len(PROGRAMS)} crates left, about "
+# What ./prove says of a crate that it has proved: the crate, and how many were kept.
+IS_PROVED = re.compile(r"prove: (\w+) is proved; kept from before: (\d+); ")
 STAND_IN = "#!/bin/sh\necho \"$*\"; echo 'checked: ended status=1' >&2; echo '{said}' >&2; exit 1\n"
 
 
@@ -39,12 +45,14 @@ class Tree:
     """A small tree with the scripts that start programs, and a folder of commands with a stand-in for rt."""
 
     def __init__(self, room):
-        self.top, self.commands = f"{room}/tree", f"{room}/commands"
+        self.room, self.top, self.commands = room, f"{room}/tree", f"{room}/commands"
         os.makedirs(f"{self.top}/gate")
-        for it in ("histar", "histar-audit", "histar-show", "start.sh", "prove", "HANDLES"):
+        for it in ("histar", "histar-audit", "histar-show", "start.sh", "prove", "HANDLES", "VERSION"):
             shutil.copy2(it, f"{self.top}/{it}")
-        for it in ("programs", "report", "times", "toolchain"):
+        for it in ("programs", "report", "stages", "times", "toolchain", "usage", "versions"):
             shutil.copy2(f"gate/{it}.py", f"{self.top}/gate/{it}.py")
+        for it in ("gate/answer.sh", "gate/wrap.awk", "cases/words"):
+            subprocess.run(["cp", "-r", "--parents", it, self.top], check=True)
         write(f"{self.top}/crates.txt", CRATES)
         write(f"{self.top}/crates/low/src/lib.rt", PROVABLE)
         for it in PROGRAMS:
@@ -57,9 +65,9 @@ class Tree:
         write(f"{self.commands}/rt", STAND_IN.format(said=said))
         os.chmod(f"{self.commands}/rt", 0o755)
 
-    def prove_by_hand(self, name):
-        """Puts a program where ./prove would build it: it prints its words."""
-        write(f"{self.top}/crates/{name}/out/{name}", '#!/bin/sh\necho "proved $*"\n')
+    def prove_by_hand(self, name, does='echo "proved $*"'):
+        """Puts a program where ./prove would build it: it prints its words, or does something else."""
+        write(f"{self.top}/crates/{name}/out/{name}", f"#!/bin/sh\n{does}\n")
         os.chmod(f"{self.top}/crates/{name}/out/{name}", 0o755)
 
     def start(self, *words, has_rt=True, given=""):
@@ -68,6 +76,27 @@ class Tree:
         how = {"cwd": self.top, "env": {**os.environ, "PATH": path}, "input": given, "capture_output": True, "text": True}
         done = subprocess.run(words, **how)
         return done.returncode, done.stdout, done.stderr
+
+
+def at_terminal(tree, words, columns=80, typed=()):
+    """What a command of the tree shows at a terminal so many columns wide, where these lines are typed, each after some time."""
+    ours, theirs = pty.openpty()
+    fcntl.ioctl(theirs, termios.TIOCSWINSZ, struct.pack("HHHH", 24, columns, 0, 0))
+    env = {**os.environ, "PATH": f"{tree.commands}:{os.environ['PATH']}", "TERM": "xterm"}
+    started = subprocess.Popen(words, cwd=tree.top, env=env, stdin=theirs, stdout=theirs, stderr=theirs, start_new_session=True)
+    os.close(theirs)
+    for line in typed:
+        time.sleep(0.5)
+        os.write(ours, line)
+    shown = b""
+    try:
+        while piece := os.read(ours, 4096):
+            shown += piece
+    except OSError:  # the other end is closed
+        pass
+    os.close(ours)
+    started.wait()
+    return shown.decode(errors="replace").replace("\r", "")
 
 
 def expect(report, name, got, wanted):
@@ -105,6 +134,29 @@ def try_unproved(report, tree):
     tree.stand_in(ANSWERED)
 
 
+def try_help(report, tree):
+    """Help proves nothing, whole and on a narrow terminal."""
+    stored = {it: plays.text(f"cases/words/{it}_help.case") for it in ("run", "audit")}
+    for command, case in (("./histar --help", "run"), ("./histar help check", "run"), ("./histar-audit -h", "audit")):
+        status, said, beside = tree.start(*command.split(), has_rt=False)
+        report.counts((status, beside) == (0, "") and "Usage: " in said and said in stored[case], f"{command} unproved: status {status}, as stored")
+    for command, last in (("./histar --help", "Print version"), ("./histar-audit --help", "Print version"), ("./prove --help", "interrupted.")):
+        shown = at_terminal(tree, command.split(), columns=40)
+        longest = max(map(len, shown.splitlines()))
+        report.counts(longest <= 40 and shown.rstrip().endswith(last), f"{command} on a terminal of 40 columns: the longest line has {longest}")
+
+
+def try_arrows(report, tree):
+    """The arrow keys give lines of a dialogue back."""
+    if not shutil.which("rlwrap"):
+        report.say("left out: arrow keys: rlwrap is not on the path")
+        return
+    tree.prove_by_hand("histar", 'while read -r line && [ "$line" != quit ]; do echo "read $line"; done')
+    shown = at_terminal(tree, ("./histar", "try"), typed=(b"tree\n", b"\x1b[A\n", b"quit\n"))
+    report.counts(shown.count("read tree") == 2, f"./histar try: an arrow key gives a line back: {shown!r}")
+    tree.prove_by_hand("histar")
+
+
 def try_proved(report, tree):
     """The programs where what ./prove builds stands, and is older than a source."""
     for it in PROGRAMS:
@@ -112,10 +164,21 @@ def try_proved(report, tree):
     for command in ("./histar run script --dump d", "./histar check script", "./histar try --pages 8", "./histar-audit d", "./histar-show why d"):
         program, *words = command.split()
         expect(report, f"{command} proved", tree.start(program, *words), (0, f"proved {' '.join(words)}\n", ""))
-    later = time.time() + 60
-    os.utime(f"{tree.top}/crates/low/src/lib.rt", (later, later))
-    expect(report, "./histar older than a source", tree.start("./histar", "run", "none"), (1, "try -- run none\n", UNPROVED))
-    os.utime(f"{tree.top}/crates/low/src/lib.rt")
+    proved, unproved = (0, "proved run none\n", ""), (1, "try -- run none\n", UNPROVED)
+    source, later = f"{tree.top}/crates/low/src/lib.rt", time.time() + 60
+    os.utime(source, (later, later))
+    expect(report, "./histar older than a source", tree.start("./histar", "run", "none"), unproved)
+    os.utime(source, (1, 1))
+    expect(report, "./histar, that source older again", tree.start("./histar", "run", "none"), proved)
+    write(f"{tree.top}/crates/low/src/other.rt", "")
+    expect(report, "./histar older than a source newly made", tree.start("./histar", "run", "none"), unproved)
+    os.remove(f"{tree.top}/crates/low/src/other.rt")
+    for count in ("looks at all sources", "looks at what it kept"):
+        expect(report, f"./histar {count}", tree.start("./histar", "run", "none"), proved)
+    write(f"{tree.top}/crates.txt", CRATES + "more:\n")
+    expect(report, "./histar older than crates.txt", tree.start("./histar", "run", "none"), unproved)
+    write(f"{tree.top}/crates.txt", CRATES)
+    tree.prove_by_hand("histar")
 
 
 def failures_of_play(tree, status, out):
@@ -153,27 +216,37 @@ def try_prove(report, tree):
         expect(report, "./prove beside another", tree.start("./prove"), beside)
 
 
-def processes_below(top):
-    """How many processes work in a folder."""
+def processes_in(room, crate=""):
+    """How many processes work in a room, or in a folder of this crate there."""
     found = 0
     for it in filter(str.isdigit, os.listdir("/proc")):
         try:
-            found += os.readlink(f"/proc/{it}/cwd").startswith(top)
+            at = os.readlink(f"/proc/{it}/cwd")
         except OSError:
-            pass
+            continue
+        found += at.startswith(room) and (not crate or at.endswith(f"/crates/{crate}"))
     return found
 
 
 class Proving:
-    """./prove at work in a tree, by the real rt."""
+    """./prove at work in a room's tree, by the real rt. Its copy of the crates stands in the room too."""
 
-    def __init__(self, top, *words, before=()):
-        how = {"cwd": top, "stdin": subprocess.DEVNULL, "stdout": subprocess.PIPE, "stderr": subprocess.PIPE, "text": True}
-        self.top, self.started = top, subprocess.Popen([*before, "./prove", *words], **how)
+    def __init__(self, room, *words, before=()):
+        how = {"cwd": f"{room}/tree", "stdin": subprocess.DEVNULL, "stdout": subprocess.PIPE, "stderr": subprocess.PIPE, "text": True}
+        os.makedirs(f"{room}/copies", exist_ok=True)
+        self.room, self.said = room, []
+        self.started = subprocess.Popen([*before, "./prove", *words], env={**os.environ, "TMPDIR": f"{room}/copies"}, **how)
+        self.reader = threading.Thread(target=lambda: self.said.extend(self.started.stdout))
+        self.reader.start()
+
+    def proved(self):
+        """The crates that it says it has proved, and how many it says were kept when it said so last."""
+        told = [it for it in map(IS_PROVED.match, list(self.said)) if it]
+        return [it[1] for it in told], int(told[-1][2]) if told else 0
 
     def wait(self, is_so):
-        """Waits until something is so, for a minute at most, and returns whether it came."""
-        until = time.monotonic() + 60
+        """Waits until something is so, for five minutes at most, and returns whether it came."""
+        until = time.monotonic() + 300
         while not is_so() and time.monotonic() < until and self.started.poll() is None:
             time.sleep(0.05)
         return is_so()
@@ -183,13 +256,10 @@ class Proving:
         return self.end()
 
     def end(self):
-        """How it ended: its status, what it wrote, and to standard error."""
-        said, beside = self.started.communicate(timeout=300)
-        return self.started.returncode, said, beside
-
-
-def is_at_work(top, crate):
-    return processes_below(f"{top}/crates/{crate}") > 0
+        """How it ended: its status, what it wrote last, and to standard error."""
+        self.started.wait(timeout=600)
+        self.reader.join()
+        return self.started.returncode, (self.said or [""])[-1], self.started.stderr.read()
 
 
 def built(top):
@@ -201,28 +271,30 @@ def built(top):
 def try_wrong_proof(report, tree):
     """A proof that fails, and the tree once it is mended."""
     write(f"{tree.top}/crates/low/src/lib.rt", WRONG)
-    status, _, said = tree.start("./prove")
-    line = "prove: low isn't proved or built: crates/low/out/prove.log says why\n"
+    status, _, said = Proving(tree.room).end()
+    line = "prove: low isn't proved: crates/low/out/prove.log says why\n"
     is_told = "is not proved" in plays.text(f"{tree.top}/crates/low/out/prove.log")
     report.counts((status, said, is_told) == (70, line, True), f"./prove where a proof fails: status {status}, {said.strip()}")
     write(f"{tree.top}/crates/low/src/lib.rt", PROVABLE)
 
 
 def try_interrupts(report, tree):
-    """Interrupts near the beginning, in the middle and near the end, after each of which nothing is left at work and the next start goes
-    on; the last one has two processors."""
-    for count in (0, 1, 2):
-        proving, before = Proving(tree.top), "low" in built(tree.top)
-        was_at_work = proving.wait(lambda: len(built(tree.top)) >= count and processes_below(f"{tree.top}/crates") > 0)
-        status, said, beside = proving.interrupt()
-        time.sleep(1)
-        left, goes_on = processes_below(tree.top), not before or said.startswith(GOES_ON)
-        is_well = (was_at_work, status, left, goes_on) == (True, 130, 0, True)
-        report.counts(is_well, f"./prove interrupted with {len(built(tree.top))} crates built: status {status}, {left} processes left, {beside.strip()}")
-    before = len(built(tree.top))
-    status, said, beside = Proving(tree.top, before=("taskset", "-c", two_processors())).end()
-    is_well = (status, beside) == (0, "") and said.startswith(GOES_ON) and said.endswith(f"prove: {TO_RUN}\n") and sorted(built(tree.top)) == sorted(["low", *PROGRAMS])
-    report.counts(is_well, f"./prove on two processors goes on after {before} crates: status {status}, {said.splitlines()[-1:]} {beside}")
+    """Interrupts near the beginning, in the middle and near the end, after each of which nothing is left at work. The last start has two
+    processors, and goes on after them."""
+    done = set()
+    for count in (1, 2, 3):
+        proving = Proving(tree.room)
+        was_at_work = proving.wait(lambda: len(done | set(proving.proved()[0])) >= count and processes_in(tree.room) > 1)
+        status, _, beside = proving.interrupt()
+        proved, kept = proving.proved()
+        is_well = (was_at_work, status, processes_in(tree.room), kept >= len(done)) == (True, 130, 0, True)
+        done |= set(proved)
+        report.counts(is_well, f"./prove interrupted with {len(done)} crates proved, {kept} kept: status {status}, {beside.strip()}")
+    proving = Proving(tree.room, before=("taskset", "-c", two_processors()))
+    status, said, beside = proving.end()
+    is_well = (status, said, beside) == (0, f"prove: {TO_RUN}\n", "") and sorted(built(tree.top)) == sorted(["low", *PROGRAMS])
+    is_going_on = not done & set(proving.proved()[0])
+    report.counts(is_well and is_going_on, f"./prove on two processors goes on after {len(done)} crates: status {status}, {said.strip()} {beside}")
 
 
 def two_processors():
@@ -236,13 +308,13 @@ def try_stored_run(report, tree):
         ("stdout", "something\n", "it wrote something else than crates/histar/stdout has"),
     ):
         write(f"{tree.top}/crates/histar/{file}", made)
-        status, _, said = tree.start("./prove", "histar")
-        line = f"prove: histar is built, but its run isn't the stored one: {why}\n"
+        status, _, said = Proving(tree.room, "histar").end()
+        line = f"prove: histar is proved, but its run isn't the stored one: {why}\n"
         report.counts((status, said) == (70, line), f"./prove with another {file} stored: status {status}, {said.strip()}")
         os.remove(f"{tree.top}/crates/histar/{file}")
     os.remove(f"{tree.top}/crates/histar/stdin")
-    ended = tree.start("./prove", "histar")
-    report.counts(ended[0] == 0, f"./prove of a program with no stored input: status {ended[0]}, {ended[2].strip()}")
+    status, _, said = Proving(tree.room, "histar").end()
+    report.counts(status == 0, f"./prove of a program with no stored input: status {status}, {said.strip()}")
 
 
 def shrink(disk):
@@ -263,12 +335,12 @@ def try_full_disk(report, tree, room):
     try:
         shutil.copytree(tree.top, f"{disk}/tree", ignore=shutil.ignore_patterns("out"))
         write(f"{disk}/tree/crates/low/src/lib.rt", OTHER)
-        proving = Proving(f"{disk}/tree")
-        was_at_work = proving.wait(lambda: is_at_work(f"{disk}/tree", "low"))
+        proving = Proving(disk)
+        was_at_work = proving.wait(lambda: processes_in(disk, "low") > 0)
         shrink(disk)
         status, _, said = proving.end()
         report.counts((was_at_work, status, said) == (True, 73, "prove: the disk is full\n"), f"./prove where the disk fills up: status {status}, {said.strip()}")
-        status, _, said = Proving(f"{disk}/tree").end()
+        status, _, said = Proving(disk).end()
         report.counts(status == 73 and said.startswith("prove: the disk has "), f"./prove on a small disk: status {status}, {said.strip()}")
     finally:
         subprocess.run(["umount", "-l", disk], check=False)
@@ -290,7 +362,9 @@ def start(report):
     with tempfile.TemporaryDirectory(prefix="starts-") as room:
         tree = Tree(room)
         try_unproved(report, tree)
+        try_help(report, tree)
         try_proved(report, tree)
+        try_arrows(report, tree)
         try_gate(report, tree)
         try_prove(report, tree)
         try_checks(report, tree, room)

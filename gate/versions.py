@@ -1,6 +1,5 @@
 """The version. The file VERSION has it; each other place that tells it is compared with that file."""
 import re
-import sys
 
 # The places: a file, what stands before the version, and in which form.
 WHOLE, NUMBER = "whole", "number"
@@ -33,10 +32,3 @@ def compare(report):
         with open(file, encoding="utf-8") as it:
             found = re.search(pattern, it.read(), re.M)
         report.counts(bool(found) and found[1] == forms[form], f"{file} has the version {found[1] if found else 'nowhere'}: VERSION has {forms[form]}")
-
-
-def answer(name):
-    """Ends a script that is asked for its version alone."""
-    if sys.argv[1:] in (["--version"], ["-V"]):
-        print(f"{name} {read()}")
-        sys.exit(0)

@@ -55,8 +55,31 @@ extern "C" {
 /* The level of ownership. The other levels are 0 to 3. */
 enum { HISTAR_STAR = 4 };
 
-/* The objects of a newly opened kernel: the root container, the boot thread and the device. */
-enum { HISTAR_ROOT = 1, HISTAR_BOOT = 2, HISTAR_DEVICE = 3 };
+/* An object: a container, a segment, an address space, a thread, a gate or the device. And a category. Each is a type of its own, so
+ * that the compiler refuses one for the other, and a number for either. */
+typedef struct {
+    uint64_t id;
+} histar_object;
+typedef struct {
+    uint64_t number;
+} histar_category;
+
+/* The object of an id, and the category of a number, which were kept as numbers. */
+static inline histar_object histar_object_of(uint64_t id)
+{
+    histar_object object;
+    object.id = id;
+    return object;
+}
+static inline histar_category histar_category_of(uint64_t number)
+{
+    histar_category category;
+    category.number = number;
+    return category;
+}
+
+/* The objects of a newly opened kernel: the root container, the boot thread and the device. And what is none. */
+static const histar_object HISTAR_ROOT = {1}, HISTAR_BOOT = {2}, HISTAR_DEVICE = {3}, HISTAR_NOTHING = {0};
 
 /* What a mapping allows. */
 enum { HISTAR_READ = 1, HISTAR_WRITE = 2 };
@@ -154,11 +177,14 @@ static inline const char *histar_refusal_name(uint32_t refusal)
 
 /* How a call names an object: by a container, and an object that it lists or that it is. */
 typedef struct {
-    uint64_t container, object;
+    histar_object container, object;
 } histar_entry;
 
+/* The entry of no object: as an address space, that there is none. */
+static const histar_entry HISTAR_NOWHERE = {{0}, {0}};
+
 /* The entry of an object in a container. */
-static inline histar_entry histar_in(uint64_t container, uint64_t object)
+static inline histar_entry histar_in(histar_object container, histar_object object)
 {
     histar_entry entry;
     entry.container = container;
@@ -170,7 +196,7 @@ static inline histar_entry histar_in(uint64_t container, uint64_t object)
  * from the default. Levels are 0 to 3, or HISTAR_STAR; categories are 1 to 2^61 - 1. */
 typedef struct {
     uint8_t default_level, count, levels[24];
-    uint64_t categories[24];
+    histar_category categories[24];
 } histar_label;
 
 /* A level as a byte: one that is none makes a label that every call refuses. */
@@ -186,7 +212,7 @@ static inline histar_label histar_level(uint64_t level)
 }
 
 /* The label with another level for a category. The 25th pair makes a label that every call refuses. */
-static inline histar_label histar_with(histar_label label, uint64_t category, uint64_t level)
+static inline histar_label histar_with(histar_label label, histar_category category, uint64_t level)
 {
     if (label.count < 24) {
         label.categories[label.count] = category;
@@ -489,15 +515,15 @@ static inline uint32_t histar_share(histar_shared *shared, uint64_t pages, uint6
 /* ---- How the functions below fill a record and read an answer ---- */
 
 /* Takes the kernel for a call, and fills what each call has. */
-static inline uint32_t histar_asks(histar *k, uint32_t call, uint64_t thread, histar_entry entry)
+static inline uint32_t histar_asks(histar *k, uint32_t call, histar_object thread, histar_entry entry)
 {
     if (!histar_is_open(k)) return HISTAR_UNAVAILABLE;
     if (histar_taken(k)) return HISTAR_BUSY;
     if (!histar_is_open(k)) return histar_released(k, HISTAR_UNAVAILABLE); /* it was closed in between */
     k->request.call = call;
-    k->request.thread = thread;
-    k->request.container = entry.container;
-    k->request.object = entry.object;
+    k->request.thread = thread.id;
+    k->request.container = entry.container.id;
+    k->request.object = entry.object.id;
     return HISTAR_DONE;
 }
 /* A seat asks again while another adds its call, which takes a few nanoseconds: at once, then after others had a turn, then after a
@@ -512,21 +538,22 @@ static inline uint32_t histar_serves(histar *k)
     return refusal;
 }
 
-/* The ends of a call: of one that answers nothing but its refusal, of one whose answer was read, of one that made something,
- * of one that gives bytes, and of one that takes some, of which 64 may be written. */
+/* The ends of a call: of one that answers nothing but its refusal, of one whose answer was read, of one that answers a number, of
+ * one that made something, of one that gives bytes, and of one that takes some, of which 64 may be written. */
 static inline uint32_t histar_done(histar *k) { return histar_released(k, histar_serves(k)); }
 static inline uint32_t histar_told(histar *k, uint32_t refusal)
 {
     histar_wipes(&k->answer, sizeof k->answer);
     return histar_released(k, refusal);
 }
-static inline uint32_t histar_made(histar *k, uint64_t *made)
+static inline uint32_t histar_counted(histar *k, uint64_t *number)
 {
     uint32_t refusal = histar_serves(k);
-    if (!refusal && made) *made = k->answer.numbers[0];
+    if (!refusal && number) *number = k->answer.numbers[0];
     histar_wipes(k->answer.numbers, sizeof(uint64_t));
     return histar_released(k, refusal);
 }
+static inline uint32_t histar_made(histar *k, histar_object *made) { return histar_counted(k, made ? &made->id : NULL); }
 static inline uint32_t histar_gives(histar *k, const void *bytes, uint64_t len)
 {
     uint32_t refusal;
@@ -552,18 +579,18 @@ static inline uint32_t histar_takes(histar *k, void *bytes, uint64_t size, size_
 
 /* A new category, which the thread owns: star in its label, 3 in its clearance. HISTAR_LABEL_FULL, HISTAR_SPENT. */
 HISTAR_LOOKED_AT(1)
-static inline uint32_t histar_cat_create(histar *k, uint64_t thread, uint64_t *category)
+static inline uint32_t histar_cat_create(histar *k, histar_object thread, histar_category *category)
 {
-    uint32_t refusal = histar_asks(k, HISTAR_CALL_CAT_CREATE, thread, histar_in(0, 0));
+    uint32_t refusal = histar_asks(k, HISTAR_CALL_CAT_CREATE, thread, HISTAR_NOWHERE);
     if (refusal) return refusal;
-    return histar_made(k, category);
+    return histar_counted(k, category ? &category->number : NULL);
 }
 
 /* The thread's label rises, to its clearance at most. HISTAR_BAD_LABEL, HISTAR_LABEL_RANGE. */
 HISTAR_LOOKED_AT(1, 3)
-static inline uint32_t histar_self_set_label(histar *k, uint64_t thread, const histar_label *label)
+static inline uint32_t histar_self_set_label(histar *k, histar_object thread, const histar_label *label)
 {
-    uint32_t refusal = histar_asks(k, HISTAR_CALL_SELF_SET_LABEL, thread, histar_in(0, 0));
+    uint32_t refusal = histar_asks(k, HISTAR_CALL_SELF_SET_LABEL, thread, HISTAR_NOWHERE);
     if (refusal) return refusal;
     k->request.label = *label;
     return histar_done(k);
@@ -572,9 +599,9 @@ static inline uint32_t histar_self_set_label(histar *k, uint64_t thread, const h
 /* The thread's clearance: at least its label, and at most the maximum of the old clearance and of the label with star
  * raised. HISTAR_BAD_LABEL, HISTAR_CLEARANCE_RANGE. */
 HISTAR_LOOKED_AT(1, 3)
-static inline uint32_t histar_self_set_clearance(histar *k, uint64_t thread, const histar_label *clearance)
+static inline uint32_t histar_self_set_clearance(histar *k, histar_object thread, const histar_label *clearance)
 {
-    uint32_t refusal = histar_asks(k, HISTAR_CALL_SELF_SET_CLEARANCE, thread, histar_in(0, 0));
+    uint32_t refusal = histar_asks(k, HISTAR_CALL_SELF_SET_CLEARANCE, thread, HISTAR_NOWHERE);
     if (refusal) return refusal;
     k->request.clearance = *clearance;
     return histar_done(k);
@@ -582,7 +609,7 @@ static inline uint32_t histar_self_set_clearance(histar *k, uint64_t thread, con
 
 /* The thread's address space, or none for the entry (0, 0). HISTAR_WRONG_TYPE. */
 HISTAR_LOOKED_AT(1)
-static inline uint32_t histar_self_set_as(histar *k, uint64_t thread, histar_entry space)
+static inline uint32_t histar_self_set_as(histar *k, histar_object thread, histar_entry space)
 {
     uint32_t refusal = histar_asks(k, HISTAR_CALL_SELF_SET_AS, thread, space);
     if (refusal) return refusal;
@@ -593,11 +620,11 @@ static inline uint32_t histar_self_set_as(histar *k, uint64_t thread, histar_ent
  * HISTAR_NO_ACCESS, HISTAR_CANNOT_OBSERVE, HISTAR_CANNOT_MODIFY, HISTAR_BAD_LABEL, HISTAR_LABEL_RANGE,
  * HISTAR_AVOID_TYPE, HISTAR_NO_QUOTA, HISTAR_IMMUTABLE, HISTAR_SPENT: these refuse each new object. */
 HISTAR_LOOKED_AT(1, 4)
-static inline uint32_t histar_container_create(histar *k, uint64_t thread, uint64_t container,
+static inline uint32_t histar_container_create(histar *k, histar_object thread, histar_object container,
                                                const histar_label *label, uint64_t quota, uint64_t avoid,
-                                               uint64_t *made)
+                                               histar_object *made)
 {
-    uint32_t refusal = histar_asks(k, HISTAR_CALL_CONTAINER_CREATE, thread, histar_in(container, 0));
+    uint32_t refusal = histar_asks(k, HISTAR_CALL_CONTAINER_CREATE, thread, histar_in(container, HISTAR_NOTHING));
     if (refusal) return refusal;
     k->request.label = *label;
     k->request.numbers[0] = quota;
@@ -608,11 +635,11 @@ static inline uint32_t histar_container_create(histar *k, uint64_t thread, uint6
 /* A new segment of `pages` pages of zeros, 0 to 16, last in `container`'s list; its quota is at least one page more.
  * What refuses each new object, and HISTAR_BOUNDS. */
 HISTAR_LOOKED_AT(1, 4)
-static inline uint32_t histar_segment_create(histar *k, uint64_t thread, uint64_t container,
+static inline uint32_t histar_segment_create(histar *k, histar_object thread, histar_object container,
                                              const histar_label *label, uint64_t quota, uint64_t pages,
-                                             uint64_t *made)
+                                             histar_object *made)
 {
-    uint32_t refusal = histar_asks(k, HISTAR_CALL_SEGMENT_CREATE, thread, histar_in(container, 0));
+    uint32_t refusal = histar_asks(k, HISTAR_CALL_SEGMENT_CREATE, thread, histar_in(container, HISTAR_NOTHING));
     if (refusal) return refusal;
     k->request.label = *label;
     k->request.numbers[0] = quota;
@@ -623,24 +650,24 @@ static inline uint32_t histar_segment_create(histar *k, uint64_t thread, uint64_
 /* A new segment with the bytes of `source`, last in `container`'s list. What refuses each new object, and
  * HISTAR_WRONG_TYPE. */
 HISTAR_LOOKED_AT(1, 4)
-static inline uint32_t histar_segment_copy(histar *k, uint64_t thread, uint64_t container, const histar_label *label,
-                                           uint64_t quota, histar_entry source, uint64_t *made)
+static inline uint32_t histar_segment_copy(histar *k, histar_object thread, histar_object container, const histar_label *label,
+                                           uint64_t quota, histar_entry source, histar_object *made)
 {
-    uint32_t refusal = histar_asks(k, HISTAR_CALL_SEGMENT_COPY, thread, histar_in(container, 0));
+    uint32_t refusal = histar_asks(k, HISTAR_CALL_SEGMENT_COPY, thread, histar_in(container, HISTAR_NOTHING));
     if (refusal) return refusal;
     k->request.label = *label;
     k->request.numbers[0] = quota;
-    k->request.other_container = source.container;
-    k->request.other_object = source.object;
+    k->request.other_container = source.container.id;
+    k->request.other_object = source.object.id;
     return histar_made(k, made);
 }
 
 /* A new address space of 16 empty slots, last in `container`'s list. What refuses each new object. */
 HISTAR_LOOKED_AT(1, 4)
-static inline uint32_t histar_as_create(histar *k, uint64_t thread, uint64_t container, const histar_label *label,
-                                        uint64_t quota, uint64_t *made)
+static inline uint32_t histar_as_create(histar *k, histar_object thread, histar_object container, const histar_label *label,
+                                        uint64_t quota, histar_object *made)
 {
-    uint32_t refusal = histar_asks(k, HISTAR_CALL_AS_CREATE, thread, histar_in(container, 0));
+    uint32_t refusal = histar_asks(k, HISTAR_CALL_AS_CREATE, thread, histar_in(container, HISTAR_NOTHING));
     if (refusal) return refusal;
     k->request.label = *label;
     k->request.numbers[0] = quota;
@@ -650,11 +677,11 @@ static inline uint32_t histar_as_create(histar *k, uint64_t thread, uint64_t con
 /* A new thread, last in `container`'s list, with the verify label {3}, no address space and closure 0. What refuses
  * each new object, and HISTAR_CLEARANCE_RANGE. */
 HISTAR_LOOKED_AT(1, 4, 6)
-static inline uint32_t histar_thread_create(histar *k, uint64_t thread, uint64_t container,
+static inline uint32_t histar_thread_create(histar *k, histar_object thread, histar_object container,
                                             const histar_label *label, uint64_t quota,
-                                            const histar_label *clearance, uint64_t entry_point, uint64_t *made)
+                                            const histar_label *clearance, uint64_t entry_point, histar_object *made)
 {
-    uint32_t refusal = histar_asks(k, HISTAR_CALL_THREAD_CREATE, thread, histar_in(container, 0));
+    uint32_t refusal = histar_asks(k, HISTAR_CALL_THREAD_CREATE, thread, histar_in(container, HISTAR_NOTHING));
     if (refusal) return refusal;
     k->request.label = *label;
     k->request.clearance = *clearance;
@@ -666,16 +693,16 @@ static inline uint32_t histar_thread_create(histar *k, uint64_t thread, uint64_t
 /* A new gate, last in `container`'s list, to an address space, or to none for (0, 0). What refuses a new thread, and
  * HISTAR_WRONG_TYPE. */
 HISTAR_LOOKED_AT(1, 4, 6)
-static inline uint32_t histar_gate_create(histar *k, uint64_t thread, uint64_t container, const histar_label *label,
+static inline uint32_t histar_gate_create(histar *k, histar_object thread, histar_object container, const histar_label *label,
                                           uint64_t quota, const histar_label *clearance, histar_entry space,
-                                          uint64_t entry_point, uint64_t closure, uint64_t *made)
+                                          uint64_t entry_point, uint64_t closure, histar_object *made)
 {
-    uint32_t refusal = histar_asks(k, HISTAR_CALL_GATE_CREATE, thread, histar_in(container, 0));
+    uint32_t refusal = histar_asks(k, HISTAR_CALL_GATE_CREATE, thread, histar_in(container, HISTAR_NOTHING));
     if (refusal) return refusal;
     k->request.label = *label;
     k->request.clearance = *clearance;
-    k->request.other_container = space.container;
-    k->request.other_object = space.object;
+    k->request.other_container = space.container.id;
+    k->request.other_object = space.object.id;
     k->request.numbers[0] = quota;
     k->request.numbers[1] = entry_point;
     k->request.numbers[2] = closure;
@@ -686,18 +713,18 @@ static inline uint32_t histar_gate_create(histar *k, uint64_t thread, uint64_t c
  * HISTAR_WRONG_TYPE for a container, HISTAR_CANNOT_OBSERVE, HISTAR_CANNOT_MODIFY, HISTAR_LABEL_RANGE,
  * HISTAR_AVOID_TYPE, HISTAR_NO_QUOTA, HISTAR_NOT_FIXED, HISTAR_ALREADY_LINKED, HISTAR_IMMUTABLE. */
 HISTAR_LOOKED_AT(1)
-static inline uint32_t histar_link(histar *k, uint64_t thread, uint64_t target, histar_entry entry)
+static inline uint32_t histar_link(histar *k, histar_object thread, histar_object target, histar_entry entry)
 {
     uint32_t refusal = histar_asks(k, HISTAR_CALL_LINK, thread, entry);
     if (refusal) return refusal;
-    k->request.other_container = target;
+    k->request.other_container = target.id;
     return histar_done(k);
 }
 
 /* The object leaves the container's list, and what no path from the root leads to is gone. HISTAR_CANNOT_OBSERVE,
  * HISTAR_CANNOT_MODIFY, HISTAR_ROOT_KEPT, HISTAR_IMMUTABLE. */
 HISTAR_LOOKED_AT(1)
-static inline uint32_t histar_unref(histar *k, uint64_t thread, histar_entry entry)
+static inline uint32_t histar_unref(histar *k, histar_object thread, histar_entry entry)
 {
     uint32_t refusal = histar_asks(k, HISTAR_CALL_UNREF, thread, entry);
     if (refusal) return refusal;
@@ -707,7 +734,7 @@ static inline uint32_t histar_unref(histar *k, uint64_t thread, histar_entry ent
 /* The object's quota grows or shrinks by `change` pages. HISTAR_CANNOT_OBSERVE, HISTAR_CANNOT_MODIFY,
  * HISTAR_LABEL_RANGE, HISTAR_NO_QUOTA, HISTAR_FIXED_QUOTA, HISTAR_IMMUTABLE. */
 HISTAR_LOOKED_AT(1)
-static inline uint32_t histar_quota_move(histar *k, uint64_t thread, histar_entry entry, int64_t change)
+static inline uint32_t histar_quota_move(histar *k, histar_object thread, histar_entry entry, int64_t change)
 {
     uint32_t refusal = histar_asks(k, HISTAR_CALL_QUOTA_MOVE, thread, entry);
     if (refusal) return refusal;
@@ -718,7 +745,7 @@ static inline uint32_t histar_quota_move(histar *k, uint64_t thread, histar_entr
 
 /* The object's quota never changes again. HISTAR_CANNOT_OBSERVE, HISTAR_CANNOT_MODIFY, HISTAR_IMMUTABLE. */
 HISTAR_LOOKED_AT(1)
-static inline uint32_t histar_set_fixed(histar *k, uint64_t thread, histar_entry entry)
+static inline uint32_t histar_set_fixed(histar *k, histar_object thread, histar_entry entry)
 {
     uint32_t refusal = histar_asks(k, HISTAR_CALL_SET_FIXED, thread, entry);
     if (refusal) return refusal;
@@ -728,7 +755,7 @@ static inline uint32_t histar_set_fixed(histar *k, uint64_t thread, histar_entry
 /* The object is read-only for good. HISTAR_WRONG_TYPE for a thread or a device, HISTAR_CANNOT_OBSERVE,
  * HISTAR_CANNOT_MODIFY. */
 HISTAR_LOOKED_AT(1)
-static inline uint32_t histar_set_immutable(histar *k, uint64_t thread, histar_entry entry)
+static inline uint32_t histar_set_immutable(histar *k, histar_object thread, histar_entry entry)
 {
     uint32_t refusal = histar_asks(k, HISTAR_CALL_SET_IMMUTABLE, thread, entry);
     if (refusal) return refusal;
@@ -738,7 +765,7 @@ static inline uint32_t histar_set_immutable(histar *k, uint64_t thread, histar_e
 /* The object's metadata are these 0 to 64 bytes, and then zeros. HISTAR_WRONG_TYPE for a thread,
  * HISTAR_CANNOT_OBSERVE, HISTAR_CANNOT_MODIFY, HISTAR_IMMUTABLE. */
 HISTAR_LOOKED_AT(1)
-static inline uint32_t histar_meta_set(histar *k, uint64_t thread, histar_entry entry, const void *bytes, uint64_t len)
+static inline uint32_t histar_meta_set(histar *k, histar_object thread, histar_entry entry, const void *bytes, uint64_t len)
 {
     uint32_t refusal = histar_asks(k, HISTAR_CALL_META_SET, thread, entry);
     if (refusal) return refusal;
@@ -748,7 +775,7 @@ static inline uint32_t histar_meta_set(histar *k, uint64_t thread, histar_entry 
 /* The segment has so many pages, 0 to 16: what is cut off is gone, what is new is 0. HISTAR_WRONG_TYPE,
  * HISTAR_CANNOT_OBSERVE, HISTAR_CANNOT_MODIFY, HISTAR_NO_QUOTA, HISTAR_IMMUTABLE, HISTAR_BOUNDS. */
 HISTAR_LOOKED_AT(1)
-static inline uint32_t histar_segment_resize(histar *k, uint64_t thread, histar_entry entry, uint64_t pages)
+static inline uint32_t histar_segment_resize(histar *k, histar_object thread, histar_entry entry, uint64_t pages)
 {
     uint32_t refusal = histar_asks(k, HISTAR_CALL_SEGMENT_RESIZE, thread, entry);
     if (refusal) return refusal;
@@ -759,7 +786,7 @@ static inline uint32_t histar_segment_resize(histar *k, uint64_t thread, histar_
 /* These 1 to 64 bytes, in one page of 256, are written from `offset` on. HISTAR_WRONG_TYPE, HISTAR_CANNOT_OBSERVE,
  * HISTAR_CANNOT_MODIFY, HISTAR_IMMUTABLE, HISTAR_BOUNDS. */
 HISTAR_LOOKED_AT(1, 5)
-static inline uint32_t histar_segment_write(histar *k, uint64_t thread, histar_entry entry, uint64_t offset,
+static inline uint32_t histar_segment_write(histar *k, histar_object thread, histar_entry entry, uint64_t offset,
                                             const void *bytes, uint64_t len)
 {
     uint32_t refusal = histar_asks(k, HISTAR_CALL_SEGMENT_WRITE, thread, entry);
@@ -772,13 +799,13 @@ static inline uint32_t histar_segment_write(histar *k, uint64_t thread, histar_e
  * virtual page `page`; `rights` are HISTAR_READ, HISTAR_WRITE or both. HISTAR_WRONG_TYPE, HISTAR_CANNOT_OBSERVE,
  * HISTAR_CANNOT_MODIFY, HISTAR_IMMUTABLE, HISTAR_BOUNDS, HISTAR_OVERLAP. */
 HISTAR_LOOKED_AT(1)
-static inline uint32_t histar_as_map(histar *k, uint64_t thread, histar_entry space, uint64_t slot, uint64_t page,
+static inline uint32_t histar_as_map(histar *k, histar_object thread, histar_entry space, uint64_t slot, uint64_t page,
                                      histar_entry segment, uint64_t first, uint64_t count, uint64_t rights)
 {
     uint32_t refusal = histar_asks(k, HISTAR_CALL_AS_MAP, thread, space);
     if (refusal) return refusal;
-    k->request.other_container = segment.container;
-    k->request.other_object = segment.object;
+    k->request.other_container = segment.container.id;
+    k->request.other_object = segment.object.id;
     k->request.numbers[0] = slot;
     k->request.numbers[1] = page;
     k->request.numbers[2] = first;
@@ -790,7 +817,7 @@ static inline uint32_t histar_as_map(histar *k, uint64_t thread, histar_entry sp
 /* A filled slot, 0 to 15, is emptied. HISTAR_WRONG_TYPE, HISTAR_CANNOT_OBSERVE, HISTAR_CANNOT_MODIFY,
  * HISTAR_IMMUTABLE, HISTAR_BOUNDS, HISTAR_NOT_MAPPED. */
 HISTAR_LOOKED_AT(1)
-static inline uint32_t histar_as_unmap(histar *k, uint64_t thread, histar_entry space, uint64_t slot)
+static inline uint32_t histar_as_unmap(histar *k, histar_object thread, histar_entry space, uint64_t slot)
 {
     uint32_t refusal = histar_asks(k, HISTAR_CALL_AS_UNMAP, thread, space);
     if (refusal) return refusal;
@@ -801,9 +828,9 @@ static inline uint32_t histar_as_unmap(histar *k, uint64_t thread, histar_entry 
 /* These 1 to 64 bytes, in one page of 256, are written through the thread's address space. HISTAR_BOUNDS,
  * HISTAR_NOT_MAPPED, HISTAR_RIGHTS_DENIED. */
 HISTAR_LOOKED_AT(1, 4)
-static inline uint32_t histar_store(histar *k, uint64_t thread, uint64_t address, const void *bytes, uint64_t len)
+static inline uint32_t histar_store(histar *k, histar_object thread, uint64_t address, const void *bytes, uint64_t len)
 {
-    uint32_t refusal = histar_asks(k, HISTAR_CALL_STORE, thread, histar_in(0, 0));
+    uint32_t refusal = histar_asks(k, HISTAR_CALL_STORE, thread, HISTAR_NOWHERE);
     if (refusal) return refusal;
     k->request.numbers[0] = address;
     return histar_gives(k, bytes, len);
@@ -812,7 +839,7 @@ static inline uint32_t histar_store(histar *k, uint64_t thread, uint64_t address
 /* The thread enters the gate: it has these labels, and the gate's address space, entry point and closure. NULL is
  * allowed for the two results. HISTAR_WRONG_TYPE, HISTAR_BAD_LABEL, HISTAR_GATE_DENIED. */
 HISTAR_LOOKED_AT(1, 4, 5, 6)
-static inline uint32_t histar_gate_enter(histar *k, uint64_t thread, histar_entry gate, const histar_label *label,
+static inline uint32_t histar_gate_enter(histar *k, histar_object thread, histar_entry gate, const histar_label *label,
                                          const histar_label *clearance, const histar_label *verify,
                                          uint64_t *entry_point, uint64_t *closure)
 {
@@ -830,7 +857,7 @@ static inline uint32_t histar_gate_enter(histar *k, uint64_t thread, histar_entr
 /* A packet of 1 to 64 bytes is last in the device's queue. HISTAR_WRONG_TYPE, HISTAR_CANNOT_OBSERVE,
  * HISTAR_CANNOT_MODIFY, HISTAR_BOUNDS, HISTAR_DEVICE_FULL. */
 HISTAR_LOOKED_AT(1, 4)
-static inline uint32_t histar_dev_send(histar *k, uint64_t thread, histar_entry device, const void *bytes, uint64_t len)
+static inline uint32_t histar_dev_send(histar *k, histar_object thread, histar_entry device, const void *bytes, uint64_t len)
 {
     uint32_t refusal = histar_asks(k, HISTAR_CALL_DEV_SEND, thread, device);
     if (refusal) return refusal;
@@ -841,7 +868,7 @@ static inline uint32_t histar_dev_send(histar *k, uint64_t thread, histar_entry 
  * packet's length, which is told in *len. HISTAR_WRONG_TYPE, HISTAR_CANNOT_OBSERVE, HISTAR_CANNOT_MODIFY,
  * HISTAR_DEVICE_EMPTY. */
 HISTAR_LOOKED_AT(1, 4, 6)
-static inline uint32_t histar_dev_recv(histar *k, uint64_t thread, histar_entry device, void *bytes, uint64_t size,
+static inline uint32_t histar_dev_recv(histar *k, histar_object thread, histar_entry device, void *bytes, uint64_t size,
                                        size_t *len)
 {
     uint32_t refusal = histar_asks(k, HISTAR_CALL_DEV_RECV, thread, device);
@@ -860,16 +887,16 @@ typedef struct {
 
 /* What the thread is. */
 HISTAR_LOOKED_AT(1, 3)
-static inline uint32_t histar_self_get(histar *k, uint64_t thread, histar_self *self)
+static inline uint32_t histar_self_get(histar *k, histar_object thread, histar_self *self)
 {
-    uint32_t refusal = histar_asks(k, HISTAR_CALL_SELF_GET, thread, histar_in(0, 0));
+    uint32_t refusal = histar_asks(k, HISTAR_CALL_SELF_GET, thread, HISTAR_NOWHERE);
     if (refusal) return refusal;
     refusal = histar_serves(k);
     if (!refusal) {
         self->label = k->answer.label;
         self->clearance = k->answer.clearance;
         self->verify = k->answer.verify;
-        self->space = histar_in(k->answer.numbers[0], k->answer.numbers[1]);
+        self->space = histar_in(histar_object_of(k->answer.numbers[0]), histar_object_of(k->answer.numbers[1]));
         self->entry_point = k->answer.numbers[2];
         self->closure = k->answer.numbers[3];
     }
@@ -878,7 +905,7 @@ static inline uint32_t histar_self_get(histar *k, uint64_t thread, histar_self *
 
 /* The object's label. HISTAR_CANNOT_OBSERVE for a thread whose label the caller may not see. */
 HISTAR_LOOKED_AT(1, 4)
-static inline uint32_t histar_obj_label(histar *k, uint64_t thread, histar_entry entry, histar_label *label)
+static inline uint32_t histar_obj_label(histar *k, histar_object thread, histar_entry entry, histar_label *label)
 {
     uint32_t refusal = histar_asks(k, HISTAR_CALL_OBJ_LABEL, thread, entry);
     if (refusal) return refusal;
@@ -894,7 +921,7 @@ typedef struct {
 
 /* The object's quota and use. HISTAR_CANNOT_OBSERVE. */
 HISTAR_LOOKED_AT(1, 4)
-static inline uint32_t histar_obj_quota(histar *k, uint64_t thread, histar_entry entry, histar_quota *quota)
+static inline uint32_t histar_obj_quota(histar *k, histar_object thread, histar_entry entry, histar_quota *quota)
 {
     uint32_t refusal = histar_asks(k, HISTAR_CALL_OBJ_QUOTA, thread, entry);
     if (refusal) return refusal;
@@ -908,52 +935,52 @@ static inline uint32_t histar_obj_quota(histar *k, uint64_t thread, histar_entry
     return histar_told(k, refusal);
 }
 
-/* Ids that a container lists: its whole length, and up to 16 ids. */
+/* What a container lists: its whole length, and up to 16 objects. */
 typedef struct {
     uint64_t length;
     uint32_t count;
-    uint64_t ids[16];
+    histar_object objects[16];
 } histar_list;
 
-/* Up to 16 ids of a container's list, from the place `from` on, counted from 0. HISTAR_NO_ACCESS, HISTAR_BOUNDS. */
+/* Up to 16 objects of a container's list, from the place `from` on, counted from 0. HISTAR_NO_ACCESS, HISTAR_BOUNDS. */
 HISTAR_LOOKED_AT(1, 5)
-static inline uint32_t histar_container_list(histar *k, uint64_t thread, uint64_t container, uint64_t from,
+static inline uint32_t histar_container_list(histar *k, histar_object thread, histar_object container, uint64_t from,
                                              histar_list *list)
 {
-    uint32_t refusal = histar_asks(k, HISTAR_CALL_CONTAINER_LIST, thread, histar_in(container, 0));
+    uint32_t refusal = histar_asks(k, HISTAR_CALL_CONTAINER_LIST, thread, histar_in(container, HISTAR_NOTHING));
     if (refusal) return refusal;
     k->request.numbers[0] = from;
     refusal = histar_serves(k);
     if (!refusal) {
         list->length = k->answer.numbers[0];
         list->count = k->answer.len;
-        memcpy(list->ids, k->answer.numbers + 1, sizeof list->ids);
+        memcpy(list->objects, k->answer.numbers + 1, sizeof list->objects);
     }
     return histar_told(k, refusal);
 }
 
 /* The container that lists a container; the root's is the root. HISTAR_NO_ACCESS. */
 HISTAR_LOOKED_AT(1, 4)
-static inline uint32_t histar_container_parent(histar *k, uint64_t thread, uint64_t container, uint64_t *parent)
+static inline uint32_t histar_container_parent(histar *k, histar_object thread, histar_object container, histar_object *parent)
 {
-    uint32_t refusal = histar_asks(k, HISTAR_CALL_CONTAINER_PARENT, thread, histar_in(container, 0));
+    uint32_t refusal = histar_asks(k, HISTAR_CALL_CONTAINER_PARENT, thread, histar_in(container, HISTAR_NOTHING));
     if (refusal) return refusal;
     return histar_made(k, parent);
 }
 
 /* The segment's length in pages of 256 bytes. HISTAR_WRONG_TYPE, HISTAR_CANNOT_OBSERVE. */
 HISTAR_LOOKED_AT(1, 4)
-static inline uint32_t histar_segment_len(histar *k, uint64_t thread, histar_entry entry, uint64_t *pages)
+static inline uint32_t histar_segment_len(histar *k, histar_object thread, histar_entry entry, uint64_t *pages)
 {
     uint32_t refusal = histar_asks(k, HISTAR_CALL_SEGMENT_LEN, thread, entry);
     if (refusal) return refusal;
-    return histar_made(k, pages);
+    return histar_counted(k, pages);
 }
 
 /* 1 to 64 bytes of the segment, in one page of 256, from `offset` on. HISTAR_WRONG_TYPE, HISTAR_CANNOT_OBSERVE,
  * HISTAR_BOUNDS. */
 HISTAR_LOOKED_AT(1, 5)
-static inline uint32_t histar_segment_read(histar *k, uint64_t thread, histar_entry entry, uint64_t offset,
+static inline uint32_t histar_segment_read(histar *k, histar_object thread, histar_entry entry, uint64_t offset,
                                            void *bytes, uint64_t len)
 {
     uint32_t refusal = histar_asks(k, HISTAR_CALL_SEGMENT_READ, thread, entry);
@@ -966,7 +993,7 @@ static inline uint32_t histar_segment_read(histar *k, uint64_t thread, histar_en
 /* The 64 bytes of the object's metadata, into `bytes`, which has room for `size`: 64 or more. HISTAR_WRONG_TYPE for a
  * thread, HISTAR_CANNOT_OBSERVE. */
 HISTAR_LOOKED_AT(1, 4)
-static inline uint32_t histar_meta_get(histar *k, uint64_t thread, histar_entry entry, void *bytes,
+static inline uint32_t histar_meta_get(histar *k, histar_object thread, histar_entry entry, void *bytes,
                                        uint64_t size)
 {
     uint32_t refusal = histar_asks(k, HISTAR_CALL_META_GET, thread, entry);
@@ -983,7 +1010,7 @@ typedef struct {
 
 /* What a slot, 0 to 15, of the address space maps. HISTAR_WRONG_TYPE, HISTAR_CANNOT_OBSERVE, HISTAR_BOUNDS. */
 HISTAR_LOOKED_AT(1, 5)
-static inline uint32_t histar_as_get(histar *k, uint64_t thread, histar_entry space, uint64_t slot,
+static inline uint32_t histar_as_get(histar *k, histar_object thread, histar_entry space, uint64_t slot,
                                      histar_mapping *mapping)
 {
     const uint64_t *n = k->answer.numbers;
@@ -995,7 +1022,7 @@ static inline uint32_t histar_as_get(histar *k, uint64_t thread, histar_entry sp
     if (!refusal && k->answer.len) {
         mapping->is_mapped = 1;
         mapping->page = (uint32_t)n[0];
-        mapping->segment = histar_in(n[1], n[2]);
+        mapping->segment = histar_in(histar_object_of(n[1]), histar_object_of(n[2]));
         mapping->first = (uint32_t)n[3];
         mapping->count = (uint32_t)n[4];
         mapping->rights = (uint32_t)(n[5] * HISTAR_READ + n[6] * HISTAR_WRITE);
@@ -1006,9 +1033,9 @@ static inline uint32_t histar_as_get(histar *k, uint64_t thread, histar_entry sp
 /* 1 to 64 bytes, in one page of 256, read through the thread's address space. HISTAR_BOUNDS, HISTAR_NOT_MAPPED,
  * HISTAR_RIGHTS_DENIED. */
 HISTAR_LOOKED_AT(1, 4)
-static inline uint32_t histar_load(histar *k, uint64_t thread, uint64_t address, void *bytes, uint64_t len)
+static inline uint32_t histar_load(histar *k, histar_object thread, uint64_t address, void *bytes, uint64_t len)
 {
-    uint32_t refusal = histar_asks(k, HISTAR_CALL_LOAD, thread, histar_in(0, 0));
+    uint32_t refusal = histar_asks(k, HISTAR_CALL_LOAD, thread, HISTAR_NOWHERE);
     if (refusal) return refusal;
     k->request.numbers[0] = address;
     k->request.numbers[1] = len;
@@ -1021,7 +1048,7 @@ static inline uint32_t histar_load(histar *k, uint64_t thread, uint64_t address,
 HISTAR_LOOKED_AT(1, 2)
 static inline uint32_t histar_seen(histar *seat, histar_note *note)
 {
-    uint32_t refusal = histar_asks(seat, HISTAR_CALL_SEEN, 0, histar_in(0, 0));
+    uint32_t refusal = histar_asks(seat, HISTAR_CALL_SEEN, HISTAR_NOTHING, HISTAR_NOWHERE);
     if (refusal) return refusal;
     refusal = histar_serves(seat);
     if (!refusal) {
@@ -1036,7 +1063,7 @@ static inline uint32_t histar_seen(histar *seat, histar_note *note)
 HISTAR_LOOKED_AT(1)
 static inline uint32_t histar_learn(histar *seat, histar_note note)
 {
-    uint32_t refusal = histar_asks(seat, HISTAR_CALL_LEARN, 0, histar_in(0, 0));
+    uint32_t refusal = histar_asks(seat, HISTAR_CALL_LEARN, HISTAR_NOTHING, HISTAR_NOWHERE);
     if (refusal) return refusal;
     if (note.at != seat->shared.at || note.since != seat->shared.since) return histar_released(seat, HISTAR_OTHER_LIST);
     seat->request.numbers[0] = note.calls;
@@ -1051,7 +1078,7 @@ static inline uint32_t histar_learn(histar *seat, histar_note note)
 HISTAR_LOOKED_AT(1)
 static inline uint32_t histar_log_on(histar *k)
 {
-    uint32_t refusal = histar_asks(k, HISTAR_CALL_LOG_ON, 0, histar_in(0, 0));
+    uint32_t refusal = histar_asks(k, HISTAR_CALL_LOG_ON, HISTAR_NOTHING, HISTAR_NOWHERE);
     if (refusal) return refusal;
     return histar_done(k);
 }
@@ -1063,7 +1090,7 @@ HISTAR_LOOKED_AT(1, 4)
 static inline uint32_t histar_dump(histar *k, void *text, size_t size, size_t *needed)
 {
     size_t at, len = 0;
-    uint32_t refusal = histar_asks(k, HISTAR_CALL_DUMP, 0, histar_in(0, 0));
+    uint32_t refusal = histar_asks(k, HISTAR_CALL_DUMP, HISTAR_NOTHING, HISTAR_NOWHERE);
     if (refusal) return refusal;
     refusal = histar_serves(k);
     if (!refusal) *needed = len = (size_t)k->answer.numbers[0];

@@ -13,10 +13,10 @@ extern "C" {
 #endif
 
 /* How the functions below ask, and whether there is one: what is found is read before histar_told. */
-static inline uint32_t histar_looks(histar *k, uint32_t call, uint64_t object, int *is_there)
+static inline uint32_t histar_looks(histar *k, uint32_t call, histar_object object, int *is_there)
 {
     *is_there = 0;
-    return histar_asks(k, call, 0, histar_in(0, object));
+    return histar_asks(k, call, HISTAR_NOTHING, histar_in(HISTAR_NOTHING, object));
 }
 static inline uint32_t histar_finds(histar *k, int *is_there)
 {
@@ -25,21 +25,21 @@ static inline uint32_t histar_finds(histar *k, int *is_there)
     return refusal;
 }
 
-/* The live id at a place, from 0, among all live ids, which rise. */
+/* The live object at a place, from 0, among all in the order of their ids. */
 HISTAR_LOOKED_AT(1, 3, 4)
-static inline uint32_t histar_kept_live(histar *k, uint64_t place, int *is_there, uint64_t *id)
+static inline uint32_t histar_kept_live(histar *k, uint64_t place, int *is_there, histar_object *object)
 {
-    uint32_t refusal = histar_looks(k, HISTAR_CALL_KEPT_LIVE, 0, is_there);
+    uint32_t refusal = histar_looks(k, HISTAR_CALL_KEPT_LIVE, HISTAR_NOTHING, is_there);
     if (refusal) return refusal;
     k->request.numbers[0] = place;
     refusal = histar_finds(k, is_there);
-    if (*is_there) *id = k->answer.numbers[0];
+    if (*is_there) *object = histar_object_of(k->answer.numbers[0]);
     return histar_told(k, refusal);
 }
 
 /* What an object uses, in pages of 256 bytes. There is one for each live id. */
 HISTAR_LOOKED_AT(1, 3, 4)
-static inline uint32_t histar_kept_use(histar *k, uint64_t object, int *is_there, uint32_t *pages)
+static inline uint32_t histar_kept_use(histar *k, histar_object object, int *is_there, uint32_t *pages)
 {
     uint32_t refusal = histar_looks(k, HISTAR_CALL_KEPT_USE, object, is_there);
     if (refusal) return refusal;
@@ -50,15 +50,15 @@ static inline uint32_t histar_kept_use(histar *k, uint64_t object, int *is_there
 
 /* What a slot, 0 to 15, of a live thread's address space shows: a segment, and HISTAR_READ and HISTAR_WRITE. */
 HISTAR_LOOKED_AT(1, 4, 5, 6)
-static inline uint32_t histar_kept_translation(histar *k, uint64_t thread, uint64_t slot, int *is_there,
-                                               uint64_t *segment, uint32_t *rights)
+static inline uint32_t histar_kept_translation(histar *k, histar_object thread, uint64_t slot, int *is_there,
+                                               histar_object *segment, uint32_t *rights)
 {
     const uint64_t *n = k->answer.numbers;
     uint32_t refusal = histar_looks(k, HISTAR_CALL_KEPT_TRANSLATION, thread, is_there);
     if (refusal) return refusal;
     k->request.numbers[0] = slot;
     refusal = histar_finds(k, is_there);
-    if (*is_there) *segment = n[0];
+    if (*is_there) *segment = histar_object_of(n[0]);
     if (*is_there) *rights = (uint32_t)(n[1] * HISTAR_READ + n[2] * HISTAR_WRITE);
     return histar_told(k, refusal);
 }
@@ -67,7 +67,7 @@ static inline uint32_t histar_kept_translation(histar *k, uint64_t thread, uint6
 HISTAR_LOOKED_AT(1, 3, 4)
 static inline uint32_t histar_kept_label(histar *k, uint64_t index, int *is_there, histar_label *label)
 {
-    uint32_t refusal = histar_looks(k, HISTAR_CALL_KEPT_LABEL, 0, is_there);
+    uint32_t refusal = histar_looks(k, HISTAR_CALL_KEPT_LABEL, HISTAR_NOTHING, is_there);
     if (refusal) return refusal;
     k->request.numbers[0] = index;
     refusal = histar_finds(k, is_there);
@@ -80,7 +80,7 @@ static inline uint32_t histar_kept_label(histar *k, uint64_t index, int *is_ther
 HISTAR_LOOKED_AT(1, 4, 5)
 static inline uint32_t histar_kept_order(histar *k, uint64_t first, uint64_t second, int *is_there, uint32_t *bits)
 {
-    uint32_t refusal = histar_looks(k, HISTAR_CALL_KEPT_ORDER, 0, is_there);
+    uint32_t refusal = histar_looks(k, HISTAR_CALL_KEPT_ORDER, HISTAR_NOTHING, is_there);
     if (refusal) return refusal;
     k->request.numbers[0] = first;
     k->request.numbers[1] = second;

@@ -22,7 +22,7 @@ static int file;
 static char path[64];
 static histar k, other;
 static histar_label guarded;
-static uint64_t segment, space, fixed, folder;
+static histar_object segment, space, fixed, folder;
 static char place[64];
 
 static double now(void)
@@ -65,7 +65,7 @@ static void done(uint32_t refusal)
     exit(1);
 }
 
-static histar_entry in_root(uint64_t object) { return histar_in(HISTAR_ROOT, object); }
+static histar_entry in_root(histar_object object) { return histar_in(HISTAR_ROOT, object); }
 
 static void a_pread(void) { done(pread(file, place, 64, 128) != 64); }
 static void a_pwrite(void) { done(pwrite(file, place, 64, 128) != 64); }
@@ -82,7 +82,7 @@ static void a_file(void)
 
 static void a_segment(void)
 {
-    uint64_t made;
+    histar_object made;
     done(histar_segment_create(&k, HISTAR_BOOT, HISTAR_ROOT, &guarded, 1, 0, &made));
     done(histar_unref(&k, HISTAR_BOOT, in_root(made)));
 }
@@ -118,7 +118,7 @@ static void opens(int with_log)
     if (with_log) done(histar_log_on(&k));
     guarded = histar_level(1);
     for (int i = 0; i < categories; i++) {
-        uint64_t category;
+        histar_category category;
         done(histar_cat_create(&k, HISTAR_BOOT, &category));
         guarded = histar_with(guarded, category, 3);
     }
@@ -126,7 +126,7 @@ static void opens(int with_log)
 
 static void fills(void)
 {
-    uint64_t made;
+    histar_object made;
     for (int i = 0; i < objects; i++)
         if (histar_segment_create(&k, HISTAR_BOOT, HISTAR_ROOT, &guarded, 1, 0, &made)) return;
 }

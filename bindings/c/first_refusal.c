@@ -13,7 +13,8 @@ int main(void)
 {
     static histar k;
     uint32_t refusal;
-    uint64_t category, secret, stranger;
+    histar_category category;
+    histar_object secret, stranger;
     char bytes[64];
     histar_label plain = histar_level(1), clearance = histar_level(2), guarded;
 

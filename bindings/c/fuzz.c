@@ -23,7 +23,7 @@ static void fill_label(struct input *it, histar_label *label)
     label->count = next(it);
     for (int i = 0; i < 24 && i < label->count; i++) {
         label->levels[i] = next(it);
-        label->categories[i] = number(it);
+        label->categories[i] = histar_category_of(number(it));
     }
 }
 

@@ -5,7 +5,8 @@
 #include <stdlib.h>
 
 static histar k;
-static uint64_t category, data;
+static histar_category category;
+static histar_object data;
 
 static void must(uint32_t refusal)
 {
@@ -14,17 +15,17 @@ static void must(uint32_t refusal)
     exit(1);
 }
 
-static histar_entry in_root(uint64_t object) { return histar_in(HISTAR_ROOT, object); }
+static histar_entry in_root(histar_object object) { return histar_in(HISTAR_ROOT, object); }
 
 /* What runs when a thread has entered a gate: it is handed the gate's closure. */
-typedef void entry_function(uint64_t thread, uint64_t closure, const char *password);
+typedef void entry_function(histar_object thread, uint64_t closure, const char *password);
 
 /* The thread owns the category here. It leaves with 3 in it, which reads the data and can't send them on, or as it came. */
-static void login(uint64_t thread, uint64_t closure, const char *password)
+static void login(histar_object thread, uint64_t closure, const char *password)
 {
     char stored[16];
     histar_label plain = histar_level(1), high = histar_with(plain, category, 3), clearance = histar_level(2);
-    must(histar_segment_read(&k, thread, in_root(closure), 0, stored, sizeof stored));
+    must(histar_segment_read(&k, thread, in_root(histar_object_of(closure)), 0, stored, sizeof stored));
     if (!strncmp(stored, password, sizeof stored)) {
         must(histar_self_set_label(&k, thread, &high));
     } else {
@@ -37,7 +38,7 @@ static void login(uint64_t thread, uint64_t closure, const char *password)
 static entry_function *const ENTRIES[] = {NULL, login};
 
 /* Enters a gate of this program, and runs its entry function. */
-static void enters(uint64_t thread, uint64_t gate, const char *password)
+static void enters(histar_object thread, histar_object gate, const char *password)
 {
     uint64_t entry_point, closure;
     histar_label owner = histar_with(histar_level(1), category, HISTAR_STAR);
@@ -46,18 +47,18 @@ static void enters(uint64_t thread, uint64_t gate, const char *password)
     ENTRIES[entry_point](thread, closure, password);
 }
 
-static uint64_t new_segment(const histar_label *label, const char *text)
+static histar_object new_segment(const histar_label *label, const char *text)
 {
-    uint64_t made;
+    histar_object made;
     must(histar_segment_create(&k, HISTAR_BOOT, HISTAR_ROOT, label, 2, 1, &made));
     must(histar_segment_write(&k, HISTAR_BOOT, in_root(made), 0, text, strlen(text) + 1));
     return made;
 }
 
 /* The gate to the data. */
-static uint64_t new_gate(void)
+static histar_object new_gate(void)
 {
-    uint64_t made, password;
+    histar_object made, password;
     histar_label guarded, owner, clearance;
     must(histar_cat_create(&k, HISTAR_BOOT, &category));
     guarded = histar_with(histar_level(1), category, 3);
@@ -65,13 +66,13 @@ static uint64_t new_gate(void)
     clearance = histar_with(histar_level(2), category, 3);
     data = new_segment(&guarded, "mail of ann");
     password = new_segment(&guarded, "swordfish");
-    must(histar_gate_create(&k, HISTAR_BOOT, HISTAR_ROOT, &owner, 1, &clearance, histar_in(0, 0), 1, password, &made));
+    must(histar_gate_create(&k, HISTAR_BOOT, HISTAR_ROOT, &owner, 1, &clearance, HISTAR_NOWHERE, 1, password.id, &made));
     return made;
 }
 
-static void tries(uint64_t gate, const char *password)
+static void tries(histar_object gate, const char *password)
 {
-    uint64_t client;
+    histar_object client;
     char bytes[64];
     histar_label plain = histar_level(1), clearance = histar_level(2);
     uint32_t refusal;
@@ -86,7 +87,7 @@ static void tries(uint64_t gate, const char *password)
 
 int main(void)
 {
-    uint64_t gate;
+    histar_object gate;
     must(histar_open(&k, 64));
     gate = new_gate();
     tries(gate, "sword");

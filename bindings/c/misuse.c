@@ -21,8 +21,8 @@ static histar k, closed, never;
 /* A shared kernel with a seat, and seats and shared kernels that are closed. Its list has room for three calls, of which one is made. */
 static histar_shared shared, unshared, bare;
 static histar seat, unseated;
-static uint64_t shared_segment;
-static uint64_t secret, stranger, space;
+static histar_object shared_segment;
+static histar_object secret, stranger, space;
 static histar_label plain, guarded;
 static char place[64];
 static const char KEY[] = "the-key-that-nobody-may-see";
@@ -34,11 +34,11 @@ static void must(uint32_t refusal)
     exit(2);
 }
 
-static histar_entry in_root(uint64_t object) { return histar_in(HISTAR_ROOT, object); }
+static histar_entry in_root(histar_object object) { return histar_in(HISTAR_ROOT, object); }
 
 static void opens(void)
 {
-    uint64_t category;
+    histar_category category;
     histar_label clearance = histar_level(2);
     must(histar_open(&k, 64));
     must(histar_log_on(&k));
@@ -76,8 +76,8 @@ static uint32_t create_closed(void) { return histar_segment_create(&closed, HIST
 static uint32_t look_up_closed(void)
 {
     int is_there;
-    uint64_t id;
-    return histar_kept_live(&closed, 0, &is_there, &id);
+    histar_object it;
+    return histar_kept_live(&closed, 0, &is_there, &it);
 }
 static uint32_t log_closed(void) { return histar_log_on(&closed); }
 static uint32_t dump_closed(void)
@@ -135,11 +135,11 @@ static uint32_t index_far(void)
 }
 static uint32_t created(histar_label label) { return histar_segment_create(&k, HISTAR_BOOT, HISTAR_ROOT, &label, 2, 1, NULL); }
 static uint32_t level_257(void) { return created(histar_level(257)); }
-static uint32_t level_259(void) { return created(histar_with(plain, 1, 259)); }
+static uint32_t level_259(void) { return created(histar_with(plain, histar_category_of(1), 259)); }
 static uint32_t pairs_25(void)
 {
     histar_label label = plain;
-    for (int i = 0; i < 25; i++) label = histar_with(label, 1, 3);
+    for (int i = 0; i < 25; i++) label = histar_with(label, histar_category_of(1), 3);
     return created(label);
 }
 static uint32_t bytes_65(void) { return histar_segment_write(&k, HISTAR_BOOT, in_root(secret), 0, (char[65]){0}, 65); }
@@ -273,7 +273,7 @@ static uint32_t read_after_a_reader(void)
 }
 static uint32_t closed_with_the_key(void)
 {
-    uint64_t made;
+    histar_object made;
     char bytes[64];
     must(histar_open(&closed, 8));
     must(histar_segment_create(&closed, HISTAR_BOOT, HISTAR_ROOT, &plain, 2, 1, &made));
@@ -376,8 +376,8 @@ static uint32_t log_of_a_seat(void) { return histar_log_on(&seat); }
 static uint32_t look_up_by_a_seat(void)
 {
     int is_there;
-    uint64_t id;
-    return histar_kept_live(&seat, 0, &is_there, &id);
+    histar_object it;
+    return histar_kept_live(&seat, 0, &is_there, &it);
 }
 static uint32_t seat_after_the_unshare(void)
 {
@@ -422,7 +422,7 @@ static uint32_t shared_key_after_a_close(void)
     histar_shared other = HISTAR_SHARED_INIT;
     static histar its;
     char bytes[64];
-    uint64_t it;
+    histar_object it;
     must(histar_share(&other, 8, 2));
     must(histar_seat_open(&its, &other));
     must(histar_segment_create(&its, HISTAR_BOOT, HISTAR_ROOT, &plain, 2, 1, &it));
@@ -534,7 +534,7 @@ int main(void)
 {
     static char before[1 << 16], after[1 << 16];
     size_t count = sizeof ROWS / sizeof ROWS[0], went_well = 0;
-    uint64_t next;
+    histar_object next;
     opens();
     for (size_t i = 0; i < count; i++) {
         const struct row *row = &ROWS[i];
@@ -548,7 +548,7 @@ int main(void)
     }
     /* The shared kernel is as it was: its list has one call, and its next object is the one after. */
     must(histar_segment_create(&seat, HISTAR_BOOT, HISTAR_ROOT, &plain, 2, 1, &next));
-    if (next != shared_segment + 1) went_well--, printf("the shared kernel is changed\n");
+    if (next.id != shared_segment.id + 1) went_well--, printf("the shared kernel is changed\n");
     must(histar_close(&seat));
     must(histar_unshare(&shared));
     printf("%zu of %zu misuses are refused and change nothing\n", went_well, count);

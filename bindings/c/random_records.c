@@ -28,7 +28,7 @@ static void fill_label(histar_label *label)
     label->count = (uint8_t)(below(3) ? 0 : below(below(10) ? 3 : 30));
     for (int i = 0; i < 24; i++) {
         label->levels[i] = (uint8_t)below(below(99) ? 5 : 256);
-        label->categories[i] = about(6);
+        label->categories[i] = histar_category_of(about(6));
     }
 }
 
@@ -36,8 +36,8 @@ static void fill(histar_request *r, uint32_t calls)
 {
     r->call = (uint32_t)below(calls);
     r->len = (uint32_t)below(66);
-    r->thread = below(4) ? HISTAR_BOOT : 1 + below(20);
-    r->container = below(3) ? HISTAR_ROOT : 1 + below(12);
+    r->thread = below(4) ? HISTAR_BOOT.id : 1 + below(20);
+    r->container = below(3) ? HISTAR_ROOT.id : 1 + below(12);
     r->object = 1 + below(20);
     r->other_container = below(2);
     r->other_object = below(12);

@@ -51,7 +51,8 @@ static int rest_is_zero(void)
 /* Whether calls of many kinds are done. */
 static int calls_are_done(void)
 {
-    uint64_t category, segment, made;
+    histar_category category;
+    histar_object segment, made;
     char bytes[64];
     histar_label plain = histar_level(1), guarded;
     histar_self self;
@@ -79,7 +80,8 @@ static uint32_t once_more(uint32_t (*asks)(void))
     return asks();
 }
 
-static uint64_t category, made;
+static histar_category category;
+static histar_object made;
 static uint32_t creates_category(void) { return histar_cat_create(&k, HISTAR_BOOT, &category); }
 static uint32_t creates_segment(void)
 {
@@ -95,8 +97,8 @@ static int is_logged(void)
     static size_t len[2];
     int n = len[0] != 0;
     uint32_t refusal;
-    if (histar_log_on(&k) || once_more(creates_category) || category != 1) return 0;
-    if (once_more(creates_segment) || made != 4 || once_more(keeps_root) != HISTAR_ROOT_KEPT) return 0;
+    if (histar_log_on(&k) || once_more(creates_category) || category.number != 1) return 0;
+    if (once_more(creates_segment) || made.id != 4 || once_more(keeps_root) != HISTAR_ROOT_KEPT) return 0;
     refusal = histar_dump(&k, text[n], sizeof text[n], &len[n]);
     if (refusal == HISTAR_TEXT_MEMORY) again++, refusal = histar_dump(&k, text[n], sizeof text[n], &len[n]);
     return !refusal && len[n] && (!n || (len[0] == len[1] && !memcmp(text[0], text[1], len[0])));
@@ -125,16 +127,16 @@ static histar seat, other;
 /* Whether calls through two seats are done, each once, and reads take no memory. */
 static int calls_are_shared(void)
 {
-    uint64_t one = 0, two = 0;
+    histar_object one = HISTAR_NOTHING, two = HISTAR_NOTHING;
     long before;
     char bytes[64];
     histar_label plain = histar_level(1);
     uint32_t refusal = histar_segment_create(&seat, HISTAR_BOOT, HISTAR_ROOT, &plain, 2, 1, &one);
     if (refusal == HISTAR_MEMORY) again++, refusal = histar_segment_create(&seat, HISTAR_BOOT, HISTAR_ROOT, &plain, 2, 1, &one);
-    if (refusal || one != 4) return 0;
+    if (refusal || one.id != 4) return 0;
     refusal = histar_segment_create(&other, HISTAR_BOOT, HISTAR_ROOT, &plain, 2, 1, &two);
     if (refusal == HISTAR_MEMORY) again++, refusal = histar_segment_create(&other, HISTAR_BOOT, HISTAR_ROOT, &plain, 2, 1, &two);
-    if (refusal || two != 5) return 0;
+    if (refusal || two.id != 5) return 0;
     before = asked;
     for (int i = 0; i < 100; i++)
         if (histar_segment_read(&seat, HISTAR_BOOT, histar_in(HISTAR_ROOT, two), 0, bytes, 64)) return 0;

@@ -17,7 +17,7 @@ enum { MOST = 4, MANY = 64 };
 static int calls = 20000, runs = 15;
 static histar k, seats[MANY];
 static histar_shared share;
-static uint64_t of_k, of_share;
+static histar_object of_k, of_share;
 static pthread_rwlock_t lock = PTHREAD_RWLOCK_INITIALIZER;
 static int file;
 

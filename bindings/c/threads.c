@@ -17,7 +17,7 @@ enum { THREADS = 8, MOST = 5000, ROOM = 3 * THREADS * MOST + 1000 };
 
 static histar_shared shared;
 static histar seats[THREADS], late;
-static uint64_t segments[THREADS], ids[THREADS][MOST];
+static histar_object segments[THREADS], made[THREADS][MOST];
 static uint64_t told[THREADS];       /* the number that each thread wrote last, in ordinary memory */
 static pthread_barrier_t start;
 
@@ -36,16 +36,16 @@ static void done(uint32_t refusal)
     if (refusal) fprintf(stderr, "threads: refused %u %s\n", refusal, histar_refusal_name(refusal));
     must(!refusal, "a call was refused");
 }
-static histar_entry in_root(uint64_t object) { return histar_in(HISTAR_ROOT, object); }
+static histar_entry in_root(histar_object object) { return histar_in(HISTAR_ROOT, object); }
 
 /* Eight numbers, all alike unless a write is seen in part. */
-static void writes(histar *seat, uint64_t segment, uint64_t number)
+static void writes(histar *seat, histar_object segment, uint64_t number)
 {
     uint64_t eight[8];
     for (int i = 0; i < 8; i++) eight[i] = number;
     done(histar_segment_write(seat, HISTAR_BOOT, in_root(segment), 0, eight, 64));
 }
-static uint64_t reads(histar *seat, uint64_t segment)
+static uint64_t reads(histar *seat, histar_object segment)
 {
     uint64_t eight[8];
     done(histar_segment_read(seat, HISTAR_BOOT, in_root(segment), 0, eight, 64));
@@ -61,8 +61,8 @@ static void *work(void *given)
     uint64_t last[THREADS] = {0};
     pthread_barrier_wait(&start);
     for (long round = 0; round < MOST; round++) {
-        done(histar_segment_create(seat, HISTAR_BOOT, HISTAR_ROOT, &plain, 1, 0, &ids[me][round]));
-        done(histar_unref(seat, HISTAR_BOOT, in_root(ids[me][round])));
+        done(histar_segment_create(seat, HISTAR_BOOT, HISTAR_ROOT, &plain, 1, 0, &made[me][round]));
+        done(histar_unref(seat, HISTAR_BOOT, in_root(made[me][round])));
         writes(seat, segments[me], (uint64_t)round);
         __atomic_store_n(&told[me], (uint64_t)round, __ATOMIC_SEQ_CST);
         if (round % 16 == 0) {
@@ -99,9 +99,9 @@ static void counts_ids(void)
 {
     static uint64_t all[THREADS * MOST];
     size_t count = THREADS * (size_t)MOST;
-    for (size_t i = 0; i < count; i++) all[i] = ids[i % THREADS][i / THREADS];
+    for (size_t i = 0; i < count; i++) all[i] = made[i % THREADS][i / THREADS].id;
     qsort(all, count, sizeof *all, compare);
-    for (size_t i = 0; i < count; i++) must(all[i] == segments[THREADS - 1] + 1 + i, "an id was given twice, or left out");
+    for (size_t i = 0; i < count; i++) must(all[i] == segments[THREADS - 1].id + 1 + i, "an id was given twice, or left out");
 }
 
 /* A shared kernel with a seat and a segment for each thread. */

@@ -3,6 +3,8 @@
 # C++, and the headers of libseccomp and toml++ (Debian's libseccomp-dev and libtomlplusplus-dev).
 set -eu
 top=$(cd "$(dirname "$0")/../.." && pwd)
+. "$top/gate/answer.sh"
+answer "$@"
 library=${HISTAR_LIB:-$top/out/lib}
 lacks() { echo "confine: $1" >&2; exit 69; }
 has() { echo "#include <$2>" | "$1" -E -x "$3" - >/dev/null 2>&1; }

@@ -47,14 +47,14 @@ struct levels {
 /* A category. Its name is what lines call it by: a secret's path where it was made for that secret alone. */
 struct category {
     char name[PATH_MAX];
-    uint64_t number;
+    histar_category category;
 };
 
 /* A folder that the program may read once its label has risen to the folder's. */
 struct secret {
     char path[PATH_MAX];
     struct levels levels;
-    uint64_t object;
+    histar_object object;
     bool is_refused; /* the program was refused it once */
 };
 
@@ -62,7 +62,7 @@ struct secret {
 struct report {
     char path[PATH_MAX];
     struct levels levels;
-    uint64_t object;
+    histar_object object;
     int file;        /* where it lies, by O_PATH */
     int folder;      /* which of the plan's folders it stands in */
     bool is_refused; /* the program was refused it once */
@@ -83,7 +83,7 @@ struct gate {
     int word_count;
     bool owns[MOST_CATEGORIES];
     int report; /* SHOWN where it has none */
-    uint64_t object;
+    histar_object object;
     bool is_refused; /* the program was refused it once */
 };
 
@@ -117,7 +117,7 @@ struct world {
 /* The program with all that it starts: one thread of the kernel, and one world. Its processes share pipes, signals and
  * memory, which nobody looks at, so what one of them has read all may have. */
 struct family {
-    uint64_t thread;
+    histar_object thread;
     bool prints;                     /* what it prints may be shown */
     bool is_open[MOST_SECRETS];      /* it has the secret in its world */
     bool holds_report[MOST_REPORTS]; /* it was given the report to write, for good */
@@ -186,14 +186,14 @@ bool shows_gate(const struct plan *plan, int gate);
 uint32_t is_spawned(const struct plan *plan, const struct family *by, const struct levels *levels, struct family *family);
 
 /* A new object of a family's label, which it writes and another reads. */
-uint64_t make_between(const struct plan *plan, const struct family *writer);
+histar_object make_between(const struct plan *plan, const struct family *writer);
 
 /* An object or a thread goes. */
-void forget(uint64_t object);
+void forget(histar_object object);
 
 /* Whether a family may write what is between it and another, and read it. */
-bool writes_between(const struct family *writer, uint64_t between);
-bool reads_between(const struct family *reader, uint64_t between);
+bool writes_between(const struct family *writer, histar_object between);
+bool reads_between(const struct family *reader, histar_object between);
 
 /* Writes the dump of all decisions, where one is asked for. Whether it was written. */
 bool write_dump(const struct plan *plan);
@@ -372,7 +372,7 @@ struct stream {
     size_t size, count, begin;
     int from, to;                          /* -1 once it is at its end */
     const struct family *writer, *reader;  /* NULL where it is of no family, or goes through a gate */
-    uint64_t between;                      /* the object that the one writes and the other reads, or 0 */
+    histar_object between;                 /* what the one writes and the other reads, or nothing */
     bool is_held;                          /* its reader may not have it: it waits for another */
     bool is_cut;                           /* its writer may not write it any more */
     bool is_dropped;                       /* some of it was */

@@ -8,7 +8,7 @@
 enum { PAGES = 160, SEGMENT_QUOTA = 2, HIGHEST = 3 };
 
 static histar kernel;
-static uint64_t terminal;
+static histar_object terminal;
 
 _Noreturn static void refused(const char *call, uint32_t refusal)
 {
@@ -18,13 +18,13 @@ _Noreturn static void refused(const char *call, uint32_t refusal)
 
 #define MUST(call) do { uint32_t refusal_ = (call); if (refusal_) refused(#call, refusal_); } while (0)
 
-static histar_entry entry_of(uint64_t object) { return histar_in(HISTAR_ROOT, object); }
+static histar_entry entry_of(histar_object object) { return histar_in(HISTAR_ROOT, object); }
 
 /* The label with these levels in the plan's categories, and a level in all others. */
 static histar_label label_of(const struct plan *plan, const struct levels *levels, uint8_t others)
 {
     histar_label label = histar_level(others);
-    for (int i = 0; i < plan->category_count; i++) label = histar_with(label, plan->categories[i].number, levels->in[i]);
+    for (int i = 0; i < plan->category_count; i++) label = histar_with(label, plan->categories[i].category, levels->in[i]);
     return label;
 }
 
@@ -33,10 +33,10 @@ static histar_label plain_label(const struct plan *plan, const struct levels *le
 static histar_label clearance_of(const struct plan *plan) { return label_of(plan, &plan->clearance, 2); }
 
 /* What a label has in a category. */
-static uint8_t level_in(const histar_label *label, uint64_t category)
+static uint8_t level_in(const histar_label *label, histar_category category)
 {
     for (unsigned i = 0; i < label->count; i++)
-        if (label->categories[i] == category) return label->levels[i];
+        if (label->categories[i].number == category.number) return label->levels[i];
     return label->default_level;
 }
 
@@ -46,7 +46,7 @@ static struct levels own_levels(const struct plan *plan, const struct family *fa
     struct levels own = {{1, 1, 1, 1, 1, 1, 1, 1}};
     histar_self self;
     MUST(histar_self_get(&kernel, family->thread, &self));
-    for (int i = 0; i < plan->category_count; i++) own.in[i] = level_in(&self.label, plan->categories[i].number);
+    for (int i = 0; i < plan->category_count; i++) own.in[i] = level_in(&self.label, plan->categories[i].category);
     return own;
 }
 
@@ -60,14 +60,14 @@ static histar_label risen(const struct plan *plan, const struct family *family, 
 }
 
 /* Tells what an object of the kernel is, for who asks histar-audit of the dump. */
-static void tell_id(const struct plan *plan, uint64_t object, const char *what)
+static void tell_id(const struct plan *plan, histar_object object, const char *what)
 {
-    if (plan->explains) fprintf(stderr, "confine: #%llu is %s\n", (unsigned long long)object, what);
+    if (plan->explains) fprintf(stderr, "confine: #%llu is %s\n", (unsigned long long)object.id, what);
 }
 
-static uint64_t make_segment(const struct plan *plan, const struct levels *levels, const char *what)
+static histar_object make_segment(const struct plan *plan, const struct levels *levels, const char *what)
 {
-    uint64_t made;
+    histar_object made;
     histar_label label = plain_label(plan, levels);
     MUST(histar_segment_create(&kernel, HISTAR_BOOT, HISTAR_ROOT, &label, SEGMENT_QUOTA, 1, &made));
     tell_id(plan, made, what);
@@ -79,7 +79,7 @@ static void make_secret(struct plan *plan, struct secret *secret)
 {
     struct levels all = {{3, 3, 3, 3, 3, 3, 3, 3}};
     histar_label label = plain_label(plan, &secret->levels), clearance = label_of(plan, &all, 2);
-    MUST(histar_gate_create(&kernel, HISTAR_BOOT, HISTAR_ROOT, &label, 1, &clearance, histar_in(0, 0), 0, 0, &secret->object));
+    MUST(histar_gate_create(&kernel, HISTAR_BOOT, HISTAR_ROOT, &label, 1, &clearance, HISTAR_NOWHERE, 0, 0, &secret->object));
     MUST(histar_set_immutable(&kernel, HISTAR_BOOT, entry_of(secret->object)));
     tell_id(plan, secret->object, secret->path);
 }
@@ -89,17 +89,17 @@ static void make_gate(struct plan *plan, struct gate *gate)
 {
     histar_label label = histar_level(1), clearance = clearance_of(plan);
     for (int i = 0; i < plan->category_count; i++)
-        if (gate->owns[i]) label = histar_with(label, plan->categories[i].number, HISTAR_STAR);
-    MUST(histar_gate_create(&kernel, HISTAR_BOOT, HISTAR_ROOT, &label, 1, &clearance, histar_in(0, 0), 0, 0, &gate->object));
+        if (gate->owns[i]) label = histar_with(label, plan->categories[i].category, HISTAR_STAR);
+    MUST(histar_gate_create(&kernel, HISTAR_BOOT, HISTAR_ROOT, &label, 1, &clearance, HISTAR_NOWHERE, 0, 0, &gate->object));
     tell_id(plan, gate->object, gate->name);
 }
 
-static uint32_t writes(uint64_t thread, uint64_t object)
+static uint32_t writes(histar_object thread, histar_object object)
 {
     return histar_segment_write(&kernel, thread, entry_of(object), 0, "w", 1);
 }
 
-static uint32_t reads(uint64_t thread, uint64_t object)
+static uint32_t reads(histar_object thread, histar_object object)
 {
     char byte;
     return histar_segment_read(&kernel, thread, entry_of(object), 0, &byte, 1);
@@ -107,13 +107,13 @@ static uint32_t reads(uint64_t thread, uint64_t object)
 
 static void make_category(struct plan *plan, struct category *category)
 {
-    MUST(histar_cat_create(&kernel, HISTAR_BOOT, &category->number));
-    if (plan->explains) fprintf(stderr, "confine: category #%llu is that of %s\n", (unsigned long long)category->number, category->name);
+    MUST(histar_cat_create(&kernel, HISTAR_BOOT, &category->category));
+    if (plan->explains) fprintf(stderr, "confine: category #%llu is that of %s\n", (unsigned long long)category->category.number, category->name);
 }
 
-static uint64_t make_thread(const struct plan *plan, const histar_label *label)
+static histar_object make_thread(const struct plan *plan, const histar_label *label)
 {
-    uint64_t made;
+    histar_object made;
     histar_label clearance = clearance_of(plan);
     MUST(histar_thread_create(&kernel, HISTAR_BOOT, HISTAR_ROOT, label, 1, &clearance, 0, &made));
     return made;
@@ -133,35 +133,35 @@ void make_objects(struct plan *plan)
 }
 
 /* The refusal of a write by a thread of this label, which is made for that and goes again. */
-static uint32_t would_write(const struct plan *plan, const histar_label *label, uint64_t object)
+static uint32_t would_write(const struct plan *plan, const histar_label *label, histar_object object)
 {
-    uint64_t probe = make_thread(plan, label);
+    histar_object probe = make_thread(plan, label);
     uint32_t refusal = writes(probe, object);
     MUST(histar_unref(&kernel, HISTAR_BOOT, entry_of(probe)));
     return refusal;
 }
 
 /* A thread enters a gate, with its label but for what the gate owns: that it owns from then on. The refusal, if it may not. */
-static uint32_t enter(const struct plan *plan, const struct gate *gate, uint64_t thread, const histar_label *own)
+static uint32_t enter(const struct plan *plan, const struct gate *gate, histar_object thread, const histar_label *own)
 {
     histar_label label, clearance = clearance_of(plan), verify = histar_level(HIGHEST);
     struct levels levels;
     for (int i = 0; i < plan->category_count; i++)
-        levels.in[i] = gate->owns[i] ? HISTAR_STAR : level_in(own, plan->categories[i].number);
+        levels.in[i] = gate->owns[i] ? HISTAR_STAR : level_in(own, plan->categories[i].category);
     label = plain_label(plan, &levels);
     return histar_gate_enter(&kernel, thread, entry_of(gate->object), &label, &clearance, &verify, NULL, NULL);
 }
 
 /* What a gate writes. */
-static uint64_t behind(const struct plan *plan, const struct gate *gate)
+static histar_object behind(const struct plan *plan, const struct gate *gate)
 {
     return gate->report == SHOWN ? terminal : plan->reports[gate->report].object;
 }
 
 /* Whether a thread of this label, which is made for that and goes again, gets through a gate and writes an object. */
-static bool gets_through(const struct plan *plan, const struct gate *gate, const histar_label *label, uint64_t object)
+static bool gets_through(const struct plan *plan, const struct gate *gate, const histar_label *label, histar_object object)
 {
-    uint64_t thread = make_thread(plan, label);
+    histar_object thread = make_thread(plan, label);
     bool is_through = !enter(plan, gate, thread, label) && !writes(thread, object);
     MUST(histar_unref(&kernel, HISTAR_BOOT, entry_of(thread)));
     return is_through;
@@ -216,17 +216,17 @@ uint32_t is_spawned(const struct plan *plan, const struct family *by, const stru
     return refusal;
 }
 
-uint64_t make_between(const struct plan *plan, const struct family *writer)
+histar_object make_between(const struct plan *plan, const struct family *writer)
 {
     struct levels levels = own_levels(plan, writer);
     return make_segment(plan, &levels, "what a program gives to another");
 }
 
-void forget(uint64_t object) { MUST(histar_unref(&kernel, HISTAR_BOOT, entry_of(object))); }
+void forget(histar_object object) { MUST(histar_unref(&kernel, HISTAR_BOOT, entry_of(object))); }
 
-bool writes_between(const struct family *writer, uint64_t between) { return !writes(writer->thread, between); }
+bool writes_between(const struct family *writer, histar_object between) { return !writes(writer->thread, between); }
 
-bool reads_between(const struct family *reader, uint64_t between) { return !reads(reader->thread, between); }
+bool reads_between(const struct family *reader, histar_object between) { return !reads(reader->thread, between); }
 
 /* What the program knows from now on may get to all that it was given to write: the kernel is told. */
 static void write_held(const struct plan *plan, struct family *family)

@@ -23,6 +23,17 @@ static bool has_input(const struct plan *plan)
     return false;
 }
 
+/* Where the program begins: where confine was called, if that is a public folder or one of the program's own; else NULL, the root. */
+static const char *begins_in(const struct plan *plan, char *here)
+{
+    if (!getcwd(here, PATH_MAX)) return NULL;
+    for (int i = 0; i < plan->folder_count; i++)
+        if (plan->folders[i].is_whole && !strcmp(here, plan->folders[i].path)) return here;
+    for (int i = 0; i < plan->open_count; i++)
+        if (is_below(here, plan->open[i])) return here;
+    return NULL;
+}
+
 static bool is_run(const char *word)
 {
     const char *last = strrchr(word, '/');
@@ -34,6 +45,7 @@ int main(int count, char **words)
     static struct plan plan;
     static struct family family;
     struct begun begun = {NULL, NULL, NULL, false};
+    char here[PATH_MAX];
     int status;
     if (count && is_run(words[0])) return ask_run(count, words);
     signal(SIGPIPE, SIG_IGN);
@@ -42,6 +54,7 @@ int main(int count, char **words)
     keep_apart(&plan);
     find_folders(&plan);
     begun.words = plan.program;
+    begun.folder = begins_in(&plan, here);
     begun.has_input = has_input(&plan);
     begin_start(&plan, &begun, &family.world);
     make_objects(&plan);

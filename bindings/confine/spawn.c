@@ -25,7 +25,7 @@ struct start {
     int socket; /* to who asked; -1 once it was told of an end */
     struct stream streams[STREAMS]; /* its input, its output and its errors */
     ino_t ends[STREAMS];            /* the pipes of the asker's that they lead to, or 0 */
-    uint64_t in, out;               /* what is between the asker and what was started */
+    histar_object in, out;          /* what is between the asker and what was started */
     int listener;                   /* -1 once nothing of it calls any more */
     bool has_ended;
 };
@@ -177,7 +177,7 @@ static void make_streams(struct plan *plan, struct start *start, int *files)
         start->streams[i].between = i ? start->out : start->in;
         if (gate < 0) continue;
         start->ends[i] = 0;
-        start->streams[i].between = 0;
+        start->streams[i].between = HISTAR_NOTHING;
         if (!enters_gate(plan, start->family, gate)) close(files[i]), start->streams[i].to = -1;
     }
     start->listener = world->listener;

@@ -32,7 +32,7 @@ bool relay(int from, int to, bool is_shown)
 
 struct stream stream_of(int from, int to)
 {
-    return (struct stream){NULL, 0, 0, 0, from, to, NULL, NULL, 0, false, false, false};
+    return (struct stream){NULL, 0, 0, 0, from, to, NULL, NULL, {0}, false, false, false};
 }
 
 static void close_end(int *end)
@@ -66,7 +66,7 @@ void take(struct stream *stream)
     ssize_t count = read(stream->from, is_kept ? stream->text + stream->count : lost, PIECE);
     if (count < 0 && (errno == EINTR || errno == EAGAIN)) return;
     if (count <= 0) close_end(&stream->from);
-    else if (is_kept && (!stream->between || writes_between(stream->writer, stream->between))) stream->count += (size_t)count;
+    else if (is_kept && (!stream->between.id || writes_between(stream->writer, stream->between))) stream->count += (size_t)count;
     else stream->is_dropped = true;
     end_if_empty(stream);
 }
@@ -75,7 +75,7 @@ void give(struct stream *stream)
 {
     ssize_t count;
     if (stream->to < 0) return;
-    if (stream->between && !reads_between(stream->reader, stream->between)) {
+    if (stream->between.id && !reads_between(stream->reader, stream->between)) {
         cut(stream);
         return;
     }
@@ -83,7 +83,7 @@ void give(struct stream *stream)
     if (count > 0) stream->begin += (size_t)count;
     else if (errno != EAGAIN && errno != EINTR) {
         stream->begin = stream->count;
-        if (stream->between) close_end(&stream->to);
+        if (stream->between.id) close_end(&stream->to);
         else close_end(&stream->from);
     }
     end_if_empty(stream);
@@ -91,7 +91,7 @@ void give(struct stream *stream)
 
 struct pollfd taken_from(const struct stream *stream)
 {
-    bool waits = !stream->between && stream->begin < stream->count;
+    bool waits = !stream->between.id && stream->begin < stream->count;
     return (struct pollfd){waits ? -1 : stream->from, POLLIN, 0};
 }
 
@@ -102,7 +102,7 @@ struct pollfd given_to(const struct stream *stream)
 
 void cut(struct stream *stream)
 {
-    if (!stream->between || stream->is_held) return;
+    if (!stream->between.id || stream->is_held) return;
     if (!reads_between(stream->reader, stream->between)) {
         stream->is_held = true;
         close_end(&stream->to);

@@ -3,10 +3,10 @@
 
 static void says(const char *text) { snprintf(now->word, sizeof now->word, "%s", text); }
 
-static void says_id(const char *text, uint64_t id)
+static void says_object(const char *text, histar_object object)
 {
     says(text);
-    now->ids[now->id_count++] = id;
+    now->objects[now->object_count++] = object;
 }
 
 static void says_number(uint64_t it) { now->numbers[now->number_count++] = it; }
@@ -16,11 +16,11 @@ static void says_label(histar_label it) { now->labels[now->label_count++] = it; 
 #define KNOWN() \
     if (now->unbound[0]) return
 
-static void creates(const char *call, uint64_t t)
+static void creates(const char *call, histar_object t)
 {
-    uint64_t container = object(), made = 0, entry_point, closure;
+    histar_object container = object(), made = HISTAR_NOTHING;
     histar_label l = label(), c;
-    uint64_t quota = number(), last;
+    uint64_t quota = number(), last, entry_point, closure;
     histar_entry other;
     if (!strcmp(call, "container_create")) {
         last = set("csatgd");
@@ -50,10 +50,10 @@ static void creates(const char *call, uint64_t t)
         KNOWN();
         now->refusal = histar_gate_create(&k, t, container, &l, quota, &c, other, entry_point, closure, &made);
     }
-    says_id("id", made);
+    says_object("id", made);
 }
 
-static void about_self(const char *call, uint64_t t)
+static void about_self(const char *call, histar_object t)
 {
     histar_label l;
     histar_entry space;
@@ -82,16 +82,16 @@ static void about_self(const char *call, uint64_t t)
         says_label(self.label);
         says_label(self.clearance);
         says_label(self.verify);
-        says_id("self", self.space.container);
-        says_id("self", self.space.object);
+        says_object("self", self.space.container);
+        says_object("self", self.space.object);
         says_number(self.entry_point);
         says_number(self.closure);
     }
 }
 
-static void about_container(const char *call, uint64_t t)
+static void about_container(const char *call, histar_object t)
 {
-    uint64_t container = object(), parent = 0;
+    histar_object container = object(), parent = HISTAR_NOTHING;
     if (!strcmp(call, "container_list")) {
         uint64_t from = number();
         histar_list list;
@@ -100,12 +100,12 @@ static void about_container(const char *call, uint64_t t)
         if (now->refusal) return;
         says("list");
         says_number(list.length);
-        now->id_count = list.count;
-        memcpy(now->ids, list.ids, sizeof list.ids);
+        now->object_count = list.count;
+        memcpy(now->objects, list.objects, sizeof list.objects);
     } else if (!strcmp(call, "container_parent")) {
         KNOWN();
         now->refusal = histar_container_parent(&k, t, container, &parent);
-        says_id("parent", parent);
+        says_object("parent", parent);
     } else { /* link: its target, and then an entry */
         histar_entry linked = entry();
         KNOWN();
@@ -114,7 +114,7 @@ static void about_container(const char *call, uint64_t t)
     }
 }
 
-static void by_address(const char *call, uint64_t t)
+static void by_address(const char *call, histar_object t)
 {
     uint64_t address = number();
     if (!strcmp(call, "store")) {
@@ -130,7 +130,7 @@ static void by_address(const char *call, uint64_t t)
     }
 }
 
-static void maps(uint64_t t, histar_entry space)
+static void maps(histar_object t, histar_entry space)
 {
     uint64_t slot = number(), page = number(), first, count, rights;
     histar_entry segment = entry();
@@ -141,7 +141,7 @@ static void maps(uint64_t t, histar_entry space)
     now->refusal = histar_as_map(&k, t, space, slot, page, segment, first, count, rights);
 }
 
-static void enters(uint64_t t, histar_entry gate)
+static void enters(histar_object t, histar_entry gate)
 {
     uint64_t entry_point = 0, closure = 0;
     histar_label l = label(), c = label(), v = label();
@@ -152,7 +152,7 @@ static void enters(uint64_t t, histar_entry gate)
     says_number(closure);
 }
 
-static void writes_entry(const char *call, uint64_t t, histar_entry e)
+static void writes_entry(const char *call, histar_object t, histar_entry e)
 {
     uint8_t given[64];
     uint64_t n = 0;
@@ -172,7 +172,7 @@ static void writes_entry(const char *call, uint64_t t, histar_entry e)
     if (!strcmp(call, "dev_send")) now->refusal = histar_dev_send(&k, t, e, given, len);
 }
 
-static void reads_entry(const char *call, uint64_t t, histar_entry e)
+static void reads_entry(const char *call, histar_object t, histar_entry e)
 {
     uint64_t n = 0, count = 0;
     histar_quota quota = {0, 0, 0, 0};
@@ -214,7 +214,7 @@ static int is_in(const char *call, const char *list)
     return at && (at == list || at[-1] == ' ') && (at[len] == ' ' || at[len] == 0);
 }
 
-void plays(uint64_t t)
+void plays(histar_object t)
 {
     char *call = strtok_r(now->call, " ", &rest);
     if (is_in(call, "container_create segment_create segment_copy as_create thread_create gate_create")) creates(call, t);

@@ -59,7 +59,7 @@ static void opens_seats(unsigned phase)
         histar_self self;
         if (lines[i].phase != phase || !name || name->is_category) continue;
         if (stands_in(seated, seated_count, worker) || stands_in(away, away_count, worker)) continue;
-        if (histar_self_get(&k, name->value, &self) == HISTAR_HALTED) copy_name(away[away_count++], worker);
+        if (histar_self_get(&k, histar_object_of(name->value), &self) == HISTAR_HALTED) copy_name(away[away_count++], worker);
         else copy_name(seated[seated_count++], worker);
     }
 }
@@ -80,9 +80,9 @@ static void plays_line(struct line *line)
     now = line;
     if (!worker || worker->is_category) copy_name(line->unbound, line->worker);
     else if (stands_in(away, away_count, line->worker)) line->refusal = NO_THREAD;
-    else plays(worker->value);
+    else plays(histar_object_of(worker->value));
     if (!line->bound[0] || line->unbound[0] || line->refusal) return;
-    binds(line->bound, line->worker, line->phase + 1, line->has_category, line->has_category ? line->category : line->ids[0]);
+    binds(line->bound, line->worker, line->phase + 1, line->has_category, line->has_category ? line->category.number : line->objects[0].id);
 }
 
 static void read_script(const char *path)
@@ -148,9 +148,9 @@ int main(int count, char **given)
     read_script(given[1]);
     if ((refusal = histar_open_with(&k, pages, device, next_id, next_category))) faulty(histar_refusal_name(refusal));
     if (dump && histar_log_on(&k)) faulty("the log does not begin");
-    binds("root", "", 0, 0, HISTAR_ROOT);
-    binds("boot", "", 0, 0, HISTAR_BOOT);
-    binds("dev", "", 0, 0, HISTAR_DEVICE);
+    binds("root", "", 0, 0, HISTAR_ROOT.id);
+    binds("boot", "", 0, 0, HISTAR_BOOT.id);
+    binds("dev", "", 0, 0, HISTAR_DEVICE.id);
     for (size_t i = 0; i < line_count; i++) {
         if (i == 0 || lines[i].phase != lines[i - 1].phase) opens_seats(lines[i].phase);
         plays_line(&lines[i]);

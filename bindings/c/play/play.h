@@ -17,7 +17,7 @@ struct name {
     unsigned phase;
 };
 
-/* What a line answered: a word with numbers, ids, labels or bytes, as its reply has them. */
+/* What a line answered: a word with numbers, objects, labels or bytes, as its reply has them. */
 struct line {
     unsigned number, phase;
     char bound[17], worker[17], *call;
@@ -26,8 +26,10 @@ struct line {
     char word[12];
     size_t len;
     uint8_t bytes[64];
-    uint64_t category, ids[17], numbers[4];
-    uint32_t id_count, number_count;
+    histar_category category;
+    histar_object objects[17];
+    uint64_t numbers[4];
+    uint32_t object_count, number_count;
     int has_category, has_mapping;
     histar_mapping mapping;
     histar_label labels[3];
@@ -52,7 +54,7 @@ const struct name *name_of(const char *text, const char *worker, unsigned phase)
 
 /* words.c: the words of the line that is played, from left to right. A name that is not known is noted in the line. */
 char *word(void);
-uint64_t object(void);
+histar_object object(void);
 uint64_t number(void);
 histar_entry entry(void);
 histar_label label(void);
@@ -60,7 +62,7 @@ size_t bytes(uint8_t *to);
 uint32_t set(const char *letters);
 
 /* calls.c: makes the call of the line that is played, as a thread. */
-void plays(uint64_t thread);
+void plays(histar_object thread);
 
 /* printing.c */
 void print_label(const histar_label *it);

@@ -15,30 +15,30 @@ void print_label(const histar_label *it)
 {
     printf(" {");
     for (unsigned i = 0; i < it->count; i++) {
-        print_name(it->categories[i], 1);
+        print_name(it->categories[i].number, 1);
         printf(":%c,", "0123*"[it->levels[i]]);
     }
     printf("%c}", "0123*"[it->default_level]);
 }
 
-static void print_ids(const uint64_t *ids, size_t count)
+static void print_objects(const histar_object *objects, size_t count)
 {
     for (size_t i = 0; i < count; i++) {
         printf(" ");
-        print_name(ids[i], 0);
+        print_name(objects[i].id, 0);
     }
 }
 
 static void print_mapping(const histar_mapping *it)
 {
     static const char *const rights[] = {"-", "r", "w", "rw"};
-    uint64_t ids[2] = {it->segment.container, it->segment.object};
+    histar_object both[2] = {it->segment.container, it->segment.object};
     if (!it->is_mapped) {
         printf(" none");
         return;
     }
     printf(" %u", it->page);
-    print_ids(ids, 2);
+    print_objects(both, 2);
     printf(" %u %u %s", it->first, it->count, rights[it->rights]);
 }
 
@@ -56,10 +56,10 @@ static void print_line(const struct line *it)
     else {
         int is_list = !strcmp(it->word, "list");
         printf("%s", it->word);
-        if (it->has_category) printf(" "), print_name(it->category, 1);
+        if (it->has_category) printf(" "), print_name(it->category.number, 1);
         for (uint32_t i = 0; i < it->label_count; i++) print_label(&it->labels[i]);
         if (is_list) print_numbers(it);
-        print_ids(it->ids, it->id_count);
+        print_objects(it->objects, it->object_count);
         if (!is_list) print_numbers(it);
         if (it->has_mapping) print_mapping(&it->mapping);
         if (!strcmp(it->word, "data")) printf(" ");

@@ -22,7 +22,7 @@ static int compare(const void *one, const void *other)
     const histar_label *a = &((const struct kept *)one)->label, *b = &((const struct kept *)other)->label;
     int it = rank(a->default_level) - rank(b->default_level);
     for (unsigned i = 0; !it && i < a->count && i < b->count; i++) {
-        it = sign(a->categories[i], b->categories[i]);
+        it = sign(a->categories[i].number, b->categories[i].number);
         if (!it) it = rank(a->levels[i]) - rank(b->levels[i]);
     }
     return it ? it : a->count - b->count;
@@ -58,33 +58,33 @@ static void print_labels(void)
         }
 }
 
-static void print_maps(uint64_t thread)
+static void print_maps(histar_object thread)
 {
     static const char *const said[] = {"-", "r", "w", "rw"};
     int is_there;
-    uint64_t segment = 0;
+    histar_object segment = HISTAR_NOTHING;
     uint32_t rights = 0;
     for (uint32_t slot = 0; slot < 16; slot++) {
         asked(histar_kept_translation(&k, thread, slot, &is_there, &segment, &rights));
-        if (is_there) printf("map %" PRIu64 " %u %" PRIu64 " %s\n", thread, slot, segment, said[rights]);
+        if (is_there) printf("map %" PRIu64 " %u %" PRIu64 " %s\n", thread.id, slot, segment.id, said[rights]);
     }
 }
 
 /* Prints what the kernel keeps, as a dump has it. */
 void print_tables(void)
 {
-    static uint64_t live[4096];
+    static histar_object live[4096];
     int is_there = 1;
     uint32_t count = 0, pages = 0;
     for (;; count++) {
         asked(histar_kept_live(&k, count, &is_there, &live[count]));
         if (!is_there) break;
-        printf("live %" PRIu64 "\n", live[count]);
+        printf("live %" PRIu64 "\n", live[count].id);
     }
     for (uint32_t i = 0; i < count; i++) {
         asked(histar_kept_use(&k, live[i], &is_there, &pages));
         if (!is_there) faulty("a use is missing");
-        printf("use %" PRIu64 " %u\n", live[i], pages);
+        printf("use %" PRIu64 " %u\n", live[i].id, pages);
     }
     for (uint32_t i = 0; i < count; i++) print_maps(live[i]);
     print_labels();

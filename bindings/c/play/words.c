@@ -18,12 +18,12 @@ static uint64_t value_of(const char *text, int is_category)
     return 0;
 }
 
-uint64_t object(void) { return value_of(word(), 0); }
+histar_object object(void) { return histar_object_of(value_of(word(), 0)); }
 uint64_t number(void) { return strtoull(word(), NULL, 10); }
 
 histar_entry entry(void)
 {
-    uint64_t container = object();
+    histar_object container = object();
     return histar_in(container, object());
 }
 
@@ -36,7 +36,7 @@ histar_label label(void)
     for (; (comma = strchr(part, ',')); part = comma + 1) {
         char *colon = strchr(part, ':');
         *colon = 0;
-        made = histar_with(made, value_of(part, 1), level(colon[1]));
+        made = histar_with(made, histar_category_of(value_of(part, 1)), level(colon[1]));
     }
     return made;
 }
