@@ -7,6 +7,7 @@ use base::{NoMemory, ObjectId};
 use call_text::Asked;
 use dump_text::{PlacedRead, part_reads};
 use histories::{Answered, Event};
+use kernel_rules::{Call, Query};
 use std::alloc::Global;
 
 /// Adds the calls of an event.
@@ -18,6 +19,8 @@ fn place_calls(
 ) -> Result<(), NoMemory>
     ensures { OnOk result (all.new.items ≡ all.old.items ++ placed_by event 1 thread calls.now) }
 {
+    // (a type that what is asked has, which the proof names)
+    let _named: Option<Query> = None;
     let mut place = 1u64;
     for answered in calls {
         all.push(Placed {
@@ -44,6 +47,8 @@ fn place_event(all: &mut Vec<Placed>, place: u64, event: &Event) -> Result<(), N
 fn place_reads(all: &mut Vec<Placed>, event: u64, reads: &[PlacedRead]) -> Result<(), NoMemory>
     ensures { OnOk result (all.new.items ≡ all.old.items ++ placed_reads event 1 reads.now) }
 {
+    // (the same)
+    let _named: Option<Call> = None;
     let mut place = 1u64;
     for placed in reads {
         all.push(Placed {
