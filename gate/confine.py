@@ -3,6 +3,7 @@ write; a scene with a secret in it fails where a byte of the secret is seen outs
 has to be seen: a scene that can't fail says nothing. All are played as root and as an ordinary user, where root plays them.
 
 Where a machine lacks what confine needs (libseccomp's headers, user namespaces, Landlock), all is left out, with a line."""
+import itertools
 import os
 import re
 import shutil
@@ -11,8 +12,10 @@ import tempfile
 import time
 
 from gate import confine_attacks, confine_programs
-from gate.confine_scenes import BY_POLICY, ONE, POLICY_SCENES, PUBLIC, SCENES, SECOND, SECRET, TWO, Scene
+from gate.confine_scenes import BY_POLICY, ONE, OWN, POLICY_SCENES, PUBLIC, SCENES, SECOND, SECRET, TWO, Scene
 from gate.confine_seen import Watched
+from gate.documents import commands_in
+from gate.plays import text
 from gate.report import Report
 
 CONFINE = "out/confine"
@@ -26,6 +29,9 @@ AS_NOBODY = ["setpriv", "--reuid", str(NOBODY), "--regid", str(NOBODY), "--clear
 # A program that adds a line to its report once it has come to its end, and ends as it ended.
 NOTING = 'sh -c "$PROGRAM"; s=$?; echo ended >> "$R"; exit $s'
 NOTE = "ended\n"
+
+# Without confine there are no labels: what is started at one is just started.
+WITHOUT_LABELS = '#!/bin/sh\nshift 2\nexec "$@"\n'
 
 
 def built(report, library):
@@ -74,7 +80,7 @@ class Rooms:
         self.put("S", "key", SECRET)
         self.put("T", "key", SECOND)
         self.put("P", "text", PUBLIC)
-        self.put("O", "own", "own")
+        self.put("O", "own", OWN)
         for name in "PM":
             os.mkfifo(f"{self.paths[name]}/pipe")
         for name in "RUQ":
@@ -152,7 +158,8 @@ class Play:
 
     def run(self, watched):
         as_user = AS_NOBODY if self.user and not os.getuid() else []
-        env = {**os.environ, **self.rooms.paths, "PROGRAM": self.scene.program or ""}
+        path = os.environ["PATH"] if self.confine else f"{os.path.dirname(self.room)}/bare:{os.environ['PATH']}"
+        env = {**os.environ, **self.rooms.paths, "PROGRAM": self.scene.program or "", "PATH": path}
         how = {"stdout": subprocess.PIPE, "stderr": subprocess.PIPE, "text": True, "errors": "replace", "timeout": 300}
         self.done = subprocess.run([*as_user, *self.words()], input=self.scene.stdin, env=env, cwd=self.room, **how)
         watched.said, watched.status = self.done.stdout + self.done.stderr, self.done.returncode
@@ -264,6 +271,33 @@ def says_it_cannot():
     return done.returncode == UNABLE and not done.stdout and len(done.stderr.splitlines()) == 1
 
 
+# What the page shows, and the files of the home folder in which it is typed there.
+PAGE, HOME = "docs/CONFINE.md", "/home/me"
+FILES = {"Documents/a.txt": "nothing\n", "Documents/b.txt": "EICAR\n", "doctor/notes": "fever\nfever\nfever\n", "bank/list": "rent\n", "tools/none": ""}
+
+
+def policy_of(page):
+    """The policy that the page shows."""
+    lines = page[page.index("    categories = ") :].split("\n")
+    return "".join(f"{it[4:]}\n" for it in itertools.takewhile(lambda it: not it or it.startswith("    "), lines))
+
+
+def try_documented(report, room):
+    """The commands of the page, typed in a home folder, print what stands below them."""
+    page, home = text(PAGE), f"{room}/home"
+    for file, made in {**FILES, "policy": policy_of(page)}.items():
+        os.makedirs(os.path.dirname(f"{home}/{file}"), exist_ok=True)
+        with open(f"{home}/{file}", "w", encoding="utf-8") as it:
+            it.write(made)
+    os.symlink(os.path.abspath(os.path.dirname(CONFINE)), f"{home}/out")
+    commands = commands_in(page)
+    report.counts(len(commands) > 5, f"{PAGE} has {len(commands)} commands")
+    for command, wanted in commands:
+        how = {"cwd": home, "env": {**os.environ, "HOME": home}, "stdin": subprocess.DEVNULL, "stdout": subprocess.PIPE, "stderr": subprocess.STDOUT, "text": True}
+        said = subprocess.run(["sh", "-c", command], **how).stdout.replace(home, HOME)
+        report.counts(said == wanted, f"{command}: {'as' if said == wanted else f'{said!r}, not as'} in {PAGE}")
+
+
 # Calls without which a machine can't confine: Landlock's, those of filters, of mounts and of namespaces.
 NEEDED = (444, 445, 446, 317, 428, 429, 442, 272)
 
@@ -344,10 +378,19 @@ def try_scene(report, confine, room, scene, user, audit):
     return audit is None or is_audited(audit, f"{room}/dump")
 
 
+def lay_without_labels(room):
+    """Lays what stands for confine-run where a scene is played without confine."""
+    os.makedirs(f"{room}/bare")
+    with open(f"{room}/bare/confine-run", "w", encoding="utf-8") as it:
+        it.write(WITHOUT_LABELS)
+    os.chmod(f"{room}/bare/confine-run", 0o755)
+
+
 def try_scenes(report, room, auditor, more):
     os.chmod(room, 0o755)
     confine = shutil.copy(CONFINE, f"{room}/confine")
     os.chmod(confine, 0o755)
+    lay_without_labels(room)
     scenes, unclean = (*SCENES, *POLICY_SCENES, *ATTACKS, *more), []
     for user in users():
         for scene in scenes:
@@ -372,6 +415,7 @@ def try_all(report, library, auditor, is_long=False):
         report.counts(says_why(words, piece), f"confine: wrong words: {' '.join(words) or 'none'}")
     with tempfile.TemporaryDirectory(prefix="confine-", dir="/var/tmp") as room:
         report.counts(ends_with_broker(), "confine: the program ends with the broker")
+        try_documented(report, room)
         report.counts(says_it_cannot(), "confine: where there are no user namespaces it says so, and starts nothing")
         for policy, piece in WRONG_POLICIES:
             report.counts(says_why_of_policy(f"{room}/scene", policy, piece), f"confine: a policy that is none: {piece}")

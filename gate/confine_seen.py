@@ -9,7 +9,7 @@ import socket
 import struct
 import threading
 
-from gate.confine_scenes import SECOND, SECRET
+from gate.confine_scenes import OWN, SECOND, SECRET
 
 FUTEX, WAIT, WAKE = 202, 0, 1
 GET_HINT = 1035
@@ -104,6 +104,9 @@ class Watched:
         it = {
             "text": lambda: SECRET in self.whole() or SECOND in self.whole(),
             "means": lambda: "1" in self.said,
+            "own": lambda: OWN in self.said,
+            "secret": lambda: not self.rooms.is_secret_whole(),
+            "other report": lambda: SECRET in self.rooms.read("U") or SECOND in self.rooms.read("R"),
             "status": lambda: self.status != 0,
             "names": lambda: self.all_names() - self.names != set(),
             "gone": lambda: not os.path.exists(self.text),

@@ -76,21 +76,28 @@ def plain_manual(name, version, date, said):
     return "\n".join(lines) + "\n"
 
 
+def cases(found, variable):
+    """What may come behind the words typed so far, as cases of a shell: the commands and options."""
+    return "".join(f'            "{" ".join(it.words)}") {variable}="{" ".join([*it.commands(), *it.options()])}" ;;\n' for it in reversed(found))
+
+
+def depth(found):
+    return max(len(it.words) for it in found)
+
+
 def bash(name, found):
     """Completion for bash: the commands and options that may come, and files."""
-    cases = "".join(f'        "{" ".join(it.words)}") words="{" ".join([*it.commands(), *it.options()])}" ;;\n' for it in reversed(found))
     function = f"_{name.replace('-', '_')}"
-    depth = max(len(it.words) for it in found)
     return f"""# Completion of {name} for bash
 {function}() {{
     local words="" typed="" word
     for word in "${{COMP_WORDS[@]:1:COMP_CWORD-1}}"; do
         case $word in -*) ;; *) typed="${{typed:+$typed }}$word" ;; esac
-        [ "$(wc -w <<<"$typed")" -lt {depth} ] || break
+        [ "$(wc -w <<<"$typed")" -lt {depth(found)} ] || break
     done
     while :; do
         case $typed in
-{cases.replace('        "', '            "')}        esac
+{cases(found, "words")}        esac
         [ -n "$words" ] || [ -z "$typed" ] && break
         case $typed in *" "*) typed=${{typed% *}} ;; *) typed="" ;; esac
     done
@@ -101,8 +108,19 @@ complete -o default -F {function} {name}
 
 
 def zsh(name, found):
-    """Completion for zsh, by the same function."""
-    return f"#compdef {name}\nautoload -U +X bashcompinit && bashcompinit\n{bash(name, found)}"
+    """Completion for zsh: the same."""
+    return f"""#compdef {name}
+# Completion of {name} for zsh
+local found="" typed="${{(j: :)${{(@)${{(@)words[2,CURRENT-1]:#-*}}[1,{depth(found)}]}}}}"
+while :; do
+    case $typed in
+{cases(found, "found").replace("            ", "        ")}    esac
+    [[ -n $found || -z $typed ]] && break
+    case $typed in *" "*) typed=${{typed% *}} ;; *) typed="" ;; esac
+done
+compadd -- ${{(s: :)found}}
+_files
+"""
 
 
 def fish(name, found):

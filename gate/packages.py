@@ -22,6 +22,7 @@ ABOUT = {
     "koalaingot": ("proved label kernel: programs and a sandbox", "libc6 (>= 2.36)"),
     "libhistar-dev": ("proved label kernel for C, C++ and Rust programs", "libc6-dev (>= 2.36)"),
 }
+SUGGESTED = {"koalaingot": ("Suggests: rlwrap",)}
 COPYRIGHT = """Format: https://www.debian.org/doc/packaging-manuals/copyright-format/1.0/
 Upstream-Name: koalaingot
 
@@ -35,11 +36,14 @@ TRIPLE = "x86_64-linux-gnu"
 
 # What starts histar, and tells of what the package was made.
 STARTER = """#!/bin/sh
-# Starts histar. "histar --version --long" also tells of what it was made.
+# Starts histar. "histar --version --long" also tells of what it was made. The arrow keys give lines of "histar try" back, where rlwrap is.
 here=${0%/*}
 [ ! -L "$0" ] || here=$(dirname "$(readlink -f "$0")")
 if [ "$#" = 2 ] && [ "$1" = --version ] && [ "$2" = --long ]; then
     "$here/../libexec/koalaingot/histar" --version && exec cat "$here/../share/doc/koalaingot/stamp"
+fi
+if [ "$1" = try ] && [ -t 0 ] && [ -t 1 ] && command -v rlwrap > /dev/null; then
+    exec rlwrap -s -1000 "$here/../libexec/koalaingot/histar" "$@"
 fi
 exec "$here/../libexec/koalaingot/histar" "$@"
 """
@@ -200,7 +204,7 @@ def deb(name, lay, room, seconds):
     about, depends = ABOUT[name]
     size = sum(os.path.getsize(f"{laid.top}/{it}") for it in laid.laid) // 1024
     lines = [f"Package: {name}", f"Version: {versions.read()}-1", "Architecture: amd64", f"Maintainer: {MAINTAINER}", f"Installed-Size: {size}"]
-    lines += [f"Depends: {depends}", "Section: devel" if name.endswith("-dev") else "Section: utils", "Priority: optional", f"Description: {about}"]
+    lines += [f"Depends: {depends}", *SUGGESTED.get(name, ()), "Section: devel" if name.endswith("-dev") else "Section: utils", "Priority: optional", f"Description: {about}"]
     lines += [" The object model of HiStar in user space: labels alone decide who observes", " and who modifies what. Its kernel is proved to follow its rules."]
     told = {"control": "\n".join(lines) + "\n"}
     if name.startswith("lib"):
@@ -337,9 +341,25 @@ def try_programs(report, top):
     for name in PROGRAMS:
         ended = ran("man", "--warnings", "-l", f"{top}/usr/share/man/man1/{name}.1.gz", env={**env, "LANG": "C.UTF-8", "MANWIDTH": "80"})
         report.counts(ended[0] == 0 and "OPTIONS" in ended[1] and "warning" not in ended[1], f"packages: man {name}")
-    typed = f". {top}/usr/share/bash-completion/completions/histar; COMP_WORDS=(histar ru); COMP_CWORD=1; _histar; echo ${{COMPREPLY[*]}}; COMP_WORDS=(histar run --pa); COMP_CWORD=2; _histar; echo ${{COMPREPLY[*]}}"
-    ended = ran("bash", "-c", typed, env=env)
-    report.counts(ended == (0, "run\n--pages\n"), f"packages: completion of histar in bash: {ended}")
+    try_completions(report, f"{top}/usr/share", env)
+
+
+# What completes `histar ru` and `histar run --pa` in each shell, with the files of a folder, and prints it.
+COMPLETED = {
+    "bash": ". {0}/bash-completion/completions/histar; COMP_WORDS=(histar ru); COMP_CWORD=1; _histar; echo ${{COMPREPLY[*]}}; COMP_WORDS=(histar run --pa); COMP_CWORD=2; _histar; echo ${{COMPREPLY[*]}}",
+    "fish": "set fish_complete_path {0}/fish/vendor_completions.d; complete -C 'histar ru'; complete -C 'histar run --pa'",
+    "zsh": "compadd() {{ print -rl -- ${{(M)@:#$typing*}} }}; _files() {{ }}; words=(histar ru) CURRENT=2 typing=ru; . {0}/zsh/vendor-completions/_histar; "
+    "words=(histar run --pa) CURRENT=3 typing=--pa; . {0}/zsh/vendor-completions/_histar",
+}
+
+
+def try_completions(report, share, env):
+    for shell, typed in COMPLETED.items():
+        if shutil.which(shell) is None:
+            report.say(f"left out: completion in {shell}: it is not on the path")
+            continue
+        ended = ran(shell, "-c", typed.format(share), env=env)
+        report.counts(ended == (0, "run\n--pages\n"), f"packages: completion of histar in {shell}: {ended}")
 
 
 def try_library(report, top):
