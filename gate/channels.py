@@ -2,23 +2,24 @@
 that the thread t does not observe. The rows of the table in docs/CHANNELS.md that begin with a script's name tell the last reply of
 each of the two plays; all other replies to other threads than h are the same in both. Each script has its row. The auditor, asked
 for what is hidden from {1}, tells the two replies of the dump of the first play, and the channel that the row is excepted as. It
-tells nothing where both are the same, or of a query."""
+tells nothing where both are the same."""
 import glob
 import os
 import re
 import tempfile
 
-from gate.hidden import NO_REPLY
+from gate.hidden import NO_REPLY, NO_THREAD
 from gate.plays import ran, text
 
 FOLDER = "examples/channels"
 TABLE = "docs/CHANNELS.md"
 ROW = re.compile(r"^\| `(\w+)` \|(.*)\|$")
-WRITES = re.compile(r"\w+: (?!self_get|obj_|container_list|container_parent|segment_len|segment_read|meta_get|as_get|load)")
 CHANNEL = re.compile(r"^ ([\w ]+?)(?:[:,].*)? $")
 OBSERVER = "{1}"
 REPLY = re.compile(r"`([^`]*)`")
 HIDDEN = "h "
+# What the auditor calls a channel that the table tells in other words.
+SHOWN = {"no longer hidden": "shown"}
 
 
 def rows(page):
@@ -50,10 +51,10 @@ def told(lines):
     return lines[-1].partition(": ")[2] if lines else ""
 
 
-def wanted_of(script, row):
-    """How the line begins and ends that the auditor tells, if it tells one."""
-    is_told = row[0] != row[1] and WRITES.match(script.rstrip("\n").split("\n")[-1])
-    return [f": {row[0]}, else {row[1]}, by {row[2]}"] if is_told else []
+def wanted_of(row):
+    """How the line ends that the auditor tells, if it tells one."""
+    whole, purged = (NO_THREAD.get(it, it) for it in row[:2])
+    return [f": {whole}, else {purged}, by {SHOWN.get(row[2], row[2])}"] if whole != purged else []
 
 
 def audit(report, histar, auditor, name, row):
@@ -64,9 +65,9 @@ def audit(report, histar, auditor, name, row):
         status, said = ran(*auditor, f"{folder}/dump", "--hidden", OBSERVER)
     verdict, *told = said.rstrip("\n").split("\n")
     told = [] if told == [NO_REPLY] else told or ["nothing"]
-    wanted = wanted_of(text(f"{stem}.histar"), row)
+    wanted = wanted_of(row)
     is_well = (status, verdict, len(told)) == (0, "clean", len(wanted)) and all(
-        line.startswith("differs at event ") and line.endswith(end) for line, end in zip(told, wanted)
+        line.startswith("differs ") and line.endswith(end) for line, end in zip(told, wanted)
     )
     report.counts(is_well, f"audit of channel {name}: {said.strip()}" + ("" if is_well else f", status {status}, wanted {wanted}"))
 

@@ -18,6 +18,7 @@ FILES = [TUTORIAL, "docs/PROGRAMS.md"]
 PAGES = ("README.md", "CONTRIBUTING.md", "CHANGELOG.md", "examples/README.md", "crates/README.md", "docs/*.md")
 MOST_WORDS = 30_000
 MADE = re.compile(r"<!-- made by .*?<!-- end of what [^>]*-->", re.S)
+NAMED = re.compile(r"`(\w+)::([^`\s]*(?: [^`]*)?)`")
 LINK = re.compile(r"\]\(([^)#:\s]*)(?:#([^)\s]*))?\)")
 
 
@@ -78,13 +79,43 @@ def broken_links(file):
             yield f"{place}#{heading}" if heading else place
 
 
+def sources():
+    """The code of each crate, and of the one for Rust."""
+    folders = {it.split("/")[1]: f"{it}/src" for it in glob.glob("crates/*") if os.path.isdir(it)}
+    found = {name: "\n".join(map(text, sorted(glob.glob(f"{at}/**/*.rt", recursive=True)))) for name, at in folders.items()}
+    return {**found, "histar (Rust)": "\n".join(map(text, sorted(glob.glob("bindings/rust/histar/src/**/*.rs", recursive=True))))}
+
+
+def is_named(word, code):
+    """Whether code declares a name: as an item, a field or a variant."""
+    return bool(re.search(rf"\b(?:fn|struct|enum|trait|mod|type|const)\s+{word}\b|^\s+{word}[,({{ ]", code, re.M))
+
+
+def lost_names(file, crates):
+    """The names of a page, `CRATE::NAME`, `CRATE::{NAME, ..}` or the same of a type, that nothing declares."""
+    for first, rest in NAMED.findall(text(file)):
+        codes = [it for name, it in crates.items() if name.split(" ")[0] == first or re.search(rf"\b(?:struct|enum|trait)\s+{first}\b", it)]
+        words = re.findall(r"\w+", rest)
+        if (first in crates or first[0].isupper()) and not any(all(is_named(it, code) for it in words) for code in codes):
+            yield f"{first}::{rest}"
+
+
+def compare_names(report):
+    """Each name of the code that a page tells is declared there."""
+    crates = sources()
+    for file in pages():
+        lost = list(lost_names(file, crates))
+        report.counts(not lost, f"{file}: names that nothing declares: {lost}" if lost else f"{file}: the code has its names")
+
+
 def compare(report):
-    """Runs the commands of the documents, follows their links, and counts their words; and compares versions."""
+    """Runs the commands of the documents, follows their links, looks for their names, and counts their words; and compares versions."""
     versions.compare(report)
     for file in FILES:
         compare_page(report, file)
     for file in pages():
         broken = list(broken_links(file))
         report.counts(not broken, f"{file}: links that lead nowhere: {broken}" if broken else f"{file}: each link leads somewhere")
+    compare_names(report)
     count = sum(words_in(text(it)) for it in pages())
     report.counts(count <= MOST_WORDS, f"the documents have {count} words, at most {MOST_WORDS}")

@@ -1,9 +1,9 @@
-"""What hidden threads told, as the auditor finds it in dumps, against two plays compared naively: one of all calls of a dump, one
+"""What hidden threads told, as the auditor finds it in dumps, against two plays compared naively: one of all calls and reads of a dump, one
 without those of hidden threads. The dumps are of drawn scripts, each of a stated seed, in which two threads hold secrets of a
 category each, a third holds none, and a gate lends the first category. Both plays name objects by the ids of the dump, and ask
-each thread for its label before it calls."""
+each thread for its label before it asks."""
+import collections
 import os
-import random
 import re
 import subprocess
 import tempfile
@@ -34,6 +34,8 @@ FIRST = (
 NAMED = {"category": "cd", "thread": "hut", "container": "kla", "segment": "osf", "gate": "g"}
 # Where each worker makes most of its objects.
 HOMES = {"h": "k", "u": "l", "t": "a", "boot": "root"}
+# A seat answers who is no thread in a word of its own.
+NO_THREAD = {"refused 42 NoThread": "refused 1 Halted"}
 LEVELS = {"*": 0, "0": 1, "1": 2, "2": 3, "3": 4}
 # As high as its owner needs.
 HIGH = 5
@@ -62,12 +64,14 @@ class Parted(Writer):
         return "\n--\n".join(["\n".join(FIRST)] + [self.call(self.one_of(*"hhutt", "boot")) for _ in range(calls)]) + "\n"
 
 
-class Event:
-    """A write call of a dump, with who made it and what was answered."""
+class Item:
+    """A write call or a read of a dump, with who asked and what was answered. It has the beginning of the line that the auditor tells
+    where it is answered otherwise: the place of a call's event, or of a read among those after an event."""
 
-    def __init__(self, line):
-        _, thread, _, told = line.split(" ", 3)
-        self.thread = int(thread)
+    def __init__(self, line, where=""):
+        self.is_call = line.startswith("event ")
+        _, thread, *numbers, told = line.split(" ", 3 if self.is_call else 2)
+        self.thread, self.where = int(thread), where
         self.call, self.reply = told.split(" => ")
         self.makes_thread = self.call.startswith("thread_create") and self.reply.startswith("id ")
 
@@ -75,42 +79,64 @@ class Event:
         return "boot" if self.thread == 2 else f"t{self.thread}"
 
     def line(self):
-        """The call as a line of a script. A thread that it made has a name by its id in the dump."""
+        """What is asked as a line of a script. A thread that it made has a name by its id in the dump."""
         return f"{f't{self.reply[4:]} = ' if self.makes_thread else ''}{self.worker()}: {self.call}"
 
 
-class Play:
-    """A play of those events of a dump that are kept: each event's label before it and reply, by place. The reply of one that is
-    left out is None."""
+def items_of(dump):
+    """The calls and the reads of a dump's text, in order. (No event is a batch.)"""
+    found, events, reads = [], 0, 0
+    for line in dump.split("\n"):
+        if line.startswith("event "):
+            events, reads = events + 1, 0
+            found.append(Item(line, f"differs at event {events}, call 1"))
+        elif line.startswith("read "):
+            reads += 1
+            found.append(Item(line, f"differs after event {events}, read {reads}"))
+    return found
 
-    def __init__(self, histar, file, events, kept):
+
+class Play:
+    """A play of those items of a dump that are kept: each one's label before it and reply, by place. The reply of one that is left out
+    is None."""
+
+    def __init__(self, histar, file, items, kept):
         lines, worker = [], ""
-        for event, is_kept in zip(events, kept):
-            lines += ["--"] * bool(lines and event.worker() != worker)
-            worker = event.worker()
-            lines += [f"{worker}: self_get", event.line() if is_kept else f"{worker}: self_get"]
+        for item, is_kept in zip(items, kept):
+            lines += ["--"] * bool(lines and item.worker() != worker)
+            worker = item.worker()
+            lines += [f"{worker}: self_get", item.line() if is_kept else f"{worker}: self_get"]
         with open(file, "w", encoding="utf-8") as it:
             it.write("\n".join(lines) + "\n")
         status, said = ran(*histar, "run", file, "--dump", f"{file}.dump")
         told = [it.partition(": ")[2] for it in sorted(said.split("\n")[:-1], key=self.place)]
-        if status or len(told) != 2 * len(events):
+        if status or len(told) != 2 * len(items):
             raise RuntimeError(f"{file}: status {status}, {said[-200:]}")
-        made = iter(Event(it) for it in text(f"{file}.dump").split("\n") if it.startswith("event "))
+        # What a thread was told stands in the dump in its own order.
+        self.made = collections.defaultdict(list)
+        for it in items_of(text(f"{file}.dump")):
+            self.made[it.thread].append(it.reply)
         self.before = told[::2]
-        self.replies = [self.reply(it, made) if is_kept else None for it, is_kept in zip(told[1::2], kept)]
+        self.replies = []
+        for item, is_kept, before, printed in zip(items, kept, told[::2], told[1::2]):
+            self.reply(item, before)
+            reply = self.reply(item, printed)
+            self.replies.append(reply if is_kept else None)
 
     @staticmethod
     def place(line):
         """The number of the script's line that a printed line answers."""
         return int(line.partition(":")[0].split(" ")[1])
 
-    @staticmethod
-    def reply(printed, made):
-        """The reply of a line, with ids for names as the dump has it. What is not an event is printed alone."""
-        return printed if printed.startswith(("unbound", "refused 42")) else next(made).reply
+    def reply(self, item, printed):
+        """The reply of the thread's next line, with ids for names as the dump has it. What the dump does not have is printed alone."""
+        if printed.startswith(("unbound", "refused 42")):
+            return printed
+        told = self.made[item.thread]
+        return told.pop(0) if told else printed
 
     def is_seen(self, at, observer):
-        """Whether a label observes the thread of an event before it."""
+        """Whether a label observes the thread of an item before it."""
         found = re.match(r"self (\{[^}]*\})", self.before[at])
         return bool(found) and observes(observer, found[1])
 
@@ -130,41 +156,41 @@ def observes(observer, label):
 class Two:
     """The play of a whole dump, and the one without hidden calls, up to where names would no longer tell the same threads."""
 
-    def __init__(self, histar, room, events):
-        self.histar, self.room, self.events = histar, room, events
-        self.whole = Play(histar, f"{room}/whole", events, [True] * len(events))
+    def __init__(self, histar, room, items):
+        self.histar, self.room, self.items = histar, room, items
+        self.whole = Play(histar, f"{room}/whole", items, [True] * len(items))
 
     def part(self, observer):
-        """Finds which calls are hidden: those of threads that are seen in neither play. A play tells it of the first that was
-        taken wrongly before, so the plays are as many as such calls, and one."""
-        kept = [self.whole.is_seen(at, observer) for at in range(len(self.events))]
+        """Finds what is hidden: what threads ask that are seen in neither play. A play tells it of the first that was taken wrongly
+        before, so the plays are as many as such items, and one."""
+        kept = [self.whole.is_seen(at, observer) for at in range(len(self.items))]
         while True:
-            purged = Play(self.histar, f"{self.room}/purged", self.events, kept)
-            right = [self.whole.is_seen(at, observer) or purged.is_seen(at, observer) for at in range(len(self.events))]
+            purged = Play(self.histar, f"{self.room}/purged", self.items, kept)
+            right = [self.whole.is_seen(at, observer) or purged.is_seen(at, observer) for at in range(len(self.items))]
             wrong = [at for at, it in enumerate(kept) if it != right[at]]
             if not wrong:
                 return kept, purged
             kept[wrong[0]] = right[wrong[0]]
 
     def end(self, kept, purged):
-        """The place of the first event at which a name stands for two threads, or for none where an id may stand for another."""
+        """The place of the first item at which a name stands for two threads, or for none where an id may stand for another."""
         drawn = 3
-        for at, event in enumerate(self.events):
+        for at, item in enumerate(self.items):
             made = re.match(r"id #(\d+)", purged.replies[at]) if kept[at] else None
             drawn = int(made[1]) if made else drawn
-            is_lost = purged.before[at].startswith("unbound") and (kept[at] or event.thread <= drawn)
-            if is_lost or event.makes_thread and kept[at] and purged.replies[at] != event.reply:
+            is_lost = purged.before[at].startswith("unbound") and (kept[at] or item.thread <= drawn)
+            if is_lost or item.makes_thread and kept[at] and purged.replies[at] != item.reply:
                 return at
-        return len(self.events)
+        return len(self.items)
 
     def differing(self, observer):
-        """How many events were compared, how many of these are hidden, and the lines of those that differ, up to the channel."""
+        """How many items were compared, how many of these are hidden, and the lines of those that differ, up to the channel."""
         kept, purged = self.part(observer)
         end = self.end(kept, purged)
         lines = [
-            f"differs at event {at + 1}, call 1, thread #{event.thread}: {event.reply}, else {purged.replies[at]}"
-            for at, event in enumerate(self.events[:end])
-            if kept[at] and purged.replies[at] != event.reply
+            f"{item.where}, thread #{item.thread}: {item.reply}, else {NO_THREAD.get(purged.replies[at], purged.replies[at])}"
+            for at, item in enumerate(self.items[:end])
+            if kept[at] and purged.replies[at] != item.reply
         ]
         return end, end - sum(kept[:end]), lines
 
@@ -179,28 +205,29 @@ class Case:
     def __init__(self, seed):
         self.seed = seed
 
-    def told(self, auditor, dump, observer, end):
-        """The lines that the auditor prints of events up to a place, without their channels, and whether each has one."""
+    def told(self, auditor, dump, observer, compared):
+        """The lines that the auditor prints of these items, without their channels, and whether each line has one."""
         done = subprocess.run([*auditor, dump, "--hidden", observer], stdout=subprocess.PIPE, text=True)
         verdict, *lines = done.stdout.rstrip("\n").split("\n")
         lines = [] if lines == [NO_REPLY] else lines
-        told = [it.rpartition(", by ") for it in lines if int(it.split(" ")[3].rstrip(",")) <= end]
+        known = {it.where for it in compared}
+        told = [it.rpartition(", by ") for it in lines if it.partition(", thread #")[0] in known]
         return [it[0] for it in told], (done.returncode, verdict) == (0, "clean") and "\n" in done.stdout.rstrip("\n") and all(it[2] in CHANNELS for it in told)
 
     def tried(self, histar, auditor):
-        """How many events were compared for all observers, how many of them are hidden, how many differ, and the first fault."""
+        """How many calls and reads were compared for all observers, how many of them are hidden, how many differ, and the first fault."""
         compared = hidden = differ = 0
         with tempfile.TemporaryDirectory(prefix="hidden-") as room:
             with open(f"{room}/script", "w", encoding="utf-8") as it:
                 it.write(Parted(self.seed).script(calls=30))
             subprocess.run([*histar, "run", f"{room}/script", "--dump", f"{room}/dump"], check=True, stdout=subprocess.DEVNULL)
-            events = [Event(it) for it in text(f"{room}/dump").split("\n") if it.startswith("event ")]
-            two = Two(histar, room, events)
-            if two.whole.replies != [it.reply for it in events]:
+            items = items_of(text(f"{room}/dump"))
+            two = Two(histar, room, items)
+            if two.whole.replies != [it.reply for it in items]:
                 return 0, 0, 0, f"seed {self.seed}: the play by ids is another one"
             for observer in OBSERVERS:
                 end, unseen, wanted = two.differing(observer)
-                told, is_well = self.told(auditor, f"{room}/dump", observer, end)
+                told, is_well = self.told(auditor, f"{room}/dump", observer, items[:end])
                 compared, hidden, differ = compared + end, hidden + unseen, differ + len(wanted)
                 if not is_well or told != wanted:
                     return compared, hidden, differ, f"seed {self.seed}, hidden from {observer}: told {told}, wanted {wanted}"
@@ -215,5 +242,5 @@ def compare(report, count, histar=("./histar",), auditor=("./histar-audit",)):
     for wrong in [it[3] for it in told if it[3]][:3]:
         report.say(wrong)
     is_well = not any(it[3] for it in told) and 0 < hidden < compared and 0 < differ
-    said = f"{compared} events of {count} drawn scripts and {len(OBSERVERS)} observers, seed {SEED}: {hidden} hidden, {differ} answered otherwise"
+    said = f"{compared} calls and reads of {count} drawn scripts and {len(OBSERVERS)} observers, seed {SEED}: {hidden} hidden, {differ} answered otherwise"
     report.counts(is_well, said)

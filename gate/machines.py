@@ -1,7 +1,8 @@
-"""Scripts on both machines by `probe run`: every script of examples/ that has no fault, every one of the rules, and drawn ones, each
-of a stated seed. The arena kernel and the plain one answer the same and have the same tables at the end, the arena kernel keeps just
+"""Scripts on both machines by `probe run`: every script of examples/ that has no fault, every one of the rules, and random ones, each
+of a stated seed. The arena kernel and the plain one answer the same and have the same tables at the end, and in random scripts after
+each line of a small kernel and each hundredth of a large one. The arena kernel keeps just
 the rows of translation that the tables show, the replies are those that are stored, where some are, and from the kernel's boot to its
-last answer nothing asks for memory. In all stored scripts together each of the 34 calls is accepted, and in the drawn ones each is
+last answer nothing asks for memory. In all stored scripts together each of the 34 calls is accepted, and in the random ones each is
 accepted many times at each size."""
 import collections
 import glob
@@ -20,9 +21,9 @@ LINE = re.compile(r"(?:\w+ = )?[\w#]+:\+? (\w+)")
 ANSWER = re.compile(r"\S+ (\d+): (\S+)")
 CALLS = 34
 SEED = 2006
-# Of drawn scripts the pages, how many there are, the most phases, and how often each call is accepted at least. Tables are compared
-# at the end, so there are many short ones where calls are quick.
-DRAWN = ((8, 240, 8, 2), (64, 150, 12, 20), (512, 75, 40, 20), (1_024, 110, 40, 20))
+# Of random scripts the pages, how many there are, the most phases, after how many lines each the tables are compared, and how often
+# each call is accepted at least. Each size has more than ten thousand lines.
+DRAWN = ((8, 240, 8, 1, 2), (64, 150, 12, 10, 20), (512, 75, 40, 100, 20), (1_024, 110, 40, 100, 20))
 
 
 def stored():
@@ -36,20 +37,21 @@ def stored():
         yield Played(it.name, it.words, it.text, it.out)
 
 
-def drawn():
+def random_ones():
     """Scripts of a kernel of so many pages, each with a seed of its own."""
-    for pages, count, most, _ in DRAWN:
+    for pages, count, most, every, _ in DRAWN:
         for number in range(count):
             seed = f"{SEED} {pages} {number}"
             text = script(seed, phases=1 + number % most, is_small=pages == 8)
-            yield Played(f"drawn script '{seed}'", ["--pages", str(pages)], text)
+            yield Played(f"random script '{seed}'", ["--pages", str(pages)], text, every=every)
 
 
 class Played:
     """A script, with what the program prints of it where that is stored."""
 
-    def __init__(self, name, words, text, out=None):
+    def __init__(self, name, words, text, out=None, every=0):
         self.name, self.words, self.text, self.out = name, words, text, out
+        self.before = ["every", str(every)] if every else []
         self.printed = []
 
     def run(self, program, counter):
@@ -57,7 +59,7 @@ class Played:
         with tempfile.NamedTemporaryFile("w", suffix=".histar", encoding="utf-8") as file:
             file.write(self.text)
             file.flush()
-            words = [program, "run", file.name, *self.words]
+            words = [program, *self.before, "run", file.name, *self.words]
             how = {"stdin": subprocess.DEVNULL, "stdout": subprocess.PIPE, "stderr": subprocess.DEVNULL, "text": True}
             done = subprocess.run(words, env={**os.environ, "LD_PRELOAD": counter}, **how)
         return done.returncode, done.stdout
@@ -115,11 +117,11 @@ def compare_all(report, program, counter):
     report.counts(is_well, f"{len(scripts)} scripts: both machines answer and keep the same, and no call takes memory")
     calls = {word for it in scripts for word in it.accepted()}
     report.counts(len(calls) == CALLS, f"{len(calls)} of the {CALLS} calls are accepted in these scripts")
-    scripts = list(drawn())
+    scripts = list(random_ones())
     is_well = play(report, program, counter, scripts)
     lines = sum(len(it.printed) for it in scripts)
-    report.counts(is_well, f"{len(scripts)} drawn scripts: both machines answer and keep the same at {lines} calls and queries")
-    for pages, _, _, enough in DRAWN:
+    report.counts(is_well, f"{len(scripts)} random scripts: both machines answer and keep the same at {lines} calls and queries")
+    for pages, _, _, _, enough in DRAWN:
         counts = collections.Counter(word for it in scripts if it.words[1] == str(pages) for word in it.accepted())
         least = min(counts.values()) if len(counts) == CALLS else 0
         report.counts(least >= enough, f"at {pages} pages each of the {CALLS} calls is accepted at least {least} times")

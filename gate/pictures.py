@@ -12,7 +12,7 @@ from gate.plays import ran, text
 
 PICTURES = {
     "docs/objects.svg": ("examples/dumps/objects.dump",),
-    "docs/flows.svg": ("examples/dumps/scanner.dump", "--flows", "4", "--category", "1"),
+    "docs/flows.svg": ("examples/dumps/scanner.dump", "--from", "4", "--category", "1"),
 }
 PART = re.compile(r'<g id="[^"]*" class="(node|edge|cluster)">\s*<title>(.*?)</title>(.*?)</g>', re.S)
 

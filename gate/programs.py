@@ -2,7 +2,7 @@
 
 `rt ci` proves them from nothing in a copy of these crates, side by side, and keeps on the machine what passes. So a start that
 is interrupted loses the crates alone that it was at, and ./test proves none of them again. What was built is laid beside the
-sources. Of a library for C `rt lib` makes the archive there."""
+sources. A library for C is proved there by `rt lib`, which makes its archive."""
 import fcntl
 import os
 import re
@@ -198,7 +198,7 @@ class Copy:
             made, to = f"{self.top}/crates/{it.name}/out/rlib", f"crates/{it.name}/out/rlib"
             if it.is_program:
                 lay_program(it.name, self.top)
-            elif not it.is_static:
+            else:
                 shutil.rmtree(to, ignore_errors=True)
                 shutil.move(made, to)
                 with open(f"{to}/stamp", "w", encoding="utf-8") as stamp:
@@ -206,13 +206,14 @@ class Copy:
 
 
 def archive(name):
-    """Makes the archive of a library for C, over the libraries that stand beside their sources."""
-    print(f"prove: {name}: its archive is made", flush=True)
-    with open(f"crates/{name}/{LOG}", "a", encoding="utf-8") as log:
+    """Proves a library for C and makes its archive, over the libraries that stand beside their sources."""
+    os.makedirs(os.path.dirname(f"crates/{name}/{LOG}"), exist_ok=True)
+    with open(f"crates/{name}/{LOG}", "w", encoding="utf-8") as log:
         ran = subprocess.Popen(["rt", "lib"], cwd=f"crates/{name}", stdin=subprocess.DEVNULL, stdout=log, stderr=log, start_new_session=True)
         try:
             if ran.wait():
-                raise Ended(NOT_PROVED, f"{name} isn't built: crates/{name}/{LOG} says why")
+                raise Ended(NOT_PROVED, f"{name} isn't proved: crates/{name}/{LOG} says why")
+            print(f"prove: {name} is proved, and its archive made", flush=True)
         finally:
             stages.end_session(ran.pid)
             ran.wait()
@@ -252,8 +253,8 @@ def build(names):
     crates = crates_for(names)
     print(f"prove: {len(crates)} crates; what this machine has passed before is kept", flush=True)
     with tempfile.TemporaryDirectory(prefix="prove-", ignore_cleanup_errors=True) as room, times.Times() as spent:
-        copy = Copy(f"{room}/tree", crates)
-        copy.prove(Progress(crates, spent))
+        copy = Copy(f"{room}/tree", [it for it in crates if not it.is_static])
+        copy.prove(Progress(copy.crates, spent))
         copy.lay_built()
     for it in crates:
         if it.is_static:

@@ -1,5 +1,5 @@
 -- The line that tells a reply which hidden threads changed.
-use Rattle.std.specs.Prelude.{ℕ, List, [], ◌∷◌, ◌++◌, codes, decimal}
+use Rattle.std.specs.Prelude.{ℕ, Bool, if◌then◌else◌, List, [], ◌∷◌, ◌++◌, codes, decimal}
 use Rattle.call_text.specs.Reply.{reply_text}
 use Rattle.hidden_replies.specs.declared.differences.Channel.{Channel}
 use Rattle.hidden_replies.specs.declared.differences.Channel.TheVariants as channel
@@ -15,11 +15,16 @@ channel_name channel.NotOpen = codes "not open"
 channel_name channel.Shown = codes "shown"
 channel_name channel.Owner = codes "owner"
 
--- where a call stands in the dump, and who called
-abbrev pub place_text : ℕ → ℕ → ℕ → List ℕ
-place_text event place thread =
-    codes "differs at event " ++ decimal event ++ codes ", call " ++ decimal place
-    ++ codes ", thread #" ++ decimal thread
+-- where a call or a read stands in the dump
+abbrev pub where_text : Bool → ℕ → ℕ → List ℕ
+where_text call event place =
+    if call
+    then codes "differs at event " ++ decimal event ++ codes ", call " ++ decimal place
+    else codes "differs after event " ++ decimal event ++ codes ", read " ++ decimal place
+
+-- and who asked
+abbrev pub place_text : Difference → List ℕ
+place_text d = where_text d.is_call d.event d.place ++ codes ", thread #" ++ decimal d.thread
 
 -- both replies, as dumps spell them
 abbrev pub replies_text : Reply → Reply → List ℕ
@@ -29,5 +34,5 @@ replies_text reply otherwise =
 -- the line of a reply that differs
 abbrev pub difference_line : Difference → List ℕ
 difference_line d =
-    place_text d.event d.place d.thread ++ replies_text d.reply d.otherwise
+    place_text d ++ replies_text d.reply d.otherwise
     ++ codes ", by " ++ channel_name d.channel ++ 10 ∷ []

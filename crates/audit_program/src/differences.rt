@@ -1,7 +1,7 @@
 //! The lines that tell replies which hidden threads changed.
 ghost use Rattle.std.specs.Prelude.{◌≡◌, ◌++◌, OnOk};
 ghost use Rattle.std.specs.List.{flat_map};
-ghost use Rattle.audit_program.specs.Lines.{channel_name, difference_line, place_text, replies_text};
+ghost use Rattle.audit_program.specs.Lines.{channel_name, difference_line, place_text, replies_text, where_text};
 
 use base::NoMemory;
 use call_text::{NameList, put_reply};
@@ -23,16 +23,29 @@ fn channel_name(channel: Channel) -> &'static [u8]
     }
 }
 
-/// Adds where a call stands in the dump, and who called.
-fn put_place(text: &mut Vec<u8>, event: u64, place: u64, thread: u64) -> Result<(), NoMemory>
-    ensures { OnOk result (text.new.items ≡ text.old.items ++ place_text event place thread) }
+/// Adds where a call or a read stands in the dump.
+fn put_where(text: &mut Vec<u8>, is_call: bool, event: u64, place: u64) -> Result<(), NoMemory>
+    ensures { OnOk result (text.new.items ≡ text.old.items ++ where_text is_call event place) }
 {
-    text.extend_from_slice(b"differs at event ")?;
+    let (before, between) = if is_call {
+        ("differs at event ", ", call ")
+    } else {
+        ("differs after event ", ", read ")
+    };
+    text.extend_from_slice(before.as_bytes())?;
     put_number(text, event)?;
-    text.extend_from_slice(b", call ")?;
+    text.extend_from_slice(between.as_bytes())?;
     put_number(text, place)?;
+    Ok(())
+}
+
+/// The same, and who asked.
+fn put_place(text: &mut Vec<u8>, difference: &Difference) -> Result<(), NoMemory>
+    ensures { OnOk result (text.new.items ≡ text.old.items ++ place_text difference.now) }
+{
+    put_where(text, difference.is_call, difference.event, difference.place)?;
     text.extend_from_slice(b", thread #")?;
-    put_number(text, thread)?;
+    put_number(text, difference.thread.number())?;
     Ok(())
 }
 
@@ -51,8 +64,7 @@ fn put_replies(text: &mut Vec<u8>, reply: &Reply, otherwise: &Reply) -> Result<(
 fn put_difference(text: &mut Vec<u8>, difference: &Difference) -> Result<(), NoMemory>
     ensures { OnOk result (text.new.items ≡ text.old.items ++ difference_line difference.now) }
 {
-    let thread = difference.thread.number();
-    put_place(text, difference.event, difference.place, thread)?;
+    put_place(text, difference)?;
     put_replies(text, &difference.reply, &difference.otherwise)?;
     text.extend_from_slice(b", by ")?;
     text.extend_from_slice(channel_name(difference.channel))?;

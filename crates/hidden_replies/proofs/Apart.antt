@@ -12,10 +12,12 @@ use Rattle.label_lattice.specs.Label.{LabelValue}
 use Rattle.label_lattice.specs.Listing.{label_cmp}
 use Rattle.label_lattice.proofs.ListingLemmas.{labels_exact}
 use Rattle.label_rules.specs.LabelRules.{both, visible}
+use Rattle.call_text.specs.declared.asking.Asked.TheVariants.{Read, Write}
 use Rattle.kernel_rules.specs.State.{State, listed, object_at, of_object}
 use Rattle.kernel_rules.specs.Step.{next}
 use Rattle.kernel_rules.specs.declared.calls.Call.{Call}
 use Rattle.kernel_rules.specs.declared.calls.Call.TheVariants as call
+use Rattle.kernel_rules.specs.declared.calls.Query.{Query}
 use Rattle.kernel_rules.specs.declared.objects.Object.{Object}
 use Rattle.kernel_rules.proofs.LookupLaws.{all_at}
 use Rattle.flow_rules.proofs.Facts.{in_all}
@@ -136,13 +138,23 @@ agreed l s n (call.DevSend e bytes) h = inl refl
 agreed l s n (call.DevRecv e) h = inl refl
 
 -- where no exception holds at a call in both runs, its thread is within, and what else it looks at is the same
-pub met_agreed : (l : LabelValue) (s n : State) (t : ℕ) (c : Call) → when_met l s n t c ≡ None
+pub met_agreed : (l : LabelValue) (s n : State) (t : ℕ) (c : Call) → when_met l s n t (Write c) ≡ None
     → (is_within l s t ≡ true) × Agreed l s n c
 met_agreed l s n t c h =
     elim (is_within l s t)
     as (λ b. is_within l s t ≡ b → cond b (of_call l s n c) (Some channel.Owner) ≡ None
     → (is_within l s t ≡ true) × Agreed l s n c) [
       | true ↦ λ is g. (is, agreed l s n c g)
+      | false ↦ λ is g. absurd (cc)
+    ] refl h
+
+-- and where none holds at a read, its thread is within
+pub read_within : (l : LabelValue) (s n : State) (t : ℕ) (q : Query) → when_met l s n t (Read q) ≡ None
+    → is_within l s t ≡ true
+read_within l s n t q h =
+    elim (is_within l s t)
+    as (λ b. is_within l s t ≡ b → cond b None (Some channel.Owner) ≡ None → is_within l s t ≡ true) [
+      | true ↦ λ is g. is
       | false ↦ λ is g. absurd (cc)
     ] refl h
 
@@ -156,7 +168,7 @@ not_unref c b h g = by (is_unref c) b h g
 
 -- where none holds at a hidden call, it is hidden
 pub hidden_so : (l : LabelValue) (s n : State) (t : ℕ) (c : Call) → is_met l s n t ≡ false
-    → when_hidden l s t c ≡ None → IsHidden l s t c
+    → when_hidden l s t (Write c) ≡ None → IsHidden l s t c
 hidden_so l s n t c off h =
     let parts = none_first (unless (not (is_unref c) || is_open l s) channel.NotOpen)
     (unless (not (is_seen l (next s t c) t)) channel.Shown) h in

@@ -11,18 +11,18 @@ use Rattle.hidden_replies.proofs.Exact.{quiet}
 
 pub told_all : (l : LabelValue) (bytes : List ℕ) (d : DumpLists) (found : Option (Vec Difference Global))
     (told : Vec Difference Global) → IsDump bytes d
-    → IfSome found (λ all. all.items ≡ differences l (both_from (begun d)) (placed d.events))
-    → IfSome found (λ all. map replied_in all.items ≡ differing l (begun d) (begun d) (placed d.events))
+    → IfSome found (λ all. all.items ≡ differences l (both_from (begun d)) (placed d.events d.reads))
+    → IfSome found (λ all. map replied_in all.items ≡ differing l (begun d) (begun d) (placed d.events d.reads))
     → found ≡ Some told → AreTold l bytes told.items
 told_all l bytes d found told spelt named exact is =
-    let these : told.items ≡ differences l (both_from (begun d)) (placed d.events) =
+    let these : told.items ≡ differences l (both_from (begun d)) (placed d.events d.reads) =
     subst (λ (o : Option (Vec Difference Global)). IfSome o
-    (λ all. all.items ≡ differences l (both_from (begun d)) (placed d.events))) is named in
+    (λ all. all.items ≡ differences l (both_from (begun d)) (placed d.events d.reads))) is named in
     record {
       dump = d;
       spelt = spelt;
       named = these;
       all = subst (λ (o : Option (Vec Difference Global)). IfSome o
-          (λ all. map replied_in all.items ≡ differing l (begun d) (begun d) (placed d.events))) is exact;
-      quiet = λ none. these ∙ (quiet l (both_from (begun d)) (placed d.events) none).0;
+          (λ all. map replied_in all.items ≡ differing l (begun d) (begun d) (placed d.events d.reads))) is exact;
+      quiet = λ none. these ∙ (quiet l (both_from (begun d)) (placed d.events d.reads) none).0;
     }

@@ -6,6 +6,8 @@ use Rattle.std.specs.Bool.{beq}
 use Rattle.label_lattice.specs.Label.{LabelValue}
 use Rattle.label_lattice.specs.Listing.{label_cmp}
 use Rattle.label_rules.specs.LabelRules.{both, visible}
+use Rattle.call_text.specs.declared.asking.Asked.{Asked}
+use Rattle.call_text.specs.declared.asking.Asked.TheVariants.{Read, Write}
 use Rattle.kernel_rules.specs.State.{State, label_at, listed, object_at}
 use Rattle.kernel_rules.specs.Step.{next}
 use Rattle.kernel_rules.specs.declared.calls.Call.{Call}
@@ -66,12 +68,18 @@ of_call l s n (call.QuotaMove e k) = unless (same_untold (object_at s e.object) 
 of_call l s n (call.Unref e) = unless (is_open l s && is_open l n) channel.NotOpen
 of_call l s n c = if is_counted c then of_counts s n c else None
 
+-- none for a read
+abbrev pub of_asked : LabelValue → State → State → Asked → Option Channel
+of_asked l s n (Write c) = of_call l s n c
+of_asked l s n (Read q) = None
+
 -- by any thread
-abbrev pub when_met : LabelValue → State → State → ℕ → Call → Option Channel
-when_met l s n t c = if is_within l s t then of_call l s n c else Some channel.Owner
+abbrev pub when_met : LabelValue → State → State → ℕ → Asked → Option Channel
+when_met l s n t a = if is_within l s t then of_asked l s n a else Some channel.Owner
 
 -- the exception for a hidden call in the first world
-abbrev pub when_hidden : LabelValue → State → ℕ → Call → Option Channel
-when_hidden l s t c =
+abbrev pub when_hidden : LabelValue → State → ℕ → Asked → Option Channel
+when_hidden l s t (Write c) =
     first_of (unless (not (is_unref c) || is_open l s) channel.NotOpen)
     (unless (not (is_seen l (next s t c) t)) channel.Shown)
+when_hidden l s t (Read q) = None

@@ -1,12 +1,11 @@
 -- Replies that are others without the calls of hidden threads.
-use Rattle.std.specs.Prelude.{◌≡◌, ℕ, Bool, false, not, ◌||◌, List, [], ◌∷◌, ◌++◌, map, Option, Some, None, if◌then◌else◌}
+use Rattle.std.specs.Prelude.{◌≡◌, ℕ, Bool, false, not, ◌&&◌, ◌||◌, List, [], ◌∷◌, ◌++◌, map, Option, Some, None, if◌then◌else◌}
 use Rattle.label_lattice.specs.Label.{LabelValue}
 use Rattle.kernel_rules.specs.State.{State}
-use Rattle.kernel_rules.specs.Step.{answer, next}
 use Rattle.kernel_rules.specs.declared.replies.Reply.{Reply}
 use Rattle.worlds.specs.Seen.{IsSame}
 use Rattle.hidden_replies.specs.Exceptions.{first_of, is_met, when_hidden, when_met}
-use Rattle.hidden_replies.specs.Replies.{same_reply}
+use Rattle.hidden_replies.specs.Asked.{is_call, reply_to, same_by, state_by}
 use Rattle.hidden_replies.specs.declared.differences.Channel.{Channel}
 use Rattle.hidden_replies.specs.declared.differences.Difference.{Difference}
 use Rattle.hidden_replies.specs.declared.differences.Placed.{Placed}
@@ -27,18 +26,18 @@ both_from s = record { whole = s; purged = s; parted = false; exception = None }
 abbrev pub exception_at : LabelValue → Runs → Placed → Option Channel
 exception_at l r p =
     if is_met l r.whole r.purged p.thread
-    then (if r.parted then when_met l r.whole r.purged p.thread p.call else None)
-    else when_hidden l r.whole p.thread p.call
+    then (if r.parted then when_met l r.whole r.purged p.thread p.asked else None)
+    else when_hidden l r.whole p.thread p.asked
 
 -- a hidden call is made in the whole run alone
 abbrev pub purged_after : LabelValue → State → State → Placed → State
-purged_after l s n p = if is_met l s n p.thread then next n p.thread p.call else n
+purged_after l s n p = if is_met l s n p.thread then state_by n p.thread p.asked else n
 
 abbrev pub after : LabelValue → Runs → Placed → Runs
 after l r p = record {
-  whole = next r.whole p.thread p.call;
+  whole = state_by r.whole p.thread p.asked;
   purged = purged_after l r.whole r.purged p;
-  parted = not (is_met l r.whole r.purged p.thread) || r.parted;
+  parted = (is_call p.asked && not (is_met l r.whole r.purged p.thread)) || r.parted;
   exception = first_of r.exception (exception_at l r p);
 }
 
@@ -46,21 +45,29 @@ after l r p = record {
 abbrev pub told_by : Placed → Reply → Reply → Option Channel → List Difference
 told_by p x y None = []
 told_by p x y (Some c) =
-    (record { event = p.event; place = p.place; thread = p.thread; reply = x; otherwise = y; channel = c }) ∷ []
+    (record {
+      event = p.event;
+      place = p.place;
+      is_call = is_call p.asked;
+      thread = p.thread;
+      reply = x;
+      otherwise = y;
+      channel = c;
+    }) ∷ []
 
--- what is told of a call in both runs: where the replies differ, both, with the exception that holds at the call,
+-- what is told of a call or a read in both runs: where the replies differ, both, with the exception that holds at the call,
 -- or else the first one that was met
 abbrev pub told_at : LabelValue → Runs → Placed → List Difference
 told_at l r p =
-    if same_reply (answer r.whole p.thread p.call) (answer r.purged p.thread p.call)
+    if same_by p.asked (reply_to r.whole p.thread p.asked) (reply_to r.purged p.thread p.asked)
     then []
-    else told_by p (answer r.whole p.thread p.call) (answer r.purged p.thread p.call)
+    else told_by p (reply_to r.whole p.thread p.asked) (reply_to r.purged p.thread p.asked)
     (first_of (exception_at l r p) r.exception)
 
 abbrev pub told : LabelValue → Runs → Placed → List Difference
 told l r p = if is_met l r.whole r.purged p.thread then told_at l r p else []
 
--- what is told of calls, one after another
+-- what is told of calls and reads, one after another
 abbrev pub differences : LabelValue → Runs → List Placed → List Difference
 differences l r [] = []
 differences l r (p ∷ ps) = told l r p ++ differences l (after l r p) ps
@@ -70,36 +77,44 @@ abbrev pub exception_in : LabelValue → Runs → List Placed → Option Channel
 exception_in l r [] = r.exception
 exception_in l r (p ∷ ps) = exception_in l (after l r p) ps
 
--- a call with its replies in the two runs
+-- a call or a read with its replies in the two runs
 pub record Replied : Type 0 where
   pub event : ℕ
   pub place : ℕ
+  pub is_call : Bool
   pub reply : Reply
   pub otherwise : Reply
 
 abbrev pub replied_in : Difference → Replied
-replied_in d = record { event = d.event; place = d.place; reply = d.reply; otherwise = d.otherwise }
+replied_in d = record {
+  event = d.event;
+  place = d.place;
+  is_call = d.is_call;
+  reply = d.reply;
+  otherwise = d.otherwise;
+}
 
--- the replies of a call that is made in both runs, where they differ
+-- the replies of a call or a read that is made in both runs, where they differ
 abbrev pub replied_at : State → State → Placed → List Replied
 replied_at s n p =
-    if same_reply (answer s p.thread p.call) (answer n p.thread p.call)
+    if same_by p.asked (reply_to s p.thread p.asked) (reply_to n p.thread p.asked)
     then []
     else (record {
       event = p.event;
       place = p.place;
-      reply = answer s p.thread p.call;
-      otherwise = answer n p.thread p.call;
+      is_call = is_call p.asked;
+      reply = reply_to s p.thread p.asked;
+      otherwise = reply_to n p.thread p.asked;
     }) ∷ []
 
 abbrev pub replied : LabelValue → State → State → Placed → List Replied
 replied l s n p = if is_met l s n p.thread then replied_at s n p else []
 
--- the replies of all calls that are made in both runs, where they differ
+-- the replies of all calls and reads that are made in both runs, where they differ
 abbrev pub differing : LabelValue → State → State → List Placed → List Replied
 differing l s n [] = []
 differing l s n (p ∷ ps) =
-    replied l s n p ++ differing l (next s p.thread p.call) (purged_after l s n p) ps
+    replied l s n p ++ differing l (state_by s p.thread p.asked) (purged_after l s n p) ps
 
 -- l sees the same of both runs as long as no exception was met, and they are one as long as no call was hidden
 pub record IsAgreed (l : LabelValue) (r : Runs) : Type 0 where

@@ -1,4 +1,5 @@
 pub mod Replies
+pub mod Asked
 pub mod Exceptions
 pub mod Hidden
 pub mod Places

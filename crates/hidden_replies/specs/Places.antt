@@ -1,5 +1,8 @@
--- The calls of a dump, each with its place.
+-- The calls and reads of a dump, each with its place.
 use Rattle.std.specs.Prelude.{ℕ, ◌+◌, List, [], ◌∷◌, ◌++◌}
+use Rattle.call_text.specs.declared.asking.Asked.TheVariants.{Read, Write}
+use Rattle.dump_text.specs.Reads.{reads_at, reads_past}
+use Rattle.dump_text.specs.declared.tables.PlacedRead.{PlacedRead}
 use Rattle.histories.specs.Events.{Event}
 use Rattle.histories.specs.declared.events.Answered.{Answered}
 use Rattle.hidden_replies.specs.declared.differences.Placed.{Placed}
@@ -8,13 +11,23 @@ use Rattle.hidden_replies.specs.declared.differences.Placed.{Placed}
 abbrev pub placed_by : ℕ → ℕ → ℕ → List Answered → List Placed
 placed_by event place thread [] = []
 placed_by event place thread (a ∷ rest) =
-    record { event = event; place = place; thread = thread; call = a.call } ∷ placed_by event (place + 1) thread rest
+    record { event = event; place = place; thread = thread; asked = Write a.call }
+    ∷ placed_by event (place + 1) thread rest
 
--- the calls of events, the first of which has this place
-abbrev pub placed_from : ℕ → List Event → List Placed
-placed_from event [] = []
-placed_from event (e ∷ es) = placed_by event 1 e.thread e.calls ++ placed_from (event + 1) es
+-- reads after so many events, the first of which has this place among them
+abbrev pub placed_reads : ℕ → ℕ → List PlacedRead → List Placed
+placed_reads event place [] = []
+placed_reads event place (r ∷ rest) =
+    record { event = event; place = place; thread = r.read.thread; asked = Read r.read.query }
+    ∷ placed_reads event (place + 1) rest
 
--- the calls of all events
-abbrev pub placed : List Event → List Placed
-placed events = placed_from 1 events
+-- the calls of events after so many others, and the reads among them
+abbrev pub placed_from : ℕ → List Event → List PlacedRead → List Placed
+placed_from event [] reads = placed_reads event 1 (reads_at event reads)
+placed_from event (e ∷ es) reads =
+    placed_reads event 1 (reads_at event reads)
+    ++ (placed_by (event + 1) 1 e.thread e.calls ++ placed_from (event + 1) es (reads_past event reads))
+
+-- the calls of all events, and the reads among them
+abbrev pub placed : List Event → List PlacedRead → List Placed
+placed events reads = placed_from 0 events reads

@@ -18,6 +18,6 @@ begun d = (start_with d.limits d.checkpoint).state
 pub record AreTold (l : LabelValue) (bytes : List ℕ) (told : List Difference) : Type 0 where
   pub dump : DumpLists
   pub spelt : IsDump bytes dump
-  pub named : told ≡ differences l (both_from (begun dump)) (placed dump.events)
-  pub all : map replied_in told ≡ differing l (begun dump) (begun dump) (placed dump.events)
-  pub quiet : exception_in l (both_from (begun dump)) (placed dump.events) ≡ None → told ≡ []
+  pub named : told ≡ differences l (both_from (begun dump)) (placed dump.events dump.reads)
+  pub all : map replied_in told ≡ differing l (begun dump) (begun dump) (placed dump.events dump.reads)
+  pub quiet : exception_in l (both_from (begun dump)) (placed dump.events dump.reads) ≡ None → told ≡ []

@@ -1,6 +1,7 @@
 //! What is told of a reply that hidden threads changed.
 use base::ObjectId;
-use kernel_rules::{Call, Reply};
+use call_text::Asked;
+use kernel_rules::Reply;
 
 /// What a hidden thread told something by: the exceptions of the law that nothing is told, by name.
 #[derive(Clone, Copy, PartialEq, Eq, Debug)]
@@ -19,27 +20,29 @@ pub enum Channel {
     Owner,
 }
 
-/// A call of a dump.
+/// A call or a read of a dump.
 #[derive(Clone, Copy)]
 pub struct Placed {
-    /// The place of its event in the dump, from 1.
+    /// The place of a call's event in the dump, from 1; how many events stand before a read.
     pub event: u64,
-    /// Its place in its event, from 1.
+    /// The place of a call in its event, or of a read among those after the same event, from 1.
     pub place: u64,
-    /// Who called.
+    /// Who asked.
     pub thread: ObjectId,
-    /// The call.
-    pub call: Call,
+    /// The call or the read.
+    pub asked: Asked,
 }
 
 /// A reply that is another one without the calls of hidden threads.
 #[derive(Clone, Copy)]
 pub struct Difference {
-    /// The place of the event in the dump, from 1.
+    /// The place of a call's event in the dump, from 1; how many events stand before a read.
     pub event: u64,
-    /// The place of the call in its event, from 1.
+    /// The place of a call in its event, or of a read among those after the same event, from 1.
     pub place: u64,
-    /// Who called.
+    /// Whether it is the reply to a call, and not to a read.
+    pub is_call: bool,
+    /// Who asked.
     pub thread: ObjectId,
     /// The reply, as it stands in the dump.
     pub reply: Reply,

@@ -2,7 +2,7 @@
 ghost use Rattle.std.specs.Prelude.{◌≡◌, ◌==◌, ◌||◌, not, option_copied};
 ghost use Rattle.std.specs.List.{list_all};
 ghost use Rattle.hidden_replies.specs.Exceptions.{is_met, is_seen, hides_none, is_open, same_untold};
-ghost use Rattle.hidden_replies.specs.Exceptions.{unless, first_of, of_counts, of_call, when_met};
+ghost use Rattle.hidden_replies.specs.Exceptions.{unless, first_of, of_counts, of_call, of_asked, when_met};
 ghost use Rattle.hidden_replies.specs.declared.differences.Channel.TheVariants as channel;
 ghost use Rattle.kernel_rules.specs.State.{listed, object_at};
 ghost use Rattle.plain_state.specs.StateOf.{state_of};
@@ -12,6 +12,7 @@ ghost use Rattle.worlds.specs.Seen.{is_within};
 
 use crate::differences::{Channel, Placed};
 use base::{Meter, ObjectId};
+use call_text::Asked;
 use kernel_rules::{Body, Call, Object};
 use label_lattice::Label;
 use label_rules::{is_shown, is_visible};
@@ -209,7 +210,23 @@ fn of_call(
     }
 }
 
-/// The exception for a call in both runs.
+/// The exception for what is asked in both runs by such a thread: none for a read.
+fn of_asked(
+    whole: &PlainState,
+    purged: &PlainState,
+    label: &Label,
+    asked: &Asked,
+    meter: &mut Meter,
+) -> Option<Channel>
+    ensures { result ≡ of_asked label.now (state_of whole.now) (state_of purged.now) asked.now }
+{
+    match asked {
+        Asked::Write(call) => of_call(whole, purged, label, call, meter),
+        Asked::Read(_) => None,
+    }
+}
+
+/// The exception for what is asked in both runs.
 pub fn when_met(
     whole: &PlainState,
     purged: &PlainState,
@@ -218,10 +235,10 @@ pub fn when_met(
     meter: &mut Meter,
 ) -> Option<Channel>
     ensures { result ≡ when_met label.now (state_of whole.now) (state_of purged.now)
-        placed.now.thread placed.now.call }
+        placed.now.thread placed.now.asked }
 {
     if is_within(whole, label, placed.thread, meter) {
-        of_call(whole, purged, label, &placed.call, meter)
+        of_asked(whole, purged, label, &placed.asked, meter)
     } else {
         Some(Channel::Owner)
     }

@@ -19,15 +19,15 @@ use std::alloc::Global;
 fn told_in(alloc: Global, dump: Dump, label: &Label) -> Result<Option<Vec<Difference>>, NoMemory>
     ensures test { IfOk result (λ told. is_some told ≡ begins dump) }
     ensures told { IfOk result (λ told. IfSome told (λ all. all.items
-        ≡ differences label.now (both_from (begun dump)) (placed dump.events))) }
+        ≡ differences label.now (both_from (begun dump)) (placed dump.events dump.reads))) }
     ensures exact { IfOk result (λ told. IfSome told (λ all. map replied_in all.items
-        ≡ differing label.now (begun dump) (begun dump) (placed dump.events))) }
+        ≡ differing label.now (begun dump) (begun dump) (placed dump.events dump.reads))) }
 {
     let Dump {
         limits,
         checkpoint,
         events,
-        reads: _,
+        reads,
         tables: _,
     } = dump;
     let Some(whole) = begin(alloc, &limits, &checkpoint)? else {
@@ -37,13 +37,13 @@ fn told_in(alloc: Global, dump: Dump, label: &Label) -> Result<Option<Vec<Differ
         return Ok(None);
     };
     let mut runs = both(whole, purged);
-    let calls = placed(alloc, events.as_slice())?;
+    let calls = placed(alloc, events.as_slice(), reads.as_slice())?;
     let told = differences(alloc, &mut runs, label, calls.as_slice())?;
     Ok(Some(told))
 }
 
-/// The replies of a clean dump that are others without the calls of hidden threads, in order. A call is hidden where an
-/// observer of this label observes its thread neither in the run nor in the run without hidden calls. Each has the exception
+/// The replies of a clean dump, to calls and to reads, that are others without the calls of hidden threads, in order. A call is
+/// hidden where an observer of this label observes its thread neither in the run nor in the run without hidden calls. Each has the exception
 /// of the law that nothing is told: the one that holds at its call, or else the first that was met. No exception is met before
 /// the first hidden call, and where none is met there is no such reply. The error is `NotClean` exactly where `audit` does not
 /// find the bytes clean, and else want of memory.

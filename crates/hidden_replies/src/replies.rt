@@ -1,11 +1,16 @@
 //! Whether two replies of write calls are the same.
-ghost use Rattle.std.specs.Prelude.{◌≡◌, true};
+ghost use Rattle.std.specs.Prelude.{◌≡◌, true, IfOk, []};
+ghost use Rattle.std.specs.Str.{bytes_eq};
+ghost use Rattle.call_text.specs.Reply.{reply_text};
+ghost use Rattle.hidden_replies.specs.Asked.{same_by};
 ghost use Rattle.hidden_replies.specs.Replies.{is_category, is_object, is_entered, is_bytes};
 ghost use Rattle.hidden_replies.specs.Replies.{is_refused, is_done, same_reply};
 ghost use Rattle.kernel_rules.specs.declared.replies.Reply.{Reply as Told};
 
-use base::{Data, ObjectId};
+use base::{Data, NoMemory, ObjectId};
+use call_text::{Asked, NameList, put_reply};
 use kernel_rules::Reply;
+use std::alloc::Global;
 
 fn is_done(reply: &Reply) -> bool
     ensures { result ≡ is_done reply.now }
@@ -76,6 +81,34 @@ pub fn same_reply(one: &Reply, other: &Reply) -> bool
         Reply::Bytes(bytes) => is_bytes(bytes, other),
         Reply::Refused(refusal) => is_refused(refusal.number(), other),
         _ => false,
+    }
+}
+
+/// A reply as dumps spell it, each object and category by its number.
+fn spelled(alloc: Global, reply: &Reply) -> Result<Vec<u8>, NoMemory>
+    ensures { IfOk result (λ text. text.items ≡ reply_text [] reply.now) }
+{
+    let mut text = Vec::new(alloc);
+    put_reply(&mut text, reply, &NameList { named: &[] })?;
+    Ok(text)
+}
+
+/// Whether the replies of two reads are spelled the same.
+fn same_answer(alloc: Global, one: &Reply, other: &Reply) -> Result<bool, NoMemory>
+    ensures { IfOk result (λ same. same ≡ bytes_eq (reply_text [] one.now) (reply_text [] other.now)) }
+{
+    let one = spelled(alloc, one)?;
+    let other = spelled(alloc, other)?;
+    Ok(one.as_slice() == other.as_slice())
+}
+
+/// Whether two replies to what is asked are the same.
+pub fn same_by(alloc: Global, asked: &Asked, one: &Reply, other: &Reply) -> Result<bool, NoMemory>
+    ensures { IfOk result (λ same. same ≡ same_by asked.now one.now other.now) }
+{
+    match asked {
+        Asked::Write(_) => Ok(same_reply(one, other)),
+        Asked::Read(_) => same_answer(alloc, one, other),
     }
 }
 

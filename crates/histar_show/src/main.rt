@@ -1,4 +1,4 @@
-//! `histar-show why DUMP LINE`: why a call of a dump is answered as it is. `histar-show tree DUMP`: the objects that it leads
+//! `histar-show why DUMP LINE`: why a call or a read of a dump is answered as it is. `histar-show tree DUMP`: the objects that it leads
 //! to; `dot` the same as a graph. `histar-show json DUMP`: the dump as JSON. `histar-show page DUMP --out FILE`: the dump as a page.
 //! Without words it looks at the dump on its standard input, for the first false line.
 #![tactic(auto)]
@@ -68,7 +68,7 @@ fn main(rt: HostRuntime) -> ExitCode {
     };
     if words.len() <= 1 {
         let mut dump = rt.reader();
-        return ExitCode::from(why_on(alloc, &mut dump, None, &mut out, &mut err));
+        return ExitCode::from(why_on(alloc, &mut dump, None, false, &mut out, &mut err));
     }
     let ShowArgs {
         dump,
@@ -83,7 +83,9 @@ fn main(rt: HostRuntime) -> ExitCode {
         Err(status) => return ExitCode::from(status),
     };
     let status = match view {
-        View::Why(line) => why_on(alloc, &mut dump, line, &mut out, &mut err),
+        View::Why { line, is_whole } => why_on(
+            alloc, &mut dump, line, is_whole, &mut out, &mut err,
+        ),
         View::Tree { after, colours } => {
             let is_coloured = is_coloured(&rt, colours);
             tree_on(alloc, &mut dump, after, is_coloured, &mut out, &mut err)

@@ -3,6 +3,7 @@ mod arena;
 mod compared;
 mod plain;
 mod rows;
+mod storm;
 
 use arena::{Replies, asked_again};
 use base::{Limits, NoMemory};
@@ -12,6 +13,7 @@ use plain::{Played, play};
 use program_io::{Fault, bytes_of};
 use std::alloc::Global;
 use std::io::{Read, Write};
+use storm::parted;
 use test_structures::samples::are_equal;
 
 /// What is told of a script.
@@ -25,6 +27,8 @@ enum Told {
     OtherTables,
     /// The arena kernel keeps other rows of translation than its tables show.
     OtherRows,
+    /// They keep something else after a line, by its number.
+    Parted(u32),
 }
 
 fn script_of<I: Read>(alloc: Global, input: &mut I) -> Result<Script, Fault> {
@@ -49,12 +53,29 @@ fn told_of(alloc: Global, played: &Played, replies: &Replies) -> Result<Told, No
     }
 }
 
+/// What is told of two new kernels that make the calls beside each other, and are compared after so many lines each.
+fn told_every(
+    alloc: Global,
+    played: &Played,
+    limits: &Limits,
+    every: Option<u64>,
+) -> Result<Told, NoMemory> {
+    let Some(every) = every else {
+        return Ok(Told::Same);
+    };
+    match parted(alloc, limits, played.steps.as_slice(), every)? {
+        None => Ok(Told::Same),
+        Some(number) => Ok(Told::Parted(number)),
+    }
+}
+
 /// Plays a script on both machines, and prints what the arena kernel answers.
 fn compare<I: Read>(
     rt: &HostRuntime,
     alloc: Global,
     input: &mut I,
     limits: &Limits,
+    every: Option<u64>,
 ) -> Result<Told, Fault> {
     let script = script_of(alloc, input)?;
     let played = play(alloc, &script, limits)?;
@@ -63,7 +84,10 @@ fn compare<I: Read>(
     if rt.stdout().write_all(text.as_slice()).is_err() {
         return Err(Fault::Output);
     }
-    let told = told_of(alloc, &played, &replies)?;
+    let told = match told_of(alloc, &played, &replies)? {
+        Told::Same => told_every(alloc, &played, limits, every)?,
+        told => told,
+    };
     Ok(told)
 }
 
@@ -74,6 +98,7 @@ fn say(rt: &HostRuntime, told: Told) -> Result<(), Fault> {
         Told::Differs(line) => println!(rt; "line {line} differs"),
         Told::OtherTables => println!(rt; "the tables differ"),
         Told::OtherRows => println!(rt; "the kept rows differ"),
+        Told::Parted(line) => println!(rt; "after line {line} they keep something else"),
     };
     match said {
         Ok(()) => Ok(()),
@@ -82,9 +107,9 @@ fn say(rt: &HostRuntime, told: Told) -> Result<(), Fault> {
 }
 
 /// Plays what an input gives on both machines, and answers the status: 0 where they are the same, 1 where they aren't, and
-/// that of a fault.
-pub fn ended<I: Read>(rt: &HostRuntime, input: &mut I, limits: &Limits) -> u8 {
-    let told = match compare(rt, rt.alloc(), input, limits) {
+/// that of a fault. What they keep is compared at the end, and after so many lines each where that is asked for.
+pub fn ended<I: Read>(rt: &HostRuntime, input: &mut I, limits: &Limits, every: Option<u64>) -> u8 {
+    let told = match compare(rt, rt.alloc(), input, limits, every) {
         Ok(told) => told,
         Err(fault) => return fault.tell(crate::NAME, &mut rt.stderr()),
     };

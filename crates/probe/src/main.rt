@@ -3,8 +3,9 @@
 //! facts hold, or the first that does not. `probe SCENE again` makes calls again for which there was no memory, so that it ends alike
 //! whichever request is refused.
 //!
-//! `probe run SCRIPT [LIMITS]` plays a script on both machines, `script`, `dump` and `migrate FILE` read a text and write it again, and
-//! `replies` prints a reply of each kind. Without words it plays its standard input on both machines.
+//! `probe run SCRIPT [LIMITS]` plays a script on both machines; `probe every N run SCRIPT [LIMITS]` also compares what they keep
+//! after each N lines. `script`, `dump` and `migrate FILE` read a text and write it again, and `replies` prints a reply of each
+//! kind. Without words it plays its standard input on both machines.
 #![tactic(auto)]
 
 mod both;
@@ -27,6 +28,7 @@ use std::io;
 use std::io::Write;
 use std::process::ExitCode;
 use test_structures::look::Look;
+use text_words::read_number;
 use texts::{Again, Kind, written_again};
 
 /// The program's name.
@@ -56,8 +58,8 @@ fn print_replies<S: Sink, E: Write>(alloc: Global, out: &mut S, err: &mut E) -> 
     printed(text, out, err)
 }
 
-/// Plays a script on both machines, and answers the status.
-fn run_both(rt: &HostRuntime, words: &[String]) -> u8 {
+/// Plays a script on both machines, which are compared after so many lines each where that is asked for, and answers the status.
+fn run_both(rt: &HostRuntime, words: &[String], every: Option<u64>) -> u8 {
     let alloc = rt.alloc();
     let mut out = Counted::new(io::writer(rt));
     let mut err = rt.stderr();
@@ -70,7 +72,7 @@ fn run_both(rt: &HostRuntime, words: &[String]) -> u8 {
         Ok(script) => script,
         Err(status) => return status,
     };
-    both::ended(rt, &mut script, &args.options.limits)
+    both::ended(rt, &mut script, &args.options.limits, every)
 }
 
 /// Reads a text of this kind from a file and prints it written again, and answers the status.
@@ -144,14 +146,17 @@ fn word_at(words: &[String], place: usize) -> &str {
 
 /// Whether the words name a scene.
 fn is_scene(word: &str) -> bool {
-    word != "" && word != "run" && word != "replies" && kind_of(word).is_none()
+    word != "" && word != "run" && word != "every" && word != "replies" && kind_of(word).is_none()
 }
 
 /// Acts on words that name no scene, and answers the status.
 fn act(rt: &HostRuntime, words: &[String]) -> u8 {
     let word = word_at(words, 1);
     if word == "run" {
-        return run_both(rt, words);
+        return run_both(rt, words, None);
+    }
+    if word == "every" {
+        return run_every(rt, words);
     }
     match kind_of(word) {
         Some(kind) => write_again(rt, kind, word_at(words, 2)),
@@ -162,8 +167,17 @@ fn act(rt: &HostRuntime, words: &[String]) -> u8 {
                 &mut rt.stderr(),
             )
         }
-        None => both::ended(rt, &mut rt.reader(), &DEFAULTS.limits),
+        None => both::ended(rt, &mut rt.reader(), &DEFAULTS.limits, None),
     }
+}
+
+/// Plays a script on both machines, which are compared after so many lines each as the word before `run` says.
+fn run_every(rt: &HostRuntime, words: &[String]) -> u8 {
+    let Some(every) = read_number(word_at(words, 2).as_bytes(), u64::MAX) else {
+        return tell(rt, "every", "no number of lines is told");
+    };
+    let (_, rest) = words.split_at(words.len().min(2));
+    run_both(rt, rest, Some(every))
 }
 
 /// The words, asked for again where there was no memory.

@@ -19,8 +19,13 @@ pub enum Colours {
 /// What is shown of a dump.
 #[derive(Clone, Copy, Debug, PartialEq, Eq)]
 pub enum View {
-    /// Why the calls of a line are answered as they are, lines counting from 1; of the first false line where none is named.
-    Why(Option<u64>),
+    /// Why what a line tells is answered as it is.
+    Why {
+        /// The line, from 1; the first false one where none is named.
+        line: Option<u64>,
+        /// Whether all conditions are told, or the reasons of a refusal alone.
+        is_whole: bool,
+    },
     /// The objects as a tree.
     Tree {
         /// After how many events, after all where no count is told.
@@ -59,12 +64,12 @@ fn dump<'a>(alloc: Global) -> Arg<'a> {
         .help("The dump to look at")
 }
 
-/// The line of a call.
+/// The line that is asked about.
 fn line<'a>(alloc: Global) -> Arg<'a> {
     Arg::new(alloc, "LINE")
         .action(ArgAction::Set)
         .help(
-            "The line of a call, an event or a batch, from 1; the first false line where none is named",
+            "The line of a call, a read, an event or a batch, from 1; the first false line where none is named",
         )
         .value_parser(value_parser!(u64).range(1..9223372036854775807))
 }
@@ -120,20 +125,28 @@ fn number_beside<'a>(
 fn with_flows<'a>(
     alloc: Global,
     command: Command<'a>,
-    from: &'a str,
     help: &'a str,
 ) -> Result<Command<'a>, AllocError> {
-    let object = number_beside(alloc, from, "ID", "category")?.help(help);
-    let category = number_beside(alloc, "category", "N", from)?.help(OUTSIDE);
+    let object = number_beside(alloc, "from", "ID", "category")?.help(help);
+    let category = number_beside(alloc, "category", "N", "from")?.help(OUTSIDE);
     command.arg(object)?.arg(category)
+}
+
+/// Whether all conditions are told.
+fn all<'a>(alloc: Global) -> Arg<'a> {
+    Arg::new(alloc, "all")
+        .long("all")
+        .action(ArgAction::SetTrue)
+        .help("Tell each condition, also those that refuse nothing")
 }
 
 /// The words of `why`.
 fn why<'a>(alloc: Global) -> Result<Command<'a>, AllocError> {
     Command::new(alloc, "why")
-        .about("Tells why a call of a dump is refused or accepted, condition by condition")
+        .about("Tells why a call or a read of a dump is refused")
         .arg(dump(alloc))?
-        .arg(line(alloc))
+        .arg(line(alloc))?
+        .arg(all(alloc))
 }
 
 /// The words of `tree`.
@@ -160,7 +173,6 @@ fn dot<'a>(alloc: Global) -> Result<Command<'a>, AllocError> {
     with_flows(
         alloc,
         dot,
-        "flows",
         "Of a clean dump, show in red which objects flows from this one reach",
     )
 }
@@ -174,14 +186,13 @@ fn page<'a>(alloc: Global) -> Result<Command<'a>, AllocError> {
     with_flows(
         alloc,
         page,
-        "from",
         "Of a clean dump, mark which objects flows from this one reach",
     )
 }
 
-/// The flows that are asked for, from an object that this word tells.
-fn flow_of(words: &ArgMatches<'_>, from: &str) -> Option<(ObjectId, Category)> {
-    let id = words.get_one::<u64>(from)?;
+/// The flows that are asked for.
+fn flow_of(words: &ArgMatches<'_>) -> Option<(ObjectId, Category)> {
+    let id = words.get_one::<u64>("from")?;
     let category = words.get_one::<u64>("category")?;
     Some((ObjectId::new(id), Category(category)))
 }
@@ -233,9 +244,12 @@ fn view_of(name: &str, words: &ArgMatches<'_>) -> View {
             colours: colours_of(words),
         },
         "json" => View::Json,
-        "dot" => View::Dot(flow_of(words, "flows")),
-        "page" => View::Page(flow_of(words, "from")),
-        _ => View::Why(words.get_one::<u64>("LINE")),
+        "dot" => View::Dot(flow_of(words)),
+        "page" => View::Page(flow_of(words)),
+        _ => View::Why {
+            line: words.get_one::<u64>("LINE"),
+            is_whole: words.get_flag("all"),
+        },
     }
 }
 
@@ -246,7 +260,10 @@ pub fn read_show_words<'a, S: AsStr>(alloc: Global, words: &'a [S]) -> Result<Sh
     let Some((name, args)) = matches.subcommand() else {
         return Ok(ShowArgs {
             dump: "",
-            view: View::Why(None),
+            view: View::Why {
+                line: None,
+                is_whole: false,
+            },
             out: None,
         });
     };

@@ -1,7 +1,8 @@
 -- How many lines tell an event, and what the lines of events tell.
-use Rattle.std.proofs.Common.{◌≡◌, ℕ, ◌+◌, ◌-◌, ◌/◌, ◌<◌, ◌≤◌, List, [], ◌∷◌, length, map, drop, slice_index_or, nat_lt, Option, Some, None, if◌then◌else◌, arith, refl, ap, sym, ◌∙◌, suc, zero}
+use Rattle.std.proofs.Common.{◌≡◌, ℕ, ◌+◌, ◌-◌, ◌/◌, ◌<◌, ◌≤◌, List, [], ◌∷◌, length, map, drop, slice_get, slice_index_or, nat_lt, Option, Some, None, if◌then◌else◌, arith, refl, ap, sym, ◌∙◌, suc, zero}
 use Rattle.std.proofs.lemmas.Bool.{lt-ltb, le-ltb}
 use Rattle.std.proofs.lemmas.List.{length-map}
+use Rattle.std.specs.Option.{option_map}
 use Rattle.dump_text.specs.CheckpointLines.{rows, rows_of, row_line}
 use Rattle.histories.specs.Events.{Event}
 use Rattle.histories.specs.declared.events.Answered.{Answered}
@@ -11,7 +12,8 @@ use Rattle.show_states.proofs.CallLaws.{drop_item}
 use Rattle.dump_text.specs.Reads.{reads_at, reads_past}
 use Rattle.dump_text.specs.declared.tables.PlacedRead.{PlacedRead}
 use Rattle.show_text.specs.Places.{place_in, after_reads, place_from}
-use Rattle.show_text.specs.declared.places.Place.{Place}
+use Rattle.show_text.specs.declared.places.Content.{Content}
+use Rattle.show_text.specs.declared.places.Content.TheVariants.{Calls, Asked}
 
 -- one call has a line
 pub one_line : (thread number : ℕ) (calls : List Answered) → length calls ≡ 1 → length (lines_with thread number calls) ≡ 1
@@ -31,37 +33,39 @@ next_event : (i left : ℕ) (x : Event) (xs : List Event) (rs : List PlacedRead)
     → place_from i (drop i xs) rs left ≡ place_from i (x ∷ drop (i + 1) xs) rs left
 next_event i left x xs rs within is = ap (λ (l : List Event). place_from i l rs left) (drop_item xs i x within is)
 
+-- what the line tells that stands after so many of the event's lines
+from_event : ℕ → Event → List Event → List PlacedRead → ℕ → Option Content
+from_event i x xs rs j =
+    if nat_lt j (length (event_lines x)) then Some (Calls (place_in i x j))
+    else place_from (i + 1) xs (reads_past i rs) (j - length (event_lines x))
+
 -- it is one of the reads before the event
-pub asked : (i left count : ℕ) (xs : List Event) (rs : List PlacedRead) → count ≡ length (reads_at i rs) → left < count
-    → None ≡ place_from i xs rs left
-asked i left count [] rs told below = refl
-asked i left count (x ∷ xs) rs told below =
-    let less : left < length (reads_at i rs) = omega arith in
-    sym (rw (lt-ltb left (length (reads_at i rs)) less) refl)
+pub asked : (i left : ℕ) (x : Event) (xs : List Event) (rs : List PlacedRead) → i < length xs → x ≡ slice_index_or xs i x
+    → left < length (reads_at i rs)
+    → option_map Asked (slice_get (reads_at i rs) left) ≡ place_from i (drop i xs) rs left
+unfolding from_event
+asked i left x xs rs within is below =
+    sym (next_event i left x xs rs within is
+    ∙ ap (λ b. if b then option_map Asked (slice_get (reads_at i rs) left) else from_event i x (drop (i + 1) xs) rs (left - length (reads_at i rs)))
+    (lt-ltb left (length (reads_at i rs)) below))
 
 -- after the reads
-past_reads : (count left : ℕ) (later : ℕ → Option Place) (told : ℕ) → told ≡ count → told ≤ left
-    → after_reads count later left ≡ later (left - told)
-past_reads count left later told is le =
-    let more : count ≤ left = omega arith in
-    rw (le-ltb left count more) (ap (λ n. later (left - n)) (sym is))
-
--- what the line tells that stands after so many of the event's lines
-from_event : ℕ → Event → List Event → List PlacedRead → ℕ → Option Place
-from_event i x xs rs j =
-    if nat_lt j (length (event_lines x)) then Some (place_in i x j)
-    else place_from (i + 1) xs (reads_past i rs) (j - length (event_lines x))
+past_reads : (reads : List PlacedRead) (left : ℕ) (later : ℕ → Option Content) (told : ℕ) → told ≡ length reads → told ≤ left
+    → after_reads reads later left ≡ later (left - told)
+past_reads reads left later told is le =
+    let more : length reads ≤ left = omega arith in
+    rw (le-ltb left (length reads) more) (ap (λ n. later (left - n)) (sym is))
 
 -- it is one of the event's lines
 pub here : (i left reads count : ℕ) (x : Event) (xs : List Event) (rs : List PlacedRead) → i < length xs → x ≡ slice_index_or xs i x
     → reads ≡ length (reads_at i rs) → reads ≤ left → count ≡ length (event_lines x) → left - reads < count
-    → Some (place_in i x (left - reads)) ≡ place_from i (drop i xs) rs left
+    → Some (Calls (place_in i x (left - reads))) ≡ place_from i (drop i xs) rs left
 unfolding from_event
 here i left reads count x xs rs within is told above counted below =
     let less : left - reads < length (event_lines x) = omega arith in
     sym (next_event i left x xs rs within is
-    ∙ past_reads (length (reads_at i rs)) left (from_event i x (drop (i + 1) xs) rs) reads told above
-    ∙ ap (λ b. if b then Some (place_in i x (left - reads)) else place_from (i + 1) (drop (i + 1) xs) (reads_past i rs) (left - reads - length (event_lines x)))
+    ∙ past_reads (reads_at i rs) left (from_event i x (drop (i + 1) xs) rs) reads told above
+    ∙ ap (λ b. if b then Some (Calls (place_in i x (left - reads))) else place_from (i + 1) (drop (i + 1) xs) (reads_past i rs) (left - reads - length (event_lines x)))
     (lt-ltb (left - reads) (length (event_lines x)) less))
 
 -- it is none of them
@@ -72,8 +76,8 @@ unfolding from_event
 further i left reads count x xs rs within is told above counted over =
     let more : length (event_lines x) ≤ left - reads = omega arith in
     next_event i left x xs rs within is
-    ∙ past_reads (length (reads_at i rs)) left (from_event i x (drop (i + 1) xs) rs) reads told above
-    ∙ ap (λ b. if b then Some (place_in i x (left - reads)) else place_from (i + 1) (drop (i + 1) xs) (reads_past i rs) (left - reads - length (event_lines x)))
+    ∙ past_reads (reads_at i rs) left (from_event i x (drop (i + 1) xs) rs) reads told above
+    ∙ ap (λ b. if b then Some (Calls (place_in i x (left - reads))) else place_from (i + 1) (drop (i + 1) xs) (reads_past i rs) (left - reads - length (event_lines x)))
     (le-ltb (left - reads) (length (event_lines x)) more)
     ∙ (ap (λ n. place_from (i + 1) (drop (i + 1) xs) (reads_past i rs) (left - reads - n)) (sym counted))
 

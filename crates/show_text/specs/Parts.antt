@@ -1,5 +1,4 @@
--- Conditions in words: whether each refuses the call, and of each part what is to be so, whether it is, and where a
--- comparison of labels fails.
+-- Conditions in words: whether each refuses the call, and of each part what is so, and where a comparison of labels fails.
 use Rattle.std.specs.Prelude.{ℕ, Bool, ◌-◌, ◌==◌, List, [], ◌∷◌, ◌++◌, Option, Some, None, codes, decimal, if◌then◌else◌}
 use Rattle.std.specs.List.{flat_map}
 use Rattle.base.specs.declared.refusals.Refusal.{Refusal}
@@ -18,7 +17,7 @@ use Rattle.explained.specs.declared.parts.Comparison.TheVariants as compared
 use Rattle.explained.specs.declared.parts.Finding.{Finding}
 use Rattle.explained.specs.declared.parts.Part.{Part}
 use Rattle.explained.specs.declared.parts.Part.TheVariants as is
-use Rattle.show_text.specs.Facts.{fact_text}
+use Rattle.show_text.specs.Facts.{told_text}
 
 -- a label, where it is there
 abbrev pub label_text : Option LabelValue → List ℕ
@@ -38,46 +37,70 @@ rank_text L2 = codes "2"
 rank_text L3 = codes "3"
 rank_text J = codes "J"
 
--- what is to be so of labels
-abbrev pub comparison_text : Comparison → List ℕ
-comparison_text (compared.Below a b) = label_text a ++ codes " is at most " ++ label_text b
-comparison_text (compared.Visible a b) =
-    label_text a ++ codes " is at most " ++ label_text b ++ codes " with star raised"
-comparison_text (compared.Shown a b) =
-    label_text a ++ codes " with star raised is at most " ++ label_text b ++ codes " with star raised"
-comparison_text (compared.BelowJoin a b c) =
-    label_text a ++ codes " is at most the maximum of " ++ label_text b ++ codes " and " ++ label_text c
-comparison_text (compared.BelowJoinUp a b c) =
-    label_text a ++ codes " is at most the maximum of " ++ label_text b ++ codes " and " ++ label_text c
+-- is, or is not
+abbrev pub is_text : Bool → List ℕ
+is_text against = if against then codes " is not " else codes " is "
+
+-- the same of a label whose star is raised
+abbrev pub raised_text : Bool → List ℕ
+raised_text against = if against then codes " with star raised is not " else codes " with star raised is "
+
+-- what is to be so of labels, or that it is not
+abbrev pub comparison_text : Bool → Comparison → List ℕ
+comparison_text against (compared.Below a b) =
+    label_text a ++ is_text against ++ codes "at most " ++ label_text b
+comparison_text against (compared.Visible a b) =
+    label_text a ++ is_text against ++ codes "at most " ++ label_text b ++ codes " with star raised"
+comparison_text against (compared.Shown a b) =
+    label_text a ++ raised_text against ++ codes "at most " ++ label_text b ++ codes " with star raised"
+comparison_text against (compared.BelowJoin a b c) =
+    label_text a ++ is_text against ++ codes "at most the maximum of " ++ label_text b ++ codes " and " ++ label_text c
+comparison_text against (compared.BelowJoinUp a b c) =
+    label_text a ++ is_text against ++ codes "at most the maximum of " ++ label_text b ++ codes " and " ++ label_text c
     ++ codes " with star raised"
-comparison_text (compared.AboveFloor a b c) =
-    label_text c ++ codes " is at least the floor of " ++ label_text a ++ codes " and " ++ label_text b
+comparison_text against (compared.AboveFloor a b c) =
+    label_text c ++ is_text against ++ codes "at least the floor of " ++ label_text a ++ codes " and " ++ label_text b
+
+-- how a number stands to the least or the most that it may be
+abbrev pub least_text : Bool → List ℕ
+least_text against = if against then codes " is less than " else codes " is at least "
+
+abbrev pub most_text : Bool → List ℕ
+most_text against = if against then codes " is more than " else codes " is at most "
 
 -- how many pages are to come, and how many there may be
-abbrev pub more_text : ℕ → ℕ → List ℕ
-more_text more most = decimal more ++ codes " more are at most " ++ decimal most
+abbrev pub more_text : Bool → ℕ → ℕ → List ℕ
+more_text against more most =
+    decimal more ++ (if against then codes " more are above " else codes " more are at most ") ++ decimal most
 
--- what is to be so
-abbrev pub wanted_text : Part → List ℕ
-wanted_text (is.Fact fact against) = fact_text fact
-wanted_text (is.Compared labels) = comparison_text labels
-wanted_text (is.AtLeast number least) = decimal number ++ codes " is at least " ++ decimal least
-wanted_text (is.AtMost number most) = decimal number ++ codes " is at most " ++ decimal most
-wanted_text (is.Sum used more most) =
-    decimal used ++ codes " pages used and " ++ more_text more most
-wanted_text (is.Empty slot mapping) =
-    codes "slot " ++ decimal slot ++ codes " is empty: it has " ++ mapping_text mapping
-wanted_text (is.Apart slot given mapping) =
-    mapping_text (Some given) ++ codes " meets no page of slot " ++ decimal slot ++ codes ": it has "
-    ++ mapping_text mapping
+-- whether a slot is empty, and whether a mapping meets a page of it
+abbrev pub empty_text : Bool → List ℕ
+empty_text against = if against then codes " is not empty: it has " else codes " is empty: it has "
+
+abbrev pub apart_text : Bool → List ℕ
+apart_text against = if against then codes " meets a page of slot " else codes " meets no page of slot "
+
+-- what is to be so, or that it is not
+abbrev pub said_text : Bool → Part → List ℕ
+said_text no (is.Fact fact against) = told_text no fact
+said_text no (is.Compared labels) = comparison_text no labels
+said_text no (is.AtLeast number least) = decimal number ++ least_text no ++ decimal least
+said_text no (is.AtMost number most) = decimal number ++ most_text no ++ decimal most
+said_text no (is.Sum used more most) =
+    decimal used ++ codes " pages used and " ++ more_text no more most
+said_text no (is.Empty slot mapping) =
+    codes "slot " ++ decimal slot ++ empty_text no ++ mapping_text mapping
+said_text no (is.Apart slot given mapping) =
+    mapping_text (Some given) ++ apart_text no ++ decimal slot ++ codes ": it has " ++ mapping_text mapping
 
 -- the level that is too high, and the one that it is to be at most
 abbrev pub ranks_text : Ranks → List ℕ
-ranks_text ranks = rank_text ranks.left ++ codes " above " ++ rank_text ranks.right ++ 10 ∷ []
+ranks_text ranks = rank_text ranks.left ++ codes " is above " ++ rank_text ranks.right ++ 10 ∷ []
 
 -- a category at which a comparison fails
 abbrev pub failure_text : Failure → List ℕ
-failure_text failure = codes "          #" ++ decimal failure.category.0 ++ codes ": " ++ ranks_text failure.ranks
+failure_text failure =
+    codes "          in category #" ++ decimal failure.category.0 ++ codes ": " ++ ranks_text failure.ranks
 
 -- those of the exceptions
 abbrev pub named_text : Option (List Failure) → List ℕ
@@ -87,7 +110,7 @@ named_text (Some failures) = flat_map failure_text failures
 -- and all others, where it fails there
 abbrev pub rest_text : Option Ranks → List ℕ
 rest_text None = []
-rest_text (Some ranks) = codes "          all others: " ++ ranks_text ranks
+rest_text (Some ranks) = codes "          in all other categories: " ++ ranks_text ranks
 
 -- where a part's comparison fails
 abbrev pub failing_text : Part → List ℕ
@@ -101,19 +124,37 @@ failing_text (is.Apart slot given mapping) = []
 
 -- whether a part stands against the call
 abbrev pub part_mark : Bool → List ℕ
-part_mark against = if against then codes "    not " else codes "    ok  "
+part_mark against = if against then codes "    bad " else codes "    ok  "
 
 -- whether a condition refuses the call
 abbrev pub finding_mark : Bool → List ℕ
 finding_mark holds = if holds then codes "yes " else codes "no  "
 
--- a part: ok where it is so, and not where it stands against the call
+-- what is so of a part, and where its comparison fails
+abbrev pub shown_text : Part → List ℕ
+shown_text part = said_text (is_against part) part ++ 10 ∷ failing_text part
+
+-- a part: ok where it is as it is to be, and bad where it stands against the call
 abbrev pub part_text : Part → List ℕ
-part_text part =
-    part_mark (is_against part) ++ wanted_text part ++ 10 ∷ failing_text part
+part_text part = part_mark (is_against part) ++ shown_text part
 
 -- a condition: yes where it refuses the call
 abbrev pub finding_text : Finding → List ℕ
 finding_text finding =
     finding_mark (refuses finding.parts) ++ reply_text [] (replies.Refused finding.refusal)
     ++ 10 ∷ flat_map part_text finding.parts
+
+-- a part that stands against the call, after the refusal that it is the reason of
+abbrev pub reason_text : Refusal → Part → List ℕ
+reason_text refusal part =
+    if is_against part
+    then reply_text [] (replies.Refused refusal) ++ codes ": " ++ shown_text part
+    else []
+
+-- the reasons of a condition
+abbrev pub reasons_text : Finding → List ℕ
+reasons_text finding = flat_map (reason_text finding.refusal) finding.parts
+
+-- a condition, or its reasons alone
+abbrev pub condition_text : Bool → Finding → List ℕ
+condition_text whole finding = if whole then finding_text finding else reasons_text finding

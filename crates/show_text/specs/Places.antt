@@ -1,11 +1,14 @@
--- Which calls a line of a dump tells.
-use Rattle.std.specs.Prelude.{ℕ, Bool, true, false, ◌+◌, ◌-◌, ◌==◌, nat_lt, List, [], ◌∷◌, length, Option, Some, None, if◌then◌else◌}
+-- Which calls, or which read, a line of a dump tells.
+use Rattle.std.specs.Prelude.{ℕ, Bool, true, false, ◌+◌, ◌-◌, ◌==◌, nat_lt, List, [], ◌∷◌, length, slice_get, Option, Some, None, if◌then◌else◌}
+use Rattle.std.specs.Option.{option_map}
 use Rattle.histories.specs.Events.{Event}
 use Rattle.checkpoints.specs.Checkpoint.{Checkpoint}
 use Rattle.dump_text.specs.CheckpointLines.{start_lines}
 use Rattle.dump_text.specs.Dump.{event_lines}
 use Rattle.dump_text.specs.Reads.{reads_at, reads_past}
 use Rattle.dump_text.specs.declared.tables.PlacedRead.{PlacedRead}
+use Rattle.show_text.specs.declared.places.Content.{Content}
+use Rattle.show_text.specs.declared.places.Content.TheVariants.{Calls, Asked}
 use Rattle.show_text.specs.declared.places.Place.{Place}
 
 -- so many calls of event e from its call c on, and whether the line is that of a batch, which stands above them
@@ -23,16 +26,17 @@ place_of e count i =
 abbrev pub place_in : ℕ → Event → ℕ → Place
 place_in e x i = place_of e (length x.calls) i
 
--- the same after so many lines of reads, which tell no calls
-abbrev pub after_reads : ℕ → (ℕ → Option Place) → ℕ → Option Place
-after_reads count later i = if nat_lt i count then None else later (i - count)
+-- one of these reads, or what the lines after theirs tell
+abbrev pub after_reads : List PlacedRead → (ℕ → Option Content) → ℕ → Option Content
+after_reads asked later i =
+    if nat_lt i (length asked) then option_map Asked (slice_get asked i) else later (i - length asked)
 
--- the same of the lines of events and of the reads among them, the first of which is event e
-abbrev pub place_from : ℕ → List Event → List PlacedRead → ℕ → Option Place
-place_from e [] reads i = None
+-- what the lines of events and of the reads among them tell, the first of which is event e
+abbrev pub place_from : ℕ → List Event → List PlacedRead → ℕ → Option Content
+place_from e [] reads i = option_map Asked (slice_get (reads_at e reads) i)
 place_from e (x ∷ xs) reads i =
-    after_reads (length (reads_at e reads))
-    (λ j. if nat_lt j (length (event_lines x)) then Some (place_in e x j)
+    after_reads (reads_at e reads)
+    (λ j. if nat_lt j (length (event_lines x)) then Some (Calls (place_in e x j))
     else place_from (e + 1) xs (reads_past e reads) (j - length (event_lines x))) i
 
 -- so many lines stand before those of the events: the format's, the limits', and those of the checkpoint
@@ -40,7 +44,7 @@ abbrev pub lines_before : Option Checkpoint → ℕ
 lines_before checkpoint = 2 + length (start_lines checkpoint)
 
 -- what line n tells
-abbrev pub place_at : Option Checkpoint → List Event → List PlacedRead → ℕ → Option Place
+abbrev pub place_at : Option Checkpoint → List Event → List PlacedRead → ℕ → Option Content
 place_at checkpoint events reads n =
     if nat_lt (lines_before checkpoint) n then place_from 0 events reads (n - (lines_before checkpoint + 1))
     else None

@@ -12,39 +12,39 @@ use Rattle.show_text.specs.Explained.{IsWhy, line_explained, Explains}
 use Rattle.show_states.specs.declared.faults.ShowFault.{ShowFault}
 use Rattle.show_states.specs.declared.faults.ShowFault.TheVariants as faults
 
--- line n tells no call, or is that of a checkpoint that can't be restored
-abbrev pub TellsNone : List ℕ → ℕ → Type 0
-TellsNone text n =
-    (d : DumpLists) × IsDump text d × ((begins d ≡ false) ⊎ (line_explained text d n ≡ None))
+-- line n tells no call and no read, or is that of a checkpoint that can't be restored
+abbrev pub TellsNone : Bool → List ℕ → ℕ → Type 0
+TellsNone whole text n =
+    (d : DumpLists) × IsDump text d × ((begins d ≡ false) ⊎ (line_explained whole text d n ≡ None))
 
--- why the calls of line n are answered as they are, and nothing where it tells none
-abbrev pub WhyOrNone : List ℕ → ℕ → List ℕ → Type 0
-WhyOrNone text n more = Explains text n more ⊎ ((more ≡ []) × TellsNone text n)
+-- why what line n tells is answered as it is, and nothing where it tells none
+abbrev pub WhyOrNone : Bool → List ℕ → ℕ → List ℕ → Type 0
+WhyOrNone whole text n more = Explains whole text n more ⊎ ((more ≡ []) × TellsNone whole text n)
 
-abbrev pub IsWhyOrNone : List ℕ → ℕ → Result (Vec ℕ) ShowFault → Type 0
-IsWhyOrNone text n (Ok told) = WhyOrNone text n told.items
-IsWhyOrNone text n (Err (faults.Unreadable m)) = DumpFaultsAt text m
-IsWhyOrNone text n (Err faults.Memory) = Unit {0}
-IsWhyOrNone text n (Err faults.IllFormed) = ⊥
-IsWhyOrNone text n (Err faults.NoCall) = ⊥
+abbrev pub IsWhyOrNone : Bool → List ℕ → ℕ → Result (Vec ℕ) ShowFault → Type 0
+IsWhyOrNone whole text n (Ok told) = WhyOrNone whole text n told.items
+IsWhyOrNone whole text n (Err (faults.Unreadable m)) = DumpFaultsAt text m
+IsWhyOrNone whole text n (Err faults.Memory) = Unit {0}
+IsWhyOrNone whole text n (Err faults.IllFormed) = ⊥
+IsWhyOrNone whole text n (Err faults.NoCall) = ⊥
 
--- the verdict's line, and why the calls of the first false line are answered as they are, where it tells calls
-abbrev pub TellsVerdict : List ℕ → Verdict → List ℕ → Type 0
-TellsVerdict text is.Clean told = told ≡ verdict_line is.Clean
-TellsVerdict text (is.False n) told =
-    (more : List ℕ) × (told ≡ verdict_line (is.False n) ++ more) × WhyOrNone text n more
-TellsVerdict text (is.Unreadable n) told = ⊥
+-- the verdict's line, and why what the first false line tells is answered as it is, where it tells a call or a read
+abbrev pub TellsVerdict : Bool → List ℕ → Verdict → List ℕ → Type 0
+TellsVerdict whole text is.Clean told = told ≡ verdict_line is.Clean
+TellsVerdict whole text (is.False n) told =
+    (more : List ℕ) × (told ≡ verdict_line (is.False n) ++ more) × WhyOrNone whole text n more
+TellsVerdict whole text (is.Unreadable n) told = ⊥
 
 -- what is shown of line n, or of the first false line where none is named
-abbrev pub IsShown : Option ℕ → List ℕ → Result (Vec ℕ) ShowFault → Type 0
-IsShown (Some n) text result = IsWhy text n result
-IsShown None text (Ok told) = (v : Verdict) × IsVerdict text v × TellsVerdict text v told.items
-IsShown None text (Err (faults.Unreadable m)) = DumpFaultsAt text m
-IsShown None text (Err faults.Memory) = Unit {0}
-IsShown None text (Err faults.IllFormed) = ⊥
-IsShown None text (Err faults.NoCall) = ⊥
+abbrev pub IsShown : Bool → Option ℕ → List ℕ → Result (Vec ℕ) ShowFault → Type 0
+IsShown whole (Some n) text result = IsWhy whole text n result
+IsShown whole None text (Ok told) = (v : Verdict) × IsVerdict text v × TellsVerdict whole text v told.items
+IsShown whole None text (Err (faults.Unreadable m)) = DumpFaultsAt text m
+IsShown whole None text (Err faults.Memory) = Unit {0}
+IsShown whole None text (Err faults.IllFormed) = ⊥
+IsShown whole None text (Err faults.NoCall) = ⊥
 
 -- what is shown of the text was added to what was printed
-abbrev pub Shows : Option ℕ → Option (List ℕ) → Option (List ℕ) → List ℕ → Type 0
-Shows line before after text =
-    (told : Vec ℕ) × IsShown line text (Ok told) × Appends before after told.items
+abbrev pub Shows : Bool → Option ℕ → Option (List ℕ) → Option (List ℕ) → List ℕ → Type 0
+Shows whole line before after text =
+    (told : Vec ℕ) × IsShown whole line text (Ok told) × Appends before after told.items

@@ -1,49 +1,76 @@
-//! Why calls of a dump are answered as they are.
+//! Why calls and reads of a dump are answered as they are.
 ghost use Rattle.std.specs.Prelude.{◌≡◌, ◌+◌, ◌^◌, ◌<◌, ◌≤◌, ◌++◌, ◌∷◌, [], map, take, length, codes, Some, IfOk, OnOk};
 ghost use Rattle.std.specs.List.{flat_map};
 ghost use Rattle.std.specs.Option.{option_map};
 ghost use Rattle.call_text.specs.Reply.{reply_text};
-ghost use Rattle.explained.specs.Explained.{explained};
-ghost use Rattle.kernel_rules.specs.Step.{answer, next};
+ghost use Rattle.explained.specs.Explained.{explained, query_explained};
+ghost use Rattle.kernel_rules.specs.Step.{answer, next, query_answer};
 ghost use Rattle.plain_state.specs.StateOf.{state_of};
-ghost use Rattle.show_text.specs.Explained.{call_head, call_explained, is_refused, refusal_explained, calls_explained, event_explained, place_explained, IsWhy};
-ghost use Rattle.show_text.specs.Parts.{finding_text};
+ghost use Rattle.show_text.specs.Explained.{call_head, call_explained, read_explained, is_refused, refusal_explained, calls_explained, event_explained, place_explained, IsWhy};
+ghost use Rattle.show_text.specs.Parts.{condition_text};
+ghost use Rattle.show_text.specs.declared.places.Content.TheVariants.{Calls, Asked};
 
 use crate::lines::{after_lines, first_line};
 use crate::parts::put_findings;
-use crate::places::{Place, place_at};
+use crate::places::{Content, Place, place_at};
 use base::{Meter, NoMemory, ObjectId};
 use clean_dumps::begin;
-use dump_text::Dump;
-use explained::explain;
+use dump_text::{Dump, PlacedRead, Read};
+use explained::{explain, explain_query};
 use histories::{Answered, Event};
-use kernel_calls::step;
-use kernel_rules::{Call, Mapping, Reply};
+use kernel_calls::{ask, step};
+use kernel_rules::{Call, Mapping, Query, Reply};
 use label_lattice::Label;
 use plain_state::PlainState;
 use show_states::{ShowFault, dump_in, make, make_all, put_bare};
 use std::alloc::Global;
 
+/// Who calls, and whether all conditions are told, or the reasons of a refusal alone.
+#[derive(Clone, Copy)]
+struct Caller {
+    thread: ObjectId,
+    is_whole: bool,
+}
+
 /// The conditions of a call in words.
 fn findings_text(
     state: &PlainState,
-    thread: ObjectId,
+    caller: Caller,
     call: &Call,
     meter: &mut Meter,
 ) -> Result<Vec<u8>, NoMemory>
     ensures { IfOk result (λ text. text.items
-        ≡ flat_map finding_text (explained (state_of state.now) thread call.now)) }
+        ≡ flat_map (condition_text caller.is_whole) (explained (state_of state.now) caller.thread call.now)) }
 {
     // (types that a finding has, which the proof of its drop names)
     let _label: Option<Label> = None;
     let _mapping: Option<Mapping> = None;
-    let found = explain(state, thread, call)?;
+    let found = explain(state, caller.thread, call)?;
     let mut text = Vec::new(state.alloc());
-    put_findings(&mut text, found.as_slice(), meter)?;
+    put_findings(&mut text, caller.is_whole, found.as_slice(), meter)?;
     Ok(text)
 }
 
-/// Adds the line that tells a call, and the rules' answer. The error is want of memory.
+/// Those of a read.
+fn query_text(
+    state: &PlainState,
+    caller: Caller,
+    query: &Query,
+    meter: &mut Meter,
+) -> Result<Vec<u8>, NoMemory>
+    ensures { IfOk result (λ text. text.items
+        ≡ flat_map (condition_text caller.is_whole) (query_explained (state_of state.now) caller.thread query.now)) }
+{
+    // (types that a finding has, which the proof of its drop names)
+    let _label: Option<Label> = None;
+    let _mapping: Option<Mapping> = None;
+    let found = explain_query(state, caller.thread, query)?;
+    let mut text = Vec::new(state.alloc());
+    put_findings(&mut text, caller.is_whole, found.as_slice(), meter)?;
+    Ok(text)
+}
+
+/// Adds the line that tells a call or a read, and the rules' answer. The error is want of memory.
 pub fn put_head(out: &mut Vec<u8>, line: &[u8], reply: &Reply) -> Result<(), NoMemory>
     ensures { OnOk result (out.new.items ≡ out.old.items ++ call_head line.now reply.now) }
 {
@@ -64,19 +91,19 @@ struct Answer {
 /// The rules' answer to a call, which it makes.
 fn answer_to(
     state: &mut PlainState,
-    thread: ObjectId,
+    caller: Caller,
     call: &Call,
     meter: &mut Meter,
 ) -> Result<Answer, NoMemory>
-    ensures reply { IfOk result (λ given. given.reply ≡ answer (state_of state.old) thread call.now) }
+    ensures reply { IfOk result (λ given. given.reply ≡ answer (state_of state.old) caller.thread call.now) }
     ensures told { IfOk result (λ given. given.told.items
-        ≡ flat_map finding_text (explained (state_of state.old) thread call.now)) }
-    ensures state { OnOk result (state_of state.new ≡ next (state_of state.old) thread call.now) }
+        ≡ flat_map (condition_text caller.is_whole) (explained (state_of state.old) caller.thread call.now)) }
+    ensures state { OnOk result (state_of state.new ≡ next (state_of state.old) caller.thread call.now) }
 {
     // (a type that a reply has, which the proof names)
     let _mapping: Option<Mapping> = None;
-    let told = findings_text(state, thread, call, meter)?;
-    let reply = step(state, thread, call, meter)?;
+    let told = findings_text(state, caller, call, meter)?;
+    let reply = step(state, caller.thread, call, meter)?;
     Ok(Answer { reply, told })
 }
 
@@ -95,17 +122,17 @@ fn put_call(
     out: &mut Vec<u8>,
     line: &[u8],
     state: &mut PlainState,
-    thread: ObjectId,
+    caller: Caller,
     call: &Call,
     meter: &mut Meter,
 ) -> Result<(), NoMemory>
     ensures text { OnOk result (out.new.items
-        ≡ out.old.items ++ call_explained line.now (state_of state.old) thread call.now) }
-    ensures state { OnOk result (state_of state.new ≡ next (state_of state.old) thread call.now) }
+        ≡ out.old.items ++ call_explained caller.is_whole line.now (state_of state.old) caller.thread call.now) }
+    ensures state { OnOk result (state_of state.new ≡ next (state_of state.old) caller.thread call.now) }
 {
     // (a type that a reply has, which the proof names)
     let _mapping: Option<Mapping> = None;
-    let given = answer_to(state, thread, call, meter)?;
+    let given = answer_to(state, caller, call, meter)?;
     put_answer(out, line, &given)
 }
 
@@ -132,7 +159,8 @@ pub fn put_refusal(
 {
     // (a type that a reply has, which the proof names)
     let _mapping: Option<Mapping> = None;
-    let given = answer_to(state, thread, call, meter)?;
+    let is_whole = false;
+    let given = answer_to(state, Caller { thread, is_whole }, call, meter)?;
     if !is_refused(&given.reply) {
         return Ok(());
     }
@@ -144,17 +172,17 @@ fn put_calls(
     out: &mut Vec<u8>,
     text: &[u8],
     state: &mut PlainState,
-    thread: ObjectId,
+    caller: Caller,
     calls: &[Answered],
     meter: &mut Meter,
 ) -> Result<(), NoMemory>
     ensures { OnOk result (out.new.items ≡ out.old.items
-        ++ calls_explained text.now (state_of state.old) thread calls.now) }
+        ++ calls_explained caller.is_whole text.now (state_of state.old) caller.thread calls.now) }
 {
     let mut rest = text;
     for answered in calls {
         let parts = first_line(rest);
-        put_call(out, parts.0, state, thread, &answered.call, meter)?;
+        put_call(out, parts.0, state, caller, &answered.call, meter)?;
         rest = parts.1;
     }
     Ok(())
@@ -164,36 +192,48 @@ fn put_calls(
 #[tactic(auto, using(std::proofs::lemmas::List::take_min, std::proofs::lemmas::List::drop_min))]
 fn event_explained(
     text: &[u8],
+    is_whole: bool,
     state: PlainState,
     place: &Place,
     event: &Event,
     meter: &mut Meter,
 ) -> Result<Vec<u8>, NoMemory>
     ensures { IfOk result (λ told. told.items
-        ≡ event_explained text.now (state_of state) place.now event.now) }
+        ≡ event_explained is_whole text.now (state_of state) place.now event.now) }
 {
     let mut state = state;
+    let caller = Caller {
+        thread: event.thread,
+        is_whole,
+    };
     let calls = event.calls.as_slice();
     let (before, rest) = calls.split_at(place.first.min(calls.len()));
     let (asked, _) = rest.split_at(place.count.min(rest.len()));
     make(&mut state, event.thread, before, meter)?;
     let mut out = Vec::new(state.alloc());
-    put_calls(&mut out, text, &mut state, event.thread, asked, meter)?;
+    put_calls(&mut out, text, &mut state, caller, asked, meter)?;
     Ok(out)
+}
+
+/// What is asked of a line: its number, from 1, and whether all conditions are told of it.
+#[derive(Clone, Copy)]
+struct Wanted {
+    line: u64,
+    is_whole: bool,
 }
 
 /// Why the calls that a line tells are answered as they are, from the state that the events before theirs lead to.
 #[tactic(auto, using(std::proofs::lemmas::List::take_min))]
-fn place_explained(
+fn calls_explained(
     text: &[u8],
-    line: u64,
+    wanted: Wanted,
     state: PlainState,
     events: &[Event],
     place: &Place,
     meter: &mut Meter,
 ) -> Result<Option<Vec<u8>>, NoMemory>
     ensures { IfOk result (λ told. option_map (λ t. t.items) told
-        ≡ place_explained text.now line (state_of state) events.now (Some place.now)) }
+        ≡ place_explained wanted.is_whole text.now wanted.line (state_of state) events.now (Some (Calls place.now))) }
 {
     let Some(event) = events.get(place.event) else {
         return Ok(None);
@@ -202,18 +242,89 @@ fn place_explained(
     let (before, _) = events.split_at(place.event.min(events.len()));
     make_all(&mut state, before, meter)?;
     let above = if place.is_batch {
-        line
+        wanted.line
     } else {
-        line.saturating_sub(1)
+        wanted.line.saturating_sub(1)
     };
-    let told = event_explained(after_lines(above, text), state, place, event, meter)?;
+    let told = event_explained(
+        after_lines(above, text),
+        wanted.is_whole,
+        state,
+        place,
+        event,
+        meter,
+    )?;
     Ok(Some(told))
 }
 
-/// Why the calls of a line of a dump are answered as they are. The lines of the text count from 1. The errors come in this
-/// order: the text is no dump, its checkpoint can't be restored, the line tells no call; or there is no memory.
-pub fn why(alloc: Global, text: &[u8], line: u64) -> Result<Vec<u8>, ShowFault>
-    ensures { IsWhy text.now line result }
+/// Adds why a read is answered as it is, after the line that tells it.
+fn put_read(
+    out: &mut Vec<u8>,
+    line: &[u8],
+    state: &PlainState,
+    is_whole: bool,
+    read: &Read,
+    meter: &mut Meter,
+) -> Result<(), NoMemory>
+    ensures { OnOk result (out.new.items
+        ≡ out.old.items ++ read_explained is_whole line.now (state_of state.now) read.now) }
+{
+    // (a type that a reply has, which the proof names)
+    let _mapping: Option<Mapping> = None;
+    let thread = read.thread;
+    let told = query_text(state, Caller { thread, is_whole }, &read.query, meter)?;
+    let reply = ask(state, thread, &read.query, meter);
+    put_answer(out, line, &Answer { reply, told })
+}
+
+/// Why the read that a line tells is answered as it is, from the state that the events before it lead to.
+#[tactic(auto, using(std::proofs::lemmas::List::take_min))]
+fn read_explained(
+    text: &[u8],
+    wanted: Wanted,
+    state: PlainState,
+    events: &[Event],
+    read: &PlacedRead,
+    meter: &mut Meter,
+) -> Result<Vec<u8>, NoMemory>
+    ensures { IfOk result (λ told. Some told.items
+        ≡ place_explained wanted.is_whole text.now wanted.line (state_of state) events.now (Some (Asked read.now))) }
+{
+    let mut state = state;
+    let (before, _) = events.split_at(read.place.min(events.len()));
+    make_all(&mut state, before, meter)?;
+    let (line, _) = first_line(after_lines(wanted.line.saturating_sub(1), text));
+    let mut out = Vec::new(state.alloc());
+    put_read(&mut out, line, &state, wanted.is_whole, &read.read, meter)?;
+    Ok(out)
+}
+
+/// Why what a line tells is answered as it is.
+fn content_explained(
+    text: &[u8],
+    wanted: Wanted,
+    state: PlainState,
+    events: &[Event],
+    content: &Content,
+    meter: &mut Meter,
+) -> Result<Option<Vec<u8>>, NoMemory>
+    ensures { IfOk result (λ told. option_map (λ t. t.items) told
+        ≡ place_explained wanted.is_whole text.now wanted.line (state_of state) events.now (Some content.now)) }
+{
+    match content {
+        Content::Calls(place) => calls_explained(text, wanted, state, events, place, meter),
+        Content::Asked(read) => {
+            let told = read_explained(text, wanted, state, events, read, meter)?;
+            Ok(Some(told))
+        }
+    }
+}
+
+/// Why what a line of a dump tells, calls or a read, is answered as it is: the reasons of a refusal, or all conditions. The
+/// lines of the text count from 1. The errors come in this order: the text is no dump, its checkpoint can't be restored, the
+/// line tells no call and no read; or there is no memory.
+pub fn why(alloc: Global, text: &[u8], line: u64, is_whole: bool) -> Result<Vec<u8>, ShowFault>
+    ensures { IsWhy is_whole text.now line result }
 {
     let Dump {
         limits,
@@ -226,11 +337,12 @@ pub fn why(alloc: Global, text: &[u8], line: u64) -> Result<Vec<u8>, ShowFault>
         return Err(ShowFault::IllFormed);
     };
     let events = events.as_slice();
-    let Some(place) = place_at(&checkpoint, events, reads.as_slice(), line) else {
+    let Some(content) = place_at(&checkpoint, events, reads.as_slice(), line) else {
         return Err(ShowFault::NoCall);
     };
     let mut meter = Meter::new(alloc)?;
-    match place_explained(text, line, state, events, &place, &mut meter)? {
+    let wanted = Wanted { line, is_whole };
+    match content_explained(text, wanted, state, events, &content, &mut meter)? {
         Some(told) => Ok(told),
         None => Err(ShowFault::NoCall),
     }

@@ -2,11 +2,12 @@
 ghost use Rattle.std.specs.Prelude.{◌≡◌, ◌++◌, ◌∷◌, ◌≤◌, [], OnOk, decimal, codes};
 ghost use Rattle.std.specs.List.{flat_map};
 ghost use Rattle.explained.specs.Parts.{is_against};
-ghost use Rattle.show_text.specs.Parts.{label_text, mapping_text, comparison_text, wanted_text, part_text, finding_text, part_mark, finding_mark, more_text};
+ghost use Rattle.show_text.specs.Parts.{label_text, mapping_text, is_text, raised_text, comparison_text, least_text, most_text, more_text, empty_text, apart_text, said_text};
+ghost use Rattle.show_text.specs.Parts.{part_mark, finding_mark, shown_text, part_text, finding_text, reason_text, reasons_text, condition_text};
 
-use crate::facts::fact_text;
+use crate::facts::told_text;
 use crate::failures::put_failing;
-use base::{Meter, NoMemory};
+use base::{Meter, NoMemory, Refusal};
 use explained::{Comparison, Finding, Part};
 use itoa::Buffer;
 use kernel_rules::{Mapping, Reply};
@@ -32,82 +33,122 @@ fn put_mapping(out: &mut Vec<u8>, mapping: Option<Mapping>) -> Result<(), NoMemo
     put_bare(out, &Reply::Mapping(mapping))
 }
 
-/// Adds a label, some words, and a second label.
+/// Is, or is not.
+fn is_text(against: bool) -> &'static str
+    ensures { result.now ≡ is_text against }
+{
+    if against { " is not " } else { " is " }
+}
+
+/// The same of a label whose star is raised.
+fn raised_text(against: bool) -> &'static str
+    ensures { result.now ≡ raised_text against }
+{
+    if against {
+        " with star raised is not "
+    } else {
+        " with star raised is "
+    }
+}
+
+/// Adds a label, whether it stands so to a second one, and that.
 fn put_two(
     out: &mut Vec<u8>,
     first: &Option<Label>,
-    words: &str,
+    is: &str,
+    relation: &str,
     second: &Option<Label>,
 ) -> Result<(), NoMemory>
     ensures { OnOk result (out.new.items
-        ≡ out.old.items ++ (label_text first.now ++ words.now ++ label_text second.now)) }
+        ≡ out.old.items ++ (label_text first.now ++ is.now ++ relation.now ++ label_text second.now)) }
 {
     put_label(out, first)?;
-    out.extend_from_slice(words.as_bytes())?;
+    out.extend_from_slice(is.as_bytes())?;
+    out.extend_from_slice(relation.as_bytes())?;
     put_label(out, second)
 }
 
-/// Adds two labels with words between them, and more words.
+/// Adds a label, whether it stands so to two others, and these.
 fn put_three(
     out: &mut Vec<u8>,
     first: &Option<Label>,
-    words: &str,
-    second: &Option<Label>,
-    third: &Option<Label>,
+    is: &str,
+    relation: &str,
+    others: (&Option<Label>, &Option<Label>),
 ) -> Result<(), NoMemory>
-    ensures { OnOk result (out.new.items ≡ out.old.items
-        ++ (label_text first.now ++ words.now ++ label_text second.now ++ codes " and " ++ label_text third.now)) }
+    ensures { OnOk result (out.new.items ≡ out.old.items ++ (label_text first.now ++ is.now ++ relation.now
+        ++ label_text others.0.now ++ codes " and " ++ label_text others.1.now)) }
 {
-    put_two(out, first, words, second)?;
+    put_two(out, first, is, relation, others.0)?;
     out.extend_from_slice(b" and ")?;
-    put_label(out, third)
+    put_label(out, others.1)
 }
 
-/// Adds two labels with words between them, and that the second is taken with star raised.
+/// Adds two labels, of which the second is taken with star raised.
 fn put_two_raised(
     out: &mut Vec<u8>,
     first: &Option<Label>,
-    words: &str,
+    is: &str,
     second: &Option<Label>,
 ) -> Result<(), NoMemory>
-    ensures { OnOk result (out.new.items ≡ out.old.items
-        ++ (label_text first.now ++ words.now ++ label_text second.now ++ codes " with star raised")) }
+    ensures { OnOk result (out.new.items ≡ out.old.items ++ (label_text first.now ++ is.now ++ codes "at most "
+        ++ label_text second.now ++ codes " with star raised")) }
 {
-    put_two(out, first, words, second)?;
+    put_two(out, first, is, "at most ", second)?;
     out.extend_from_slice(b" with star raised")?;
     Ok(())
 }
 
-/// Adds three labels with words between them, and that the third is taken with star raised.
+/// Adds three labels, of which the third is taken with star raised.
 fn put_three_raised(
     out: &mut Vec<u8>,
     first: &Option<Label>,
-    words: &str,
-    second: &Option<Label>,
-    third: &Option<Label>,
+    is: &str,
+    others: (&Option<Label>, &Option<Label>),
 ) -> Result<(), NoMemory>
-    ensures { OnOk result (out.new.items ≡ out.old.items
-        ++ (label_text first.now ++ words.now ++ label_text second.now ++ codes " and " ++ label_text third.now
+    ensures { OnOk result (out.new.items ≡ out.old.items ++ (label_text first.now ++ is.now
+        ++ codes "at most the maximum of " ++ label_text others.0.now ++ codes " and " ++ label_text others.1.now
         ++ codes " with star raised")) }
 {
-    put_three(out, first, words, second, third)?;
+    put_three(out, first, is, "at most the maximum of ", others)?;
     out.extend_from_slice(b" with star raised")?;
     Ok(())
 }
 
-/// Adds what is to be so of labels.
-fn put_comparison(out: &mut Vec<u8>, labels: &Comparison) -> Result<(), NoMemory>
-    ensures { OnOk result (out.new.items ≡ out.old.items ++ comparison_text labels.now) }
+/// Adds what is to be so of labels, or that it is not.
+fn put_comparison(out: &mut Vec<u8>, against: bool, labels: &Comparison) -> Result<(), NoMemory>
+    ensures { OnOk result (out.new.items ≡ out.old.items ++ comparison_text against labels.now) }
 {
+    let is = is_text(against);
     match labels {
-        Comparison::Below(a, b) => put_two(out, a, " is at most ", b),
-        Comparison::Visible(a, b) => put_two_raised(out, a, " is at most ", b),
-        Comparison::Shown(a, b) => put_two_raised(out, a, " with star raised is at most ", b),
-        Comparison::BelowJoin(a, b, c) => put_three(out, a, " is at most the maximum of ", b, c),
-        Comparison::BelowJoinUp(a, b, c) => {
-            put_three_raised(out, a, " is at most the maximum of ", b, c)
-        }
-        Comparison::AboveFloor(a, b, c) => put_three(out, c, " is at least the floor of ", a, b),
+        Comparison::Below(a, b) => put_two(out, a, is, "at most ", b),
+        Comparison::Visible(a, b) => put_two_raised(out, a, is, b),
+        Comparison::Shown(a, b) => put_two_raised(out, a, raised_text(against), b),
+        Comparison::BelowJoin(a, b, c) => put_three(out, a, is, "at most the maximum of ", (b, c)),
+        Comparison::BelowJoinUp(a, b, c) => put_three_raised(out, a, is, (b, c)),
+        Comparison::AboveFloor(a, b, c) => put_three(out, c, is, "at least the floor of ", (a, b)),
+    }
+}
+
+/// How a number stands to the least that it may be.
+fn least_text(against: bool) -> &'static str
+    ensures { result.now ≡ least_text against }
+{
+    if against {
+        " is less than "
+    } else {
+        " is at least "
+    }
+}
+
+/// How a number stands to the most that it may be.
+fn most_text(against: bool) -> &'static str
+    ensures { result.now ≡ most_text against }
+{
+    if against {
+        " is more than "
+    } else {
+        " is at most "
     }
 }
 
@@ -131,63 +172,102 @@ fn put_numbers(out: &mut Vec<u8>, first: u64, words: &str, second: u64) -> Resul
 }
 
 /// Adds how many pages are to come, and how many there may be.
-fn put_more(out: &mut Vec<u8>, more: u32, most: u32) -> Result<(), NoMemory>
-    ensures { OnOk result (out.new.items ≡ out.old.items ++ more_text more most) }
+fn put_more(out: &mut Vec<u8>, against: bool, more: u32, most: u32) -> Result<(), NoMemory>
+    ensures { OnOk result (out.new.items ≡ out.old.items ++ more_text against more most) }
 {
-    put_numbers(out, u64::from(more), " more are at most ", u64::from(most))
+    let words = if against {
+        " more are above "
+    } else {
+        " more are at most "
+    };
+    put_numbers(out, u64::from(more), words, u64::from(most))
 }
 
-/// Adds that what is used and what is to come are to be at most a number, in pages of 256 bytes.
-fn put_sum(out: &mut Vec<u8>, used: u128, more: u32, most: u32) -> Result<(), NoMemory>
+/// Adds what is used and what is to come, in pages of 256 bytes, and how many there may be.
+fn put_sum(
+    out: &mut Vec<u8>,
+    against: bool,
+    used: u128,
+    more: u32,
+    most: u32,
+) -> Result<(), NoMemory>
     ensures { OnOk result (out.new.items
-        ≡ out.old.items ++ (decimal used ++ codes " pages used and " ++ more_text more most)) }
+        ≡ out.old.items ++ (decimal used ++ codes " pages used and " ++ more_text against more most)) }
 {
     put_wide(out, used)?;
     out.extend_from_slice(b" pages used and ")?;
-    put_more(out, more, most)?;
+    put_more(out, against, more, most)?;
     Ok(())
 }
 
-/// Adds that a slot is to be empty, and what it maps.
-fn put_empty(out: &mut Vec<u8>, slot: u32, mapping: Option<Mapping>) -> Result<(), NoMemory>
+/// Whether a slot is empty.
+fn empty_text(against: bool) -> &'static str
+    ensures { result.now ≡ empty_text against }
+{
+    if against {
+        " is not empty: it has "
+    } else {
+        " is empty: it has "
+    }
+}
+
+/// Adds whether a slot is empty, and what it maps.
+fn put_empty(
+    out: &mut Vec<u8>,
+    against: bool,
+    slot: u32,
+    mapping: Option<Mapping>,
+) -> Result<(), NoMemory>
     ensures { OnOk result (out.new.items ≡ out.old.items
-        ++ (codes "slot " ++ decimal slot ++ codes " is empty: it has " ++ mapping_text mapping)) }
+        ++ (codes "slot " ++ decimal slot ++ empty_text against ++ mapping_text mapping)) }
 {
     out.extend_from_slice(b"slot ")?;
     put_number(out, u64::from(slot))?;
-    out.extend_from_slice(b" is empty: it has ")?;
+    out.extend_from_slice(empty_text(against).as_bytes())?;
     put_mapping(out, mapping)
 }
 
-/// Adds that a mapping is to meet no page of a slot, and what that maps.
+/// Whether a mapping meets a page of a slot.
+fn apart_text(against: bool) -> &'static str
+    ensures { result.now ≡ apart_text against }
+{
+    if against {
+        " meets a page of slot "
+    } else {
+        " meets no page of slot "
+    }
+}
+
+/// Adds whether a mapping meets a page of a slot, and what that maps.
 fn put_apart(
     out: &mut Vec<u8>,
+    against: bool,
     slot: u32,
     given: Mapping,
     mapping: Option<Mapping>,
 ) -> Result<(), NoMemory>
     ensures { OnOk result (out.new.items ≡ out.old.items
-        ++ wanted_text (Part.Apart slot given mapping)) }
+        ++ said_text against (Part.Apart slot given mapping)) }
 {
     put_mapping(out, Some(given))?;
-    out.extend_from_slice(b" meets no page of slot ")?;
+    out.extend_from_slice(apart_text(against).as_bytes())?;
     put_number(out, u64::from(slot))?;
     out.extend_from_slice(b": it has ")?;
     put_mapping(out, mapping)
 }
 
-/// Adds what is to be so.
-fn put_wanted(out: &mut Vec<u8>, part: &Part) -> Result<(), NoMemory>
-    ensures { OnOk result (out.new.items ≡ out.old.items ++ wanted_text part.now) }
+/// Adds what is to be so, or that it is not.
+fn put_said(out: &mut Vec<u8>, against: bool, part: &Part) -> Result<(), NoMemory>
+    ensures { OnOk result (out.new.items ≡ out.old.items ++ said_text against part.now) }
 {
     match part {
-        Part::Fact(fact, _) => Ok(out.extend_from_slice(fact_text(*fact).as_bytes())?),
-        Part::Compared(labels) => put_comparison(out, labels),
-        Part::AtLeast(number, least) => put_numbers(out, *number, " is at least ", *least),
-        Part::AtMost(number, most) => put_numbers(out, *number, " is at most ", *most),
-        Part::Sum(used, more, most) => put_sum(out, *used, *more, *most),
-        Part::Empty(slot, mapping) => put_empty(out, *slot, *mapping),
-        Part::Apart(slot, given, mapping) => put_apart(out, *slot, *given, *mapping),
+        Part::Fact(fact, _) => Ok(out.extend_from_slice(told_text(against, *fact).as_bytes())?),
+        Part::Compared(labels) => put_comparison(out, against, labels),
+        Part::AtLeast(number, least) => put_numbers(out, *number, least_text(against), *least),
+        Part::AtMost(number, most) => put_numbers(out, *number, most_text(against), *most),
+        Part::Sum(used, more, most) => put_sum(out, against, *used, *more, *most),
+        Part::Empty(slot, mapping) => put_empty(out, against, *slot, *mapping),
+        Part::Apart(slot, given, mapping) => put_apart(out, against, *slot, *given, *mapping),
     }
 }
 
@@ -195,7 +275,7 @@ fn put_wanted(out: &mut Vec<u8>, part: &Part) -> Result<(), NoMemory>
 fn part_mark(against: bool) -> &'static str
     ensures { result.now ≡ part_mark against }
 {
-    if against { "    not " } else { "    ok  " }
+    if against { "    bad " } else { "    ok  " }
 }
 
 /// The mark of a condition: whether it refuses the call.
@@ -205,15 +285,28 @@ fn finding_mark(holds: bool) -> &'static str
     if holds { "yes " } else { "no  " }
 }
 
-/// Adds a part: what is to be so, whether it is, and where a comparison fails.
+/// Adds what is so of a part that stands against the call or doesn't, and where its comparison fails.
+fn put_shown(
+    out: &mut Vec<u8>,
+    against: bool,
+    part: &Part,
+    meter: &mut Meter,
+) -> Result<(), NoMemory>
+    requires { against ≡ is_against part.now }
+    ensures { OnOk result (out.new.items ≡ out.old.items ++ shown_text part.now) }
+{
+    put_said(out, against, part)?;
+    out.push(b'\n')?;
+    put_failing(out, part, meter)
+}
+
+/// Adds a part, after its mark.
 fn put_part(out: &mut Vec<u8>, part: &Part, meter: &mut Meter) -> Result<(), NoMemory>
     ensures { OnOk result (out.new.items ≡ out.old.items ++ part_text part.now) }
 {
     let against = part.is_against(meter);
     out.extend_from_slice(part_mark(against).as_bytes())?;
-    put_wanted(out, part)?;
-    out.push(b'\n')?;
-    put_failing(out, part, meter)
+    put_shown(out, against, part, meter)
 }
 
 /// Adds parts.
@@ -237,12 +330,61 @@ fn put_finding(out: &mut Vec<u8>, finding: &Finding, meter: &mut Meter) -> Resul
     put_parts(out, finding.parts.as_slice(), meter)
 }
 
-/// Adds the conditions of a call. The error is want of memory.
-pub fn put_findings(out: &mut Vec<u8>, found: &[Finding], meter: &mut Meter) -> Result<(), NoMemory>
-    ensures { OnOk result (out.new.items ≡ out.old.items ++ flat_map finding_text found.now) }
+/// Adds a part that stands against the call, after the refusal that it is the reason of.
+fn put_reason(
+    out: &mut Vec<u8>,
+    refusal: Refusal,
+    part: &Part,
+    meter: &mut Meter,
+) -> Result<(), NoMemory>
+    ensures { OnOk result (out.new.items ≡ out.old.items ++ reason_text refusal part.now) }
+{
+    let against = part.is_against(meter);
+    if !against {
+        return Ok(());
+    }
+    put_bare(out, &Reply::Refused(refusal))?;
+    out.extend_from_slice(b": ")?;
+    put_shown(out, against, part, meter)
+}
+
+/// Adds the parts of a condition that stand against the call.
+fn put_reasons(out: &mut Vec<u8>, finding: &Finding, meter: &mut Meter) -> Result<(), NoMemory>
+    ensures { OnOk result (out.new.items ≡ out.old.items ++ reasons_text finding.now) }
+{
+    for part in finding.parts.as_slice() {
+        put_reason(out, finding.refusal, part, meter)?;
+    }
+    Ok(())
+}
+
+/// Adds a condition, or its reasons alone.
+fn put_condition(
+    out: &mut Vec<u8>,
+    is_whole: bool,
+    finding: &Finding,
+    meter: &mut Meter,
+) -> Result<(), NoMemory>
+    ensures { OnOk result (out.new.items ≡ out.old.items ++ condition_text is_whole finding.now) }
+{
+    if is_whole {
+        put_finding(out, finding, meter)
+    } else {
+        put_reasons(out, finding, meter)
+    }
+}
+
+/// Adds the conditions of a call, or, where not all are told, the reasons of those that refuse it. The error is want of memory.
+pub fn put_findings(
+    out: &mut Vec<u8>,
+    is_whole: bool,
+    found: &[Finding],
+    meter: &mut Meter,
+) -> Result<(), NoMemory>
+    ensures { OnOk result (out.new.items ≡ out.old.items ++ flat_map (condition_text is_whole) found.now) }
 {
     for finding in found {
-        put_finding(out, finding, meter)?;
+        put_condition(out, is_whole, finding, meter)?;
     }
     Ok(())
 }

@@ -1,5 +1,7 @@
-//! Which calls a line of a dump tells.
-ghost use Rattle.std.specs.Prelude.{◌≡◌, ℕ, ◌+◌, ◌<◌, ◌≤◌, ◌^◌, length, map, Some};
+//! Which calls, or which read, a line of a dump tells.
+ghost use Rattle.std.specs.Prelude.{◌≡◌, ℕ, ◌+◌, ◌<◌, ◌≤◌, ◌^◌, length, map, slice_get, Some};
+ghost use Rattle.std.specs.Option.{option_map};
+ghost use Rattle.show_text.specs.declared.places.Content.TheVariants.{Asked};
 ghost use Rattle.dump_text.specs.CheckpointLines.{rows_of, row_line, part_lines, object_lines};
 ghost use Rattle.dump_text.specs.Dump.{event_lines, lines_with};
 ghost use Rattle.std.specs.List.{flat_map};
@@ -20,6 +22,15 @@ pub struct Place {
     pub count: usize,
     /// Whether the line is that of a batch, whose calls are told in the next lines.
     pub is_batch: bool,
+}
+
+/// What a line tells.
+#[derive(Clone, Copy)]
+pub enum Content {
+    /// Calls of an event.
+    Calls(Place),
+    /// A read.
+    Asked(PlacedRead),
 }
 
 /// How many lines tell an event with these calls.
@@ -76,28 +87,36 @@ fn place_in(number: usize, event: &Event, left: u64) -> Place
     place_of(number, event.calls.len(), left)
 }
 
+/// One of these reads, where there are so many.
+fn read_in(reads: &[PlacedRead], number: u64) -> Option<Content>
+    ensures { result ≡ option_map Asked (slice_get reads.now number) }
+{
+    let read = reads.get(number as usize)?;
+    Some(Content::Asked(*read))
+}
+
 /// What the line after the first `skipped` lines of events and reads tells.
-fn place_from(events: &[Event], reads: &[PlacedRead], skipped: u64) -> Option<Place>
+fn place_from(events: &[Event], reads: &[PlacedRead], skipped: u64) -> Option<Content>
     ensures { result ≡ place_from 0 events.now reads.now skipped }
 {
     let mut left = skipped;
     let mut rest = reads;
     for number in 0..events.len() {
+        let event = &events[number];
         let (here, past) = part_reads(number, rest);
         let asked = here.len() as u64;
         if left < asked {
-            return None;
+            return read_in(here, left);
         }
         left -= asked;
-        let event = &events[number];
         let count = event_line_count(event);
         if left < count {
-            return Some(place_in(number, event, left));
+            return Some(Content::Calls(place_in(number, event, left)));
         }
         left -= count;
         rest = past;
     }
-    None
+    read_in(part_reads(events.len(), rest).0, left)
 }
 
 /// How many lines tell bytes.
@@ -152,13 +171,13 @@ fn lines_before(checkpoint: &Option<Checkpoint>) -> u128
     }
 }
 
-/// What a line of a dump tells, where it tells calls. Lines count from 1.
+/// What a line of a dump tells, where it tells calls or a read. Lines count from 1.
 pub fn place_at(
     checkpoint: &Option<Checkpoint>,
     events: &[Event],
     reads: &[PlacedRead],
     line: u64,
-) -> Option<Place>
+) -> Option<Content>
     ensures { result ≡ place_at checkpoint.now events.now reads.now line }
 {
     let before = lines_before(checkpoint);

@@ -8,24 +8,25 @@ use show_states::{NAME, show_on};
 use std::alloc::Global;
 use std::io::{Read, Write};
 
-/// Shows why the calls of a line of the dump that a reader gives are answered as they are, or the verdict and the first false
-/// line where no line is named. The answer is the status: 0 where that was printed and handed on. Else one line on `err` tells
-/// why nothing is shown, with status 1 where the checkpoint can't be restored, 2 where the bytes are no dump or the line tells
-/// no call, 3 where the dump can't be read or the text can't be written, 4 where there was no memory.
+/// Shows why what a line of the dump that a reader gives tells is answered as it is, or the verdict and the same of the first
+/// false line where no line is named: the reasons of a refusal, or all conditions. The answer is the status: 0 where that was
+/// printed and handed on. Else one line on `err` tells why nothing is shown, with status 1 where the checkpoint can't be
+/// restored, 2 where the bytes are no dump or the line tells no call and no read, 3 where the dump can't be read or the text can't be written, 4 where there was no memory.
 pub fn why_on<I: Read, S: Sink, E: Write>(
     alloc: Global,
     dump: &mut I,
     line: Option<u64>,
+    is_whole: bool,
     out: &mut S,
     err: &mut E,
 ) -> u8
     ensures { result ≡ 0 → IfSome (I.remaining dump.old)
-        (Shows line (S.contents out.old) (S.contents out.new)) }
+        (Shows is_whole line (S.contents out.old) (S.contents out.new)) }
 {
     let bytes = match bytes_of(alloc, dump) {
         Ok(bytes) => bytes,
         Err(fault) => return fault.tell(NAME, err),
     };
-    let shown = why_or_false(alloc, bytes.as_slice(), line);
+    let shown = why_or_false(alloc, bytes.as_slice(), line, is_whole);
     show_on(shown, out, err)
 }

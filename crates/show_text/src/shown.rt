@@ -10,11 +10,11 @@ use base::NoMemory;
 use show_states::ShowFault;
 use std::alloc::Global;
 
-/// Why the calls of a line are answered as they are, and nothing where it tells none.
-fn why_or_none(alloc: Global, text: &[u8], line: u64) -> Result<Vec<u8>, ShowFault>
-    ensures { IsWhyOrNone text.now line result }
+/// Why what a line tells is answered as it is, and nothing where it tells no call and no read.
+fn why_or_none(alloc: Global, text: &[u8], line: u64, is_whole: bool) -> Result<Vec<u8>, ShowFault>
+    ensures { IsWhyOrNone is_whole text.now line result }
 {
-    match why(alloc, text, line) {
+    match why(alloc, text, line, is_whole) {
         Err(ShowFault::NoCall) => Ok(Vec::new(alloc)),
         Err(ShowFault::IllFormed) => Ok(Vec::new(alloc)),
         told => told,
@@ -40,18 +40,23 @@ fn false_shown(alloc: Global, line: u64, more: &[u8]) -> Result<Vec<u8>, NoMemor
     Ok(told)
 }
 
-/// Why the calls of a line are answered as they are, or, where no line is named, the verdict on the dump, and of a false one
-/// why the calls of its first false line are answered as they are by the rules.
-pub fn why_or_false(alloc: Global, text: &[u8], line: Option<u64>) -> Result<Vec<u8>, ShowFault>
-    ensures { IsShown line text.now result }
+/// Why what a line tells is answered as it is: the reasons of a refusal, or all conditions. Where no line is named, the verdict
+/// on the dump, and of a false one the same of its first false line, by the rules' answers.
+pub fn why_or_false(
+    alloc: Global,
+    text: &[u8],
+    line: Option<u64>,
+    is_whole: bool,
+) -> Result<Vec<u8>, ShowFault>
+    ensures { IsShown is_whole line text.now result }
 {
     if let Some(line) = line {
-        return why(alloc, text, line);
+        return why(alloc, text, line, is_whole);
     }
     match audit(alloc, text)? {
         Verdict::Clean => Ok(clean_shown(alloc)?),
         Verdict::False(line) => {
-            let more = why_or_none(alloc, text, line)?;
+            let more = why_or_none(alloc, text, line, is_whole)?;
             Ok(false_shown(alloc, line, more.as_slice())?)
         }
         Verdict::Unreadable(line) => Err(ShowFault::Unreadable(line)),

@@ -1,5 +1,5 @@
 -- Why the last call was answered as it was.
-use Rattle.std.specs.Prelude.{ℕ, List, [], ◌++◌, Option, Some, None, Result, Ok, Err, codes}
+use Rattle.std.specs.Prelude.{ℕ, false, List, [], ◌++◌, Option, Some, None, Result, Ok, Err, codes}
 use Rattle.std.specs.List.{flat_map}
 use Rattle.call_text.specs.declared.asking.Asked.{Asked}
 use Rattle.call_text.specs.declared.asking.Asked.TheVariants.{Read, Write}
@@ -8,7 +8,7 @@ use Rattle.explained.specs.Explained.{explained, query_explained}
 use Rattle.explained.specs.declared.parts.Finding.{Finding}
 use Rattle.kernel_rules.specs.State.{State}
 use Rattle.show_text.specs.Explained.{call_head}
-use Rattle.show_text.specs.Parts.{finding_text}
+use Rattle.show_text.specs.Parts.{condition_text}
 use Rattle.tried_lines.specs.Dialogues.{Talk, last_of, standing, undone}
 use Rattle.tried_lines.specs.Saved.{line_text}
 use Rattle.tried_lines.specs.Standing.{first_line, question, reply_to}
@@ -24,9 +24,9 @@ findings_by s thread (Read query) = query_explained s thread query
 abbrev pub findings_of : State → Question → List Finding
 findings_of s q = findings_by s q.thread q.asked
 
--- the line, what the rules answer to it, and each condition
+-- the line, what the rules answer to it, and the reasons of a refusal
 abbrev pub why_asked : Stands → List ℕ → Question → List ℕ
-why_asked s said q = call_head said (reply_to s.state q) ++ flat_map finding_text (findings_of s.state q)
+why_asked s said q = call_head said (reply_to s.state q) ++ flat_map (condition_text false) (findings_of s.state q)
 
 abbrev pub why_asking : Stands → List ℕ → Result Question (List ℕ) → List ℕ
 why_asking s said (Ok q) = why_asked s said q

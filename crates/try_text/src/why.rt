@@ -1,8 +1,8 @@
 //! Why the last call was answered as it was.
-ghost use Rattle.std.specs.Prelude.{◌≡◌, ◌++◌, IfOk, OnOk};
+ghost use Rattle.std.specs.Prelude.{◌≡◌, ◌++◌, IfOk, OnOk, false};
 ghost use Rattle.std.specs.List.{flat_map};
 ghost use Rattle.plain_state.specs.StateOf.{state_of};
-ghost use Rattle.show_text.specs.Parts.{finding_text};
+ghost use Rattle.show_text.specs.Parts.{condition_text};
 ghost use Rattle.try_text.specs.Why.{findings_of, why_asked, why_line, why_text};
 
 use base::{Meter, NoMemory};
@@ -24,24 +24,24 @@ fn findings(state: &PlainState, question: &Question) -> Result<Vec<Finding>, NoM
     }
 }
 
-/// The conditions of what is asked, in words.
+/// The reasons of a refusal of what is asked, in words.
 fn findings_text(
     state: &PlainState,
     question: &Question,
     meter: &mut Meter,
 ) -> Result<Vec<u8>, NoMemory>
-    ensures { IfOk result (λ text. text.items ≡ flat_map finding_text (findings_of (state_of state.now) question.now)) }
+    ensures { IfOk result (λ text. text.items ≡ flat_map (condition_text false) (findings_of (state_of state.now) question.now)) }
 {
     // (types that a finding has, which the proof of its drop names)
     let _label: Option<Label> = None;
     let _mapping: Option<Mapping> = None;
     let found = findings(state, question)?;
     let mut text = Vec::new(state.alloc());
-    put_findings(&mut text, found.as_slice(), meter)?;
+    put_findings(&mut text, false, found.as_slice(), meter)?;
     Ok(text)
 }
 
-/// Adds a line, what the rules answer to it, and each condition by which they do.
+/// Adds a line, what the rules answer to it, and the reasons of a refusal.
 fn put_asked(
     out: &mut Vec<u8>,
     before: Standing,
