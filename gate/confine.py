@@ -181,7 +181,7 @@ class Play:
             wrong.append(f"printed {self.done.stdout!r}")
         if scene.status is not None and self.done.returncode != scene.status:
             wrong.append(f"status {self.done.returncode} {self.done.stderr}")
-        if self.reports() != (scene.report + (NOTE if scene.leaks else ""), scene.second, scene.open):
+        if self.reports() != (scene.report + (NOTE if scene.leaks and scene.is_noted else ""), scene.second, scene.open):
             wrong.append(f"reports {self.reports()} {self.done.stderr}")
         if scene.told is not None and not any(it.startswith("confine: ") and it.endswith(scene.told) for it in self.done.stderr.splitlines()):
             wrong.append(f"told {self.done.stderr!r}")

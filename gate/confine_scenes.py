@@ -14,7 +14,7 @@ class Scene:
     how one of confine's lines ends, where that is asked. Where `leaks` names a way, the program tells the secret by it: the scene is
     also played without confine, where it has to be seen, and the program adds a line to its report once it has come to its end."""
 
-    def __init__(self, name, program, printed="", report="", second="", open="", status=0, words=None, stdin=None, policy="", told=None, leaks=None, users=(0, 1)):
+    def __init__(self, name, program, printed="", report="", second="", open="", status=0, words=None, stdin=None, policy="", told=None, leaks=None, users=(0, 1), is_noted=True):
         self.name = name
         self.program = program
         self.printed = printed
@@ -28,6 +28,7 @@ class Scene:
         self.told = told
         self.leaks = leaks
         self.users = users  # as which it is played: 0, root, and 1, an ordinary user
+        self.is_noted = is_noted  # in confine: not where what it did bars it from its report
 
 
 ONE = ["--secret", "$S", "--report", "$R", "--public", "$P"]
@@ -109,8 +110,8 @@ SCENES = (
     Scene("puts typed characters into a terminal", "perl -e 'my $c=\"x\"; print ioctl(STDIN,0x5412,$c) ? 1 : 0'", printed="0"),
     Scene("leaves a process behind", READ + "(sleep 60; echo $k) & exit 0"),
     Scene("reads one secret and writes the other's report", READ + "echo $k > $U", words=TWO, leaks="other report"),
-    Scene("reads both and writes either report", READ + "cat $T/key; echo $k > $R; echo $k > $U", words=TWO, leaks="other report"),
-    Scene("holds a report of no secret and reads", "exec 5> $Q; cat $S/key >&5; echo refused >&5", open="refused\n", words=OPEN, leaks="text"),
+    Scene("reads both and writes either report", READ + "cat $T/key; echo $k > $R; echo $k > $U", words=TWO, leaks="other report", is_noted=False),
+    Scene("holds a report of no secret and reads", "exec 5> $Q; cat $S/key >&5; echo refused >&5", open="refused\n", words=OPEN, leaks="text", is_noted=False),
     Scene("holds one report and reads the other secret", "exec 5> $R; cat $T/key >&5; echo refused >&5", report="refused\n", words=TWO, leaks="other report"),
     Scene("reads a report back", "echo kept > $R; cat $R >> $R; echo none >> $R", report="kept\nnone\n"),
     Scene("writes its report and then prints", "echo kept > $R; echo hello", report="kept\n"),
@@ -160,7 +161,7 @@ POLICY_SCENES = (
     Scene("has a policy and reads what is public", "cat $P/text", printed=PUBLIC + "\n", policy=POLICY),
     Scene("writes a report of two secrets", READ + READ_OTHER + "echo $k $j > $U", second=f"{SECRET} {SECOND}\n", policy=POLICY),
     Scene("writes one secret to the report of both", READ_OTHER + "echo $j > $U", second=SECOND + "\n", policy=POLICY),
-    Scene("writes both secrets to the report of one", READ + READ_OTHER + "echo $k $j > $R", policy=POLICY, leaks="other report"),
+    Scene("writes both secrets to the report of one", READ + READ_OTHER + "echo $k $j > $R", policy=POLICY, leaks="other report", is_noted=False),
     Scene("writes the report of both and then that of one", "echo x > $U; echo y > $R", second="x\n", policy=POLICY),
     Scene("is cleared for one secret and reads it", READ + "echo $k > $R", report=SECRET + "\n", policy=POLICY + "program = {clearance = {second = 2}}\n"),
     Scene(

@@ -61,6 +61,11 @@ def said_by(*words):
     return subprocess.run(words, check=True, stdout=subprocess.PIPE, text=True).stdout
 
 
+def made_by(*words, **how):
+    """What a command printed that makes something. What it says beside is told where it fails."""
+    return subprocess.run(words, check=True, stdout=subprocess.PIPE, stderr=subprocess.PIPE, **how).stdout
+
+
 def sources():
     return sorted(filter(os.path.isfile, said_by("git", "ls-files", "-z").split("\0")))
 
@@ -100,10 +105,10 @@ class Room:
     def put(self, to, content, mode=0o644):
         file = f"{self.top}/{to}"
         os.makedirs(os.path.dirname(file), exist_ok=True)
+        self.laid.append(to)
         with open(file, "wb") as it:
             it.write(content if isinstance(content, bytes) else content.encode())
         os.chmod(file, mode)
-        self.laid.append(to)
 
     def copy(self, to, file, mode=0o644):
         with open(file, "rb") as it:
@@ -112,7 +117,7 @@ class Room:
     def program(self, to, file):
         """A program or a loaded library, without what only a debugger reads."""
         with tempfile.TemporaryDirectory() as made:
-            subprocess.run(["strip", "--strip-unneeded", "-o", f"{made}/it", file], check=True)
+            made_by("strip", "--strip-unneeded", "-o", f"{made}/it", file)
             self.copy(to, f"{made}/it", 0o644 if ".so" in to else 0o755)
 
     def link(self, to, target):
@@ -169,7 +174,7 @@ def shared_library(to):
         names.write("{ global: histar_*; local: *; };\n")
         names.flush()
         words = ["cc", "-shared", "-o", to, f"-Wl,-soname,{SONAME}", f"-Wl,--version-script={names.name}", "-Wl,--whole-archive", LIBRARY]
-        subprocess.run([*words, "-Wl,--no-whole-archive", "-Wl,--build-id=none"], check=True)
+        made_by(*words, "-Wl,--no-whole-archive", "-Wl,--build-id=none")
 
 
 def lay_library(room, prefix):
@@ -214,36 +219,38 @@ def deb(name, lay, room, seconds):
         with open(f"{top}/DEBIAN/{file}", "w", encoding="utf-8") as it:
             it.write(text)
     set_times(top, seconds)
-    file = f"{OUT}/{name}_{versions.read()}-1_amd64.deb"
-    how = {"check": True, "stdout": subprocess.DEVNULL, "env": {**os.environ, "SOURCE_DATE_EPOCH": str(seconds)}}
-    subprocess.run(["dpkg-deb", "--root-owner-group", "--build", top, file], **how)
+    file = f"{name}_{versions.read()}-1_amd64.deb"
+    made_by("dpkg-deb", "--root-owner-group", "--build", top, f"{room}/{file}", env={**os.environ, "SOURCE_DATE_EPOCH": str(seconds)})
     return file
 
 
-def tarball():
-    """The sources of the commit."""
+def tarball(room):
+    """The sources of the commit, in a folder."""
     name = f"koalaingot-{versions.read()}"
-    made = subprocess.run(["git", "archive", "--format=tar", f"--prefix={name}/", "HEAD"], check=True, stdout=subprocess.PIPE).stdout
-    file = f"{OUT}/{name}.tar.gz"
-    with open(file, "wb") as it:
+    made = made_by("git", "archive", "--format=tar", f"--prefix={name}/", "HEAD")
+    with open(f"{room}/{name}.tar.gz", "wb") as it:
         it.write(gzip.compress(made, 9, mtime=0))
-    return file
+    return f"{name}.tar.gz"
 
 
 def pack():
-    """Makes all packages, and returns their files."""
+    """Makes all packages, and returns their files. They take the place of older ones once all are made."""
     needs()
-    shutil.rmtree(OUT, ignore_errors=True)
-    os.makedirs(OUT)
     seconds, day = committed(), said_by("git", "log", "-1", "--format=%cs").strip()
-    with tempfile.TemporaryDirectory(prefix="package-") as room:
+    os.makedirs(os.path.dirname(OUT), exist_ok=True)
+    with tempfile.TemporaryDirectory(prefix="package-", dir=os.path.dirname(OUT)) as room:
         os.chmod(room, 0o755)
-        programs = deb("koalaingot", lambda it: lay_programs(it, day), room, seconds)
-        library = deb("libhistar-dev", lambda it: lay_library(it, "/usr"), room, seconds)
-    return [tarball(), programs, library]
+        made = [tarball(room)]
+        made.append(deb("koalaingot", lambda it: lay_programs(it, day), room, seconds))
+        made.append(deb("libhistar-dev", lambda it: lay_library(it, "/usr"), room, seconds))
+        shutil.rmtree(OUT, ignore_errors=True)
+        os.makedirs(OUT)
+        for it in made:
+            os.replace(f"{room}/{it}", f"{OUT}/{it}")
+    return [f"{OUT}/{it}" for it in made]
 
 
-def guarded(name, act):
+def guarded(name, where, act):
     """Acts, and returns the status: a fault is told in one line."""
     try:
         act()
@@ -251,10 +258,11 @@ def guarded(name, act):
         print(f"{name}: {fault}", file=sys.stderr)
         return fault.status
     except OSError as fault:
-        print(f"{name}: {fault.filename or OUT} can't be written: {fault.strerror}", file=sys.stderr)
+        print(f"{name}: {fault.filename or where} can't be written: {fault.strerror}", file=sys.stderr)
         return NO_ROOM
     except subprocess.CalledProcessError as fault:
-        print(f"{name}: {fault.cmd[0]} ended with status {fault.returncode}", file=sys.stderr)
+        said = (fault.stderr or b"").decode(errors="replace").strip().splitlines()
+        print(f"{name}: {said[-1] if said else f'{fault.cmd[0]} ended with status {fault.returncode}'}", file=sys.stderr)
         return NO_ROOM
     return 0
 
@@ -264,7 +272,7 @@ def make():
         for it in pack():
             print(f"package: {it}, {os.path.getsize(it)} bytes")
 
-    return guarded("package", act)
+    return guarded("package", OUT, act)
 
 
 def folders_above(file):
@@ -283,12 +291,26 @@ def install(prefix):
     def act():
         needs()
         room = Room(prefix)
-        lay_programs(room, said_by("git", "log", "-1", "--format=%cs").strip())
-        lay_library(room, prefix.removeprefix(os.environ.get("DESTDIR", "")))
-        room.put("share/doc/koalaingot/installed", "".join(f"{it}\n" for it in [*room.laid, "share/doc/koalaingot/installed"]))
+        try:
+            lay_programs(room, said_by("git", "log", "-1", "--format=%cs").strip())
+            lay_library(room, prefix.removeprefix(os.environ.get("DESTDIR", "")))
+            room.put("share/doc/koalaingot/installed", "".join(f"{it}\n" for it in [*room.laid, "share/doc/koalaingot/installed"]))
+        except BaseException:
+            take_away(prefix, room.laid)
+            raise
         print(f"install: {len(room.laid)} files below {prefix}")
 
-    return guarded("install", act)
+    return guarded("install", prefix, act)
+
+
+def take_away(prefix, laid):
+    """Takes files away below a folder, and the folders that are empty then."""
+    for file in laid:
+        with contextlib.suppress(FileNotFoundError):
+            os.remove(f"{prefix}/{file}")
+    for folder in sorted({above for it in laid for above in folders_above(it)}, reverse=True):
+        with contextlib.suppress(OSError):
+            os.rmdir(f"{prefix}/{folder}")
 
 
 def uninstall(prefix):
@@ -299,15 +321,10 @@ def uninstall(prefix):
             raise Fault(NOT_BUILT, f"{listed(prefix)} is missing: nothing was installed there")
         with open(listed(prefix), encoding="utf-8") as it:
             laid = it.read().splitlines()
-        for file in laid:
-            with contextlib.suppress(FileNotFoundError):
-                os.remove(f"{prefix}/{file}")
-        for folder in sorted({above for it in laid for above in folders_above(it)}, reverse=True):
-            with contextlib.suppress(OSError):
-                os.rmdir(f"{prefix}/{folder}")
+        take_away(prefix, laid)
         print(f"install: {len(laid)} files taken away")
 
-    return guarded("install", act)
+    return guarded("install", prefix, act)
 
 
 C_PROGRAM = "#include <histar.h>\n#include <stdio.h>\nint main(void) { static histar k; if (histar_open(&k, 64)) return 1; puts(\"open\"); histar_close(&k); return 0; }\n"
@@ -380,6 +397,31 @@ def try_library(report, top):
     report.counts(ended == (0, "True\n"), f"packages: Python loads {SONAME}: {ended}")
 
 
+def is_told(report, what, status, **how):
+    """Whether ./package ends with a status and one line, and leaves older packages as they were."""
+    done = subprocess.run(["./package"], stdout=subprocess.PIPE, stderr=subprocess.PIPE, text=True, **how)
+    is_well = (done.returncode, done.stdout, done.stderr.count("\n")) == (status, "", 1)
+    report.counts(is_well, f"packages: ./package {what}: status {done.returncode}, {done.stderr.strip()}")
+
+
+def try_faults(report, kept):
+    """./package where nothing is built, and on a full disk."""
+    with tempfile.TemporaryDirectory(prefix="package-") as room:
+        subprocess.run(["git", "clone", "--quiet", ".", f"{room}/tree"], check=True)
+        is_told(report, "before ./prove", NOT_BUILT, cwd=f"{room}/tree")
+        os.makedirs(f"{room}/disk")
+        if subprocess.run(["mount", "-t", "tmpfs", "-o", "size=200k", "none", f"{room}/disk"], capture_output=True).returncode:
+            report.say("left out: ./package on a full disk: no file system may be mounted")
+            return
+        try:
+            is_told(report, "on a full disk", NO_ROOM, env={**os.environ, "TMPDIR": f"{room}/disk"})
+            ended = ran("./install", f"{room}/disk/p")
+            left = [it for _, _, files in os.walk(f"{room}/disk") for it in files]
+            report.counts((ended[0], ended[1].count("\n"), left, sums()) == (NO_ROOM, 1, [], kept), f"packages: ./install on a full disk: {ended}, {left}")
+        finally:
+            subprocess.run(["umount", "-l", f"{room}/disk"], check=False)
+
+
 def hand_over(tree):
     """Takes the library that ./lib built in a tree, and builds confine over it; returns what is lacking, if anything."""
     if os.path.abspath(tree) != os.getcwd() and os.path.isfile(f"{tree}/{LIBRARY}"):
@@ -404,6 +446,7 @@ def try_all(report, tree="."):
     report.counts(first is not None and first == second and len(first) == 3, f"packages: built twice, the same bytes: {', '.join(first or ())}")
     if first is None:
         return
+    try_faults(report, first)
     with tempfile.TemporaryDirectory(prefix="packages-") as top:
         for it in first:
             if it.endswith(".deb"):

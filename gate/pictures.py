@@ -10,10 +10,9 @@ import sys
 
 from gate.plays import ran, text
 
-OBJECTS = "examples/dumps/objects.dump"
 PICTURES = {
-    "docs/objects.svg": (OBJECTS,),
-    "docs/flows.svg": (OBJECTS, "--from", "4", "--category", "7"),
+    "docs/objects.svg": ("examples/dumps/objects.dump",),
+    "docs/flows.svg": ("examples/dumps/scanner.dump", "--from", "4", "--category", "1"),
 }
 PART = re.compile(r'<g id="[^"]*" class="(node|edge|cluster)">\s*<title>(.*?)</title>(.*?)</g>', re.S)
 

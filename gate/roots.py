@@ -8,7 +8,7 @@ import tempfile
 
 from gate import versions
 
-NEEDED = "gcc,g++,libc6-dev,pkg-config,python3,cargo"
+NEEDED = "mount,gcc,g++,libc6-dev,pkg-config,python3,cargo"
 DEBIAN = "bookworm"
 # What becomes the root of the commands after it, so that namespaces of users can be made there.
 INSIDE = 'mount --bind "$0" "$0" && cd "$0" && mount --rbind /dev dev && mount -t proc proc proc && pivot_root . mnt && umount -l mnt && exec "$@"'
