@@ -1,5 +1,5 @@
 -- How many lines tell an event, and what the lines of events tell.
-use Rattle.std.proofs.Common.{◌≡◌, ℕ, ◌+◌, ◌-◌, ◌/◌, ◌<◌, ◌≤◌, List, [], ◌∷◌, length, map, drop, slice_get, slice_index_or, nat_lt, Option, Some, None, if◌then◌else◌, arith, refl, ap, sym, ◌∙◌, suc, zero}
+use Rattle.std.proofs.Common.{◌≡◌, ℕ, ◌+◌, ◌-◌, ◌/◌, ◌<◌, ◌≤◌, List, [], ◌∷◌, length, map, drop, slice_get, slice_index_or, nat_lt, Option, Some, None, if◌then◌else◌, arith, refl, ap, subst, sym, ◌∙◌, suc, zero}
 use Rattle.std.proofs.lemmas.Bool.{lt-ltb, le-ltb}
 use Rattle.std.proofs.lemmas.List.{length-map}
 use Rattle.std.specs.Option.{option_map}
@@ -40,14 +40,16 @@ from_event i x xs rs j =
     else place_from (i + 1) xs (reads_past i rs) (j - length (event_lines x))
 
 -- it is one of the reads before the event
-pub asked : (i left : ℕ) (x : Event) (xs : List Event) (rs : List PlacedRead) → i < length xs → x ≡ slice_index_or xs i x
-    → left < length (reads_at i rs)
-    → option_map Asked (slice_get (reads_at i rs) left) ≡ place_from i (drop i xs) rs left
+pub asked : (i left : ℕ) (reads : List PlacedRead) (x : Event) (xs : List Event) (rs : List PlacedRead) → i < length xs
+    → x ≡ slice_index_or xs i x → reads ≡ reads_at i rs → left < length reads
+    → option_map Asked (slice_get reads left) ≡ place_from i (drop i xs) rs left
 unfolding from_event
-asked i left x xs rs within is below =
-    sym (next_event i left x xs rs within is
+asked i left reads x xs rs within is told below =
+    let less : left < length (reads_at i rs) = subst (λ (l : List PlacedRead). left < length l) told below in
+    ap (λ (l : List PlacedRead). option_map Asked (slice_get l left)) told
+    ∙ sym (next_event i left x xs rs within is
     ∙ ap (λ b. if b then option_map Asked (slice_get (reads_at i rs) left) else from_event i x (drop (i + 1) xs) rs (left - length (reads_at i rs)))
-    (lt-ltb left (length (reads_at i rs)) below))
+    (lt-ltb left (length (reads_at i rs)) less))
 
 -- after the reads
 past_reads : (reads : List PlacedRead) (left : ℕ) (later : ℕ → Option Content) (told : ℕ) → told ≡ length reads → told ≤ left

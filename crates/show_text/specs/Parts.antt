@@ -37,29 +37,38 @@ rank_text L2 = codes "2"
 rank_text L3 = codes "3"
 rank_text J = codes "J"
 
--- is, or is not
-abbrev pub is_text : Bool → List ℕ
-is_text against = if against then codes " is not " else codes " is "
+-- how a label stands to another one, or does not
+abbrev pub at_most_text : Bool → List ℕ
+at_most_text against = if against then codes " is not at most " else codes " is at most "
 
 -- the same of a label whose star is raised
 abbrev pub raised_text : Bool → List ℕ
-raised_text against = if against then codes " with star raised is not " else codes " with star raised is "
+raised_text against =
+    if against then codes " with star raised is not at most " else codes " with star raised is at most "
+
+-- and to the maximum, or to the floor, of two others
+abbrev pub maximum_text : Bool → List ℕ
+maximum_text against =
+    if against then codes " is not at most the maximum of " else codes " is at most the maximum of "
+
+abbrev pub floor_text : Bool → List ℕ
+floor_text against =
+    if against then codes " is not at least the floor of " else codes " is at least the floor of "
 
 -- what is to be so of labels, or that it is not
 abbrev pub comparison_text : Bool → Comparison → List ℕ
-comparison_text against (compared.Below a b) =
-    label_text a ++ is_text against ++ codes "at most " ++ label_text b
+comparison_text against (compared.Below a b) = label_text a ++ at_most_text against ++ label_text b
 comparison_text against (compared.Visible a b) =
-    label_text a ++ is_text against ++ codes "at most " ++ label_text b ++ codes " with star raised"
+    label_text a ++ at_most_text against ++ label_text b ++ codes " with star raised"
 comparison_text against (compared.Shown a b) =
-    label_text a ++ raised_text against ++ codes "at most " ++ label_text b ++ codes " with star raised"
+    label_text a ++ raised_text against ++ label_text b ++ codes " with star raised"
 comparison_text against (compared.BelowJoin a b c) =
-    label_text a ++ is_text against ++ codes "at most the maximum of " ++ label_text b ++ codes " and " ++ label_text c
+    label_text a ++ maximum_text against ++ label_text b ++ codes " and " ++ label_text c
 comparison_text against (compared.BelowJoinUp a b c) =
-    label_text a ++ is_text against ++ codes "at most the maximum of " ++ label_text b ++ codes " and " ++ label_text c
+    label_text a ++ maximum_text against ++ label_text b ++ codes " and " ++ label_text c
     ++ codes " with star raised"
 comparison_text against (compared.AboveFloor a b c) =
-    label_text c ++ is_text against ++ codes "at least the floor of " ++ label_text a ++ codes " and " ++ label_text b
+    label_text c ++ floor_text against ++ label_text a ++ codes " and " ++ label_text b
 
 -- how a number stands to the least or the most that it may be
 abbrev pub least_text : Bool → List ℕ
@@ -82,25 +91,24 @@ apart_text against = if against then codes " meets a page of slot " else codes "
 
 -- what is to be so, or that it is not
 abbrev pub said_text : Bool → Part → List ℕ
-said_text no (is.Fact fact against) = told_text no fact
-said_text no (is.Compared labels) = comparison_text no labels
-said_text no (is.AtLeast number least) = decimal number ++ least_text no ++ decimal least
-said_text no (is.AtMost number most) = decimal number ++ most_text no ++ decimal most
-said_text no (is.Sum used more most) =
-    decimal used ++ codes " pages used and " ++ more_text no more most
-said_text no (is.Empty slot mapping) =
-    codes "slot " ++ decimal slot ++ empty_text no ++ mapping_text mapping
-said_text no (is.Apart slot given mapping) =
-    mapping_text (Some given) ++ apart_text no ++ decimal slot ++ codes ": it has " ++ mapping_text mapping
+said_text opposed (is.Fact fact against) = told_text opposed fact
+said_text opposed (is.Compared labels) = comparison_text opposed labels
+said_text opposed (is.AtLeast number least) = decimal number ++ least_text opposed ++ decimal least
+said_text opposed (is.AtMost number most) = decimal number ++ most_text opposed ++ decimal most
+said_text opposed (is.Sum used more most) =
+    decimal used ++ codes " pages used and " ++ more_text opposed more most
+said_text opposed (is.Empty slot mapping) =
+    codes "slot " ++ decimal slot ++ empty_text opposed ++ mapping_text mapping
+said_text opposed (is.Apart slot given mapping) =
+    mapping_text (Some given) ++ apart_text opposed ++ decimal slot ++ codes ": it has " ++ mapping_text mapping
 
 -- the level that is too high, and the one that it is to be at most
 abbrev pub ranks_text : Ranks → List ℕ
-ranks_text ranks = rank_text ranks.left ++ codes " is above " ++ rank_text ranks.right ++ 10 ∷ []
+ranks_text ranks = rank_text ranks.left ++ codes " above " ++ rank_text ranks.right ++ 10 ∷ []
 
 -- a category at which a comparison fails
 abbrev pub failure_text : Failure → List ℕ
-failure_text failure =
-    codes "          in category #" ++ decimal failure.category.0 ++ codes ": " ++ ranks_text failure.ranks
+failure_text failure = codes "          #" ++ decimal failure.category.0 ++ codes ": " ++ ranks_text failure.ranks
 
 -- those of the exceptions
 abbrev pub named_text : Option (List Failure) → List ℕ
@@ -110,7 +118,7 @@ named_text (Some failures) = flat_map failure_text failures
 -- and all others, where it fails there
 abbrev pub rest_text : Option Ranks → List ℕ
 rest_text None = []
-rest_text (Some ranks) = codes "          in all other categories: " ++ ranks_text ranks
+rest_text (Some ranks) = codes "          all others: " ++ ranks_text ranks
 
 -- where a part's comparison fails
 abbrev pub failing_text : Part → List ℕ

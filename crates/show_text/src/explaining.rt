@@ -35,12 +35,12 @@ struct Caller {
 /// The conditions of a call in words.
 fn findings_text(
     state: &PlainState,
-    caller: Caller,
+    caller: &Caller,
     call: &Call,
     meter: &mut Meter,
 ) -> Result<Vec<u8>, NoMemory>
     ensures { IfOk result (λ text. text.items
-        ≡ flat_map (condition_text caller.is_whole) (explained (state_of state.now) caller.thread call.now)) }
+        ≡ flat_map (condition_text caller.now.is_whole) (explained (state_of state.now) caller.now.thread call.now)) }
 {
     // (types that a finding has, which the proof of its drop names)
     let _label: Option<Label> = None;
@@ -54,12 +54,12 @@ fn findings_text(
 /// Those of a read.
 fn query_text(
     state: &PlainState,
-    caller: Caller,
+    caller: &Caller,
     query: &Query,
     meter: &mut Meter,
 ) -> Result<Vec<u8>, NoMemory>
     ensures { IfOk result (λ text. text.items
-        ≡ flat_map (condition_text caller.is_whole) (query_explained (state_of state.now) caller.thread query.now)) }
+        ≡ flat_map (condition_text caller.now.is_whole) (query_explained (state_of state.now) caller.now.thread query.now)) }
 {
     // (types that a finding has, which the proof of its drop names)
     let _label: Option<Label> = None;
@@ -91,14 +91,14 @@ struct Answer {
 /// The rules' answer to a call, which it makes.
 fn answer_to(
     state: &mut PlainState,
-    caller: Caller,
+    caller: &Caller,
     call: &Call,
     meter: &mut Meter,
 ) -> Result<Answer, NoMemory>
-    ensures reply { IfOk result (λ given. given.reply ≡ answer (state_of state.old) caller.thread call.now) }
+    ensures reply { IfOk result (λ given. given.reply ≡ answer (state_of state.old) caller.now.thread call.now) }
     ensures told { IfOk result (λ given. given.told.items
-        ≡ flat_map (condition_text caller.is_whole) (explained (state_of state.old) caller.thread call.now)) }
-    ensures state { OnOk result (state_of state.new ≡ next (state_of state.old) caller.thread call.now) }
+        ≡ flat_map (condition_text caller.now.is_whole) (explained (state_of state.old) caller.now.thread call.now)) }
+    ensures state { OnOk result (state_of state.new ≡ next (state_of state.old) caller.now.thread call.now) }
 {
     // (a type that a reply has, which the proof names)
     let _mapping: Option<Mapping> = None;
@@ -122,13 +122,13 @@ fn put_call(
     out: &mut Vec<u8>,
     line: &[u8],
     state: &mut PlainState,
-    caller: Caller,
+    caller: &Caller,
     call: &Call,
     meter: &mut Meter,
 ) -> Result<(), NoMemory>
     ensures text { OnOk result (out.new.items
-        ≡ out.old.items ++ call_explained caller.is_whole line.now (state_of state.old) caller.thread call.now) }
-    ensures state { OnOk result (state_of state.new ≡ next (state_of state.old) caller.thread call.now) }
+        ≡ out.old.items ++ call_explained caller.now.is_whole line.now (state_of state.old) caller.now.thread call.now) }
+    ensures state { OnOk result (state_of state.new ≡ next (state_of state.old) caller.now.thread call.now) }
 {
     // (a type that a reply has, which the proof names)
     let _mapping: Option<Mapping> = None;
@@ -160,7 +160,7 @@ pub fn put_refusal(
     // (a type that a reply has, which the proof names)
     let _mapping: Option<Mapping> = None;
     let is_whole = false;
-    let given = answer_to(state, Caller { thread, is_whole }, call, meter)?;
+    let given = answer_to(state, &Caller { thread, is_whole }, call, meter)?;
     if !is_refused(&given.reply) {
         return Ok(());
     }
@@ -172,12 +172,12 @@ fn put_calls(
     out: &mut Vec<u8>,
     text: &[u8],
     state: &mut PlainState,
-    caller: Caller,
+    caller: &Caller,
     calls: &[Answered],
     meter: &mut Meter,
 ) -> Result<(), NoMemory>
     ensures { OnOk result (out.new.items ≡ out.old.items
-        ++ calls_explained caller.is_whole text.now (state_of state.old) caller.thread calls.now) }
+        ++ calls_explained caller.now.is_whole text.now (state_of state.old) caller.now.thread calls.now) }
 {
     let mut rest = text;
     for answered in calls {
@@ -211,7 +211,7 @@ fn event_explained(
     let (asked, _) = rest.split_at(place.count.min(rest.len()));
     make(&mut state, event.thread, before, meter)?;
     let mut out = Vec::new(state.alloc());
-    put_calls(&mut out, text, &mut state, caller, asked, meter)?;
+    put_calls(&mut out, text, &mut state, &caller, asked, meter)?;
     Ok(out)
 }
 
@@ -272,7 +272,7 @@ fn put_read(
     // (a type that a reply has, which the proof names)
     let _mapping: Option<Mapping> = None;
     let thread = read.thread;
-    let told = query_text(state, Caller { thread, is_whole }, &read.query, meter)?;
+    let told = query_text(state, &Caller { thread, is_whole }, &read.query, meter)?;
     let reply = ask(state, thread, &read.query, meter);
     put_answer(out, line, &Answer { reply, told })
 }

@@ -30,7 +30,7 @@ fn put_ranks(out: &mut Vec<u8>, ranks: Ranks) -> Result<(), NoMemory>
     ensures { OnOk result (out.new.items ≡ out.old.items ++ ranks_text ranks) }
 {
     put_rank(out, ranks.left)?;
-    out.extend_from_slice(b" is above ")?;
+    out.extend_from_slice(b" above ")?;
     put_rank(out, ranks.right)?;
     out.push(b'\n')?;
     Ok(())
@@ -40,7 +40,7 @@ fn put_ranks(out: &mut Vec<u8>, ranks: Ranks) -> Result<(), NoMemory>
 fn put_failure(out: &mut Vec<u8>, failure: Failure) -> Result<(), NoMemory>
     ensures { OnOk result (out.new.items ≡ out.old.items ++ failure_text failure) }
 {
-    out.extend_from_slice(b"          in category #")?;
+    out.extend_from_slice(b"          #")?;
     put_number(out, failure.category.0)?;
     out.extend_from_slice(b": ")?;
     put_ranks(out, failure.ranks)
@@ -63,7 +63,7 @@ fn put_rest(out: &mut Vec<u8>, rest: Option<Ranks>) -> Result<(), NoMemory>
     match rest {
         None => Ok(()),
         Some(ranks) => {
-            out.extend_from_slice(b"          in all other categories: ")?;
+            out.extend_from_slice(b"          all others: ")?;
             put_ranks(out, ranks)
         }
     }

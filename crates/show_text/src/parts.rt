@@ -2,7 +2,7 @@
 ghost use Rattle.std.specs.Prelude.{◌≡◌, ◌++◌, ◌∷◌, ◌≤◌, [], OnOk, decimal, codes};
 ghost use Rattle.std.specs.List.{flat_map};
 ghost use Rattle.explained.specs.Parts.{is_against};
-ghost use Rattle.show_text.specs.Parts.{label_text, mapping_text, is_text, raised_text, comparison_text, least_text, most_text, more_text, empty_text, apart_text, said_text};
+ghost use Rattle.show_text.specs.Parts.{label_text, mapping_text, at_most_text, raised_text, maximum_text, floor_text, comparison_text, least_text, most_text, more_text, empty_text, apart_text, said_text};
 ghost use Rattle.show_text.specs.Parts.{part_mark, finding_mark, shown_text, part_text, finding_text, reason_text, reasons_text, condition_text};
 
 use crate::facts::told_text;
@@ -33,11 +33,78 @@ fn put_mapping(out: &mut Vec<u8>, mapping: Option<Mapping>) -> Result<(), NoMemo
     put_bare(out, &Reply::Mapping(mapping))
 }
 
-/// Is, or is not.
-fn is_text(against: bool) -> &'static str
-    ensures { result.now ≡ is_text against }
+/// Adds a label, some words, and a second label.
+fn put_two(
+    out: &mut Vec<u8>,
+    first: &Option<Label>,
+    words: &str,
+    second: &Option<Label>,
+) -> Result<(), NoMemory>
+    ensures { OnOk result (out.new.items
+        ≡ out.old.items ++ (label_text first.now ++ words.now ++ label_text second.now)) }
 {
-    if against { " is not " } else { " is " }
+    put_label(out, first)?;
+    out.extend_from_slice(words.as_bytes())?;
+    put_label(out, second)
+}
+
+/// Adds two labels with words between them, and more words.
+fn put_three(
+    out: &mut Vec<u8>,
+    first: &Option<Label>,
+    words: &str,
+    second: &Option<Label>,
+    third: &Option<Label>,
+) -> Result<(), NoMemory>
+    ensures { OnOk result (out.new.items ≡ out.old.items
+        ++ (label_text first.now ++ words.now ++ label_text second.now ++ codes " and " ++ label_text third.now)) }
+{
+    put_two(out, first, words, second)?;
+    out.extend_from_slice(b" and ")?;
+    put_label(out, third)
+}
+
+/// Adds two labels with words between them, and that the second is taken with star raised.
+fn put_two_raised(
+    out: &mut Vec<u8>,
+    first: &Option<Label>,
+    words: &str,
+    second: &Option<Label>,
+) -> Result<(), NoMemory>
+    ensures { OnOk result (out.new.items ≡ out.old.items
+        ++ (label_text first.now ++ words.now ++ label_text second.now ++ codes " with star raised")) }
+{
+    put_two(out, first, words, second)?;
+    out.extend_from_slice(b" with star raised")?;
+    Ok(())
+}
+
+/// Adds three labels with words between them, and that the third is taken with star raised.
+fn put_three_raised(
+    out: &mut Vec<u8>,
+    first: &Option<Label>,
+    words: &str,
+    second: &Option<Label>,
+    third: &Option<Label>,
+) -> Result<(), NoMemory>
+    ensures { OnOk result (out.new.items ≡ out.old.items
+        ++ (label_text first.now ++ words.now ++ label_text second.now ++ codes " and " ++ label_text third.now
+        ++ codes " with star raised")) }
+{
+    put_three(out, first, words, second, third)?;
+    out.extend_from_slice(b" with star raised")?;
+    Ok(())
+}
+
+/// How a label stands to another one, or does not.
+fn at_most_text(against: bool) -> &'static str
+    ensures { result.now ≡ at_most_text against }
+{
+    if against {
+        " is not at most "
+    } else {
+        " is at most "
+    }
 }
 
 /// The same of a label whose star is raised.
@@ -45,88 +112,45 @@ fn raised_text(against: bool) -> &'static str
     ensures { result.now ≡ raised_text against }
 {
     if against {
-        " with star raised is not "
+        " with star raised is not at most "
     } else {
-        " with star raised is "
+        " with star raised is at most "
     }
 }
 
-/// Adds a label, whether it stands so to a second one, and that.
-fn put_two(
-    out: &mut Vec<u8>,
-    first: &Option<Label>,
-    is: &str,
-    relation: &str,
-    second: &Option<Label>,
-) -> Result<(), NoMemory>
-    ensures { OnOk result (out.new.items
-        ≡ out.old.items ++ (label_text first.now ++ is.now ++ relation.now ++ label_text second.now)) }
+/// How a label stands to the maximum of two others.
+fn maximum_text(against: bool) -> &'static str
+    ensures { result.now ≡ maximum_text against }
 {
-    put_label(out, first)?;
-    out.extend_from_slice(is.as_bytes())?;
-    out.extend_from_slice(relation.as_bytes())?;
-    put_label(out, second)
+    if against {
+        " is not at most the maximum of "
+    } else {
+        " is at most the maximum of "
+    }
 }
 
-/// Adds a label, whether it stands so to two others, and these.
-fn put_three(
-    out: &mut Vec<u8>,
-    first: &Option<Label>,
-    is: &str,
-    relation: &str,
-    others: (&Option<Label>, &Option<Label>),
-) -> Result<(), NoMemory>
-    ensures { OnOk result (out.new.items ≡ out.old.items ++ (label_text first.now ++ is.now ++ relation.now
-        ++ label_text others.0.now ++ codes " and " ++ label_text others.1.now)) }
+/// How a label stands to the floor of two others.
+fn floor_text(against: bool) -> &'static str
+    ensures { result.now ≡ floor_text against }
 {
-    put_two(out, first, is, relation, others.0)?;
-    out.extend_from_slice(b" and ")?;
-    put_label(out, others.1)
-}
-
-/// Adds two labels, of which the second is taken with star raised.
-fn put_two_raised(
-    out: &mut Vec<u8>,
-    first: &Option<Label>,
-    is: &str,
-    second: &Option<Label>,
-) -> Result<(), NoMemory>
-    ensures { OnOk result (out.new.items ≡ out.old.items ++ (label_text first.now ++ is.now ++ codes "at most "
-        ++ label_text second.now ++ codes " with star raised")) }
-{
-    put_two(out, first, is, "at most ", second)?;
-    out.extend_from_slice(b" with star raised")?;
-    Ok(())
-}
-
-/// Adds three labels, of which the third is taken with star raised.
-fn put_three_raised(
-    out: &mut Vec<u8>,
-    first: &Option<Label>,
-    is: &str,
-    others: (&Option<Label>, &Option<Label>),
-) -> Result<(), NoMemory>
-    ensures { OnOk result (out.new.items ≡ out.old.items ++ (label_text first.now ++ is.now
-        ++ codes "at most the maximum of " ++ label_text others.0.now ++ codes " and " ++ label_text others.1.now
-        ++ codes " with star raised")) }
-{
-    put_three(out, first, is, "at most the maximum of ", others)?;
-    out.extend_from_slice(b" with star raised")?;
-    Ok(())
+    if against {
+        " is not at least the floor of "
+    } else {
+        " is at least the floor of "
+    }
 }
 
 /// Adds what is to be so of labels, or that it is not.
 fn put_comparison(out: &mut Vec<u8>, against: bool, labels: &Comparison) -> Result<(), NoMemory>
     ensures { OnOk result (out.new.items ≡ out.old.items ++ comparison_text against labels.now) }
 {
-    let is = is_text(against);
     match labels {
-        Comparison::Below(a, b) => put_two(out, a, is, "at most ", b),
-        Comparison::Visible(a, b) => put_two_raised(out, a, is, b),
+        Comparison::Below(a, b) => put_two(out, a, at_most_text(against), b),
+        Comparison::Visible(a, b) => put_two_raised(out, a, at_most_text(against), b),
         Comparison::Shown(a, b) => put_two_raised(out, a, raised_text(against), b),
-        Comparison::BelowJoin(a, b, c) => put_three(out, a, is, "at most the maximum of ", (b, c)),
-        Comparison::BelowJoinUp(a, b, c) => put_three_raised(out, a, is, (b, c)),
-        Comparison::AboveFloor(a, b, c) => put_three(out, c, is, "at least the floor of ", (a, b)),
+        Comparison::BelowJoin(a, b, c) => put_three(out, a, maximum_text(against), b, c),
+        Comparison::BelowJoinUp(a, b, c) => put_three_raised(out, a, maximum_text(against), b, c),
+        Comparison::AboveFloor(a, b, c) => put_three(out, c, floor_text(against), a, b),
     }
 }
 

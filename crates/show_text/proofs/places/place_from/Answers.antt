@@ -2,6 +2,7 @@ use Rattle.std.proofs.Common.{◌+◌, ◌-◌, List, Some, length, drop, ap, sy
 use Rattle.dump_text.specs.declared.tables.PlacedRead.{PlacedRead}
 use Rattle.show_text.proofs.PlaceLaws.{asked, here, further}
 use Rattle.show_text.specs.Places.{place_from}
+use Rattle.show_text.specs.declared.places.Content.TheVariants.{Calls}
 use Rattle.show_text.specs.declared.places.Place.{Place}
 use Rattle.show_text.proofs.places.place_from.Goals as goal
 
@@ -16,13 +17,14 @@ loop-number-preserved c =
 
 pub returns-then-left-asked : goal.returns-then-left-asked
 returns-then-left-asked c =
-    asked c.loop-number.number c.loop-number.left (length c.part_reads.result.0.now) (drop c.loop-number.number c.args.events.now)
-    c.loop-number.rest.now (ap length c.part_reads.ensures.here) c.if-left-asked.true
+    c.read_in.ensures
+    ∙ asked c.loop-number.number c.loop-number.left c.part_reads.result.0.now c.index-events-number.result c.args.events.now
+    c.loop-number.rest.now c.loop-number-test.true c.index-events-number.is c.part_reads.ensures.here c.if-left-asked.true
     ∙ c.loop-number.invariant
 
 pub returns-then-left-count : goal.returns-then-left-count
 returns-then-left-count c =
-    ap (λ (p : Place). Some p) c.place_in.ensures
+    ap (λ (p : Place). Some (Calls p)) c.place_in.ensures
     ∙ here c.loop-number.number c.loop-number.left (length c.part_reads.result.0.now) c.event_line_count-count.result
     c.index-events-number.result c.args.events.now c.loop-number.rest.now c.loop-number-test.true c.index-events-number.is
     (ap length c.part_reads.ensures.here) c.if-left-asked.false c.event_line_count-count.ensures c.if-left-count.true
