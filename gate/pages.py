@@ -239,10 +239,11 @@ def show(report):
 def draw():
     """Draws the pictures of a page anew, by Chromium."""
     with tempfile.TemporaryDirectory(prefix="pages-") as room:
-        if page_of(SHOWN[0], f"{room}/page.html", *SHOWN[1:]) is None:
+        page = f"{room}/{os.path.basename(SHOWN[0]).replace('.dump', '.html')}"
+        if page_of(SHOWN[0], page, *SHOWN[1:]) is None:
             sys.exit(f"pages: {SHOWN[0]} has no page")
         for picture, size in PICTURES.items():
-            take(f"{room}/page.html", picture, size)
+            take(page, picture, size)
 
 
 def take(page, picture, size):
