@@ -1,7 +1,7 @@
 """Pages and colours: what `./histar-show page` writes, against what `tree` and `why` print and the auditor traces of the same dump; its
 script in headless Chromium, where that is there; and `tree` in colours, on a terminal too.
 
-python3 -m gate.pages DUMP PICTURE [WORD..]    draws the picture of a page, made with these words, after its last event"""
+python3 -m gate.pages    draws the pictures of a page anew"""
 import glob
 import html
 import json
@@ -29,6 +29,9 @@ KEYS = "<script>for (const key of ['e', 'ArrowLeft', 'ArrowLeft', 'ArrowRight', 
 HELD = "<script>for (const key of ['e', 'ArrowLeft']) document.dispatchEvent(new KeyboardEvent('keydown', { key, ctrlKey: key !== 'e' }));</script>"
 REFUSED = "<script>for (const key of ['g', 'n']) document.dispatchEvent(new KeyboardEvent('keydown', { key }));</script>"
 LEAK = "examples/dumps/leak.dump"
+# What the pictures of docs/ show, and how wide: on a desk and on a telephone.
+SHOWN = ("examples/dumps/scanner.dump", "--from", "4", "--category", "1")
+PICTURES = {"docs/page.png": "1280,560", "docs/page_narrow.png": "390,844"}
 
 
 def page_of(dump, file, *words):
@@ -233,13 +236,22 @@ def show(report):
         browse(report, room)
 
 
-def draw(dump, picture, *words):
+def draw():
+    """Draws the pictures of a page anew, by Chromium."""
     with tempfile.TemporaryDirectory(prefix="pages-") as room:
-        if page_of(dump, f"{room}/page.html", *words) is None:
-            sys.exit(f"pages: {dump} has no page")
-        browser = ["chromium", "--headless", "--no-sandbox", "--disable-gpu", f"--user-data-dir={room}/home", "--window-size=1280,560"]
-        subprocess.run([*browser, f"--screenshot={picture}", f"file://{room}/page.html#99999"], check=True, stderr=subprocess.DEVNULL)
+        page = f"{room}/{os.path.basename(SHOWN[0]).replace('.dump', '.html')}"
+        if page_of(SHOWN[0], page, *SHOWN[1:]) is None:
+            sys.exit(f"pages: {SHOWN[0]} has no page")
+        for picture, size in PICTURES.items():
+            take(page, picture, size)
+
+
+def take(page, picture, size):
+    """A picture of a page in a window of this size."""
+    with tempfile.TemporaryDirectory(prefix="pages-") as home:
+        browser = ["chromium", "--headless", "--no-sandbox", "--disable-gpu", f"--user-data-dir={home}", f"--window-size={size}"]
+        subprocess.run([*browser, f"--screenshot={os.path.abspath(picture)}", f"file://{page}"], check=True, stderr=subprocess.DEVNULL)
 
 
 if __name__ == "__main__":
-    draw(*sys.argv[1:])
+    draw()

@@ -23,7 +23,7 @@ FILES = {
 }
 
 PYTHON = "import ctypes; it = ctypes.CDLL('libhistar.so.0'); print(it.histar_version(), hasattr(it, 'histar_boot'), hasattr(it, 'rattle_alloc'))"
-OTHER = 'sed "s/VERSION_NUMBER .*/VERSION_NUMBER 1/" /usr/include/histar.h > /srv/histar.h && cc -I/srv'
+OTHER = r'sed "s/\(define HISTAR_VERSION_NUMBER\) .*/\1 1/" /usr/include/histar.h > /srv/histar.h && cc -I/srv'
 
 # What is typed there, and what it prints.
 ROWS = (
