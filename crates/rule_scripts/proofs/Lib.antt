@@ -1,4 +1,5 @@
 pub mod Corners
 pub mod Hostile
 pub mod Large
+pub mod Runs
 pub mod Worked

@@ -380,7 +380,7 @@ def main():
         body += f'\npub every : {name}Answer\nevery = {proofs}\n'
         stands = (f'Rattle.rule_scripts.specs.{name}', f"{name}Answer {' '.join(map(stated, claims))}")
         files.put(crate / f'proofs/{name}.antt', module(f'-- The scripts by computation. {told}', body, stands))
-    for folder, first in (('specs', ['Play']), ('proofs', [])):
+    for folder, first in (('specs', ['Play', 'Runs']), ('proofs', ['Runs'])):
         names = sorted(first + modules)
         files.put(crate / folder / 'Lib.antt', ''.join(f'pub mod {name}\n' for name in names))
     for path in files.other if files.is_check else []:

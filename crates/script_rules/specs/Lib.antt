@@ -1,0 +1,5 @@
+pub mod Asking
+pub mod Lines
+pub mod Names
+pub mod Run
+pub mod Workers
