@@ -19,6 +19,7 @@ from gate.scripts import script
 
 SEEDS = range(1, 41)
 RECORDS = 10_000_000
+SESSIONS = 100_000
 FUZZ_SECONDS = int(os.environ.get("FUZZ_SECONDS", "60"))
 THREAD_SECONDS = int(os.environ.get("THREAD_SECONDS", "60"))
 WARNINGS = ["-Wall", "-Wextra", "-Wpedantic", "-Werror"]
@@ -266,6 +267,9 @@ class Bindings:
         records = self.compile([compiler, "-std=gnu11"], "random_records.c", "records", *WARNINGS)
         if records:
             self.counts(f"{RECORDS:,} random records leave the heap as it was", records, str(RECORDS))
+        soak = self.compile([compiler, "-std=gnu11"], "soak.c", "soak", *WARNINGS)
+        if soak:
+            self.counts(f"{SESSIONS:,} sessions of 100 writes take no memory", soak, str(SESSIONS), "100")
         self.compile([compiler, "-std=gnu11"], "bench.c", "bench", *WARNINGS)
         self.try_refused(compiler)
         if not shutil.which("valgrind"):
