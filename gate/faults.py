@@ -25,7 +25,7 @@ GIVEN = {
     "saves": "cat_create\nsave nowhere/script\n",
 }
 OLD = "what was there before\n"
-OPTIONS_OF_ALL = {"--help", "-h"}
+OPTIONS_OF_ALL = {"--help", "-h", "--version", "-V"}
 
 
 def put(file, made):
