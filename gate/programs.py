@@ -262,11 +262,14 @@ def build(names):
 
 
 def end(status, text):
-    """Says why a start ends, and returns its status. What fails on a full disk fails for that."""
-    if status in (NOT_PROVED, NO_ROOM) and left_on_disks() < FULL:
-        status, text = NO_ROOM, "the disk is full"
+    """Says why a start ends, and returns its status."""
     print(f"prove: {text}", file=sys.stderr, flush=True)
     return status
+
+
+def fail(status, text):
+    """The same of what failed, on a full disk for that."""
+    return end(NO_ROOM, "the disk is full") if left_on_disks() < FULL else end(status, text)
 
 
 def prove(names=PROGRAMS):
@@ -279,8 +282,8 @@ def prove(names=PROGRAMS):
         with locked():
             build(names)
     except Ended as fault:
-        return end(fault.status, fault)
+        return (fail if fault.status == NOT_PROVED else end)(fault.status, fault)
     except OSError as fault:
-        return end(NO_ROOM, f"{fault.filename or 'this tree'} can't be written: {fault.strerror}")
+        return fail(NO_ROOM, f"{fault.filename or 'this tree'} can't be written: {fault.strerror}")
     print(f"prove: {TO_RUN if names == PROGRAMS else f'{chr(32).join(names)}: proved and built'}", flush=True)
     return 0

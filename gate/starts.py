@@ -21,8 +21,8 @@ from gate.programs import PROGRAMS, TO_RUN
 from gate.report import Report
 
 CRATES = "low:\n" + "".join(f"{it}: low\n" for it in PROGRAMS)
-# (No run has proved it before, since its number is of this one.)
-PROVABLE = f"//! Number {time.time_ns()}.\n#![tactic(auto)]\n\n/// Gives half of it.\npub fn half(n: u8) -> u8 {{\n    n / 2\n}}\n"
+# (Its name is of this run alone: no earlier one has proved it, or a program over it.)
+PROVABLE = f"//! A number.\n#![tactic(auto)]\n\n/// Gives half of it.\npub fn half_{time.time_ns()}(n: u8) -> u8 {{\n    n / 2\n}}\n"
 # (of which nothing was kept)
 OTHER = PROVABLE.replace("half", "third").replace("n / 2", "n / 3")
 WRONG = PROVABLE.replace("n / 2", "2 / n")
@@ -320,7 +320,7 @@ def try_stored_run(report, tree):
 def shrink(disk):
     """Leaves a file system of memory no more than it holds."""
     held = os.statvfs(disk)
-    size = (held.f_blocks - held.f_bfree) * held.f_frsize + 2_000_000
+    size = (held.f_blocks - held.f_bfree) * held.f_frsize + 100_000
     subprocess.run(["mount", "-o", f"remount,size={size}", disk], check=True)
 
 
