@@ -37,7 +37,8 @@ static long resident(void)
 enum { STEPS = 1 << 18 };
 
 struct session {
-    uint64_t category, thread, secret;
+    histar_category category;
+    histar_object thread, secret;
 };
 
 static void comes(struct session *it)
