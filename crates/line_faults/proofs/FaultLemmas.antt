@@ -1,5 +1,5 @@
 -- Where a text stops being the beginning of a well-formed one: right at its beginning, or after what is right.
-use Rattle.std.proofs.Common.{◌≡◌, ◌∙◌, ℕ, zero, suc, ◌<◌, true, false, Bool, get_or, slice_index_or, List, [], ◌∷◌, ◌++◌, length, take, Option, Some, None, inl, inr, refl, sym, ap, subst, arith, append_assoc, length-append}
+use Rattle.std.proofs.Common.{◌≡◌, ◌∙◌, ◌+◌, ℕ, zero, suc, ◌<◌, ◌≤◌, drop, true, false, Bool, get_or, slice_index_or, List, [], ◌∷◌, ◌++◌, length, take, Option, Some, None, inl, inr, refl, sym, ap, subst, arith, append_assoc, length-append}
 use Rattle.std.proofs.Math.Seq.{take-append-add, drop-append-add}
 use Rattle.text_words.specs.Lacks.{lacks}
 use Rattle.text_words.proofs.LackLemmas.{lacks-append}
@@ -14,9 +14,9 @@ use Rattle.call_text.specs.Line.{mark}
 use Rattle.line_faults.specs.declared.expected.Expected.{Expected}
 use Rattle.line_faults.specs.declared.expected.Expected.TheVariants as expected
 use Rattle.line_faults.specs.declared.expected.Fault.{Fault}
-use Rattle.line_faults.specs.Faults.{IsWorker, IsExpected, IsArgument, BeginsWith, GoesOn, StopsAt, TellsFault, further, space_before}
+use Rattle.line_faults.specs.Faults.{IsWorker, IsExpected, IsArgument, AllFollow, BeginsWith, EndsWord, GoesOn, MayFollow, StopsAt, TellsFault, further, space_before}
 
-mark_lacks : (m : Bool) → lacks 32 (mark m) ≡ true
+pub mark_lacks : (m : Bool) → lacks 32 (mark m) ≡ true
 mark_lacks false = refl
 mark_lacks true = refl
 
@@ -58,41 +58,87 @@ pub no_word : (e : Expected) (text : List ℕ) → space_before e ≡ 32 ∷ [] 
 no_word e text space none (begun, more, fits, more_is, same) = none (begun ++ more) (same ∙ ap (λ (s : List ℕ). s ++ (begun ++ more)) space)
 
 -- a text that stops right at its beginning
-pub stops_here : {V : Type 0} (text : V → List ℕ) (Fits : V → Type 0) (bytes : List ℕ) (e : Expected) (whole : V) → Fits whole
-    → GoesOn e (text whole) → (GoesOn e bytes → ⊥) → StopsAt text Fits bytes (record { before = 0; expected = e })
-stops_here text Fits bytes e whole fits goes_on stops = record {
+pub stops_here : {V : Type 0} (text : V → List ℕ) (Fits : V → Type 0) (bytes : List ℕ) (e : Expected) → ((v : V) → Fits v → GoesOn e (text v))
+    → AllFollow e (MayFollow text Fits []) → (GoesOn e bytes → ⊥) → StopsAt text Fits bytes (record { before = 0; expected = e })
+stops_here text Fits bytes e follows all stops = record {
   within = omega arith;
-  whole = whole;
-  fits = fits;
-  more = text whole;
-  goes_on = goes_on;
-  begins = refl;
+  ends = tt;
+  follows = λ more may. subst (GoesOn e) may.2 (follows may.0 may.1);
+  all = all;
   stops = stops;
 }
 
--- what stands after the right words of a text is the rest of one
-abbrev pub Continues : {U V : Type 0} → List ℕ → (U → List ℕ) → (U → Type 0) → (V → List ℕ) → (V → Type 0) → Type 0
-Continues {U} {V} front part PartFits text Fits = (u : U) → PartFits u → (v : V) × Fits v × (text v ≡ front ++ part u)
+-- Well-formed texts that begin with these words go on with the rest of one, and all rests follow them. A rest begins with a space.
+pub record Continues {U V : Type 0} (front : List ℕ) (part : U → List ℕ) (PartFits : U → Type 0) (text : V → List ℕ) (Fits : V → Type 0) : Type 0 where
+  pub spaced : (u : U) → PartFits u → IsRest (part u)
+  pub on : (u : U) → PartFits u → (v : V) × Fits v × (text v ≡ front ++ part u)
+  pub back : (v : V) → Fits v → (after : List ℕ) → IsRest after → text v ≡ front ++ after → (u : U) × PartFits u × (part u ≡ after)
+
+-- where words end
+ends_to : (front other more : List ℕ) → 1 ≤ length front → IsRest more → EndsWord (front ++ other) more
+ends_to [] other more some is = absurd (omega arith)
+ends_to (b ∷ front) other more some is = is
+
+ends_from : (front other more : List ℕ) → 1 ≤ length front → EndsWord (front ++ other) more → IsRest more
+ends_from [] other more some is = absurd (omega arith)
+ends_from (b ∷ front) other more some is = is
+
+ends_any : (front more : List ℕ) → IsRest more → EndsWord front more
+ends_any [] more is = tt
+ends_any (b ∷ front) more is = is
+
+ends_of : (front more : List ℕ) → IsRest (front ++ more) → EndsWord front more → IsRest more
+ends_of [] more is ends = is
+ends_of (b ∷ front) more is ends = ends
+
+rest_before : (rest : List ℕ) (k : ℕ) (more : List ℕ) → IsRest rest → IsRest more → IsRest (take k rest ++ more)
+rest_before [] zero more is then = then
+rest_before [] (suc k) more is then = then
+rest_before (b ∷ rest) zero more is then = then
+rest_before (b ∷ rest) (suc k) more is then = is
+
+rest_after : (rest : List ℕ) (k : ℕ) → IsRest rest → EndsWord (take k rest) (drop k rest) → IsRest (drop k rest)
+rest_after [] zero is ends = is
+rest_after [] (suc k) is ends = tt
+rest_after (b ∷ rest) zero is ends = is
+rest_after (b ∷ rest) (suc k) is ends = ends
+
+-- what all follow where others do
+all_follow : (e : Expected) (F G : List ℕ → Type 0) → ((more : List ℕ) → F more → G more) → AllFollow e F → AllFollow e G
+all_follow expected.Beginning F G on all = λ word is. let one = all word is in (one.0, one.1, on (word ++ one.0) one.2)
+all_follow expected.Equals F G on all = λ word is. let one = all word is in (one.0, one.1, on (32 ∷ (word ++ one.0)) one.2)
+all_follow expected.Worker F G on all = λ word is. let one = all word is in (one.0, one.1, on (32 ∷ (word ++ one.0)) one.2)
+all_follow (expected.Call binds more) F G on all = λ word is. let one = all word is in (one.0, one.1, on (32 ∷ (word ++ one.0)) one.2)
+all_follow (expected.Argument kind) F G on all = λ word is. let one = all word is in (one.0, one.1, on (32 ∷ (word ++ one.0)) one.2)
+all_follow expected.End F G on all = on [] all
 
 -- a fault of the rest is one of the whole
 pub stops_after : {U V : Type 0} (front rest bytes : List ℕ) (n : ℕ) (part : U → List ℕ) (PartFits : U → Type 0) (text : V → List ℕ) (Fits : V → Type 0)
-    → Continues front part PartFits text Fits → bytes ≡ front ++ rest → n ≡ length front
+    → Continues front part PartFits text Fits → 1 ≤ length front → IsRest rest → bytes ≡ front ++ rest → n ≡ length front
     → (found : Option Fault) → TellsFault part PartFits rest found → TellsFault text Fits bytes (further n found)
-stops_after front rest bytes n part PartFits text Fits on is len None told =
-    let v = on told.0 told.1 in
+stops_after front rest bytes n part PartFits text Fits continues some spaced is len None told =
+    let v = continues.on told.0 told.1 in
     (v.0, v.1, is ∙ ap (λ (r : List ℕ). front ++ r) told.2 ∙ sym v.2)
-stops_after front rest bytes n part PartFits text Fits on is len (Some f) told =
-    let v = on told.whole told.fits in
+stops_after front rest bytes n part PartFits text Fits continues some spaced is len (Some f) told =
+    let t : take (length front + f.before) (front ++ rest) ≡ front ++ take f.before rest = take-append-add front rest f.before in
+    let d : drop (length front + f.before) (front ++ rest) ≡ drop f.before rest = drop-append-add front rest f.before in
     rw (is, len) (record {
       within = let k = told.within in let l = length-append front rest in omega arith;
-      whole = v.0;
-      fits = v.1;
-      more = told.more;
-      goes_on = told.goes_on;
-      begins = v.2 ∙ ap (λ (r : List ℕ). front ++ r) told.begins
-          ∙ sym (append_assoc front (take f.before rest) told.more)
-          ∙ ap (λ (r : List ℕ). r ++ told.more) (sym (take-append-add front rest f.before));
-      stops = λ h. told.stops (subst (GoesOn f.expected) (drop-append-add front rest f.before) h);
+      ends = rw (t, d) (ends_to front (take f.before rest) (drop f.before rest) some (rest_after rest f.before spaced told.ends));
+      follows = rw t (λ more may.
+          let then : IsRest more = ends_from front (take f.before rest) more some may.3 in
+          let u = continues.back may.0 may.1 (take f.before rest ++ more) (rest_before rest f.before more spaced then)
+          (may.2 ∙ append_assoc front (take f.before rest) more) in
+          told.follows more (u.0, u.1, u.2, ends_any (take f.before rest) more then));
+      all = rw t (all_follow f.expected (MayFollow part PartFits (take f.before rest)) (MayFollow text Fits (front ++ take f.before rest)) (λ more may.
+          let v = continues.on may.0 may.1 in
+          let then : IsRest more = ends_of (take f.before rest) more (subst IsRest may.2 (continues.spaced may.0 may.1)) may.3 in (
+            v.0,
+            v.1,
+            v.2 ∙ ap (λ (r : List ℕ). front ++ r) may.2 ∙ sym (append_assoc front (take f.before rest) more),
+            ends_to front (take f.before rest) more some then,
+          )) told.all);
+      stops = λ h. told.stops (subst (GoesOn f.expected) d h);
     })
 
 -- one word that was read as an argument
@@ -110,3 +156,21 @@ pub in_place : (vs : List Verb) (k : ℕ) (v d : Verb) → k < length vs → sli
 in_place [] k v d lt is = absurd (omega arith)
 in_place (x ∷ vs) zero v d lt is = is
 in_place (x ∷ vs) (suc k) v d lt is = in_place vs k v d (omega arith) is
+
+-- a text that goes on with an expected word does so whatever follows the word
+same_begins : (e : Expected) (word rest more : List ℕ) → lacks 32 word ≡ true → IsRest rest → IsRest more
+    → BeginsWith e (space_before e ++ (word ++ more)) → BeginsWith e (space_before e ++ (word ++ rest))
+same_begins e word rest more lack rest_is more_is (begun, other, fits, other_is, same) =
+    let p = word_is word begun more other lack (expected_lacks e begun fits) more_is other_is (after_space e (word ++ more) (begun ++ other) same) in
+    (word, rest, subst (IsExpected e) (sym p.0) fits, rest_is, refl)
+
+pub same_goes_on : (e : Expected) (word rest more : List ℕ) → lacks 32 word ≡ true → IsRest rest → IsRest more
+    → GoesOn e (space_before e ++ (word ++ more)) → GoesOn e (space_before e ++ (word ++ rest))
+same_goes_on expected.Beginning word rest more lack rest_is more_is goes = same_begins expected.Beginning word rest more lack rest_is more_is goes
+same_goes_on expected.Equals word rest more lack rest_is more_is goes = same_begins expected.Equals word rest more lack rest_is more_is goes
+same_goes_on expected.Worker word rest more lack rest_is more_is goes = same_begins expected.Worker word rest more lack rest_is more_is goes
+same_goes_on (expected.Call binds goes_on) word rest more lack rest_is more_is goes =
+    same_begins (expected.Call binds goes_on) word rest more lack rest_is more_is goes
+same_goes_on (expected.Argument kind) word rest more lack rest_is more_is goes =
+    same_begins (expected.Argument kind) word rest more lack rest_is more_is goes
+same_goes_on expected.End word rest more lack rest_is more_is goes = absurd cc

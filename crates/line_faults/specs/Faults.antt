@@ -54,16 +54,29 @@ abbrev pub GoesOn : Expected → List ℕ → Type 0
 GoesOn expected.End text = text ≡ []
 GoesOn e text = BeginsWith e text
 
--- The bytes before the place begin a well-formed text that goes on there with what is expected.
--- These bytes don't.
+-- no word goes on over the place between these: nothing stands before it, or a space or nothing after it
+abbrev pub EndsWord : List ℕ → List ℕ → Type 0
+EndsWord [] more = Unit {0}
+EndsWord (b ∷ front) more = IsRest more
+
+-- this follows the words before it in some well-formed text
+abbrev pub MayFollow : {V : Type 0} → (V → List ℕ) → (V → Type 0) → List ℕ → List ℕ → Type 0
+MayFollow {V} text Fits front more =
+    (whole : V) × Fits whole × (text whole ≡ front ++ more) × EndsWord front more
+
+-- each word that is expected may follow, or nothing where the line's end is
+abbrev pub AllFollow : Expected → (List ℕ → Type 0) → Type 0
+AllFollow expected.End Follows = Follows []
+AllFollow e Follows = (word : List ℕ) → IsExpected e word
+    → (rest : List ℕ) × IsRest rest × Follows (space_before e ++ (word ++ rest))
+
+-- In well-formed texts the words before the place are followed by just what is expected. In these bytes they are not.
 pub record StopsAt {V : Type 0} (text : V → List ℕ) (Fits : V → Type 0) (bytes : List ℕ)
     (f : Fault) : Type 0 where
   pub within : f.before ≤ length bytes
-  pub whole : V
-  pub fits : Fits whole
-  pub more : List ℕ
-  pub goes_on : GoesOn f.expected more
-  pub begins : text whole ≡ take f.before bytes ++ more
+  pub ends : EndsWord (take f.before bytes) (drop f.before bytes)
+  pub follows : (more : List ℕ) → MayFollow text Fits (take f.before bytes) more → GoesOn f.expected more
+  pub all : AllFollow f.expected (MayFollow text Fits (take f.before bytes))
   pub stops : GoesOn f.expected (drop f.before bytes) → ⊥
 
 -- the bytes are a well-formed text, or they stop being the beginning of one

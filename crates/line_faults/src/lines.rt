@@ -1,8 +1,11 @@
 //! The fault of a line, part by part.
-ghost use Rattle.std.specs.Prelude.{◌≡◌, Some, IfOk};
+ghost use Rattle.std.specs.Prelude.{◌≡◌, ◌++◌, ℕ, List, Some, IfOk, true, take, drop};
+ghost use Rattle.text_words.specs.Lacks.{lacks};
 ghost use Rattle.spoken_calls.specs.Spoken.{further_text, AreArgs, IsRest};
-ghost use Rattle.call_text.specs.Line.{written_text, IsWritten};
+ghost use Rattle.call_text.specs.Line.{written_text, IsWritten, Written};
 ghost use Rattle.line_faults.specs.Faults.{TellsFault, call_after, IsCall, making_after, IsMaking, bound_after};
+ghost use Rattle.line_faults.specs.Faults.{space_before, MayFollow, StopsAt};
+ghost use Rattle.line_faults.specs.declared.expected.Fault.{Fault as FaultValue};
 
 use crate::expected::{Expected, Fault, further};
 use crate::verbs::{suits, verb_of};
@@ -116,3 +119,14 @@ pub fn fault_in(alloc: Global, line: &[u8]) -> Result<Option<Fault>, AllocError>
     }
     Ok(here(Expected::Beginning))
 }
+
+/// A law, which does nothing when it is called: a line with a fault is not well formed, and no well-formed line has the
+/// words before the fault's place with the line's next word after them.
+pub fn longest_beginning()
+    ensures fault { (line : List ℕ) (f : FaultValue) (whole : Written)
+        → StopsAt written_text IsWritten line f → IsWritten whole → line ≡ written_text whole → ⊥ }
+    ensures longest { (line word rest more : List ℕ) (f : FaultValue)
+        → StopsAt written_text IsWritten line f
+        → drop f.before line ≡ space_before f.expected ++ (word ++ rest) → lacks 32 word ≡ true → IsRest rest → IsRest more
+        → MayFollow written_text IsWritten (take f.before line) (space_before f.expected ++ (word ++ more)) → ⊥ }
+{}

@@ -4,13 +4,15 @@ ghost use Rattle.text_words.specs.Reading.{Reads};
 ghost use Rattle.spoken_calls.specs.declared.verbs.Verb.{Verb as VerbValue};
 ghost use Rattle.spoken_calls.specs.Verb.{name_of, IsOneOf};
 ghost use Rattle.line_faults.specs.Faults.{suits};
+ghost use Rattle.line_faults.specs.Verbs as spec;
 
 use spoken_calls::Verb;
 use text_words::is_same;
 
-/// All calls.
-fn verbs() -> &'static [Verb]
-    ensures { (v : VerbValue) → IsOneOf v result.now }
+/// All calls, the write calls first.
+pub fn all_verbs() -> &'static [Verb]
+    ensures all { result.now ≡ spec.all_verbs }
+    ensures each { (v : VerbValue) → IsOneOf v result.now }
 {
     &[
         Verb::CatCreate,
@@ -54,7 +56,7 @@ fn verbs() -> &'static [Verb]
 pub fn verb_of(word: &[u8]) -> Option<Verb>
     ensures { Reads name_of (λ _. Unit) word.now result }
 {
-    for verb in verbs() {
+    for verb in all_verbs() {
         if is_same(verb.name().as_bytes(), word) {
             return Some(*verb);
         }

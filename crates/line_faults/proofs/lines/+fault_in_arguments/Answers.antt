@@ -15,4 +15,4 @@ returns-then-not-branch t c =
 pub returns : goal.returns
 returns t c =
     next_arg c.args.kinds.now _ c.args.text.now c.in-Some.word.now c.in-Some.rest.now c.in_ok-is_argument.field-0 c.in_ok-found.found c.further.result
-    c.in-len1-up.len_at_least c.in-Some.ensures.parts c.if-not-branch.false c.in_ok-is_argument.ensures c.in_ok-found.ensures c.further.ensures
+    c.in-len1-up.len_at_least c.in-Some.ensures.parts c.in-Some.ensures.word c.in-Some.ensures.rest c.if-not-branch.false c.in_ok-is_argument.ensures c.in_ok-found.ensures c.further.ensures

@@ -14,4 +14,4 @@ returns-then-not-is_same c =
 pub returns : goal.returns
 returns c =
     next_equals c.args.text.now c.in-Some.word.now c.in-Some.rest.now c.in_ok-found.found c.further.result
-    c.in-Some.ensures.parts (c.if-not-is_same.ensures.0 refl) c.in_ok-found.ensures c.further.ensures
+    c.in-Some.ensures.parts c.in-Some.ensures.rest (c.if-not-is_same.ensures.0 refl) c.in_ok-found.ensures c.further.ensures

@@ -20,5 +20,5 @@ returns-then-not-suits c =
 pub returns : goal.returns
 returns c =
     next_call c.args.binds c.args.more c.args.text.now c.in-Some.word.now c.in-Some.rest.now c.in-Some-verb_of.verb c.kinds.result.now c.suits.result
-    c.in_ok-found.found c.further.result c.in-Some.ensures.parts c.in-Some-verb_of.ensures.1 c.suits.ensures c.if-not-suits.false
+    c.in_ok-found.found c.further.result c.in-Some.ensures.parts c.in-Some.ensures.word c.in-Some.ensures.rest c.in-Some-verb_of.ensures.1 c.suits.ensures c.if-not-suits.false
     c.kinds.ensures c.in_ok-found.ensures c.further.ensures

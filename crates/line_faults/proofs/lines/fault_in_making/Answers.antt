@@ -13,4 +13,4 @@ returns-in_default-batch_mark c =
 pub returns : goal.returns
 returns c =
     next_worker c.in-Some-batch_mark.more c.args.text.now c.in-Some.word.now c.in-Some.rest.now c.in_ok-found.found c.further.result
-    c.in-Some.ensures.parts c.in-Some-batch_mark.ensures c.in_ok-found.ensures c.further.ensures
+    c.in-Some.ensures.parts c.in-Some.ensures.word c.in-Some.ensures.rest c.in-Some-batch_mark.ensures c.in_ok-found.ensures c.further.ensures

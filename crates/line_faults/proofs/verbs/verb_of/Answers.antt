@@ -6,7 +6,7 @@ use Rattle.line_faults.proofs.verbs.verb_of.Goals as goal
 
 pub returns : goal.returns
 returns c = λ v fits is.
-    let one = c.verbs-verb-items.ensures v in
-    let items = c.verbs-verb-items.result.now in
+    let one = c.all_verbs-verb-items.ensures.each v in
+    let items = c.all_verbs-verb-items.result.now in
     let same : get_or items one.0 verbs.CatCreate ≡ v = in_place items one.0 v verbs.CatCreate one.1 one.2 in
     c.loop-verb.invariant one.0 (omega (arith, one.1, c.loop-verb-test.false)) (ap name_of same ∙ sym is)

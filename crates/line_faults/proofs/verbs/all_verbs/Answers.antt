@@ -1,12 +1,9 @@
-use Rattle.std.proofs.Common.{refl, arith, List, ◌∷◌, []}
+use Rattle.std.proofs.Common.{refl, arith}
 use Rattle.spoken_calls.specs.declared.verbs.Verb.{Verb}
 use Rattle.spoken_calls.specs.declared.verbs.Verb.TheVariants as verbs
 use Rattle.spoken_calls.specs.Verb.{IsOneOf}
-use Rattle.line_faults.proofs.verbs.verbs.Goals as goal
-
-abbrev all_verbs : List Verb
-all_verbs =
-    verbs.CatCreate ∷ verbs.SelfSetLabel ∷ verbs.SelfSetClearance ∷ verbs.SelfSetAs ∷ verbs.ContainerCreate ∷ verbs.SegmentCreate ∷ verbs.SegmentCopy ∷ verbs.AsCreate ∷ verbs.ThreadCreate ∷ verbs.GateCreate ∷ verbs.Link ∷ verbs.Unref ∷ verbs.QuotaMove ∷ verbs.SetFixed ∷ verbs.SetImmutable ∷ verbs.MetaSet ∷ verbs.SegmentResize ∷ verbs.SegmentWrite ∷ verbs.AsMap ∷ verbs.AsUnmap ∷ verbs.Store ∷ verbs.GateEnter ∷ verbs.DevSend ∷ verbs.DevRecv ∷ verbs.SelfGet ∷ verbs.ObjLabel ∷ verbs.ObjQuota ∷ verbs.ContainerList ∷ verbs.ContainerParent ∷ verbs.SegmentLen ∷ verbs.SegmentRead ∷ verbs.MetaGet ∷ verbs.AsGet ∷ verbs.Load ∷ []
+use Rattle.line_faults.specs.Verbs.{all_verbs}
+use Rattle.line_faults.proofs.verbs.all_verbs.Goals as goal
 
 each : (v : Verb) → IsOneOf v all_verbs
 each verbs.CatCreate = (0, omega arith, refl)
@@ -44,5 +41,5 @@ each verbs.MetaGet = (31, omega arith, refl)
 each verbs.AsGet = (32, omega arith, refl)
 each verbs.Load = (33, omega arith, refl)
 
-pub returns : goal.returns
-returns c = each
+pub returns-clause-each : goal.returns-clause-each
+returns-clause-each c = each
