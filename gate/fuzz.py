@@ -93,7 +93,7 @@ def is_checked(words, line):
     """Whether the faulty line of a script is told, or warnings where it has none."""
     status, out, err = ran(words)
     path = re.escape(words[-1].encode())
-    told = rb"%s:%d:\d+: error: .+\n" % (path, line) if line else rb"(%s:\d+: warning: .+\n)*" % path
+    told = rb"%s:%d:\d+: error: .+\n(%s:\d+:\d+: error: .+\n)*" % (path, line, path) if line else rb"(%s:\d+: warning: .+\n)*" % path
     return err == b"" and status == (1 if out else 0) and re.fullmatch(told, out) is not None
 
 

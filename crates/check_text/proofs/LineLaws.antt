@@ -1,7 +1,7 @@
 -- What stands before and after the first such byte.
-use Rattle.std.proofs.Common.{◌≡◌, ℕ, suc, ◌+◌, ◌-◌, ◌<◌, ◌==◌, ◌||◌, eq-eqb, Bool, true, false, if◌then◌else◌, List, [], ◌∷◌, ◌++◌, ap, refl, arith}
+use Rattle.std.proofs.Common.{◌≡◌, ℕ, suc, ◌+◌, ◌-◌, ◌<◌, ◌==◌, eq-eqb, Bool, true, false, if◌then◌else◌, Some, List, [], ◌∷◌, ◌++◌, ap, refl, arith}
 use Rattle.text_words.specs.Lacks.{lacks}
-use Rattle.check_text.specs.Lines.{before_byte, after_byte, binds, is_bound_before}
+use Rattle.check_text.specs.Lines.{before_byte, after_byte, binding_line, binds}
 
 before_step : (byte : ℕ) (ends : Bool) (x : ℕ) (told xs : List ℕ) → (if ends then false else lacks byte xs) ≡ true
     → (lacks byte xs ≡ true → told ≡ xs) → (if ends then [] else x ∷ told) ≡ x ∷ xs
@@ -33,5 +33,6 @@ after_none byte (x ∷ xs) h = after_step byte (x == byte) xs (after_byte byte x
 
 -- one line of those that are left
 pub one_more : (count i : ℕ) (name rest : List ℕ) → i < count
-    → is_bound_before (count - i) name rest ≡ (binds name (before_byte 10 rest) || is_bound_before (count - (i + 1)) name (after_byte 10 rest))
+    → binding_line (i + 1) (count - i) name rest
+    ≡ (if binds name (before_byte 10 rest) then Some (i + 1) else binding_line ((i + 1) + 1) (count - (i + 1)) name (after_byte 10 rest))
 one_more count i name rest lt = let n : count - i ≡ suc (count - (i + 1)) = omega arith in rw n refl

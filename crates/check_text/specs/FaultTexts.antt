@@ -5,10 +5,11 @@ use Rattle.spoken_calls.specs.declared.args.ArgKind.TheVariants as kinds
 use Rattle.line_faults.specs.declared.expected.Expected.{Expected}
 use Rattle.line_faults.specs.declared.expected.Expected.TheVariants as expected
 use Rattle.line_faults.specs.declared.expected.Fault.{Fault}
+use Rattle.check_text.specs.Hints.{hint}
 use Rattle.check_text.specs.Lines.{before_byte}
 use Rattle.check_text.specs.Places.{place_text}
 use Rattle.check_text.specs.declared.reasons.Reason.{Reason}
-use Rattle.check_text.specs.declared.reasons.Reason.TheVariants.{Malformed, NoEnd, TooLong, TooMany, Rebinds, Batch}
+use Rattle.check_text.specs.declared.reasons.Reason.TheVariants.{Malformed, NoEnd, TooLong, TooMany, Reserved, Rebinds, Batch}
 
 -- what an argument of a kind is
 abbrev pub kind_text : ArgKind → List ℕ
@@ -67,27 +68,34 @@ abbrev pub IsWithin : List ℕ → Reason → Type 0
 IsWithin line (Malformed fault) = fault.before ≤ length line
 IsWithin line _ = Unit {0}
 
--- what is expected in a line, and what was found
+-- what is expected in a line, what was found, and what that suggests
 abbrev pub malformed_text : List ℕ → Fault → List ℕ
 malformed_text line fault =
     codes "expected "
     ++ (expected_text fault.expected
-    ++ (codes ", found " ++ found_text (text_at line fault.before)))
+    ++ (codes ", found "
+    ++ (found_text (text_at line fault.before) ++ hint fault.expected (text_at line fault.before))))
 
--- why a well-formed line is faulty
-abbrev pub standing_text : Reason → List ℕ
-standing_text (Malformed fault) = []
-standing_text NoEnd = codes "no LF ends the line"
-standing_text TooLong = codes "a line has at most 4,096 bytes"
-standing_text TooMany = codes "a script has at most 65,536 lines"
-standing_text Rebinds = codes "the name is bound already"
-standing_text Batch =
+-- why a well-formed line is faulty, but for a line's number
+abbrev pub standing_words : Reason → List ℕ
+standing_words (Malformed fault) = []
+standing_words NoEnd = codes "no LF ends the line"
+standing_words TooLong = codes "a line has at most 4,096 bytes"
+standing_words TooMany = codes "a script has at most 65,536 lines"
+standing_words Reserved = codes "root, boot and dev are bound at the start"
+standing_words (Rebinds number) = codes "the name is bound in line "
+standing_words Batch =
     codes "a batch has at most 16 lines, after the first one write calls, and ends in its phase"
+
+-- the line that it tells of
+abbrev pub standing_line : Reason → List ℕ
+standing_line (Rebinds number) = decimal number
+standing_line reason = []
 
 -- why a line is faulty
 abbrev pub reason_text : List ℕ → Reason → List ℕ
 reason_text line (Malformed fault) = malformed_text line fault
-reason_text line reason = standing_text reason
+reason_text line reason = standing_words reason ++ standing_line reason
 
 -- the column that is told
 abbrev pub column : List ℕ → Reason → ℕ

@@ -1,5 +1,5 @@
 -- The lines of a text, and the name that a line binds.
-use Rattle.std.specs.Prelude.{ℕ, zero, suc, ◌==◌, ◌&&◌, ◌||◌, List, [], ◌∷◌, Option, Some, None, Bool, false, if◌then◌else◌}
+use Rattle.std.specs.Prelude.{ℕ, zero, suc, ◌+◌, ◌==◌, ◌&&◌, List, [], ◌∷◌, Option, Some, None, Bool, false, if◌then◌else◌}
 use Rattle.std.specs.Str.{bytes_eq}
 
 -- what stands before the first such byte
@@ -35,8 +35,9 @@ is_it name (Some other) = bytes_eq other name
 abbrev pub binds : List ℕ → List ℕ → Bool
 binds name line = is_it name (binding line)
 
--- whether one of the first n lines binds the name
-abbrev pub is_bound_before : ℕ → List ℕ → List ℕ → Bool
-is_bound_before zero name text = false
-is_bound_before (suc n) name text =
-    binds name (before_byte 10 text) || is_bound_before n name (after_byte 10 text)
+-- the first of the first n lines that binds the name, where these lines are numbered from a number
+abbrev pub binding_line : ℕ → ℕ → List ℕ → List ℕ → Option ℕ
+binding_line number zero name text = None
+binding_line number (suc n) name text =
+    if binds name (before_byte 10 text) then Some number
+    else binding_line (number + 1) n name (after_byte 10 text)

@@ -1,11 +1,11 @@
 -- Why a line is the first faulty one.
-use Rattle.std.specs.Prelude.{◌≡◌, ℕ, ◌-◌, ◌||◌, List, length, Option, Some, None, Bool, false, not, nat_lt, nat_le, if◌then◌else◌}
+use Rattle.std.specs.Prelude.{◌≡◌, ℕ, ◌-◌, List, length, Option, Some, None, Bool, not, nat_lt, nat_le, if◌then◌else◌, option_map}
 use Rattle.call_text.specs.Line.{Written, written_text, IsWritten}
 use Rattle.call_text.specs.Script.{is_bound, known_names}
 use Rattle.line_faults.specs.Faults.{StopsAt}
-use Rattle.check_text.specs.Lines.{before_byte, after_lines, binding, is_bound_before}
+use Rattle.check_text.specs.Lines.{before_byte, after_lines, binding, binding_line}
 use Rattle.check_text.specs.declared.reasons.Reason.{Reason}
-use Rattle.check_text.specs.declared.reasons.Reason.TheVariants.{Malformed, NoEnd, TooLong, TooMany, Rebinds, Batch}
+use Rattle.check_text.specs.declared.reasons.Reason.TheVariants.{Malformed, NoEnd, TooLong, TooMany, Reserved, Rebinds, Batch}
 
 -- line n of a text, from 1, and the text from it on
 abbrev pub from_line : ℕ → List ℕ → List ℕ
@@ -14,14 +14,16 @@ from_line n bytes = after_lines (n - 1) bytes
 abbrev pub line_at : ℕ → List ℕ → List ℕ
 line_at n bytes = before_byte 10 (from_line n bytes)
 
--- the name is known at the start of each script, or bound by one of the first lines
-abbrev pub is_bound_there : ℕ → List ℕ → Option (List ℕ) → Bool
-is_bound_there count bytes None = false
-is_bound_there count bytes (Some name) =
-    is_bound name known_names || is_bound_before count name bytes
+-- why a name may not be bound after so many lines: it is known at the start of each script, or one of them binds it
+abbrev pub name_reason : ℕ → List ℕ → Option (List ℕ) → Option Reason
+name_reason count bytes None = None
+name_reason count bytes (Some name) =
+    if is_bound name known_names then Some Reserved
+    else option_map Rebinds (binding_line 1 count name bytes)
 
-abbrev pub rebinds : ℕ → List ℕ → List ℕ → Bool
-rebinds count line bytes = is_bound_there count bytes (binding line)
+abbrev pub or_batch : Option Reason → Reason
+or_batch None = Batch
+or_batch (Some reason) = reason
 
 -- why a well-formed line may not stand after so many others: the first of these that is so
 abbrev pub reason_of : ℕ → Bool → List ℕ → List ℕ → Reason
@@ -29,8 +31,7 @@ reason_of count is_ended line bytes =
     if not is_ended then NoEnd
     else if nat_lt 4096 (length line) then TooLong
     else if nat_le 65536 count then TooMany
-    else if rebinds count line bytes then Rebinds
-    else Batch
+    else or_batch (name_reason count bytes (binding line))
 
 -- the line is well formed
 abbrev pub IsWellFormed : List ℕ → Type 0

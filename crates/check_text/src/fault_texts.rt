@@ -2,14 +2,16 @@
 ghost use Rattle.std.specs.Prelude.{◌≡◌, ◌++◌, ◌≤◌, ◌<◌, ◌^◌, length, map, OnOk};
 ghost use Rattle.check_text.specs.FaultTexts.{kind_text, expected_text, column_of, after_space, text_at, shown_byte, found_text};
 ghost use Rattle.check_text.specs.FaultTexts.{beginning, IsWithin, malformed_text, reason_text, column, fault_text};
-ghost use Rattle.check_text.specs.FaultTexts.{standing_text};
+ghost use Rattle.check_text.specs.FaultTexts.{standing_words};
 
+use crate::hints::put_hint;
 use crate::lines::cut;
 use crate::places::put_place;
 use crate::reasons::Reason;
 use base::NoMemory;
 use line_faults::{Expected, Fault};
 use spoken_calls::ArgKind;
+use std::alloc::Global;
 use text_words::put_number;
 
 /// What an argument of a kind is.
@@ -124,27 +126,35 @@ fn put_found(out: &mut Vec<u8>, text: &[u8]) -> Result<(), NoMemory>
     put_shown(out, beginning(word))
 }
 
-/// Adds what is expected in a line, and what was found.
-fn put_malformed(out: &mut Vec<u8>, line: &[u8], fault: &Fault) -> Result<(), NoMemory>
+/// Adds what is expected in a line, what was found, and what that suggests.
+fn put_malformed(
+    alloc: Global,
+    out: &mut Vec<u8>,
+    line: &[u8],
+    fault: &Fault,
+) -> Result<(), NoMemory>
     requires { fault.now.before ≤ length line.now }
     ensures { OnOk result (out.new.items ≡ out.old.items ++ malformed_text line.now fault.now) }
 {
     out.extend_from_slice(b"expected ")?;
     out.extend_from_slice(expected_text(fault.expected).as_bytes())?;
     out.extend_from_slice(b", found ")?;
-    put_found(out, text_at(line, fault.before))
+    let text = text_at(line, fault.before);
+    put_found(out, text)?;
+    put_hint(alloc, out, fault.expected, text)
 }
 
-/// Why a well-formed line is faulty.
-fn standing_text(reason: Reason) -> &'static str
-    ensures { result.now ≡ standing_text reason }
+/// Why a well-formed line is faulty, but for a line's number.
+fn standing_words(reason: Reason) -> &'static str
+    ensures { result.now ≡ standing_words reason }
 {
     match reason {
         Reason::Malformed(_) => "",
         Reason::NoEnd => "no LF ends the line",
         Reason::TooLong => "a line has at most 4,096 bytes",
         Reason::TooMany => "a script has at most 65,536 lines",
-        Reason::Rebinds => "the name is bound already",
+        Reason::Reserved => "root, boot and dev are bound at the start",
+        Reason::Rebinds(_) => "the name is bound in line ",
         Reason::Batch => {
             "a batch has at most 16 lines, after the first one write calls, and ends in its phase"
         }
@@ -152,14 +162,22 @@ fn standing_text(reason: Reason) -> &'static str
 }
 
 /// Adds why a line is faulty.
-pub fn put_reason(out: &mut Vec<u8>, line: &[u8], reason: Reason) -> Result<(), NoMemory>
+pub fn put_reason(
+    alloc: Global,
+    out: &mut Vec<u8>,
+    line: &[u8],
+    reason: Reason,
+) -> Result<(), NoMemory>
     requires { IsWithin line.now reason }
     ensures { OnOk result (out.new.items ≡ out.old.items ++ reason_text line.now reason) }
 {
     if let Reason::Malformed(fault) = reason {
-        return put_malformed(out, line, &fault);
+        return put_malformed(alloc, out, line, &fault);
     }
-    out.extend_from_slice(standing_text(reason).as_bytes())?;
+    out.extend_from_slice(standing_words(reason).as_bytes())?;
+    if let Reason::Rebinds(number) = reason {
+        put_number(out, u64::from(number))?;
+    }
     Ok(())
 }
 
@@ -178,6 +196,7 @@ fn column(line: &[u8], reason: Reason) -> usize
 
 /// Adds what is told of a faulty line: `PATH:LINE:COLUMN: error: ` and why.
 pub fn put_fault(
+    alloc: Global,
     out: &mut Vec<u8>,
     path: &str,
     number: u32,
@@ -191,7 +210,7 @@ pub fn put_fault(
     put_place(out, path, number)?;
     put_number(out, column(line, reason) as u64)?;
     out.extend_from_slice(b": error: ")?;
-    put_reason(out, line, reason)?;
+    put_reason(alloc, out, line, reason)?;
     out.push(b'\n')?;
     Ok(())
 }

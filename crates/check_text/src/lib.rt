@@ -5,6 +5,7 @@
 
 mod checks;
 mod fault_texts;
+mod hints;
 mod lines;
 mod places;
 mod program;

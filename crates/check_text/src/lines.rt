@@ -1,6 +1,6 @@
 //! The lines of a text, and the name that a line binds.
 ghost use Rattle.std.specs.Prelude.{◌≡◌, option_map};
-ghost use Rattle.check_text.specs.Lines.{before_byte, after_byte, after_lines, is_equals, binding, binds, is_bound_before};
+ghost use Rattle.check_text.specs.Lines.{before_byte, after_byte, after_lines, is_equals, binding, binding_line, binds};
 
 use text_words::parted;
 
@@ -54,17 +54,17 @@ fn binds(name: &[u8], line: &[u8]) -> bool
     }
 }
 
-/// Whether one of the first `count` lines binds the name.
-pub fn is_bound_before(count: u32, name: &[u8], text: &[u8]) -> bool
-    ensures { result ≡ is_bound_before count name.now text.now }
+/// The first of the first `count` lines that binds the name, from 1.
+pub fn binding_line(count: u32, name: &[u8], text: &[u8]) -> Option<u32>
+    ensures { result ≡ binding_line 1 count name.now text.now }
 {
     let mut rest = text;
-    for _ in 0..count {
+    for before in 0..count {
         let (line, more) = cut(rest, b'\n');
         if binds(name, line) {
-            return true;
+            return Some(before + 1);
         }
         rest = more;
     }
-    false
+    None
 }

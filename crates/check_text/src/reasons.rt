@@ -1,14 +1,16 @@
 //! Why a line is the first faulty one.
 ghost use Rattle.std.specs.Prelude.{◌≡◌, ◌≤◌, IfOk};
-ghost use Rattle.check_text.specs.Reasons.{rebinds, reason_of, IsReason};
+ghost use Rattle.call_text.specs.Script.{is_bound, known_names};
+ghost use Rattle.check_text.specs.Lines.{binding};
+ghost use Rattle.check_text.specs.Reasons.{name_reason, reason_of, IsReason};
 
-use crate::lines::{after_lines, binding, cut, is_bound_before};
+use crate::lines::{after_lines, binding, binding_line, cut};
 use line_faults::{Fault, fault_in};
 use std::alloc::{AllocError, Global};
 use text_words::is_same;
 
 /// The most lines of a script.
-const MOST_LINES: u32 = 65_536;
+pub const MOST_LINES: u32 = 65_536;
 
 /// The most bytes that stand before a line's end.
 const LONGEST: usize = 4096;
@@ -24,25 +26,34 @@ pub enum Reason {
     TooLong,
     /// It stands past the last line of a script.
     TooMany,
-    /// It binds a name that is bound before.
-    Rebinds,
+    /// It binds a name that is known at the start of each script.
+    Reserved,
+    /// It binds a name that this line binds, from 1.
+    Rebinds(u32),
     /// It may not stand there for a batch: it is a read call in one, a 17th line of one, or the last line of its worker
     /// in the phase and says that its batch goes on.
     Batch,
 }
 
-/// Whether the name that the line binds, where it does, is known at the start or bound by one of the first `count`
-/// lines.
-fn rebinds(count: u32, line: &[u8], bytes: &[u8]) -> bool
-    ensures { result ≡ rebinds count line.now bytes.now }
+/// Whether a name is known at the start of each script.
+fn is_reserved(name: &[u8]) -> bool
+    ensures { result ≡ is_bound name.now known_names }
 {
-    let Some(name) = binding(line) else {
-        return false;
-    };
-    is_same(name, b"root")
-        || is_same(name, b"boot")
-        || is_same(name, b"dev")
-        || is_bound_before(count, name, bytes)
+    is_same(name, b"root") || is_same(name, b"boot") || is_same(name, b"dev")
+}
+
+/// Why the name that a line binds, where it does, may not be bound after `count` lines.
+fn name_reason(count: u32, line: &[u8], bytes: &[u8]) -> Option<Reason>
+    ensures { result ≡ name_reason count bytes.now (binding line.now) }
+{
+    let name = binding(line)?;
+    if is_reserved(name) {
+        return Some(Reason::Reserved);
+    }
+    match binding_line(count, name, bytes) {
+        Some(number) => Some(Reason::Rebinds(number)),
+        None => None,
+    }
 }
 
 /// Why line `count + 1` is the first faulty one, where it is and is well formed.
@@ -58,10 +69,7 @@ fn reason_of(count: u32, is_ended: bool, line: &[u8], bytes: &[u8]) -> Reason
     if count >= MOST_LINES {
         return Reason::TooMany;
     }
-    if rebinds(count, line, bytes) {
-        return Reason::Rebinds;
-    }
-    Reason::Batch
+    name_reason(count, line, bytes).unwrap_or(Reason::Batch)
 }
 
 /// Why line `number` of the bytes, from 1, is the first faulty one, where it is.
