@@ -4,12 +4,10 @@ use Rattle.std.proofs.Common.{Option, Some, None, refl, sym, ◌∙◌, ap, subs
 use Rattle.std.specs.Option.{option_map}
 use Rattle.std.proofs.lemmas.Bool.{eq-eqb}
 use Rattle.base.specs.Level.{rank_of}
-use Rattle.base.specs.Limits.{in_range}
 use Rattle.base.specs.Live.{has}
-use Rattle.base.specs.declared.ranges.Limits.{Limits}
 use Rattle.label_lattice.specs.Label.{LabelValue, level}
 use Rattle.kernel_rules.specs.State.{State, object_at, label_at}
-use Rattle.kernel_rules.specs.Runs.{booted}
+use Rattle.kernel_rules.specs.WellFormed.{is_well_formed}
 use Rattle.kernel_rules.specs.declared.objects.Object.{Object}
 use Rattle.flow_rules.specs.Touched.{observed, modified, enters_owner, after}
 use Rattle.flow_rules.specs.Flows.{Way, HandOver, IsFlow, before, first_event, after_event, is_owner, passes, enters_in}
@@ -17,7 +15,7 @@ use Rattle.flow_rules.specs.Flows.{StaysOutside, Hands, LeadsFrom, IsInTime}
 use Rattle.flow_rules.specs.Flows.Way.{Observing, Modifying}
 use Rattle.flow_rules.specs.declared.steps.Step.{Step}
 use Rattle.flow_rules.proofs.Levels.{rank}
-use Rattle.flow_rules.proofs.Sound.{Sound, sound_run, sound_boot, either}
+use Rattle.flow_rules.proofs.Sound.{Sound, sound_from, sound_run, either}
 use Rattle.flow_rules.proofs.Keeping.{AtLeast, owner, step_keeps}
 use Rattle.flow_rules.proofs.Sights.{seen_now, seen_then, written_then, modifies_outside, enters_gate}
 
@@ -170,15 +168,15 @@ labelled : (v : Option Object) (l : LabelValue) → option_map (λ x. x.label) v
 labelled None l h = absurd (cc)
 labelled (Some x) l h = (x, refl, cc)
 
-pub levels_rise_lem : (limits : Limits) (events : List (ℕ × Step)) (c o p : ℕ) (h : HandOver) (hs : List HandOver)
-    → in_range limits ≡ true → IsFlow (booted limits) events c o p h hs → (x y : LabelValue)
-    → label_at (before (booted limits) events (first_event h hs)) o ≡ Some x
-    → label_at (before (booted limits) events (suc h.event)) p ≡ Some y
+pub levels_rise_lem : (s : State) (events : List (ℕ × Step)) (c o p : ℕ) (h : HandOver) (hs : List HandOver)
+    → is_well_formed s ≡ true → IsFlow s events c o p h hs → (x y : LabelValue)
+    → label_at (before s events (first_event h hs)) o ≡ Some x
+    → label_at (before s events (suc h.event)) p ≡ Some y
     → rank_of (level x c) ≤ rank_of (level y c)
-levels_rise_lem limits events c o p h hs range flow x y first last =
-    let there = labelled (object_at (before (booted limits) events (suc h.event)) p) y last in
-    let least : AtLeast (rank x c) (before (booted limits) events (suc h.event)) c p =
-    arrive (rank x c) (booted limits) events c (sound_boot limits range) o p h hs flow
+levels_rise_lem s events c o p h hs formed flow x y first last =
+    let there = labelled (object_at (before s events (suc h.event)) p) y last in
+    let least : AtLeast (rank x c) (before s events (suc h.event)) c p =
+    arrive (rank x c) s events c (sound_from s formed) o p h hs flow
     (λ z at.
     let same : Some z.label ≡ Some x = ap (option_map (λ w. w.label)) (sym at) ∙ first in
     let is : z.label ≡ x = cc in
