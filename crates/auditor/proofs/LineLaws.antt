@@ -1,6 +1,6 @@
 -- The first line in which two dumps differ.
 use Rattle.std.proofs.Common.{◌≡◌, ℕ, suc, ◌+◌, Bool, true, false, if◌then◌else◌, ◌==◌, List, [], ◌∷◌, ◌++◌, length, Option}
-use Rattle.std.proofs.Common.{Some, refl, sym, ap, ◌∙◌, subst, arith, append_assoc, ◌⊎◌, inl, inr}
+use Rattle.std.proofs.Common.{Some, None, refl, sym, ap, ◌∙◌, subst, arith, append_assoc, ◌⊎◌, inl, inr}
 use Rattle.std.specs.List.{AllByRecursion}
 use Rattle.std.proofs.lemmas.Bool.Decides.{eqb_tells}
 use Rattle.base.specs.declared.ranges.Limits.{Limits}
@@ -21,11 +21,12 @@ use Rattle.dump_text.specs.declared.lines.Line.{Line}
 use Rattle.dump_text.proofs.LineLemmas.{dump_grammar}
 use Rattle.dump_text.proofs.Batches.{lines_batches}
 use Rattle.auditor.specs.Replay.{replayed, true_reads}
-use Rattle.auditor.specs.Verdict.{true_dump, begins, first_difference, false_line, DifferAt, TellsFalse}
+use Rattle.auditor.specs.Verdict.{true_dump, begins, first_difference, false_line, DifferAt, IsVerdict, TellsFalse}
 use Rattle.auditor.specs.declared.verdicts.Verdict.TheVariants as is
 use Rattle.auditor.proofs.ReadLaws.{right_after, true_placed}
 use Rattle.auditor.proofs.ReplayLaws.{replayed_legal}
-use Rattle.auditor.proofs.VerdictLaws.{begins_can}
+use Rattle.auditor.proofs.DifferenceLaws.{none_same}
+use Rattle.auditor.proofs.VerdictLaws.{begins_can, no_line}
 
 -- two texts that begin with these lines: the lines are the same and the rest is compared, or they are the difference
 abbrev Compared : ℕ → List ℕ → List ℕ → List ℕ → List ℕ → Type 0
@@ -159,16 +160,32 @@ LegalIsDump = (limits : Limits) (c : Option Checkpoint) (events : List Event) (r
     → FitsWords (whole_dump limits c events reads)
     → IsDump (dump_text (whole_dump limits c events reads)) (whole_dump limits c events reads)
 
+-- the true dump of a dump is one, where its values fit their words
+true_is_dump : (bytes : List ℕ) (d : DumpLists) → LegalIsDump → IsDump bytes d → begins d ≡ true → FitsWords (true_dump d)
+    → IsDump (dump_text (true_dump d)) (true_dump d)
+true_is_dump bytes d law is_dump can fits =
+    let start = start_with d.limits d.checkpoint in
+    law d.limits d.checkpoint (replayed start d.events) (true_reads start d.events d.reads)
+    (is_dump.spelled.fit.1.0.1) (begins_can bytes d is_dump can)
+    (replayed_legal start d.events (lines_batches d is_dump.spelled.fit)) (right_after start d.events 0 0 d.reads)
+    (true_placed start d.checkpoint d.events d.reads is_dump.placed) fits
+
+-- a dump that differs nowhere from the true one is that one
+pub clean_told : (bytes : List ℕ) (d : DumpLists) → LegalIsDump → ((a b : DumpLists) → IsDump bytes a → IsDump bytes b → a ≡ b) → IsDump bytes d
+    → (begins d ≡ true → FitsWords (true_dump d)) → false_line bytes d ≡ None → IsVerdict bytes is.Clean
+clean_told bytes d law one is_dump fits e =
+    let none = no_line (begins d) (first_difference 1 bytes (dump_text (true_dump d))) e in
+    let same : bytes ≡ dump_text (true_dump d) = none_same 1 bytes (dump_text (true_dump d)) none.1 in
+    let true_is : IsDump bytes (true_dump d) =
+    subst (λ (t : List ℕ). IsDump t (true_dump d)) (sym same) (true_is_dump bytes d law is_dump none.0 (fits none.0)) in
+    (d, is_dump, none.0, one d (true_dump d) is_dump true_is)
+
 -- a false line after a beginning that can be is the first that isn't the true dump's
 differs : (bytes : List ℕ) (d : DumpLists) (n : ℕ) → LegalIsDump → IsDump bytes d → begins d ≡ true
     → FitsWords (true_dump d) → first_difference 1 bytes (dump_text (true_dump d)) ≡ Some n
     → (i : ℕ) × (n ≡ i + 1) × DifferAt i (lines_of d) (lines_of (true_dump d))
 differs bytes d n law is_dump can fits e =
-    let start = start_with d.limits d.checkpoint in
-    let true_is = law d.limits d.checkpoint (replayed start d.events) (true_reads start d.events d.reads)
-    (is_dump.spelled.fit.1.0.1) (begins_can bytes d is_dump can)
-    (replayed_legal start d.events (lines_batches d is_dump.spelled.fit)) (right_after start d.events 0 0 d.reads)
-    (true_placed start d.checkpoint d.events d.reads is_dump.placed) fits in
+    let true_is = true_is_dump bytes d law is_dump can fits in
     let h : first_difference 1 (lines_text line_text (lines_of d)) (lines_text line_text (lines_of (true_dump d))) ≡ Some n =
     subst (λ (t : List ℕ). first_difference 1 t (dump_text (true_dump d)) ≡ Some n) is_dump.spelled.bytes_are e in
     let found = differ 1 n (lines_of d) (lines_of (true_dump d)) is_dump.spelled.fit true_is.spelled.fit h in

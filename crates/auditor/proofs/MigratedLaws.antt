@@ -76,13 +76,18 @@ migrated_line out d is =
 abbrev pub SpellOne : List ℕ → Type 0
 SpellOne bytes = (a b : DumpLists) → IsDump bytes a → IsDump bytes b → a ≡ b
 
+-- a dump without a checkpoint is one of format 1
+first_format : (bytes : List ℕ) (d : DumpLists) → d.checkpoint ≡ None → IsDump bytes d → d ≡ in_first_format d
+first_format bytes d none is =
+    let unread = first_unread d.events d.reads (subst (λ (c : Option Checkpoint). have_places c d.events d.reads ≡ true) none is.placed) in
+    λ i. dump_with d.limits (none i) d.events (unread i) d.tables
+
 -- the migrated dump's false line is that of the bytes, six lines further down
 false_later : (bytes out : List ℕ) (line : Option ℕ) (d e : DumpLists) → SpellOne bytes → d.checkpoint ≡ None
     → IsDump bytes d → IsDump out (migrated d) → IsDump bytes e → false_line bytes e ≡ line
     → false_line out (migrated d) ≡ option_map (λ (n : ℕ). n + 6) line
 false_later bytes out line d e one none is out_is e_is e_line =
-    let unread = first_unread d.events d.reads (subst (λ (c : Option Checkpoint). have_places c d.events d.reads ≡ true) none is.placed) in
-    let first : d ≡ in_first_format d = λ i. dump_with d.limits (none i) d.events (unread i) d.tables in
+    let first = first_format bytes d none is in
     let same : e ≡ in_first_format d = one e d e_is is ∙ first in
     let first_is : IsDump bytes (in_first_format d) = subst (λ (x : DumpLists). IsDump bytes x) first is in
     migrated_line out d out_is
@@ -90,11 +95,23 @@ false_later bytes out line d e one none is out_is e_is e_line =
     (lines_text line_text (true_lines (boot_start d.limits) d.events))
     ∙ ap (option_map (λ (n : ℕ). n + 6)) (sym (first_format_line bytes d first_is) ∙ ap (false_line bytes) (sym same) ∙ e_line)
 
+-- the migrated dump is the true one where that of format 1 is
+true_later : (d : DumpLists) → in_first_format d ≡ true_dump (in_first_format d) → migrated d ≡ true_dump (migrated d)
+true_later d first =
+    let events : d.events ≡ replayed (boot_start d.limits) d.events = ap (λ (x : DumpLists). x.events) first in
+    let tables : d.tables ≡ placed (scratch (state_from (boot_start d.limits).state (replayed (boot_start d.limits) d.events))) =
+    ap (λ (x : DumpLists). x.tables) first in
+    (λ i. dump_with d.limits (Some (boot_checkpoint d.limits)) (events i) [] (tables i))
+    ∙ ap (λ (s : Start). dump_with d.limits (Some (boot_checkpoint d.limits)) (replayed s d.events) []
+    (placed (scratch (state_from s.state (replayed s d.events))))) (sym (boot_state d.limits))
+
 -- clean where it was clean
 pub migrated_clean : (bytes out : List ℕ) → SpellOne bytes → IsMigrated bytes out → IsVerdict bytes is.Clean
     → IsVerdict out is.Clean
 migrated_clean bytes out one m v =
-    (migrated m.0, m.3, false_later bytes out None m.0 v.0 one m.1 m.2 m.3 v.1 v.2)
+    let same : v.0 ≡ in_first_format m.0 = one v.0 m.0 v.1 m.2 ∙ first_format bytes m.0 m.1 m.2 in
+    let first_true : in_first_format m.0 ≡ true_dump (in_first_format m.0) = subst (λ (x : DumpLists). x ≡ true_dump x) same v.3 in
+    (migrated m.0, m.3, boot_restorable m.0.limits m.3.spelled.fit.1.0.1, true_later m.0 first_true)
 
 -- false six lines further down where it was false
 pub migrated_false : (bytes out : List ℕ) (n : ℕ) → SpellOne bytes → IsMigrated bytes out

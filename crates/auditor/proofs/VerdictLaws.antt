@@ -23,14 +23,20 @@ use Rattle.auditor.specs.Verdict.{true_dump, can_begin, begins, false_line, firs
 use Rattle.auditor.specs.declared.verdicts.Verdict.{Verdict}
 use Rattle.auditor.specs.declared.verdicts.Verdict.TheVariants as is
 use Rattle.auditor.proofs.ReplayLaws.{replayed_legal, replayed_same}
-use Rattle.auditor.proofs.DifferenceLaws.{none_same, equal_none}
-use Rattle.auditor.proofs.ReadLaws.{reads_same, true_are, true_placed}
+use Rattle.auditor.proofs.DifferenceLaws.{equal_none}
+use Rattle.auditor.proofs.ReadLaws.{reads_same, true_are}
 
 -- that bytes spell one dump, that what spells one has no faulty line, and that the first faulty line is one
 pub record OneReading (bytes : List ℕ) : Type 0 where
   pub value : (a b : DumpLists) → IsDump bytes a → IsDump bytes b → a ≡ b
   pub fault : (n : ℕ) (a : DumpLists) → DumpFaultsAt bytes n → IsDump bytes a → ⊥
   pub line : (n m : ℕ) → DumpFaultsAt bytes n → DumpFaultsAt bytes m → n ≡ m
+
+-- what is clean has no false line
+pub clean_line : (bytes : List ℕ) (d : DumpLists) → IsDump bytes d → begins d ≡ true → d ≡ true_dump d → false_line bytes d ≡ None
+clean_line bytes d is_dump can same =
+    ap (λ (b : Bool). if b then first_difference 1 bytes (dump_text (true_dump d)) else Some 3) can
+    ∙ equal_none 1 bytes (dump_text (true_dump d)) (is_dump.spelled.bytes_are ∙ ap dump_text same)
 
 module _ (bytes : List ℕ) (one : OneReading bytes) where
   lines_same : (a b : DumpLists) (x y : Option ℕ) → IsDump bytes a → IsDump bytes b
@@ -40,10 +46,10 @@ module _ (bytes : List ℕ) (one : OneReading bytes) where
   pub verdicts_same : (v w : Verdict) → IsVerdict bytes v → IsVerdict bytes w → v ≡ w
   verdicts_same is.Clean is.Clean a b = refl
   verdicts_same is.Clean (is.False n) a b =
-      absurd (cc (lines_same a.0 b.0 None (Some n) a.1 b.1 a.2 b.2))
+      absurd (cc (lines_same a.0 b.0 None (Some n) a.1 b.1 (clean_line bytes a.0 a.1 a.2 a.3) b.2))
   verdicts_same is.Clean (is.Unreadable n) a b = absurd (one.fault n a.0 b a.1)
   verdicts_same (is.False n) is.Clean a b =
-      absurd (cc (lines_same a.0 b.0 (Some n) None a.1 b.1 a.2 b.2))
+      absurd (cc (lines_same a.0 b.0 (Some n) None a.1 b.1 a.2 (clean_line bytes b.0 b.1 b.2 b.3)))
   verdicts_same (is.False n) (is.False m) a b =
       let same : n ≡ m = cc (lines_same a.0 b.0 (Some n) (Some m) a.1 b.1 a.2 b.2) in ap is.False same
   verdicts_same (is.False n) (is.Unreadable m) a b = absurd (one.fault m a.0 b a.1)
@@ -87,24 +93,27 @@ pub can_begins : (limits : Limits) (c : Option Checkpoint) → CanBegin limits c
 can_begins limits None h = refl
 can_begins limits (Some c) h = h
 
-no_line : (b : Bool) (x : Option ℕ) → (if b then x else Some 3) ≡ None → (b ≡ true) × (x ≡ None)
+pub no_line : (b : Bool) (x : Option ℕ) → (if b then x else Some 3) ≡ None → (b ≡ true) × (x ≡ None)
 no_line true x h = (refl, h)
 no_line false x h = absurd (cc h)
 
--- a dump that differs nowhere from the true one is that one, whose events are legal
+-- what is clean is the true dump, whose events are legal
 pub clean_legal : (bytes : List ℕ) → IsVerdict bytes is.Clean → IsLegalText bytes
 clean_legal bytes v =
-    let d = v.0 in
-    let true_is = no_line (begins d) (first_difference 1 bytes (dump_text (true_dump d))) v.2 in (
+    let d = v.0 in (
       d.limits,
       d.checkpoint,
-      replayed (start_with d.limits d.checkpoint) d.events,
-      true_reads (start_with d.limits d.checkpoint) d.events d.reads,
-      begins_can bytes d v.1 true_is.0,
-      replayed_legal (start_with d.limits d.checkpoint) d.events (lines_batches d v.1.spelled.fit),
-      true_are (start_with d.limits d.checkpoint) d.events d.reads,
-      true_placed (start_with d.limits d.checkpoint) d.checkpoint d.events d.reads v.1.placed,
-      none_same 1 bytes (dump_text (true_dump d)) true_is.1,
+      (
+        v.1.spelled.fit.1.0.1,
+        begins_can bytes d v.1 v.2,
+        (
+          replayed (start_with d.limits d.checkpoint) d.events,
+          true_reads (start_with d.limits d.checkpoint) d.events d.reads,
+          replayed_legal (start_with d.limits d.checkpoint) d.events (lines_batches d v.1.spelled.fit),
+          true_are (start_with d.limits d.checkpoint) d.events d.reads,
+          subst (λ (x : DumpLists). IsDump bytes x) v.3 v.1,
+        ),
+      ),
     )
 
 true_same : (limits : Limits) (c : Option Checkpoint) (events : List Event) (reads : List PlacedRead)
@@ -118,11 +127,4 @@ pub legal_clean : (bytes : List ℕ) (limits : Limits) (c : Option Checkpoint) (
     → CanBegin limits c → IsLegalFrom (start_with limits c) events → AreRead (start_with limits c) events reads
     → IsDump bytes (whole_dump limits c events reads) → IsVerdict bytes is.Clean
 legal_clean bytes limits c events reads can legal are is_dump =
-    let same : bytes ≡ dump_text (true_dump (whole_dump limits c events reads)) =
-    is_dump.spelled.bytes_are ∙ sym (ap dump_text (true_same limits c events reads legal are)) in (
-      whole_dump limits c events reads,
-      is_dump,
-      ap (λ (b : Bool). if b then first_difference 1 bytes (dump_text (true_dump (whole_dump limits c events reads))) else Some 3)
-          (can_begins limits c can)
-          ∙ equal_none 1 bytes (dump_text (true_dump (whole_dump limits c events reads))) same,
-    )
+    (whole_dump limits c events reads, is_dump, can_begins limits c can, sym (true_same limits c events reads legal are))

@@ -4,14 +4,10 @@ use Rattle.std.specs.Prelude.{Option, Some, None}
 use Rattle.base.specs.declared.ranges.Limits.{Limits}
 use Rattle.checkpoints.specs.Checkpoint.{Checkpoint}
 use Rattle.checkpoints.specs.Restorable.{is_restorable}
-use Rattle.histories.specs.History.{IsLegalFrom}
-use Rattle.histories.specs.Events.{Event}
 use Rattle.dump_text.specs.Dump.{lines_of, dump_text, IsDump, DumpFaultsAt}
 use Rattle.dump_text.specs.Lists.{DumpLists}
 use Rattle.dump_text.specs.declared.lines.Line.{Line}
-use Rattle.dump_text.specs.declared.tables.PlacedRead.{PlacedRead}
-use Rattle.dump_text.specs.Reads.{have_places}
-use Rattle.dump_text.specs.Whole.{AreRead, CanBegin, start_with, whole_dump}
+use Rattle.dump_text.specs.Whole.{start_with, whole_dump, IsLegalDump}
 use Rattle.auditor.specs.Replay.{replayed, true_reads}
 use Rattle.auditor.specs.declared.verdicts.Verdict.{Verdict}
 use Rattle.auditor.specs.declared.verdicts.Verdict.TheVariants as is
@@ -48,10 +44,10 @@ abbrev pub false_line : List ℕ → DumpLists → Option ℕ
 false_line bytes d =
     if begins d then first_difference 1 bytes (dump_text (true_dump d)) else Some 3
 
--- Clean: a dump that has no false line. False: line n is the first one.
+-- Clean: a dump whose events can begin, and which is the true dump. False: line n is the first false one.
 -- Unreadable: line n is the first at which the bytes stop being the beginning of a dump.
 abbrev pub IsVerdict : List ℕ → Verdict → Type 0
-IsVerdict bytes is.Clean = (d : DumpLists) × IsDump bytes d × (false_line bytes d ≡ None)
+IsVerdict bytes is.Clean = (d : DumpLists) × IsDump bytes d × (begins d ≡ true) × (d ≡ true_dump d)
 IsVerdict bytes (is.False n) = (d : DumpLists) × IsDump bytes d × (false_line bytes d ≡ Some n)
 IsVerdict bytes (is.Unreadable n) = DumpFaultsAt bytes n
 
@@ -70,13 +66,8 @@ TellsFalse bytes (is.False n) =
     ⊎ ((i : ℕ) × (n ≡ i + 1) × DifferAt i (lines_of d) (lines_of (true_dump d))))
 TellsFalse bytes v = Unit {0}
 
--- the bytes are the text of the dump of a list of events that is legal from the boot, or from a
--- checkpoint that can be restored, and of reads at their places among them, as the rules answer them
+-- the bytes are the dump of a list of events that is legal from the boot, or from a checkpoint that can
+-- be restored, and of reads at their places among them, as the rules answer them
 abbrev pub IsLegalText : List ℕ → Type 0
 IsLegalText bytes =
-    (limits : Limits) × (checkpoint : Option Checkpoint) × (events : List Event)
-    × (reads : List PlacedRead)
-    × CanBegin limits checkpoint × IsLegalFrom (start_with limits checkpoint) events
-    × AreRead (start_with limits checkpoint) events reads
-    × (have_places checkpoint events reads ≡ true)
-    × (bytes ≡ dump_text (whole_dump limits checkpoint events reads))
+    (limits : Limits) × (checkpoint : Option Checkpoint) × IsLegalDump limits checkpoint bytes

@@ -1,11 +1,8 @@
 //! Auditing dumps.
 ghost use Rattle.std.specs.Prelude.{◌≡◌, ℕ, ◌+◌, List, length, Option, IfOk, IfSome, OnOk, is_some, true};
-ghost use Rattle.base.specs.declared.ranges.Limits.{Limits as Booted};
-ghost use Rattle.checkpoints.specs.Checkpoint.{Checkpoint as Written};
 ghost use Rattle.dump_text.specs.Dump.{dump_text};
 ghost use Rattle.dump_text.specs.Fits.{FitsWords};
 ghost use Rattle.dump_text.specs.Reads.{are_placed};
-ghost use Rattle.dump_text.specs.Whole.{IsLegalDump};
 ghost use Rattle.auditor.specs.declared.verdicts.Verdict.{Verdict as Found};
 ghost use Rattle.auditor.specs.declared.verdicts.Verdict.TheVariants.{Clean as Legal, False as FalseAt};
 ghost use Rattle.auditor.specs.Migrated.{IsMigrated};
@@ -77,6 +74,7 @@ pub fn audit(alloc: Global, bytes: &[u8]) -> Result<Verdict, NoMemory>
     ensures line { IfOk result (λ verdict. TellsFalse bytes.now verdict) }
 {
     legal_is_dump();
+    one_reading();
     let dump = match read_dump(alloc, bytes) {
         Ok(dump) => dump,
         Err(DumpError::Line(line)) => return Ok(Verdict::Unreadable(line)),
@@ -95,12 +93,11 @@ pub fn one_verdict()
     one_reading();
 }
 
-/// A law, which does nothing when it is called: what is clean is the dump of a legal list of events and of reads among them,
-/// as the rules answer them, and each such dump is clean, as a run of `histar` writes it.
+/// A law, which does nothing when it is called: clean is just what is the dump of a legal list of events and of reads among
+/// them, as the rules answer them, as a run of `histar` writes it.
 pub fn clean_is_legal()
     ensures legal { (bytes : List ℕ) → IsVerdict bytes Legal → IsLegalText bytes }
-    ensures clean { (bytes : List ℕ) (limits : Booted) (checkpoint : Option Written)
-        → IsLegalDump limits checkpoint bytes → IsVerdict bytes Legal }
+    ensures clean { (bytes : List ℕ) → IsLegalText bytes → IsVerdict bytes Legal }
 {}
 
 /// A law, which does nothing when it is called: a dump of format 1 that is written in format 2 is clean where it was clean,

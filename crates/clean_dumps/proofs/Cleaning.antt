@@ -1,22 +1,17 @@
 -- What a clean verdict says of the dump that is read.
-use Rattle.std.proofs.Common.{◌≡◌, ℕ, Bool, true, false, if◌then◌else◌, List, Option, Some, None, refl, subst}
-use Rattle.auditor.specs.Verdict.{begins, first_difference, true_dump, IsVerdict}
+use Rattle.std.proofs.Common.{◌≡◌, ℕ, true, List, subst}
+use Rattle.auditor.specs.Verdict.{begins, IsVerdict}
 use Rattle.auditor.specs.declared.verdicts.Verdict.{Verdict}
 use Rattle.auditor.specs.declared.verdicts.Verdict.TheVariants as is
-use Rattle.dump_text.specs.Dump.{dump_text, IsDump}
+use Rattle.dump_text.specs.Dump.{IsDump}
 use Rattle.dump_text.specs.Lists.{DumpLists}
-
-no_line : (b : Bool) (x : Option ℕ) → (if b then x else Some 3) ≡ None → b ≡ true
-no_line true x h = refl
-no_line false x h = absurd (cc h)
 
 -- the events of a clean dump can begin
 pub clean_begins : (bytes : List ℕ) (d : DumpLists)
     → ((a b : DumpLists) → IsDump bytes a → IsDump bytes b → a ≡ b) → IsDump bytes d
     → IsVerdict bytes is.Clean → begins d ≡ true
 clean_begins bytes d one is_dump clean =
-    subst (λ (x : DumpLists). begins x ≡ true) (one clean.0 d clean.1 is_dump)
-    (no_line (begins clean.0) (first_difference 1 bytes (dump_text (true_dump clean.0))) clean.2)
+    subst (λ (x : DumpLists). begins x ≡ true) (one clean.0 d clean.1 is_dump) clean.2
 
 -- what has another verdict is not clean
 pub other_unclean : (bytes : List ℕ) (v : Verdict)
