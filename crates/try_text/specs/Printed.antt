@@ -27,8 +27,12 @@ abbrev pub Adds : Word → List ℕ → Type 0
 Adds Save more = (is_saved : Bool) × (more ≡ saved_text is_saved)
 Adds _ more = more ≡ []
 
--- the answer to the line was added to what was printed
-abbrev pub Prints : List ℕ → Talk → Talk → Option (List ℕ) → Option (List ℕ) → Type 0
-Prints line d d' old new =
+-- the answer to the line, with what is told after it
+abbrev pub Answers : List ℕ → Talk → Talk → List ℕ → Type 0
+Answers line d d' answer =
     (text : List ℕ) × (more : List ℕ) × Responds (word_of line) line d d' [] text × Adds (word_of line) more
-    × Appends old new (text ++ more)
+    × (answer ≡ text ++ more)
+
+-- it was added to what was printed
+abbrev pub Prints : List ℕ → Talk → Talk → Option (List ℕ) → Option (List ℕ) → Type 0
+Prints line d d' old new = (answer : List ℕ) × Answers line d d' answer × Appends old new answer

@@ -1,6 +1,10 @@
 //! The program, over a reader, a sink and a writer.
-ghost use Rattle.std.specs.Prelude.{◌≡◌, ◌++◌, ℕ, List, Bool, IfOk, OnOk};
+ghost use Rattle.std.specs.Io.BufRead.{take_through, DropsThrough};
+ghost use Rattle.std.specs.Io.KnownBytes.{Appends};
+ghost use Rattle.std.specs.Prelude.{◌≡◌, ◌++◌, ℕ, List, Bool, IfOk, IfSome, OnOk};
+ghost use Rattle.tried_lines.specs.Dialogues.{begun, Talk};
 ghost use Rattle.try_text.specs.Printed.{IsBeforeEnd, goes_on, saved_text, Adds, Prints};
+ghost use Rattle.try_text.specs.Talks.{prompt, HasLine, Talks};
 ghost use Rattle.try_text.specs.Words.{word_of};
 
 use crate::responding::respond;
@@ -27,7 +31,12 @@ fn without_end(line: &[u8]) -> &[u8]
 }
 
 /// Reads a line with its end, and tells whether there was one.
-fn has_line<I: BufRead>(input: &mut I, line: &mut Vec<u8>) -> Result<bool, Fault> {
+fn has_line<I: BufRead>(input: &mut I, line: &mut Vec<u8>) -> Result<bool, Fault>
+    ensures line { OnOk result (IfSome (I.remaining input.old)
+        (λ bytes. line.new.items ≡ take_through 10 bytes)) }
+    ensures rest { OnOk result (DropsThrough (I.remaining input.old) (I.remaining input.new) 10) }
+    ensures end { IfOk result (λ has. IfSome (I.remaining input.old) (HasLine has)) }
+{
     line.clear();
     match input.read_until(b'\n', line) {
         Ok(count) => Ok(count > 0),
@@ -104,30 +113,38 @@ fn answer<R: Files, S: Sink>(
 }
 
 /// Asks for a line, where the dialogue has a prompt.
-fn ask<S: Sink>(is_asked: bool, out: &mut S) -> Result<(), Fault> {
+fn ask<S: Sink>(is_asked: bool, out: &mut S) -> Result<(), Fault>
+    ensures { OnOk result (Appends (S.contents out.old) (S.contents out.new) (prompt is_asked)) }
+{
     if is_asked {
         deliver(out, b"> ")
     } else {
-        Ok(())
+        deliver(out, b"")
     }
 }
 
-/// Answers lines one by one, until the input ends or a line ends the dialogue.
+/// Answers lines one by one, until the input ends or a line ends the dialogue. An input that never ends is an input fault.
 fn talk_on<R: Files, I: BufRead, S: Sink>(
     rt: &R,
     talk: &mut Dialogue,
     is_asked: bool,
     input: &mut I,
     out: &mut S,
-) -> Result<(), Fault> {
+) -> Result<(), Fault>
+    ensures { OnOk result (IfSome (I.remaining input.old)
+        (λ bytes. Talks is_asked bytes talk.old talk.new (S.contents out.old) (S.contents out.new))) }
+{
     let mut line = Vec::new(talk.alloc());
     for _ in 0..u64::MAX {
         ask(is_asked, out)?;
-        if !has_line(input, &mut line)? || !answer(rt, talk, without_end(line.as_slice()), out)? {
+        if !has_line(input, &mut line)? {
+            return Ok(());
+        }
+        if !answer(rt, talk, without_end(line.as_slice()), out)? {
             return Ok(());
         }
     }
-    Ok(())
+    Err(Fault::Input)
 }
 
 /// A dialogue with a newly booted kernel: answers the lines that a reader gives, each before the next one is read, until
@@ -142,7 +159,10 @@ pub fn try_on<R: Files, I: BufRead, S: Sink, E: Write>(
     input: &mut I,
     out: &mut S,
     err: &mut E,
-) -> u8 {
+) -> u8
+    ensures { result ≡ 0 → IfSome (I.remaining input.old) (λ bytes. (last : Talk)
+        × Talks is_asked bytes (begun limits.now) last (S.contents out.old) (S.contents out.new)) }
+{
     let mut talk = match Dialogue::begin(alloc, limits) {
         Ok(talk) => talk,
         Err(fault) => return Fault::from(fault).tell(NAME, err),
