@@ -17,6 +17,7 @@ from gate.confine_seen import Watched
 from gate.documents import commands_in
 from gate.plays import text
 from gate.report import Report
+from gate.starts import is_wrapped, shown_at_terminal
 
 CONFINE = "out/confine"
 UNABLE = 69
@@ -411,6 +412,7 @@ def try_all(report, library, auditor, is_long=False):
     if probe.returncode == UNABLE:
         report.say(f"left out: the scenes of confine: {probe.stdout.strip()}")
         return
+    is_wrapped(report, "confine --help", shown_at_terminal([CONFINE, "--help"], columns=40), "something failed.")
     for words, piece in WRONG_WORDS:
         report.counts(says_why(words, piece), f"confine: wrong words: {' '.join(words) or 'none'}")
     with tempfile.TemporaryDirectory(prefix="confine-", dir="/var/tmp") as room:
