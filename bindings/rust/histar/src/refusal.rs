@@ -115,7 +115,7 @@ const REFUSALS: [Refusal; 34] = [
 ];
 
 impl Refusal {
-    /// The number of the refusal, as docs/CALLS.md has it.
+    /// The number of the refusal, as docs/CALLS.md or docs/EMBED.md has it.
     ///
     /// ```
     /// assert_eq!(histar::Refusal::CannotObserve.number(), 5);
