@@ -83,7 +83,7 @@ def whole(text):
 
 def usage(it):
     """How a command is used: what goes together stands on one line."""
-    return " ".join(map(whole, re.findall(r"\[[^]]*\][.]*|\S+", it.usage)))
+    return " ".join(map(whole, re.findall(r"\[[^]]*\][.]*|--\S+ <\S+|\S+", it.usage)))
 
 
 def rows(found, leaves_out=()):
