@@ -7,6 +7,7 @@ kernel. The programs of docs/EMBED.md print what it says.
 What a machine lacks (compilers, cargo, valgrind, clang's runtime) is left out, with a line for each."""
 import glob
 import os
+import re
 import shutil
 import subprocess
 import tempfile
@@ -53,6 +54,13 @@ def examples():
 def program_in(document, language):
     """The first block of a document in this language."""
     return document.split(f"```{language}\n", 1)[1].split("```\n", 1)[0]
+
+
+def without_example():
+    """The public functions of the crate for Rust whose documents have no example. What stands in raw.rs and records.rs only the crate sees."""
+    for file in sorted(glob.glob("bindings/rust/histar/src/**/*.rs", recursive=True)):
+        documents = [] if file.endswith(("/raw.rs", "/records.rs")) else re.findall(r"((?: *(?://|#\[).*\n)*) *pub (?:const )?fn (\w+)", text(file))
+        yield from (f"{file}: {name}" for above, name in documents if "/// ```" not in above)
 
 
 def ran_dumping(dump, *words):
@@ -333,6 +341,8 @@ class Bindings:
             self.leave_out("Rust", "cargo is not on the path")
             return
         env = {"HISTAR_LIB": os.path.realpath(self.library)}
+        lacking = list(without_example())
+        self.report.counts(not lacking, "each public function of the crate has an example" + but_not(lacking))
         self.counts("cargo test: the crate histar, with the examples of its documents", "cargo", "test", "--quiet", *MANIFEST, env=env)
         self.counts("cargo check without the library", "cargo", "check", "--quiet", *MANIFEST, env={"HISTAR_LIB": self.room})
         if shutil.which("cargo-clippy"):

@@ -1,6 +1,7 @@
 """confine: programs that try to send a secret on. Each scene is a program in a sandbox of its own, with what it may print and
 write; a scene with a secret in it fails where a byte of the secret is seen outside. An attack is also played without confine, where it
-has to be seen: a scene that can't fail says nothing. All are played as root and as an ordinary user, where root plays them.
+has to be seen: a scene that can't fail says nothing. All are played as root, as an ordinary user, and as one without /dev/fuse, where
+root plays them.
 
 Where a machine lacks what confine needs (libseccomp's headers, user namespaces, Landlock), all is left out, with a line."""
 import itertools
@@ -17,6 +18,7 @@ from gate.confine_seen import Watched
 from gate.documents import commands_in
 from gate.plays import text
 from gate.report import Report
+from gate.starts import is_wrapped, shown_at_terminal
 
 CONFINE = "out/confine"
 UNABLE = 69
@@ -25,6 +27,9 @@ ATTACKS = (*confine_attacks.REPORTS, *confine_attacks.INODES, *confine_attacks.M
 # An ordinary user's number, as which root plays scenes too.
 NOBODY = 65534
 AS_NOBODY = ["setpriv", "--reuid", str(NOBODY), "--regid", str(NOBODY), "--clear-groups"]
+
+# Starts a program, as root, where /dev/fuse can't be opened: the broker is then asked of each call that names a file.
+WITHOUT_FUSE = ["unshare", "--mount", "sh", "-c", 'mount --bind /dev/fuse /dev/fuse && mount -o remount,bind,nodev /dev/fuse && exec "$@"', "sh"]
 
 # A program that adds a line to its report once it has come to its end, and ends as it ended.
 NOTING = 'sh -c "$PROGRAM"; s=$?; echo ended >> "$R"; exit $s'
@@ -51,11 +56,15 @@ class Tried:
     def __init__(self, room):
         self.room = f"{room}/tried"
         os.makedirs(self.room, exist_ok=True)
-        for it in ("swap", "paths", "asks", "lacking"):
+        for it in ("swap", "paths", "asks", "lacking", "old"):
             words = ["cc", "-O2", "-Wall", "-Wextra", "-Werror", "-pthread", f"bindings/confine/tried/{it}.c", "-o", f"{self.room}/{it}"]
             subprocess.run(words, check=True)
 
-    def scenes(self, is_long):
+    def scenes(self, report, is_long):
+        if subprocess.run([f"{self.room}/old"], stdout=subprocess.PIPE).stdout == b"1":
+            yield Scene("makes a socket by a call of 32 bits", f"{self.room}/old", printed="0", words=[*ONE, "--public", self.room], leaks="means")
+        else:
+            report.say("left out: confine: calls of 32 bits: the machine has none")
         words = [*TWO, "--public", self.room]
         swaps, paths, asks = (10_000, 1_000_000, 60) if is_long else (1_000, 20_000, 20)
         yield Scene("changes a path while the broker looks at it", f"{self.room}/swap $P/text $S/key {swaps} > /tmp/seen", words=words, status=None)
@@ -140,8 +149,8 @@ class Rooms:
 class Play:
     """A scene as a user plays it, in a room, with confine or without."""
 
-    def __init__(self, confine, room, scene, user):
-        self.confine, self.room, self.scene, self.user = confine, room, scene, user
+    def __init__(self, confine, room, scene, user, by=()):
+        self.confine, self.room, self.scene, self.user, self.by = confine, room, scene, user, by
         self.rooms = Rooms(room, user)
         with open(self.rooms.paths["F"], "w", encoding="utf-8") as it:
             it.write(scene.policy)
@@ -161,7 +170,7 @@ class Play:
         path = os.environ["PATH"] if self.confine else f"{os.path.dirname(self.room)}/bare:{os.environ['PATH']}"
         env = {**os.environ, **self.rooms.paths, "PROGRAM": self.scene.program or "", "PATH": path}
         how = {"stdout": subprocess.PIPE, "stderr": subprocess.PIPE, "text": True, "errors": "replace", "timeout": 300}
-        self.done = subprocess.run([*as_user, *self.words()], input=self.scene.stdin, env=env, cwd=self.room, **how)
+        self.done = subprocess.run([*self.by, *as_user, *self.words()], input=self.scene.stdin, env=env, cwd=self.room, **how)
         watched.said, watched.status = self.done.stdout + self.done.stderr, self.done.returncode
 
     def seen(self):
@@ -244,6 +253,24 @@ WRONG_POLICIES = (
     ('gate = [{name = "a", program = ["true"], owns = ["first"]}]', "no category: first"),
     ('gate = [{name = "a", program = ["true"], file = "open"}]', "no file of [[write]]"),
     ('public = ["secret/key"]', "is no folder"),
+    ("public = [" + ", ".join(['"public"'] * 33) + "]", "at most 32 public folders"),
+    ('read = [{folder = ""}]', "a text is wanted"),
+    ('read = [{folder = "' + "a" * 4096 + '"}]', "a text is wanted"),
+    (r'read = [{folder = "secret\u0000"}]', "a text is wanted"),
+    ("read = [3]", "a table is wanted"),
+    ('read = [{folder = "secret", label = 3}]', "a table is wanted"),
+    ('read = [{folder = "secret", colour = 1}]', "no word of a policy: colour"),
+    ('categories = ["first"]\nread = [{folder = "secret", label = {first = "3"}}]', "a level is from 0 to 3"),
+    ('categories = ["' + "a" * 32 + '"]', "a name has up to 31"),
+    ("categories = [3]", "a text is wanted"),
+    ("write = [{}]", "file is wanted"),
+    ('write = [{file = "report", colour = 1}]', "no word of a policy: colour"),
+    ("write = [" + ", ".join(['{file = "report"}'] * 9) + "]", "at most 8 reports"),
+    ("program = {colour = 1}", "no word of a policy: colour"),
+    ('gate = [{name = "a", program = ["true"], colour = 1}]', "no word of a policy: colour"),
+    ('gate = [{program = ["true"]}]', "name is wanted"),
+    ('gate = [{name = "a", program = [' + ", ".join(['"true"'] * 17) + "]}]", "at most 16 words"),
+    ("gate = [" + ", ".join(['{name = "a", program = ["true"]}'] * 9) + "]", "at most 8 gates"),
 )
 
 
@@ -363,17 +390,24 @@ def is_audited(auditor, dump):
     return (done.returncode, done.stdout) == (0, "clean\n")
 
 
-def users():
-    """As whom scenes are played: as root and as an ordinary user, or as who plays them."""
-    return (0, NOBODY) if not os.getuid() and shutil.which("setpriv") else (os.getuid(),)
+def ways(report):
+    """As whom and by what scenes are played: as root, as an ordinary user, and as one for whom the machine has no /dev/fuse; or as who
+    plays them."""
+    if os.getuid() or not shutil.which("setpriv"):
+        report.say("left out: confine: the scenes of others than who plays them")
+        return ((os.getuid(), ()),)
+    if subprocess.run([*WITHOUT_FUSE, "true"], stderr=subprocess.DEVNULL).returncode:
+        report.say("left out: confine: the scenes without /dev/fuse")
+        return ((0, ()), (NOBODY, ()))
+    return ((0, ()), (NOBODY, ()), (NOBODY, WITHOUT_FUSE))
 
 
-def try_scene(report, confine, room, scene, user, audit):
+def try_scene(report, confine, room, scene, user, audit, by=()):
     """Plays a scene with confine, and an attack without it too. Whether its dump audits clean."""
-    name = f"confine: {scene.name} ({'root' if not user else 'a user'})"
-    if scene.leaks:
+    name = f"confine: {scene.name} ({'root' if not user else 'a user'}{', without /dev/fuse' if by else ''})"
+    if scene.leaks and not by:
         report.counts(Play(None, room, scene, user).is_seen(), f"{name}: it is seen without confine")
-    wrong = Play(confine, room, scene, user).wrong()
+    wrong = Play(confine, room, scene, user, by).wrong()
     report.counts(not wrong, name + "".join(f": {it}" for it in wrong))
     return audit is None or is_audited(audit, f"{room}/dump")
 
@@ -392,9 +426,9 @@ def try_scenes(report, room, auditor, more):
     os.chmod(confine, 0o755)
     lay_without_labels(room)
     scenes, unclean = (*SCENES, *POLICY_SCENES, *ATTACKS, *more), []
-    for user in users():
+    for user, by in ways(report):
         for scene in scenes:
-            if min(user, 1) in scene.users and not try_scene(report, confine, f"{room}/scene", scene, user, auditor):
+            if min(user, 1) in scene.users and not try_scene(report, confine, f"{room}/scene", scene, user, auditor, by):
                 unclean.append(scene.name)
     if auditor:
         report.counts(not unclean, f"confine: the dumps of all scenes audit clean{unclean or ''}")
@@ -411,6 +445,7 @@ def try_all(report, library, auditor, is_long=False):
     if probe.returncode == UNABLE:
         report.say(f"left out: the scenes of confine: {probe.stdout.strip()}")
         return
+    is_wrapped(report, "confine --help", shown_at_terminal([CONFINE, "--help"], columns=40), "something failed.")
     for words, piece in WRONG_WORDS:
         report.counts(says_why(words, piece), f"confine: wrong words: {' '.join(words) or 'none'}")
     with tempfile.TemporaryDirectory(prefix="confine-", dir="/var/tmp") as room:
@@ -422,7 +457,7 @@ def try_all(report, library, auditor, is_long=False):
         tried = Tried(room)
         for call in NEEDED:
             report.counts(says_it_lacks(f"{tried.room}/lacking", call), f"confine: a machine without the call {call}: it says so, and starts nothing")
-        try_scenes(report, room, auditor, tried.scenes(is_long))
+        try_scenes(report, room, auditor, tried.scenes(report, is_long))
     confine_programs.try_all(report)
 
 

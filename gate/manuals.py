@@ -2,7 +2,30 @@
 import re
 import subprocess
 
-SECTIONS = (("Commands:", "COMMANDS"), ("Arguments:", "ARGUMENTS"), ("Options:", "OPTIONS"))
+HEADINGS = ("Commands:", "Arguments:", "Options:")
+
+# What a program is for, beside what its help says in a line.
+DESCRIPTIONS = {
+    "histar": "A script is calls of threads on one kernel, which decides by labels which thread may read and write what. A refused call changes nothing.",
+    "histar-audit": "A dump is what histar run, confine, or a program over the library writes of its calls. It is clean where each answer in it is that of the rules.",
+    "histar-show": "A dump is what histar run, confine, or a program over the library writes of its calls.",
+    "confine": "What the program reads of a secret it can write to that secret's reports and nowhere else. It needs Linux 6.2 or later, and no privileges.",
+}
+
+# How each may end. The cases are those of docs/PROGRAMS.md and docs/CONFINE.md.
+FAILED = {3: "a file can't be read or written", 4: "out of memory"}
+STATUSES = {
+    "histar": {0: "done; a refused call is no failure", 1: "the script has a fault, or check has found something", 2: "wrong arguments", **FAILED},
+    "histar-audit": {0: "the dump is clean", 1: "a line is false", 2: "the file is no dump, or wrong arguments", **FAILED},
+    "histar-show": {0: "shown", 1: "what is asked for needs a clean dump, and this is none", 2: "no dump, no call at the line, or wrong arguments", **FAILED},
+    "confine": {"N": "the program's own status, or 0 once a secret was read", 2: "wrong arguments", 69: "this machine lacks something; nothing was started", 70: "something failed"},
+}
+EXAMPLES = {
+    "histar": (("Play a script and keep what happened", "histar run {documents}/examples/first.histar --dump first.dump"), ("Ask the kernel call by call", "histar try")),
+    "histar-audit": (("Check each answer of a run", "histar-audit first.dump"), ("See what object 4 can have reached outside of category 1", "histar-audit first.dump --from 4 --category 1")),
+    "histar-show": (("See why the call of a line was refused", "histar-show why first.dump 12"), ("Write a page that steps through a run", "histar-show page first.dump --out first.html")),
+    "confine": (("Search your documents by a program that can't send them on", "confine --secret ~/Documents --report found -- sh -c 'grep -rl EICAR ~/Documents > found'"),),
+}
 
 
 class Help:
@@ -13,7 +36,7 @@ class Help:
         said = subprocess.run([program, *words, "--help"], check=True, stdout=subprocess.PIPE, text=True).stdout
         self.about, _, rest = said.partition("Usage: ")
         self.usage, _, rest = rest.partition("\n")
-        self.parts = {heading: rows_in(rest, heading) for heading, _ in SECTIONS}
+        self.parts = {heading: rows_in(rest, heading) for heading in HEADINGS}
 
     def commands(self):
         return [it for it, _ in self.parts["Commands:"] if it != "help"]
@@ -47,33 +70,61 @@ def helps(name, program):
 
 
 def escaped(text):
-    return text.replace("\\", r"\e").replace("-", r"\-").replace("\n.", "\n\\&.")
+    """A text as troff has it, with plain signs where troff would make others of them. A path may go on in the next line."""
+    for sign, written in (("\\", r"\e"), ("-", r"\-"), ("'", r"\(aq"), ("~", r"\(ti"), ("/", r"/\:")):
+        text = text.replace(sign, written)
+    return text
 
 
-def manual(name, version, date, found):
-    """The man page of a program, of section 1."""
+def whole(text):
+    """A text whose words stay on one line."""
+    return escaped(text).replace(" ", r"\ ")
+
+
+def usage(it):
+    """How a command is used: what goes together stands on one line."""
+    return " ".join(map(whole, re.findall(r"\[[^]]*\][.]*|--\S+ <\S+|\S+", it.usage)))
+
+
+def rows(found, leaves_out=()):
+    """The arguments and options of a command, each with what it is for."""
+    for typed, what in [*found.parts["Arguments:"], *found.parts["Options:"]]:
+        if typed not in leaves_out:
+            yield from (".TP", f".B {whole(typed)}", escaped(what))
+
+
+def synopsis(found):
+    """How the program is used; by each of its commands, where it has any."""
+    for it in found[1:] or found:
+        yield from (".HP 8", f".B {usage(it)}")
+
+
+def commands(found):
+    """Each command with its arguments and options."""
+    for it in found[1:]:
+        yield from (f".SS {usage(it)}", f"{escaped(' '.join(it.about.split()))}.", *rows(it, ("-h, --help",)))
+
+
+def statuses(name):
+    for status, case in STATUSES[name].items():
+        yield from (".TP", f".B {status}", escaped(case))
+
+
+def examples(name, documents):
+    for what, command in EXAMPLES[name]:
+        yield from (".PP", f"{escaped(what)}:", ".PP", ".RS 4", escaped(command.format(documents=documents)), ".RE")
+
+
+def manual(name, version, date, found, documents):
+    """The man page of a program, of section 1. Documents are in a folder."""
     about = " ".join(found[0].about.split())
-    lines = [f'.TH {name.upper()} 1 "{date}" "koalaingot {version}" "User Commands"', ".SH NAME", f"{name} \\- {escaped(about[:1].lower() + about[1:])}"]
-    for it in found:
-        lines += [f".SH {' '.join([name, *it.words]).upper()}" if it.words else ".SH SYNOPSIS", f".B {escaped(it.usage)}"]
-        lines += [".PP", escaped(" ".join(it.about.split()))] if it.words else []
-        for heading, title in SECTIONS:
-            rows = it.parts[heading]
-            lines += [f".SS {title}"] if rows else []
-            for typed, what in rows:
-                lines += [".TP", f".B {escaped(typed)}", escaped(what)]
-    lines += [".SH SEE ALSO", "The documents below /usr/share/doc/koalaingot."]
-    return "\n".join(lines) + "\n"
-
-
-def plain_manual(name, version, date, said):
-    """The man page of a program whose help is how it is used, what it does, and its words, each part behind an empty line."""
-    usage, about, *rest = said.strip().split("\n\n")
-    about = " ".join(about.split())
-    lines = [f'.TH {name.upper()} 1 "{date}" "koalaingot {version}" "User Commands"', ".SH NAME", f"{name} \\- {escaped(about[:1].lower() + about[1:].partition('.')[0])}"]
-    lines += [".SH SYNOPSIS", ".nf", escaped(usage), ".fi", ".SH DESCRIPTION", escaped(about), ".SH OPTIONS", ".nf", escaped(rest[0]), ".fi"]
-    lines += [".SH EXIT STATUS", escaped(" ".join(" ".join(rest[1:]).split())), ".SH SEE ALSO", "The documents below /usr/share/doc/koalaingot."]
-    return "\n".join(lines) + "\n"
+    lines = [f'.TH {name.upper()} 1 "{date}" "{version}" "User Commands"', ".ad l", ".nh"]
+    lines += [".SH NAME", f"{name} \\- {escaped(about[:1].lower() + about[1:])}", ".SH SYNOPSIS", *synopsis(found)]
+    lines += [".SH DESCRIPTION", escaped(DESCRIPTIONS[name])]
+    lines += [".SH COMMANDS", *commands(found)] if found[1:] else []
+    lines += [".SH OPTIONS", *rows(found[0]), ".SH EXIT STATUS", *statuses(name), ".SH EXAMPLES", *examples(name, documents)]
+    others = ", ".join(f".BR {escaped(it)} (1)" for it in sorted(STATUSES) if it != name).replace(", ", " ,\n")
+    return "\n".join([*lines, ".SH SEE ALSO", others, ".PP", f"The documents in {escaped(documents)}/."]) + "\n"
 
 
 def cases(found, variable):

@@ -5,12 +5,14 @@ import email.utils
 import gzip
 import hashlib
 import os
+import re
 import shutil
 import subprocess
 import sys
 import tempfile
 
 from gate import manuals, roots, versions
+from gate.plays import text
 from gate.report import Report
 
 PROGRAMS = {"histar": "crates/histar/out/histar", "histar-audit": "crates/histar_audit/out/histar_audit", "histar-show": "crates/histar_show/out/histar_show"}
@@ -151,17 +153,15 @@ def lay_about(room, name):
         room.zip(f"{folder}/changelog", it.read())
 
 
-def lay_programs(room, day):
-    for name, file in PROGRAMS.items():
+def lay_programs(room, prefix, day):
+    for name, file in {**PROGRAMS, "confine": CONFINE}.items():
         room.program(f"libexec/koalaingot/{name}" if name == "histar" else f"bin/{name}", file)
         found = manuals.helps(name, os.path.abspath(file))
-        room.zip(f"share/man/man1/{name}.1", manuals.manual(name, versions.read(), day, found))
+        room.zip(f"share/man/man1/{name}.1", manuals.manual(name, versions.read(), day, found, f"{prefix}/share/doc/koalaingot"))
         room.put(f"share/bash-completion/completions/{name}", manuals.bash(name, found))
         room.put(f"share/zsh/vendor-completions/_{name}", manuals.zsh(name, found))
         room.put(f"share/fish/vendor_completions.d/{name}.fish", manuals.fish(name, found))
     room.put("bin/histar", STARTER, 0o755)
-    room.program("bin/confine", CONFINE)
-    room.zip("share/man/man1/confine.1", manuals.plain_manual("confine", versions.read(), day, said_by(os.path.abspath(CONFINE), "--help")))
     for file in sources():
         if file.startswith(("docs/", "examples/")) or file in ("README.md", "CHANGELOG.md"):
             room.copy(f"share/doc/koalaingot/{file}", file)
@@ -241,7 +241,7 @@ def pack():
     with tempfile.TemporaryDirectory(prefix="package-", dir=os.path.dirname(OUT)) as room:
         os.chmod(room, 0o755)
         made = [tarball(room)]
-        made.append(deb("koalaingot", lambda it: lay_programs(it, day), room, seconds))
+        made.append(deb("koalaingot", lambda it: lay_programs(it, "/usr", day), room, seconds))
         made.append(deb("libhistar-dev", lambda it: lay_library(it, "/usr"), room, seconds))
         shutil.rmtree(OUT, ignore_errors=True)
         os.makedirs(OUT)
@@ -292,8 +292,9 @@ def install(prefix):
         needs()
         room = Room(prefix)
         try:
-            lay_programs(room, said_by("git", "log", "-1", "--format=%cs").strip())
-            lay_library(room, prefix.removeprefix(os.environ.get("DESTDIR", "")))
+            laid_to = prefix.removeprefix(os.environ.get("DESTDIR", ""))
+            lay_programs(room, laid_to, said_by("git", "log", "-1", "--format=%cs").strip())
+            lay_library(room, laid_to)
             room.put("share/doc/koalaingot/installed", "".join(f"{it}\n" for it in [*room.laid, "share/doc/koalaingot/installed"]))
         except BaseException:
             take_away(prefix, room.laid)
@@ -356,8 +357,13 @@ def try_programs(report, top):
     ended = ran(f"{top}/usr/bin/histar-show", "page", f"{top}/dump", "--out", f"{top}/page.html", env=env)
     report.counts(ended == (0, "") and os.path.getsize(f"{top}/page.html") > 1000, f"packages: histar-show page: {ended}")
     for name in PROGRAMS:
-        ended = ran("man", "--warnings", "-l", f"{top}/usr/share/man/man1/{name}.1.gz", env={**env, "LANG": "C.UTF-8", "MANWIDTH": "80"})
-        report.counts(ended[0] == 0 and "OPTIONS" in ended[1] and "warning" not in ended[1], f"packages: man {name}")
+        told = {int(it) for it in re.findall(rf"^\| `{name} [^|]*\| (\d+) \|", text("docs/PROGRAMS.md"), re.M)}
+        report.counts(bool(told) and told <= set(manuals.STATUSES[name]), f"packages: man {name} has the statuses that PROGRAMS.md has: {sorted(told)}")
+    for name in manuals.STATUSES:
+        for width in ("40", "80", "120"):
+            ended = ran("man", "--warnings", "-l", f"{top}/usr/share/man/man1/{name}.1.gz", env={**env, "LANG": "C.UTF-8", "MANWIDTH": width})
+            is_well = ended[0] == 0 and "OPTIONS" in ended[1] and "warning" not in ended[1]
+            report.counts(is_well and all(len(it) <= int(width) for it in ended[1].splitlines()), f"packages: man {name}, {width} columns wide")
     try_completions(report, f"{top}/usr/share", env)
 
 

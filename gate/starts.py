@@ -78,12 +78,11 @@ class Tree:
         return done.returncode, done.stdout, done.stderr
 
 
-def at_terminal(tree, words, columns=80, typed=()):
-    """What a command of the tree shows at a terminal so many columns wide, where these lines are typed, each after some time."""
+def shown_at_terminal(words, columns=80, typed=(), **how):
+    """What a command shows at a terminal so many columns wide, where these lines are typed, each after some time."""
     ours, theirs = pty.openpty()
     fcntl.ioctl(theirs, termios.TIOCSWINSZ, struct.pack("HHHH", 24, columns, 0, 0))
-    env = {**os.environ, "PATH": f"{tree.commands}:{os.environ['PATH']}", "TERM": "xterm"}
-    started = subprocess.Popen(words, cwd=tree.top, env=env, stdin=theirs, stdout=theirs, stderr=theirs, start_new_session=True)
+    started = subprocess.Popen(words, stdin=theirs, stdout=theirs, stderr=theirs, start_new_session=True, **how)
     os.close(theirs)
     for line in typed:
         time.sleep(0.5)
@@ -97,6 +96,18 @@ def at_terminal(tree, words, columns=80, typed=()):
     os.close(ours)
     started.wait()
     return shown.decode(errors="replace").replace("\r", "")
+
+
+def at_terminal(tree, words, columns=80, typed=()):
+    """The same of a command of the tree."""
+    env = {**os.environ, "PATH": f"{tree.commands}:{os.environ['PATH']}", "TERM": "xterm"}
+    return shown_at_terminal(words, columns, typed, cwd=tree.top, env=env)
+
+
+def is_wrapped(report, command, shown, last, columns=40):
+    """Counts whether what was shown at a terminal of so many columns stands within them, to its last words."""
+    longest = max(map(len, shown.splitlines()))
+    report.counts(longest <= columns and shown.rstrip().endswith(last), f"{command} on a terminal of {columns} columns: the longest line has {longest}")
 
 
 def expect(report, name, got, wanted):
@@ -141,9 +152,7 @@ def try_help(report, tree):
         status, said, beside = tree.start(*command.split(), has_rt=False)
         report.counts((status, beside) == (0, "") and "Usage: " in said and said in stored[case], f"{command} unproved: status {status}, as stored")
     for command, last in (("./histar --help", "Print version"), ("./histar-audit --help", "Print version"), ("./prove --help", "interrupted.")):
-        shown = at_terminal(tree, command.split(), columns=40)
-        longest = max(map(len, shown.splitlines()))
-        report.counts(longest <= 40 and shown.rstrip().endswith(last), f"{command} on a terminal of 40 columns: the longest line has {longest}")
+        is_wrapped(report, command, at_terminal(tree, command.split(), columns=40), last)
 
 
 def try_arrows(report, tree):

@@ -127,6 +127,11 @@ struct family {
     struct world world;
 };
 
+/* ---- help.c ---- */
+
+/* Prints how confine is used, and ends. */
+ENDS void print_help(void);
+
 /* ---- words.c ---- */
 
 /* The plan that the words make. It ends with ENDS_USAGE and a line where they make none. */

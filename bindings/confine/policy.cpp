@@ -90,9 +90,10 @@ int category_of(const Reading &reading, const toml::node &node, std::string_view
     fault(reading, node, "no category: " + std::string(name));
 }
 
+/* (A text has a letter.) */
 bool is_name(const std::string &text)
 {
-    if (text.empty() || text.size() > MOST_NAME) return false;
+    if (text.size() > MOST_NAME) return false;
     for (char it : text)
         if (!(it >= 'a' && it <= 'z') && !(it >= '0' && it <= '9') && it != '-' && it != '_') return false;
     return true;

@@ -8,25 +8,6 @@
 #include <sys/stat.h>
 #include <unistd.h>
 
-static const char USAGE[] =
-    "confine [--policy FILE] [--secret FOLDER [--report FILE]..].. [--public FOLDER].. [--born-tainted] [--audit DUMP]\n"
-    "        [--explain] -- PROGRAM ARGUMENT..\n"
-    "\n"
-    "Runs a program that may read secrets and can't send them on. What it reads of a secret it can write to that\n"
-    "secret's reports and nowhere else.\n"
-    "\n"
-    "  --secret FOLDER  it may read this folder; from then on nothing that it prints is shown\n"
-    "  --report FILE    it may write this file. After --secret, also once it has read that secret\n"
-    "  --public FOLDER  it may read this folder too, as it may read /usr\n"
-    "  --policy FILE    labels, a clearance and gates, as docs/CONFINE.md has them\n"
-    "  --born-tainted   it counts as having read all secrets from its start\n"
-    "  --audit DUMP     writes all decisions as a dump, for histar-audit\n"
-    "  --explain        prints the id of each thing, and a line for each refusal, and why\n"
-    "  --version        prints the version, where it stands alone\n"
-    "\n"
-    "It ends with the program's status, or with 0 once a secret was read. 2: wrong words; 69: this machine can't\n"
-    "confine; 70: something failed.\n";
-
 ENDS void refuse(const char *form, ...)
 {
     va_list parts;
@@ -148,10 +129,7 @@ void read_words(int count, char **texts, struct plan *plan)
 {
     struct words words = {-1, false};
     int at = 1;
-    if (count == 2 && (!strcmp(texts[1], "--help") || !strcmp(texts[1], "-h"))) {
-        fputs(USAGE, stdout);
-        exit(fflush(stdout) ? ENDS_FAULT : 0);
-    }
+    if (count == 2 && (!strcmp(texts[1], "--help") || !strcmp(texts[1], "-h"))) print_help();
     if (count == 2 && (!strcmp(texts[1], "--version") || !strcmp(texts[1], "-V"))) {
         puts("confine " HISTAR_VERSION);
         exit(fflush(stdout) ? ENDS_FAULT : 0);

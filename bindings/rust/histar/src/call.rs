@@ -257,6 +257,13 @@ pub struct NewGate<'a> {
 
 impl<'a> NewGate<'a> {
     /// A gate in the root container with a quota of 1, no address space, and entry point and closure 0.
+    ///
+    /// ```
+    /// use histar::{label, NewGate, Object};
+    /// let (owner, clearance) = (label! { L1 }, label! { L2 });
+    /// let gate = NewGate { closure: 9, ..NewGate::new(&owner, &clearance) };
+    /// assert_eq!((gate.container, gate.quota, gate.entry_point, gate.closure), (Object::ROOT, 1, 0, 9));
+    /// ```
     pub fn new(label: &'a Label, clearance: &'a Label) -> NewGate<'a> {
         NewGate {
             container: Object::ROOT,
@@ -277,6 +284,14 @@ fn owned<T: ToOwned + ?Sized>(value: Cow<'_, T>) -> Cow<'static, T> {
 
 impl Call<'_> {
     /// The same call, with labels and bytes of its own.
+    ///
+    /// ```
+    /// use histar::Call;
+    /// let text = String::from("note");
+    /// let call: Call<'static> = Call::Store { address: 0, bytes: text.as_bytes().into() }.into_owned();
+    /// drop(text);
+    /// assert_eq!(call, Call::Store { address: 0, bytes: b"note"[..].into() });
+    /// ```
     pub fn into_owned(self) -> Call<'static> {
         match self {
             Call::SelfSetLabel { label } => Call::SelfSetLabel { label: owned(label) },
@@ -331,6 +346,11 @@ impl Call<'_> {
     }
 
     /// Whether the call changes nothing.
+    ///
+    /// ```
+    /// use histar::Call;
+    /// assert!(Call::SelfGet.is_read() && !Call::CatCreate.is_read());
+    /// ```
     pub fn is_read(&self) -> bool {
         matches!(
             self,

@@ -32,11 +32,21 @@ impl Entry {
     pub const NONE: Entry = Entry { container: Object::NONE, object: Object::NONE };
 
     /// The entry of an object, or of a session's thread, in a container.
+    ///
+    /// ```
+    /// use histar::{Entry, Object};
+    /// assert_eq!(Entry::new(Object(4), Object(7)).to_string(), "#4 #7");
+    /// ```
     pub fn new(container: Object, object: impl Into<Object>) -> Entry {
         Entry { container, object: object.into() }
     }
 
     /// The entry of an object, or of a session's thread, in the root container.
+    ///
+    /// ```
+    /// use histar::{Entry, Object};
+    /// assert_eq!(Entry::in_root(Object(7)), Entry::new(Object::ROOT, Object(7)));
+    /// ```
     pub fn in_root(object: impl Into<Object>) -> Entry {
         Entry::new(Object::ROOT, object)
     }

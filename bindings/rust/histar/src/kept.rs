@@ -33,16 +33,48 @@ impl Kernel {
     }
 
     /// The live id at a place, from 0, among all live ids, which rise.
+    ///
+    /// ```
+    /// use histar::Object;
+    /// # let kernel = histar::Kernel::boot(64)?;
+    /// # let boot = kernel.session();
+    /// boot.cat_create()?;
+    /// assert_eq!((kernel.kept_live(2), kernel.kept_live(3)), (Some(Object::DEVICE), None));
+    /// # Ok::<(), histar::Refusal>(())
+    /// ```
     pub fn kept_live(&self, place: u32) -> Option<Object> {
         self.finds(35, Object::NONE, [u64::from(place)], |answer| Object(answer.numbers[0]))
     }
 
     /// What a live object uses, in pages of 256 bytes.
+    ///
+    /// ```
+    /// use histar::{label, Object};
+    /// # let kernel = histar::Kernel::boot(64)?;
+    /// # let boot = kernel.session();
+    /// let note = boot.segment_create(Object::ROOT, &label! { L1 }, 4, 2)?;
+    /// assert_eq!((kernel.kept_use(note), kernel.kept_use(Object(99))), (Some(3), None));
+    /// # Ok::<(), histar::Refusal>(())
+    /// ```
     pub fn kept_use(&self, object: Object) -> Option<u32> {
         self.finds(36, object, [], |answer| answer.numbers[0] as u32)
     }
 
     /// What a slot, 0 to 15, of a live thread's address space shows: a segment, with the rights to it.
+    ///
+    /// ```
+    /// use histar::{label, Entry, Mapping, Object, Rights};
+    /// # let kernel = histar::Kernel::boot(64)?;
+    /// # let boot = kernel.session();
+    /// let note = boot.segment_create(Object::ROOT, &label! { L1 }, 2, 1)?;
+    /// let space = Entry::in_root(boot.as_create(Object::ROOT, &label! { L1 }, 1)?);
+    /// let rights = Rights::READ;
+    /// boot.as_map(space, 5, Mapping { page: 4, segment: Entry::in_root(note), first: 0, count: 1, rights })?;
+    /// assert_eq!(kernel.kept_translation(boot.id(), 5), None);
+    /// boot.self_set_as(space)?;
+    /// assert_eq!(kernel.kept_translation(boot.id(), 5), Some((note, rights)));
+    /// # Ok::<(), histar::Refusal>(())
+    /// ```
     pub fn kept_translation(&self, thread: Object, slot: u32) -> Option<(Object, Rights)> {
         self.finds(37, thread, [u64::from(slot)], |answer| {
             let n = &answer.numbers;
@@ -51,11 +83,33 @@ impl Kernel {
     }
 
     /// The label of an index. Each stored label has one.
+    ///
+    /// ```
+    /// use histar::label;
+    /// # let kernel = histar::Kernel::boot(64)?;
+    /// # let boot = kernel.session();
+    /// let c = boot.cat_create()?;
+    /// let mut kept = (0..9).filter_map(|index| kernel.kept_label(index));
+    /// assert!(kept.any(|it| it == label! { c => Star; L1 }));
+    /// # Ok::<(), histar::Refusal>(())
+    /// ```
     pub fn kept_label(&self, index: u16) -> Option<Label> {
         self.finds(38, Object::NONE, [u64::from(index)], |answer| answer.label.label())
     }
 
     /// How the label of an index compares with that of another.
+    ///
+    /// ```
+    /// use histar::label;
+    /// # let kernel = histar::Kernel::boot(64)?;
+    /// # let boot = kernel.session();
+    /// let index_of = |label| (0..9).find(|it| kernel.kept_label(*it).as_ref() == Some(&label)).unwrap();
+    /// let (own, clearance) = (index_of(label! { L1 }), index_of(label! { L2 }));
+    /// assert!(kernel.kept_order(own, clearance).unwrap().at_most);
+    /// assert!(!kernel.kept_order(clearance, own).unwrap().at_most);
+    /// assert_eq!(kernel.kept_order(own, 9999), None);
+    /// # Ok::<(), histar::Refusal>(())
+    /// ```
     pub fn kept_order(&self, first: u16, second: u16) -> Option<Order> {
         self.finds(39, Object::NONE, [u64::from(first), u64::from(second)], |answer| {
             let bits = answer.numbers[0];

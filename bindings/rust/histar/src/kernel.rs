@@ -3,6 +3,9 @@ use crate::raw::Raw;
 use crate::trusted::Thread;
 use crate::{Call, Limits, Refusal, Reply, Session};
 
+#[cfg(doc)]
+use crate::Refusal::*;
+
 /// A label kernel. It can be sent to another thread, and one thread at a time calls it: many threads
 /// [share](crate::Shared) one.
 ///
@@ -27,13 +30,30 @@ pub(crate) fn refusal(number: u32) -> Refusal {
 impl Kernel {
     /// A new kernel, with all limits.
     ///
+    /// ```
+    /// use histar::{Kernel, Level, Limits, Refusal};
+    /// let kernel = Kernel::boot_with(&Limits { next_category: 7, ..Limits::pages(64) })?;
+    /// assert_eq!(kernel.session().cat_create()?.0, 7);
+    /// let star = Limits { device: Level::Star, ..Limits::pages(64) };
+    /// assert_eq!(Kernel::boot_with(&star).err(), Some(Refusal::BadLimits));
+    /// # Ok::<(), histar::Refusal>(())
+    /// ```
+    ///
     /// # Errors
-    /// `BadLimits` where a limit is out of its range, and `Unavailable` for want of memory.
+    /// [`BadLimits`] where a limit is out of its range, and [`Unavailable`] for want of memory.
     pub fn boot_with(limits: &Limits) -> Result<Kernel, Refusal> {
         Raw::boot(limits).map(|raw| Kernel { raw }).map_err(refusal)
     }
 
     /// A new kernel of so many pages of 256 bytes, 8 to 1,024, with the limits of a script.
+    ///
+    /// ```
+    /// use histar::{Entry, Kernel, Object, Refusal};
+    /// let kernel = Kernel::boot(8)?;
+    /// assert_eq!(kernel.session().obj_quota(Entry::in_root(Object::ROOT))?.quota, 8);
+    /// assert_eq!(Kernel::boot(7).err(), Some(Refusal::BadLimits));
+    /// # Ok::<(), histar::Refusal>(())
+    /// ```
     ///
     /// # Errors
     /// As [`boot_with`](Kernel::boot_with).
@@ -42,11 +62,28 @@ impl Kernel {
     }
 
     /// The session of the boot thread, which may do all that the rules allow: it makes the other sessions.
+    ///
+    /// ```
+    /// use histar::{label, Kernel, Object};
+    /// let kernel = Kernel::boot(64)?;
+    /// assert_eq!(kernel.session().id(), Object(2));
+    /// assert_eq!(kernel.session().self_get()?.clearance, label! { L2 });
+    /// # Ok::<(), histar::Refusal>(())
+    /// ```
     pub fn session(&self) -> Session<'_> {
         Session::new(self, Thread::BOOT)
     }
 
     /// One call of a thread, as a value.
+    ///
+    /// ```
+    /// use histar::trusted::Thread;
+    /// use histar::{Call, Category, Kernel, Refusal, Reply};
+    /// let kernel = Kernel::boot(64)?;
+    /// assert_eq!(kernel.call(Thread::BOOT, &Call::CatCreate), Ok(Reply::Category(Category(1))));
+    /// assert_eq!(kernel.call(Thread(99), &Call::CatCreate), Err(Refusal::Halted));
+    /// # Ok::<(), histar::Refusal>(())
+    /// ```
     ///
     /// # Errors
     /// The refusal of the call's row in docs/CALLS.md; if several checks fail, the one with the lowest number. A refused call

@@ -80,16 +80,33 @@ pub struct Label {
 
 impl Label {
     /// The label of this level in every category.
+    ///
+    /// ```
+    /// assert_eq!(histar::Label::new(histar::Level::L2).to_string(), "{2}");
+    /// ```
     pub fn new(default: Level) -> Label {
         Label { default, pairs: Vec::new() }
     }
 
     /// The level of a category.
+    ///
+    /// ```
+    /// use histar::{label, Category, Level};
+    /// let label = label! { Category(3) => L3; L1 };
+    /// assert_eq!((label.get(Category(3)), label.get(Category(4))), (Level::L3, Level::L1));
+    /// ```
     pub fn get(&self, category: Category) -> Level {
         self.pairs.iter().find(|pair| pair.0 == category).map_or(self.default, |pair| pair.1)
     }
 
     /// Gives a category another level.
+    ///
+    /// ```
+    /// use histar::{label, Category, Level};
+    /// let mut label = label! { Category(3) => L3; L1 };
+    /// label.set(Category(3), Level::Star);
+    /// assert_eq!(label.to_string(), "{#3:*,1}");
+    /// ```
     pub fn set(&mut self, category: Category, level: Level) {
         match self.pairs.iter_mut().find(|pair| pair.0 == category) {
             Some(pair) => pair.1 = level,
@@ -98,6 +115,12 @@ impl Label {
     }
 
     /// The label with another level for a category.
+    ///
+    /// ```
+    /// use histar::{label, Category, Level};
+    /// let label = label! { L1 }.with(Category(3), Level::L3).with(Category(4), Level::L0);
+    /// assert_eq!(label.to_string(), "{#3:3,#4:0,1}");
+    /// ```
     #[must_use]
     pub fn with(mut self, category: Category, level: Level) -> Label {
         self.set(category, level);
@@ -105,6 +128,13 @@ impl Label {
     }
 
     /// The categories that have another level than the default, with their levels, by rising categories.
+    ///
+    /// ```
+    /// use histar::{label, Category, Level};
+    /// let label = label! { Category(4) => L3, Category(3) => L1, Category(2) => L0; L1 };
+    /// let found: Vec<_> = label.exceptions().into_iter().collect();
+    /// assert_eq!(found, [(Category(2), Level::L0), (Category(4), Level::L3)]);
+    /// ```
     pub fn exceptions(&self) -> BTreeMap<Category, Level> {
         let pairs = self.pairs.iter().rev().copied();
         let mut all: BTreeMap<Category, Level> = pairs.collect();
@@ -125,12 +155,24 @@ impl Label {
     }
 
     /// The least label that both are at most: in each category the greater level.
+    ///
+    /// ```
+    /// use histar::{label, Category};
+    /// let (c, d) = (Category(3), Category(4));
+    /// assert_eq!(label! { c => L3; L1 }.join(&label! { d => L0; L2 }), label! { c => L3, d => L1; L2 });
+    /// ```
     #[must_use]
     pub fn join(&self, other: &Label) -> Label {
         self.merged(other, Level::max)
     }
 
     /// The greatest label that is at most both: in each category the lesser level.
+    ///
+    /// ```
+    /// use histar::{label, Category};
+    /// let (c, d) = (Category(3), Category(4));
+    /// assert_eq!(label! { c => L3; L1 }.meet(&label! { d => L0; L2 }), label! { c => L2, d => L0; L1 });
+    /// ```
     #[must_use]
     pub fn meet(&self, other: &Label) -> Label {
         self.merged(other, Level::min)
@@ -227,6 +269,12 @@ impl fmt::Display for ParseLabelError {
 
 impl std::error::Error for ParseLabelError {}
 
+/// Reads `0`, `1`, `2`, `3` or `*`; anything else is a [`ParseLabelError`].
+///
+/// ```
+/// use histar::{Level, ParseLabelError};
+/// assert_eq!(("*".parse(), "4".parse::<Level>()), (Ok(Level::Star), Err(ParseLabelError)));
+/// ```
 impl FromStr for Level {
     type Err = ParseLabelError;
 
@@ -235,7 +283,12 @@ impl FromStr for Level {
     }
 }
 
-/// 0 to 3 are levels; `Star` has no number.
+/// 0 to 3 are levels; `Star` has no number, and any other number is a [`ParseLabelError`].
+///
+/// ```
+/// use histar::{Level, ParseLabelError};
+/// assert_eq!((Level::try_from(3), Level::try_from(4)), (Ok(Level::L3), Err(ParseLabelError)));
+/// ```
 impl TryFrom<u32> for Level {
     type Error = ParseLabelError;
 
@@ -260,6 +313,13 @@ fn pair(text: &str) -> Result<(Category, Level), ParseLabelError> {
     Ok((Category(number(category)?), level.parse()?))
 }
 
+/// Reads a label as scripts spell it, with at most 24 pairs; anything else is a [`ParseLabelError`].
+///
+/// ```
+/// use histar::{label, Category, Label, ParseLabelError};
+/// assert_eq!("{#3:3,1}".parse(), Ok(label! { Category(3) => L3; L1 }));
+/// assert_eq!("{3:3,1}".parse::<Label>(), Err(ParseLabelError));
+/// ```
 impl FromStr for Label {
     type Err = ParseLabelError;
 

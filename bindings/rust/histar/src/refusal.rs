@@ -115,12 +115,21 @@ const REFUSALS: [Refusal; 34] = [
 ];
 
 impl Refusal {
-    /// The number of the refusal, as docs/CALLS.md has it.
+    /// The number of the refusal, as docs/CALLS.md or docs/EMBED.md has it.
+    ///
+    /// ```
+    /// assert_eq!(histar::Refusal::CannotObserve.number(), 5);
+    /// ```
     pub fn number(self) -> u32 {
         self as u32
     }
 
     /// The refusal of a number; none where the number has none.
+    ///
+    /// ```
+    /// use histar::Refusal;
+    /// assert_eq!((Refusal::of(5), Refusal::of(26)), (Some(Refusal::CannotObserve), None));
+    /// ```
     pub fn of(number: u32) -> Option<Refusal> {
         REFUSALS.into_iter().find(|refusal| refusal.number() == number)
     }
@@ -147,6 +156,12 @@ impl fmt::Display for NoRefusal {
 
 impl std::error::Error for NoRefusal {}
 
+/// The refusal of a number, or [`NoRefusal`].
+///
+/// ```
+/// use histar::{NoRefusal, Refusal};
+/// assert_eq!((Refusal::try_from(5), Refusal::try_from(26)), (Ok(Refusal::CannotObserve), Err(NoRefusal)));
+/// ```
 impl TryFrom<u32> for Refusal {
     type Error = NoRefusal;
 
@@ -155,7 +170,13 @@ impl TryFrom<u32> for Refusal {
     }
 }
 
-/// `PermissionDenied` where labels refuse it, `OutOfMemory` for want of memory, and else `Other`.
+/// `PermissionDenied` where labels refuse it, `NotFound` where an entry leads nowhere, `OutOfMemory` for want of memory, `InvalidInput`
+/// where a number is out of its range, and else `Other`.
+///
+/// ```
+/// let error = std::io::Error::from(histar::Refusal::CannotObserve);
+/// assert_eq!(error.kind(), std::io::ErrorKind::PermissionDenied);
+/// ```
 impl From<Refusal> for std::io::Error {
     fn from(refusal: Refusal) -> std::io::Error {
         use std::io::ErrorKind;

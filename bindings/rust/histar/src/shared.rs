@@ -6,6 +6,9 @@ use crate::{Call, Entry, Kernel, Limits, Refusal, Reply, Session};
 use std::sync::atomic::{AtomicU64, Ordering};
 use std::sync::{Mutex, PoisonError};
 
+#[cfg(doc)]
+use crate::Refusal::*;
+
 /// A kernel that threads share. Each thread opens a seat and calls through it, and all seats are in one state: each write call
 /// stands in one list, and a call through a seat first plays what others added to it since, on the seat's own kernel. No call takes a
 /// lock, and a read waits for nobody. That the calls are one history, and that each seat answers by the rules, is proved of the library.
@@ -61,8 +64,17 @@ pub struct Seat {
 impl Shared {
     /// A kernel for threads to share, with all limits, whose list has room for so many write calls.
     ///
+    /// ```
+    /// use histar::{Limits, Refusal, Shared};
+    /// let shared = Shared::boot_with(&Limits { next_category: 7, ..Limits::pages(64) }, 1)?;
+    /// let seat = shared.seat()?;
+    /// assert_eq!(seat.session().cat_create()?.0, 7);
+    /// assert_eq!(seat.session().cat_create(), Err(Refusal::ListFull));
+    /// # Ok::<(), histar::Refusal>(())
+    /// ```
+    ///
     /// # Errors
-    /// `BadLimits` where a limit is out of its range, and `Unavailable` for want of memory.
+    /// [`BadLimits`] where a limit is out of its range, and [`Unavailable`] for want of memory.
     pub fn boot_with(limits: &Limits, calls: u64) -> Result<Shared, Refusal> {
         let mut raw = RawShared::boot(limits, calls);
         raw.seat().map_err(refusal)?; // (a seat is tried: why there is none is told here)
@@ -70,6 +82,13 @@ impl Shared {
     }
 
     /// The same, of so many pages of 256 bytes, 8 to 1,024, with the limits of a script.
+    ///
+    /// ```
+    /// use histar::{Refusal, Shared};
+    /// assert!(Shared::boot(8, 10)?.seat().is_ok());
+    /// assert_eq!(Shared::boot(7, 10).err(), Some(Refusal::BadLimits));
+    /// # Ok::<(), histar::Refusal>(())
+    /// ```
     ///
     /// # Errors
     /// As [`boot_with`](Shared::boot_with).
@@ -79,8 +98,16 @@ impl Shared {
 
     /// A seat, which has a kernel of its own. Its first call plays all calls of the list.
     ///
+    /// ```
+    /// use histar::{label, Shared};
+    /// let shared = Shared::boot(64, 10)?;
+    /// let c = shared.seat()?.session().cat_create()?;
+    /// assert_eq!(shared.seat()?.session().self_get()?.label, label! { c => Star; L1 });
+    /// # Ok::<(), histar::Refusal>(())
+    /// ```
+    ///
     /// # Errors
-    /// `Unavailable` for want of memory.
+    /// [`Unavailable`] for want of memory.
     pub fn seat(&self) -> Result<Seat, Refusal> {
         // (a panic with the lock leaves the shared kernel as it was)
         let mut raw = self.raw.lock().unwrap_or_else(PoisonError::into_inner);
@@ -90,6 +117,13 @@ impl Shared {
 
 impl Seat {
     /// The session of the boot thread, as [`Kernel::session`].
+    ///
+    /// ```
+    /// use histar::{Object, Shared};
+    /// let seat = Shared::boot(64, 10)?.seat()?;
+    /// assert_eq!(seat.session().id(), Object(2));
+    /// # Ok::<(), histar::Refusal>(())
+    /// ```
     pub fn session(&self) -> Session<'_> {
         self.kernel.session()
     }
@@ -101,8 +135,18 @@ impl Seat {
 
     /// One call of a thread, as [`Kernel::call`]. A write call becomes the last of the list.
     ///
+    /// ```
+    /// use histar::trusted::Thread;
+    /// use histar::{Call, Refusal, Reply, Shared};
+    /// let seat = Shared::boot(64, 1)?.seat()?;
+    /// assert!(matches!(seat.call(Thread::BOOT, &Call::CatCreate), Ok(Reply::Category(_))));
+    /// assert_eq!(seat.call(Thread::BOOT, &Call::CatCreate), Err(Refusal::ListFull));
+    /// assert!(seat.call(Thread::BOOT, &Call::SelfGet).is_ok());
+    /// # Ok::<(), histar::Refusal>(())
+    /// ```
+    ///
     /// # Errors
-    /// Those of the call; and of a write call `Memory`, where there is none to keep it, `ListFull`, where the list has no room, and `Busy`,
+    /// Those of the call; and of a write call [`Memory`], where there is none to keep it, [`ListFull`], where the list has no room, and [`Busy`],
     /// where another thread stands still in the middle of adding its call. It is not made then.
     pub fn call(&self, thread: Thread, call: &Call<'_>) -> Result<Reply, Refusal> {
         self.kernel.call(thread, call)
@@ -111,15 +155,12 @@ impl Seat {
     /// A note of what the seat has seen.
     ///
     /// ```
-    /// use histar::{Refusal, Shared};
-    ///
-    /// let (shared, another) = (Shared::boot(64, 10)?, Shared::boot(64, 10)?);
+    /// let shared = histar::Shared::boot(64, 10)?;
     /// let (first, second) = (shared.seat()?, shared.seat()?);
+    /// assert_eq!(first.seen(), second.seen());
     /// first.session().cat_create()?;
-    /// second.learn(first.seen())?;
-    /// assert_eq!(second.seen(), first.seen());
-    /// assert_eq!(another.seat()?.learn(first.seen()), Err(Refusal::OtherList));
-    /// # Ok::<(), Refusal>(())
+    /// assert_ne!(first.seen(), second.seen());
+    /// # Ok::<(), histar::Refusal>(())
     /// ```
     pub fn seen(&self) -> Note {
         let calls = self.kernel.raw.ask(|request| request.put(43, &Entry::NONE, []), |answer| answer.numbers[0]);
@@ -131,8 +172,19 @@ impl Seat {
 
     /// The seat sees all that the note tells, so its reads from here on do.
     ///
+    /// ```
+    /// use histar::{Refusal, Shared};
+    /// let (shared, another) = (Shared::boot(64, 10)?, Shared::boot(64, 10)?);
+    /// let (first, second) = (shared.seat()?, shared.seat()?);
+    /// first.session().cat_create()?;
+    /// second.learn(first.seen())?;
+    /// assert_eq!(second.seen(), first.seen());
+    /// assert_eq!(another.seat()?.learn(first.seen()), Err(Refusal::OtherList));
+    /// # Ok::<(), histar::Refusal>(())
+    /// ```
+    ///
     /// # Errors
-    /// `OtherList` where the note is of another shared kernel, and nothing changes.
+    /// [`OtherList`] where the note is of another shared kernel, and nothing changes.
     pub fn learn(&self, note: Note) -> Result<(), Refusal> {
         if note.shared != self.shared {
             return Err(Refusal::OtherList);

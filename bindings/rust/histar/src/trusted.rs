@@ -38,6 +38,15 @@ pub fn session_of(kernel: &Kernel, thread: Thread) -> Session<'_> {
 }
 
 /// The session of any thread, through a seat.
+///
+/// ```
+/// use histar::trusted::{session_at, Thread};
+/// use histar::{Refusal, Shared};
+/// let seat = Shared::boot(64, 10)?.seat()?;
+/// assert_eq!(session_at(&seat, Thread::BOOT).cat_create()?.0, 1);
+/// assert_eq!(session_at(&seat, Thread(99)).self_get().err(), Some(Refusal::Halted));
+/// # Ok::<(), histar::Refusal>(())
+/// ```
 pub fn session_at(seat: &Seat, thread: Thread) -> Session<'_> {
     seat.session_of(thread)
 }

@@ -99,6 +99,12 @@ pub struct Limits {
 
 impl Limits {
     /// The limits of a script with so many pages: the device's label is 1, the first id 4 and the first category 1.
+    ///
+    /// ```
+    /// use histar::{Level, Limits};
+    /// let limits = Limits::pages(8);
+    /// assert_eq!((limits.pages, limits.device, limits.next_id, limits.next_category), (8, Level::L1, 4, 1));
+    /// ```
     pub const fn pages(pages: u32) -> Limits {
         Limits { pages, device: Level::L1, next_id: 4, next_category: 1 }
     }
