@@ -5,6 +5,8 @@ use Rattle.std.specs.List.{slice_get}
 use Rattle.std.proofs.lemmas.Bool.{and_parts, or_parts, ltb-true, eqb-true, both_ways, eq-eqb}
 use Rattle.std.proofs.lemmas.List.Folds.{list_all-map}
 use Rattle.base.specs.Level.{rank_of}
+use Rattle.base.specs.Limits.{in_range}
+use Rattle.base.specs.declared.ranges.Limits.{Limits}
 use Rattle.label_lattice.specs.Label.{LabelValue}
 use Rattle.label_lattice.specs.Raw.{is_bad, stored_of}
 use Rattle.label_lattice.specs.Order.{levels, Leq}
@@ -13,11 +15,13 @@ use Rattle.label_lattice.proofs.OrderLemmas.{leq_test-Leq, IsDescribed-levels, l
 use Rattle.label_rules.specs.LabelRules.{stored}
 use Rattle.kernel_rules.specs.State.{State, object_at, listed}
 use Rattle.kernel_rules.specs.WellFormed.{is_well_formed, is_kept, is_whole}
+use Rattle.kernel_rules.specs.Runs.{booted}
 use Rattle.kernel_rules.specs.Step.{next}
 use Rattle.kernel_rules.specs.Table.{refused}
 use Rattle.kernel_rules.specs.declared.calls.Call.{Call}
 use Rattle.kernel_rules.specs.declared.calls.Call.TheVariants as call
 use Rattle.kernel_rules.specs.declared.objects.Object.{Object}
+use Rattle.kernel_rules.proofs.BootLaws.{booted_well_formed}
 use Rattle.kernel_rules.proofs.LookupLaws.{all_at}
 use Rattle.kernel_rules.proofs.StepLaws.{step_refused}
 use Rattle.kernel_rules.proofs.WellFormedLaws.{soundness_of}
@@ -172,3 +176,6 @@ sound_from s h =
     true-not : (b : Bool) → not b ≡ true → b ≡ false
     true-not true h = absurd (cc)
     true-not false h = refl
+
+pub sound_boot : (l : Limits) → in_range l ≡ true → Sound (booted l)
+sound_boot l h = sound_from (booted l) (booted_well_formed l h)
