@@ -147,8 +147,9 @@ def try_unproved(report, tree):
 
 def try_help(report, tree):
     """Help proves nothing, whole and on a narrow terminal."""
-    stored = {it: plays.text(f"cases/words/{it}_help.case") for it in ("run", "audit")}
-    for command, case in (("./histar --help", "run"), ("./histar help check", "run"), ("./histar-audit -h", "audit")):
+    stored = {it: plays.text(f"cases/words/{it}.case") for it in ("run_help", "audit_help", "show")}
+    typed = (("./histar --help", "run_help"), ("./histar help check", "run_help"), ("./histar run --help", "run_help"))
+    for command, case in (*typed, ("./histar-audit -h", "audit_help"), ("./histar-show page --help", "show")):
         status, said, beside = tree.start(*command.split(), has_rt=False)
         report.counts((status, beside) == (0, "") and "Usage: " in said and said in stored[case], f"{command} unproved: status {status}, as stored")
     for command, last in (("./histar --help", "Print version"), ("./histar-audit --help", "Print version"), ("./prove --help", "interrupted.")):
