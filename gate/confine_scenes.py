@@ -43,6 +43,7 @@ SCENES = (
     Scene("prints to its standard error before it reads", "echo hello >&2", printed=""),
     Scene("reads what is public", "cat $P/text", printed=PUBLIC + "\n"),
     Scene("reads a secret and writes its report", READ + "echo $k > $R", report=SECRET + "\n"),
+    Scene("writes its report by creat", "perl -e '$p=$ENV{R}; $f=syscall(85,$p,0600); syscall(1,$f,$x=qq(x\\n),2)'", report="x\n"),
     Scene("writes its report from the start", "echo begun > $R; cat $S/key >> $R", report=f"begun\n{SECRET}\n"),
     Scene("begins in the folder of its report, where it was called", "echo x > report; cat secret/key >> report", report=f"x\n{SECRET}\n"),
     Scene("begins at the root, where it was called elsewhere", "pwd", printed="/\n", words=["--public", "$P"]),

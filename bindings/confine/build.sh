@@ -16,10 +16,10 @@ has "${CXX:-c++}" toml++/toml.h c++ || lacks "toml++/toml.h is missing: install 
 room=$(mktemp -d)
 trap 'rm -rf "$room"' EXIT
 mkdir -p "$top/out"
-strict='-std=c11 -O2 -Wall -Wextra -Wpedantic -Werror'
+strict='-std=c11 -O2 -fstack-protector-strong -Wall -Wextra -Wpedantic -Werror'
 "${CC:-cc}" $strict "$top/bindings/confine/filter/make.c" -lseccomp -o "$room/make"
 "$room/make" > "$room/filters.inc"
-"${CXX:-c++}" -std=c++17 -O2 -Wall -Wextra -Werror -I"$top/include" -c "$top/bindings/confine/policy.cpp" -o "$room/policy.o"
+"${CXX:-c++}" -std=c++17 -O2 -fstack-protector-strong -Wall -Wextra -Werror -I"$top/include" -c "$top/bindings/confine/policy.cpp" -o "$room/policy.o"
 for file in "$top"/bindings/confine/*.c; do
     "${CC:-cc}" $strict -I"$top/include" -I"$room" -c "$file" -o "$room/$(basename "$file").o"
 done

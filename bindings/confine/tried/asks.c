@@ -16,12 +16,16 @@ static uint64_t draw(uint64_t below)
     return (drawn >> 33) % below;
 }
 
-/* A true request of a program that ends at once, with drawn bytes in it. */
+/* A true request of a program that ends at once, with drawn bytes in it, or a drawn number of words. */
 static size_t draw_text(char *text)
 {
-    static const char TRUE_ONE[] = "\0/\0" "1\0/bin/true\0A=b";
-    size_t length = sizeof TRUE_ONE;
-    memcpy(text, TRUE_ONE, length);
+    static const char BEGIN[] = "\0/", END[] = "/bin/true\0A=b";
+    unsigned words = draw(4) ? 1 : (unsigned)draw(draw(2) ? 8 : 1u << 31);
+    size_t length = sizeof BEGIN;
+    memcpy(text, BEGIN, length);
+    length += (size_t)sprintf(text + length, "%u", words) + 1;
+    memcpy(text + length, END, sizeof END);
+    length += sizeof END;
     for (uint64_t i = draw(4); i > 0; i--) text[draw(length)] = (char)draw(256);
     return draw(4) ? length : draw(length);
 }
