@@ -10,6 +10,7 @@ use Rattle.base.specs.Live.{has, links}
 use Rattle.containers.specs.Tree.{Tree, HasSlot, ids_in, list_of}
 use Rattle.containers.specs.View.{head_in, ids_of, lists_of, IsKept}
 use Rattle.std.proofs.lemmas.List.{get_or-map, length-map}
+use Rattle.containers.proofs.Directories.{listing_of}
 use Rattle.containers.proofs.Orders.{list_at_slot}
 use Rattle.containers.specs.Cells.{Stands, IsRecorded, Lists'}
 use Rattle.containers.proofs.Handed.{first_stands, none_stands}
@@ -91,7 +92,7 @@ module _ {T : Type 0} (size root : ℕ) (r : List Lists) (names : List ℕ) (a :
   module _ (place id slot place' id' slot' : ℕ) (d : IsEntry a place id slot) (o : IsEntry a place' id' slot') where
     pub link_true : Lists' size r slot slot' → links (lists_of r names a.ids a.slots) id id' ≡ true
     link_true l =
-        let h = links_listed size root r names a.ids a.slots kept.sound kept.directory slot slot' l in
+        let h = links_listed size root r names a.ids a.slots kept.sound (listing_of kept.directory) slot slot' l in
         subst (λ (i : ℕ). links (lists_of r names a.ids a.slots) i id' ≡ true) (entry_name place id slot d)
         (subst (λ (i : ℕ). links (lists_of r names a.ids a.slots) (get_or names slot 0) i ≡ true) (entry_name place' id' slot' o) h)
 
@@ -144,16 +145,16 @@ module _ {T : Type 0} (size root : ℕ) (r : List Lists) (names : List ℕ) (a :
           let rec = entry_recorded place id slot e in
           let same : h.holder ≡ holder = sym (is h.holder h.held.place h.held.stands) in
           let l : Lists' size r h.holder slot = record { cell = cell; link = record { holder = h.within; object = rec.within; held = h.held; names = first_stands r 1 slot cell first } } in
-          let linked = links_listed size root r names a.ids a.slots kept.sound kept.directory h.holder slot l in
+          let linked = links_listed size root r names a.ids a.slots kept.sound (listing_of kept.directory) h.holder slot l in
           subst (λ (i : ℕ). links (lists_of r names a.ids a.slots) (get_or names i 0) id ≡ true) same
           (subst (λ (i : ℕ). links (lists_of r names a.ids a.slots) (get_or names h.holder 0) i ≡ true) (entry_name place id slot e) linked)
 
     pub none_links : None ≡ slice_get (cells_at r 1 slot) 0 → (d : ℕ) → links (lists_of r names a.ids a.slots) d id ≡ false
     none_links first d = never (links (lists_of r names a.ids a.slots) d id) (λ h.
-        let n = listed_links size root r names a.ids a.slots kept.sound kept.directory d id h in
+        let n = listed_links size root r names a.ids a.slots kept.sound (listing_of kept.directory) d id h in
         let rec = entry_recorded place id slot e in
         let rec' : IsRecorded size root r n.o = record { within = n.listed.link.object; reached = inr (n.listed.cell, n.listed.link.names) } in
-        let same : n.o ≡ slot = slot_one size root r names a.ids a.slots kept.sound kept.directory n.o slot rec' rec (n.o_is ∙ sym (entry_name place id slot e)) in
+        let same : n.o ≡ slot = slot_one size root r names a.ids a.slots kept.sound (listing_of kept.directory) n.o slot rec' rec (n.o_is ∙ sym (entry_name place id slot e)) in
         none_stands r 1 slot first n.listed.cell (subst (λ (i : ℕ). Stands r 1 i n.listed.cell) same n.listed.link.names))
 
     -- what it lists

@@ -7,7 +7,7 @@ use Rattle.std.proofs.lemmas.List.Sums.{sum_by-set, sum_by-cons}
 use Rattle.entry_lists.specs.Lists.{Lists, family_at, cells_at, StandsAt}
 use Rattle.containers.specs.Cells.{Stands}
 use Rattle.containers.specs.Tree.{link_count}
-use Rattle.containers.specs.View.{head_in, ids_of, lists_of, IsKept}
+use Rattle.containers.specs.View.{head_in, ids_of, lists_of, IsDrafted}
 use Rattle.containers.proofs.Directories.{one_place}
 
 abbrev none : List ℕ
@@ -107,21 +107,21 @@ count_lists r names (i ∷ ids) [] e = absurd (omega arith)
 count_lists r names (i ∷ ids) (s ∷ slots) e =
     omega (arith, sum_by-cons (λ (p : ℕ × List ℕ). length p.1) (i, ids_of r names s) (lists_of r names ids slots), sum_by-cons (λ u. length (get_or (family_at r 0).lists u none)) s slots, count_lists r names ids slots (omega arith), length-map (cells_at r 0 s) (λ (c : ℕ). get_or names (head_in (family_at r 1).lists c) 0))
 
-module _ (size root : ℕ) (r : List Lists) (names ids slots : List ℕ) (kept : IsKept size root r names ids slots) where
+module _ (size root : ℕ) (r : List Lists) (names ids slots : List ℕ) (kept : IsDrafted size root r names ids slots) where
   abbrev ls : List (List ℕ)
   ls = (family_at r 0).lists
 
   slots_differ : Differ slots
   slots_differ = differ_from slots (λ i j lt within e.
-      let i_in : i < length ids = omega (arith, kept.directory.beside) in
-      let j_in : j < length ids = omega (arith, kept.directory.beside) in
-      let same : get_or ids i 0 ≡ get_or ids j 0 = sym (kept.directory.name i i_in) ∙ ap (λ (s : ℕ). get_or names s 0) e ∙ kept.directory.name j j_in in
-      let one : i ≡ j = one_place ids kept.directory.rises i j i_in j_in same in
+      let i_in : i < length ids = omega (arith, kept.listing.beside) in
+      let j_in : j < length ids = omega (arith, kept.listing.beside) in
+      let same : get_or ids i 0 ≡ get_or ids j 0 = sym (kept.listing.name i i_in) ∙ ap (λ (s : ℕ). get_or names s 0) e ∙ kept.listing.name j j_in in
+      let one : i ≡ j = one_place ids kept.listing.rises i j i_in j_in same in
       absurd (omega arith))
 
   -- each cell is spare, or an entry of some slot
   below : (s : ℕ) → s < length slots → get_or slots s 0 < size
-  below s lt = (kept.directory.recorded s (omega (arith, kept.directory.beside))).within
+  below s lt = kept.listing.within s (omega (arith, kept.listing.beside))
 
   heads : length ls ≡ size + 2
   heads = kept.sound.paired.heads 0 (lit< tt)
@@ -133,8 +133,8 @@ module _ (size root : ℕ) (r : List Lists) (names ids slots : List ℕ) (kept :
       | inl e ↦ emptied_none ls slots h e
       | inr some ↦
           let rec = kept.sound.holders h (get_or (get_or ls h []) 0 0) lt (record { place = 0; stands = record { within = some; is = refl } }) in
-          let p = kept.directory.place h rec in
-          ap (λ (i : ℕ). get_or (emptied ls slots) i none) (sym p.2) ∙ emptied_at ls slots p.0 (omega (arith, p.1, kept.directory.beside))
+          let p = kept.listing.place h rec in
+          ap (λ (i : ℕ). get_or (emptied ls slots) i none) (sym p.2) ∙ emptied_at ls slots p.0 (omega (arith, p.1, kept.listing.beside))
     ]
     | inr le ↦ elim (cases_eq h (size + 1)) [
       | inl e ↦ emptied_none ls slots h (ap (λ (i : ℕ). get_or ls i none) e ∙ list_none (get_or ls (size + 1) []) (λ k c s.
@@ -160,7 +160,7 @@ module _ (size root : ℕ) (r : List Lists) (names ids slots : List ℕ) (kept :
       let at : get_or slots k 0 ≡ get_or slots k d = get_or_default slots k 0 d lt in
       absurd (omega (arith, at, below k lt)) in
       let one = sum_one (emptied ls slots) size (omega (arith, length-emptied ls slots, heads)) empty_beside in
-      omega (arith, count_lists r names ids slots kept.directory.beside, sum_emptied ls slots slots_differ within, one, ap length (emptied_other ls slots size apart), kept.full)
+      omega (arith, count_lists r names ids slots kept.listing.beside, sum_emptied ls slots slots_differ within, one, ap length (emptied_other ls slots size apart), kept.full)
 
   -- so one is spare where there are fewer links than cells
   pub some_spare : link_count (lists_of r names ids slots) < size → (cell : ℕ) × Stands r 0 size cell

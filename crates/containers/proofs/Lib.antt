@@ -21,3 +21,5 @@ pub mod Removals
 pub mod Distinct
 pub mod Losses
 pub mod Lists
+
+pub mod Drafts

@@ -4,14 +4,14 @@ use Rattle.std.proofs.lemmas.Bool.{cases_eq, cases_Bool, eqb-true, eq-eqb, both_
 use Rattle.std.proofs.lemmas.List.{map-append}
 use Rattle.entry_lists.specs.Lists.{Lists, family_at, cells_at, list_at, IsWellFormed}
 use Rattle.containers.specs.Cells.{Stands, IsAdded, IsPaired, IsSound, IsRecorded, IsLink, Lists'}
-use Rattle.containers.specs.Directory.{IsDirectory}
+use Rattle.containers.specs.Directory.{IsDirectory, IsListing}
 use Rattle.std.specs.Prelude.{sum_by}
 use Rattle.containers.specs.Tree.{add_lists}
-use Rattle.containers.specs.View.{head_in, ids_of, lists_of, IsKept}
+use Rattle.containers.specs.View.{head_in, ids_of, lists_of, IsKept, IsDrafted}
 use Rattle.containers.proofs.Moves.{one_head, zero_one, one_zero, two_cases, stands_beside, stands_beside_back}
-use Rattle.containers.proofs.Directories.{directory_as}
+use Rattle.containers.proofs.Directories.{directory_as, drafted_of, kept_of, listing_of, slot_at}
 use Rattle.containers.specs.Sweep.{IsSimple}
-use Rattle.containers.proofs.Views.{object_found, slot_one}
+use Rattle.containers.proofs.Views.{object_found}
 
 pub map_same : (f g : ℕ → ℕ) (xs : List ℕ) → ((k : ℕ) → k < length xs → f (get_or xs k 0) ≡ g (get_or xs k 0)) → map f xs ≡ map g xs
 map_same f g [] h = refl
@@ -24,7 +24,7 @@ lists_same r r' names names' (i ∷ ids) [] d o h = refl
 lists_same r r' names names' (i ∷ ids) (s ∷ slots) d o h =
     ap₂ (λ (x : List ℕ) (xs : List (ℕ × List ℕ)). (i, x) ∷ xs) (h 0 (omega arith)) (lists_same r r' names names' ids slots d o (λ k lt. h (suc k) (omega arith)))
 
-module _ (size root : ℕ) (old new : List Lists) (names ids slots : List ℕ) (d o : ℕ) (kept : IsKept size root old names ids slots) (rd : IsRecorded size root old d) (o_in : o < size) (not_root : o ≢ root) (fresh : Lists' size old d o → ⊥) (l : IsAdded size old new d o) where
+module _ (size root : ℕ) (old new : List Lists) (names ids slots : List ℕ) (d o : ℕ) (kept : IsDrafted size root old names ids slots) (rd : IsRecorded size root old d) (o_in : o < size) (not_root : o ≢ root) (fresh : Lists' size old d o → ⊥) (l : IsAdded size old new d o) where
   p : IsPaired size old
   p = kept.sound.paired
 
@@ -145,13 +145,13 @@ module _ (size root : ℕ) (old new : List Lists) (names ids slots : List ℕ) (
     | inr ne ↦ elim (cases_eq c l.cell) [ inl f ↦ absurd (no_old x y c b f ne n m) | inr nf ↦ kept.simple x y b c (link_before x y b ne m) (link_before x y c nf n) ]
   ]
 
-  -- the invariant again, with a directory of what is recorded then
-  pub kept_as_added : (names' ids' slots' : List ℕ) → IsDirectory size root new names' ids' slots' → length names' ≡ size → get_or names' root 0 ≡ 1 → IsKept size root new names' ids' slots'
-  kept_as_added names' ids' slots' dir' names_len root_id = record {
+  -- the invariant again, with a listing of what is recorded then
+  pub drafted_as_added : (names' ids' slots' : List ℕ) → IsListing size root new names' ids' slots' → length names' ≡ size → get_or names' root 0 ≡ 1 → IsDrafted size root new names' ids' slots'
+  drafted_as_added names' ids' slots' listing' names_len root_id = record {
     sound = added_sound;
     calm = λ h y. none_dies y.cell y.dying;
     simple = added_simple;
-    directory = dir';
+    listing = listing';
     full = ap (λ (x : Lists). sum_by length x.lists) (l.second.beside 0 zero_one) ∙ l.first.total ∙ kept.full;
     fits = kept.fits;
     names_len = names_len;
@@ -190,27 +190,53 @@ module _ (size root : ℕ) (old new : List Lists) (names ids slots : List ℕ) (
     pub lists_with : lists_of new names' ids slots ≡ add_lists (lists_of old names ids slots) (get_or names d 0) (get_or names' o 0)
     lists_with = lists_same old new names names' ids slots (get_or names d 0) (get_or names' o 0) (λ k lt.
         let s = get_or slots k 0 in
-        let rec = kept.directory.recorded k lt in
+        let within = kept.listing.within k lt in
         elim (cases_Bool (get_or names d 0 == get_or ids k 0)) [
           | inl here ↦
-              let at : s ≡ d = slot_one size root old names ids slots kept.sound kept.directory s d rec rd (kept.directory.name k lt ∙ sym (eqb-true (get_or names d 0) (get_or ids k 0) here)) in
+              let at : s ≡ d = slot_at size root old names ids slots kept.listing k d lt rd (eqb-true (get_or names d 0) (get_or ids k 0) here) in
               ap (λ (i : ℕ). ids_of new names' i) at ∙ ids_new ∙ ap (λ (i : ℕ). ids_of old names i ++ get_or names' o 0 ∷ []) (sym at)
               ∙ sym (ap (λ (v : Bool). cond v (ids_of old names s ++ get_or names' o 0 ∷ []) (ids_of old names s)) here)
           | inr there ↦
-              let ne : s ≢ d = λ (e : s ≡ d). both_ways (get_or names d 0 == get_or ids k 0) there (eq-eqb (get_or names d 0) (get_or ids k 0) (ap (λ (i : ℕ). get_or names i 0) (sym e) ∙ kept.directory.name k lt)) in
-              ids_other s rec.within ne ∙ sym (ap (λ (v : Bool). cond v (ids_of old names s ++ get_or names' o 0 ∷ []) (ids_of old names s)) there)
+              let ne : s ≢ d = λ (e : s ≡ d). both_ways (get_or names d 0 == get_or ids k 0) there (eq-eqb (get_or names d 0) (get_or ids k 0) (ap (λ (i : ℕ). get_or names i 0) (sym e) ∙ kept.listing.name k lt)) in
+              ids_other s within ne ∙ sym (ap (λ (v : Bool). cond v (ids_of old names s ++ get_or names' o 0 ∷ []) (ids_of old names s)) there)
         ])
+
+-- a link of a draft, to an object that is laid down
+module _ (size root : ℕ) (old new : List Lists) (names ids slots : List ℕ) (d k : ℕ) (drafted : IsDrafted size root old names ids slots) (rd : IsRecorded size root old d) (in_range : k < length ids) (not_root : get_or slots k 0 ≢ root) (fresh : Lists' size old d (get_or slots k 0) → ⊥) (l : IsAdded size old new d (get_or slots k 0)) where
+  within : get_or slots k 0 < size
+  within = drafted.listing.within k in_range
+
+  pub drafted_added : IsDrafted size root new names ids slots
+  drafted_added = drafted_as_added size root old new names ids slots d (get_or slots k 0) drafted rd within not_root fresh l names ids slots
+      (record {
+        beside = drafted.listing.beside;
+        rises = drafted.listing.rises;
+        within = drafted.listing.within;
+        name = drafted.listing.name;
+        place = λ h rec. elim (recorded_or size root old new names ids slots d (get_or slots k 0) drafted rd within not_root fresh l h rec) [
+          | inl e ↦ (k, in_range, sym e)
+          | inr was ↦ drafted.listing.place h was
+        ];
+      })
+      drafted.names_len drafted.root_id
+
+  pub lists_drafted : lists_of new names ids slots ≡ add_lists (lists_of old names ids slots) (get_or names d 0) (get_or names (get_or slots k 0) 0)
+  lists_drafted = lists_with size root old new names ids slots d (get_or slots k 0) drafted rd within not_root fresh l names (λ h r. refl)
 
 -- a link to an object that was there
 module _ (size root : ℕ) (old new : List Lists) (names ids slots : List ℕ) (d o : ℕ) (kept : IsKept size root old names ids slots) (rd : IsRecorded size root old d) (ro : IsRecorded size root old o) (not_root : o ≢ root) (fresh : Lists' size old d o → ⊥) (l : IsAdded size old new d o) where
-  pub kept_added : IsKept size root new names ids slots
-  kept_added = kept_as_added size root old new names ids slots d o kept rd ro.within not_root fresh l names ids slots
-      (directory_as size root old new names ids slots kept.directory (recorded_then size root old new names ids slots d o kept rd ro.within not_root fresh l)
-      (λ h r. elim (recorded_or size root old new names ids slots d o kept rd ro.within not_root fresh l h r) [
+  drafted : IsDrafted size root old names ids slots
+  drafted = drafted_of kept
+
+  dir : IsDirectory size root new names ids slots
+  dir = directory_as size root old new names ids slots kept.directory (recorded_then size root old new names ids slots d o drafted rd ro.within not_root fresh l)
+      (λ h r. elim (recorded_or size root old new names ids slots d o drafted rd ro.within not_root fresh l h r) [
         | inl e ↦ subst (λ (i : ℕ). IsRecorded size root old i) (sym e) ro
         | inr was ↦ was
-      ]))
-      kept.names_len kept.root_id
+      ])
+
+  pub kept_added : IsKept size root new names ids slots
+  kept_added = kept_of (drafted_as_added size root old new names ids slots d o drafted rd ro.within not_root fresh l names ids slots (listing_of dir) kept.names_len kept.root_id) dir.recorded
 
   pub lists_added : lists_of new names ids slots ≡ add_lists (lists_of old names ids slots) (get_or names d 0) (get_or names o 0)
-  lists_added = lists_with size root old new names ids slots d o kept rd ro.within not_root fresh l names (λ h r i. get_or names h 0)
+  lists_added = lists_with size root old new names ids slots d o drafted rd ro.within not_root fresh l names (λ h r. refl)

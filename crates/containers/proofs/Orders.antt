@@ -11,7 +11,7 @@ use Rattle.containers.specs.Directory.{IsDirectory}
 use Rattle.containers.specs.Tree.{without, cut_lists, ids_in, list_of}
 use Rattle.containers.specs.View.{head_in, ids_of, lists_of, IsKept}
 use Rattle.containers.proofs.Moves.{one_head, zero_one}
-use Rattle.containers.proofs.Directories.{one_place}
+use Rattle.containers.proofs.Directories.{one_place, listing_of}
 use Rattle.containers.proofs.Views.{at_has, ids_are, object_is, slot_one}
 use Rattle.containers.proofs.Links.{map_same}
 
@@ -89,20 +89,20 @@ module _ (size root : ℕ) (old new : List Lists) (d o : ℕ) (went : List (ℕ 
       let held : Stands new 0 s c = record { place = k; stands = record { within = within; is = refl } } in
       let of = cut.swept.sweeping.sound.paired.object_of s c (λ (e : s ≡ size). omega (arith, rec.within)) held in
       let before = cut.were s of.0 c (record { holder = rec.within; object = of.1; held = cut.swept.sweeping.was_held s c rec.within held; names = cut.swept.sweeping.was_named of.0 c of.1 of.2 }) in
-      ap (λ (i : ℕ). get_or names i 0) (object_is size root new names ids' slots' cut.swept.sweeping.sound dir' of.0 c of.2 ∙ sym (object_is size root old names ids slots kept.sound kept.directory of.0 c before.names)))
+      ap (λ (i : ℕ). get_or names i 0) (object_is size root new names ids' slots' cut.swept.sweeping.sound (listing_of dir') of.0 c of.2 ∙ sym (object_is size root old names ids slots kept.sound (listing_of kept.directory) of.0 c before.names)))
 
   before_new : (s : ℕ) → IsRecorded size root new s → IsRecorded size root old s
   before_new s rec = cut.recorded_before s (record { within = rec.within; reached = elim rec.reached [ inl e ↦ inl e | inr b ↦ inr (b.0, cut.swept.sweeping.was_named s b.0 rec.within b.1) ] })
 
   ids_cut : map (λ (c : ℕ). get_or names (head_in (family_at old 1).lists c) 0) (remove (cells_at old 0 d) cut.link.held.place) ≡ without (get_or names o 0) (ids_of old names d)
   ids_cut = remove_map (λ (c : ℕ). get_or names (head_in (family_at old 1).lists c) 0) (get_or names o 0) (cells_at old 0 d) cut.link.held.place cut.link.held.stands.within
-      (ap (λ (c : ℕ). get_or names (head_in (family_at old 1).lists c) 0) cut.link.held.stands.is ∙ ap (λ (i : ℕ). get_or names i 0) (object_is size root old names ids slots kept.sound kept.directory o cut.cell cut.link.names))
+      (ap (λ (c : ℕ). get_or names (head_in (family_at old 1).lists c) 0) cut.link.held.stands.is ∙ ap (λ (i : ℕ). get_or names i 0) (object_is size root old names ids slots kept.sound (listing_of kept.directory) o cut.cell cut.link.names))
       (λ j lt h.
       let c = get_or (cells_at old 0 d) j 0 in
       let held : Stands old 0 d c = record { place = j; stands = record { within = lt; is = refl } } in
       let of = kept.sound.paired.object_of d c (λ (e : d ≡ size). omega (arith, cut.link.holder)) held in
-      let name_is : get_or names of.0 0 ≡ get_or names o 0 = sym (ap (λ (i : ℕ). get_or names i 0) (object_is size root old names ids slots kept.sound kept.directory of.0 c of.2)) ∙ h in
-      let same : of.0 ≡ o = slot_one size root old names ids slots kept.sound kept.directory of.0 o (record { within = of.1; reached = inr (c, of.2) }) (record { within = cut.link.object; reached = inr (cut.cell, cut.link.names) }) name_is in
+      let name_is : get_or names of.0 0 ≡ get_or names o 0 = sym (ap (λ (i : ℕ). get_or names i 0) (object_is size root old names ids slots kept.sound (listing_of kept.directory) of.0 c of.2)) ∙ h in
+      let same : of.0 ≡ o = slot_one size root old names ids slots kept.sound (listing_of kept.directory) of.0 o (record { within = of.1; reached = inr (c, of.2) }) (record { within = cut.link.object; reached = inr (cut.cell, cut.link.names) }) name_is in
       let cells : c ≡ cut.cell = kept.simple d o c cut.cell (record { holder = cut.link.holder; object = cut.link.object; held = held; names = subst (λ (i : ℕ). Stands old 1 i c) same of.2 }) cut.link in
       (kept.sound.paired.well 0 (lit< tt)).one_place d j cut.link.held.place cut.cell (subst (λ (x : ℕ). StandsAt (cells_at old 0 d) j x) cells held.stands) cut.link.held.stands)
 
@@ -112,7 +112,7 @@ module _ (size root : ℕ) (old new : List Lists) (d o : ℕ) (went : List (ℕ 
       let rd = kept.sound.holders d cut.cell cut.link.holder cut.link.held in
       elim (cases_Bool (get_or names d 0 == get_or names s 0)) [
         | inl here ↦
-            let at : s ≡ d = slot_one size root old names ids slots kept.sound kept.directory s d (before_new s rec) rd (sym (eqb-true (get_or names d 0) (get_or names s 0) here)) in
+            let at : s ≡ d = slot_one size root old names ids slots kept.sound (listing_of kept.directory) s d (before_new s rec) rd (sym (eqb-true (get_or names d 0) (get_or names s 0) here)) in
             start ∙ ap (λ (i : ℕ). map (λ (c : ℕ). get_or names (head_in (family_at old 1).lists c) 0) (cells_at cut.between 0 i)) at
             ∙ ap (λ (xs : List ℕ). map (λ (c : ℕ). get_or names (head_in (family_at old 1).lists c) 0) xs) (cells_less size old cut.between d o cut.cell cut.dropped cut.link.holder cut.link.held) ∙ ids_cut
             ∙ ap (λ (i : ℕ). without (get_or names o 0) (ids_of old names i)) (sym at)

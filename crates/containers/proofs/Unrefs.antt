@@ -15,7 +15,7 @@ use Rattle.containers.specs.Sweep.{IsCut, IsTree, IsOnce}
 use Rattle.containers.specs.Directory.{IsDirectory}
 use Rattle.containers.proofs.Moves.{one_head}
 use Rattle.containers.proofs.Sounds.{dropped_gone}
-use Rattle.containers.proofs.Directories.{directory_as}
+use Rattle.containers.proofs.Directories.{directory_as, listing_of}
 use Rattle.containers.proofs.Views.{IsNamed, or_left, or_right, has_at, at_has, ids_are, slot_one, links_listed, listed_links, live_slot, slot_live, leads_as}
 
 has_without : (o : ℕ) (xs : List ℕ) (b : ℕ) → has (without o xs) b ≡ true → (has xs b ≡ true) × (b ≢ o)
@@ -100,26 +100,26 @@ module _ (size root : ℕ) (old new : List Lists) (d o : ℕ) (went : List (ℕ 
   forth : (a b : ℕ) → links (cut_lists (lists_of old names ids slots) (get_or names d 0) (get_or names o 0)) a b ≡ true → links (lists_of cut.between names ids slots) a b ≡ true
   forth a b h =
       let c = cut_links (lists_of old names ids slots) (get_or names d 0) (get_or names o 0) a b h in
-      let n = listed_links size root old names ids slots kept.sound kept.directory a b c.0 in
+      let n = listed_links size root old names ids slots kept.sound (listing_of kept.directory) a b c.0 in
       let l = still n.d n.o n.listed (λ (e : n.d ≡ d) (f : n.o ≡ o). c.1 (sym n.d_is ∙ ap (λ (i : ℕ). get_or names i 0) e) (sym n.o_is ∙ ap (λ (i : ℕ). get_or names i 0) f)) in
-      subst (λ (i : ℕ). links (lists_of cut.between names ids slots) i b ≡ true) n.d_is (subst (λ (i : ℕ). links (lists_of cut.between names ids slots) (get_or names n.d 0) i ≡ true) n.o_is (links_listed size root cut.between names ids slots sound_between dir_between n.d n.o l))
+      subst (λ (i : ℕ). links (lists_of cut.between names ids slots) i b ≡ true) n.d_is (subst (λ (i : ℕ). links (lists_of cut.between names ids slots) (get_or names n.d 0) i ≡ true) n.o_is (links_listed size root cut.between names ids slots sound_between (listing_of dir_between) n.d n.o l))
 
   back : (a b : ℕ) → links (lists_of cut.between names ids slots) a b ≡ true → links (cut_lists (lists_of old names ids slots) (get_or names d 0) (get_or names o 0)) a b ≡ true
   back a b h =
-      let n = listed_links size root cut.between names ids slots sound_between dir_between a b h in
+      let n = listed_links size root cut.between names ids slots sound_between (listing_of dir_between) a b h in
       let l = cut.without n.d n.o n.listed in
-      let there = links_listed size root old names ids slots kept.sound kept.directory n.d n.o l in
+      let there = links_listed size root old names ids slots kept.sound (listing_of kept.directory) n.d n.o l in
       links_cut (lists_of old names ids slots) (get_or names d 0) (get_or names o 0) a b
       (subst (λ (i : ℕ). links (lists_of old names ids slots) i b ≡ true) n.d_is (subst (λ (i : ℕ). links (lists_of old names ids slots) (get_or names n.d 0) i ≡ true) n.o_is there))
       (λ (e : a ≡ get_or names d 0) (f : b ≡ get_or names o 0).
-      let x : n.d ≡ d = slot_one size root old names ids slots kept.sound kept.directory n.d d (holder_in n.d n.o l) (holder_in d o listed) (n.d_is ∙ e) in
-      let y : n.o ≡ o = slot_one size root old names ids slots kept.sound kept.directory n.o o (object_in n.d n.o l) (object_in d o listed) (n.o_is ∙ f) in
+      let x : n.d ≡ d = slot_one size root old names ids slots kept.sound (listing_of kept.directory) n.d d (holder_in n.d n.o l) (holder_in d o listed) (n.d_is ∙ e) in
+      let y : n.o ≡ o = slot_one size root old names ids slots kept.sound (listing_of kept.directory) n.o o (object_in n.d n.o l) (object_in d o listed) (n.o_is ∙ f) in
       cut.gone (subst (λ (i : ℕ). Lists' size cut.between i o) x (subst (λ (i : ℕ). Lists' size cut.between n.d i) y n.listed)))
 
   -- what a path leads to stays
   pub stays : (i : ℕ) → IsLive (cut_lists (lists_of old names ids slots) (get_or names d 0) (get_or names o 0)) i → has (ids_in (lists_of new names ids' slots')) i ≡ true
   stays i live =
-      let s = slot_live size root cut.between names ids slots sound_between dir_between kept.root_id i (live.0, leads_as (cut_lists (lists_of old names ids slots) (get_or names d 0) (get_or names o 0)) (lists_of cut.between names ids slots) forth 1 live.0 i live.1) in
+      let s = slot_live size root cut.between names ids slots sound_between (listing_of dir_between) kept.root_id i (live.0, leads_as (cut_lists (lists_of old names ids slots) (get_or names d 0) (get_or names o 0)) (lists_of cut.between names ids slots) forth 1 live.0 i live.1) in
       let p = dir'.place s.0 (cut.swept.all_live s.0 s.1) in
       let is : get_or ids' p.0 0 ≡ i = sym (dir'.name p.0 p.1) ∙ ap (λ (k : ℕ). get_or names k 0) p.2 ∙ s.2 in
       subst (λ (xs : List ℕ). has xs i ≡ true) (sym (ids_are new names ids' slots' dir'.beside)) (has_at ids' p.0 i p.1 is)
@@ -129,7 +129,7 @@ module _ (size root : ℕ) (old new : List Lists) (d o : ℕ) (went : List (ℕ 
   goes i h =
       let at = at_has ids' i (subst (λ (xs : List ℕ). has xs i ≡ true) (ids_are new names ids' slots' dir'.beside) h) in
       let reached = cut.swept.live (get_or slots' at.0 0) (dir'.recorded at.0 at.1) in
-      let live = live_slot size root cut.between names ids slots sound_between dir_between kept.root_id (get_or slots' at.0 0) reached in
+      let live = live_slot size root cut.between names ids slots sound_between (listing_of dir_between) kept.root_id (get_or slots' at.0 0) reached in
       let live' : IsLive (lists_of cut.between names ids slots) i = subst (λ (k : ℕ). IsLive (lists_of cut.between names ids slots) k) (dir'.name at.0 at.1 ∙ at.2) live in
       (live'.0, leads_as (lists_of cut.between names ids slots) (cut_lists (lists_of old names ids slots) (get_or names d 0) (get_or names o 0)) back 1 live'.0 i live'.1)
 
@@ -206,8 +206,8 @@ cons_cases x xs y c = elim (cases_eq c.0 0) [
 
 -- what the lookups of the two ids give
 module _ (size root : ℕ) (r : List Lists) (names ids slots : List ℕ) (kept : IsKept size root r names ids slots) (a b : ℕ) (linked : links (lists_of r names ids slots) a b ≡ true) where
-  n : IsNamed size root r names ids slots kept.sound kept.directory a b
-  n = listed_links size root r names ids slots kept.sound kept.directory a b linked
+  n : IsNamed size root r names ids slots kept.sound (listing_of kept.directory) a b
+  n = listed_links size root r names ids slots kept.sound (listing_of kept.directory) a b linked
 
   pub container_there : (k : ℕ) × (k < length ids) × (get_or ids k 0 ≡ a)
   container_there =
@@ -230,14 +230,14 @@ module _ (size root : ℕ) (r : List Lists) (names ids slots : List ℕ) (kept :
     slots_listed =
         let rd = subst (λ (i : ℕ). IsRecorded size root r i) j_slot (kept.directory.recorded j j_in) in
         let ro = subst (λ (i : ℕ). IsRecorded size root r i) k_slot (kept.directory.recorded k k_in) in
-        let x : n.d ≡ d = slot_one size root r names ids slots kept.sound kept.directory n.d d (kept.sound.holders n.d n.listed.cell n.listed.link.holder n.listed.link.held) rd (n.d_is ∙ sym d_named) in
-        let y : n.o ≡ o = slot_one size root r names ids slots kept.sound kept.directory n.o o (record { within = n.listed.link.object; reached = inr (n.listed.cell, n.listed.link.names) }) ro (n.o_is ∙ sym o_named) in
+        let x : n.d ≡ d = slot_one size root r names ids slots kept.sound (listing_of kept.directory) n.d d (kept.sound.holders n.d n.listed.cell n.listed.link.holder n.listed.link.held) rd (n.d_is ∙ sym d_named) in
+        let y : n.o ≡ o = slot_one size root r names ids slots kept.sound (listing_of kept.directory) n.o o (record { within = n.listed.link.object; reached = inr (n.listed.cell, n.listed.link.names) }) ro (n.o_is ∙ sym o_named) in
         subst (λ (i : ℕ). Lists' size r i o) x (subst (λ (i : ℕ). Lists' size r n.d i) y n.listed)
 
 -- by the ids, a container comes after those that list it
 pub tree_slots : (size root : ℕ) (r : List Lists) (names ids slots : List ℕ) → IsKept size root r names ids slots → ((a b c : ℕ) → links (lists_of r names ids slots) a b ≡ true → links (lists_of r names ids slots) b c ≡ true → a < b) → IsTree size r (λ s. get_or names s 0)
 tree_slots size root r names ids slots kept tree d o x l m =
-    tree (get_or names d 0) (get_or names o 0) (get_or names x 0) (links_listed size root r names ids slots kept.sound kept.directory d o l) (links_listed size root r names ids slots kept.sound kept.directory o x m)
+    tree (get_or names d 0) (get_or names o 0) (get_or names x 0) (links_listed size root r names ids slots kept.sound (listing_of kept.directory) d o l) (links_listed size root r names ids slots kept.sound (listing_of kept.directory) o x m)
 
 -- what the visitor was handed
 module _ (size root : ℕ) (old new : List Lists) (d o : ℕ) (went : List (ℕ × ℕ)) (dead : List ℕ) (cut : IsCut size root old new d o went dead) (names ids slots ids' slots' : List ℕ) (kept : IsKept size root old names ids slots) (dir' : IsDirectory size root new names ids' slots') where
@@ -323,24 +323,24 @@ module _ (size root : ℕ) (old new : List Lists) (d o : ℕ) (went : List (ℕ 
         let f' : Located × Located → ℕ × ℕ = λ p. (p.0.id, p.1.id) in
         let g : ℕ → Located = λ i. place_of names i in
         let g' : Located → ℕ = λ p. p.id in
-        let one = slot_one size root old names ids slots kept.sound kept.directory in
+        let one = slot_one size root old names ids slots kept.sound (listing_of kept.directory) in
         record {
           links_was = λ a b c.
               let m = map_contains f ((d, o) ∷ went) (a, b) c in
-              let l = links_listed size root old names ids slots kept.sound kept.directory m.0.0 m.0.1 (all_was m.0.0 m.0.1 m.1) in
+              let l = links_listed size root old names ids slots kept.sound (listing_of kept.directory) m.0.0 m.0.1 (all_was m.0.0 m.0.1 m.1) in
               subst (λ (p : Located × Located). links (lists_of old names ids slots) p.0.id p.1.id ≡ true) m.2 l;
           links_gone = λ a b c h.
               let m = map_contains f ((d, o) ∷ went) (a, b) c in
-              let n = listed_links size root new names ids' slots' cut.swept.sweeping.sound dir' a.id b.id h in
+              let n = listed_links size root new names ids' slots' cut.swept.sweeping.sound (listing_of dir') a.id b.id h in
               let before = in_old m.0.0 m.0.1 (all_was m.0.0 m.0.1 m.1) in
               let after = in_old n.d n.o (cut.without n.d n.o (new_was n.d n.o n.listed)) in
               let x : n.d ≡ m.0.0 = one n.d m.0.0 after.0 before.0 (n.d_is ∙ sym (ap (λ (p : Located × Located). p.0.id) m.2)) in
               let y : n.o ≡ m.0.1 = one n.o m.0.1 after.1 before.1 (n.o_is ∙ sym (ap (λ (p : Located × Located). p.1.id) m.2)) in
               all_gone m.0.0 m.0.1 m.1 (subst (λ (i : ℕ). Lists' size new i m.0.1) x (subst (λ (i : ℕ). Lists' size new n.d i) y n.listed));
           links_all = λ a b h.
-              let n = listed_links size root old names ids slots kept.sound kept.directory a b h in
+              let n = listed_links size root old names ids slots kept.sound (listing_of kept.directory) a b h in
               elim (all_all n.d n.o n.listed) [
-                | inl yet ↦ inl (subst (λ (i : ℕ). links (lists_of new names ids' slots') i b ≡ true) n.d_is (subst (λ (i : ℕ). links (lists_of new names ids' slots') (get_or names n.d 0) i ≡ true) n.o_is (links_listed size root new names ids' slots' cut.swept.sweeping.sound dir' n.d n.o yet)))
+                | inl yet ↦ inl (subst (λ (i : ℕ). links (lists_of new names ids' slots') i b ≡ true) n.d_is (subst (λ (i : ℕ). links (lists_of new names ids' slots') (get_or names n.d 0) i ≡ true) n.o_is (links_listed size root new names ids' slots' cut.swept.sweeping.sound (listing_of dir') n.d n.o yet)))
                 | inr c ↦ inr (subst (λ (i : ℕ). Contains {X = ℕ × ℕ} (link_ids (named names ((d, o) ∷ went))) (i, b)) n.d_is (subst (λ (i : ℕ). Contains {X = ℕ × ℕ} (link_ids (named names ((d, o) ∷ went))) (get_or names n.d 0, i)) n.o_is (contains_map f' (named names ((d, o) ∷ went)) (f (n.d, n.o)) (contains_map f ((d, o) ∷ went) (n.d, n.o) c))))
               ];
           links_once = subst (λ (xs : List (ℕ × ℕ)). IsOnce xs) (sym (map_of_map f f' ws)) (once_map (λ (p : ℕ × ℕ). f' (f p)) ws

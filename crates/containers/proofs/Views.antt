@@ -9,7 +9,7 @@ use Rattle.containers.specs.Tree.{ids_in}
 use Rattle.containers.specs.View.{head_in, ids_of, lists_of}
 use Rattle.containers.specs.Cells.{Stands, IsSound, IsRecorded, Lists'}
 use Rattle.containers.specs.Sweep.{IsPath, IsReached}
-use Rattle.containers.specs.Directory.{IsDirectory}
+use Rattle.containers.specs.Directory.{IsListing}
 use Rattle.containers.proofs.Moves.{one_head}
 use Rattle.containers.proofs.Directories.{one_place}
 
@@ -71,7 +71,7 @@ object_found r well o c s = head_found (family_at r 1).lists o c (has_at (cells_
     let t : Stands r 1 k c = record { place = at.0; stands = record { within = at.1; is = at.2 } } in
     one_head r 1 k o c well t s)
 
-module _ (size root : ℕ) (r : List Lists) (names ids slots : List ℕ) (sound : IsSound size root r) (dir : IsDirectory size root r names ids slots) where
+module _ (size root : ℕ) (r : List Lists) (names ids slots : List ℕ) (sound : IsSound size root r) (dir : IsListing size root r names ids slots) where
   pub object_is : (o c : ℕ) → Stands r 1 o c → head_in (family_at r 1).lists c ≡ o
   object_is o c s = object_found r (sound.paired.well 1 (lit< tt)) o c s
 
@@ -105,17 +105,17 @@ module _ (size root : ℕ) (r : List Lists) (names ids slots : List ℕ) (sound 
   listed_links a b h =
       let k = at_links r names ids slots a b h in
       let slot = get_or slots k.0 0 in
-      let rec = dir.recorded k.0 k.1 in
+      let rec = dir.within k.0 k.1 in
       let long = length-map (cells_at r 0 slot) (λ (c : ℕ). get_or names (head_in (family_at r 1).lists c) 0) in
       let at = at_has (ids_of r names slot) b k.3 in
       let within : at.0 < length (cells_at r 0 slot) = omega (arith, at.1, long) in
       let cell = get_or (cells_at r 0 slot) at.0 0 in
       let held : Stands r 0 slot cell = record { place = at.0; stands = record { within = within; is = refl } } in
-      let of = sound.paired.object_of slot cell (λ (e : slot ≡ size). omega (arith, rec.within)) held in
+      let of = sound.paired.object_of slot cell (λ (e : slot ≡ size). omega (arith, rec)) held in
       record {
         d = slot;
         o = of.0;
-        listed = record { cell = cell; link = record { holder = rec.within; object = of.1; held = held; names = of.2 } };
+        listed = record { cell = cell; link = record { holder = rec; object = of.1; held = held; names = of.2 } };
         d_is = dir.name k.0 k.1 ∙ k.2;
         o_is = sym (ap (λ (i : ℕ). get_or names i 0) (object_is of.0 cell of.2)) ∙ sym (get_or-map (λ (c : ℕ). get_or names (head_in (family_at r 1).lists c) 0) (cells_at r 0 slot) at.0 0 0 within) ∙ at.2;
       }

@@ -9,6 +9,7 @@ use Rattle.base.specs.Live.{has}
 use Rattle.containers.specs.Tree.{Tree, ids_in, list_of}
 use Rattle.containers.specs.View.{head_in, ids_of, lists_of, IsKept}
 use Rattle.containers.specs.WellFormed.{IsWellFormed}
+use Rattle.containers.proofs.Directories.{listing_of}
 use Rattle.containers.proofs.Unrefs.{object_there}
 use Rattle.containers.proofs.Asked.{id_named}
 use Rattle.containers.proofs.Orders.{list_at_slot}
@@ -51,7 +52,7 @@ module _ (size root : ℕ) (r : List Lists) (names ids slots : List ℕ) (kept :
       let late : j < length (cells_at r 0 s) = omega (arith, within, long) in
       let a = entry_at s i rec (omega arith) in
       let b = entry_at s j rec late in
-      let one = slot_one size root r names ids slots kept.sound kept.directory a.object b.object a.recorded b.recorded (sym a.id_is ∙ same ∙ b.id_is) in
+      let one = slot_one size root r names ids slots kept.sound (listing_of kept.directory) a.object b.object a.recorded b.recorded (sym a.id_is ∙ same ∙ b.id_is) in
       let cells_same = kept.simple s b.object (get_or (cells_at r 0 s) i 0) (get_or (cells_at r 0 s) j 0) (subst (λ (o : ℕ). IsLink size r s o (get_or (cells_at r 0 s) i 0)) one a.link) b.link in
       let early : i < length (cells_at r 0 s) = omega arith in
       let places : i ≡ j = (kept.sound.paired.well 0 (lit< tt)).one_place s i j (get_or (cells_at r 0 s) j 0) (record { within = early; is = cells_same }) (record { within = late; is = refl }) in
@@ -87,10 +88,10 @@ module _ {T : Type 0} (size root : ℕ) (r : List Lists) (names : List ℕ) (a :
             let at = object_there size root r names a.ids a.slots kept d o h in
             subst (λ (xs : List ℕ). has xs o ≡ true) (sym same) (has_at a.ids at.0 o at.1 at.2);
         root_free = λ d h.
-            let n = listed_links size root r names a.ids a.slots kept.sound kept.directory d 1 h in
+            let n = listed_links size root r names a.ids a.slots kept.sound (listing_of kept.directory) d 1 h in
             let rec : IsRecorded size root r n.o = record { within = n.listed.link.object; reached = inr (n.listed.cell, n.listed.link.names) } in
             let at_root : IsRecorded size root r root = record { within = kept.sound.root_in; reached = inl refl } in
-            let is : n.o ≡ root = slot_one size root r names a.ids a.slots kept.sound kept.directory n.o root rec at_root (n.o_is ∙ sym kept.root_id) in
+            let is : n.o ≡ root = slot_one size root r names a.ids a.slots kept.sound (listing_of kept.directory) n.o root rec at_root (n.o_is ∙ sym kept.root_id) in
             kept.sound.root_free n.listed.cell (subst (λ (i : ℕ). Stands r 1 i n.listed.cell) is n.listed.link.names);
         once = lists_apart size root r names a.ids a.slots kept;
       }

@@ -12,3 +12,12 @@ pub record IsDirectory (size root : ℕ) (r : List Lists) (names ids slots : Lis
   pub name : (k : ℕ) → k < length ids → slice_index names (slice_index slots k) ≡ slice_index ids k
   pub place : (o : ℕ) → IsRecorded size root r o
       → (k : ℕ) × (k < length ids) × (slice_index slots k ≡ o)
+
+-- the same, but that some slots of the directory may not be recorded
+pub record IsListing (size root : ℕ) (r : List Lists) (names ids slots : List ℕ) : Type 0 where
+  pub beside : length ids ≡ length slots
+  pub rises : Rises ids
+  pub within : (k : ℕ) → k < length ids → slice_index slots k < size
+  pub name : (k : ℕ) → k < length ids → slice_index names (slice_index slots k) ≡ slice_index ids k
+  pub place : (o : ℕ) → IsRecorded size root r o
+      → (k : ℕ) × (k < length ids) × (slice_index slots k ≡ o)

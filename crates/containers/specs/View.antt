@@ -6,7 +6,7 @@ use Rattle.entry_lists.specs.Lists.{Lists, family_at, cells_at, with_list, empty
 use Rattle.base.specs.Live.{has}
 use Rattle.containers.specs.Cells.{IsSound, IsDying}
 use Rattle.containers.specs.Sweep.{IsSimple}
-use Rattle.containers.specs.Directory.{IsDirectory}
+use Rattle.containers.specs.Directory.{IsDirectory, IsListing}
 
 -- the list, of those from this one on, in which the cell stands
 abbrev pub head_in : List (List ℕ) → ℕ → ℕ
@@ -31,6 +31,17 @@ pub record IsKept (size root : ℕ) (r : List Lists) (names ids slots : List ℕ
   pub simple : IsSimple size r
   pub directory : IsDirectory size root r names ids slots
   -- each cell stands in a list
+  pub full : sum_by length (family_at r 0).lists ≡ size
+  pub fits : size + 2 < 18446744073709551616
+  pub names_len : length names ≡ size
+  pub root_id : slice_index names root ≡ 1
+
+-- what holds of a draft: the same, but that some objects may be listed by none
+pub record IsDrafted (size root : ℕ) (r : List Lists) (names ids slots : List ℕ) : Type 0 where
+  pub sound : IsSound size root r
+  pub calm : (o : ℕ) → IsDying size r o → ⊥
+  pub simple : IsSimple size r
+  pub listing : IsListing size root r names ids slots
   pub full : sum_by length (family_at r 0).lists ≡ size
   pub fits : size + 2 < 18446744073709551616
   pub names_len : length names ≡ size

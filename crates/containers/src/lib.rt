@@ -8,9 +8,11 @@
 #![tactic(auto)]
 
 mod cells;
+mod draft;
 mod tree;
 mod visitor;
 mod windows;
 
+pub use draft::Draft;
 pub use tree::Containers;
 pub use visitor::{Located, Visitor};

@@ -8,7 +8,8 @@ ghost use Rattle.base.specs.Counts.{probed, ProbesAtMost};
 ghost use Rattle.object_arena.specs.Objects.{binary_digits};
 ghost use Rattle.base.specs.Live.{has, links};
 
-use crate::cells::{Link, Pool, add_link, cut_link, find_link, spare_rings};
+use crate::cells::{Link, Pool, add_link, cut_link, find_link};
+use crate::draft::Draft;
 use crate::visitor::{Located, Visitor};
 use crate::windows::fill_window;
 use base::{Meter, NoMemory, ObjectId, Slot};
@@ -21,14 +22,14 @@ use std::marker::Model;
 /// id, the slot of each id, and for each slot its record.
 #[derive(Drop)]
 pub struct Containers<T> {
-    size: usize,
-    root: usize,
+    pub(crate) size: usize,
+    pub(crate) root: usize,
     // Of each slot that has an object, the object's id.
-    names: Vec<u64>,
-    rings: Rings<2>,
-    arena: Arena<T>,
+    pub(crate) names: Vec<u64>,
+    pub(crate) rings: Rings<2>,
+    pub(crate) arena: Arena<T>,
     // The ids of what goes in one call, none between calls.
-    dead: Vec<ObjectId>,
+    pub(crate) dead: Vec<ObjectId>,
 }
 
 impl<T> Model for Containers<T> {
@@ -68,19 +69,7 @@ impl<T: Drop> Containers<T> {
         requires fits { 2 * pool + 2 < 2 ^ 64 }
         ensures { IfOk result (IsRoot pool root) }
     {
-        let rings = spare_rings(alloc, pool)?;
-        let names = vec![in alloc; 1; pool]?;
-        let dead = Vec::with_capacity(alloc, pool)?;
-        let mut arena = Arena::boot(alloc, pool)?;
-        let slot = arena.insert(ObjectId::root(), root);
-        Ok(Containers {
-            size: pool,
-            root: slot.0,
-            names,
-            rings,
-            arena,
-            dead,
-        })
+        Ok(Draft::begin(alloc, pool, root)?.finish())
     }
 
     /// How many objects there are.

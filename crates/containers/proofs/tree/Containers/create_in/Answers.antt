@@ -5,6 +5,7 @@ use Rattle.containers.specs.View.{lists_of, IsKept}
 use Rattle.containers.specs.Cells.{IsRecorded}
 use Rattle.containers.proofs.Asked.{found_recorded, found_name}
 use Rattle.containers.proofs.Counts.{some_spare}
+use Rattle.containers.proofs.Directories.{drafted_of}
 use Rattle.containers.proofs.Creates.{kept_created, lists_created}
 use Rattle.containers.proofs.Views.{ids_are}
 use Rattle.containers.proofs.tree.Containers.create_in.Given as given
@@ -31,7 +32,7 @@ pub add_link-requires-clause-spare : goal.add_link-requires-clause-spare
 add_link-requires-clause-spare g c =
     let a = c.self.inside in
     let few : link_count (lists_of a.rings a.names.items a.arena.ids a.arena.slots) < a.size = omega (arith, ap (λ (t : Tree g.row.T.Denot). link_count t.lists) c.self.view_is, ap (λ (t : Tree g.row.T.Denot). length t.cells) c.self.view_is, c.self.invariant.1, c.requires.room) in
-    some_spare a.size a.root a.rings a.names.items a.arena.ids a.arena.slots c.self.invariant.0 few
+    some_spare a.size a.root a.rings a.names.items a.arena.ids a.arena.slots (drafted_of c.self.invariant.0) few
 
 -- what the new object is put beside
 record IsReady (g : given.Over) (c : goal.After-add_link g) : Type 0 where

@@ -3,6 +3,7 @@ use Rattle.std.proofs.lemmas.Bool.{both_ways}
 use Rattle.base.specs.Live.{links}
 use Rattle.containers.specs.Tree.{Tree, add_lists, link_count}
 use Rattle.containers.specs.View.{lists_of}
+use Rattle.containers.proofs.Directories.{listing_of, drafted_of}
 use Rattle.containers.proofs.Asked.{found_recorded, found_name}
 use Rattle.containers.proofs.Counts.{some_spare}
 use Rattle.containers.specs.Cells.{Lists', IsRecorded}
@@ -25,7 +26,7 @@ pub add_link-requires-clause-spare : goal.add_link-requires-clause-spare
 add_link-requires-clause-spare g c =
     let a = c.self.inside in
     let few : link_count (lists_of a.rings a.names.items a.arena.ids a.arena.slots) < a.size = omega (arith, ap (λ (t : Tree g.row.T.Denot). link_count t.lists) c.self.view_is, ap (λ (t : Tree g.row.T.Denot). length t.cells) c.self.view_is, c.self.invariant.1, c.requires.room) in
-    some_spare a.size a.root a.rings a.names.items a.arena.ids a.arena.slots c.self.invariant.0 few
+    some_spare a.size a.root a.rings a.names.items a.arena.ids a.arena.slots (drafted_of c.self.invariant.0) few
 
 record IsReady (g : given.Over) (c : goal.After-add_link g) : Type 0 where
   pub rd : IsRecorded c.self.inside.size c.self.inside.root c.self.inside.rings c.args.container.slot.0
@@ -49,7 +50,7 @@ ready g c =
       o_is = o_is';
       not_root = λ e. c.requires.not_root (sym o_is' ∙ ap (λ (i : ℕ). get_or a.names.items i 0) e ∙ k.root_id);
       fresh = λ l.
-          let h = links_listed a.size a.root a.rings a.names.items a.arena.ids a.arena.slots k.sound k.directory c.args.container.slot.0 c.args.object.slot.0 l in
+          let h = links_listed a.size a.root a.rings a.names.items a.arena.ids a.arena.slots k.sound (listing_of k.directory) c.args.container.slot.0 c.args.object.slot.0 l in
           let h' = subst (λ (i : ℕ). links (lists_of a.rings a.names.items a.arena.ids a.arena.slots) i c.args.object.id ≡ true) d_is' (subst (λ (i : ℕ). links (lists_of a.rings a.names.items a.arena.ids a.arena.slots) (get_or a.names.items c.args.container.slot.0 0) i ≡ true) o_is' h) in
           both_ways (links c.args.self.now.lists c.args.container.id c.args.object.id) c.requires.fresh (subst (λ (v : List (ℕ × List ℕ)). links v c.args.container.id c.args.object.id ≡ true) ls h');
     }

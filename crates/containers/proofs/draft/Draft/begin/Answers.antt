@@ -2,10 +2,11 @@ use Rattle.std.proofs.Common.{rules, ◌≡◌, ℕ, ◌<◌, List, [], ◌∷�
 use Rattle.std.proofs.lemmas.List.{length-replicate, get_or-replicate}
 use Rattle.entry_lists.specs.Lists.{Lists}
 use Rattle.object_arena.specs.Objects.{Objects}
-use Rattle.containers.specs.View.{IsKept, lists_of, spare_below}
+use Rattle.containers.specs.View.{IsDrafted, lists_of, spare_below}
+use Rattle.containers.proofs.Directories.{drafted_of}
 use Rattle.containers.proofs.Spares.{spare_kept, spare_lists}
-use Rattle.containers.proofs.tree.Containers.boot.Given as given
-use Rattle.containers.proofs.tree.Containers.boot.Goals as goal
+use Rattle.containers.proofs.draft.Draft.begin.Given as given
+use Rattle.containers.proofs.draft.Draft.begin.Goals as goal
 
 -- what was made
 record IsReady (g : given.Over) (c : goal.After-insert-slot g) : Type 0 where
@@ -35,10 +36,10 @@ invariant_of-result g c =
     let long = ap (λ (os : List (Option g.row.T.Denot)). length os) r.cells ∙ length-set (replicate {A = Option g.row.T.Denot} c.args.pool None) c.insert-slot.result.0 (Some c.args.root) ∙ length-replicate {A = Option g.row.T.Denot} c.args.pool None in
     let names_len = ap (λ (xs : List ℕ). length xs) r.names ∙ length-replicate c.args.pool 1 in
     let root_id = ap (λ (xs : List ℕ). get_or xs c.insert-slot.result.0 0) r.names ∙ get_or-replicate c.args.pool c.insert-slot.result.0 1 0 r.within in
-    let kept = spare_kept c.args.pool c.insert-slot.result.0 c.in_ok-names.names.items r.within c.requires.fits names_len root_id in (
-      subst (λ (x : List Lists). IsKept c.args.pool c.insert-slot.result.0 x c.in_ok-names.names.items c.insert-slot.new.self.ids c.insert-slot.new.self.slots) (sym r.rings)
-          (subst (λ (xs : List ℕ). IsKept c.args.pool c.insert-slot.result.0 (spare_below c.args.pool c.args.pool) c.in_ok-names.names.items xs c.insert-slot.new.self.slots) (sym r.ids)
-          (subst (λ (xs : List ℕ). IsKept c.args.pool c.insert-slot.result.0 (spare_below c.args.pool c.args.pool) c.in_ok-names.names.items (1 ∷ []) xs) (sym r.slots) kept)),
+    let kept = drafted_of (spare_kept c.args.pool c.insert-slot.result.0 c.in_ok-names.names.items r.within c.requires.fits names_len root_id) in (
+      subst (λ (x : List Lists). IsDrafted c.args.pool c.insert-slot.result.0 x c.in_ok-names.names.items c.insert-slot.new.self.ids c.insert-slot.new.self.slots) (sym r.rings)
+          (subst (λ (xs : List ℕ). IsDrafted c.args.pool c.insert-slot.result.0 (spare_below c.args.pool c.args.pool) c.in_ok-names.names.items xs c.insert-slot.new.self.slots) (sym r.ids)
+          (subst (λ (xs : List ℕ). IsDrafted c.args.pool c.insert-slot.result.0 (spare_below c.args.pool c.args.pool) c.in_ok-names.names.items (1 ∷ []) xs) (sym r.slots) kept)),
       long,
       search rules,
       omega (arith, c.in_ok-dead.ensures.exact),
