@@ -1,0 +1,33 @@
+//! One label kernel on many machines: each node has a replica of it, and the log of an ordered store is their journal.
+//!
+//! The kernel is deterministic, so nodes that play one log give one reply to each call. An entry of the log is a plain put under a key of
+//! its own. Its place is the revision at which its key was created, and whether it counts is a rule of the log: its number is its lane's
+//! next, and its incarnation is not closed. No clock is trusted: a lease only suggests when an incarnation is closed.
+//!
+//! [`Node`] is all of this as a state machine without input or output. docs/CLUSTER.md has what is promised to whom.
+
+mod agreements;
+pub mod engine;
+mod entry;
+mod kernel;
+mod keys;
+mod machine;
+pub mod memory;
+mod node;
+mod order;
+mod receipt;
+mod running;
+mod sha256;
+mod spelling;
+mod state;
+mod survey;
+
+pub use entry::Item;
+pub use kernel::limits;
+pub use keys::{Incarnation, Key, Lane, Name};
+pub use machine::Machine;
+pub use node::{Node, Options, Output, Status, LOOK};
+pub use receipt::{Fault, Note, Receipt, Told};
+pub use running::{Called, Running, Uncalled, Waiting};
+pub use sha256::Digest;
+pub use survey::{audit, range, Standing, Survey};

@@ -1,0 +1,96 @@
+//! Reading ranges of keys, all at one revision.
+use super::{Node, Purpose};
+use crate::engine::{Pair, Request};
+use crate::keys::{after, Key};
+use crate::sha256::Digest;
+use crate::Machine;
+use std::collections::{BTreeSet, VecDeque};
+
+/// What is done with keys once all of them are read.
+pub(super) enum Then {
+    /// What the cluster boots with.
+    Boot,
+    /// On which states nodes agree.
+    Agreements,
+    /// A checkpoint of this place and digest. The others are tried where it is none.
+    Checkpoint { place: u64, digest: Digest, others: Vec<(u64, Digest, Key)> },
+    /// What is left of the log.
+    Log,
+    /// The fences, which are looked at after these incarnations were known.
+    Fences(BTreeSet<u64>),
+    /// A checkpoint that was put, before the log is dropped up to it.
+    Stored(u64),
+    /// The node's own keys, which are dropped up to a place.
+    Own(u64),
+}
+
+/// Ranges that are read.
+pub(super) struct Pages {
+    ranges: VecDeque<(Key, Key)>,
+    pub at: u64,
+    found: Vec<Pair>,
+    pub then: Then,
+}
+
+impl Pages {
+    /// Whether it is read again anyway.
+    pub fn is_now_and_then(&self) -> bool {
+        matches!(self.then, Then::Fences(_) | Then::Stored(_) | Then::Own(_))
+    }
+}
+
+impl<M: Machine> Node<M> {
+    /// Reads ranges of keys at a revision, 0 for the last one.
+    pub(super) fn read_ranges(&mut self, ranges: impl IntoIterator<Item = (Key, Key)>, at: u64, then: Then) {
+        let pages = Pages { ranges: ranges.into_iter().collect(), at, found: Vec::new(), then };
+        self.read_on(pages);
+    }
+
+    /// Reads one key.
+    pub(super) fn read_key(&mut self, key: Key, at: u64, then: Then) {
+        self.read_ranges([(key.clone(), after(key))], at, then);
+    }
+
+    fn read_on(&mut self, mut pages: Pages) {
+        match pages.ranges.pop_front() {
+            Some((from, to)) => {
+                let request = Request::Page { from: from.clone(), to: to.clone(), at: pages.at };
+                pages.ranges.push_front((from, to));
+                self.ask(Purpose::Pages(pages), request);
+            }
+            None => self.is_read(pages.then, pages.at, pages.found),
+        }
+    }
+
+    pub(super) fn paged(&mut self, mut pages: Pages, revision: u64, pairs: Vec<Pair>, is_more: bool) {
+        if pages.at == 0 {
+            pages.at = revision;
+        }
+        if let Some((_, to)) = pages.ranges.pop_front() {
+            if let Some(last) = pairs.last().filter(|_| is_more) {
+                pages.ranges.push_front((after(last.key.clone()), to));
+            }
+        }
+        pages.found.extend(pairs);
+        self.read_on(pages);
+    }
+
+    fn is_read(&mut self, then: Then, at: u64, found: Vec<Pair>) {
+        match then {
+            Then::Boot => self.boots(found),
+            Then::Agreements => self.find_checkpoint(at, found),
+            Then::Checkpoint { place, digest, others } => self.begin_at(at, place, digest, found, others),
+            Then::Log => self.play_pages(at, found),
+            Then::Fences(open) => self.fences_seen(&open, &found),
+            Then::Stored(place) => self.is_stored(place, &found),
+            Then::Own(place) => self.drop_own(place, &found),
+        }
+    }
+
+    /// What was to be read is forgotten at that revision: the log is loaded anew.
+    pub(super) fn forgotten(&mut self, pages: &Pages) {
+        if matches!(pages.then, Then::Agreements | Then::Checkpoint { .. } | Then::Log) {
+            self.load();
+        }
+    }
+}

@@ -1,0 +1,267 @@
+//! A node that runs in this process.
+use crate::engine::{Answer, Answers, Engine, Request, TakesAnswers};
+use crate::node::{Node, Options, Output, Status};
+use crate::receipt::{Fault, Note, Receipt, Told};
+use crate::{Item, Machine};
+use histar::trusted::{Record, Thread};
+use histar::{Call, Kernel, Refusal, Reply};
+use std::collections::HashMap;
+use std::fmt;
+use std::sync::mpsc::{channel, Receiver, RecvTimeoutError, Sender};
+use std::sync::{Arc, Condvar, Mutex, MutexGuard, PoisonError};
+use std::time::Duration;
+
+/// Time passes for a node in steps of so much.
+const TICK: Duration = Duration::from_millis(40);
+
+/// Where a node's requests go.
+type Asks = Box<dyn Fn(u64, Request) + Send>;
+
+struct Core<M: Machine> {
+    node: Node<M>,
+    asks: Option<Asks>,
+    tickets: u64,
+    waiting: HashMap<u64, Sender<Receipt<M::Reply>>>,
+}
+
+struct Shared<M: Machine> {
+    core: Mutex<Core<M>>,
+    /// The node has played more, or has stopped.
+    goes_on: Condvar,
+}
+
+impl<M: Machine> Core<M> {
+    /// Asks and tells what the node wants. A node that has stopped tells nobody anything more.
+    fn act(&mut self) {
+        while let Some(output) = self.node.next_output() {
+            match (output, &self.asks) {
+                (Output::Ask(number, request), Some(asks)) => asks(number, request),
+                (Output::Ask(..), None) => {}
+                (Output::Tell(ticket, receipt), _) => {
+                    if let Some(waiting) = self.waiting.remove(&ticket) {
+                        let _ = waiting.send(receipt); // (the caller may have stopped waiting)
+                    }
+                }
+            }
+        }
+        if self.node.fault().is_some() {
+            self.waiting.clear();
+        }
+    }
+}
+
+impl<M: Machine> Shared<M> {
+    /// (No code that a panic could interrupt leaves a core half changed.)
+    fn core(&self) -> MutexGuard<'_, Core<M>> {
+        self.core.lock().unwrap_or_else(PoisonError::into_inner)
+    }
+
+    fn with<T>(&self, act: impl FnOnce(&mut Core<M>) -> T) -> T {
+        let mut core = self.core();
+        let done = act(&mut core);
+        core.act();
+        drop(core);
+        self.goes_on.notify_all();
+        done
+    }
+}
+
+impl<M: Machine> TakesAnswers for Shared<M> {
+    fn take(&self, number: u64, engine: u64, answer: Answer) {
+        self.with(|core| core.node.answer(number, engine, answer));
+    }
+}
+
+/// A node, as threads of a program use it. It runs until it is dropped; its incarnation is closed by another node then, or by its next start.
+pub struct Running<M: Machine> {
+    shared: Arc<Shared<M>>,
+    // The thread in which time passes ends with it.
+    _time: Sender<()>,
+}
+
+/// The receipt that a caller waits for.
+pub struct Waiting<R> {
+    receipt: Receiver<Receipt<R>>,
+}
+
+impl<R> Waiting<R> {
+    /// Waits for the receipt. None where the node stopped before it was known.
+    pub fn wait(self) -> Option<Receipt<R>> {
+        self.receipt.recv().ok()
+    }
+
+    /// The same, for so long at most. Nothing is promised where there is none yet: the items may still be played.
+    pub fn wait_for(&self, time: Duration) -> Option<Receipt<R>> {
+        self.receipt.recv_timeout(time).ok()
+    }
+}
+
+impl<M: Machine + Send + 'static> Running<M>
+where
+    M::Reply: Send,
+{
+    /// Starts a node.
+    pub fn open(engine: impl Engine, options: Options) -> Running<M> {
+        let core = Core { node: Node::new(options), asks: None, tickets: 0, waiting: HashMap::new() };
+        let shared = Arc::new(Shared { core: Mutex::new(core), goes_on: Condvar::new() });
+        let weak = Arc::downgrade(&shared);
+        let asks = engine.start(Answers(weak.clone()));
+        shared.with(|core| core.asks = Some(asks));
+        let (time, ended) = channel();
+        std::thread::spawn(move || {
+            while ended.recv_timeout(TICK) == Err(RecvTimeoutError::Timeout) {
+                let Some(shared) = weak.upgrade() else { return };
+                shared.with(|core| core.node.tick());
+            }
+        });
+        Running { shared, _time: time }
+    }
+
+    /// Submits up to 16 items, which are played together.
+    ///
+    /// # Errors
+    /// [`Uncalled::Stopped`], or [`Uncalled::NoCall`] where they are more.
+    pub fn submit(&self, items: &[Item<M::Call>]) -> Result<Waiting<M::Reply>, Uncalled> {
+        self.shared.with(|core| {
+            if let Some(fault) = core.node.fault() {
+                return Err(Uncalled::Stopped(fault.clone()));
+            }
+            let (sender, receipt) = channel();
+            core.tickets += 1;
+            if !core.node.submit(core.tickets, items) {
+                return Err(Uncalled::NoCall);
+            }
+            core.waiting.insert(core.tickets, sender);
+            Ok(Waiting { receipt })
+        })
+    }
+
+    /// Reads of the machine, which has all that the node has played. A read that no thread of the cluster could make is the caller's fault.
+    ///
+    /// # Errors
+    /// Why the node has stopped.
+    pub fn read<T>(&self, read: impl FnOnce(&mut M) -> T) -> Result<T, Fault> {
+        let mut core = self.booted()?;
+        let machine = core.node.machine().unwrap_or_else(|| unreachable!("the node has booted"));
+        Ok(read(machine))
+    }
+
+    /// Waits until the node has a machine.
+    fn booted(&self) -> Result<MutexGuard<'_, Core<M>>, Fault> {
+        self.until(|node| node.machine().is_some())
+    }
+
+    fn until(&self, holds: impl Fn(&mut Node<M>) -> bool) -> Result<MutexGuard<'_, Core<M>>, Fault> {
+        let mut core = self.shared.core();
+        loop {
+            if let Some(fault) = core.node.fault() {
+                return Err(fault.clone());
+            }
+            if holds(&mut core.node) {
+                return Ok(core);
+            }
+            core = self.shared.goes_on.wait(core).unwrap_or_else(PoisonError::into_inner);
+        }
+    }
+
+    /// Waits until the node has played all up to a note: reads from here on see it.
+    ///
+    /// # Errors
+    /// Why the node has stopped; [`Fault::OtherEngine`] where the note is of another engine.
+    pub fn reaches(&self, note: Note) -> Result<(), Fault> {
+        let core =
+            self.until(|node| node.seen().is_some_and(|seen| seen.engine != note.engine || seen.place >= note.place))?;
+        match core.node.seen() {
+            Some(seen) if seen.engine == note.engine => Ok(()),
+            _ => Err(Fault::OtherEngine),
+        }
+    }
+
+    /// Waits until the node has played all that any node of the cluster has told anybody so far, and gives a note of it. It takes part in
+    /// the node's next entry.
+    ///
+    /// # Errors
+    /// Why the node has stopped, or that nothing was learned.
+    pub fn latest(&self) -> Result<Note, Uncalled> {
+        match self.submit(&[])?.wait() {
+            Some(Receipt::Told { note, .. }) => Ok(note),
+            receipt => Err(self.uncalled(receipt)),
+        }
+    }
+
+    fn uncalled(&self, receipt: Option<Receipt<M::Reply>>) -> Uncalled {
+        match receipt {
+            Some(Receipt::NeverMade) => Uncalled::NeverMade,
+            Some(Receipt::MadeUnseen) => Uncalled::MadeUnseen,
+            _ => self.fault().map_or(Uncalled::Unknown, Uncalled::Stopped),
+        }
+    }
+
+    /// Why the node has stopped, if it has.
+    pub fn fault(&self) -> Option<Fault> {
+        self.shared.core().node.fault().cloned()
+    }
+
+    /// How the node is, unless it has not booted yet or has stopped.
+    pub fn status(&self) -> Option<Status> {
+        self.shared.core().node.status()
+    }
+}
+
+/// A call's reply, with a note of its place.
+#[derive(Clone, PartialEq, Eq, Debug)]
+pub struct Called {
+    /// The kernel's reply.
+    pub reply: Result<Reply, Refusal>,
+    /// What a reader has to have seen to see it.
+    pub note: Note,
+}
+
+/// Why a call has no reply.
+#[derive(Clone, PartialEq, Eq, Debug)]
+pub enum Uncalled {
+    /// The arguments make no call, or it changes nothing, or more than 16 items were submitted together. Nothing was submitted.
+    NoCall,
+    /// The thread belongs to another node. Nothing was done.
+    OtherNode,
+    /// It was not made and never will be.
+    NeverMade,
+    /// It was made, and its reply is lost to this node.
+    MadeUnseen,
+    /// It was made once or never.
+    Unknown,
+    /// The node has stopped. What waited was made once or never.
+    Stopped(Fault),
+}
+
+impl fmt::Display for Uncalled {
+    fn fmt(&self, f: &mut fmt::Formatter<'_>) -> fmt::Result {
+        match self {
+            Uncalled::NoCall => f.write_str("what was submitted is no call that changes something, or over 16 items"),
+            Uncalled::OtherNode => f.write_str("the thread belongs to another node"),
+            Uncalled::NeverMade => f.write_str("the call was not made and never will be"),
+            Uncalled::MadeUnseen => f.write_str("the call was made, and its reply is lost"),
+            Uncalled::Unknown => f.write_str("the call was made once or never"),
+            Uncalled::Stopped(fault) => write!(f, "the node has stopped: {fault}"),
+        }
+    }
+}
+
+impl std::error::Error for Uncalled {}
+
+impl Running<Kernel> {
+    /// A write call of a thread of this node, once it is played.
+    ///
+    /// # Errors
+    /// Why it has no reply.
+    pub fn call(&self, thread: Thread, call: &Call<'_>) -> Result<Called, Uncalled> {
+        let record = Record::new(thread, call).map_err(|_| Uncalled::NoCall)?;
+        match self.submit(&[Item::Call(record)])?.wait() {
+            Some(Receipt::Told { mut told, note }) => match told.pop() {
+                Some(Told::Reply(reply)) => Ok(Called { reply, note }),
+                _ => Err(Uncalled::OtherNode),
+            },
+            receipt => Err(self.uncalled(receipt)),
+        }
+    }
+}

@@ -1,0 +1,186 @@
+//! What nodes do with what is wrong, and what one node tells another.
+#[path = "simulation/model.rs"]
+mod model;
+
+use histar_cluster::engine::Request;
+use histar_cluster::memory::{Memory, Store};
+use histar_cluster::{Fault, Item, Name, Options, Receipt, Running, Told, Uncalled};
+use model::{Call, Model, Reply};
+
+fn name(text: &str) -> Name {
+    Name::new(text).expect("a name")
+}
+
+fn options(node: &str) -> Options {
+    Options { cluster: name("c"), node: name(node), limits: b"limits".to_vec(), lanes: 2, interval: 4, any: 1 }
+}
+
+fn open(store: &Memory, node: &str) -> Running<Model> {
+    Running::open(store.clone(), options(node))
+}
+
+fn call(thread: u64, number: u64, deed: u64) -> Item<Call> {
+    Item::Call(Call { thread, number, deed })
+}
+
+fn told(node: &Running<Model>, items: &[Item<Call>]) -> Vec<Told<Reply>> {
+    match node.submit(items).expect("a node that runs").wait() {
+        Some(Receipt::Told { told, .. }) => told,
+        receipt => panic!("{receipt:?}"),
+    }
+}
+
+/// Waits until a node has stopped.
+fn stops(node: &Running<Model>) -> Fault {
+    loop {
+        if let Some(fault) = node.fault() {
+            return fault;
+        }
+        std::thread::yield_now();
+    }
+}
+
+fn with(store: &Memory, act: impl FnOnce(&mut Store)) {
+    act(&mut store.store());
+}
+
+#[test]
+fn a_read_sees_what_its_note_tells() {
+    let store = Memory::new();
+    let (north, south) = (open(&store, "north"), open(&store, "south"));
+    for number in 1..100 {
+        told(&north, &[call(2, number, 0)]);
+        let note = south.latest().expect("a note");
+        assert!(south.read(|model| model.replies.contains_key(&number)).expect("a machine"));
+        assert_eq!(north.reaches(note), Ok(()));
+    }
+    let other = histar_cluster::Note { engine: 99, place: 1 };
+    assert_eq!(north.reaches(other), Err(Fault::OtherEngine));
+}
+
+#[test]
+fn a_thread_calls_by_its_node_alone() {
+    let store = Memory::new();
+    let north = open(&store, "north");
+    let made = told(&north, &[call(2, 1, 1)]);
+    let Told::Reply(Reply { made: Some(thread), .. }) = made[0] else { panic!("{made:?}") };
+    let south = open(&store, "south");
+    assert_eq!(told(&south, &[call(thread, 2, 0)]), [Told::OtherNode]);
+    assert_eq!(told(&south, &[Item::HandOver { thread, to: name("south") }]), [Told::OtherNode]);
+    assert_eq!(told(&north, &[Item::HandOver { thread, to: name("south") }]), [Told::Done]);
+    assert!(matches!(told(&south, &[call(thread, 3, 0)])[0], Told::Reply(_)));
+    assert_eq!(told(&north, &[call(thread, 4, 0)]), [Told::OtherNode]);
+}
+
+#[test]
+fn other_limits_start_no_node() {
+    let store = Memory::new();
+    told(&open(&store, "north"), &[call(2, 1, 0)]);
+    let other = Options { limits: b"others".to_vec(), ..options("south") };
+    assert_eq!(stops(&Running::<Model>::open(store.clone(), other)), Fault::OtherBoot);
+    let beyond = Options { cluster: name("d"), limits: b"none".to_vec(), ..options("south") };
+    assert_eq!(stops(&Running::<Model>::open(store, beyond)), Fault::NoMachine("no such limits".into()));
+}
+
+#[test]
+fn unknown_rules_stop_each_node_at_their_place() {
+    let store = Memory::new();
+    let (north, south) = (open(&store, "north"), open(&store, "south"));
+    assert_eq!(told(&north, &[Item::Rules(2)]), [Told::Done]);
+    let waiting = north.submit(&[call(2, 1, 0), Item::Rules(3)]).expect("a node that runs");
+    assert_eq!((waiting.wait(), stops(&north), stops(&south)), (None, Fault::UnknownRules(3), Fault::UnknownRules(3)));
+    assert_eq!(north.latest(), Err(Uncalled::Stopped(Fault::UnknownRules(3))));
+}
+
+#[test]
+fn bytes_that_are_no_entry_are_played_as_nothing() {
+    let store = Memory::new();
+    let north = open(&store, "north");
+    told(&north, &[call(2, 1, 0)]);
+    let digest = north.status().map(|status| status.entries);
+    with(&store, |store| {
+        store.put(b"/c/log/e/south/02.00/01", b"\x02anything", None);
+        store.put(b"/c/log/e/south/02.00/1f", b"\x01", None); // (no number of a key is spelled so)
+        store.put(b"/c/log/e/South/02.00/02", b"\x01", None);
+        store.put(b"/c/log/x", b"", None);
+    });
+    told(&north, &[call(2, 2, 0)]);
+    assert_eq!(north.status().map(|status| status.entries), digest.map(|entries| entries + 2));
+}
+
+#[test]
+fn a_gap_stops_each_node() {
+    let store = Memory::new();
+    let north = open(&store, "north");
+    told(&north, &[call(2, 1, 0)]);
+    with(&store, |store| store.put(b"/c/log/e/south/02.00/02", b"\x01", None));
+    assert_eq!(stops(&north), Fault::Gap);
+}
+
+#[test]
+fn another_state_at_a_place_stops_a_node() {
+    let store = Memory::new();
+    let north = open(&store, "north");
+    let agreement = loop {
+        told(&north, &[call(2, 1, 0)]);
+        let found = store.store().range(b"/c/log/a/", b"/c/log/a0", u64::MAX);
+        if let Some(pair) = found.first() {
+            break String::from_utf8(pair.key.clone()).expect("a key");
+        }
+    };
+    with(&store, |store| store.put(agreement.replace("north", "south").as_bytes(), &[7; 32], None));
+    assert!(matches!(stops(&north), Fault::Differs(_)));
+}
+
+#[test]
+fn a_checkpoint_that_nobody_can_restore_stops_a_new_node() {
+    let store = Memory::new();
+    told(&open(&store, "north"), &[call(2, 1, 0)]);
+    with(&store, |store| {
+        let digest = model_digest(b"nothing");
+        store.put(b"/c/log/a/east/2100", &digest, None);
+        store.put(b"/c/log/a/west/2100", &digest, None);
+        store.put(b"/c/state/west/2100", b"nothing", None);
+    });
+    assert_eq!(stops(&open(&store, "south")), Fault::NoCheckpoint);
+}
+
+#[path = "../src/sha256.rs"]
+#[allow(dead_code)]
+mod sha256;
+
+fn model_digest(bytes: &[u8]) -> sha256::Digest {
+    sha256::sha256(bytes)
+}
+
+#[test]
+fn a_lost_engine_is_told_of() {
+    let store = Memory::new();
+    let north = open(&store, "north");
+    told(&north, &[call(2, 1, 0)]);
+    with(&store, |store| store.restore(1));
+    assert_eq!(stops(&north), Fault::OtherEngine);
+}
+
+#[test]
+fn the_log_is_dropped_where_two_nodes_agree() {
+    let store = Memory::new();
+    let (north, south) = (open(&store, "north"), open(&store, "south"));
+    let entries = |of: &str| {
+        let (from, to) = (format!("/c/log/e/{of}/"), format!("/c/log/e/{of}0"));
+        let request = Request::Page { from: from.into_bytes(), to: to.into_bytes(), at: 0 };
+        match store.store().act(&request, usize::MAX) {
+            histar_cluster::engine::Answer::Page { pairs, .. } => pairs.len(),
+            other => panic!("{other:?}"),
+        }
+    };
+    let mut number = 0;
+    while number < 50 || entries("north") > 20 {
+        number += 1;
+        told(&north, &[call(2, number, 0)]);
+    }
+    let east = open(&store, "east");
+    east.latest().expect("a note");
+    assert!(east.read(|model| (1..=number).all(|it| model.replies.contains_key(&it))).expect("a machine"));
+    assert_eq!(south.fault(), None);
+}

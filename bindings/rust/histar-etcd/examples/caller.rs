@@ -1,0 +1,244 @@
+//! For tests of faults: a node whose callers make threads and cut them off again, and a check of what they were told.
+//!
+//! `caller prepare CLUSTER MEMBERS NODE..` begins the cluster as the first node, and prints a thread for each, which belongs to it.
+//! `caller run CLUSTER MEMBERS NODE THREAD FILE CALLERS SECONDS` writes a line into FILE before each call and one after it.
+//! `caller check CLUSTER MEMBERS FILE..` plays the log, and says what of the files it does not have.
+use histar::trusted::{Record, Thread};
+use histar::{label, Call, Entry, Kernel, Limits, Object, Refusal, Reply};
+use histar_cluster::{limits, Item, Machine, Name, Options, Receipt, Running, Told, Uncalled};
+use histar_etcd::Etcd;
+use std::collections::HashMap;
+use std::fs::File;
+use std::io::Write;
+use std::sync::atomic::{AtomicU64, Ordering};
+use std::sync::Arc;
+use std::time::{Duration, Instant, SystemTime, UNIX_EPOCH};
+
+/// A kernel that knows what each record was answered.
+struct Probe {
+    kernel: Kernel,
+    answered: HashMap<Vec<u8>, Vec<Result<Reply, Refusal>>>,
+}
+
+impl Machine for Probe {
+    type Call = Record;
+    type Reply = Result<Reply, Refusal>;
+    const RULES: u64 = Kernel::RULES;
+
+    fn boot(limits: &[u8]) -> Result<Probe, String> {
+        Ok(Probe { kernel: <Kernel as Machine>::boot(limits)?, answered: HashMap::new() })
+    }
+    fn set_rules(&mut self, rules: u64) -> bool {
+        self.kernel.set_rules(rules)
+    }
+    fn play(&mut self, call: &Record) -> Self::Reply {
+        let reply = self.kernel.play(call);
+        let mut bytes = Vec::new();
+        call.put(&mut bytes);
+        self.answered.entry(bytes).or_default().push(reply.clone());
+        reply
+    }
+    fn is_live(&self, thread: u64) -> bool {
+        Machine::is_live(&self.kernel, thread)
+    }
+    fn checkpoint(&self) -> Option<Vec<u8>> {
+        None
+    }
+    fn restore(_limits: &[u8], _state: &[u8]) -> Option<Probe> {
+        None
+    }
+    fn thread(call: &Record) -> u64 {
+        Kernel::thread(call)
+    }
+    fn made(call: &Record, reply: &Self::Reply) -> Option<u64> {
+        Kernel::made(call, reply)
+    }
+    fn put_call(call: &Record, out: &mut Vec<u8>) {
+        Kernel::put_call(call, out)
+    }
+    fn take_call(bytes: &mut &[u8]) -> Option<Record> {
+        Kernel::take_call(bytes)
+    }
+    fn put_reply(reply: &Self::Reply, out: &mut Vec<u8>) {
+        Kernel::put_reply(reply, out)
+    }
+}
+
+fn open<M: Machine + Send + 'static>(cluster: &str, members: &str, node: &str) -> Running<M>
+where
+    M::Reply: Send,
+{
+    let members = members.split(',').map(String::from).collect();
+    let now = SystemTime::now().duration_since(UNIX_EPOCH).expect("a time after 1970");
+    let name = |text| Name::new(text).expect("a name");
+    let options = Options {
+        cluster: name(cluster),
+        node: name(node),
+        limits: limits(&Limits::pages(1024)),
+        lanes: 4,
+        interval: 1000,
+        any: now.as_nanos() as u64,
+    };
+    Running::open(Etcd { members, tls: None, lease: 3 }, options)
+}
+
+/// Making a thread whose entry point is the number of the call.
+fn making(thread: u64, number: u64) -> Record {
+    let call = Call::ThreadCreate {
+        container: Object::ROOT,
+        label: label! { L1 }.into(),
+        quota: 1,
+        clearance: label! { L2 }.into(),
+        entry_point: number,
+    };
+    Record::new(Thread(thread), &call).expect("a call")
+}
+
+fn prepare(cluster: &str, members: &str, nodes: &[String]) {
+    let first: Running<Kernel> = open(cluster, members, &nodes[0]);
+    for node in nodes {
+        let to = Name::new(node).expect("a name");
+        let made = first.submit(&[Item::Call(making(2, 0))]).expect("a node").wait();
+        let Some(Receipt::Told { told, .. }) = made else { panic!("no thread was made: {made:?}") };
+        let [Told::Reply(Ok(Reply::Object(thread)))] = &told[..] else { panic!("no thread was made: {told:?}") };
+        let handed = first.submit(&[Item::HandOver { thread: thread.0, to }]).expect("a node").wait();
+        assert!(matches!(handed, Some(Receipt::Told { .. })), "{handed:?}");
+        println!("{node} {}", thread.0);
+    }
+}
+
+fn told_of(receipt: Option<Receipt<Result<Reply, Refusal>>>, number: u64) -> (String, Option<Object>) {
+    match receipt {
+        Some(Receipt::Told { told, note }) => match &told[..] {
+            [Told::Reply(Ok(Reply::Object(made)))] => {
+                (format!("a {number} {} 0 {}\n", note.place, made.0), Some(*made))
+            }
+            [Told::Reply(Err(why))] => (format!("a {number} {} {} 0\n", note.place, why.number()), None),
+            other => panic!("another reply: {other:?}"),
+        },
+        Some(Receipt::NeverMade) => (format!("n {number}\n"), None),
+        Some(Receipt::MadeUnseen) => (format!("u {number}\n"), None),
+        Some(Receipt::Unknown) | None => (format!("q {number}\n"), None),
+    }
+}
+
+fn run(words: &[String]) {
+    let [cluster, members, node, thread, file, callers, seconds] = words else { panic!("other words") };
+    let number = |text: &String| text.parse::<u64>().expect("a number");
+    let (thread, callers) = (number(thread), number(callers));
+    let running: Arc<Running<Kernel>> = Arc::new(open(cluster, members, node));
+    let out = Arc::new(File::options().create(true).append(true).open(file).expect("a file"));
+    let end = Instant::now() + Duration::from_secs(number(seconds));
+    let start = SystemTime::now().duration_since(UNIX_EPOCH).expect("a time after 1970").as_millis() as u64;
+    let calls = Arc::new(AtomicU64::new(start << 20));
+    let writes = |out: &File, line: &str| {
+        let mut out = out;
+        out.write_all(line.as_bytes()).expect("a file that can be written");
+    };
+    let all: Vec<_> = (0..callers)
+        .map(|_| {
+            let (running, out, calls) = (running.clone(), out.clone(), calls.clone());
+            std::thread::spawn(move || {
+                while Instant::now() < end {
+                    let number = calls.fetch_add(1, Ordering::Relaxed);
+                    writes(&out, &format!("s {number}\n"));
+                    let Ok(waiting) = running.submit(&[Item::Call(making(thread, number))]) else { return };
+                    let (line, made) = told_of(waiting.wait(), number);
+                    writes(&out, &line);
+                    if let Some(made) = made {
+                        let gone = running.call(Thread(thread), &Call::Unref { entry: Entry::in_root(made) });
+                        assert!(!matches!(gone, Err(Uncalled::OtherNode | Uncalled::NoCall)), "{gone:?}");
+                    }
+                }
+            })
+        })
+        .collect();
+    all.into_iter().for_each(|caller| caller.join().expect("no caller panics"));
+    println!("{node}: {:?} {:?}", running.status().map(|it| (it.reached, it.entries, it.incarnation)), running.fault());
+}
+
+fn check(words: &[String]) {
+    let [cluster, members, threads, files @ ..] = words else { panic!("other words") };
+    let threads: Vec<u64> = threads.split(',').map(|text| text.parse().expect("a thread")).collect();
+    let running: Running<Probe> = open(cluster, members, "check");
+    running.latest().expect("the log is played");
+    let answered = running.read(|probe| std::mem::take(&mut probe.answered)).expect("a kernel");
+    let entries = running.status().map_or(0, |status| status.entries);
+    let made_of = |number: u64| {
+        let of = |thread: &u64| {
+            let mut bytes = Vec::new();
+            making(*thread, number).put(&mut bytes);
+            answered.get(&bytes)
+        };
+        threads.iter().find_map(of).cloned().unwrap_or_default()
+    };
+    let (mut faults, mut told, mut never, mut unseen, mut open_calls, mut open_made) = (0, 0, 0, 0, 0, 0);
+    let mut fault = |what: String| {
+        faults += 1;
+        println!("FAULT {what}");
+    };
+    for file in files {
+        let text = std::fs::read_to_string(file).expect("a file");
+        let mut lines: HashMap<u64, Vec<&str>> = HashMap::new();
+        // (a node that was killed may have written half a line)
+        for line in text.split_inclusive('\n').filter(|line| line.ends_with('\n')) {
+            let words: Vec<&str> = line.split_whitespace().collect();
+            let number = words[1].parse().expect("a number");
+            if words[0] == "s" {
+                lines.entry(number).or_default();
+            } else {
+                lines.insert(number, words);
+            }
+        }
+        for (number, words) in lines {
+            let made = made_of(number);
+            if made.len() > 1 {
+                fault(format!("{number} was made {} times", made.len()));
+            }
+            match words.first() {
+                None | Some(&"q") => {
+                    open_calls += 1;
+                    open_made += made.len();
+                }
+                Some(&"n") => {
+                    never += 1;
+                    if !made.is_empty() {
+                        fault(format!("{number} was told never to be made, and was"));
+                    }
+                }
+                Some(&"u") => {
+                    unseen += 1;
+                    if made.is_empty() {
+                        fault(format!("{number} was told to be made, and was not"));
+                    }
+                }
+                _ => {
+                    told += 1;
+                    let is_so = match made.first() {
+                        Some(Ok(Reply::Object(object))) => words[3] == "0" && words[4] == object.0.to_string(),
+                        Some(Err(why)) => words[3] == why.number().to_string(),
+                        _ => false,
+                    };
+                    if !is_so {
+                        fault(format!("{words:?} was told, and the log has {made:?}"));
+                    }
+                }
+            }
+        }
+    }
+    println!(
+        "{entries} entries; {told} calls answered, {never} never made, {unseen} made unseen, {open_calls} without an answer \
+         ({open_made} of them made): {faults} faults"
+    );
+    std::process::exit(i32::from(faults > 0));
+}
+
+fn main() {
+    let words: Vec<String> = std::env::args().skip(1).collect();
+    match words.first().map(String::as_str) {
+        Some("prepare") => prepare(&words[1], &words[2], &words[3..]),
+        Some("run") => run(&words[1..]),
+        Some("check") => check(&words[1..]),
+        _ => panic!("other words"),
+    }
+}

@@ -1,0 +1,275 @@
+//! etcd as the engine of a cluster.
+use crate::grpc::{Channel, Fault, Stream};
+use crate::wire::*;
+use bytes::Bytes;
+use histar_cluster::engine::{Answer, Answers, Engine, Event, Pair, Request};
+use prost::Message;
+use std::sync::{Arc, Mutex, PoisonError};
+use std::time::Duration;
+use tokio::runtime::{Builder, Runtime};
+use tokio::task::JoinHandle;
+use tokio_rustls::rustls::ClientConfig;
+
+/// After this time an answer is taken for lost, and another member is asked. A member that is paused keeps its connections open.
+const PATIENCE: Duration = Duration::from_millis(1500);
+
+/// A watch that says nothing for so long is begun anew at another member.
+const SILENCE: Duration = Duration::from_secs(3);
+
+/// How many keys a page has: far more take longer than an answer is waited for.
+const PAGE: i64 = 20_000;
+
+/// The members of an etcd, and how they are reached.
+#[derive(Clone)]
+pub struct Etcd {
+    /// `HOST:PORT` of each member: at least one.
+    pub members: Vec<String>,
+    /// The certificates of the members and the node, for TLS.
+    pub tls: Option<Arc<ClientConfig>>,
+    /// The seconds after which a node that says nothing is taken for gone.
+    pub lease: i64,
+}
+
+/// A client that goes from member to member.
+struct Client {
+    etcd: Etcd,
+    /// The connection, and how many were opened: the next one is to the next member.
+    open: tokio::sync::Mutex<(usize, Option<Channel>)>,
+}
+
+/// What a node's requests share.
+struct Asks {
+    client: Client,
+    answers: Answers,
+    watch: Mutex<Option<JoinHandle<()>>>,
+}
+
+/// The end of an exchange: the engine's identity, and the answer.
+type Told = Result<(u64, Answer), Fault>;
+
+fn header(header: &Option<Header>) -> (u64, u64) {
+    header.as_ref().map_or((0, 0), |header| (header.cluster_id, header.revision as u64))
+}
+
+impl Engine for Etcd {
+    fn start(self, answers: Answers) -> Box<dyn Fn(u64, Request) + Send> {
+        let runtime =
+            Builder::new_multi_thread().worker_threads(2).enable_all().build().expect("threads can be started");
+        let runtime = Ending(Some(runtime));
+        let asks = Arc::new(Asks { client: Client::new(self), answers, watch: Mutex::new(None) });
+        Box::new(move |number, request| {
+            if let Some(runtime) = &runtime.0 {
+                asks.clone().begin(runtime, number, request);
+            }
+        })
+    }
+}
+
+/// A runtime that ends without waiting for what is on its way.
+struct Ending(Option<Runtime>);
+
+impl Drop for Ending {
+    fn drop(&mut self) {
+        if let Some(runtime) = self.0.take() {
+            runtime.shutdown_background();
+        }
+    }
+}
+
+impl Etcd {
+    /// All keys from one up to another, at one revision.
+    ///
+    /// # Errors
+    /// That no member answers, or what it answers instead.
+    pub fn keys(&self, from: &[u8], to: &[u8]) -> Result<Vec<Pair>, String> {
+        let runtime = Builder::new_current_thread().enable_all().build().map_err(|error| error.to_string())?;
+        let client = Client::new(self.clone());
+        runtime.block_on(async {
+            let (mut found, mut from, mut at, mut tries) = (Vec::new(), from.to_vec(), 0, 0);
+            loop {
+                match client.page(from.clone(), to.to_vec(), at).await {
+                    Ok((_, Answer::Page { revision, pairs, is_more })) => {
+                        at = if at == 0 { revision } else { at };
+                        found.extend(pairs);
+                        match found.last().filter(|_| is_more) {
+                            Some(last) => from = [&last.key[..], &[0]].concat(),
+                            None => return Ok(found),
+                        }
+                    }
+                    Err(Fault::Status(_, why)) => return Err(why),
+                    _ if tries < 2 * self.members.len() => tries += 1,
+                    _ => return Err("no member of the engine answers".into()),
+                }
+            }
+        })
+    }
+}
+
+impl Asks {
+    fn begin(self: Arc<Asks>, runtime: &Runtime, number: u64, request: Request) {
+        let asks = self.clone();
+        if let Request::Watch { from, to, after } = request {
+            let watching = runtime.spawn(async move {
+                let last = asks.reports(number, from, to, after).await;
+                asks.give(number, last);
+            });
+            if let Some(before) = self.watch.lock().unwrap_or_else(PoisonError::into_inner).replace(watching) {
+                before.abort();
+            }
+        } else {
+            runtime.spawn(async move {
+                let told = asks.client.act(request).await;
+                asks.give(number, told);
+            });
+        }
+    }
+
+    fn give(&self, number: u64, told: Told) -> bool {
+        let (engine, answer) = told.unwrap_or_else(|fault| (0, answer_of(fault)));
+        self.answers.give(number, engine, answer)
+    }
+
+    /// Reports until the watch ends. Gives the last answer.
+    async fn reports(&self, number: u64, from: Vec<u8>, to: Vec<u8>, after: u64) -> Told {
+        let create =
+            WatchCreate { key: from.into(), range_end: to.into(), start_revision: after as i64 + 1, filters: vec![1] };
+        let question = WatchRequest { create: Some(create) };
+        let (member, mut stream) = self.client.stream("/etcdserverpb.Watch/Watch", &question).await?;
+        loop {
+            let told: WatchResponse = match tokio::time::timeout(SILENCE, stream.next()).await {
+                Ok(told) => told?,
+                Err(late) => {
+                    self.client.leave(member).await;
+                    return Err(late.into());
+                }
+            };
+            let (engine, revision) = header(&told.header);
+            if told.compact_revision > 0 {
+                return Ok((engine, Answer::Forgotten));
+            }
+            if told.canceled {
+                return Ok((engine, Answer::Ended));
+            }
+            let answer = if told.created {
+                Answer::Watching(revision)
+            } else {
+                Answer::Events(told.events.into_iter().filter_map(|event| event.kv).map(event_of).collect())
+            };
+            if !self.answers.give(number, engine, answer) {
+                return Ok((engine, Answer::Ended));
+            }
+        }
+    }
+}
+
+impl Client {
+    fn new(etcd: Etcd) -> Client {
+        Client { etcd, open: tokio::sync::Mutex::new((0, None)) }
+    }
+
+    async fn channel(&self) -> Result<(usize, Channel), Fault> {
+        let mut open = self.open.lock().await;
+        if let Some(channel) = &open.1 {
+            return Ok((open.0, channel.clone()));
+        }
+        let member = &self.etcd.members[open.0 % self.etcd.members.len()];
+        open.0 += 1;
+        let channel = tokio::time::timeout(PATIENCE, Channel::connect(member, self.etcd.tls.clone())).await??;
+        open.1 = Some(channel.clone());
+        Ok((open.0, channel))
+    }
+
+    /// The next request goes to another member.
+    async fn leave(&self, number: usize) {
+        let mut open = self.open.lock().await;
+        if open.0 == number {
+            open.1 = None;
+        }
+    }
+
+    async fn ask<Q: Message, R: Message + Default>(&self, path: &str, question: &Q) -> Result<R, Fault> {
+        let (number, channel) = self.channel().await?;
+        let told = match tokio::time::timeout(PATIENCE, channel.call(path, question)).await {
+            Ok(told) => told,
+            Err(late) => Err(late.into()),
+        };
+        if matches!(told, Err(Fault::Lost)) {
+            self.leave(number).await;
+        }
+        told
+    }
+
+    async fn stream<Q: Message>(&self, path: &str, question: &Q) -> Result<(usize, Stream), Fault> {
+        let (number, channel) = self.channel().await?;
+        Ok((number, tokio::time::timeout(PATIENCE, channel.stream(path, question)).await??))
+    }
+
+    async fn act(&self, request: Request) -> Told {
+        match request {
+            Request::Put { key, value, lease, only_new } => {
+                self.put(key, value, lease.unwrap_or(0) as i64, only_new).await
+            }
+            Request::Page { from, to, at } => self.page(from, to, at).await,
+            Request::Lease => {
+                let granted: LeaseGranted =
+                    self.ask("/etcdserverpb.Lease/LeaseGrant", &LeaseGrant { seconds: self.etcd.lease }).await?;
+                Ok((header(&granted.header).0, Answer::Lease(granted.id as u64)))
+            }
+            Request::Keep { lease } => {
+                let question = LeaseKeep { id: lease as i64 };
+                let (_, mut stream) = self.stream("/etcdserverpb.Lease/LeaseKeepAlive", &question).await?;
+                let kept: Done = tokio::time::timeout(PATIENCE, stream.next()).await??;
+                Ok((header(&kept.header).0, Answer::Kept))
+            }
+            Request::Drop { from, to, forget } => {
+                let question = DeleteRequest { key: from.into(), range_end: to.into() };
+                let done: Done = self.ask("/etcdserverpb.KV/DeleteRange", &question).await?;
+                if forget > 0 {
+                    // (another node may have done so)
+                    let compact = CompactRequest { revision: forget as i64 };
+                    let _: Result<Done, Fault> = self.ask("/etcdserverpb.KV/Compact", &compact).await;
+                }
+                Ok((header(&done.header).0, Answer::Dropped))
+            }
+            Request::Watch { .. } => Err(Fault::Lost),
+        }
+    }
+
+    async fn put(&self, key: Vec<u8>, value: Vec<u8>, lease: i64, only_new: bool) -> Told {
+        let key = Bytes::from(key);
+        let put = PutRequest { key: key.clone(), value: value.into(), lease };
+        if !only_new {
+            let done: Done = self.ask("/etcdserverpb.KV/Put", &put).await?;
+            let (engine, revision) = header(&done.header);
+            return Ok((engine, Answer::Put { revision, is_done: true }));
+        }
+        let compare = vec![Compare { key, target: Some(Target::Version(0)) }];
+        let question = TxnRequest { compare, success: vec![RequestOp { op: Some(Op::Put(put)) }] };
+        let done: TxnResponse = self.ask("/etcdserverpb.KV/Txn", &question).await?;
+        let (engine, revision) = header(&done.header);
+        Ok((engine, Answer::Put { revision, is_done: done.succeeded }))
+    }
+
+    async fn page(&self, from: Vec<u8>, to: Vec<u8>, at: u64) -> Told {
+        let question = RangeRequest { key: from.into(), range_end: to.into(), limit: PAGE, revision: at as i64 };
+        let page: RangeResponse = self.ask("/etcdserverpb.KV/Range", &question).await?;
+        let (engine, revision) = header(&page.header);
+        let pair =
+            |kv: KeyValue| Pair { key: kv.key.to_vec(), value: kv.value.to_vec(), created: kv.create_revision as u64 };
+        Ok((engine, Answer::Page { revision, pairs: page.kvs.into_iter().map(pair).collect(), is_more: page.more }))
+    }
+}
+
+fn event_of(kv: KeyValue) -> Event {
+    Event { key: kv.key.to_vec(), value: kv.value.to_vec(), revision: kv.mod_revision as u64, is_new: kv.version == 1 }
+}
+
+/// What a node is told where the engine did not do what was asked.
+fn answer_of(fault: Fault) -> Answer {
+    match fault {
+        Fault::Status(11, why) if why.contains("compacted") => Answer::Forgotten,
+        // (14 and 4 are told of what may be done all the same; 8 is also told of too many requests)
+        Fault::Status(7 | 8 | 16, why) if !why.contains("too many requests") => Answer::Refused(why),
+        _ => Answer::Lost,
+    }
+}

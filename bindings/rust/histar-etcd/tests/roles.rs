@@ -1,0 +1,136 @@
+//! What docs/CLUSTER.md says of certificates and roles, where `etcd`, `etcdctl` and `openssl` are on the path: a node with its own certificate
+//! runs, one with another's is refused and says so, and the role of a node can't write what others put.
+#[path = "../../histar-cluster/tests/simulation/model.rs"]
+mod model;
+
+use histar_cluster::{Item, Name, Options, Receipt, Running};
+use histar_etcd::{tls, Etcd, Files};
+use model::{Call, Model};
+use std::path::{Path, PathBuf};
+use std::process::{Child, Command, Stdio};
+use std::time::{Duration, Instant};
+
+const CLIENTS: &str = "127.0.0.1:24890";
+
+/// Certificates, the member with TLS, and the roles.
+const SETUP: &str = r#"
+set -e
+openssl req -x509 -newkey rsa:2048 -nodes -keyout ca.key -out ca.pem -subj /CN=ca -days 2 2>/dev/null
+for n in member root north south; do
+    openssl req -newkey rsa:2048 -nodes -keyout $n.key -out $n.csr -subj /CN=$n 2>/dev/null
+    printf 'subjectAltName=DNS:localhost,IP:127.0.0.1\n' > ext
+    openssl x509 -req -in $n.csr -CA ca.pem -CAkey ca.key -CAcreateserial -out $n.pem -days 2 -extfile ext 2>/dev/null
+done
+"#;
+
+/// The block of the document, with this machine's addresses.
+fn documented() -> String {
+    let page = std::fs::read_to_string(concat!(env!("CARGO_MANIFEST_DIR"), "/../../../docs/CLUSTER.md"))
+        .expect("docs/CLUSTER.md");
+    let block = page.split("```sh\n").nth(1).and_then(|rest| rest.split("```").next()).expect("a block of commands");
+    let roles: Vec<&str> = block.lines().filter(|line| !line.starts_with("histar-cluster")).collect();
+    format!("set -e\n{}\n", roles.join("\n"))
+}
+
+struct Tls {
+    folder: PathBuf,
+    member: Option<Child>,
+}
+
+impl Drop for Tls {
+    fn drop(&mut self) {
+        if let Some(mut member) = self.member.take() {
+            let _ = (member.kill(), member.wait());
+        }
+        let _ = std::fs::remove_dir_all(&self.folder);
+    }
+}
+
+impl Tls {
+    fn shell(&self, script: &str, user: &str) -> bool {
+        let file = |end| self.folder.join(format!("{user}.{end}"));
+        let mut command = Command::new("sh");
+        command
+            .args(["-c", script])
+            .current_dir(&self.folder)
+            .env("ETCDCTL_API", "3")
+            .stderr(Stdio::null())
+            .stdout(Stdio::null());
+        command
+            .env("ETCDCTL_ENDPOINTS", format!("https://{CLIENTS}"))
+            .env("ETCDCTL_CACERT", self.folder.join("ca.pem"));
+        command.env("ETCDCTL_CERT", file("pem")).env("ETCDCTL_KEY", file("key"));
+        command.status().expect("a shell").success()
+    }
+
+    fn begin(&mut self) {
+        let client = format!("https://{CLIENTS}");
+        let words = "--listen-peer-urls http://127.0.0.1:24891 --initial-advertise-peer-urls http://127.0.0.1:24891 \
+                     --initial-cluster default=http://127.0.0.1:24891 --client-cert-auth --trusted-ca-file ca.pem \
+                     --cert-file member.pem --key-file member.key --data-dir data --log-level error";
+        let mut command = Command::new("etcd");
+        command.args(words.split_whitespace()).args([
+            "--listen-client-urls",
+            &client,
+            "--advertise-client-urls",
+            &client,
+        ]);
+        command.current_dir(&self.folder).stdout(Stdio::null()).stderr(Stdio::null());
+        self.member = Some(command.spawn().expect("etcd"));
+    }
+
+    fn open(&self, node: &str, user: &str) -> Running<Model> {
+        let file = |end: &str| self.folder.join(format!("{user}.{end}"));
+        let files = Files { authority: self.folder.join("ca.pem"), certificate: file("pem"), key: file("key") };
+        let name = |text| Name::new(text).expect("a name");
+        let options =
+            Options { cluster: name("files"), node: name(node), limits: Vec::new(), lanes: 1, interval: 50, any: 1 };
+        let members = vec![CLIENTS.replace("127.0.0.1", "localhost")];
+        Running::open(Etcd { members, tls: Some(tls(&files).expect("files")), lease: 5 }, options)
+    }
+}
+
+fn is_there(program: &str) -> bool {
+    Command::new(program).arg("version").stdout(Stdio::null()).stderr(Stdio::null()).status().is_ok()
+}
+
+#[test]
+fn a_role_holds_a_node_to_its_own_keys() {
+    if !["etcd", "etcdctl", "openssl"].iter().all(|program| is_there(program)) {
+        println!("left out: etcd, etcdctl or openssl is not on the path");
+        return;
+    }
+    let folder = std::env::temp_dir().join(format!("histar-roles-{}", std::process::id()));
+    std::fs::create_dir_all(&folder).expect("a folder");
+    let mut it = Tls { folder, member: None };
+    assert!(it.shell(SETUP, "root"), "certificates");
+    it.begin();
+    std::thread::sleep(Duration::from_secs(2));
+    assert!(it.shell(&documented(), "root"), "the commands of docs/CLUSTER.md");
+
+    let north = it.open("north", "north");
+    let waiting = north.submit(&[Item::Call(Call { thread: 2, number: 1, deed: 0 })]).expect("a node that runs");
+    assert!(matches!(waiting.wait(), Some(Receipt::Told { .. })));
+
+    let south = it.open("south", "north");
+    let end = Instant::now() + Duration::from_secs(20);
+    let trouble = loop {
+        if let Some(trouble) = south.status().and_then(|status| status.trouble) {
+            break trouble;
+        }
+        assert!(Instant::now() < end, "a node with another's certificate says nothing");
+        std::thread::sleep(Duration::from_millis(50));
+    };
+    assert!(trouble.contains("permission denied"), "{trouble}");
+
+    assert!(it.shell("etcdctl put /files/log/e/south/01.00/01 x", "south"), "its own key");
+    for wrong in [
+        "put /files/log/e/north/01.00/01 x",
+        "del --prefix /files/log/e/north/",
+        "del --prefix /files/state/",
+        "put /files/fence/north/9 x",
+    ] {
+        assert!(!it.shell(&format!("etcdctl {wrong}"), "south"), "{wrong}");
+    }
+    assert!(Path::new(&it.folder).exists());
+}

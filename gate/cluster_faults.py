@@ -1,0 +1,117 @@
+"""Faults from a seed on the real engine: three members of etcd and three nodes on 127.0.0.1, which are killed or paused. After that
+the log is played: each call that was answered is there once with that answer, and none that was told never to be made; and
+histar-audit finds the log clean. Alone: python3 -m gate.cluster_faults FOLDER SECONDS SEED [AUDITOR]"""
+import glob
+import os
+import random
+import shutil
+import signal
+import subprocess
+import sys
+import time
+
+CRATE = "bindings/rust/histar-etcd"
+BASE = 23790
+CALLERS = "12"
+
+
+class Faults:
+    """Members and nodes in a folder, from a seed."""
+
+    def __init__(self, folder, seed, programs):
+        self.folder, self.programs = folder, programs
+        self.random = random.Random(seed)
+        self.members = [f"127.0.0.1:{BASE + 10 * it}" for it in range(3)]
+        self.starts = [0] * 3
+        self.counts = {}
+        shutil.rmtree(folder, ignore_errors=True)
+        os.makedirs(folder)
+
+    def log(self, name):
+        return open(f"{self.folder}/{name}.log", "a", encoding="utf-8")
+
+    def member(self, it, state):
+        peer = [f"http://127.0.0.1:{BASE + 10 * at + 1}" for at in range(3)]
+        words = ["etcd", "--name", f"m{it}", "--data-dir", f"{self.folder}/m{it}", "--initial-cluster-state", state, "--log-level", "error",
+                 "--initial-cluster", ",".join(f"m{at}={peer[at]}" for at in range(3)), "--listen-peer-urls", peer[it], "--initial-advertise-peer-urls", peer[it],
+                 "--listen-client-urls", f"http://{self.members[it]}", "--advertise-client-urls", f"http://{self.members[it]}"]
+        with self.log(f"m{it}") as out:
+            return subprocess.Popen(words, stdout=out, stderr=out)
+
+    def call(self, *words):
+        done = subprocess.run(words, stdout=subprocess.PIPE, stderr=subprocess.STDOUT, text=True)
+        return done.returncode, done.stdout
+
+    def node(self, it, left):
+        self.starts[it] += 1
+        turned = ",".join(self.members[it:] + self.members[:it])
+        file = f"{self.folder}/calls-{it}.{self.starts[it]}"
+        words = [f"{self.programs}/examples/caller", "run", "faults", turned, f"n{it}", self.threads[it], file, CALLERS, str(max(left, 1))]
+        with self.log(f"n{it}") as out:
+            return subprocess.Popen(words, stdout=out, stderr=out)
+
+    def hurt(self, nodes, members):
+        """One thing is killed, or some are paused. What has to be started anew."""
+        what = self.random.choice(["kill node", "kill member", "pause member", "pause node", "kill both", "pause two members"])
+        self.counts[what] = self.counts.get(what, 0) + 1
+        first, second = self.random.sample(range(3), 2)
+        killed = [nodes[first]] * (what in ("kill node", "kill both")) + [members[second]] * (what in ("kill member", "kill both"))
+        paused = {"pause member": [members[first]], "pause node": [nodes[first]], "pause two members": [members[first], members[second]]}.get(what, [])
+        for it in killed:
+            it.kill()
+            it.wait()
+        for it in paused:
+            it.send_signal(signal.SIGSTOP)
+        time.sleep(self.random.uniform(0.1, 5))
+        for it in paused:
+            it.send_signal(signal.SIGCONT)
+        return (first if nodes[first] in killed else None), (second if members[second] in killed else None)
+
+    def play(self, seconds):
+        """Plays for so many seconds. Whether all that was told holds, and what was said."""
+        members = [self.member(it, "new") for it in range(3)]
+        nodes = []
+        try:
+            time.sleep(3)
+            status, said = self.call(f"{self.programs}/examples/caller", "prepare", "faults", ",".join(self.members), "n0", "n1", "n2")
+            if status != 0:
+                return False, said
+            self.threads = [line.split()[1] for line in said.splitlines()]
+            end = time.time() + seconds
+            left = lambda: int(end - time.time())
+            nodes = [self.node(it, left()) for it in range(3)]
+            time.sleep(1)
+            while left() > 10:
+                node, member = self.hurt(nodes, members)
+                if node is not None:
+                    nodes[node] = self.node(node, left())
+                if member is not None:
+                    members[member] = self.member(member, "existing")
+                time.sleep(self.random.uniform(0.2, 1.5))
+            for it in nodes:
+                it.wait()
+            return self.check()
+        finally:
+            for it in nodes + members:
+                it.kill()
+                it.wait()
+
+    def check(self):
+        files = sorted(glob.glob(f"{self.folder}/calls-*"))
+        status, said = self.call(f"{self.programs}/examples/caller", "check", "faults", ",".join(self.members), ",".join(self.threads), *files)
+        for what in ("status", "audit"):
+            done, told = self.call(f"{self.programs}/histar-cluster", what, "faults", ",".join(self.members))
+            with open(f"{self.folder}/{what}", "w", encoding="utf-8") as it:
+                it.write(told)
+            status = status or done
+        return status == 0, f"{said.strip()}, by {self.counts}"
+
+
+if __name__ == "__main__":
+    faults = Faults(sys.argv[1], int(sys.argv[3]), f"{CRATE}/target/release")
+    is_well, told = faults.play(int(sys.argv[2]))
+    print("well" if is_well else "NOT WELL", told)
+    print(open(f"{sys.argv[1]}/status", encoding="utf-8").read() if os.path.exists(f"{sys.argv[1]}/status") else "")
+    if len(sys.argv) > 4 and is_well:
+        print(subprocess.run([sys.argv[4], f"{sys.argv[1]}/audit"], stdout=subprocess.PIPE, text=True).stdout)
+    sys.exit(not is_well)
