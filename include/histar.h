@@ -126,9 +126,9 @@ enum histar_refusal {
     HISTAR_BAD_LIMITS = 31,      /* a limit is out of its range */
     HISTAR_OTHER_VERSION = 32,   /* the library is of another version than this header */
     HISTAR_MEMORY = 40,          /* there is no memory to keep the call: in the log, or in the list of a shared kernel */
-    HISTAR_BAD_BATCH = 45,       /* the arguments make no call */
+    HISTAR_BAD_BATCH = 45,       /* the arguments make no call, or no batch */
     HISTAR_BUSY = 46,            /* another call uses the kernel or has not ended adding itself to the list, or it is open already */
-    HISTAR_LIST_FULL = 47,       /* the list of a shared kernel has no room for the call */
+    HISTAR_LIST_FULL = 47,       /* the list of a shared kernel has as many batches as it may have */
     HISTAR_OTHER_LIST = 48,      /* the note is not of this shared kernel */
     HISTAR_TEXT_MEMORY = 51      /* there is no memory for the text of a dump */
 };
@@ -224,7 +224,8 @@ static inline histar_label histar_with(histar_label label, histar_category categ
 
 /* ---- The library ---- */
 
-/* What a record asks for. 1 to 24 are write calls, 25 to 34 read calls, 35 to 39 look-ups, 40 to 42 of the log, 43 and 44 of a seat. */
+/* What a record asks for. 1 to 24 are write calls, 25 to 34 read calls, 35 to 39 look-ups, 40 to 42 of the log, 43 to 47 of a seat. With
+ * HISTAR_CALL_IN_BATCH more than its own, a write call is kept for a batch. */
 enum histar_call_number {
     HISTAR_CALL_CAT_CREATE = 1,
     HISTAR_CALL_SELF_SET_LABEL = 2,
@@ -269,7 +270,11 @@ enum histar_call_number {
     HISTAR_CALL_DUMP = 41,
     HISTAR_CALL_DUMP_TEXT = 42,
     HISTAR_CALL_SEEN = 43,
-    HISTAR_CALL_LEARN = 44
+    HISTAR_CALL_LEARN = 44,
+    HISTAR_CALL_BATCH_BEGIN = 45,
+    HISTAR_CALL_BATCH_MAKE = 46,
+    HISTAR_CALL_BATCH_TOLD = 47,
+    HISTAR_CALL_IN_BATCH = 64
 };
 
 /* What a thread asks for. The functions below fill it. */
@@ -299,10 +304,10 @@ void histar_end(void *room);
 
 /* The same of a kernel that threads share, and of its seats, in rooms of histar_shared_size() and histar_seat_size() bytes.
  * Seats of one shared kernel are called at once, each by one thread at a time. Nothing here waits: histar_seat_call is refused
- * HISTAR_BUSY where another seat adds its call at this moment, and the call is not made. */
+ * HISTAR_BUSY where another seat adds a batch at this moment, and no call is made. */
 size_t histar_shared_size(void);
 size_t histar_seat_size(void);
-void histar_shared_boot(uint32_t pages, uint8_t device_level, uint64_t next_id, uint64_t next_category, uint64_t calls, void *shared);
+void histar_shared_boot(uint32_t pages, uint8_t device_level, uint64_t next_id, uint64_t next_category, uint64_t most, void *shared);
 void histar_seat_boot(void *shared, void *seat);
 uint32_t histar_seat_call(void *seat, const histar_request *request, histar_answer *answer);
 void histar_seat_end(void *seat);
@@ -310,7 +315,7 @@ void histar_shared_end(void *shared);
 
 /* ---- A kernel ---- */
 
-/* What a seat has seen: how many calls, of which shared kernel: where it stands, and since when. */
+/* What a seat has seen: how many calls, of which a batch counts as one, and of which shared kernel: where it stands, and since when. */
 typedef struct {
     uint64_t at, since, calls;
 } histar_note;
@@ -427,7 +432,6 @@ static inline uint32_t histar_shared_released(histar_shared *shared, uint32_t re
  * is closed stays so. HISTAR_BUSY where another thread opens a seat. */
 __attribute__((nonnull)) static inline uint32_t histar_unshare(histar_shared *shared)
 {
-    if (!histar_is_shared(shared)) return HISTAR_DONE;
     if (histar_shared_taken(shared)) return HISTAR_BUSY;
     if (histar_is_shared(shared)) {
         histar_shared_end(shared->room);
@@ -461,8 +465,8 @@ static inline uint32_t histar_seat_boots(histar *seat, histar_shared *shared)
 /* Opens a seat, which is a kernel to every function below: one call at a time uses it, and the seats of one shared kernel are used at
  * once. All of them are in one state: each write call stands in one list, and a call through a seat first plays what others added to
  * it since, on the seat's own kernel. No lock is taken: a read waits for nobody, and a write is refused HISTAR_BUSY only where
- * another thread stands still in the middle of adding its call. A seat keeps no log of its own: histar_log_on is refused
- * HISTAR_BAD_BATCH, and so is a look-up of histar_debug.h. histar_close ends it.
+ * another thread stands still in the middle of adding its call. A seat has a log from the start, that of all seats: histar_dump is of
+ * what it has seen, and histar_log_on is refused HISTAR_BAD_BATCH, as is a look-up of histar_debug.h. histar_close ends it.
  * HISTAR_UNAVAILABLE where there is no memory or the shared kernel is not open, HISTAR_BUSY where another thread opens a seat of it or
  * the seat is open. */
 HISTAR_LOOKED_AT(1, 2)
@@ -477,11 +481,14 @@ static inline uint32_t histar_seat_open(histar *seat, histar_shared *shared)
     return histar_released(seat, refusal);
 }
 
-/* Opens a kernel for threads to share, with the limits of histar_open_with, whose list has room for so many write calls. Refused as
- * histar_open_with, which it finds out by a seat that it ends again. */
+/* No bound on the write calls of a shared kernel but that of memory. */
+#define HISTAR_ANY_NUMBER UINT64_MAX
+
+/* Opens a kernel for threads to share, with the limits of histar_open_with, whose list may have so many write calls, of which a batch
+ * counts as one. The list takes memory as it grows. Refused as histar_open_with, which it finds out by a seat that it ends again. */
 HISTAR_LOOKED_AT(1)
 static inline uint32_t histar_share_with(histar_shared *shared, uint64_t pages, uint64_t device_level, uint64_t next_id,
-                                         uint64_t next_category, uint64_t calls)
+                                         uint64_t next_category, uint64_t most)
 {
     histar tried = HISTAR_INIT;
     struct timespec since;
@@ -490,7 +497,7 @@ static inline uint32_t histar_share_with(histar_shared *shared, uint64_t pages, 
     if (histar_shared_taken(shared)) return HISTAR_BUSY;
     if (histar_is_shared(shared)) return histar_shared_released(shared, HISTAR_BUSY);
     if (histar_shared_size() > sizeof shared->room) return histar_shared_released(shared, HISTAR_UNAVAILABLE);
-    histar_shared_boot((uint32_t)pages, histar_level_byte(device_level), next_id, next_category, calls, shared->room);
+    histar_shared_boot((uint32_t)pages, histar_level_byte(device_level), next_id, next_category, most, shared->room);
     refusal = HISTAR_UNAVAILABLE;
     if (timespec_get(&since, TIME_UTC)) refusal = histar_seat_boots(&tried, shared);
     if (!refusal) {
@@ -507,9 +514,9 @@ static inline uint32_t histar_share_with(histar_shared *shared, uint64_t pages, 
 
 /* The same, with the limits of histar_open. */
 HISTAR_LOOKED_AT(1)
-static inline uint32_t histar_share(histar_shared *shared, uint64_t pages, uint64_t calls)
+static inline uint32_t histar_share(histar_shared *shared, uint64_t pages, uint64_t most)
 {
-    return histar_share_with(shared, pages, 1, 4, 1, calls);
+    return histar_share_with(shared, pages, 1, 4, 1, most);
 }
 
 /* ---- How the functions below fill a record and read an answer ---- */
@@ -1070,6 +1077,41 @@ static inline uint32_t histar_learn(histar *seat, histar_note note)
     return histar_done(seat);
 }
 
+/* ---- Batches of a seat ---- */
+
+/* Makes 1 to 16 write calls of a thread at once: no other call stands between them, and no seat sees some of them without the rest.
+ * Each is a record with its number, 1 to 24, and the fields that the function of the call fills, but for the thread. Each is answered
+ * in the state that those before it leave; one that is refused changes nothing, and the rest are made. The answers tell the replies;
+ * that to a refused call has 12 as its reply, and the refusal as its first number. HISTAR_BAD_BATCH of a kernel that is no seat, of
+ * another number of calls, and where a record is no write call; HISTAR_MEMORY, HISTAR_BUSY and HISTAR_LIST_FULL as of one call: no
+ * call is made then, and nothing is written into the answers. */
+HISTAR_LOOKED_AT(1, 3, 5)
+static inline uint32_t histar_batch(histar *seat, histar_object thread, const histar_request *calls, size_t count,
+                                    histar_answer *answers)
+{
+    size_t at;
+    uint32_t refusal = histar_asks(seat, HISTAR_CALL_BATCH_BEGIN, thread, HISTAR_NOWHERE);
+    if (refusal) return refusal;
+    refusal = histar_serves(seat);
+    for (at = 0; !refusal && at < count; at++) {
+        seat->request = calls[at];
+        seat->request.call = calls[at].call <= HISTAR_CALL_DEV_RECV ? calls[at].call + HISTAR_CALL_IN_BATCH : 0;
+        refusal = histar_serves(seat);
+    }
+    seat->request.thread = thread.id;
+    seat->request.call = HISTAR_CALL_BATCH_MAKE;
+    if (!refusal) refusal = histar_serves(seat);
+    seat->request.call = HISTAR_CALL_BATCH_TOLD;
+    for (at = 0; !refusal && at < count; at++) {
+        memset(&seat->answer, 0, sizeof seat->answer);
+        seat->request.numbers[0] = at;
+        if (histar_serves(seat) != HISTAR_DONE && seat->answer.reply != 12) break; /* (no reply is told otherwise) */
+        answers[at] = seat->answer;
+    }
+    histar_wipes(&seat->request, sizeof seat->request);
+    return histar_told(seat, refusal);
+}
+
 /* ---- The log: each write call since histar_open, refused or not, with its answer. Its dump is the text that
  * `./histar run --dump` writes of a run, and histar-audit tells whether its answers are those of the rules. ---- */
 
@@ -1083,7 +1125,8 @@ static inline uint32_t histar_log_on(histar *k)
     return histar_done(k);
 }
 
-/* Writes the text of the log's dump, and its length in bytes to *needed; no zero byte ends it. HISTAR_BOUNDS where it is
+/* Writes the text of the log's dump, and its length in bytes to *needed; no zero byte ends it. Of a seat it is the dump of what the seat
+ * has seen, with all calls that it was told of by a note. HISTAR_BOUNDS where it is
  * longer than `size`: nothing but *needed is written then. HISTAR_BAD_BATCH where no log was begun, HISTAR_TEXT_MEMORY
  * where there is no memory for the text. The log stays as it is, so it may be dumped again, and calls may follow. */
 HISTAR_LOOKED_AT(1, 4)

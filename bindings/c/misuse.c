@@ -290,7 +290,6 @@ static uint32_t shared_twice(void) { return histar_share(&shared, 8, 3); }
 static uint32_t shared_with_seven_pages(void) { return histar_share(&unshared, 7, 3); }
 static uint32_t shared_with_far_more_pages(void) { return histar_share(&unshared, FAR + 64, 3); }
 static uint32_t shared_with_a_device_at_257(void) { return histar_share_with(&unshared, 64, 257, 4, 1, 3); }
-static uint32_t shared_with_room_for_all_calls(void) { return histar_share(&unshared, 8, UINT64_MAX); }
 static uint32_t unshared_twice(void) { return histar_unshare(&unshared); }
 static uint32_t seat_of_a_bare_one(void) { return histar_seat_open(&unseated, &bare); }
 static uint32_t seat_of_an_unshared_one(void) { return histar_seat_open(&unseated, &unshared); }
@@ -404,6 +403,27 @@ static uint32_t opened_after_a_seat(void)
     must(histar_close(&it));
     return refusal;
 }
+/* A batch of so many calls, all of this number. */
+static uint32_t is_batched(histar *kernel, uint32_t call, size_t count)
+{
+    static histar_request calls[17];
+    static histar_answer answers[17];
+    memset(calls, 0, sizeof calls);
+    for (size_t i = 0; i < 17; i++) calls[i].call = call;
+    return histar_batch(kernel, HISTAR_BOOT, calls, count, answers);
+}
+static uint32_t batch_of_nothing(void) { return is_batched(&seat, HISTAR_CALL_CAT_CREATE, 0); }
+static uint32_t batch_of_seventeen(void) { return is_batched(&seat, HISTAR_CALL_CAT_CREATE, 17); }
+static uint32_t batch_of_a_read(void) { return is_batched(&seat, HISTAR_CALL_SELF_GET, 1); }
+static uint32_t batch_of_no_call(void) { return is_batched(&seat, 0, 1); }
+static uint32_t batch_of_a_call_in_a_batch(void) { return is_batched(&seat, HISTAR_CALL_IN_BATCH + HISTAR_CALL_CAT_CREATE, 1); }
+static uint32_t batch_by_a_kernel(void) { return is_batched(&k, HISTAR_CALL_CAT_CREATE, 1); }
+static uint32_t batch_by_a_closed_seat(void) { return is_batched(&unseated, HISTAR_CALL_CAT_CREATE, 1); }
+static uint32_t seat_dumped_into_too_little(void)
+{
+    size_t needed = 0;
+    return histar_dump(&seat, place, 1, &needed);
+}
 static uint32_t calls_past_the_room(void)
 {
     histar_shared other = HISTAR_SHARED_INIT;
@@ -496,7 +516,6 @@ static const struct row {
     {"a share of 7 pages", HISTAR_BAD_LIMITS, shared_with_seven_pages},
     {"a share of 2^32 + 64 pages", HISTAR_BAD_LIMITS, shared_with_far_more_pages},
     {"a share with a device at level 257", HISTAR_BAD_LIMITS, shared_with_a_device_at_257},
-    {"a share with room for 2^64 - 1 calls", HISTAR_UNAVAILABLE, shared_with_room_for_all_calls},
     {"a second unshare", HISTAR_DONE, unshared_twice},
     {"a seat of what was never shared", HISTAR_UNAVAILABLE, seat_of_a_bare_one},
     {"a seat after the unshare", HISTAR_UNAVAILABLE, seat_of_an_unshared_one},
@@ -519,6 +538,14 @@ static const struct row {
     {"a look-up by a seat", HISTAR_BAD_BATCH, look_up_by_a_seat},
     {"a kernel after a seat", HISTAR_DONE, opened_after_a_seat},
     {"a call past the list's room", HISTAR_LIST_FULL, calls_past_the_room},
+    {"a batch of no calls", HISTAR_BAD_BATCH, batch_of_nothing},
+    {"a batch of 17 calls", HISTAR_BAD_BATCH, batch_of_seventeen},
+    {"a batch of a read call", HISTAR_BAD_BATCH, batch_of_a_read},
+    {"a batch of what is no call", HISTAR_BAD_BATCH, batch_of_no_call},
+    {"a batch of a call that is in a batch", HISTAR_BAD_BATCH, batch_of_a_call_in_a_batch},
+    {"a batch by a kernel", HISTAR_BAD_BATCH, batch_by_a_kernel},
+    {"a batch by a closed seat", HISTAR_UNAVAILABLE, batch_by_a_closed_seat},
+    {"a dump of a seat into one byte", HISTAR_BOUNDS, seat_dumped_into_too_little},
     {"a call after a seat's close with the key in it", HISTAR_UNAVAILABLE, shared_key_after_a_close},
 };
 

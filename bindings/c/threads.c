@@ -1,10 +1,11 @@
-/* Threads share one kernel, each through a seat of its own, with no lock but one for the notes that they leave one another. Each makes segments and writes numbers, and
- * reads what the others write: no id is given twice or left out, no read goes back, each thread sees its own writes and what it was
- * told of, and a seat that comes late is in the state of the others. This is done again and again, for so many seconds. Then a thread
- * is stopped in the middle of adding a call: reads go on, and a write is refused 46 and is made once the thread goes on. For that the
- * thread is stopped wherever it is, until it is there; with 0 tries it is left out.
+/* Threads share one kernel, each through a seat of its own, with no lock but one for the notes that they leave one another. Each makes
+ * segments and writes numbers, some of them in batches, and reads what the others write: no id is given twice or left out, no read goes
+ * back, each thread sees its own writes and what it was told of, no batch is seen in part, and a seat that comes late is in the state of
+ * the others. This is done again and again, for so many seconds. Then a thread is stopped in the middle of adding a call: reads go on,
+ * and a write is refused 46 and is made once the thread goes on. For that the thread is stopped wherever it is, until it is there; with
+ * 0 tries it is left out. At last each seat of a shorter history writes the dump of what it has seen into a folder, if one is given.
  *
- * threads [SECONDS TRIES]   2 seconds and 3,000 tries without words */
+ * threads [SECONDS TRIES FOLDER]   2 seconds and 3,000 tries without words */
 #define _GNU_SOURCE
 #include "histar.h"
 #include <pthread.h>
@@ -13,11 +14,12 @@
 #include <stdlib.h>
 #include <time.h>
 
-enum { THREADS = 8, MOST = 5000, ROOM = 3 * THREADS * MOST + 1000 };
+enum { THREADS = 8, MOST = 5000, FEW = 200, BATCH_EACH = 4 };
 
 static histar_shared shared;
 static histar seats[THREADS], late;
-static histar_object segments[THREADS], made[THREADS][MOST];
+static histar_object segments[THREADS], left[THREADS], right[THREADS], made[THREADS][MOST];
+static long rounds;
 static uint64_t told[THREADS];       /* the number that each thread wrote last, in ordinary memory */
 static pthread_barrier_t start;
 
@@ -53,6 +55,29 @@ static uint64_t reads(histar *seat, histar_object segment)
     return eight[0];
 }
 
+/* The record of such a write. */
+static histar_request writing(histar_object segment, uint64_t number)
+{
+    histar_request request;
+    memset(&request, 0, sizeof request);
+    request.call = HISTAR_CALL_SEGMENT_WRITE;
+    request.container = HISTAR_ROOT.id;
+    request.object = segment.id;
+    request.len = 64;
+    for (int i = 0; i < 8; i++) memcpy(request.bytes + 8 * i, &number, 8);
+    return request;
+}
+
+/* One batch: a number into two segments, with a call between them that is refused and changes nothing. */
+static void writes_both(histar *seat, size_t me, uint64_t number)
+{
+    histar_request calls[3] = {writing(left[me], number), writing(HISTAR_DEVICE, number), writing(right[me], number)};
+    histar_answer answers[3];
+    done(histar_batch(seat, HISTAR_BOOT, calls, 3, answers));
+    must(answers[0].reply == 0 && answers[2].reply == 0, "a call of a batch was refused");
+    must(answers[1].reply == 12 && answers[1].numbers[0] == HISTAR_WRONG_TYPE, "a call of a batch was not refused");
+}
+
 static void *work(void *given)
 {
     size_t me = (size_t)given;
@@ -60,11 +85,12 @@ static void *work(void *given)
     histar_label plain = histar_level(1);
     uint64_t last[THREADS] = {0};
     pthread_barrier_wait(&start);
-    for (long round = 0; round < MOST; round++) {
+    for (long round = 0; round < rounds; round++) {
         done(histar_segment_create(seat, HISTAR_BOOT, HISTAR_ROOT, &plain, 1, 0, &made[me][round]));
         done(histar_unref(seat, HISTAR_BOOT, in_root(made[me][round])));
         writes(seat, segments[me], (uint64_t)round);
         __atomic_store_n(&told[me], (uint64_t)round, __ATOMIC_SEQ_CST);
+        if (round % BATCH_EACH == 0) writes_both(seat, me, (uint64_t)round);
         if (round % 16 == 0) {
             histar_note note;
             size_t from = (me + 1) % THREADS;
@@ -83,6 +109,9 @@ static void *work(void *given)
             must(read >= at_least, "a read did not see a call that had returned");
             must(other != me || read == (uint64_t)round, "a thread does not see its own write");
             last[other] = read;
+            read = reads(seat, left[other]);
+            must(reads(seat, right[other]) >= read, "a batch was seen in part");
+            must(other != me || read == (uint64_t)(round - round % BATCH_EACH), "a thread does not see its own batch");
         }
     }
     return NULL;
@@ -98,43 +127,66 @@ static int compare(const void *one, const void *other)
 static void counts_ids(void)
 {
     static uint64_t all[THREADS * MOST];
-    size_t count = THREADS * (size_t)MOST;
+    size_t count = THREADS * (size_t)rounds;
     for (size_t i = 0; i < count; i++) all[i] = made[i % THREADS][i / THREADS].id;
     qsort(all, count, sizeof *all, compare);
-    for (size_t i = 0; i < count; i++) must(all[i] == segments[THREADS - 1].id + 1 + i, "an id was given twice, or left out");
+    for (size_t i = 0; i < count; i++) must(all[i] == right[THREADS - 1].id + 1 + i, "an id was given twice, or left out");
 }
 
 /* A shared kernel with a seat and a segment for each thread. */
-static void opens(uint64_t room)
+static void opens(void)
 {
     histar_label plain = histar_level(1);
-    done(histar_share(&shared, 64, room));
+    done(histar_share(&shared, 64, HISTAR_ANY_NUMBER));
     for (size_t i = 0; i < THREADS; i++) done(histar_seat_open(&seats[i], &shared));
     for (size_t i = 0; i < THREADS; i++) {
         done(histar_segment_create(&seats[i], HISTAR_BOOT, HISTAR_ROOT, &plain, 2, 1, &segments[i]));
         told[i] = 0;
         memset(&notes[i], 0, sizeof notes[i]);
     }
+    for (size_t i = 0; i < THREADS; i++) {
+        done(histar_segment_create(&seats[i], HISTAR_BOOT, HISTAR_ROOT, &plain, 2, 1, &left[i]));
+        done(histar_segment_create(&seats[i], HISTAR_BOOT, HISTAR_ROOT, &plain, 2, 1, &right[i]));
+    }
+}
+
+/* The dump of what a seat has seen, in a file of the folder. */
+static void dumps(histar *seat, const char *folder, size_t number)
+{
+    char name[4096];
+    size_t needed = 0;
+    char *text;
+    FILE *file;
+    snprintf(name, sizeof name, "%s/seat-%zu", folder, number);
+    must(histar_dump(seat, NULL, 0, &needed) == HISTAR_BOUNDS, "the length of a dump was not told");
+    text = malloc(needed);
+    file = fopen(name, "wb");
+    must(text && file, "no room for a dump");
+    done(histar_dump(seat, text, needed, &needed));
+    must(fwrite(text, 1, needed, file) == needed && !fclose(file), "a dump was not written");
+    free(text);
 }
 
 /* A seat that comes late is in the state of the others. */
-static void closes(void)
+static void closes(const char *folder)
 {
     done(histar_seat_open(&late, &shared));
     done(histar_unshare(&shared));
+    for (size_t i = 0; folder && i < THREADS; i++) dumps(&seats[i], folder, i);
     for (size_t i = 0; i < THREADS; i++) must(reads(&late, segments[i]) == reads(&seats[THREADS - 1 - i], segments[i]), "a late seat is in another state");
     for (size_t i = 0; i < THREADS; i++) done(histar_close(&seats[i]));
     done(histar_close(&late));
 }
 
-static void storm(void)
+static void storm(long so_many, const char *folder)
 {
     pthread_t threads[THREADS];
-    opens(ROOM);
+    rounds = so_many;
+    opens();
     for (size_t i = 0; i < THREADS; i++) must(!pthread_create(&threads[i], NULL, work, (void *)i), "no thread");
     for (size_t i = 0; i < THREADS; i++) pthread_join(threads[i], NULL);
     counts_ids();
-    closes();
+    closes(folder);
 }
 
 /* ---- A thread that is stopped in the middle of adding a call ---- */
@@ -165,7 +217,7 @@ static long stops_in_the_middle(long most)
     uint64_t eight[8] = {0};
     uint32_t refusal = HISTAR_DONE;
     signal(SIGUSR1, stands);
-    opens(1000000);
+    opens();
     must(!pthread_create(&writer, NULL, writes_on, NULL), "no thread");
     while (refusal != HISTAR_BUSY && tries++ < most) {
         __atomic_store_n(&go_on, 0, __ATOMIC_SEQ_CST);
@@ -182,7 +234,7 @@ static long stops_in_the_middle(long most)
     __atomic_store_n(&stop, 1, __ATOMIC_SEQ_CST);
     pthread_join(writer, NULL);
     must(refusal == HISTAR_BUSY, "the writer was never stopped in the middle of adding its call");
-    closes();
+    closes(NULL);
     return tries;
 }
 
@@ -191,8 +243,9 @@ int main(int count, char **words)
     time_t until = time(NULL) + (count > 1 ? atoi(words[1]) : 2);
     long most = count > 2 ? atol(words[2]) : 3000, storms = 0;
     pthread_barrier_init(&start, NULL, THREADS);
-    do storm(), storms++;
+    do storm(MOST, NULL), storms++;
     while (time(NULL) < until);
-    printf("%d threads: %ld histories of %d calls that write, each one list\n", THREADS, storms, 3 * THREADS * MOST + THREADS);
+    printf("%d threads: %ld histories of %d calls that write, each one list\n", THREADS, storms, (3 * MOST + 3 * MOST / BATCH_EACH + 3) * THREADS);
     if (most) printf("a thread was stopped in the middle of adding a call, at try %ld, and reads went on\n", stops_in_the_middle(most));
+    if (count > 3) storm(FEW, words[3]);
 }

@@ -1,19 +1,29 @@
 -- What the exports do to what C's memory holds, and what C is told.
-use Rattle.std.specs.Prelude.{◌≡◌, ◌⊎◌, ℕ, List, [], ◌∷◌, Bool, length, if◌then◌else◌, Option, Some, None, option_map, Result, Ok, Err}
+use Rattle.std.specs.Prelude.{◌≡◌, ◌≢◌, ◌⊎◌, ◌↔◌, ℕ, List, [], ◌∷◌, ◌++◌, Bool, false, length, take, drop, nat_lt, slice_get, if◌then◌else◌, Option, Some, None, option_map, Result, Ok, Err}
 use Rattle.std.specs.Bool.{MatchBool}
 use Rattle.base.specs.Limits.{in_range}
 use Rattle.base.specs.declared.ranges.Limits.{Limits}
+use Rattle.dump_text.specs.Boot.{boot_dump, IsBootDump}
+use Rattle.dump_text.specs.Dump.{dump_text}
+use Rattle.histories.specs.History.{is_batch}
 use Rattle.kernel_rules.specs.declared.calls.Call.{Call}
 use Rattle.kernel_rules.specs.declared.calls.Query.{Query}
 use Rattle.kernel_rules.specs.declared.replies.Reply.{Reply}
+use Rattle.kernel_rules.specs.declared.replies.Reply.TheVariants as replies
 use Rattle.call_records.specs.Calls.{call_of}
 use Rattle.call_records.specs.Labels.{level_of}
+use Rattle.call_records.specs.Logs.{log_request_of, TellsLength}
 use Rattle.call_records.specs.Queries.{query_of}
 use Rattle.call_records.specs.Told.{Has, Tells, refusal_number}
+use Rattle.call_records.specs.declared.logs.LogRequest.{LogRequest}
+use Rattle.call_records.specs.declared.logs.LogRequest.TheVariants as logs
 use Rattle.call_records.specs.declared.records.Answer.{Answer}
 use Rattle.call_records.specs.declared.records.Request.{Request}
-use Rattle.shared_calls.specs.Seats.{SharedView, SeatView, seat_with, IsLater, IsLearned, IsRead, IsSubmitted}
-use Rattle.shared_c.specs.Asking.{seat_request_of}
+use Rattle.shared_calls.specs.Events.{events_of}
+use Rattle.shared_calls.specs.Seats.{SharedView, SeatView, IsBatchSubmitted, IsLater, IsLearned, IsOpened, IsRead, IsSubmitted}
+use Rattle.shared_calls.specs.declared.seats.SubmitRefusal.{SubmitRefusal}
+use Rattle.shared_calls.specs.declared.seats.SubmitRefusal.TheVariants as refusals
+use Rattle.shared_c.specs.Asking.{batch_call_of, seat_request_of}
 use Rattle.shared_c.specs.declared.asking.SeatRequest.{SeatRequest}
 use Rattle.shared_c.specs.declared.asking.SeatRequest.TheVariants as seats
 use Rattle.shared_c.specs.declared.held.KeptSeat.{KeptSeat}
@@ -39,48 +49,156 @@ abbrev pub seat_in : Result KeptSeat ℕ → Result SeatView ℕ
 seat_in (Ok kept) = Ok kept.seat
 seat_in (Err why) = Err why
 
--- a seat of the share that has seen no call; or 30 for want of memory, or why there is no share
+-- a seat of the share that has seen no batch; or 30 for want of memory, or why there is no share
 abbrev pub IsSeat : Result SharedView ℕ → Result SeatView ℕ → Type 0
-IsSeat (Ok shared) (Ok seat) = seat ≡ seat_with shared.limits shared.list []
+IsSeat (Ok shared) (Ok seat) = IsOpened shared seat
 IsSeat (Ok shared) (Err why) = why ≡ 30
 IsSeat (Err why) seat = seat ≡ Err why
+
+-- the number that tells why calls are not made
+abbrev pub number_of : SubmitRefusal → ℕ
+number_of refusals.Memory = 40
+number_of refusals.BadBatch = 45
+number_of refusals.Busy = 46
+number_of refusals.Full = 47
 
 -- the number is that of the reply's refusal, 0 for none, and the record tells the reply
 abbrev pub IsTold : Reply → ℕ → Answer → Type 0
 IsTold reply number told = (number ≡ refusal_number reply) × Tells reply told
 
--- 40 for want of memory, 46 where another seat adds its call, 47 where the list has no room
+-- 40 for want of memory, 46 where another seat adds a batch, 47 where the list has no room
 abbrev pub IsUnmade : ℕ → Type 0
-IsUnmade number = (number ≡ 40) ⊎ ((number ≡ 46) ⊎ (number ≡ 47))
+IsUnmade number = (refusal : SubmitRefusal) × (refusal ≢ refusals.BadBatch) × (number ≡ number_of refusal)
+
+-- what is kept beside the seat: the calls for a batch, the replies of the last one, and the text of the last dump
+abbrev pub SameCalls : KeptSeat → KeptSeat → Type 0
+SameCalls before after = after.calls.items ≡ before.calls.items
+
+abbrev pub SameReplies : KeptSeat → KeptSeat → Type 0
+SameReplies before after = after.replies.items ≡ before.replies.items
+
+abbrev pub SameText : KeptSeat → KeptSeat → Type 0
+SameText before after = after.text.items ≡ before.text.items
+
+abbrev pub SameBeside : KeptSeat → KeptSeat → Type 0
+SameBeside before after = SameCalls before after × SameReplies before after × SameText before after
+
+-- nothing is done and nothing is told but this number
+abbrev pub IsRefused : ℕ → KeptSeat → KeptSeat → ℕ → Answer → Answer → Type 0
+IsRefused why before after number old told =
+    (after.seat ≡ before.seat) × SameBeside before after × (number ≡ why) × (told ≡ old)
 
 -- the call is the last that the seat has then seen, and its answer is told; or it is not made, and the seat has only seen more
-abbrev pub IsCalled : Call → ℕ → SeatView → SeatView → ℕ → Answer → Answer → Type 0
-IsCalled call thread before after number old told =
+abbrev pub IsCallMade : Call → ℕ → SeatView → SeatView → ℕ → Answer → Answer → Type 0
+IsCallMade call thread before after number old told =
     ((reply : Reply) × IsSubmitted thread before call reply after × IsTold reply number told)
     ⊎ (IsLater before after × IsUnmade number × (told ≡ old))
 
--- the seat has then seen so many calls, and the number is 0; or the list has fewer, and it is 48
+abbrev pub IsCalled : Call → ℕ → KeptSeat → KeptSeat → ℕ → Answer → Answer → Type 0
+IsCalled call thread before after number old told =
+    IsCallMade call thread before.seat after.seat number old told × SameBeside before after
+
+-- the reply is the answer in the state of what the seat has then seen, and is told
+abbrev pub IsQueried : Query → ℕ → KeptSeat → KeptSeat → ℕ → Answer → Answer → Type 0
+IsQueried query thread before after number old told =
+    ((reply : Reply) × IsRead thread before.seat query reply after.seat × IsTold reply number told)
+    × SameBeside before after
+
+-- the seat has then seen so many batches, and the number is 0; or the list has fewer, and it is 48
 abbrev pub IsNoteLearned : ℕ → SeatView → SeatView → ℕ → Type 0
 IsNoteLearned count before after number =
     (learned : Bool) × IsLearned count before learned after × (number ≡ (if learned then 0 else 48))
 
--- what is asked of the seat is done; where nothing is, nothing changes and the number is 45
-abbrev pub IsAsked : Option SeatRequest → SeatView → SeatView → ℕ → Answer → Answer → Type 0
-IsAsked (Some seats.Seen) before after number old told =
-    (after ≡ before) × (number ≡ 0) × Has 15 (length before.seen ∷ []) told
-IsAsked (Some (seats.Learn count)) before after number old told = IsNoteLearned count before after number × (told ≡ old)
-IsAsked None before after number old told = (after ≡ before) × (number ≡ 45) × (told ≡ old)
+-- no call is kept for a batch
+abbrev pub IsBegun : KeptSeat → KeptSeat → Type 0
+IsBegun before after =
+    (after.seat ≡ before.seat) × (after.calls.items ≡ []) × SameReplies before after × SameText before after
+
+-- the call is kept after those that were, or there is no memory for it; where 16 are kept it is not
+abbrev pub AreCallsThen : Call → List Call → List Call → ℕ → Type 0
+AreCallsThen call before after number =
+    MatchBool (nat_lt (length before) 16)
+    (((after ≡ before ++ call ∷ []) × (number ≡ 0)) ⊎ ((after ≡ before) × (number ≡ 40)))
+    ((after ≡ before) × (number ≡ 45))
+
+abbrev pub IsCallKept : Call → KeptSeat → KeptSeat → ℕ → Type 0
+IsCallKept call before after number =
+    (after.seat ≡ before.seat) × AreCallsThen call before.calls.items after.calls.items number
+    × SameReplies before after × SameText before after
+
+-- the calls that were kept are the last batch that the seat has then seen, and these are their replies; or none of them is made, and
+-- the seat has only seen more: 45 where they are no batch, and else 40, 46 or 47
+abbrev pub IsBatchMade : ℕ → List Call → KeptSeat → KeptSeat → ℕ → Type 0
+IsBatchMade thread calls before after number =
+    (IsBatchSubmitted thread before.seat calls after.replies.items after.seat × (number ≡ 0))
+    ⊎ (IsLater before.seat after.seat × SameReplies before after
+    × ((refusal : SubmitRefusal) × (number ≡ number_of refusal)
+    × ((refusal ≡ refusals.BadBatch) ↔ (is_batch calls ≡ false))))
+
+abbrev pub IsBatchCalled : ℕ → KeptSeat → KeptSeat → ℕ → Type 0
+IsBatchCalled thread before after number =
+    IsBatchMade thread before.calls.items before after number × SameCalls before after × SameText before after
+
+-- the reply to a call of the last batch is told, and the number of its refusal; 45 where there is no such call
+abbrev pub IsReplyAt : Option Reply → ℕ → Answer → Answer → Type 0
+IsReplyAt (Some reply) number old told = IsTold reply number told
+IsReplyAt None number old told = (number ≡ 45) × (told ≡ old)
+
+abbrev pub IsReplyTold : ℕ → KeptSeat → KeptSeat → ℕ → Answer → Answer → Type 0
+IsReplyTold at before after number old told =
+    (after.seat ≡ before.seat) × SameBeside before after
+    × IsReplyAt (slice_get before.replies.items at) number old told
+
+-- what is asked of the seat is done
+abbrev pub IsAsked : SeatRequest → ℕ → KeptSeat → KeptSeat → ℕ → Answer → Answer → Type 0
+IsAsked seats.Seen thread before after number old told =
+    (after.seat ≡ before.seat) × SameBeside before after × (number ≡ 0) × Has 15 (length before.seat.seen ∷ []) told
+IsAsked (seats.Learn count) thread before after number old told =
+    IsNoteLearned count before.seat after.seat number × SameBeside before after × (told ≡ old)
+IsAsked seats.Begin thread before after number old told = IsBegun before after × (number ≡ 0) × (told ≡ old)
+IsAsked seats.Make thread before after number old told = IsBatchCalled thread before after number × (told ≡ old)
+IsAsked (seats.Told at) thread before after number old told = IsReplyTold at before after number old told
+
+-- the text is the dump of what the seat has seen, a legal list of events, and its length is told
+abbrev pub IsText : SeatView → List ℕ → ℕ → Answer → Type 0
+IsText seat text number told =
+    (text ≡ dump_text (boot_dump seat.limits (events_of seat.limits seat.seen)))
+    × IsBootDump seat.limits text × (number ≡ 0) × TellsLength text told
+
+-- that text is made; or there is no memory for it, and the number is 51
+abbrev pub IsDumped : KeptSeat → KeptSeat → ℕ → Answer → Answer → Type 0
+IsDumped before after number old told =
+    ((after.seat ≡ before.seat) × SameCalls before after × SameReplies before after
+    × IsText before.seat after.text.items number told)
+    ⊎ IsRefused 51 before after number old told
+
+-- what is asked of the log is done; it does not begin
+abbrev pub IsLogAsked : LogRequest → KeptSeat → KeptSeat → ℕ → Answer → Answer → Type 0
+IsLogAsked logs.Begin before after number old told = IsRefused 45 before after number old told
+IsLogAsked logs.Dump before after number old told = IsDumped before after number old told
+IsLogAsked (logs.Text from) before after number old told =
+    (after.seat ≡ before.seat) × SameBeside before after
+    × IsTold (replies.Bytes (take 64 (drop from before.text.items))) number told
+
+-- what is asked of the seat, of its log or for a batch is done; where nothing is, nothing changes and the number is 45
+abbrev pub IsOther : Option SeatRequest → Option LogRequest → Option Call → ℕ → KeptSeat → KeptSeat → ℕ → Answer → Answer → Type 0
+IsOther (Some asked) log call thread before after number old told = IsAsked asked thread before after number old told
+IsOther None (Some asked) call thread before after number old told = IsLogAsked asked before after number old told
+IsOther None None (Some call) thread before after number old told = IsCallKept call before after number × (told ≡ old)
+IsOther None None None thread before after number old told = IsRefused 45 before after number old told
 
 -- exactly what is asked for is done
-abbrev pub IsDone : Option Call → Option Query → Option SeatRequest → ℕ → SeatView → SeatView → ℕ → Answer → Answer → Type 0
-IsDone (Some call) query asked thread before after number old told = IsCalled call thread before after number old told
-IsDone None (Some query) asked thread before after number old told =
-    (reply : Reply) × IsRead thread before query reply after × IsTold reply number told
-IsDone None None asked thread before after number old told = IsAsked asked before after number old told
+abbrev pub IsDoneAs : Option Call → Option Query → Request → KeptSeat → KeptSeat → ℕ → Answer → Answer → Type 0
+IsDoneAs (Some call) query request before after number old told = IsCalled call request.thread before after number old told
+IsDoneAs None (Some query) request before after number old told = IsQueried query request.thread before after number old told
+IsDoneAs None None request before after number old told =
+    IsOther (seat_request_of request) (log_request_of request) (batch_call_of request) request.thread before after number old told
+
+abbrev pub IsDone : Request → KeptSeat → KeptSeat → ℕ → Answer → Answer → Type 0
+IsDone request before after number old told = IsDoneAs (call_of request) (query_of request) request before after number old told
 
 -- the same, where a seat may be held; where none is, nothing changes and the number is why
 abbrev pub IsServed : Request → Result KeptSeat ℕ → Result KeptSeat ℕ → ℕ → Answer → Answer → Type 0
 IsServed request (Ok before) held number old told =
-    (after : KeptSeat) × (held ≡ Ok after)
-    × IsDone (call_of request) (query_of request) (seat_request_of request) request.thread before.seat after.seat number old told
+    (after : KeptSeat) × (held ≡ Ok after) × IsDone request before after number old told
 IsServed request (Err why) held number old told = (held ≡ Err why) × (number ≡ why) × (told ≡ old)

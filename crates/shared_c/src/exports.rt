@@ -10,7 +10,7 @@ use crate::held::{HeldSeat, HeldShare, end_seat, end_share, seated, serve, share
 use call_records::{Answer, Request};
 use std::alloc::Global;
 
-/// A kernel to share, in room for it, with limits as `base::Limits` has them, and a list with room for so many calls. The room
+/// A kernel to share, in room for it, with limits as `base::Limits` has them, and a list of at most so many batches. The room
 /// then holds it, or why there is none: 30 for want of memory, 31 for limits out of range, which each seat's calls tell.
 #[unsafe(no_mangle)]
 pub unsafe extern "C" fn histar_shared_boot(
@@ -42,8 +42,8 @@ pub unsafe extern "C" fn histar_seat_boot(from: *mut u8, alloc: Global, at: *mut
 }
 
 /// Does what the record asks for through the seat, and gives the number of the refusal: 0 for none, 45 where the record asks
-/// for nothing. 40 is want of memory, 46 comes where another seat adds its call at this moment, and 47 where the list has no
-/// room: the call is not made then. Where no seat is held, it gives 30 or 31, and nothing changes.
+/// for nothing. 40 is want of memory, 46 comes where another seat adds a batch at this moment, and 47 where the list has no
+/// room: no call is made then. Where no seat is held, it gives 30 or 31, and nothing changes.
 #[unsafe(no_mangle)]
 pub unsafe extern "C" fn histar_seat_call(
     at: *mut u8,

@@ -1,13 +1,14 @@
 //! What C's memory holds: a kernel that is shared, or a seat of it, or why there is none.
 ghost use Rattle.std.specs.Prelude.{◌≡◌, Some, Ok};
-ghost use Rattle.call_records.specs.Calls.{call_of};
-ghost use Rattle.call_records.specs.Queries.{query_of};
-ghost use Rattle.shared_c.specs.Asking.{seat_request_of};
-ghost use Rattle.shared_c.specs.Served.{IsAsked, IsCalled, IsDone, IsSeat, IsServed, IsShare, limits_of, seat_in};
+ghost use Rattle.call_records.specs.Logs.{log_request_of};
+ghost use Rattle.shared_c.specs.Asking.{batch_call_of, seat_request_of};
+ghost use Rattle.shared_c.specs.Served.{IsAsked, IsCalled, IsDone, IsOther, IsSeat, IsServed, IsShare, limits_of, number_of, seat_in};
 
-use crate::asking::{SeatRequest, seat_request_of, tell_count};
+use crate::asking::{SeatRequest, batch_call_into, seat_request_of, tell_count};
+use crate::batches::{begin, keep, make_batch, tell_reply};
+use crate::dumps::answer_log;
 use base::{Limits, Meter, ObjectId};
-use call_records::{Answer, Request, call_into, level_of, query_of, tell};
+use call_records::{Answer, Request, call_into, level_of, log_request_of, query_of, tell};
 use kernel_rules::{Call, Reply};
 use shared_calls::{Seat, Shared, SubmitRefusal};
 use std::alloc::Global;
@@ -32,6 +33,12 @@ pub struct KeptSeat {
     pub call: Call,
     /// The last reply. A reply is large, so none is made anew.
     pub reply: Reply,
+    /// The calls that are kept for a batch.
+    pub calls: Vec<Call>,
+    /// What the calls of the batch that was made last were answered.
+    pub replies: Vec<Reply>,
+    /// The text of the dump that was made last.
+    pub text: Vec<u8>,
 }
 
 /// A seat, or the number that tells why there is none.
@@ -93,6 +100,9 @@ fn new_seat(alloc: Global, shared: &Shared) -> Result<KeptSeat, u32>
             meter,
             call: Call::CatCreate,
             reply: Reply::Done,
+            calls: Vec::new(alloc),
+            replies: Vec::new(alloc),
+            text: Vec::new(alloc),
         }),
         Err(_) => Err(30),
     }
@@ -109,25 +119,41 @@ pub(crate) fn seated(held: &mut HeldShare, alloc: Global) -> HeldSeat
     HeldSeat { seat }
 }
 
-/// Makes the call that stands in the seat, and gives the number of the refusal: 0 for none, 40 for want of memory, 46 where
-/// another seat adds its call at this moment, 47 where the list has no room.
+/// The number that tells why calls are not made: 40 for want of memory, 45 where they are no batch, 46 where another seat adds a batch
+/// at this moment, 47 where the list has no room.
+pub(crate) fn refusal_number(refusal: SubmitRefusal) -> u32
+    ensures { result ≡ number_of refusal }
+{
+    match refusal {
+        SubmitRefusal::Memory => 40,
+        SubmitRefusal::BadBatch => 45,
+        SubmitRefusal::Busy => 46,
+        SubmitRefusal::Full => 47,
+    }
+}
+
+/// Makes the call that stands in the seat, and gives the number of the refusal: 0 for none.
 fn make(kept: &mut KeptSeat, thread: ObjectId, answer: &mut Answer) -> u32
-    ensures { IsCalled kept.old.call thread kept.old.seat kept.new.seat result answer.old answer.new }
+    ensures { IsCalled kept.old.call thread kept.old kept.new result answer.old answer.new }
 {
     let made = kept
         .seat
         .submit_into(kept.alloc, thread, &kept.call, &mut kept.reply);
     match made {
         Ok(()) => tell(&kept.reply, answer, &mut kept.meter),
-        Err(SubmitRefusal::Memory) => 40,
-        Err(SubmitRefusal::Busy) => 46,
-        Err(SubmitRefusal::Full) => 47,
+        Err(refusal) => refusal_number(refusal),
     }
 }
 
-/// Does what is asked of the seat, and gives the number of the refusal: 48 where the list has fewer calls than a note tells.
-fn answer_asked(kept: &mut KeptSeat, asked: SeatRequest, answer: &mut Answer) -> u32
-    ensures { IsAsked (Some asked) kept.old.seat kept.new.seat result answer.old answer.new }
+/// Does what is asked of the seat, and gives the number of the refusal: 48 where the list has fewer batches than a note tells.
+#[inline(never)]
+fn answer_asked(
+    kept: &mut KeptSeat,
+    asked: SeatRequest,
+    thread: ObjectId,
+    answer: &mut Answer,
+) -> u32
+    ensures { IsAsked asked thread kept.old kept.new result answer.old answer.new }
 {
     match asked {
         SeatRequest::Seen => {
@@ -140,13 +166,37 @@ fn answer_asked(kept: &mut KeptSeat, asked: SeatRequest, answer: &mut Answer) ->
             }
             48
         }
+        SeatRequest::Begin => {
+            begin(kept);
+            0
+        }
+        SeatRequest::Make => make_batch(kept, thread),
+        SeatRequest::Told { at } => tell_reply(kept, at, answer),
     }
+}
+
+/// Answers what is no call and no query, and gives the number of the refusal: 45 where the record asks for nothing.
+#[inline(never)]
+fn answer_other(kept: &mut KeptSeat, request: &Request, answer: &mut Answer) -> u32
+    ensures { IsOther (seat_request_of request.now) (log_request_of request.now)
+        (batch_call_of request.now) request.now.thread
+        kept.old kept.new result answer.old answer.new }
+{
+    if let Some(asked) = seat_request_of(request) {
+        return answer_asked(kept, asked, ObjectId::new(request.thread), answer);
+    }
+    if let Some(asked) = log_request_of(request) {
+        return answer_log(kept, asked, answer);
+    }
+    if batch_call_into(request, &mut kept.call).is_some() {
+        return keep(kept);
+    }
+    45
 }
 
 /// Does what the record asks for, and gives the number of the refusal: 45 where the record asks for nothing.
 fn answer_kept(kept: &mut KeptSeat, request: &Request, answer: &mut Answer) -> u32
-    ensures { IsDone (call_of request.now) (query_of request.now) (seat_request_of request.now) request.now.thread
-        kept.old.seat kept.new.seat result answer.old answer.new }
+    ensures { IsDone request.now kept.old kept.new result answer.old answer.new }
 {
     let thread = ObjectId::new(request.thread);
     if call_into(request, &mut kept.call).is_some() {
@@ -156,10 +206,7 @@ fn answer_kept(kept: &mut KeptSeat, request: &Request, answer: &mut Answer) -> u
         kept.seat.read_into(thread, &query, &mut kept.reply);
         return tell(&kept.reply, answer, &mut kept.meter);
     }
-    match seat_request_of(request) {
-        Some(asked) => answer_asked(kept, asked, answer),
-        None => 45,
-    }
+    answer_other(kept, request, answer)
 }
 
 /// The same, or why there is no seat.

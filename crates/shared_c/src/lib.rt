@@ -7,6 +7,8 @@
 #![tactic(auto)]
 
 mod asking;
+mod batches;
+mod dumps;
 mod exports;
 mod held;
 

@@ -2,14 +2,16 @@
 use mathlib.Core.List.{IsPrefix}
 use Rattle.std.specs.Prelude.{ℕ, ◌≡◌, ◌<◌, ◌≤◌, Bool, MatchBool, List, [], ◌∷◌, ◌++◌, length}
 use Rattle.logbook.specs.Pages.{Book}
+use Rattle.histories.specs.Events.{by}
 use Rattle.base.specs.declared.ranges.Limits.{Limits}
-use Rattle.kernel_rules.specs.Runs.{booted, state_after}
+use Rattle.kernel_rules.specs.Runs.{booted, replies_to, state_after}
 use Rattle.kernel_rules.specs.State.{State}
 use Rattle.kernel_rules.specs.Step.{answer, query_answer}
 use Rattle.kernel_rules.specs.declared.calls.Call.{Call}
 use Rattle.kernel_rules.specs.declared.calls.Query.{Query}
 use Rattle.kernel_rules.specs.declared.replies.Reply.{Reply}
-use Rattle.shared_calls.specs.Lists.{Made}
+use Rattle.shared_calls.specs.Lists.{calls_in, made}
+use Rattle.shared_calls.specs.declared.rules.Made.{Made}
 
 -- the limits of the boot, and which list the calls stand in
 pub record SharedView : Type 0 where
@@ -19,42 +21,58 @@ pub record SharedView : Type 0 where
 abbrev pub shared_with : Limits → Book → SharedView
 shared_with limits list = record { limits = limits; list = list }
 
--- the limits of the boot, which list it is, and the beginning of the list that the seat has seen
+-- the limits of the boot, which list it is, the beginning of the list that the seat has seen, and the mark of its next batch
 pub record SeatView : Type 0 where
   pub limits : Limits
   pub list : Book
   pub seen : List Made
+  pub mark : ℕ
 
-abbrev pub seat_with : Limits → Book → List Made → SeatView
-seat_with limits list seen = record { limits = limits; list = list; seen = seen }
+abbrev pub seat_with : Limits → Book → List Made → ℕ → SeatView
+seat_with limits list seen mark = record { limits = limits; list = list; seen = seen; mark = mark }
 
--- the state that calls lead to, after a boot
+-- the state that the calls of batches lead to, after a boot
 abbrev pub state_of : Limits → List Made → State
-state_of limits calls = state_after (booted limits) calls
+state_of limits batches = state_after (booted limits) (calls_in batches)
 
--- the seat has seen no less
+-- a seat that has seen no batch
+abbrev pub IsOpened : SharedView → SeatView → Type 0
+IsOpened shared seat = (mark : ℕ) × (seat ≡ seat_with shared.limits shared.list [] mark)
+
+-- the seat has seen no less, and its mark is as it was
 abbrev pub IsLater : SeatView → SeatView → Type 0
 IsLater before after =
     (after.limits ≡ before.limits) × (after.list ≡ before.list) × IsPrefix before.seen after.seen
+    × (after.mark ≡ before.mark)
 
 -- the reply is the answer in the state of what the seat has then seen
 abbrev pub IsRead : ℕ → SeatView → Query → Reply → SeatView → Type 0
 IsRead thread before query reply after =
     IsLater before after × (reply ≡ query_answer (state_of after.limits after.seen) thread query)
 
--- the call is the last of what the seat has then seen, and the reply is the answer in the state of the calls before it, which
--- begin with all that the seat had seen
+-- the calls are the last batch of what the seat has then seen, with the mark that the seat had; the batches before it begin with
+-- all that the seat had seen, and their state tells of the replies
+abbrev pub IsSubmittedAs : (State → Type 0) → ℕ → SeatView → List Call → SeatView → Type 0
+IsSubmittedAs Tells thread before calls after =
+    (batches : List Made) × (mark : ℕ) × IsPrefix before.seen batches
+    × (after ≡ seat_with before.limits before.list (batches ++ made before.mark thread calls ∷ []) mark)
+    × Tells (state_of before.limits batches)
+
+-- the same of one call: the reply is the answer in that state
 abbrev pub IsSubmitted : ℕ → SeatView → Call → Reply → SeatView → Type 0
 IsSubmitted thread before call reply after =
-    (calls : List Made) × IsPrefix before.seen calls
-    × (after ≡ seat_with before.limits before.list (calls ++ (thread, call) ∷ []))
-    × (reply ≡ answer (state_of before.limits calls) thread call)
+    IsSubmittedAs (λ s. reply ≡ answer s thread call) thread before (call ∷ []) after
 
--- the seat has seen no less, and whether it has seen so many calls
+-- and of any batch: each reply is the answer in the state that the calls before it leave
+abbrev pub IsBatchSubmitted : ℕ → SeatView → List Call → List Reply → SeatView → Type 0
+IsBatchSubmitted thread before calls replies after =
+    IsSubmittedAs (λ s. replies ≡ replies_to s (by thread calls)) thread before calls after
+
+-- the seat has seen no less, and whether it has seen so many batches
 abbrev pub IsLearned : ℕ → SeatView → Bool → SeatView → Type 0
 IsLearned count before learned after =
     IsLater before after × MatchBool learned (count ≤ length after.seen) (length after.seen < count)
 
--- of two lists the second begins the first where the first has no fewer calls, and else the first the second
+-- of two lists the second begins the first where the first has no fewer batches, and else the first the second
 abbrev pub Has : Bool → List Made → List Made → Type 0
 Has has xs ys = MatchBool has (IsPrefix ys xs) (IsPrefix xs ys × (length xs < length ys))

@@ -3,22 +3,29 @@ ghost use Rattle.std.specs.Prelude.{◌≡◌, ◌∷◌};
 ghost use Rattle.shared_calls.specs.Names.{name_of};
 
 use base::ObjectId;
-use boxcar::slot::SlotRule;
+use boxcar::slot::{OnceSlot, SlotRule};
 use boxcar::tag::{Names, Tag};
 use kept_events::KeptCall;
 use kernel_rules::Call;
-use logbook::{Gain, Plain, Play, Rule, Seen, Word};
+use logbook::{Gain, Pen, Plain, Play, Rule, Seen, Word};
 
-/// A call of a thread, as the list has it. No value of it is made.
-pub(crate) type Made = (ObjectId, Call);
+/// A batch of calls of a thread, as the list has it, with the mark that it alone has. No value of it is made.
+pub struct Made {
+    /// The mark.
+    pub mark: u64,
+    /// The thread that calls.
+    pub thread: ObjectId,
+    /// Its calls.
+    pub calls: [Call; 0],
+}
 
-/// The word whose steps add to the list: its length.
-pub(crate) type Head = Word<Made, u64, Law>;
+/// A word that the list knows of.
+pub(crate) type Tracked = Word<Made, u64, Law>;
 
 /// A beginning of the list that was seen.
 pub(crate) type Prefix = Seen<Made, u64, Law>;
 
-/// The rule of the list: its first word is its length.
+/// The rule of the list: its first word is its length, and a batch's mark is the key of a word that came home with it.
 pub(crate) struct Law;
 
 impl Rule<Made, u64> for Law {
@@ -48,7 +55,7 @@ impl Gain<Made, u64> for Nothing {
     ghost after = { λ names about answer. ftrue };
 }
 
-/// A step that adds a call.
+/// A step that adds a batch, and brings the word of its mark home.
 pub(crate) struct Add;
 
 impl Play<Made, u64> for Add {
@@ -57,35 +64,76 @@ impl Play<Made, u64> for Add {
     ghost then = { Adds };
 }
 
-/// A call that is to be added.
+/// A step that gives a mark which no batch has.
+pub(crate) struct Draw;
+
+impl Play<Made, u64> for Draw {
+    ghost use Rattle.shared_calls.specs.Lists.{Draws};
+
+    ghost then = { Draws };
+}
+
+/// A step that changes nothing, with a right to a mark.
+pub(crate) struct Look;
+
+impl Play<Made, u64> for Look {
+    ghost use Rattle.shared_calls.specs.Lists.{Looks};
+
+    ghost then = { Looks };
+}
+
+/// Calls of a thread that are to be added.
 #[derive(Drop)]
 pub(crate) struct Asked<'a> {
     /// The thread that calls.
     pub(crate) thread: ObjectId,
-    /// Its call.
+    /// Its first call.
     pub(crate) call: &'a Call,
+    /// Those after it.
+    pub(crate) more: &'a [Call],
 }
 
-impl<'a> Plain<Asked<'a>, Made, u64> for Add {
-    ghost use Rattle.std.specs.Prelude.{None};
-
-    ghost ask = { λ a. (a.thread, a.call.now) };
-
-    ghost state = { λ a. None };
+/// The same, with the right to their mark.
+#[derive(Drop)]
+pub(crate) struct Marked<'a> {
+    /// The calls.
+    pub(crate) asked: &'a Asked<'a>,
+    /// The right to bring the word of the mark home.
+    pub(crate) pen: &'a Pen,
 }
 
-/// What stands at a place: a call, and the list up to it.
+impl<'a> Plain<Marked<'a>, Made, u64> for Add {
+    ghost use Rattle.std.specs.Prelude.{◌∷◌, None};
+    ghost use Rattle.shared_calls.specs.Lists.{made};
+
+    ghost ask = { λ m. made m.pen.now.nib.key m.asked.now.thread (m.asked.now.call.now ∷ m.asked.now.more.now) };
+
+    ghost state = { λ m. None };
+}
+
+impl Plain<(), Made, u64> for Draw {
+    ghost use Rattle.std.specs.Prelude.{[], None};
+    ghost use Rattle.shared_calls.specs.Lists.{made};
+
+    ghost ask = { λ nothing. made 0 0 [] };
+
+    ghost state = { λ nothing. None };
+}
+
+/// What stands at a place: a batch, and the list up to it.
 #[derive(Drop)]
 pub(crate) struct Entry {
     /// The thread that called.
     pub(crate) thread: ObjectId,
-    /// Its call.
+    /// Its first call.
     pub(crate) call: KeptCall,
+    /// Those after it.
+    pub(crate) more: Vec<KeptCall>,
     /// The list up to it.
     pub(crate) seen: Prefix,
 }
 
-/// What stands at a place is the list's call of that number.
+/// What stands at a place is the list's batch of that number.
 pub(crate) struct InPlace;
 
 impl SlotRule<Entry> for InPlace {
@@ -94,10 +142,25 @@ impl SlotRule<Entry> for InPlace {
     ghost holds = { Stands };
 }
 
-/// A place of a list.
+/// A place of the list.
+pub(crate) type Place = OnceSlot<Entry, InPlace>;
+
+/// The places of a row, one after another.
+pub(crate) type Row = Vec<Place>;
+
+/// What stands where a row is laid is a row of that number.
+pub(crate) struct InRow;
+
+impl SlotRule<Row> for InRow {
+    ghost use Rattle.boxcar.specs.Table.{Tagged, first, others, span};
+
+    ghost holds = { λ tag row. Tagged (others tag) (span (first tag)) (span (first tag)) row.items };
+}
+
+/// A number, of a row or of a place, in a list.
 #[derive(Drop)]
-pub(crate) struct Place<'a> {
-    /// The number, from 0.
+pub(crate) struct Numbered<'a> {
+    /// The number.
     pub(crate) number: usize,
     /// A beginning of the list.
     pub(crate) seen: &'a Prefix,
@@ -105,16 +168,16 @@ pub(crate) struct Place<'a> {
 
 struct Named;
 
-impl<'a> Names<Place<'a>> for Named {
+impl<'a> Names<Numbered<'a>> for Named {
     ghost use Rattle.std.specs.Prelude.{◌∷◌};
     ghost use Rattle.shared_calls.specs.Names.{name_of};
 
     ghost numbers = { λ p. p.number ∷ name_of p.seen.now.book };
 }
 
-/// What names a place.
+/// What names a row or a place.
 pub(crate) fn tag_at(number: usize, seen: &Prefix) -> Tag
     ensures { result.numbers ≡ number ∷ name_of seen.now.book }
 {
-    Tag::of::<Place<'_>, Named>(&Place { number, seen })
+    Tag::of::<Numbered<'_>, Named>(&Numbered { number, seen })
 }

@@ -1,5 +1,5 @@
 //! A kernel.
-use crate::raw::Raw;
+use crate::raw::{Answer, Raw};
 use crate::trusted::Thread;
 use crate::{Call, Limits, Refusal, Reply, Session};
 
@@ -25,6 +25,11 @@ pub struct Kernel {
 /// The refusal of a number that the library told.
 pub(crate) fn refusal(number: u32) -> Refusal {
     Refusal::of(number).unwrap_or_else(|| unreachable!("the library told no refusal: {number}"))
+}
+
+/// The reply that the library told.
+pub(crate) fn told(answer: &Answer) -> Reply {
+    answer.reply().unwrap_or_else(|| unreachable!("the library told no reply"))
 }
 
 impl Kernel {
@@ -94,7 +99,7 @@ impl Kernel {
                 request.thread = thread.0;
                 request.put_call(call);
             },
-            |answer| answer.reply().unwrap_or_else(|| unreachable!("the library told no reply")),
+            told,
         );
         asked.map_err(refusal)
     }

@@ -27,6 +27,7 @@ mod label;
 mod log;
 #[allow(unsafe_code)] // the one file that has any
 mod raw;
+mod record;
 mod records;
 mod refusal;
 mod reply;

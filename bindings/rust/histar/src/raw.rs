@@ -18,6 +18,7 @@ pub(crate) struct LabelRecord {
 
 /// What a thread asks for.
 #[repr(C)]
+#[derive(Clone)]
 pub(crate) struct Request {
     pub call: u32,
     pub len: u32,
@@ -53,11 +54,11 @@ const _: () = assert!(size_of::<Answer>() == 8 + 17 * 8 + 64 + 3 * 224);
 const _: () = assert!(align_of::<Request>() == 8 && align_of::<Answer>() == 8);
 
 impl LabelRecord {
-    const ZEROS: LabelRecord = LabelRecord { default_level: 0, count: 0, levels: [0; 24], categories: [0; 24] };
+    pub const ZEROS: LabelRecord = LabelRecord { default_level: 0, count: 0, levels: [0; 24], categories: [0; 24] };
 }
 
 impl Request {
-    const ZEROS: Request = Request {
+    pub const ZEROS: Request = Request {
         call: 0,
         len: 0,
         thread: 0,
@@ -102,14 +103,7 @@ impl Room {
 extern "C" {
     fn histar_shared_size() -> usize;
     fn histar_seat_size() -> usize;
-    fn histar_shared_boot(
-        pages: u32,
-        device_level: u8,
-        next_id: u64,
-        next_category: u64,
-        calls: u64,
-        shared: *mut Room,
-    );
+    fn histar_shared_boot(pages: u32, device_level: u8, next_id: u64, next_category: u64, most: u64, shared: *mut Room);
     fn histar_seat_boot(shared: *mut Room, seat: *mut Room);
     fn histar_seat_call(seat: *mut Room, request: *const Request, answer: *mut Answer) -> u32;
     fn histar_seat_end(seat: *mut Room);
@@ -310,8 +304,8 @@ pub(crate) struct RawShared {
 unsafe impl Send for RawShared {}
 
 impl RawShared {
-    /// A kernel to share, whose list has room for so many write calls. Why there is none is told by its first seat.
-    pub fn boot(limits: &Limits, calls: u64) -> RawShared {
+    /// A kernel to share, whose list may have so many batches. Why there is none is told by its first seat.
+    pub fn boot(limits: &Limits, most: u64) -> RawShared {
         let mut room = Room::new();
         // SAFETY: the room is its own and nothing is held in it yet. It is large enough and stands at a multiple of 16.
         unsafe {
@@ -320,7 +314,7 @@ impl RawShared {
                 limits.device.number(),
                 limits.next_id,
                 limits.next_category,
-                calls,
+                most,
                 &mut *room,
             );
         }

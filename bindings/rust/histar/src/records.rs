@@ -152,6 +152,14 @@ impl Request {
     }
 }
 
+impl Request {
+    /// Writes a write call to keep for a batch: its number is 64 more. Of another call the library tells that it is none.
+    pub fn put_batch_call(&mut self, call: &Call<'_>) {
+        self.put_call(call);
+        self.call += 64;
+    }
+}
+
 impl Answer {
     /// The bytes that the library wrote.
     pub fn data(&self) -> &[u8] {

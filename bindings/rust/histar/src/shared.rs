@@ -1,6 +1,6 @@
 //! One kernel for many threads, with no lock: each thread has a seat.
 use crate::kernel::refusal;
-use crate::raw::RawShared;
+use crate::raw::{Answer, RawShared, Request};
 use crate::trusted::Thread;
 use crate::{Call, Entry, Kernel, Limits, Refusal, Reply, Session};
 use std::sync::atomic::{AtomicU64, Ordering};
@@ -62,7 +62,8 @@ pub struct Seat {
 }
 
 impl Shared {
-    /// A kernel for threads to share, with all limits, whose list has room for so many write calls.
+    /// A kernel for threads to share, with all limits, whose list may have so many write calls, of which a batch counts as one:
+    /// `u64::MAX` for no bound. The list takes memory as it grows.
     ///
     /// ```
     /// use histar::{Limits, Refusal, Shared};
@@ -75,8 +76,8 @@ impl Shared {
     ///
     /// # Errors
     /// [`BadLimits`] where a limit is out of its range, and [`Unavailable`] for want of memory.
-    pub fn boot_with(limits: &Limits, calls: u64) -> Result<Shared, Refusal> {
-        let mut raw = RawShared::boot(limits, calls);
+    pub fn boot_with(limits: &Limits, most: u64) -> Result<Shared, Refusal> {
+        let mut raw = RawShared::boot(limits, most);
         raw.seat().map_err(refusal)?; // (a seat is tried: why there is none is told here)
         Ok(Shared { raw: Mutex::new(raw), number: COUNT.fetch_add(1, Ordering::Relaxed) })
     }
@@ -92,8 +93,8 @@ impl Shared {
     ///
     /// # Errors
     /// As [`boot_with`](Shared::boot_with).
-    pub fn boot(pages: u32, calls: u64) -> Result<Shared, Refusal> {
-        Shared::boot_with(&Limits::pages(pages), calls)
+    pub fn boot(pages: u32, most: u64) -> Result<Shared, Refusal> {
+        Shared::boot_with(&Limits::pages(pages), most)
     }
 
     /// A seat, which has a kernel of its own. Its first call plays all calls of the list.
@@ -146,10 +147,65 @@ impl Seat {
     /// ```
     ///
     /// # Errors
-    /// Those of the call; and of a write call [`Memory`], where there is none to keep it, [`ListFull`], where the list has no room, and [`Busy`],
-    /// where another thread stands still in the middle of adding its call. It is not made then.
+    /// Those of the call; and of a write call [`Memory`], where there is none to keep it, [`ListFull`], where the list has as many as it
+    /// may have, and [`Busy`], where another thread stands still in the middle of adding its call. It is not made then.
     pub fn call(&self, thread: Thread, call: &Call<'_>) -> Result<Reply, Refusal> {
         self.kernel.call(thread, call)
+    }
+
+    /// 1 to 16 write calls of a thread, which are made at once: no other call stands between them, and no seat sees some of them without
+    /// the rest. Each is answered in the state that those before it leave; one that is refused changes nothing, and the rest are made.
+    ///
+    /// ```
+    /// use histar::trusted::Thread;
+    /// use histar::{label, Call, Object, Refusal, Reply, Shared};
+    ///
+    /// let seat = Shared::boot(64, u64::MAX)?.seat()?;
+    /// let large = Call::SegmentCreate { container: Object::ROOT, label: label! { L1 }.into(), quota: 99, pages: 1 };
+    /// let replies = seat.batch(Thread::BOOT, &[large, Call::CatCreate])?;
+    /// assert_eq!(replies[0], Err(Refusal::NoQuota));
+    /// assert!(matches!(replies[1], Ok(Reply::Category(_))));
+    /// assert_eq!(seat.batch(Thread::BOOT, &[]), Err(Refusal::BadBatch));
+    /// # Ok::<(), Refusal>(())
+    /// ```
+    ///
+    /// # Errors
+    /// `BadBatch` of another number of calls, and where one is no write call or its arguments make none; and `Memory`, `ListFull` and
+    /// `Busy` as of one [call](Seat::call). No call is made then.
+    pub fn batch(&self, thread: Thread, calls: &[Call<'_>]) -> Result<Vec<Result<Reply, Refusal>>, Refusal> {
+        let raw = &self.kernel.raw;
+        raw.ask(|request| request.put(45, &Entry::NONE, []), |_| ()).map_err(refusal)?;
+        for call in calls {
+            raw.ask(|request| request.put_batch_call(call), |_| ()).map_err(refusal)?;
+        }
+        let make = |request: &mut Request| {
+            request.thread = thread.0;
+            request.put(46, &Entry::NONE, []);
+        };
+        raw.ask(make, |_| ()).map_err(refusal)?;
+        let told = |at| {
+            let reply = |answer: &Answer| answer.reply().unwrap_or_else(|| unreachable!("the library told no reply"));
+            raw.ask(|request| request.put(47, &Entry::NONE, [at]), reply).map_err(refusal)
+        };
+        Ok((0..calls.len() as u64).map(told).collect())
+    }
+
+    /// The dump of what the seat has seen: each batch of each seat as an event, with the answers of its calls. It is what a
+    /// [`Kernel::dump`] is, so `histar-audit` tells whether its answers are those of the rules.
+    ///
+    /// ```
+    /// let shared = histar::Shared::boot(64, 10)?;
+    /// let (first, second) = (shared.seat()?, shared.seat()?);
+    /// first.session().cat_create()?;
+    /// second.learn(first.seen())?;
+    /// assert!(second.dump()?.contains("cat_create => cat #1"));
+    /// # Ok::<(), histar::Refusal>(())
+    /// ```
+    ///
+    /// # Errors
+    /// `TextMemory` where the library has no memory for the text.
+    pub fn dump(&self) -> Result<String, Refusal> {
+        self.kernel.dump()
     }
 
     /// A note of what the seat has seen.

@@ -1,6 +1,7 @@
-//! Ids of threads, and sessions of any of them. Whoever has a thread's id and the kernel calls as that thread, so this is for what
+//! Ids of threads, sessions of any of them, and their calls as bytes. Whoever has a thread's id and the kernel calls as that thread, so this is for what
 //! decides who calls: a program that maps its clients to threads, or plays scripts. What serves clients is given a
 //! [`Session`], which leads to no other thread.
+pub use crate::record::Record;
 use crate::{Kernel, Object, Seat, Session};
 
 /// The id of a thread, which makes calls.

@@ -104,19 +104,29 @@ fn no_read_goes_back() {
     });
 }
 
-/// Threads that write and read at once: each id is given once, each sees its own write, and a seat that comes late is in the state of
-/// the others.
+/// A number into two segments at once, with a call between that is refused.
+fn write_both(seat: &Seat, both: [Entry; 2], number: u64) {
+    let [first, second] =
+        both.map(|entry| Call::SegmentWrite { entry, offset: 0, bytes: number.to_le_bytes().to_vec().into() });
+    let refused = Call::Unref { entry: Entry::in_root(Object::ROOT) };
+    let replies = seat.batch(BOOT, &[first, refused, second]).unwrap();
+    assert_eq!(replies, [Ok(Reply::Done), Err(Refusal::RootKept), Ok(Reply::Done)]);
+}
+
+/// Threads that write and read at once: each id is given once, each sees its own write, no batch is seen in part, and a seat that comes
+/// late is in the state of the others. The dumps of two seats that have seen as much are one text.
 #[test]
 fn a_storm_is_one_history() {
     const THREADS: usize = 8;
     const ROUNDS: u64 = 1_000;
-    let all = Arc::new(Shared::boot(64, 10 + 3 * THREADS as u64 * ROUNDS).unwrap());
+    let all = Arc::new(Shared::boot(128, u64::MAX).unwrap());
     let boot = all.seat().unwrap();
-    let own: Vec<Entry> = (0..THREADS).map(|_| Entry::in_root(made(boot.call(BOOT, &create())))).collect();
-    let threads: Vec<_> = own.iter().map(|&entry| (all.clone(), entry)).collect();
+    let segment = || Entry::in_root(made(boot.call(BOOT, &create())));
+    let own: Vec<[Entry; 3]> = (0..THREADS).map(|_| [segment(), segment(), segment()]).collect();
+    let threads: Vec<_> = (0..THREADS).map(|at| (all.clone(), own[at], own[(at + 1) % THREADS])).collect();
     let threads: Vec<_> = threads
         .into_iter()
-        .map(|(all, entry)| {
+        .map(|(all, [entry, left, right], [_, others_left, others_right])| {
             std::thread::spawn(move || {
                 let seat = all.seat().unwrap();
                 let mut ids = Vec::new();
@@ -126,6 +136,11 @@ fn a_storm_is_one_history() {
                     session.unref(Entry::in_root(id)).unwrap();
                     session.segment_write(entry, 0, &round.to_le_bytes()).unwrap();
                     assert_eq!(number_in(&seat, entry), round);
+                    write_both(&seat, [left, right], round);
+                    assert_eq!([left, right].map(|entry| number_in(&seat, entry)), [round; 2]);
+                    // (the other's numbers rise, and it writes both at once)
+                    let read_first = number_in(&seat, others_left);
+                    assert!(read_first <= number_in(&seat, others_right));
                     ids.push(id.0);
                 }
                 ids
@@ -134,14 +149,45 @@ fn a_storm_is_one_history() {
         .collect();
     let mut ids: Vec<u64> = threads.into_iter().flat_map(|it| it.join().unwrap()).collect();
     ids.sort_unstable();
-    let first = 4 + THREADS as u64;
+    let first = 4 + 3 * THREADS as u64;
     assert!(ids.into_iter().eq(first..first + THREADS as u64 * ROUNDS));
     let late = all.seat().unwrap();
     drop(all);
-    for entry in own {
+    for entry in own.into_iter().flatten() {
         assert_eq!(number_in(&late, entry), ROUNDS - 1);
         assert_eq!(number_in(&boot, entry), ROUNDS - 1);
     }
+    let dump = late.dump().unwrap();
+    assert!(dump == boot.dump().unwrap());
+    assert!(dump.contains("batch") && dump.ends_with("end\n"));
+}
+
+/// What is no batch makes no call: not of no calls, not of 17, and not where one of them is none.
+#[test]
+fn what_is_no_batch_is_not_made() {
+    let all = Shared::boot(64, u64::MAX).unwrap();
+    let seat = all.seat().unwrap();
+    let before = seat.seen();
+    let long = Call::DevSend { entry: Entry::in_root(Object(3)), bytes: vec![0; 65].into() };
+    assert_eq!(seat.batch(BOOT, &[]), Err(Refusal::BadBatch));
+    assert_eq!(seat.batch(BOOT, &vec![Call::CatCreate; 17]), Err(Refusal::BadBatch));
+    assert_eq!(seat.batch(BOOT, &[Call::CatCreate, Call::SelfGet]), Err(Refusal::BadBatch));
+    assert_eq!(seat.batch(BOOT, &[Call::CatCreate, long]), Err(Refusal::BadBatch));
+    assert_eq!(seat.seen(), before);
+    assert_eq!(seat.batch(BOOT, &vec![Call::CatCreate; 16]).unwrap().len(), 16);
+    assert_ne!(seat.seen(), before);
+}
+
+/// A batch counts as one call of the list, and its calls are answered one after another.
+#[test]
+fn a_batch_is_one_of_the_list() {
+    let all = Shared::boot(64, 1).unwrap();
+    let (first, second) = (all.seat().unwrap(), all.seat().unwrap());
+    let replies = first.batch(BOOT, &[create(), create()]).unwrap();
+    assert_eq!(replies, [Ok(Reply::Object(Object(4))), Ok(Reply::Object(Object(5)))]);
+    assert_eq!(second.batch(BOOT, &[Call::CatCreate]), Err(Refusal::ListFull));
+    assert_eq!(number_in(&second, Entry::in_root(Object(5))), 0);
+    assert!(second.dump().unwrap() == first.dump().unwrap());
 }
 
 #[test]
@@ -173,7 +219,6 @@ fn a_note_is_learned_and_one_of_another_is_refused() {
 #[test]
 fn limits_are_refused_at_the_boot() {
     assert_eq!(Shared::boot(7, 10).err(), Some(Refusal::BadLimits));
-    assert_eq!(Shared::boot(64, u64::MAX).err(), Some(Refusal::Unavailable));
 }
 
 #[test]

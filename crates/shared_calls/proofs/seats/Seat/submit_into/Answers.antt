@@ -1,8 +1,11 @@
-use Rattle.std.proofs.Common.{◌≡◌, ◌+◌, ◌++◌, ◌∷◌, [], length, length-append, refl, ap, sym, ◌∙◌, arith}
+use Rattle.std.proofs.Common.{◌≡◌, ◌++◌, ◌∷◌, [], ap, sym, ◌∙◌, subst}
 use Rattle.std.specs.Arc.{arc_value}
 use Rattle.kernel_rules.specs.Step.{next}
-use Rattle.shared_calls.specs.Lists.{Made}
+use Rattle.shared_calls.specs.Knowledge.{IsKnown}
+use Rattle.shared_calls.specs.Lists.{made}
 use Rattle.shared_calls.specs.Seats.{state_of}
+use Rattle.shared_calls.specs.declared.lists.CallList.{CallList}
+use Rattle.shared_calls.specs.declared.rules.Made.{Made}
 use Rattle.shared_calls.proofs.Taking.{state_more}
 use Rattle.shared_calls.proofs.seats.Seat.submit_into.Goals as goal
 
@@ -10,10 +13,9 @@ pub invariant_of-self-2 : goal.invariant_of-self-2
 invariant_of-self-2 c =
     let s = c.self.inside in
     let limits = (arc_value s.list).limits in
-    let e : Made = (c.args.thread, c.args.call.now) in
-    let log : c.add.new.seen.log ≡ s.seen.log ++ e ∷ [] = c.in_ok-add.ensures.log in (
-      c.add.ensures.book ∙ c.self.invariant.0,
-      omega (arith, ap length log, length-append s.seen.log (e ∷ []), c.self.invariant.1),
-      c.step_into.ensures.state ∙ (ap (λ t. next t e.0 e.1) c.self.invariant.2
-          ∙ (sym (state_more limits s.seen.log e) ∙ ap (state_of limits) (sym log))),
+    let m : Made = made s.known.pen.nib.key c.args.thread (c.args.call.now ∷ []) in
+    let log : c.add.new.known.seen.log ≡ s.known.seen.log ++ m ∷ [] = c.in_ok-add.ensures.log in (
+      subst (λ (l : CallList). IsKnown l.start.book c.add.new.known) c.deref.ensures c.add.ensures.known,
+      c.step_into.ensures.state ∙ (ap (λ t. next t m.thread c.args.call.now) c.self.invariant.1
+          ∙ (sym (state_more limits s.known.seen.log m) ∙ ap (state_of limits) (sym log))),
     )

@@ -1,29 +1,44 @@
-use Rattle.std.proofs.Common.{◌≡◌, ◌+◌, ◌++◌, ◌∷◌, [], length, length-append, refl, ap, sym, ◌∙◌, arith}
+use Rattle.std.proofs.Common.{◌≡◌, ◌++◌, ◌∷◌, [], length, length-append, ap, sym, ◌∙◌, arith}
 use Rattle.std.specs.Arc.{arc_value}
-use Rattle.kernel_rules.specs.Step.{next}
-use Rattle.shared_calls.specs.Lists.{Made}
+use Rattle.histories.specs.Events.{by}
+use Rattle.kernel_rules.specs.Runs.{state_after}
+use Rattle.shared_calls.specs.Lists.{made}
 use Rattle.shared_calls.specs.Seats.{state_of}
+use Rattle.shared_calls.specs.declared.rules.Made.{Made}
 use Rattle.shared_calls.proofs.Taking.{state_more}
 use Rattle.shared_calls.proofs.seats.Seat.take_next.Goals as goal
 
 pub invariant_of-self : goal.invariant_of-self
 invariant_of-self c =
     let s = c.self.inside in
+    let known = s.known in
+    let was = c.self.invariant.0 in
     let limits = (arc_value s.list).limits in
-    let e : Made = (c.in-Some.next.now.thread, c.in-Some.next.now.call) in
+    let next = c.in-Some.next.now in
+    let told = c.in-Some.ensures in
+    let m : Made = made told.log.0 next.thread (next.call ∷ next.more.items) in
     let same = c.again.ensures in
-    let log : c.again.result.log ≡ s.seen.log ++ e ∷ [] = ap (λ t. t.log) same ∙ c.in-Some.ensures.log in (
-      ap (λ t. t.book) same ∙ (c.in-Some.ensures.book ∙ c.self.invariant.0),
-      omega (arith, ap length log, length-append s.seen.log (e ∷ []), c.self.invariant.1),
-      c.play.ensures ∙ (ap (λ t. next t e.0 e.1) c.self.invariant.2
-          ∙ (sym (state_more limits s.seen.log e) ∙ ap (state_of limits) (sym log))),
+    let log : c.again.result.log ≡ known.seen.log ++ m ∷ [] = ap (λ t. t.log) same ∙ told.log.1 in (
+      record {
+        seen = ap (λ t. t.book) same ∙ (told.book ∙ was.seen);
+        count = omega (arith, ap length log, length-append known.seen.log (m ∷ []), was.count);
+        pen = was.pen;
+        right = was.right;
+        word = was.word;
+      },
+      c.play.ensures ∙ (ap (λ t. state_after t (by m.thread m.calls)) c.self.invariant.1
+          ∙ (sym (state_more limits known.seen.log m) ∙ ap (state_of limits) (sym log))),
     )
 
 pub returns : goal.returns
 returns c =
-    let e : Made = (c.in-Some.next.now.thread, c.in-Some.next.now.call) in
-    let log : c.again.result.log ≡ c.self.inside.seen.log ++ e ∷ [] = ap (λ t. t.log) c.again.ensures ∙ c.in-Some.ensures.log in (
+    let known = c.self.inside.known in
+    let next = c.in-Some.next.now in
+    let told = c.in-Some.ensures in
+    let m : Made = made told.log.0 next.thread (next.call ∷ next.more.items) in
+    let log : c.again.result.log ≡ known.seen.log ++ m ∷ [] = ap (λ t. t.log) c.again.ensures ∙ told.log.1 in (
       ap (λ v. v.limits) c.self.view_is,
       ap (λ v. v.list) c.self.view_is,
-      (e ∷ [], ap (λ l. l ++ e ∷ []) (sym (ap (λ v. v.seen) c.self.view_is)) ∙ sym log),
+      (m ∷ [], ap (λ l. l ++ m ∷ []) (sym (ap (λ v. v.seen) c.self.view_is)) ∙ sym log),
+      ap (λ v. v.mark) c.self.view_is,
     )

@@ -1,0 +1,35 @@
+//! The dump of what a seat has seen, for C.
+ghost use Rattle.std.specs.Prelude.{◌≡◌};
+ghost use Rattle.shared_c.specs.Served.{IsDumped, IsLogAsked};
+
+use crate::held::KeptSeat;
+use call_records::{Answer, LogRequest, tell_length, tell_text};
+
+/// Makes the text of the dump of what the seat has seen, and gives 0; 51 for want of memory, and nothing changes.
+fn make_dump(kept: &mut KeptSeat, answer: &mut Answer) -> u32
+    ensures { IsDumped kept.old kept.new result answer.old answer.new }
+{
+    match kept.seat.dump(kept.alloc) {
+        Ok(text) => {
+            tell_length(text.as_slice(), answer);
+            kept.text = text;
+            0
+        }
+        Err(_) => 51,
+    }
+}
+
+/// Does what is asked of the log, which a seat always has, and gives the number of the refusal: 45 where it should begin.
+#[inline(never)]
+pub(crate) fn answer_log(kept: &mut KeptSeat, asked: LogRequest, answer: &mut Answer) -> u32
+    ensures { IsLogAsked asked kept.old kept.new result answer.old answer.new }
+{
+    match asked {
+        LogRequest::Begin => 45,
+        LogRequest::Dump => make_dump(kept, answer),
+        LogRequest::Text { from } => {
+            tell_text(kept.text.as_slice(), from, answer);
+            0
+        }
+    }
+}

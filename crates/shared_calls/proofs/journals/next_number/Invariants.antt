@@ -1,0 +1,13 @@
+use Rattle.std.proofs.Common.{◌≡◌, ◌<◌, ◌≤◌, ◌^◌, length, drop}
+use Rattle.histories.specs.History.{count}
+use Rattle.shared_calls.proofs.journals.next_number.Given as goal
+
+abbrev pub invariant-loop-place : goal.invariant-loop-place
+invariant-loop-place l = record {
+  within : l.place ≤ length l.events;
+  few : length l.events < 2 ^ 63;
+  none : count l.thread (drop l.place l.events) ≡ 0;
+}
+
+abbrev pub decreases-loop-place : goal.decreases-loop-place
+decreases-loop-place l = l.place

@@ -1,0 +1,10 @@
+use Rattle.syscall_core.specs.Kernel.{kernel_state}
+use Rattle.histories.proofs.BatchLaws.{made_more}
+use Rattle.shared_calls.proofs.playing.make_all.Goals as goal
+
+pub loop-call-preserved : goal.loop-call-preserved
+loop-call-preserved c =
+    rw (c.push_reserved.ensures.items, c.push_reserved.ensures.capacity)
+    (made_more _ (kernel_state c.loop-call.kernel) _ _ _ _ _ _ c.call-item.result _
+    c.loop-call.invariant c.loop-call-test.true c.call-item.is c.step_into.ensures.reply
+    c.step_into.ensures.state)
