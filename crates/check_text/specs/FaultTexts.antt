@@ -105,7 +105,7 @@ column line TooLong = 4097
 column line _ = 1
 
 -- PATH:LINE:COLUMN: error: and why
-abbrev pub fault_text : List ℕ → ℕ → List ℕ → Reason → List ℕ
-fault_text path number line reason =
-    place_text path number
+abbrev pub fault_text : List ℕ → List ℕ → ℕ → List ℕ → Reason → List ℕ
+fault_text path numbers number line reason =
+    place_text path numbers number
     ++ (decimal (column line reason) ++ (codes ": error: " ++ (reason_text line reason ++ 10 ∷ [])))

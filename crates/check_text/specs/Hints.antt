@@ -98,10 +98,10 @@ meant (Some v) = codes "; did you mean " ++ (name_of v ++ 63 ∷ [])
 
 -- of a line's first word, or of a line that begins with none
 abbrev pub first_hint : List ℕ → List ℕ
-first_hint [] = codes "; a script has no empty lines"
+first_hint [] = []
 first_hint (b ∷ text) =
     if b == 32 then codes "; a line begins with no space"
-    else if b == 35 || b == 47 then codes "; a script has no comments"
+    else if b == 47 then codes "; a comment begins with #"
     else name_hint (before_byte 58 (before_byte 32 (b ∷ text)))
 
 -- of what stands after a line's last word

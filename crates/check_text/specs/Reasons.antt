@@ -3,6 +3,7 @@ use Rattle.std.specs.Prelude.{◌≡◌, ℕ, ◌-◌, List, length, Option, Som
 use Rattle.call_text.specs.Line.{Written, written_text, IsWritten}
 use Rattle.call_text.specs.Script.{is_bound, known_names}
 use Rattle.line_faults.specs.Faults.{StopsAt}
+use Rattle.plain_scripts.specs.Numbers.{number_at}
 use Rattle.check_text.specs.Lines.{before_byte, after_lines, binding, binding_line}
 use Rattle.check_text.specs.declared.reasons.Reason.{Reason}
 use Rattle.check_text.specs.declared.reasons.Reason.TheVariants.{Malformed, NoEnd, TooLong, TooMany, Reserved, Rebinds, Batch}
@@ -36,6 +37,11 @@ reason_of count is_ended line bytes =
 -- the line is well formed
 abbrev pub IsWellFormed : List ℕ → Type 0
 IsWellFormed line = (whole : Written) × IsWritten whole × (line ≡ written_text whole)
+
+-- the reason, by the numbers of the lines as they were written
+abbrev pub numbered : List ℕ → Reason → Reason
+numbered numbers (Rebinds n) = Rebinds (number_at numbers n)
+numbered numbers reason = reason
 
 -- whether a line's end comes after line n
 abbrev pub is_ended : List ℕ → ℕ → Bool

@@ -27,10 +27,10 @@ abbrev pub warning_text : Warning → List ℕ
 warning_text w = name_in w ++ said_text w
 
 -- PATH:LINE: warning: and what is told
-abbrev pub warned_text : List ℕ → Warned → List ℕ
-warned_text path w =
-    place_text path w.line ++ (codes " warning: " ++ (warning_text w.warning ++ 10 ∷ []))
+abbrev pub warned_text : List ℕ → List ℕ → Warned → List ℕ
+warned_text path numbers w =
+    place_text path numbers w.line ++ (codes " warning: " ++ (warning_text w.warning ++ 10 ∷ []))
 
 -- a line for each
-abbrev pub warnings_text : List ℕ → List Warned → List ℕ
-warnings_text path warnings = flat_map (warned_text path) warnings
+abbrev pub warnings_text : List ℕ → List ℕ → List Warned → List ℕ
+warnings_text path numbers warnings = flat_map (warned_text path numbers) warnings

@@ -1,14 +1,19 @@
 //! What is told of a script.
-ghost use Rattle.std.specs.Prelude.{◌≡◌, ◌-◌, IfOk, OnOk};
-ghost use Rattle.check_text.specs.Checks.{IsTold, AddsFaults, AddsLater, AddsLaterLine, AddsWhy};
+ghost use Rattle.std.specs.Prelude.{◌≡◌, ◌-◌, [], IfOk, OnOk};
+ghost use Rattle.plain_scripts.specs.Numbers.{number_at};
+ghost use Rattle.script_checks.specs.Warnings as spec;
+ghost use Rattle.check_text.specs.WarningTexts.{warnings_text};
+ghost use Rattle.check_text.specs.Checks.{IsChecked, IsTold, AddsFaults, AddsLater, AddsLaterLine, AddsWhy};
 
 use crate::fault_texts::{put_fault, put_reason};
 use crate::lines::{after_lines, cut};
+use crate::places::Source;
 use crate::reasons::{MOST_LINES, Reason, find_reason};
 use crate::warning_texts::put_warnings;
 use base::NoMemory;
-use call_text::{ScriptError, read_script};
+use call_text::{Script, ScriptError, read_script};
 use line_faults::fault_in;
+use plain_scripts::{Plain, number_at, plain_of};
 use script_checks::warnings_of;
 use std::alloc::Global;
 
@@ -16,14 +21,14 @@ use std::alloc::Global;
 fn put_later_line(
     alloc: Global,
     out: &mut Vec<u8>,
-    path: &str,
+    source: &Source<'_>,
     number: u32,
     line: &[u8],
 ) -> Result<(), NoMemory>
-    ensures { OnOk result (AddsLaterLine path.now number line.now out.old.items out.new.items) }
+    ensures { OnOk result (AddsLaterLine source.now.path.now source.now.numbers.now number line.now out.old.items out.new.items) }
 {
     match fault_in(alloc, line)? {
-        Some(fault) => put_fault(alloc, out, path, number, line, Reason::Malformed(fault)),
+        Some(fault) => put_fault(alloc, out, source, number, line, Reason::Malformed(fault)),
         None => Ok(()),
     }
 }
@@ -32,11 +37,12 @@ fn put_later_line(
 fn put_later(
     alloc: Global,
     out: &mut Vec<u8>,
-    path: &str,
+    source: &Source<'_>,
     first: u32,
     text: &[u8],
 ) -> Result<(), NoMemory>
-    ensures { OnOk result (AddsLater path.now first (65537 - first) text.now out.old.items out.new.items) }
+    ensures { OnOk result
+        (AddsLater source.now.path.now source.now.numbers.now first (65537 - first) text.now out.old.items out.new.items) }
 {
     let mut rest = text;
     for number in first..MOST_LINES + 1 {
@@ -44,7 +50,7 @@ fn put_later(
             return Ok(());
         }
         let (line, more) = cut(rest, b'\n');
-        put_later_line(alloc, out, path, number, line)?;
+        put_later_line(alloc, out, source, number, line)?;
         rest = more;
     }
     Ok(())
@@ -55,39 +61,115 @@ fn put_later(
 fn put_faults(
     alloc: Global,
     out: &mut Vec<u8>,
-    path: &str,
+    source: &Source<'_>,
     bytes: &[u8],
     number: u32,
 ) -> Result<(), NoMemory>
-    ensures { OnOk result (AddsFaults path.now bytes.now number out.old.items out.new.items) }
+    ensures { OnOk result
+        (AddsFaults source.now.path.now source.now.numbers.now bytes.now number out.old.items out.new.items) }
 {
     let reason = find_reason(alloc, bytes, number)?;
     let (line, more) = cut(after_lines(number.saturating_sub(1), bytes), b'\n');
-    put_fault(alloc, out, path, number, line, reason)?;
+    put_fault(
+        alloc,
+        out,
+        source,
+        number,
+        line,
+        reason.numbered(source.numbers),
+    )?;
     if number > MOST_LINES {
         return Ok(());
     }
-    put_later(alloc, out, path, number + 1, more)?;
+    put_later(alloc, out, source, number + 1, more)?;
     Ok(())
 }
 
-/// What is told of the script that bytes spell, with the path that it stands at: of the first faulty line why it is
-/// faulty, and of later ones where they are not well formed; otherwise all warnings. Want of memory is the only error.
+/// What is told of the faults of a script.
+#[derive(Drop)]
+pub struct Faults {
+    /// The first faulty line, from 1, as it was written.
+    pub line: u32,
+    /// Why it is faulty, and where later lines are not well formed.
+    pub text: Vec<u8>,
+}
+
+/// A script, with its exact form.
+#[derive(Drop)]
+pub struct Exact {
+    /// The script.
+    pub script: Script,
+    /// Its exact form, which spells it.
+    pub plain: Plain,
+}
+
+/// What bytes that people wrote come to.
+#[derive(Drop)]
+pub enum Checked {
+    /// A script.
+    Script(Exact),
+    /// None.
+    Faulty(Faults),
+}
+
+/// What is told of the exact form, line `number` of which is the first faulty one.
+fn faults_of(alloc: Global, path: &str, plain: &Plain, number: u32) -> Result<Faults, NoMemory>
+    ensures line { IfOk result (λ faults. faults.line ≡ number_at plain.now.numbers.items number) }
+    ensures text { IfOk result (λ faults.
+        AddsFaults path.now plain.now.numbers.items plain.now.text.items number [] faults.text.items) }
+{
+    let numbers = plain.numbers.as_slice();
+    let mut text = Vec::new(alloc);
+    put_faults(
+        alloc,
+        &mut text,
+        &Source { path, numbers },
+        plain.text.as_slice(),
+        number,
+    )?;
+    Ok(Faults {
+        line: number_at(numbers, number),
+        text,
+    })
+}
+
+/// The script that the exact form of bytes spells, or what is told of their faults, with the path that they stand at. Want of
+/// memory is the only error.
+pub fn read_or_tell(alloc: Global, path: &str, bytes: &[u8]) -> Result<Checked, NoMemory>
+    ensures { IfOk result (IsChecked path.now bytes.now) }
+{
+    let plain = plain_of(alloc, bytes)?;
+    match read_script(alloc, plain.text.as_slice()) {
+        Ok(script) => Ok(Checked::Script(Exact { script, plain })),
+        Err(ScriptError::Memory) => Err(NoMemory),
+        Err(ScriptError::Line(line)) => {
+            let faults = faults_of(alloc, path, &plain, line)?;
+            Ok(Checked::Faulty(faults))
+        }
+    }
+}
+
+/// The warnings of a script, with the path that it stands at.
+fn warned(alloc: Global, path: &str, exact: &Exact) -> Result<Vec<u8>, NoMemory>
+    ensures { IfOk result (λ told.
+        told.items ≡ warnings_text path.now exact.now.plain.numbers.items (spec.warnings_of exact.now.script)) }
+{
+    let mut out = Vec::new(alloc);
+    let warnings = warnings_of(alloc, &exact.script)?;
+    let numbers = exact.plain.numbers.as_slice();
+    put_warnings(&mut out, &Source { path, numbers }, warnings.as_slice())?;
+    Ok(out)
+}
+
+/// What is told of the script that the exact form of bytes spells, with the path that they stand at: of the first faulty line
+/// why it is faulty, and of later ones where they are not well formed; otherwise all warnings. Want of memory is the only error.
 pub fn check(alloc: Global, path: &str, bytes: &[u8]) -> Result<Vec<u8>, NoMemory>
     ensures { IfOk result (λ told. IsTold path.now bytes.now told.items) }
 {
-    let mut out = Vec::new(alloc);
-    match read_script(alloc, bytes) {
-        Ok(script) => {
-            let warnings = warnings_of(alloc, &script)?;
-            put_warnings(&mut out, path, warnings.as_slice())?;
-        }
-        Err(ScriptError::Memory) => return Err(NoMemory),
-        Err(ScriptError::Line(number)) => {
-            put_faults(alloc, &mut out, path, bytes, number)?;
-        }
+    match read_or_tell(alloc, path, bytes)? {
+        Checked::Script(exact) => warned(alloc, path, &exact),
+        Checked::Faulty(faults) => Ok(faults.text),
     }
-    Ok(out)
 }
 
 /// Adds why line `number` of the bytes, from 1, is the first faulty one, where it is. Want of memory is the only error.

@@ -6,7 +6,7 @@ ghost use Rattle.check_text.specs.FaultTexts.{standing_words};
 
 use crate::hints::put_hint;
 use crate::lines::cut;
-use crate::places::put_place;
+use crate::places::{Source, put_place};
 use crate::reasons::Reason;
 use base::NoMemory;
 use line_faults::{Expected, Fault};
@@ -198,16 +198,16 @@ fn column(line: &[u8], reason: Reason) -> usize
 pub fn put_fault(
     alloc: Global,
     out: &mut Vec<u8>,
-    path: &str,
+    source: &Source<'_>,
     number: u32,
     line: &[u8],
     reason: Reason,
 ) -> Result<(), NoMemory>
     requires { IsWithin line.now reason }
     ensures { OnOk result (out.new.items
-        ≡ out.old.items ++ fault_text path.now number line.now reason) }
+        ≡ out.old.items ++ fault_text source.now.path.now source.now.numbers.now number line.now reason) }
 {
-    put_place(out, path, number)?;
+    put_place(out, source, number)?;
     put_number(out, column(line, reason) as u64)?;
     out.extend_from_slice(b": error: ")?;
     put_reason(alloc, out, line, reason)?;

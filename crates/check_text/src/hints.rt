@@ -132,9 +132,8 @@ fn first_hint(text: &[u8]) -> &'static str
     ensures { result.now ≡ first_hint text.now }
 {
     match text {
-        [] => "; a script has no empty lines",
         [b' ', ..] => "; a line begins with no space",
-        [b'#' | b'/', ..] => "; a script has no comments",
+        [b'/', ..] => "; a comment begins with #",
         _ => name_hint(cut(cut(text, b' ').0, b':').0),
     }
 }

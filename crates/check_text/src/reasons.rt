@@ -2,10 +2,11 @@
 ghost use Rattle.std.specs.Prelude.{◌≡◌, ◌≤◌, IfOk};
 ghost use Rattle.call_text.specs.Script.{is_bound, known_names};
 ghost use Rattle.check_text.specs.Lines.{binding};
-ghost use Rattle.check_text.specs.Reasons.{name_reason, reason_of, IsReason};
+ghost use Rattle.check_text.specs.Reasons.{name_reason, numbered, reason_of, IsReason};
 
 use crate::lines::{after_lines, binding, binding_line, cut};
 use line_faults::{Fault, fault_in};
+use plain_scripts::number_at;
 use std::alloc::{AllocError, Global};
 use text_words::is_same;
 
@@ -33,6 +34,18 @@ pub enum Reason {
     /// It may not stand there for a batch: it is a read call in one, a 17th line of one, or the last line of its worker
     /// in the phase and says that its batch goes on.
     Batch,
+}
+
+impl Reason {
+    /// The reason, by the numbers of the lines as they were written.
+    pub fn numbered(self, numbers: &[u32]) -> Reason
+        ensures { result ≡ numbered numbers.now self }
+    {
+        match self {
+            Reason::Rebinds(line) => Reason::Rebinds(number_at(numbers, line)),
+            reason => reason,
+        }
+    }
 }
 
 /// Whether a name is known at the start of each script.

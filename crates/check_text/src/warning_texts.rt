@@ -2,7 +2,7 @@
 ghost use Rattle.std.specs.Prelude.{◌≡◌, ◌++◌, OnOk};
 ghost use Rattle.check_text.specs.WarningTexts.{kind_text, name_in, said_text, warning_text, warned_text, warnings_text};
 
-use crate::places::put_place;
+use crate::places::{Source, put_place};
 use base::NoMemory;
 use script_checks::{Warned, Warning};
 use text_words::{Name, put_name};
@@ -50,10 +50,11 @@ fn put_warning(out: &mut Vec<u8>, warning: &Warning) -> Result<(), NoMemory>
 }
 
 /// Adds a warning: `PATH:LINE: warning: ` and what is told.
-fn put_warned(out: &mut Vec<u8>, path: &str, warned: &Warned) -> Result<(), NoMemory>
-    ensures { OnOk result (out.new.items ≡ out.old.items ++ warned_text path.now warned.now) }
+fn put_warned(out: &mut Vec<u8>, source: &Source<'_>, warned: &Warned) -> Result<(), NoMemory>
+    ensures { OnOk result (out.new.items
+        ≡ out.old.items ++ warned_text source.now.path.now source.now.numbers.now warned.now) }
 {
-    put_place(out, path, warned.line)?;
+    put_place(out, source, warned.line)?;
     out.extend_from_slice(b" warning: ")?;
     put_warning(out, &warned.warning)?;
     out.push(b'\n')?;
@@ -61,11 +62,16 @@ fn put_warned(out: &mut Vec<u8>, path: &str, warned: &Warned) -> Result<(), NoMe
 }
 
 /// Adds warnings, a line each.
-pub fn put_warnings(out: &mut Vec<u8>, path: &str, warnings: &[Warned]) -> Result<(), NoMemory>
-    ensures { OnOk result (out.new.items ≡ out.old.items ++ warnings_text path.now warnings.now) }
+pub fn put_warnings(
+    out: &mut Vec<u8>,
+    source: &Source<'_>,
+    warnings: &[Warned],
+) -> Result<(), NoMemory>
+    ensures { OnOk result (out.new.items
+        ≡ out.old.items ++ warnings_text source.now.path.now source.now.numbers.now warnings.now) }
 {
     for warned in warnings {
-        put_warned(out, path, warned)?;
+        put_warned(out, source, warned)?;
     }
     Ok(())
 }

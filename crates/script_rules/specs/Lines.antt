@@ -1,7 +1,10 @@
 -- A worker at its lines: what it is answered to each, and what they leave.
-use Rattle.std.specs.Prelude.{ℕ, List, [], ◌∷◌, ◌++◌, length, Option, Some, None, Result, Ok, Err, if◌then◌else◌}
+use Rattle.std.specs.Prelude.{ℕ, Bool, true, false, ◌==◌, ◌||◌, ◌&&◌, nat_le, List, [], ◌∷◌, ◌++◌, length}
+use Rattle.std.specs.Prelude.{Option, Some, None, Result, Ok, Err, if◌then◌else◌}
+use Rattle.std.specs.List.{list_all}
 use Rattle.base.specs.declared.ranges.Limits.{Limits}
 use Rattle.base.specs.declared.refusals.Refusal.{Refusal}
+use Rattle.base.specs.declared.refusals.Refusal.TheVariants.{BadBatch}
 use Rattle.histories.specs.Events.{Event}
 use Rattle.histories.specs.History.{state_of}
 use Rattle.kernel_rules.specs.State.{State}
@@ -101,12 +104,32 @@ abbrev pub calls_of : List Waiting → List Call
 calls_of [] = []
 calls_of (w ∷ more) = call_in w.asks ++ calls_of more
 
--- the thread asks what waits: the calls are one event, and no line waits then
-abbrev pub make : Limits → ℕ → Stand → Stand
-make limits thread p = record (tell_all (state_of limits p.events) thread p p.waiting) {
+-- the thread asks what waits: the calls are one event
+abbrev pub asked : Limits → ℕ → Stand → Stand
+asked limits thread p = record (tell_all (state_of limits p.events) thread p p.waiting) {
   events = with_calls limits thread p.events (calls_of p.waiting);
-  waiting = [];
 }
+
+-- it asks no query
+abbrev pub is_no_read : Result Asked (List ℕ) → Bool
+is_no_read (Ok (Write call)) = true
+is_no_read (Ok (Read query)) = false
+is_no_read (Err name) = true
+
+-- one line can be asked, and so can up to 16 at once that ask no query. (A script has no others.)
+abbrev pub are_batch : List Waiting → Bool
+are_batch waiting =
+    length waiting == 1 || (nat_le (length waiting) 16 && list_all (λ w. is_no_read w.asks) waiting)
+
+-- each line that waits is refused so
+abbrev pub refuse_all : Refusal → Stand → List Waiting → Stand
+refuse_all refusal p [] = p
+refuse_all refusal p (w ∷ more) = refuse_all refusal (tell p w.number None (Ok (replies.Refused refusal))) more
+
+-- the thread asks what waits, if that is a batch, and no line waits then
+abbrev pub make : Limits → ℕ → Stand → Stand
+make limits thread p =
+    record (if are_batch p.waiting then asked limits thread p else refuse_all BadBatch p p.waiting) { waiting = [] }
 
 -- a line waits, and asks what it means with the names that are known
 abbrev pub wait : Stand → Line → Stand

@@ -53,11 +53,11 @@ abbrev pub unless_refused : ℕ → Option Refusal → Result ℕ (Option Refusa
 unless_refused thread None = Ok thread
 unless_refused thread (Some refusal) = Err (Some refusal)
 
--- a seat for what a worker's name is bound to, where it is an object
-abbrev pub seat_for : Limits → ℕ → Run → Option Value → Result ℕ (Option Refusal)
-seat_for limits room r (Some (Object thread)) = unless_refused thread (refusal_of limits room r thread)
-seat_for limits room r (Some (Category c)) = Err None
-seat_for limits room r None = Err None
+-- a seat for what a worker's name is bound to, where it is an object and nothing refuses it one
+abbrev pub seat_for : (ℕ → Option Refusal) → Option Value → Result ℕ (Option Refusal)
+seat_for refusal (Some (Object thread)) = unless_refused thread (refusal thread)
+seat_for refusal (Some (Category c)) = Err None
+seat_for refusal None = Err None
 
 -- the thread that makes a worker's calls: that of its seat, or of the one that it is given
 abbrev pub seated : Option ℕ → Result ℕ (Option Refusal) → Result ℕ (Option Refusal)
@@ -65,7 +65,8 @@ seated (Some thread) new = Ok thread
 seated None new = new
 
 abbrev pub seat_of : Limits → ℕ → Run → List ℕ → Result ℕ (Option Refusal)
-seat_of limits room r worker = seated (thread_of worker r.seats) (seat_for limits room r (value_of worker r.names))
+seat_of limits room r worker =
+    seated (thread_of worker r.seats) (seat_for (refusal_of limits room r) (value_of worker r.names))
 
 -- the seats with that of a worker which had this
 abbrev pub with_seat : List (List ℕ × ℕ) → List ℕ → Option ℕ → Result ℕ (Option Refusal) → List (List ℕ × ℕ)

@@ -55,9 +55,8 @@ pub run_dump : LaterAreLegal → (limits : Limits) (n k : ℕ) (events : List Ev
     (c : Checkpoint) (bytes : List ℕ) → IsPlayed limits events tables → folded limits n events ≡ k
     → IsCheckpointOf limits (take k events) c → is_restorable limits c ≡ true
     → IsDump bytes (whole_dump limits (Some c) (drop k events) (told_reads limits k events reads))
-    → IsRunDump limits n reads bytes
+    → IsRunDump limits n events reads bytes
 run_dump law limits n k events reads tables c bytes played k_is made can told = record {
-  events = events;
   checkpoint = c;
   legal = played.1.0;
   made = subst (λ (j : ℕ). IsCheckpointOf limits (take j events) c) (sym k_is) made;

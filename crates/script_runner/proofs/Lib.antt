@@ -1,9 +1,12 @@
-pub mod LineLaws
+pub mod AnswerLaws
+pub mod DumpLaws
+pub mod NameLemmas
 pub mod NumberLaws
 pub mod OutputLaws
-pub mod NameLemmas
 pub mod PhaseLaws
 pub mod Plays
-pub mod WorkerLemmas
 pub mod ReadLaws
-pub mod DumpLaws
+pub mod RunLaws
+pub mod SeatLaws
+pub mod TurnLaws
+pub mod WorkerLemmas

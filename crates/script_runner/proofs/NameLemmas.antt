@@ -14,7 +14,8 @@ use Rattle.call_text.specs.declared.known_names.Value.{Value}
 use Rattle.call_text.specs.declared.known_names.Value.TheVariants.{Object, Category}
 use Rattle.call_text.specs.Known.{value_of, name_of, is_value}
 use Rattle.script_runner.specs.declared.names.FirstNames.{FirstNames}
-use Rattle.script_runner.specs.Names.{named, named_of, unless_bound, bound, first_name, AreFirst}
+use Rattle.script_rules.specs.Names.{unless_bound, bound}
+use Rattle.script_runner.specs.Names.{named, named_of, first_name, AreFirst}
 
 -- a look-up finds the value of the first entry with the name
 pub lookup_is : (name : List ℕ) (entries : List (List ℕ × Value)) → lookup (eq-value.it name) entries ≡ value_of name (named_of entries)

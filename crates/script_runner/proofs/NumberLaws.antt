@@ -18,7 +18,8 @@ use Rattle.indexmap.specs.IndexSet.{insert_all, insert_key}
 use Rattle.text_words.proofs.NameLemmas.{same_name}
 use Rattle.text_words.specs.contracts.names.NamePartialEq.TheImpl.{eq-value}
 use Rattle.call_text.specs.declared.phases.Line.{Line}
-use Rattle.script_runner.specs.Workers.{lines_in, lines_of, numbers_of, with_workers, workers_of, AreNumbers, WithLines, WithNumber}
+use Rattle.script_rules.specs.Workers.{lines_in, with_workers, workers_of}
+use Rattle.script_runner.specs.Workers.{lines_of, numbers_of, AreNumbers, WithLines, WithNumber}
 
 -- the lines of phases, with one phase more
 lines_in-snoc : (phases : List (List Line)) (lines : List Line) → lines_in (phases ++ lines ∷ []) ≡ lines_in phases ++ lines
@@ -113,13 +114,13 @@ numbers_other worker lines line other =
     ∙ append-nil (numbers_of worker lines)
 
 -- where a worker stands, and nowhere else
-stands_at : (workers : List (List ℕ)) (w worker : List ℕ) (index i : ℕ) → position (bytes_eq w) workers ≡ Some index
+pub stands_at : (workers : List (List ℕ)) (w worker : List ℕ) (index i : ℕ) → position (bytes_eq w) workers ≡ Some index
     → slice_get workers i ≡ Some worker → (i ≡ index) → bytes_eq w worker ≡ true
 stands_at workers w worker index i found there same =
     ap (bytes_eq w) (sym (get_or_from_slice_get workers index worker worker (ap (slice_get workers) (sym same) ∙ there)))
     ∙ (position-Some (bytes_eq w) workers index worker found).1
 
-stands_not : (workers : List (List ℕ)) (w worker : List ℕ) (index i : ℕ) → IsDistinct bytes_eq workers
+pub stands_not : (workers : List (List ℕ)) (w worker : List ℕ) (index i : ℕ) → IsDistinct bytes_eq workers
     → position (bytes_eq w) workers ≡ Some index → slice_get workers i ≡ Some worker → (i ≢ index) → bytes_eq w worker ≡ false
 stands_not workers w worker index i distinct found there other = of (leb_tells i index)
   where

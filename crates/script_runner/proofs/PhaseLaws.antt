@@ -1,201 +1,202 @@
--- Phases, one after another.
-use Rattle.std.proofs.Common.{◌≡◌, ℕ, zero, suc, ◌+◌, true, List, [], ◌∷◌, ◌++◌, length, take, slice_get, slice_set, get_or, Result, Ok, Err, OnOk, ◌<◌, Option, Some, None, IfSome, option_map, refl, ap, sym, ◌∙◌, subst, append_assoc, arith}
-use Rattle.std.proofs.lemmas.List.{append-nil}
-use Rattle.std.specs.Cmp.Lexicographic.{bytes_decides}
+-- A phase, for the worker of its first line, leaves what the rules say.
+use Rattle.std.proofs.Common.{◌≡◌, ◌≢◌, ℕ, zero, suc, ◌+◌, true, false, eqb, List, [], ◌∷◌, ◌++◌, ◌<◌, length, drop, get_or, map, slice_get, slice_set, Option, Some, None, IfSome, option_map, Result, refl, ap, sym, ◌∙◌, subst, ◌⊎◌, inl, inr, position, max, min}
+use Rattle.std.specs.List.{IsDistinct}
 use Rattle.std.specs.Str.{bytes_eq}
-use Rattle.text_words.proofs.Split.{both_true}
+use Rattle.std.specs.Cmp.Lexicographic.{bytes_decides}
+use Rattle.std.proofs.lemmas.Bool.Decides.{eqb_tells}
+use Rattle.std.proofs.lemmas.List.{append-nil}
+use Rattle.std.proofs.lemmas.List.Quantifiers.{position-Some}
+use Rattle.std.proofs.lemmas.Option.{none-some, slice_get-get_or}
+use Rattle.base.specs.declared.ranges.Limits.{Limits}
+use Rattle.base.specs.declared.refusals.Refusal.{Refusal}
 use Rattle.histories.specs.Events.{Event}
-use Rattle.histories.specs.History.{calls_of}
-use Rattle.kernel_rules.specs.declared.calls.Call.{Call}
+use Rattle.published_copy.specs.Books.{BookView}
+use Rattle.call_text.specs.Known.{value_of}
+use Rattle.call_text.specs.declared.known_names.Named.{Named}
+use Rattle.call_text.specs.declared.known_names.Value.{Value}
 use Rattle.call_text.specs.declared.phases.Line.{Line}
-use Rattle.script_runner.specs.declared.lone_play.Lone.{Lone}
-use Rattle.script_runner.specs.Workers.{are_of, is_of_one, lines_in, take_turns}
-use Rattle.script_runner.specs.Lines.{ComeOf, Asks, by_seat, IsSeated, Reached, reached, calls_at, Play, place_of, AreThreads, KeepSeats, PlayPhase, AreAsked}
-use Rattle.script_runner.proofs.LineLaws.{come-more, come-less}
-use Rattle.script_runner.proofs.NumberLaws.{lines_after, take_next}
+use Rattle.script_rules.specs.Lines.{Stand, lines_by}
+use Rattle.script_rules.specs.Output.{own, text_of}
+use Rattle.script_rules.specs.Run.{Run, phase_after, played_by, refusal_by, run_from, seat_for, seat_of, seated, stand_in, start, thread_of, room_for}
+use Rattle.script_rules.specs.Workers.{lines_in, workers_of}
+use Rattle.script_rules.proofs.OwnLaws.{own_more, own_same}
+use Rattle.script_rules.proofs.StandLaws.{onto, lines_on}
+use Rattle.script_runner.specs.Answers.{Kept}
+use Rattle.script_runner.specs.Turns.{seated_after, stand, thread_after, AreOwn, IsOwn, IsRun, IsTurns, IsUnplayed}
+use Rattle.script_runner.specs.declared.answers.Left.{Left}
+use Rattle.script_runner.specs.declared.batches.Gathered.{Gathered}
+use Rattle.script_runner.proofs.NumberLaws.{stands_at, stands_not}
+use Rattle.script_runner.proofs.SeatLaws.{seat_other, seat_own, seats_then}
+use Rattle.script_runner.proofs.TurnLaws.{drop_next}
 
--- what holds of all things of two lists holds of the first's
-all_left : {A : Type 0} (P : A → Type 0) (xs ys : List A) → ((i : ℕ) → IfSome (slice_get (xs ++ ys) i) P)
-    → (i : ℕ) → IfSome (slice_get xs i) P
-all_left P [] ys h i = tt
-all_left P (x ∷ xs) ys h zero = h zero
-all_left P (x ∷ xs) ys h (suc i) = all_left P xs ys (λ j. h (suc j)) i
+-- what is written at a place, and what stands at others
+set_own : {A : Type 0} (xs : List A) (i : ℕ) (x y : A) → slice_get xs i ≡ Some y → slice_get (slice_set xs i x) i ≡ Some x
+set_own [] i x y is = absurd (none-some y is)
+set_own (z ∷ zs) zero x y is = refl
+set_own (z ∷ zs) (suc i) x y is = set_own zs i x y is
 
--- and of the second's
-all_right : {A : Type 0} (P : A → Type 0) (xs ys : List A) → ((i : ℕ) → IfSome (slice_get (xs ++ ys) i) P)
-    → (i : ℕ) → IfSome (slice_get ys i) P
-all_right P [] ys h i = h i
-all_right P (x ∷ xs) ys h i = all_right P xs ys (λ j. h (suc j)) i
+set_other : {A : Type 0} (xs : List A) (i j : ℕ) (x : A) → (j ≢ i) → slice_get (slice_set xs i x) j ≡ slice_get xs j
+set_other [] i j x other = refl
+set_other (y ∷ ys) zero zero x other = absurd (other refl)
+set_other (y ∷ ys) zero (suc j) x other = refl
+set_other (y ∷ ys) (suc i) zero x other = refl
+set_other (y ∷ ys) (suc i) (suc j) x other = set_other ys i j x (λ e. other (ap suc e))
 
--- lines after lines
-pub play_both : (thread : Option ℕ) (xs ys : List Line) (a b c : Reached) → Play thread xs a b → Play thread ys b c
-    → Play thread (xs ++ ys) a c
-play_both thread xs ys a b c first then threads before seated h =
-    subst (λ (lines : List Line). ComeOf (Asks threads) lines (calls_at thread c)) (append_assoc before xs ys)
-    (then threads (before ++ xs) (all_right (IsSeated threads thread) xs ys seated)
-    (first threads before (all_left (IsSeated threads thread) xs ys seated) h))
+abbrev value : Option (List ℕ) → List ℕ
+value None = []
+value (Some w) = w
 
--- one line more
-pub play_line_more : (thread : Option ℕ) (lines : List Line) (k : ℕ) (line : Line) (a b c : Reached) → slice_get lines k ≡ Some line
-    → Play thread (take k lines) a b → Play thread (line ∷ []) b c → Play thread (take (k + 1) lines) a c
-play_line_more thread lines k line a b c is first then =
-    subst (λ (xs : List Line). Play thread xs a c) (sym (take_next lines k line is))
-    (play_both thread (take k lines) (line ∷ []) a b c first then)
+-- a phase is played by the worker of its first line
+pub phase_is : (limits : Limits) (room : ℕ) (r : Run) (lines : List Line) (w : List ℕ)
+    → option_map (λ (l : Line). l.worker) (slice_get lines 0) ≡ Some w
+    → played_by limits r w (seat_of limits room r w) lines ≡ phase_after limits room r lines
+phase_is limits room r [] w is = absurd (none-some w is)
+phase_is limits room r (l ∷ ls) w is =
+    ap (λ (v : List ℕ). played_by limits r v (seat_of limits room r v) (l ∷ ls)) (sym (ap value is))
 
-are_all : (w : List ℕ) (lines : List Line) → are_of w lines ≡ true → (i : ℕ) → IfSome (slice_get lines i) (λ l. l.worker ≡ w)
-are_all w [] are i = tt
-are_all w (l ∷ ls) are zero = (bytes_decides l.worker w).0 (both_true (bytes_eq l.worker w) (are_of w ls) are).0
-are_all w (l ∷ ls) are (suc i) = are_all w ls (both_true (bytes_eq l.worker w) (are_of w ls) are).1 i
+-- the seat of a worker
+pub seat_is : (limits : Limits) (room : ℕ) (r : Run) (w : List ℕ) (book : BookView) (names : List Named) (had : Option ℕ)
+    (bound : Option Value) (seat : Result ℕ (Option Refusal)) → had ≡ thread_of w r.seats → book.journal ≡ r.events
+    → book.seated ≡ map (λ s. s.1) r.seats → names ≡ r.names → bound ≡ value_of w names
+    → seat ≡ seated had (seat_for (refusal_by limits room book.journal book.seated) bound) → seat ≡ seat_of limits room r w
+seat_is limits room r w book names had bound seat had_is journal_is seated_is names_are bound_is is =
+    is ∙ ap (λ (b : Option Value). seated had (seat_for (refusal_by limits room book.journal book.seated) b)) bound_is
+    ∙ (λ i. seated (had_is i) (seat_for (refusal_by limits room (journal_is i) (seated_is i)) (value_of w (names_are i))))
 
--- all lines of a phase of one worker are the first line's worker's
-one_worker : (lines : List Line) (name : List ℕ) → is_of_one lines ≡ true → option_map (λ l. l.worker) (slice_get lines 0) ≡ Some name
-    → (i : ℕ) → IfSome (slice_get lines i) (λ l. l.worker ≡ name)
-one_worker [] name one is i = tt
-one_worker (l ∷ ls) name one is i = at (slice_get (l ∷ ls) i) (are_all l.worker (l ∷ ls) one i)
+module _ (limits : Limits) (r : Run) (w : List ℕ) (seat : Result ℕ (Option Refusal)) (lines : List Line) where
+  abbrev left_then : Stand
+  left_then = lines_by limits seat (stand_in r) lines
+
+  abbrev run_then : Run
+  run_then = played_by limits r w seat lines
+
+  -- what lines leave after what the worker was told before
+  stands_then : (journal after : List Event) (names known : List Named) (g : List Gathered) (k new : Kept)
+      → journal ≡ r.events → names ≡ r.names → k.told ≡ own w r.told → k.reads ≡ own w r.reads
+      → stand after known g new ≡ lines_by limits seat (stand journal names [] k) lines
+      → stand after known g new ≡ onto (own w r.told) (own w r.reads) left_then
+  stands_then journal after names known g k new a b c d is =
+      is
+      ∙ (λ i. lines_by limits seat (record {
+        events = a i;
+        names = b i;
+        waiting = [];
+        told = (c ∙ sym (append-nil (own w r.told))) i;
+        reads = (d ∙ sym (append-nil (own w r.reads))) i;
+      }) lines)
+      ∙ lines_on (own w r.told) (own w r.reads) limits seat (stand_in r) lines
+
+  -- the worker's own
+  own_then : (left : Left) (had : Option ℕ) (after : List Event) (known : List Named) (g : List Gathered) → bytes_eq w w ≡ true
+      → had ≡ thread_of w r.seats → left.thread ≡ thread_after had seat
+      → stand after known g left.answers ≡ onto (own w r.told) (own w r.reads) left_then → IsOwn w left run_then
+  own_then left had after known g same had_is thread_is is = record {
+    thread = thread_is ∙ ap (λ (o : Option ℕ). thread_after o seat) had_is ∙ sym (seat_own w r.seats (thread_of w r.seats) seat same refl);
+    told = ap (λ (p : Stand). p.told) is ∙ sym (own_more w w r.told left_then.told same);
+    reads = ap (λ (p : Stand). p.reads) is ∙ sym (own_more w w r.reads left_then.reads same);
+  }
+
+  -- and another's
+  other_then : (v : List ℕ) (left : Left) → bytes_eq w v ≡ false → IsOwn v left r → IsOwn v left run_then
+  other_then v left other is = record {
+    thread = is.thread ∙ sym (seat_other w v r.seats (thread_of w r.seats) seat other);
+    told = is.told ∙ sym (own_same w v r.told left_then.told other);
+    reads = is.reads ∙ sym (own_same w v r.reads left_then.reads other);
+  }
+
+  -- each worker's, where one stands at its place
+  each_then : (workers : List (List ℕ)) (left : List Left) (i : ℕ) (old new : Left) → IsDistinct bytes_eq workers
+      → position (bytes_eq w) workers ≡ Some i → slice_get left i ≡ Some old → AreOwn workers left r → IsOwn w new run_then
+      → AreOwn workers (slice_set left i new) run_then
+  each_then workers left i old new distinct place there are own_is j =
+      at (slice_get workers j) (slice_get left j) refl refl (are j) (eqb_tells j i)
+    where
+      here : (v : List ℕ) → slice_get workers j ≡ Some v → (j ≡ i)
+          → IfSome (slice_get (slice_set left i new) j) (λ l. IsOwn v l run_then)
+      here v is same =
+          subst (λ (o : Option Left). IfSome o (λ l. IsOwn v l run_then))
+          (sym (set_own left i new old there) ∙ ap (slice_get (slice_set left i new)) (sym same))
+          (subst (λ (u : List ℕ). IsOwn u new run_then) ((bytes_decides w v).0 (stands_at workers w v i j place is same)) own_is)
+
+      at : (o : Option (List ℕ)) (p : Option Left) → slice_get workers j ≡ o → slice_get left j ≡ p
+          → IfSome o (λ v. IfSome p (λ l. IsOwn v l r))
+          → ((eqb j i ≡ true) × (j ≡ i)) ⊎ ((eqb j i ≡ false) × (j ≢ i))
+          → IfSome o (λ v. IfSome (slice_get (slice_set left i new) j) (λ l. IsOwn v l run_then))
+      at None p is then was by = tt
+      at (Some v) p is then was (inl h) = here v is h.1
+      at (Some v) None is then was (inr h) =
+          subst (λ (o : Option Left). IfSome o (λ l. IsOwn v l run_then)) (sym (set_other left i j new h.1 ∙ then)) tt
+      at (Some v) (Some l) is then was (inr h) =
+          subst (λ (o : Option Left). IfSome o (λ l. IsOwn v l run_then)) (sym (set_other left i j new h.1 ∙ then))
+          (other_then v l (stands_not workers w v i j distinct place is h.1) was)
+
+-- where a worker stands among all, and what is its own there
+worker_at : (workers : List (List ℕ)) (w : List ℕ) (i : ℕ) → position (bytes_eq w) workers ≡ Some i → slice_get workers i ≡ Some w
+worker_at workers w i found =
+    slice_get-get_or workers i w at.0 ∙ ap Some (sym ((bytes_decides w (get_or workers i w)).0 at.1))
   where
-    value : Option (List ℕ) → List ℕ
-    value None = []
-    value (Some w) = w
+    at : (i < length workers) × (bytes_eq w (get_or workers i w) ≡ true)
+        × ((k : ℕ) → k < i → bytes_eq w (get_or workers k w) ≡ false)
+    at = position-Some (bytes_eq w) workers i w found
 
-    at : (o : Option Line) → IfSome o (λ m. m.worker ≡ l.worker) → IfSome o (λ m. m.worker ≡ name)
-    at None h = tt
-    at (Some m) h = h ∙ ap value is
+own_at : (workers : List (List ℕ)) (left : List Left) (w : List ℕ) (i : ℕ) (old : Left) → position (bytes_eq w) workers ≡ Some i
+    → slice_get left i ≡ Some old → (r : Run) → AreOwn workers left r → IsOwn w old r
+own_at workers left w i old place there r are =
+    subst (λ (z : Option (List ℕ) × Option Left). IfSome z.0 (λ v. IfSome z.1 (λ l. IsOwn v l r)))
+    (λ k. (worker_at workers w i place k, there k)) (are i)
 
--- a phase in which nothing is made
-pub phase_nothing : (workers : List (List ℕ)) (lines : List Line) (played : List Lone) (old new : List (ℕ × Call)) → new ≡ old
-    → PlayPhase workers lines played old new
-phase_nothing workers lines played old new same one threads before are h =
-    subst (λ (cs : List (ℕ × Call)). ComeOf (Asks threads) (before ++ lines) cs) (sym same) (come-more (Asks threads) before old lines h)
-
--- a phase that its worker plays
-pub phase_played : (workers : List (List ℕ)) (lines : List Line) (played : List Lone) (name : List ℕ) (i : ℕ) (lone : Lone)
-    (old new : List (ℕ × Call)) (left : List Call) → option_map (λ l. l.worker) (slice_get lines 0) ≡ Some name
-    → place_of name workers ≡ Some i → slice_get played i ≡ Some lone
-    → Play lone.thread lines (reached old []) (reached new left) → PlayPhase workers lines played old new
-phase_played workers lines played name i lone old new left first place there play one threads before are h =
-    come-less (Asks threads) (before ++ lines) new (by_seat lone.thread left)
-    (play threads before seated
-    (subst (λ (cs : List (ℕ × Call)). ComeOf (Asks threads) before cs) (sym (nothing lone.thread)) h))
+-- so a phase leaves what the rules say
+pub phase_run : (limits : Limits) (room : ℕ) (workers : List (List ℕ)) (w : List ℕ) (i : ℕ) (lines : List Line)
+    (book between after : BookView) (names known : List Named) (left : List Left) (old new : Left) (g : List Gathered)
+    (bound : Option Value) (seat : Result ℕ (Option Refusal)) → IsDistinct bytes_eq workers
+    → option_map (λ (l : Line). l.worker) (slice_get lines 0) ≡ Some w → position (bytes_eq w) workers ≡ Some i
+    → slice_get left i ≡ Some old → bound ≡ value_of w names
+    → seat ≡ seated old.thread (seat_for (refusal_by limits room book.journal book.seated) bound)
+    → new.thread ≡ thread_after old.thread seat → between.seated ≡ seated_after book.seated old.thread seat
+    → between.journal ≡ book.journal → after.seated ≡ between.seated
+    → stand after.journal known g new.answers ≡ lines_by limits seat (stand between.journal names [] old.answers) lines
+    → (r : Run) → IsRun workers book names left r
+    → IsRun workers after known (slice_set left i new) (phase_after limits room r lines)
+phase_run limits room workers w i lines book between after names known left old new g bound seat distinct first place there bound_is seat_by
+    thread_is seated_is kept sat is r was =
+    subst (IsRun workers after known (slice_set left i new))
+    (ap (λ (s : Result ℕ (Option Refusal)). played_by limits r w s lines) seat_of_r ∙ phase_is limits room r lines w first)
+    (record {
+      journal = ap (λ (p : Stand). p.events) stands;
+      seated = sat ∙ seated_is ∙ (λ k. seated_after (was.seated k) (mine.thread k) seat)
+          ∙ seats_then w r.seats (thread_of w r.seats) seat;
+      names = ap (λ (p : Stand). p.names) stands;
+      own = each_then limits r w seat lines workers left i old new distinct place there was.own
+          (own_then limits r w seat lines new old.thread after.journal known g same mine.thread thread_is stands);
+    })
   where
-    nothing : (t : Option ℕ) → old ++ by_seat t [] ≡ old
-    nothing None = append-nil old
-    nothing (Some t) = append-nil old
+    same : bytes_eq w w ≡ true
+    same = (bytes_decides w w).1 refl
 
-    own : IfSome lone.thread (λ t. threads name ≡ Some t)
-    own = subst (λ (o : Option Lone). IfSome o (λ l. IfSome l.thread (λ t. threads name ≡ Some t))) there (are name i place)
+    mine : IsOwn w old r
+    mine = own_at workers left w i old place there r was.own
 
-    at : (t : Option ℕ) → IfSome t (λ id. threads name ≡ Some id) → (o : Option Line) → IfSome o (λ l. l.worker ≡ name)
-        → IfSome o (IsSeated threads t)
-    at t is None h = tt
-    at None is (Some l) h = tt
-    at (Some id) is (Some l) h = ap threads h ∙ is
+    seat_of_r : seat ≡ seat_of limits room r w
+    seat_of_r = seat_is limits room r w book names old.thread bound seat mine.thread was.journal was.seated was.names bound_is seat_by
 
-    seated : (j : ℕ) → IfSome (slice_get lines j) (IsSeated threads lone.thread)
-    seated j = at lone.thread own (slice_get lines j) (one_worker lines name one first j)
+    stands : stand after.journal known g new.answers ≡ onto (own w r.told) (own w r.reads) (left_then limits r w seat lines)
+    stands = stands_then limits r w seat lines between.journal after.journal names known g old.answers new.answers
+        (kept ∙ was.journal) was.names mine.told mine.reads is
 
-get_set : {A : Type 0} (xs : List A) (i j : ℕ) (x : A) (P : A → Type 0) → (IfSome (slice_get xs i) (λ y. P x → P y))
-    → IfSome (slice_get (slice_set xs i x) j) P → IfSome (slice_get xs j) P
-get_set [] i j x P keeps h = tt
-get_set (y ∷ ys) zero zero x P keeps h = keeps h
-get_set (y ∷ ys) zero (suc j) x P keeps h = h
-get_set (y ∷ ys) (suc i) zero x P keeps h = h
-get_set (y ∷ ys) (suc i) (suc j) x P keeps h = get_set ys i j x P keeps h
+-- the run of the phases so far, and what the rest of them leaves
+abbrev pub SoFar : Limits → ℕ → List (List ℕ) → BookView → List Named → List Left → List (List Line) → Run → Type 0
+SoFar limits room workers book names left rest all =
+    (r : Run) × IsRun workers book names left r × (run_from limits room r rest ≡ all)
 
--- a worker that keeps its seat
-pub keeps_seats : (played after : List Lone) (i : ℕ) (old new : Lone) → slice_get played i ≡ Some old → after ≡ slice_set played i new
-    → IfSome old.thread (λ t. new.thread ≡ Some t) → KeepSeats played after
-keeps_seats played after i old new there set seat threads workers are worker j place =
-    get_set played i j new (λ l. IfSome l.thread (λ t. threads worker ≡ Some t))
-    (subst (λ (o : Option Lone). IfSome o (λ y. IfSome new.thread (λ t. threads worker ≡ Some t) → IfSome y.thread (λ t. threads worker ≡ Some t)))
-    (sym there) (at old.thread seat))
-    (subst (λ (ls : List Lone). IfSome (slice_get ls j) (λ l. IfSome l.thread (λ t. threads worker ≡ Some t))) set (are worker j place))
+-- so a run whose workers take turns leaves what the rules say
+pub turns_are : (limits : Limits) (script : List (List Line)) (workers : List (List ℕ)) (seats n : ℕ) (text : List ℕ) (made : List Event)
+    → workers ≡ workers_of (lines_in script) → n ≡ length workers → seats ≡ max 1 (min 64 n)
+    → text ≡ text_of (run_from limits seats start script) workers → made ≡ (run_from limits seats start script).events
+    → IsTurns limits script text made
+turns_are limits script workers seats n text made are n_is seats_are text_is made_is = record {
+  output = text_is ∙ (λ i. text_of (run_from limits (room i) start script) (are i));
+  events = made_is ∙ ap (λ (k : ℕ). (run_from limits k start script).events) room;
+}
   where
-    at : (o : Option ℕ) → IfSome o (λ t. new.thread ≡ Some t) → IfSome new.thread (λ t. threads worker ≡ Some t)
-        → IfSome o (λ t. threads worker ≡ Some t)
-    at None kept h = tt
-    at (Some t) kept h = subst (λ (n : Option ℕ). IfSome n (λ u. threads worker ≡ Some u)) kept h
-
--- what is read at a place
-pub get_of : {A : Type 0} (xs : List A) (i : ℕ) (x : A) → i < length xs → x ≡ get_or xs i x → slice_get xs i ≡ Some x
-get_of [] i x lt is = absurd (omega arith)
-get_of (y ∷ ys) zero x lt is = ap Some (sym is)
-get_of (y ∷ ys) (suc i) x lt is = get_of ys i x (omega arith) is
-
-get_own : {A : Type 0} (xs : List A) (i : ℕ) (x y : A) → slice_get xs i ≡ Some y → slice_get (slice_set xs i x) i ≡ Some x
-get_own [] i x y is = absurd (subst (λ (o : Option _). IfSome o (λ z. ⊥)) is tt)
-get_own (z ∷ zs) zero x y is = refl
-get_own (z ∷ zs) (suc i) x y is = get_own zs i x y is
-
--- the same, by what a phase's calls leave
-pub phase_by : (workers : List (List ℕ)) (lines : List Line) (played : List Lone) (name : List ℕ) (i : ℕ) (old lone : Lone) (seat : Option ℕ)
-    (before now new : List Event) (left : List Call) → option_map (λ l. l.worker) (slice_get lines 0) ≡ Some name
-    → place_of name workers ≡ Some i → slice_get played i ≡ Some old → lone.thread ≡ seat → now ≡ before
-    → Play seat lines (reached (calls_of now) []) (reached (calls_of new) left)
-    → PlayPhase workers lines (slice_set played i lone) (calls_of before) (calls_of new)
-phase_by workers lines played name i old lone seat before now new left first place there is same play =
-    phase_played workers lines (slice_set played i lone) name i lone (calls_of before) (calls_of new) left first place
-    (get_own played i lone old there)
-    (subst (λ (p : Option ℕ × List Event). Play p.0 lines (reached (calls_of p.1) []) (reached (calls_of new) left))
-    (λ j. (sym is j, same j)) play)
-
--- and who had a seat has it then
-pub seat_then : (before now after : Option ℕ) → IfSome before (λ t. now ≡ Some t) → after ≡ now → IfSome before (λ t. after ≡ Some t)
-seat_then None now after kept same = tt
-seat_then (Some t) now after kept same = same ∙ kept
-
-pub always : {T E : Type 0} (r : Result T E) (P : Type 0) → P → OnOk r P
-always (Ok x) P h = h
-always (Err e) P h = tt
-
-turn_at : (phases : List (List Line)) (k : ℕ) (lines : List Line) → take_turns phases ≡ true → slice_get phases k ≡ Some lines → is_of_one lines ≡ true
-turn_at [] k lines turns is = absurd (subst (λ (o : Option _). IfSome o (λ z. ⊥)) is tt)
-turn_at (p ∷ ps) zero lines turns is = subst (λ (o : Option (List Line)). IfSome o (λ z. is_of_one z ≡ true)) is (both_true (is_of_one p) (take_turns ps) turns).0
-turn_at (p ∷ ps) (suc k) lines turns is = turn_at ps k lines (both_true (is_of_one p) (take_turns ps) turns).1 is
-
--- the calls so far, of so many phases
-abbrev pub SoFar : List (List ℕ) → List (List Line) → ℕ → List Lone → List Event → Type 0
-SoFar workers phases k played events =
-    take_turns phases ≡ true → (threads : List ℕ → Option ℕ) → AreThreads threads workers played
-    → ComeOf (Asks threads) (lines_in (take k phases)) (calls_of events)
-
--- and of a phase more
-pub so_far_more : (workers : List (List ℕ)) (phases : List (List Line)) (k : ℕ) (lines : List Line) (played after : List Lone) (old new : List Event)
-    → slice_get phases k ≡ Some lines → PlayPhase workers lines after (calls_of old) (calls_of new) → KeepSeats played after
-    → SoFar workers phases k played old → SoFar workers phases (k + 1) after new
-so_far_more workers phases k lines played after old new is play keeps far turns threads are =
-    subst (λ (ls : List Line). ComeOf (Asks threads) ls (calls_of new)) (sym (lines_after phases k lines is))
-    (play (turn_at phases k lines turns is) threads (lines_in (take k phases)) are (far turns threads (keeps threads workers are)))
-
-abbrev seat_in : Option Lone → Option ℕ
-seat_in None = None
-seat_in (Some lone) = lone.thread
-
-abbrev seat_at : List Lone → Option ℕ → Option ℕ
-seat_at played None = None
-seat_at played (Some i) = seat_in (slice_get played i)
-
--- the workers' threads
-abbrev thread_of : List (List ℕ) → List Lone → List ℕ → Option ℕ
-thread_of workers played worker = seat_at played (place_of worker workers)
-
-are_threads : (workers : List (List ℕ)) (played : List Lone) → AreThreads (thread_of workers played) workers played
-are_threads workers played worker i place = by (slice_get played i) refl
-  where
-    of : (o : Option Lone) → slice_get played i ≡ o → thread_of workers played worker ≡ seat_in o
-    of o e = ap (seat_at played) place ∙ ap seat_in e
-
-    by : (o : Option Lone) → slice_get played i ≡ o → IfSome o (λ l. IfSome l.thread (λ t. thread_of workers played worker ≡ Some t))
-    by None e = tt
-    by (Some lone) e = at lone.thread (of (Some lone) e)
-      where
-        at : (t : Option ℕ) → thread_of workers played worker ≡ t → IfSome t (λ id. thread_of workers played worker ≡ Some id)
-        at None h = tt
-        at (Some id) h = h
-
-pub all_asked : (workers : List (List ℕ)) (phases : List (List Line)) (k : ℕ) (played : List Lone) (events : List Event)
-    → take k phases ≡ phases → SoFar workers phases k played events → take_turns phases ≡ true → AreAsked phases events
-all_asked workers phases k played events all far turns = (
-  thread_of workers played,
-  subst (λ (ps : List (List Line)). ComeOf (Asks (thread_of workers played)) (lines_in ps) (calls_of events)) all
-      (far turns (thread_of workers played) (are_threads workers played)),
-)
+    room : seats ≡ room_for (workers_of (lines_in script))
+    room = seats_are ∙ ap (λ (k : ℕ). max 1 (min 64 k)) (n_is ∙ ap length are)

@@ -36,10 +36,9 @@ if_given limits k events = if are_given limits (take k events) then k else 0
 abbrev pub folded : Limits → ℕ → List Event → ℕ
 folded limits n events = if_given limits (min n (length events)) events
 
--- The bytes are the dump of a legal journal whose first events, n or all, are told by their checkpoint.
--- Of the reads it tells those that had seen the first events and that the rules answer as the run did.
-pub record IsRunDump (limits : Limits) (n : ℕ) (reads : List SeenRead) (bytes : List ℕ) : Type 0 where
-  pub events : List Event
+-- The bytes are the dump of these events, which are a legal journal. The first events, n or all, are told by their
+-- checkpoint. Of the reads it tells those that had seen the first events and that the rules answer as the run did.
+pub record IsRunDump (limits : Limits) (n : ℕ) (events : List Event) (reads : List SeenRead) (bytes : List ℕ) : Type 0 where
   pub checkpoint : Checkpoint
   pub legal : IsLegal limits events
   pub made : IsCheckpointOf limits (take (folded limits n events) events) checkpoint
@@ -47,8 +46,12 @@ pub record IsRunDump (limits : Limits) (n : ℕ) (reads : List SeenRead) (bytes 
       (told_reads limits (folded limits n events) events reads))
   pub dump : IsLegalDump limits (Some checkpoint) bytes
 
--- the bytes of a run's file: the dump of a legal journal and of reads where one is asked for, with the
+-- the bytes of a run's file: the dump of these events and of reads where one is asked for, with the
 -- checkpoint of its first n events, and else none
+abbrev pub IsFileOf : Bool → ℕ → Limits → List Event → List ℕ → Type 0
+IsFileOf true n limits events bytes = (reads : List SeenRead) × IsRunDump limits n events reads bytes
+IsFileOf false n limits events bytes = bytes ≡ []
+
+-- the same, of some events
 abbrev pub IsFile : Bool → ℕ → Limits → List ℕ → Type 0
-IsFile true n limits bytes = (reads : List SeenRead) × IsRunDump limits n reads bytes
-IsFile false n limits bytes = bytes ≡ []
+IsFile dump n limits bytes = (events : List Event) × IsFileOf dump n limits events bytes

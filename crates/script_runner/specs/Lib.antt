@@ -1,6 +1,8 @@
+pub mod Answers
 pub mod Dumps
-pub mod Lines
+pub mod Faults
 pub mod Names
 pub mod Output
 pub mod Reads
+pub mod Turns
 pub mod Workers

@@ -1,10 +1,9 @@
 -- The workers of a script, and which scripts are played by one worker at a time.
 use Rattle.std.specs.Prelude.{◌≡◌, ◌≢◌, ℕ, Bool, true, List, [], ◌∷◌, ◌++◌}
-use Rattle.std.specs.Prelude.{map, filter, flat_map, slice_get, IfSome, Some}
+use Rattle.std.specs.Prelude.{map, filter, slice_get, IfSome, Some}
 use Rattle.std.specs.Global.{Vec}
 use Rattle.std.specs.List.{list_all}
 use Rattle.std.specs.Str.{bytes_eq}
-use Rattle.indexmap.specs.IndexSet.{insert_all}
 use Rattle.call_text.specs.declared.phases.Line.{Line}
 
 -- all lines are of a worker
@@ -19,18 +18,6 @@ is_of_one (line ∷ lines) = are_of line.worker (line ∷ lines)
 -- no phase has lines of two workers
 abbrev pub take_turns : List (List Line) → Bool
 take_turns phases = list_all is_of_one phases
-
--- the lines of phases, in their order
-abbrev pub lines_in : List (List Line) → List Line
-lines_in phases = flat_map (λ (lines : List Line). lines) phases
-
--- the workers with those of these lines, each in the order of its first line
-abbrev pub with_workers : List (List ℕ) → List Line → List (List ℕ)
-with_workers workers lines = insert_all bytes_eq workers (map (λ line. line.worker) lines)
-
--- the workers of these lines, in the order of their first lines
-abbrev pub workers_of : List Line → List (List ℕ)
-workers_of lines = with_workers [] lines
 
 -- the lines of a worker, in their order
 abbrev pub lines_of : List ℕ → List Line → List Line

@@ -1,15 +1,30 @@
-//! What the lines of a worker answered.
+//! What the lines of a worker were told.
 //!
 //! A line is printed at the end of the run, with the names as they are bound then. A reply is large, and most of them say
 //! little: what such a reply says is kept in place of it.
-use crate::reads::{Asked, Reads};
+ghost use Rattle.std.specs.Prelude.{◌≡◌, ◌++◌, ◌∷◌, [], ℕ, true, Ok, Err, List, IfOk, IfSome, OnErr, OnOk, is_some, length, slice_get};
+ghost use Rattle.std.specs.Option.{option_map};
+ghost use Rattle.kernel_rules.specs.declared.replies.Reply.{Reply as ReplyValue};
+ghost use Rattle.kernel_rules.specs.declared.replies.Reply.TheVariants as replies;
+ghost use Rattle.text_words.specs.Name.{IsName};
+ghost use Rattle.call_text.specs.Reply.{making, reply_text};
+ghost use Rattle.call_text.specs.declared.known_names.Named.{Named};
+ghost use Rattle.script_rules.specs.Lines.{seen, told};
+ghost use Rattle.script_rules.specs.Output.{answer_text};
+ghost use Rattle.script_runner.specs.Answers.{answer_of, reply_of, AllStay, Keeps};
+ghost use Rattle.script_runner.specs.Output.{Adds, IsAnswer};
+
+use crate::faults::PlayFault;
+use crate::names::BoundNames;
+use crate::reads::{Reads, SeenRead};
 use base::{Data, NoMemory, ObjectId, Refusal};
-use call_text::{Value, write_reply};
+use call_text::{Value, put_made, put_reply, write_reply};
 use kernel_rules::{Mapping, Query, Reply};
 use std::alloc::{AllocError, Global};
+use std::marker::Model;
 use text_words::Name;
 
-/// What a line answered.
+/// What a line was told.
 #[derive(Clone, Copy)]
 pub enum Answer {
     /// Its call was done.
@@ -46,154 +61,357 @@ pub enum Answer {
     Unbound(Name),
 }
 
-/// What a worker's lines answered.
+/// A line, and what it was told.
+#[derive(Clone, Copy)]
+pub struct ToldLine {
+    /// The line's number in the script.
+    pub number: u32,
+    /// What it was told.
+    pub answer: Answer,
+}
+
+/// A query that was answered.
+#[derive(Clone, Copy)]
+pub struct AskedQuery {
+    /// How many events its thread had then seen: the reply is the answer in the state after them.
+    pub length: usize,
+    /// What it asked.
+    pub query: Query,
+    /// What it was answered.
+    pub answer: Answer,
+}
+
+/// What a worker's lines were told, in their order, and which queries were answered. A contract sees both lists.
 #[derive(Drop)]
 pub struct Answers {
-    /// What each line answered, in the lines' order.
-    pub lines: Vec<Answer>,
-    /// Bytes that were read.
-    pub data: Vec<Data>,
-    /// Replies that are kept whole: names can stand in them.
-    pub replies: Vec<Reply>,
-    /// The queries that were answered.
-    pub asked: Vec<Asked>,
+    lines: Vec<ToldLine>,
+    // Bytes that were read.
+    bytes: Vec<Data>,
+    // Replies that are kept whole: names can stand in them.
+    replies: Vec<Reply>,
+    asked: Vec<AskedQuery>,
+}
+
+impl Model for Answers {
+    ghost use Rattle.std.specs.Prelude.{length};
+    ghost use Rattle.script_runner.specs.Answers.{kept_in, AreThere, Kept};
+
+    ghost Value = { Kept };
+
+    ghost view = { λ a. kept_in a.bytes.items a.replies.items a.lines.items a.asked.items };
+
+    ghost invariant = { λ a. AreThere (length a.bytes.items) (length a.replies.items) a.lines.items a.asked.items };
+}
+
+/// What says all of a reply that is small and has no bytes.
+fn short(reply: &Reply) -> Option<Answer>
+    ensures { IfSome result (λ answer. (bytes : List (List ℕ)) (whole : List ReplyValue) → Keeps bytes whole reply.now answer) }
+{
+    match reply {
+        Reply::Done => Some(Answer::Done),
+        Reply::Category(category) => Some(Answer::Made(Value::Category(*category))),
+        Reply::Object(id) => Some(Answer::Made(Value::Object(*id))),
+        Reply::Entered {
+            entry_point,
+            closure,
+        } => Some(Answer::Entered {
+            entry_point: *entry_point,
+            closure: *closure,
+        }),
+        Reply::Quota {
+            quota,
+            used,
+            fixed,
+            immutable,
+        } => Some(Answer::Quota {
+            quota: *quota,
+            used: *used,
+            fixed: *fixed,
+            immutable: *immutable,
+        }),
+        Reply::Pages(pages) => Some(Answer::Pages(*pages)),
+        Reply::Refused(refusal) => Some(Answer::Refused(*refusal)),
+        _ => None,
+    }
+}
+
+/// Keeps bytes among others.
+fn keep_bytes(kept: &mut Vec<Data>, bytes: &Data) -> Result<Answer, NoMemory>
+    ensures stay { (whole : List ReplyValue) → AllStay kept.old.items whole kept.new.items whole }
+    ensures kept { IfOk result (λ answer. (whole : List ReplyValue)
+        → Keeps kept.new.items whole (replies.Bytes bytes.now) answer) }
+{
+    let place = kept.len();
+    kept.push(*bytes)?;
+    Ok(Answer::Bytes(place))
+}
+
+/// Keeps a reply among others.
+fn keep_whole(whole: &mut Vec<Reply>, reply: &Reply) -> Result<Answer, NoMemory>
+    ensures stay { (bytes : List (List ℕ)) → AllStay bytes whole.old.items bytes whole.new.items }
+    ensures kept { IfOk result (λ answer. (bytes : List (List ℕ)) → Keeps bytes whole.new.items reply.now answer) }
+{
+    // For the proof alone: this names a type that a reply holds.
+    let _named: Option<Mapping> = None;
+    let place = whole.len();
+    whole.push(*reply)?;
+    Ok(Answer::Replied(place))
+}
+
+/// Keeps a reply: what is large or has bytes among others.
+fn keep(kept: &mut Vec<Data>, whole: &mut Vec<Reply>, reply: &Reply) -> Result<Answer, NoMemory>
+    ensures stay { AllStay kept.old.items whole.old.items kept.new.items whole.new.items }
+    ensures kept { IfOk result (Keeps kept.new.items whole.new.items reply.now) }
+{
+    if let Some(answer) = short(reply) {
+        return Ok(answer);
+    }
+    match reply {
+        Reply::Bytes(bytes) => keep_bytes(kept, bytes),
+        _ => keep_whole(whole, reply),
+    }
+}
+
+/// Adds a line that was told this.
+fn note_line(lines: &mut Vec<ToldLine>, number: u32, answer: &Answer) -> Result<(), AllocError>
+    ensures ok { OnOk result (lines.new.items ≡ lines.old.items ++ record { number = number; answer = answer.now } ∷ []) }
+    ensures err { OnErr result (lines.new.items ≡ lines.old.items) }
+{
+    // For the proof alone: this names a type that an answer holds.
+    let _named: Option<Value> = None;
+    lines.push(ToldLine {
+        number,
+        answer: *answer,
+    })?;
+    Ok(())
+}
+
+/// Adds a query that was answered so.
+fn note_read(
+    asked: &mut Vec<AskedQuery>,
+    length: usize,
+    query: &Query,
+    answer: &Answer,
+) -> Result<(), AllocError>
+    ensures ok { OnOk result (asked.new.items
+        ≡ asked.old.items ++ record { length = length; query = query.now; answer = answer.now } ∷ []) }
+    ensures err { OnErr result (asked.new.items ≡ asked.old.items) }
+{
+    // For the proof alone: these name types that an answer and a query hold.
+    let _named: Option<Value> = None;
+    let _mapping: Option<Mapping> = None;
+    asked.push(AskedQuery {
+        length,
+        query: *query,
+        answer: *answer,
+    })?;
+    Ok(())
+}
+
+/// The reply of a call that made this.
+fn made_reply(made: &Value) -> Reply
+    ensures { result ≡ making made.now }
+{
+    match made {
+        Value::Category(category) => Reply::Category(*category),
+        Value::Object(id) => Reply::Object(*id),
+    }
+}
+
+/// The reply that is kept so, where its answer says all of it but bytes.
+fn short_reply(answer: &Answer, kept: &[Data]) -> Option<Reply>
+    ensures { IfSome result (λ reply. (whole : List ReplyValue)
+        → (answer_of kept.now whole answer.now ≡ Ok reply) × (reply_of kept.now whole answer.now ≡ reply)) }
+{
+    match answer {
+        Answer::Done => Some(Reply::Done),
+        Answer::Made(made) => Some(made_reply(made)),
+        Answer::Entered {
+            entry_point,
+            closure,
+        } => Some(Reply::Entered {
+            entry_point: *entry_point,
+            closure: *closure,
+        }),
+        Answer::Quota {
+            quota,
+            used,
+            fixed,
+            immutable,
+        } => Some(Reply::Quota {
+            quota: *quota,
+            used: *used,
+            fixed: *fixed,
+            immutable: *immutable,
+        }),
+        Answer::Pages(pages) => Some(Reply::Pages(*pages)),
+        Answer::Refused(refusal) => Some(Reply::Refused(*refusal)),
+        Answer::Bytes(place) => match kept.get(*place) {
+            Some(bytes) => Some(Reply::Bytes(*bytes)),
+            None => None,
+        },
+        Answer::Replied(_) | Answer::Unbound(_) => None,
+    }
+}
+
+/// Adds a reply. One that is not kept was not told.
+fn put_kept(out: &mut Vec<u8>, reply: Option<&Reply>, names: &BoundNames) -> Result<(), PlayFault>
+    ensures text { OnOk result (IfSome reply.entry (λ r. out.new.items ≡ out.old.items ++ reply_text names.now r.now)) }
+    ensures some { OnOk result (is_some reply.entry ≡ true) }
+{
+    match reply {
+        Some(reply) => Ok(put_reply(out, reply, names)?),
+        None => Err(PlayFault::Stopped),
+    }
+}
+
+/// Adds that a name is not known.
+fn put_unbound(out: &mut Vec<u8>, name: &Name) -> Result<(), AllocError>
+    ensures text { OnOk result ((names : List Named)
+        → out.new.items ≡ out.old.items ++ answer_text names (Err name.now)) }
+    ensures name { OnOk result (IsName name.now) }
+{
+    out.extend_from_slice(b"unbound ")?;
+    out.extend_from_slice(name.as_slice())
+}
+
+/// Adds what a line was told.
+fn put_answer(
+    out: &mut Vec<u8>,
+    answer: &Answer,
+    kept: &[Data],
+    whole: &[Reply],
+    names: &BoundNames,
+) -> Result<(), PlayFault>
+    ensures text { OnOk result
+        (out.new.items ≡ out.old.items ++ answer_text names.now (answer_of kept.now whole.now answer.now)) }
+    ensures answer { OnOk result (Adds (IsAnswer names.now) out.old.items out.new.items) }
+{
+    match answer {
+        Answer::Made(made) => Ok(put_made(out, made, names)?),
+        Answer::Replied(place) => put_kept(out, whole.get(*place), names),
+        Answer::Unbound(name) => Ok(put_unbound(out, name)?),
+        _ => put_kept(out, short_reply(answer, kept).as_ref(), names),
+    }
 }
 
 impl Answers {
     /// No answers. It takes no memory before there is one.
-    pub fn none(alloc: Global) -> Answers {
+    pub fn none(alloc: Global) -> Answers
+        ensures told { result.told ≡ [] }
+        ensures reads { result.reads ≡ [] }
+    {
         Answers {
             lines: Vec::new(alloc),
-            data: Vec::new(alloc),
+            bytes: Vec::new(alloc),
             replies: Vec::new(alloc),
             asked: Vec::new(alloc),
         }
     }
 
-    fn keep_bytes(&mut self, bytes: &Data) -> Result<Answer, NoMemory> {
-        let place = self.data.len();
-        self.data.push(*bytes)?;
-        Ok(Answer::Bytes(place))
-    }
-
-    fn keep_whole(&mut self, reply: &Reply) -> Result<Answer, NoMemory> {
-        // For the proof alone: this names a type that a reply holds.
-        let _named: Option<Mapping> = None;
-        let place = self.replies.len();
-        self.replies.push(*reply)?;
-        Ok(Answer::Replied(place))
-    }
-
-    /// Keeps a reply.
-    pub fn keep(&mut self, reply: &Reply) -> Result<Answer, NoMemory> {
-        match reply {
-            Reply::Done => Ok(Answer::Done),
-            Reply::Category(category) => Ok(Answer::Made(Value::Category(*category))),
-            Reply::Object(id) => Ok(Answer::Made(Value::Object(*id))),
-            Reply::Entered {
-                entry_point,
-                closure,
-            } => Ok(Answer::Entered {
-                entry_point: *entry_point,
-                closure: *closure,
-            }),
-            Reply::Quota {
-                quota,
-                used,
-                fixed,
-                immutable,
-            } => Ok(Answer::Quota {
-                quota: *quota,
-                used: *used,
-                fixed: *fixed,
-                immutable: *immutable,
-            }),
-            Reply::Pages(pages) => Ok(Answer::Pages(*pages)),
-            Reply::Refused(refusal) => Ok(Answer::Refused(*refusal)),
-            Reply::Bytes(bytes) => self.keep_bytes(bytes),
-            _ => self.keep_whole(reply),
-        }
-    }
-
-    /// Makes room for one more read, so that it is not lost for want of memory once it is answered.
-    pub fn make_room(&mut self) -> Result<(), AllocError> {
-        self.asked.reserve(1)?;
-        Ok(())
-    }
-
-    /// Keeps a read that was answered so.
-    fn note_read(
-        &mut self,
-        query: &Query,
-        length: usize,
-        answer: &Answer,
-    ) -> Result<(), AllocError> {
-        // For the proof alone: these name types that an answer and a query hold.
+    /// A line is told a reply.
+    pub fn tell(&mut self, number: u32, reply: &Reply) -> Result<(), NoMemory>
+        ensures told { OnOk result (self.new.told ≡ self.old.told ++ told number (Ok reply.now) ∷ []) }
+        ensures reads { OnOk result (self.new.reads ≡ self.old.reads) }
+    {
+        // For the proof alone: this names a type that an answer holds.
         let _named: Option<Value> = None;
-        let _mapping: Option<Mapping> = None;
-        self.asked.push(Asked {
-            length,
-            query: *query,
-            answer: *answer,
-        })?;
-        Ok(())
+        let answer = keep(&mut self.bytes, &mut self.replies, reply)?;
+        Ok(note_line(&mut self.lines, number, &answer)?)
     }
 
-    /// Keeps the reply to a query, and the read.
-    pub fn keep_read(
+    /// A line is told that a name is not known.
+    pub fn tell_unbound(&mut self, number: u32, name: &Name) -> Result<(), AllocError>
+        ensures told { OnOk result (self.new.told ≡ self.old.told ++ told number (Err name.now) ∷ []) }
+        ensures reads { OnOk result (self.new.reads ≡ self.old.reads) }
+    {
+        note_line(&mut self.lines, number, &Answer::Unbound(*name))
+    }
+
+    /// A line is told the reply to a query that was asked after so many events.
+    pub fn tell_read(
         &mut self,
+        number: u32,
         query: &Query,
         length: usize,
         reply: &Reply,
-    ) -> Result<Answer, NoMemory> {
-        let answer = self.keep(reply)?;
-        self.note_read(query, length, &answer)?;
-        Ok(answer)
+    ) -> Result<(), NoMemory>
+        ensures told { OnOk result (self.new.told ≡ self.old.told ++ told number (Ok reply.now) ∷ []) }
+        ensures reads { OnOk result (self.new.reads ≡ self.old.reads ++ seen length query.now reply.now ∷ []) }
+    {
+        // For the proof alone: this names a type that an answer holds.
+        let _named: Option<Value> = None;
+        let answer = keep(&mut self.bytes, &mut self.replies, reply)?;
+        note_read(&mut self.asked, length, query, &answer)?;
+        Ok(note_line(&mut self.lines, number, &answer)?)
     }
 
-    /// The reply to a line whose answer says all of it but bytes.
-    pub fn short_reply(&self, answer: &Answer) -> Option<Reply> {
-        match answer {
-            Answer::Done => Some(Reply::Done),
-            Answer::Entered {
-                entry_point,
-                closure,
-            } => Some(Reply::Entered {
-                entry_point: *entry_point,
-                closure: *closure,
-            }),
-            Answer::Quota {
-                quota,
-                used,
-                fixed,
-                immutable,
-            } => Some(Reply::Quota {
-                quota: *quota,
-                used: *used,
-                fixed: *fixed,
-                immutable: *immutable,
-            }),
-            Answer::Pages(pages) => Some(Reply::Pages(*pages)),
-            Answer::Refused(refusal) => Some(Reply::Refused(*refusal)),
-            Answer::Bytes(place) => match self.data.get(*place) {
-                Some(bytes) => Some(Reply::Bytes(*bytes)),
-                None => None,
-            },
-            _ => None,
+    /// How many lines were told something.
+    pub fn len(&self) -> usize
+        ensures { result ≡ length self.now.told }
+    {
+        self.lines.len()
+    }
+
+    /// The number of the line at a place.
+    pub fn number(&self, place: usize) -> Option<u32>
+        ensures { result ≡ option_map (λ t. t.number) (slice_get self.now.told place) }
+    {
+        match self.lines.get(place) {
+            Some(line) => Some(line.number),
+            None => None,
         }
     }
 
-    /// What a read was answered, as it is printed where no name is known.
-    pub fn text_of(&self, alloc: Global, answer: &Answer) -> Result<Option<Vec<u8>>, NoMemory> {
+    /// Adds what the line at a place was told.
+    pub fn put(&self, out: &mut Vec<u8>, place: usize, names: &BoundNames) -> Result<(), PlayFault>
+        ensures text { OnOk result (IfSome (slice_get self.now.told place)
+            (λ t. out.new.items ≡ out.old.items ++ answer_text names.now t.answer)) }
+        ensures answer { OnOk result (Adds (IsAnswer names.now) out.old.items out.new.items) }
+    {
+        let Some(line) = self.lines.get(place) else {
+            return Err(PlayFault::Stopped);
+        };
+        put_answer(
+            out,
+            &line.answer,
+            self.bytes.as_slice(),
+            self.replies.as_slice(),
+            names,
+        )
+    }
+
+    /// What a query was answered, as it is printed where no name is known.
+    fn text_of(&self, alloc: Global, answer: &Answer) -> Result<Option<Vec<u8>>, NoMemory> {
         let _named: Option<Mapping> = None;
         let reply = match answer {
             Answer::Replied(place) => self.replies.get(*place).copied(),
-            _ => self.short_reply(answer),
+            _ => short_reply(answer, self.bytes.as_slice()),
         };
         match &reply {
             Some(reply) => Ok(Some(write_reply(alloc, reply, &[])?)),
             None => Ok(None),
         }
+    }
+
+    /// Adds the queries that were answered, as reads of a thread.
+    pub fn add_reads(
+        &self,
+        alloc: Global,
+        thread: ObjectId,
+        all: &mut Vec<SeenRead>,
+    ) -> Result<(), NoMemory> {
+        for asked in &self.asked {
+            if let Some(text) = self.text_of(alloc, &asked.answer)? {
+                all.push(SeenRead {
+                    thread,
+                    length: asked.length,
+                    query: asked.query,
+                    text,
+                })?;
+            }
+        }
+        Ok(())
     }
 }
 
@@ -202,7 +420,7 @@ impl Answers {
 pub struct Left {
     /// Its thread, where that was given a seat.
     pub thread: Option<ObjectId>,
-    /// What its lines answered.
+    /// What its lines were told.
     pub answers: Answers,
 }
 

@@ -100,7 +100,7 @@ pub fn dump_of(
     tables: Tables,
 ) -> Result<Vec<u8>, NoMemory>
     requires { IsPlayed limits.now events.now tables }
-    ensures { IfOk result (λ bytes. IsRunDump limits.now first reads.now bytes.items) }
+    ensures { IfOk result (λ bytes. IsRunDump limits.now first events.now reads.now bytes.items) }
 {
     later_are_legal();
     let first = at_most(first, events);

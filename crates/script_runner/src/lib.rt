@@ -3,12 +3,12 @@
 //! A script is read whole before a line of it is played, and all output is made before a byte of it goes out. The dump
 //! of a run is proved to be that of a legal journal, the book's at the end, and of reads that the rules answer as the
 //! run did. The output is proved to have each line of the script once, in the stated order and with its number, and with the
-//! text of a reply. That this reply is what its call answered, and which status and fault line a run ends with, is shown by
-//! tests. So are that the workers of a phase run at once, and that no read is left out.
+//! text of a reply. Where no phase has lines of two workers, answers, output and journal are proved to be those of the script's
+//! run by the rules (`script_rules`). Where workers share a phase, that a reply is what its call answered is shown by tests. So
+//! are which status and fault line a run ends with, that the workers of a phase run at once, and that no read is left out.
 #![tactic(auto)]
 
 mod answers;
-mod asking;
 mod batches;
 mod closings;
 mod desks;
@@ -19,6 +19,7 @@ mod lone_play;
 mod names;
 mod parts;
 mod play;
+mod players;
 mod printing;
 mod program;
 mod reads;
@@ -31,5 +32,5 @@ pub use faults::PlayFault;
 pub use gates::{Always, Gate, Turn};
 pub use names::{BoundNames, WorkerNames};
 pub use play::{Played, play_all, play_at_once};
-pub use program::{Ended, NAME, histar_on};
+pub use program::{NAME, RunFault, histar_on};
 pub use reads::{Reads, SeenRead, seen_reads};

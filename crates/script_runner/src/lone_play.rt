@@ -1,254 +1,197 @@
 //! Playing a script whose workers take turns: in one thread, on one kernel that has no copies.
-ghost use Rattle.std.specs.Prelude.{◌≡◌, [], true, IfOk, IfSome, OnOk};
-ghost use Rattle.histories.specs.History.{calls_of, state_of};
+ghost use Rattle.std.specs.Prelude.{◌≡◌, [], ℕ, None, IfOk, IfSome, OnOk, slice_get};
+ghost use Rattle.std.specs.List.{IsDistinct};
+ghost use Rattle.std.specs.Str.{bytes_eq};
+ghost use Rattle.histories.specs.History.{state_of};
 ghost use Rattle.kernel_rules.specs.Scratch.{scratch};
+ghost use Rattle.call_text.specs.Known.{start_values};
+ghost use Rattle.script_rules.specs.Output.{text_of};
+ghost use Rattle.script_rules.specs.Run.{phase_after, refusal_by, run_from, seat_for, seated, start, unless_refused, Run};
 ghost use Rattle.script_runner.specs.Dumps.{IsPlayed};
-ghost use Rattle.script_runner.specs.Lines.{reached, AreAsked, KeepSeats, Play, PlayPhase};
+ghost use Rattle.script_rules.specs.Workers.{lines_in};
 ghost use Rattle.script_runner.specs.Output.{AreToldBy};
-ghost use Rattle.script_runner.specs.Workers.{lines_in, take_turns};
+ghost use Rattle.script_runner.specs.Turns.{seated_after, thread_after, IsRun, IsUnplayed};
 
-use crate::answers::Left;
+use crate::answers::{Answers, Left};
+use crate::batches::Batch;
 use crate::desks::SoleDesk;
 use crate::faults::PlayFault;
-use crate::gates::{Gate, Turn};
 use crate::names::BoundNames;
 use crate::play::Played;
-use crate::printing::{Answered, Told, told_of};
-use crate::workers::Worker;
-use base::{Limits, Meter, ObjectId};
+use crate::players::Player;
+use crate::printing::{Told, told_of};
+use base::{Limits, ObjectId, Refusal};
 use call_text::{Known, Phase, Script, Value};
 use indexmap::IndexSet;
-use kernel_rules::Tables;
-use published_copy::{Naming, SoleBook};
+use kernel_rules::{Call, Reply, Tables};
+use published_copy::Naming;
 use std::alloc::{AllocError, Global};
-use std::mem;
-use std::sync::Wait;
 use text_words::Name;
 
-/// A worker with its thread, where that was given a seat.
-#[derive(Drop)]
-struct Lone {
-    thread: Option<ObjectId>,
-    worker: Worker,
-}
-
-impl Lone {
-    /// Gives its thread a seat.
-    fn open<B: Naming>(&mut self, book: &mut SoleBook<B>, thread: ObjectId)
-        ensures journal { book.new.journal ≡ book.old.journal }
-    {
-        match book.seat(thread) {
-            Ok(()) => self.thread = Some(thread),
-            Err(refusal) => self.worker.refusal = Some(refusal),
-        }
-    }
-
-    /// Gives its thread a seat where it has none and its name is bound to an object.
-    fn sit<B: Naming>(&mut self, book: &mut SoleBook<B>, bound: Option<Value>)
-        ensures seat { IfSome self.old.thread (λ t. self.new.thread ≡ Some t) }
-        ensures journal { book.new.journal ≡ book.old.journal }
-    {
-        if self.thread.is_some() {
-            return;
-        }
-        match &bound {
-            Some(Value::Object(thread)) => self.open(book, *thread),
-            _ => {}
-        }
-    }
-
-    /// Plays the lines of a phase, with these names beside its own.
-    fn play_lines<B: Naming, R: Wait, G: Gate>(
-        &mut self,
-        rt: &R,
-        gate: &G,
-        desk: &mut SoleDesk<B>,
-        index: usize,
-        phase: &Phase,
-        names: &BoundNames,
-    ) -> Result<(), PlayFault>
-        ensures made { OnOk result (Play desk.old.thread phase.now
-            (reached (calls_of desk.old.book.journal) self.old.worker.batch.calls.items)
-            (reached (calls_of desk.new.book.journal) self.new.worker.batch.calls.items)) }
-        ensures seat { self.new.thread ≡ self.old.thread }
-    {
-        for place in 0..phase.len() {
-            let Some(line) = phase.line(place) else {
-                return Ok(());
-            };
-            if self.worker.play_line(rt, gate, desk, index, &line, names)? == Turn::Stop {
-                return Err(PlayFault::Stopped);
-            }
-        }
-        Ok(())
-    }
-
-    /// Plays a phase of which all lines are its own, at its turn. It has all names as its own for so long, and binds among
-    /// them: no other worker plays, and a script binds no name twice.
-    fn play<B: Naming, R: Wait, G: Gate>(
-        &mut self,
-        rt: &R,
-        gate: &G,
-        desk: &mut SoleDesk<B>,
-        index: usize,
-        phase: &Phase,
-        names: &mut BoundNames,
-    ) -> Result<(), PlayFault>
-        ensures made { OnOk result (Play self.old.thread phase.now
-            (reached (calls_of desk.old.book.journal) [])
-            (reached (calls_of desk.new.book.journal) self.new.worker.batch.calls.items)) }
-        ensures seat { self.new.thread ≡ self.old.thread }
-    {
-        desk.thread = self.thread;
-        self.worker.begin();
-        mem::swap(&mut self.worker.own, names);
-        let played = self.play_lines(rt, gate, desk, index, phase, names);
-        mem::swap(&mut self.worker.own, names);
-        self.worker.refusal = None;
-        played
-    }
-}
-
-/// The workers of a script, none with a seat.
-fn idle(alloc: Global, count: usize) -> Result<Vec<Lone>, AllocError> {
-    let mut idle = Vec::new(alloc);
-    for _ in 0..count {
-        idle.push(Lone {
-            thread: None,
-            worker: Worker::new(alloc),
-        })?;
-    }
-    Ok(idle)
-}
-
-/// Plays a phase, whose lines are all of one worker.
-fn play_phase<B: Naming, R: Wait, G: Gate>(
-    rt: &R,
+/// A seat for the thread of a worker that has none, or what refuses it one.
+fn open<B: Naming>(
+    own: &mut Left,
     desk: &mut SoleDesk<B>,
+    thread: ObjectId,
+) -> Result<ObjectId, Option<Refusal>>
+    ensures seat { result ≡ unless_refused thread
+        (refusal_by B.boot.limits B.boot.seats desk.old.journal desk.old.seated thread) }
+    ensures thread { own.old.thread ≡ None → own.new.thread ≡ thread_after None result }
+    ensures answers { own.new.answers ≡ own.old.answers }
+    ensures seated { desk.new.seated ≡ seated_after desk.old.seated None result }
+    ensures journal { desk.new.journal ≡ desk.old.journal }
+{
+    match desk.seat(thread) {
+        Ok(seated) => {
+            own.thread = Some(seated);
+            Ok(seated)
+        }
+        Err(refusal) => Err(refusal),
+    }
+}
+
+/// The seat of a worker, which is given one where it has none and its name is bound to an object, or what refuses it one.
+fn sit<B: Naming>(
+    own: &mut Left,
+    desk: &mut SoleDesk<B>,
+    bound: &Option<Value>,
+) -> Result<ObjectId, Option<Refusal>>
+    ensures seat { result ≡ seated own.old.thread
+        (seat_for (refusal_by B.boot.limits B.boot.seats desk.old.journal desk.old.seated) bound.now) }
+    ensures thread { own.new.thread ≡ thread_after own.old.thread result }
+    ensures answers { own.new.answers ≡ own.old.answers }
+    ensures seated { desk.new.seated ≡ seated_after desk.old.seated own.old.thread result }
+    ensures journal { desk.new.journal ≡ desk.old.journal }
+{
+    match own.thread {
+        Some(thread) => Ok(thread),
+        None => match bound {
+            Some(Value::Object(thread)) => open(own, desk, *thread),
+            Some(Value::Category(_)) => Err(None),
+            None => Err(None),
+        },
+    }
+}
+
+/// Plays a phase, for the worker of its first line.
+fn play_phase<B: Naming>(
+    player: &mut Player<B>,
     phase: &Phase,
-    gate: &G,
     workers: &IndexSet<Name>,
-    played: &mut Vec<Lone>,
-    names: &mut BoundNames,
+    played: &mut Vec<Left>,
 ) -> Result<(), PlayFault>
-    ensures made { OnOk result (PlayPhase workers.now.keys phase.now played.new.items
-        (calls_of desk.old.book.journal) (calls_of desk.new.book.journal)) }
-    ensures seats { OnOk result (KeepSeats played.old.items played.new.items) }
+    requires { IsDistinct bytes_eq workers.now.keys }
+    ensures { OnOk result ((r : Run)
+        → IsRun workers.now.keys player.old.desk player.old.names played.old.items r
+        → IsRun workers.now.keys player.new.desk player.new.names played.new.items
+        (phase_after B.boot.limits B.boot.seats r phase.now)) }
 {
     let Some(name) = phase.worker(0) else {
         return Ok(());
     };
     let Some(index) = workers.get_index_of(&name) else {
-        return Ok(());
+        return Err(PlayFault::Stopped);
     };
-    let Some(lone) = played.get_mut(index) else {
-        return Ok(());
+    let Some(own) = played.get_mut(index) else {
+        return Err(PlayFault::Stopped);
     };
-    lone.sit(&mut desk.book, names.value_of(&name));
-    lone.play(rt, gate, desk, index, phase, names)
+    let bound = player.names.value_of(&name);
+    let seat = sit(own, &mut player.desk, &bound);
+    Ok(player.play_lines(&seat, phase, &mut own.answers)?)
 }
 
-/// What the workers leave, who have no answers then.
-fn left_by(alloc: Global, played: &mut Vec<Lone>) -> Result<Vec<Left>, AllocError> {
-    let mut left = Vec::with_capacity(alloc, played.len())?;
-    for lone in played {
-        left.push(Left {
-            thread: lone.thread,
-            answers: lone.worker.take_answers(alloc),
+/// The workers of a script, none with a seat.
+fn idle(alloc: Global, count: usize) -> Result<Vec<Left>, AllocError>
+    ensures { IfOk result (λ idle. (i : ℕ) → IfSome (slice_get idle.items i) IsUnplayed) }
+{
+    let mut idle = Vec::new(alloc);
+    for _ in 0..count {
+        idle.push(Left {
+            thread: None,
+            answers: Answers::none(alloc),
         })?;
     }
-    Ok(left)
+    Ok(idle)
 }
 
-/// Plays the phases one after another.
-fn play_phases<B: Naming, R: Wait, G: Gate>(
-    rt: &R,
-    desk: &mut SoleDesk<B>,
-    script: &Script,
-    workers: &IndexSet<Name>,
-    gate: &G,
-    played: &mut Vec<Lone>,
-    names: &mut BoundNames,
-) -> Result<(), PlayFault>
-    requires { desk.old.book.journal ≡ [] }
-    ensures { OnOk result (take_turns script.now ≡ true → AreAsked script.now desk.new.book.journal) }
-{
-    for phase in &script.phases {
-        play_phase(rt, desk, phase, gate, workers, played, names)?;
-    }
-    Ok(())
-}
-
-/// Plays a script, and says what its lines answered.
-fn play_script<B: Naming, R: Wait, G: Gate>(
-    rt: &R,
+/// Plays the phases of a script one after another, and says what the workers leave.
+fn play_phases<B: Naming>(
     alloc: Global,
-    desk: &mut SoleDesk<B>,
+    player: &mut Player<B>,
     script: &Script,
     workers: &IndexSet<Name>,
-    gate: &G,
-) -> Result<Answered, PlayFault>
-    requires { desk.old.book.journal ≡ [] }
-    ensures { OnOk result (take_turns script.now ≡ true → AreAsked script.now desk.new.book.journal) }
+) -> Result<Vec<Left>, PlayFault>
+    requires journal { player.old.desk.journal ≡ [] }
+    requires seated { player.old.desk.seated ≡ [] }
+    requires names { player.old.names ≡ start_values }
+    ensures { IfOk result (λ left. IsRun workers.now.keys player.new.desk player.new.names left.items
+        (run_from B.boot.limits B.boot.seats start script.now)) }
 {
-    let mut names = BoundNames::start(alloc)?;
     let mut played = idle(alloc, workers.len())?;
-    play_phases(rt, desk, script, workers, gate, &mut played, &mut names)?;
-    let left = left_by(alloc, &mut played)?;
-    Ok(Answered { left, names })
+    for phase in &script.phases {
+        play_phase(player, phase, workers, &mut played)?;
+    }
+    Ok(played)
 }
 
-/// What a script leaves to be told, and the tables of the state in which it leaves the book.
-fn told_in<B: Naming, R: Wait, G: Gate>(
-    rt: &R,
+/// What a script prints, what was read, and the tables of the state in which it leaves the kernel.
+fn told_in<B: Naming>(
     alloc: Global,
-    desk: &mut SoleDesk<B>,
+    player: &mut Player<B>,
     script: &Script,
     workers: &IndexSet<Name>,
-    gate: &G,
 ) -> Result<(Told, Tables), PlayFault>
-    requires { desk.old.book.journal ≡ [] }
-    ensures lines { OnOk result (take_turns script.now ≡ true → AreAsked script.now desk.new.book.journal) }
+    requires journal { player.old.desk.journal ≡ [] }
+    requires seated { player.old.desk.seated ≡ [] }
+    requires names { player.old.names ≡ start_values }
+    ensures text { IfOk result (λ told. told.0.output.items
+        ≡ text_of (run_from B.boot.limits B.boot.seats start script.now) workers.now.keys) }
     ensures output { IfOk result (λ told. AreToldBy workers.now.keys (lines_in script.now) told.0.output.items) }
-    ensures tables { IfOk result (λ told. told.1 ≡ scratch (state_of B.boot.limits desk.new.book.journal)) }
+    ensures events { OnOk result (player.new.desk.journal
+        ≡ (run_from B.boot.limits B.boot.seats start script.now).events) }
+    ensures tables { IfOk result (λ told. told.1 ≡ scratch (state_of B.boot.limits player.new.desk.journal)) }
 {
-    let answered = play_script(rt, alloc, desk, script, workers, gate)?;
-    let told = told_of(alloc, script, workers, answered)?;
-    let mut meter = Meter::new(alloc)?;
-    let tables = desk.book.kernel().tables(&mut meter)?;
+    let left = play_phases(alloc, player, script, workers)?;
+    let told = told_of(alloc, script, workers, left, &player.names)?;
+    let tables = player.desk.tables(alloc)?;
     Ok((told, tables))
 }
 
 /// Plays a script on a newly booted kernel for so many seats, and makes the output. No phase has lines of two
 /// workers. (Who owns the book has no place to leave early: its drop would be written out at each.)
-pub fn play_alone<B: Naming, R: Wait, G: Gate>(
-    rt: &R,
+pub fn play_alone<B: Naming>(
     alloc: Global,
     limits: &Limits,
     seats: usize,
     script: &Script,
     workers: &IndexSet<Name>,
-    gate: &G,
 ) -> Result<Played, PlayFault>
     requires limits { limits.now ≡ B.boot.limits }
     requires seats { seats ≡ B.boot.seats }
     ensures played { IfOk result (λ played. IsPlayed limits.now played.events.items played.tables) }
-    ensures lines { IfOk result
-        (λ played. take_turns script.now ≡ true → AreAsked script.now played.events.items) }
+    ensures text { IfOk result (λ played. played.output.items
+        ≡ text_of (run_from limits.now seats start script.now) workers.now.keys) }
     ensures output { IfOk result (λ played. AreToldBy workers.now.keys (lines_in script.now) played.output.items) }
+    ensures events { IfOk result (λ played. played.events.items
+        ≡ (run_from limits.now seats start script.now).events) }
 {
-    let mut desk = SoleDesk {
-        book: SoleBook::<B>::boot(alloc, limits, seats)?,
-        thread: None,
-        length: 0,
+    let names = BoundNames::start(alloc)?;
+    let mut player = Player::<B> {
+        desk: SoleDesk::<B>::boot(alloc, limits, seats)?,
+        names,
+        batch: Batch::none(alloc),
+        call: Call::CatCreate,
+        reply: Reply::Done,
     };
-    let told = told_in(rt, alloc, &mut desk, script, workers, gate);
-    let SoleDesk {
-        book,
-        thread: _,
-        length: _,
-    } = desk;
-    let events = book.into_events();
+    let told = told_in(alloc, &mut player, script, workers);
+    let Player {
+        desk,
+        names: _,
+        batch: _,
+        call: _,
+        reply: _,
+    } = player;
+    let events = desk.into_events();
     let (told, tables) = told?;
     let Told { output, reads } = told;
     Ok(Played {

@@ -4,7 +4,8 @@ ghost use Rattle.std.specs.Option.{option_or};
 ghost use Rattle.call_text.specs.declared.known_names.Named.{Named as NamedValue};
 ghost use Rattle.call_text.specs.Known.{start_values};
 ghost use Rattle.indexmap.specs.IndexMap.{get, IsUnchanged};
-ghost use Rattle.script_runner.specs.Names.{bound, all_bound, first_name, AreFirst};
+ghost use Rattle.script_rules.specs.Names.{bound};
+ghost use Rattle.script_runner.specs.Names.{all_bound, first_name, AreFirst};
 
 use call_text::{Known, Named, Value, start_names};
 use indexmap::IndexMap;

@@ -3,8 +3,10 @@ ghost use Rattle.std.specs.Prelude.{◌≡◌, [], ◌∷◌, ℕ, true, List, I
 ghost use Rattle.std.specs.List.{list_any, IsDistinct};
 ghost use Rattle.std.specs.Str.{bytes_eq};
 ghost use Rattle.indexmap.specs.IndexSet.{insert_key};
+ghost use Rattle.script_rules.specs.Workers as rules;
 ghost use Rattle.script_runner.specs.Workers as spec;
-ghost use Rattle.script_runner.specs.Workers.{lines_in, with_workers, AreNumbers, WithLines, WithNumber};
+ghost use Rattle.script_rules.specs.Workers.{lines_in, with_workers};
+ghost use Rattle.script_runner.specs.Workers.{AreNumbers, WithLines, WithNumber};
 
 use call_text::{Line, Phase, Script};
 use indexmap::IndexSet;
@@ -99,7 +101,7 @@ fn add_workers(workers: &mut IndexSet<Name>, phase: &Phase) -> Result<(), AllocE
 
 /// The workers of a script.
 pub fn workers_of(alloc: Global, script: &Script) -> Result<Workers, AllocError>
-    ensures names { IfOk result (λ workers. workers.names.keys ≡ spec.workers_of (lines_in script.now)) }
+    ensures names { IfOk result (λ workers. workers.names.keys ≡ rules.workers_of (lines_in script.now)) }
     ensures turns { IfOk result (λ workers. workers.take_turns ≡ spec.take_turns script.now) }
 {
     let mut names = IndexSet::new(alloc);

@@ -1,10 +1,11 @@
 //! Playing a script.
-ghost use Rattle.std.specs.Prelude.{◌≡◌, ◌<◌, ◌≤◌, true, IfOk};
+ghost use Rattle.std.specs.Prelude.{◌≡◌, ◌<◌, ◌≤◌, true, max, min, IfOk};
 ghost use Rattle.script_runner.specs.Dumps.{IsPlayed};
-ghost use Rattle.script_runner.specs.Lines.{AreAsked};
+ghost use Rattle.script_rules.specs.Workers as rules;
+ghost use Rattle.script_rules.specs.Workers.{lines_in};
 ghost use Rattle.script_runner.specs.Output.{AreToldBy, IsOutput};
-ghost use Rattle.script_runner.specs.Workers as spec;
-ghost use Rattle.script_runner.specs.Workers.{lines_in};
+ghost use Rattle.script_runner.specs.Turns.{IsTurns};
+ghost use Rattle.script_runner.specs.Workers.{take_turns};
 
 use crate::faults::PlayFault;
 use crate::gates::Gate;
@@ -40,7 +41,8 @@ pub struct Played {
 
 /// How many seats so many workers can have, of the most that a boot has.
 fn seats_for(workers: usize) -> usize
-    ensures { (0 < result) × (result ≤ 64) }
+    ensures seats { result ≡ max 1 (min 64 workers) }
+    ensures within { (0 < result) × (result ≤ 64) }
 {
     workers.clamp(1, 64)
 }
@@ -63,6 +65,23 @@ fn play_seated<R: Threads + Wait + Sync, G: Gate>(
     }
 }
 
+/// Plays a script of these workers, who take turns, on one newly booted kernel without copies.
+fn play_turns(
+    alloc: Global,
+    script: &Script,
+    workers: &IndexSet<Name>,
+    limits: &Limits,
+) -> Result<Played, PlayFault>
+    requires { workers.now.keys ≡ rules.workers_of (lines_in script.now) }
+    ensures turns { IfOk result (λ played. take_turns script.now ≡ true
+        → IsTurns limits.now script.now played.output.items played.events.items) }
+    ensures output { IfOk result (λ played. AreToldBy workers.now.keys (lines_in script.now) played.output.items) }
+    ensures played { IfOk result (λ played. IsPlayed limits.now played.events.items played.tables) }
+{
+    let seats = seats_for(workers.len());
+    play_alone::<Brand>(alloc, limits, seats, script, workers)
+}
+
 /// Plays a script on a newly booted kernel: its phases one after another, in each the workers at once, each one with a
 /// seat in a thread of its own; after each phase every seat has seen what every other was told of. Where no phase has
 /// lines of two workers, none plays beside another, and all are played in this thread, on one kernel that has no copies. A
@@ -71,8 +90,8 @@ fn play_seated<R: Threads + Wait + Sync, G: Gate>(
 /// for all threads that it starts. Nothing is printed after a fault. The journal and the tables are the book's at the end:
 /// the journal is legal, and the tables are those of the state that it leads to. The limits are then in range. Which
 /// lines are printed, in which order and with which numbers, depends on the script alone; each has the text of a reply, or
-/// of a name that is not known. Where the workers take turns, each call of the journal is asked, for some meaning of the
-/// line's names, by a line of the worker whose thread made it, in the order of the lines, and no line asks two.
+/// of a name that is not known. Where the workers take turns, the output and the journal are those of the script's run by
+/// the rules: each line has the reply of the rules in the state in which its turn came. No gate is asked then.
 pub fn play_all<R: Threads + Wait + Sync, G: Gate>(
     rt: &R,
     alloc: Global,
@@ -80,17 +99,19 @@ pub fn play_all<R: Threads + Wait + Sync, G: Gate>(
     limits: &Limits,
     gate: &G,
 ) -> Result<Played, PlayFault>
-    ensures lines { IfOk result
-        (λ played. spec.take_turns script.now ≡ true → AreAsked script.now played.events.items) }
+    ensures turns { IfOk result (λ played. take_turns script.now ≡ true
+        → IsTurns limits.now script.now played.output.items played.events.items) }
     ensures output { IfOk result (λ played. IsOutput script.now played.output.items) }
     ensures played { IfOk result (λ played. IsPlayed limits.now played.events.items played.tables) }
 {
-    let Workers { names, take_turns } = workers_of(alloc, script)?;
-    if !take_turns {
+    let Workers {
+        names,
+        take_turns: turns,
+    } = workers_of(alloc, script)?;
+    if !turns {
         return play_seated(rt, alloc, script, &names, limits, gate);
     }
-    let seats = seats_for(names.len());
-    play_alone::<Brand, R, G>(rt, alloc, limits, seats, script, &names, gate)
+    play_turns(alloc, script, &names, limits)
 }
 
 /// Plays a script as `play_all` does where its workers play at once, also where they take turns. What it leaves is the

@@ -1,28 +1,20 @@
 //! What the lines of a script print.
-ghost use Rattle.std.specs.Prelude.{List, IfOk, OnOk};
-ghost use Rattle.call_text.specs.declared.known_names.Named.{Named};
-ghost use Rattle.script_runner.specs.Output.{Adds, AreJoined, AreToldBy, IsAnswer, IsToldBy};
-ghost use Rattle.script_runner.specs.Workers.{lines_in};
+ghost use Rattle.std.specs.Prelude.{◌≡◌, ◌++◌, IfOk, IfSome, OnOk, flat_map, slice_get};
+ghost use Rattle.script_rules.specs.Output.{answer_text, line_text, text_of, told_text};
+ghost use Rattle.script_rules.specs.Run.{Run};
+ghost use Rattle.script_rules.specs.Workers.{lines_in};
+ghost use Rattle.script_runner.specs.Output.{Adds, AreJoined, AreToldBy, IsToldBy};
+ghost use Rattle.script_runner.specs.Turns.{AreOwn};
 
-use crate::answers::{Answer, Answers, Left};
+use crate::answers::{Answers, Left};
 use crate::faults::PlayFault;
 use crate::names::BoundNames;
 use crate::parts::numbers_of;
 use crate::reads::Reads;
-use call_text::{Script, put_made, put_reply};
+use call_text::Script;
 use indexmap::IndexSet;
-use kernel_rules::Reply;
 use std::alloc::{AllocError, Global};
 use text_words::{Name, put_name, put_number};
-
-/// What was played: what each worker leaves, in the order of their first lines, and the names as they are bound at the end.
-#[derive(Drop)]
-pub struct Answered {
-    /// What each worker leaves.
-    pub left: Vec<Left>,
-    /// The names.
-    pub names: BoundNames,
-}
 
 /// What a run prints, and the reads in it.
 #[derive(Drop)]
@@ -33,62 +25,29 @@ pub struct Told {
     pub reads: Vec<Reads>,
 }
 
-/// Adds a reply. A line that has none was not played.
-fn put_kept(out: &mut Vec<u8>, reply: Option<&Reply>, names: &BoundNames) -> Result<(), PlayFault>
-    ensures { OnOk result (Adds (IsAnswer names.now) out.old.items out.new.items) }
-{
-    match reply {
-        Some(reply) => Ok(put_reply(out, reply, names)?),
-        None => Err(PlayFault::Stopped),
-    }
-}
-
-/// Adds that a name is not known.
-fn put_unbound(out: &mut Vec<u8>, name: &Name) -> Result<(), AllocError>
-    ensures { OnOk result ((names : List Named) → Adds (IsAnswer names) out.old.items out.new.items) }
-{
-    out.extend_from_slice(b"unbound ")?;
-    out.extend_from_slice(name.as_slice())
-}
-
-/// Adds a line's own words.
-fn put_answer(
-    out: &mut Vec<u8>,
-    answer: &Answer,
-    answers: &Answers,
-    names: &BoundNames,
-) -> Result<(), PlayFault>
-    ensures { OnOk result (Adds (IsAnswer names.now) out.old.items out.new.items) }
-{
-    match answer {
-        Answer::Made(made) => Ok(put_made(out, made, names)?),
-        Answer::Replied(place) => put_kept(out, answers.replies.get(*place), names),
-        Answer::Unbound(name) => Ok(put_unbound(out, name)?),
-        _ => put_kept(out, answers.short_reply(answer).as_ref(), names),
-    }
-}
-
-/// Adds a worker's line with this number.
+/// Adds a worker's line with this number, which stands at this place among those that were told something.
 fn put_line(
     out: &mut Vec<u8>,
     worker: &Name,
     number: u32,
-    answer: &Answer,
     answers: &Answers,
+    place: usize,
     names: &BoundNames,
 ) -> Result<(), PlayFault>
-    ensures { OnOk result (Adds (IsToldBy names.now worker.now number) out.old.items out.new.items) }
+    ensures text { OnOk result (IfSome (slice_get answers.now.told place) (λ t. out.new.items
+        ≡ out.old.items ++ line_text worker.now number (answer_text names.now t.answer))) }
+    ensures told { OnOk result (Adds (IsToldBy names.now worker.now number) out.old.items out.new.items) }
 {
     put_name(out, worker)?;
     out.push(b' ')?;
     put_number(out, u64::from(number))?;
     out.extend_from_slice(b": ")?;
-    put_answer(out, answer, answers, names)?;
+    answers.put(out, place, names)?;
     out.push(b'\n')?;
     Ok(())
 }
 
-/// Adds a worker's lines, which have these numbers.
+/// Adds a worker's lines, which have these numbers. There is a fault where others were told something.
 fn put_worker(
     out: &mut Vec<u8>,
     worker: &Name,
@@ -96,13 +55,20 @@ fn put_worker(
     answers: &Answers,
     names: &BoundNames,
 ) -> Result<(), PlayFault>
-    ensures { OnOk result (Adds (AreJoined (IsToldBy names.now worker.now) numbers.now) out.old.items out.new.items) }
+    ensures text { OnOk result (out.new.items ≡ out.old.items ++ flat_map (told_text names.now worker.now) answers.now.told) }
+    ensures told { OnOk result (Adds (AreJoined (IsToldBy names.now worker.now) numbers.now) out.old.items out.new.items) }
 {
+    if answers.len() != numbers.len() {
+        return Err(PlayFault::Stopped);
+    }
     for place in 0..numbers.len() {
-        let Some(answer) = answers.lines.get(place) else {
+        let Some(number) = answers.number(place) else {
             return Err(PlayFault::Stopped);
         };
-        put_line(out, worker, numbers[place], answer, answers, names)?;
+        if number != numbers[place] {
+            return Err(PlayFault::Stopped);
+        }
+        put_line(out, worker, numbers[place], answers, place, names)?;
     }
     Ok(())
 }
@@ -112,9 +78,12 @@ fn output_of(
     alloc: Global,
     script: &Script,
     workers: &IndexSet<Name>,
-    answered: &Answered,
+    left: &[Left],
+    names: &BoundNames,
 ) -> Result<Vec<u8>, PlayFault>
-    ensures { IfOk result (λ out. AreToldBy workers.now.keys (lines_in script.now) out.items) }
+    ensures text { IfOk result (λ out. (r : Run) → AreOwn workers.now.keys left.now r → names.now ≡ r.names
+        → out.items ≡ text_of r workers.now.keys) }
+    ensures told { IfOk result (λ out. AreToldBy workers.now.keys (lines_in script.now) out.items) }
 {
     let numbers = numbers_of(alloc, script, workers)?;
     let mut out = Vec::new(alloc);
@@ -122,17 +91,11 @@ fn output_of(
         let (Some(worker), Some(own), Some(left)) = (
             workers.get_index(index),
             numbers.get(index),
-            answered.left.get(index),
+            left.get(index),
         ) else {
             return Err(PlayFault::Stopped);
         };
-        put_worker(
-            &mut out,
-            worker,
-            own.as_slice(),
-            &left.answers,
-            &answered.names,
-        )?;
+        put_worker(&mut out, worker, own.as_slice(), &left.answers, names)?;
     }
     Ok(out)
 }
@@ -148,17 +111,19 @@ fn reads_of(alloc: Global, left: Vec<Left>) -> Result<Vec<Reads>, AllocError> {
     Ok(reads)
 }
 
-/// What is told of what these workers played of a script.
+/// What is told of what the workers leave of a script.
 pub fn told_of(
     alloc: Global,
     script: &Script,
     workers: &IndexSet<Name>,
-    answered: Answered,
+    left: Vec<Left>,
+    names: &BoundNames,
 ) -> Result<Told, PlayFault>
-    ensures { IfOk result (λ told. AreToldBy workers.now.keys (lines_in script.now) told.output.items) }
+    ensures text { IfOk result (λ told. (r : Run) → AreOwn workers.now.keys left.items r → names.now ≡ r.names
+        → told.output.items ≡ text_of r workers.now.keys) }
+    ensures told { IfOk result (λ told. AreToldBy workers.now.keys (lines_in script.now) told.output.items) }
 {
-    let output = output_of(alloc, script, workers, &answered)?;
-    let Answered { left, names: _ } = answered;
+    let output = output_of(alloc, script, workers, left.as_slice(), names)?;
     let reads = reads_of(alloc, left)?;
     Ok(Told { output, reads })
 }

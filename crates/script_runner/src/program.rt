@@ -1,17 +1,25 @@
 //! The program, over a reader, a sink and a writer.
-ghost use Rattle.std.specs.Prelude.{◌≡◌, ◌<◌, [], IfOk, IfSome, OnOk};
+ghost use Rattle.std.specs.Prelude.{◌≡◌, true, IfErr, IfOk, IfSome, OnOk};
 ghost use Rattle.call_text.specs.Script.{IsScript};
-ghost use Rattle.script_runner.specs.Dumps.{IsFile, IsPlayed};
+ghost use Rattle.plain_scripts.specs.Scripts.{kept_numbers, plain_text};
+ghost use Rattle.script_runner.specs.Faults.{IsFaultOf, IsRefusedFor, run_status};
+ghost use Rattle.script_rules.specs.Output.{output_text};
+ghost use Rattle.script_rules.specs.Run as rules;
+ghost use Rattle.script_runner.specs.Dumps.{IsFile, IsFileOf, IsPlayed};
 ghost use Rattle.script_runner.specs.Output.{IsOutput, IsPrinted};
+ghost use Rattle.script_runner.specs.Turns.{IsRunTold};
+ghost use Rattle.script_runner.specs.Workers.{take_turns};
 
 use crate::dumps::dump_of;
 use crate::gates::Always;
 use crate::play::{Played, play_all};
 use crate::reads::{Reads, seen_reads};
 use base::NoMemory;
-use call_text::{Script, ScriptError, read_script};
+use call_text::Script;
+use check_text::{Checked, Exact, Faults, read_or_tell};
 use kept_events::KeptEvent;
 use kernel_rules::Tables;
+use plain_scripts::{Plain, renumbered};
 use program_io::{Fault, Options, Sink, bytes_of, deliver};
 use std::alloc::Global;
 use std::io::{Read, Write};
@@ -22,31 +30,60 @@ use std::thread::Threads;
 /// The program's name, with which its lines on standard error begin.
 pub const NAME: &str = "histar";
 
-/// How a run ended.
-#[derive(PartialEq, Eq, Debug, Drop)]
-pub struct Ended {
-    /// 0 where the script was played, 1 where it has a fault, 3 where it can't be read or the output can't be written, 4
-    /// where there was no memory. (2 is a fault of usage, of which the words tell.)
-    pub status: u8,
-    /// What goes to the dump's file: the dump where one is asked for and the status is 0, and else nothing.
-    pub file: Vec<u8>,
-}
-
-/// Why a run ends with another status than 0.
-#[derive(Clone, Copy)]
-enum RunFault {
-    /// A line of the script is at fault, the first one from 1.
-    Script(u32),
+/// Why a run ends without a dump, and, but for an output that breaks off, without a reply.
+#[derive(Drop)]
+pub enum RunFault {
+    /// The script has a fault. Nothing was played.
+    Script(Faults),
+    /// The script can't be read, the replies can't be written, or there was no memory.
     Other(Fault),
 }
 
+impl RunFault {
+    /// The status that the program ends with: 1 for a fault of the script, and else that of the fault.
+    pub fn status(&self) -> u8
+        ensures { result ≡ run_status self.now }
+    {
+        match self {
+            RunFault::Script(_) => 1,
+            RunFault::Other(fault) => fault.status(),
+        }
+    }
+
+    /// Tells the fault: in one line, and of a script in further ones what `histar check` tells. The answer is the status, whether
+    /// it could be told or not.
+    pub fn tell<E: Write>(&self, err: &mut E) -> u8
+        ensures { result ≡ run_status self.now }
+    {
+        match self {
+            RunFault::Script(faults) => {
+                let _ = writeln!(err, "{NAME}: line {}: script fault", faults.line);
+                let _ = err.write_all(faults.text.as_slice());
+            }
+            RunFault::Other(fault) => {
+                fault.tell(NAME, err);
+            }
+        }
+        self.status()
+    }
+}
+
 impl From<Fault> for RunFault {
+    ghost use Rattle.script_runner.specs.declared.program.RunFault.{RunFault};
+
+    ghost from_gives = { λ fault e. e ≡ RunFault.Other fault };
+
     fn from(fault: Fault) -> RunFault {
         RunFault::Other(fault)
     }
 }
 
 impl From<NoMemory> for RunFault {
+    ghost use Rattle.script_runner.specs.declared.program.RunFault.{RunFault};
+    ghost use Rattle.program_io.specs.declared.faults.Fault.{Fault};
+
+    ghost from_gives = { λ _ e. e ≡ RunFault.Other Fault.Memory };
+
     fn from(_: NoMemory) -> RunFault {
         RunFault::Other(Fault::Memory)
     }
@@ -61,13 +98,15 @@ struct Texts {
     file: Vec<u8>,
 }
 
-fn script_of(alloc: Global, bytes: &[u8]) -> Result<Script, RunFault>
-    ensures { IfOk result (IsScript bytes.now) }
+/// The script that the exact form of bytes spells, with the path that they stand at.
+fn script_of(alloc: Global, path: &str, bytes: &[u8]) -> Result<Exact, RunFault>
+    ensures script { IfOk result (λ exact. IsScript (plain_text bytes.now) exact.script) }
+    ensures numbers { IfOk result (λ exact. exact.plain.numbers.items ≡ kept_numbers bytes.now) }
+    ensures fault { IfErr result (IsFaultOf path.now bytes.now) }
 {
-    match read_script(alloc, bytes) {
-        Ok(script) => Ok(script),
-        Err(ScriptError::Memory) => Err(RunFault::Other(Fault::Memory)),
-        Err(ScriptError::Line(line)) => Err(RunFault::Script(line)),
+    match read_or_tell(alloc, path, bytes)? {
+        Checked::Script(exact) => Ok(exact),
+        Checked::Faulty(faults) => Err(RunFault::Script(faults)),
     }
 }
 
@@ -80,7 +119,8 @@ fn file_of(
     tables: Tables,
 ) -> Result<Vec<u8>, NoMemory>
     requires { IsPlayed options.now.limits events.now tables }
-    ensures { IfOk result (λ file. IsFile options.now.dump options.now.checkpoint options.now.limits file.items) }
+    ensures { IfOk result
+        (λ file. IsFileOf options.now.dump options.now.checkpoint options.now.limits events.now file.items) }
 {
     if !options.dump {
         return Ok(Vec::new(alloc));
@@ -103,13 +143,17 @@ fn texts_of<R: Threads + Wait + Sync>(
     alloc: Global,
     script: &Script,
     options: &Options,
-) -> Result<Texts, RunFault>
+) -> Result<Texts, NoMemory>
     ensures output { IfOk result (λ texts. IsOutput script.now texts.output.items) }
     ensures file { IfOk result
         (λ texts. IsFile options.now.dump options.now.checkpoint options.now.limits texts.file.items) }
+    ensures run { IfOk result (λ texts. take_turns script.now ≡ true
+        → (texts.output.items ≡ output_text script.now (rules.run options.now.limits script.now))
+        × IsFileOf options.now.dump options.now.checkpoint options.now.limits
+        (rules.run options.now.limits script.now).events texts.file.items) }
 {
     let Ok(played) = play_all(rt, alloc, script, &options.limits, &Always) else {
-        return Err(RunFault::Other(Fault::Memory));
+        return Err(NoMemory);
     };
     let Played {
         output,
@@ -125,9 +169,16 @@ fn texts_of<R: Threads + Wait + Sync>(
     })
 }
 
-fn run<R: Threads + Wait + Sync, I: Read, S: Sink>(
+/// Plays the script whose exact form the bytes of a reader have, which stand at a path, and writes its replies, by the numbers of
+/// the lines as they were written. The answer is what goes to the dump's
+/// file: the dump where one is asked for, else nothing. The faults are found in this order: reading, the script's, want of
+/// memory in playing and in making the texts, writing. No byte goes to `out` before the replies and the dump are whole. Where
+/// the workers take turns, the output and the dump are those of the script's run by the rules. It waits for all threads that it starts. The lines of the script and the events are not given back: that would take as long as
+/// to read many of them, and the program ends then.
+pub fn histar_on<R: Threads + Wait + Sync, I: Read, S: Sink>(
     rt: &R,
     alloc: Global,
+    path: &str,
     script: &mut I,
     options: &Options,
     out: &mut S,
@@ -135,51 +186,18 @@ fn run<R: Threads + Wait + Sync, I: Read, S: Sink>(
     ensures file { IfOk result (λ file. IsFile options.now.dump options.now.checkpoint options.now.limits file.items) }
     ensures printed { OnOk result (IfSome (I.remaining script.old)
         (λ bytes. IsPrinted bytes (S.contents out.old) (S.contents out.new))) }
+    ensures run { IfOk result (λ file. IfSome (I.remaining script.old)
+        (λ bytes. IsRunTold options.now.dump options.now.checkpoint options.now.limits bytes
+        (S.contents out.old) (S.contents out.new) file.items)) }
+    ensures fault { IfErr result (IsRefusedFor path.now (I.remaining script.old)) }
 {
     let bytes = bytes_of(alloc, script)?;
-    let script = script_of(alloc, bytes.as_slice())?;
+    let Exact { script, plain } = script_of(alloc, path, bytes.as_slice())?;
+    let Plain { text: _, numbers } = plain;
     let texts = texts_of(rt, alloc, &script, options);
     forget(script);
     let Texts { output, file } = texts?;
-    deliver(out, output.as_slice())?;
+    let shown = renumbered(alloc, numbers.as_slice(), output)?;
+    deliver(out, shown.as_slice())?;
     Ok(file)
-}
-
-fn told<E: Write>(err: &mut E, fault: RunFault) -> u8
-    ensures { 0 < result }
-{
-    match fault {
-        RunFault::Script(line) => {
-            let _ = writeln!(err, "{NAME}: line {line}: script fault");
-            1
-        }
-        RunFault::Other(fault) => fault.tell(NAME, err),
-    }
-}
-
-/// Plays the script that a reader gives, and writes its replies. The faults are found in this order, the first one ending
-/// the run with one line on `err`: reading, the script's, want of memory in playing and in making the texts, writing. No
-/// byte goes to `out` before the replies and the dump are whole. It waits for all threads that it starts. The lines of the
-/// script and the events are not given back: that would take as long as to read many of them, and the program ends then.
-pub fn histar_on<R: Threads + Wait + Sync, I: Read, S: Sink, E: Write>(
-    rt: &R,
-    alloc: Global,
-    script: &mut I,
-    options: &Options,
-    out: &mut S,
-    err: &mut E,
-) -> Ended
-    ensures ok { result.status ≡ 0
-        → IsFile options.now.dump options.now.checkpoint options.now.limits result.file.items }
-    ensures fault { 0 < result.status → result.file.items ≡ [] }
-    ensures printed { result.status ≡ 0 → IfSome (I.remaining script.old)
-        (λ bytes. IsPrinted bytes (S.contents out.old) (S.contents out.new)) }
-{
-    match run(rt, alloc, script, options, out) {
-        Ok(file) => Ended { status: 0, file },
-        Err(fault) => Ended {
-            status: told(err, fault),
-            file: Vec::new(alloc),
-        },
-    }
 }

@@ -2,7 +2,7 @@
 ghost use Rattle.std.specs.Prelude.{◌≡◌, IfOk};
 ghost use Rattle.script_runner.specs.Dumps.{IsClosing};
 ghost use Rattle.script_runner.specs.Output.{AreToldBy};
-ghost use Rattle.script_runner.specs.Workers.{lines_in};
+ghost use Rattle.script_rules.specs.Workers.{lines_in};
 
 use crate::answers::Left;
 use crate::closings::{Closing, closing_of};
@@ -11,7 +11,7 @@ use crate::gates::Gate;
 use crate::names::BoundNames;
 use crate::parts::{Parts, parts_of};
 use crate::play::Played;
-use crate::printing::{Answered, Told, told_of};
+use crate::printing::{Told, told_of};
 use crate::workers::Worker;
 use base::ObjectId;
 use call_text::{Known, Phase, Script, Value};
@@ -22,6 +22,15 @@ use std::sync::{Mutex, Wait};
 use std::thread;
 use std::thread::Threads;
 use text_words::Name;
+
+/// What was played: what each worker leaves, in the order of their first lines, and the names as they are bound at the end.
+#[derive(Drop)]
+struct Answered {
+    /// What each worker leaves.
+    left: Vec<Left>,
+    /// The names.
+    names: BoundNames,
+}
 
 /// A worker with its seat, where it has one.
 #[derive(Drop)]
@@ -96,7 +105,8 @@ impl<'s, B: Naming> Seated<'s, B> {
         names: &BoundNames,
     ) {
         let seat = &mut self.seat;
-        self.worker.play(rt, gate, seat, index, phase, places.iter().copied(), names);
+        self.worker
+            .play(rt, gate, seat, index, phase, places, names);
     }
 }
 
@@ -305,9 +315,9 @@ pub fn play_shared<B: Naming + Send, R: Threads + Wait + Sync, G: Gate>(
     let shared = blank.open::<B>();
     let answered = play_phases(rt, alloc, &shared, script, workers, gate);
     let closing = closing_of(rt, alloc, shared.close());
-    let answered = answered?;
+    let Answered { left, names } = answered?;
     let Closing { events, tables } = closing?;
-    let Told { output, reads } = told_of(alloc, script, workers, answered)?;
+    let Told { output, reads } = told_of(alloc, script, workers, left, &names)?;
     Ok(Played {
         output,
         events,

@@ -75,7 +75,7 @@ returns-in-Some c =
     let given : are_given limits (take first events) ≡ true
     = ap (are_given limits) (sym same) ∙ sym c.in_ok-made.ensures.test ∙ ap is_some c.in-Some.is in
     ok_then c.dump_from.result (λ bytes. IsDump bytes.items (whole_dump limits (Some c.in-Some.made) c.split_at.result.1.now c.in_ok-told-in-Some.told.items))
-    (λ bytes. IsRunDump limits c.args.first reads bytes.items)
+    (λ bytes. IsRunDump limits c.args.first c.args.events.now reads bytes.items)
     (λ bytes told. run_dump c.later_are_legal.ensures limits c.args.first first events reads c.args.tables c.in-Some.made bytes.items
     c.requires (folds limits c.args.first first events true c.at_most-first.ensures given) made
     (subst (λ (o : Option Checkpoint). IfSome o (λ x. is_restorable limits x ≡ true)) c.in-Some.is c.in_ok-made.ensures.restorable)
@@ -108,7 +108,7 @@ returns c =
     let given : are_given limits (take first events) ≡ false
     = ap (are_given limits) (sym same) ∙ sym c.in_ok-made.ensures.test ∙ ap is_some c.in-None.is in
     ok_then c.dump_from-in-None.result (λ bytes. IsDump bytes.items (whole_dump limits (Some c.in_ok-boot-in-None.boot) events c.in_ok-told-in-None.told.items))
-    (λ bytes. IsRunDump limits c.args.first reads bytes.items)
+    (λ bytes. IsRunDump limits c.args.first c.args.events.now reads bytes.items)
     (λ bytes told. run_dump c.later_are_legal.ensures limits c.args.first 0 events reads c.args.tables c.in_ok-boot-in-None.boot bytes.items
     c.requires (folds limits c.args.first first events false c.at_most-first.ensures given) c.in_ok-boot-in-None.ensures.written
     (c.in_ok-boot-in-None.ensures.restorable refl)

@@ -2,7 +2,7 @@
 use Rattle.std.proofs.Common.{◌≡◌, true, IfSome, take}
 use Rattle.std.specs.List.{list_any}
 use Rattle.std.specs.Str.{bytes_eq}
-use Rattle.script_runner.specs.Workers.{with_workers}
+use Rattle.script_rules.specs.Workers.{with_workers}
 use Rattle.script_runner.proofs.parts.add_workers.Given as goal
 
 abbrev pub invariant-loop-place : goal.invariant-loop-place

@@ -1,6 +1,6 @@
 -- the workers of the phases so far
 use Rattle.std.proofs.Common.{◌≡◌, take}
-use Rattle.script_runner.specs.Workers.{lines_in, workers_of}
+use Rattle.script_rules.specs.Workers.{lines_in, workers_of}
 use Rattle.script_runner.proofs.parts.workers_of.Given as goal
 
 abbrev pub invariant-loop-phase : goal.invariant-loop-phase

@@ -1,0 +1,10 @@
+use Rattle.script_rules.specs.Run.{run_from, start}
+use Rattle.script_runner.proofs.lone_play.told_in.Goals as goal
+
+pub returns-clause-text : goal.returns-clause-text
+returns-clause-text g c =
+    c.in_ok-told.ensures.text (run_from g.B.Naming.boot.limits g.B.Naming.boot.seats start c.args.script.now) c.in_ok-left.ensures.own
+    c.in_ok-left.ensures.names
+
+pub returns-clause-events : goal.returns-clause-events
+returns-clause-events g c = c.in_ok-left.ensures.journal
