@@ -5,6 +5,8 @@
 # Statuses of its own: 69 where rt is not on the path, 70 where the unproved way gave no answer, 73 where no temporary file can
 # be made, 78 where what was asked for writes a file, which only the proved program does. All others are the program's.
 
+. "$top/gate/answer.sh"
+
 # The folders of the sources that a program is made of, in one line: its own crate's and those of what crates.txt says that it
 # uses, one through another. Definitions and proofs change no program: `./test` looks at them.
 sources_of() {
@@ -125,15 +127,6 @@ becomes_program() {
     exec "$program" "$@"
 }
 
-# Whether these words ask for help.
-asks_for_help() {
-    case " $* " in
-        *" -- "*) return 1 ;;
-        " help "* | *" --help " | *" -h ") ;;
-        *) return 1 ;;
-    esac
-}
-
 # Prints what the program answers to a call for help, as a case stores it, which the gate compares.
 stored_help() {
     if [ "$1" = help ]; then shift && set -- "$@" --help; fi
@@ -155,7 +148,6 @@ stored_help() {
 
 # Answers a call for help and ends: by the program where it stands, else by what is stored, since nothing is proved for it.
 help() {
-    . "$top/gate/answer.sh"
     if [ -x "$program" ]; then said=$("$program" "$@") || exit; else said=$(stored_help "$@") || return 0; fi
     printf '%s\n' "$said" | wrapped
     exit 0

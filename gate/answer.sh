@@ -1,10 +1,19 @@
-# What a script of the shell answers to a call for help or for its version. To be sourced where `top` is a path of the repository's folder.
+# What is answered to a call for help or for its version. To be sourced where `top` is a path of the folder that has this one as `gate`.
 
 # Prints its input, wrapped where a terminal reads it.
 wrapped() {
     size=
     [ ! -t 1 ] || { size=$(stty size <&3 2>/dev/null) || size=; } 3>&1
     awk -v "width=${size##* }" -f "$top/gate/wrap.awk"
+}
+
+# Whether these words ask a program for help.
+asks_for_help() {
+    case " $* " in
+        *" -- "*) return 1 ;;
+        " help "* | *" --help " | *" -h ") ;;
+        *) return 1 ;;
+    esac
 }
 
 # Ends a script that is asked for help, which is the comment at its head, or for its version; or that has an option which there is not.

@@ -12,7 +12,7 @@ import shutil
 import subprocess
 import tempfile
 
-from gate import confine
+from gate import cluster, confine
 from gate.headers import unguarded, wrong
 from gate.plays import Script, ran, text
 from gate.rules import played_rules
@@ -295,6 +295,7 @@ class Bindings:
         threads = self.compile([compiler, "-std=gnu11"], "threads.c", "threads", *WARNINGS, "-pthread")
         if threads:
             self.counts(f"C: eight threads share a kernel for {THREAD_SECONDS} seconds", threads, str(THREAD_SECONDS))
+            self.audit_seats(threads)
         self.compile([compiler, "-std=gnu11"], "shared_bench.c", "shared_bench", *WARNINGS, "-pthread")
         if threads and shutil.which("valgrind"):
             self.counts("C: eight threads share a kernel, under valgrind", "valgrind", "-q", "--error-exitcode=9", "--leak-check=full", threads, "0", "0")
@@ -304,6 +305,18 @@ class Bindings:
         watched = self.compile(["clang", "-std=gnu11", "-fsanitize=thread"], "threads.c", "threads-watched", "-pthread")
         if watched:
             self.counts("C: eight threads share a kernel, with clang's sanitizer of threads", watched, "5", "0")
+
+    def audit_seats(self, threads):
+        """The dumps of what eight seats have seen, one after another."""
+        if not self.auditor:
+            self.leave_out("audits of seats", "./histar-audit is not built")
+            return
+        folder = f"{self.room}/seats"
+        os.makedirs(folder, exist_ok=True)
+        self.counts("C: eight seats dump what they have seen", threads, "0", "0", folder)
+        seats = sorted(glob.glob(f"{folder}/seat-*"))
+        unclean = [os.path.basename(it) for it in seats if run(self.auditor, it) != (True, "clean\n")]
+        self.report.counts(len(seats) == 8 and not unclean, f"./histar-audit finds the dumps of {len(seats)} seats clean" + but_not(unclean))
 
     def try_refused(self, compiler):
         """A kernel is opened with each request for memory refused in turn, and calls take none."""
@@ -358,6 +371,7 @@ class Bindings:
             self.play(player, "Rust")
             self.play_rules(player, "Rust")
             self.play_random(player, "Rust")
+        cluster.try_all(self.report, self.library, self.room, self.auditor)
 
 
 def built(tree, program):

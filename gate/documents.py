@@ -80,10 +80,12 @@ def broken_links(file):
 
 
 def sources():
-    """The code of each crate, and of the one for Rust."""
+    """The code of each crate, and of those for Rust."""
     folders = {it.split("/")[1]: f"{it}/src" for it in glob.glob("crates/*") if os.path.isdir(it)}
     found = {name: "\n".join(map(text, sorted(glob.glob(f"{at}/**/*.rt", recursive=True)))) for name, at in folders.items()}
-    return {**found, "histar (Rust)": "\n".join(map(text, sorted(glob.glob("bindings/rust/histar/src/**/*.rs", recursive=True))))}
+    for name in ("histar", "histar-cluster", "histar-etcd"):
+        found[f"{name} (Rust)"] = "\n".join(map(text, sorted(glob.glob(f"bindings/rust/{name}/src/**/*.rs", recursive=True))))
+    return found
 
 
 def is_named(word, code):

@@ -13,8 +13,9 @@ from gate.plays import text
 TABLES = "docs/PROGRAMS.md"
 ROW = re.compile(r"^\| `(histar[^`]*)` \| (\d+) \| [^|]* \| ?(.*?) ?\|$", re.M)
 HELPED = re.compile(r"^\| `(histar[^`]*)` \| (`[^|]*) \|$", re.M)
-# What the table says of an error whose text clap makes.
+# What the table says of an error whose text clap makes, and of a script's faults, which another command prints too.
 USAGE = "a text of `clap`"
+AND_CHECK, CHECK = ", then what `histar check` prints", "histar check faulty"
 # What the commands are given: a script, a faulty one, dumps, and lines of dialogues.
 GIVEN = {
     "script": "boot: cat_create\n",
@@ -50,10 +51,12 @@ def typed(folder, command, **how):
     return done.returncode, done.stdout, done.stderr
 
 
-def is_line(said, wanted):
-    """Whether what stands on standard error is what a row says."""
+def is_line(said, wanted, checked=""):
+    """Whether what stands on standard error is what a row says, where this is what the command that checks prints."""
     if wanted == USAGE:
         return said.startswith("error: ") and "--help" in said
+    if wanted.endswith(AND_CHECK):
+        return bool(checked) and said == f"{wanted.removesuffix(AND_CHECK).strip('`')}\n{checked}"
     return said == (f"{wanted.strip('`')}\n" if wanted else "")
 
 
@@ -63,7 +66,8 @@ def try_row(report, command, status, line):
         lay(folder)
         before = files_of(folder)
         ended, _, said = typed(folder, command)
-        is_well = (ended, is_line(said, line)) == (status, True) and (not status or files_of(folder) == before)
+        checked = typed(folder, CHECK)[1] if line.endswith(AND_CHECK) else ""
+        is_well = (ended, is_line(said, line, checked)) == (status, True) and (not status or files_of(folder) == before)
         report.counts(is_well, f"{command}: status {ended}, {said.strip()}")
 
 

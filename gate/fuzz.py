@@ -84,8 +84,10 @@ def end_of_script(words, text):
     if status == 0:
         numbers = [int(it) for it in re.findall(rb"^\S+ (\d+): .+$", out, re.M)]
         return "played", err == b"" and len(numbers) == out.count(b"\n") and all(has_line(text, it) for it in numbers), 0
-    fault = re.fullmatch(rb"histar: line (\d+): script fault\n", err)
+    fault = re.match(rb"histar: line (\d+): script fault\n", err)
     line = int(fault[1]) if fault else 0
+    if fault and not err[fault.end() :].startswith(b"%s:%d:" % (words[-1].encode(), line)):
+        return "faulty, but not as it is checked", False, line
     return "faulty", status == 1 and out == b"" and fault is not None and has_line(text, line), line
 
 

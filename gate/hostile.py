@@ -192,7 +192,8 @@ def texts(report, room):
     put(f"{room}/full", "--\n" * 65_536)
     report.counts(ran("./histar", "run", f"{room}/full") == (0, ""), "a script of 65,536 lines that say nothing")
     put(f"{room}/over", "--\n" * 65_537)
-    report.counts(ran("./histar", "run", f"{room}/over") == (1, "histar: line 65537: script fault\n"), "one line more is a fault at that line")
+    told = f"histar: line 65537: script fault\n{room}/over:65537:1: error: a script has at most 65,536 lines\n"
+    report.counts(ran("./histar", "run", f"{room}/over") == (1, told), "one line more is a fault at that line")
     dead = "a = boot: container_create root {1} 4 -\nt = boot: thread_create a {1} 1 {2} 0\nboot: unref root a\n--\nt: self_get\n"
     put(f"{room}/dead", dead)
     status, out = ran("./histar", "run", f"{room}/dead")

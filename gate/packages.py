@@ -11,7 +11,7 @@ import subprocess
 import sys
 import tempfile
 
-from gate import manuals, roots, versions
+from gate import manuals, roots, starts, versions
 from gate.plays import text
 from gate.report import Report
 
@@ -36,19 +36,36 @@ License: Apache-2.0
 TRIPLE = "x86_64-linux-gnu"
 
 
-# What starts histar, and tells of what the package was made.
+# What starts a program. The gap is what it does for one program alone.
 STARTER = """#!/bin/sh
-# Starts histar. "histar --version --long" also tells of what it was made. The arrow keys give lines of "histar try" back, where rlwrap is.
+# Starts NAME. At a terminal its help is wrapped.ABOUT
 here=${0%/*}
 [ ! -L "$0" ] || here=$(dirname "$(readlink -f "$0")")
-if [ "$#" = 2 ] && [ "$1" = --version ] && [ "$2" = --long ]; then
-    "$here/../libexec/koalaingot/histar" --version && exec cat "$here/../share/doc/koalaingot/stamp"
+top=$here/../libexec/koalaingot
+if [ -t 1 ]; then
+    . "$top/gate/answer.sh"
+    if asks_for_help "$@"; then
+        said=$("$top/NAME" "$@") || exit
+        printf '%s\\n' "$said" | wrapped
+        exit
+    fi
+fi
+GAPexec "$top/NAME" "$@"
+"""
+ABOUT_HISTAR = """ "histar --version --long" also tells of what it was made. The arrow keys
+# give lines of "histar try" back, where rlwrap is."""
+GAP_OF_HISTAR = """if [ "$#" = 2 ] && [ "$1" = --version ] && [ "$2" = --long ]; then
+    "$top/histar" --version && exec cat "$here/../share/doc/koalaingot/stamp"
 fi
 if [ "$1" = try ] && [ -t 0 ] && [ -t 1 ] && command -v rlwrap > /dev/null; then
-    exec rlwrap -s -1000 "$here/../libexec/koalaingot/histar" "$@"
+    exec rlwrap -s -1000 "$top/histar" "$@"
 fi
-exec "$here/../libexec/koalaingot/histar" "$@"
 """
+
+
+def starter(name):
+    about, gap = (ABOUT_HISTAR, GAP_OF_HISTAR) if name == "histar" else ("", "")
+    return STARTER.replace("NAME", name).replace("ABOUT", about).replace("GAP", gap)
 
 
 class Fault(Exception):
@@ -155,13 +172,16 @@ def lay_about(room, name):
 
 def lay_programs(room, prefix, day):
     for name, file in {**PROGRAMS, "confine": CONFINE}.items():
-        room.program(f"libexec/koalaingot/{name}" if name == "histar" else f"bin/{name}", file)
+        room.program(f"bin/{name}" if name == "confine" else f"libexec/koalaingot/{name}", file)
         found = manuals.helps(name, os.path.abspath(file))
         room.zip(f"share/man/man1/{name}.1", manuals.manual(name, versions.read(), day, found, f"{prefix}/share/doc/koalaingot"))
         room.put(f"share/bash-completion/completions/{name}", manuals.bash(name, found))
         room.put(f"share/zsh/vendor-completions/_{name}", manuals.zsh(name, found))
         room.put(f"share/fish/vendor_completions.d/{name}.fish", manuals.fish(name, found))
-    room.put("bin/histar", STARTER, 0o755)
+    for name in PROGRAMS:
+        room.put(f"bin/{name}", starter(name), 0o755)
+    for it in ("answer.sh", "wrap.awk"):
+        room.copy(f"libexec/koalaingot/gate/{it}", f"gate/{it}")
     for file in sources():
         if file.startswith(("docs/", "examples/")) or file in ("README.md", "CHANGELOG.md"):
             room.copy(f"share/doc/koalaingot/{file}", file)
@@ -345,6 +365,10 @@ def ran(*words, **how):
     return done.returncode, done.stdout
 
 
+# What asks for help, and the words that end it.
+HELPS = ((("histar", "--help"), "Print version"), (("histar-audit", "-h"), "Print version"), (("histar-show", "page", "--help"), "Print help"))
+
+
 def try_programs(report, top):
     """The programs out of their package, where no toolchain is on the path."""
     env, script = {"PATH": f"{top}/usr/bin:/usr/bin:/bin"}, f"{top}/usr/share/doc/koalaingot/examples/first.histar"
@@ -359,6 +383,9 @@ def try_programs(report, top):
     for name in PROGRAMS:
         told = {int(it) for it in re.findall(rf"^\| `{name} [^|]*\| (\d+) \|", text("docs/PROGRAMS.md"), re.M)}
         report.counts(bool(told) and told <= set(manuals.STATUSES[name]), f"packages: man {name} has the statuses that PROGRAMS.md has: {sorted(told)}")
+    for words, last in HELPS:
+        shown = starts.shown_at_terminal([f"{top}/usr/bin/{words[0]}", *words[1:]], columns=40, env=env)
+        starts.is_wrapped(report, f"packages: {' '.join(words)}", shown, last)
     for name in manuals.STATUSES:
         for width in ("40", "80", "120"):
             ended = ran("man", "--warnings", "-l", f"{top}/usr/share/man/man1/{name}.1.gz", env={**env, "LANG": "C.UTF-8", "MANWIDTH": width})

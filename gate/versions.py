@@ -10,6 +10,8 @@ PLACES = (
     ("include/histar.h", r'#define HISTAR_VERSION "([^"]*)"', WHOLE),
     ("include/histar.h", r"#define HISTAR_VERSION_NUMBER (\d+)", NUMBER),
     ("bindings/rust/histar/Cargo.toml", r'^version = "([^"]*)"', WHOLE),
+    ("bindings/rust/histar-cluster/Cargo.toml", r'^version = "([^"]*)"', WHOLE),
+    ("bindings/rust/histar-etcd/Cargo.toml", r'^version = "([^"]*)"', WHOLE),
     ("CHANGELOG.md", r"^## (\S+)", WHOLE),
 )
 

@@ -18,7 +18,7 @@ broken last (x ∷ xs) = (if (last == 44) && (x == 32) then codes "\\n" else x �
 
 -- what the tree tells of the object, as a label
 abbrev pub node_label : State → Place → Object → List ℕ
-node_label s p x = codes "label=\"" ++ broken 0 (object_text s p x) ++ codes "\""
+node_label s p x = codes "label=\"" ++ broken 0 (object_text [] s p x) ++ codes "\""
 
 -- the name of the node of an object in a container
 abbrev pub node_name : ℕ → ℕ → List ℕ

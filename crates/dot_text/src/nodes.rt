@@ -38,7 +38,7 @@ fn put_label(
         ≡ out.old.items ++ node_label (state_of state.now) place.now object.now) }
 {
     let mut told = Vec::new(state.alloc());
-    put_object(&mut told, state, place, object, meter)?;
+    put_object(&mut told, state, place, object, &[], meter)?;
     out.extend_from_slice(b"label=\"")?;
     put_broken(out, told.as_slice())?;
     out.extend_from_slice(b"\"")?;

@@ -6,19 +6,33 @@
 mod dialogue;
 mod run;
 
-use check_text::check_on;
-use program_args::{Verb, read_words, tell_answer};
-use program_io::{Counted, DEFAULTS, Sink, open_input, words_of};
+use check_text::{check_on, plain_on};
+use program_args::{CheckArgs, Verb, read_words, tell_answer, without_marks};
+use program_io::{Counted, DEFAULTS, Fault, Sink, open_input, words_of};
 use script_runner::{NAME, histar_on};
 use std::io;
 use std::io::Write;
 use std::process::ExitCode;
 
-/// Checks the script of a path. The answer is the status.
-fn check<S: Sink, E: Write>(rt: &HostRuntime, path: &str, out: &mut S, err: &mut E) -> u8 {
-    match open_input(rt, check_text::NAME, path, err) {
-        Ok(mut script) => check_on(rt.alloc(), path, &mut script, out, err),
-        Err(status) => status,
+/// What stands for the path of the standard input, where lines of it are told.
+const INPUT: &str = "<stdin>";
+
+/// Checks a script, or prints its exact form. The answer is the status.
+fn check<S: Sink, E: Write>(
+    rt: &HostRuntime,
+    args: &CheckArgs<'_>,
+    out: &mut S,
+    err: &mut E,
+) -> u8 {
+    let path = args.script;
+    let mut script = match open_input(rt, check_text::NAME, path, err) {
+        Ok(script) => script,
+        Err(status) => return status,
+    };
+    if args.is_plain {
+        plain_on(rt.alloc(), path, &mut script, out, err)
+    } else {
+        check_on(rt.alloc(), path, &mut script, out, err)
     }
 }
 
@@ -30,14 +44,19 @@ fn main(rt: HostRuntime) -> ExitCode {
         Ok(words) => words,
         Err(fault) => return ExitCode::from(fault.tell(NAME, &mut err)),
     };
+    let Ok(typed) = without_marks(alloc, words.as_slice()) else {
+        return ExitCode::from(Fault::Memory.tell(NAME, &mut err));
+    };
     if words.len() <= 1 {
         let mut script = rt.reader();
-        let ended = histar_on(&rt, alloc, &mut script, &DEFAULTS, &mut out, &mut err);
-        return ExitCode::from(ended.status);
+        return match histar_on(&rt, alloc, INPUT, &mut script, &DEFAULTS, &mut out) {
+            Ok(_) => ExitCode::from(0),
+            Err(fault) => ExitCode::from(fault.tell(&mut err)),
+        };
     }
-    let status = match read_words(alloc, words.as_slice()) {
+    let status = match read_words(alloc, typed.as_slice()) {
         Ok(Verb::Run(args)) => run::run(&rt, alloc, &args, &mut out, &mut err),
-        Ok(Verb::Check(path)) => check(&rt, path, &mut out, &mut err),
+        Ok(Verb::Check(args)) => check(&rt, &args, &mut out, &mut err),
         Ok(Verb::Try(limits)) => dialogue::ask(&rt, &limits, &mut out, &mut err),
         Err(answer) => tell_answer(alloc, NAME, &answer, &mut out, &mut err),
     };

@@ -1,7 +1,7 @@
 //! `histar run`.
 use program_args::RunArgs;
 use program_io::{Fault, Sink, beside, open_input, put_file};
-use script_runner::{Ended, NAME, histar_on};
+use script_runner::{NAME, histar_on};
 use std::alloc::Global;
 use std::io::Write;
 use std::rt::Files;
@@ -11,18 +11,18 @@ use std::thread::Threads;
 /// Ends a run that was played: writes the dump where one is asked for. The answer is the status.
 fn ended_with<R: Files, E: Write>(
     rt: &R,
-    args: &RunArgs<'_>,
+    path: Option<&str>,
     beside: &str,
-    ended: &Ended,
+    file: &[u8],
     err: &mut E,
 ) -> u8 {
-    let path = args.dump.unwrap_or("");
-    if args.options.dump && ended.status == 0 {
-        if let Err(fault) = put_file(rt, path, beside, ended.file.as_slice()) {
-            return fault.tell(NAME, err);
-        }
+    let Some(path) = path else {
+        return 0;
+    };
+    match put_file(rt, path, beside, file) {
+        Ok(()) => 0,
+        Err(fault) => fault.tell(NAME, err),
     }
-    ended.status
 }
 
 /// Plays a script. The answer is the status.
@@ -40,6 +40,8 @@ pub fn run<R: Threads + Wait + Sync + Files, S: Sink, E: Write>(
     let Ok(beside) = beside(alloc, args.dump.unwrap_or("")) else {
         return Fault::Memory.tell(NAME, err);
     };
-    let ended = histar_on(rt, alloc, &mut script, &args.options, out, err);
-    ended_with(rt, args, beside.as_str(), &ended, err)
+    match histar_on(rt, alloc, args.script, &mut script, &args.options, out) {
+        Ok(file) => ended_with(rt, args.dump, beside.as_str(), file.as_slice(), err),
+        Err(fault) => fault.tell(err),
+    }
 }

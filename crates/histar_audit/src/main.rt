@@ -4,7 +4,7 @@
 
 use audit_program::{AuditEnd, NAME, audit_on, read_label};
 use label_lattice::Label;
-use program_args::{AuditArgs, read_audit_words, tell_answer};
+use program_args::{AuditArgs, read_audit_words, tell_answer, without_marks};
 use program_io::{AUDIT_DEFAULTS, Counted, Fault, beside, open_input, put_file, words_of};
 use std::alloc::Global;
 use std::io;
@@ -56,12 +56,15 @@ fn main(rt: HostRuntime) -> ExitCode {
         Ok(words) => words,
         Err(fault) => return ExitCode::from(fault.tell(NAME, &mut err)),
     };
+    let Ok(typed) = without_marks(alloc, words.as_slice()) else {
+        return ExitCode::from(Fault::Memory.tell(NAME, &mut err));
+    };
     if words.len() <= 1 {
         let mut dump = rt.reader();
         let ended = audit_on(alloc, &mut dump, &AUDIT_DEFAULTS, None, &mut out, &mut err);
         return ExitCode::from(ended.status);
     }
-    let told = match read_audit_words(alloc, words.as_slice()) {
+    let told = match read_audit_words(alloc, typed.as_slice()) {
         Ok(told) => told,
         Err(answer) => return ExitCode::from(tell_answer(alloc, NAME, &answer, &mut out, &mut err)),
     };

@@ -7,7 +7,7 @@ use base::{Category, ObjectId};
 use dot_text::dot_on;
 use json_text::json_on;
 use page_text::page_on;
-use program_args::{Colours, ShowArgs, View, read_show_words, tell_answer};
+use program_args::{Colours, ShowArgs, View, read_show_words, tell_answer, without_marks};
 use program_io::{Counted, Fault, Sink, beside, open_input, put_file, words_of};
 use show_states::NAME;
 use show_text::why_on;
@@ -66,6 +66,9 @@ fn main(rt: HostRuntime) -> ExitCode {
         Ok(words) => words,
         Err(fault) => return ExitCode::from(fault.tell(NAME, &mut err)),
     };
+    let Ok(typed) = without_marks(alloc, words.as_slice()) else {
+        return ExitCode::from(Fault::Memory.tell(NAME, &mut err));
+    };
     if words.len() <= 1 {
         let mut dump = rt.reader();
         return ExitCode::from(why_on(alloc, &mut dump, None, false, &mut out, &mut err));
@@ -74,7 +77,7 @@ fn main(rt: HostRuntime) -> ExitCode {
         dump,
         view,
         out: page,
-    } = match read_show_words(alloc, words.as_slice()) {
+    } = match read_show_words(alloc, typed.as_slice()) {
         Ok(told) => told,
         Err(answer) => return ExitCode::from(tell_answer(alloc, NAME, &answer, &mut out, &mut err)),
     };

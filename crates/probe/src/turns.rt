@@ -4,7 +4,7 @@ use base::{Category, ObjectId};
 use call_text::{Named, Script, ScriptError, Value, read_script, write_reply};
 use kernel_rules::Reply;
 use program_io::DEFAULTS;
-use script_runner::{Always, Gate, PlayFault, Played, Turn, play_all};
+use script_runner::{Always, Gate, PlayFault, Played, Turn, play_all, play_at_once};
 use std::alloc::Global;
 use std::sync::Wait;
 use std::sync::atomic::{AtomicU64, Ordering};
@@ -194,7 +194,7 @@ fn a_line_that_is_stopped_is_not_played<R: Threads + Wait + Sync + AllocGlobal>(
         line: 2,
         answered: AtomicU64::new(0),
     };
-    let played = play_all(rt, alloc, &script, &DEFAULTS.limits, &gate);
+    let played = play_at_once(rt, alloc, &script, &DEFAULTS.limits, &gate);
     look.sees(matches!(played, Err(PlayFault::Stopped)));
     look.sees(agree(gate.answered.load(Ordering::SeqCst), 1));
     Ok(())
@@ -233,7 +233,7 @@ fn a_batch_is_stopped<R: Threads + Wait + Sync + AllocGlobal>(
     look.part("a_batch_is_stopped");
     let alloc = rt.alloc();
     let script = read_script(alloc, MADE_AND_GONE)?;
-    let played = play_all(
+    let played = play_at_once(
         rt,
         alloc,
         &script,

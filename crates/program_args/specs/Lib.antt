@@ -1,4 +1,5 @@
 pub mod Answers
 pub mod Asked
 pub mod Commands
+pub mod Ids
 pub mod Path

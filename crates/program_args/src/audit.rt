@@ -80,7 +80,7 @@ fn from<'a>(alloc: Global, is_needed: bool) -> Arg<'a>
         alloc,
         "from",
         "ID",
-        "Of a clean dump, tell which objects flows from this one reach",
+        "Of a clean dump, tell which objects flows from this one, 4 or #4, reach",
         is_needed,
     )
 }
@@ -94,7 +94,7 @@ fn category<'a>(alloc: Global, is_needed: bool) -> Arg<'a>
         alloc,
         "category",
         "N",
-        "The category outside of which these flows are: none goes on by an owner of it",
+        "The category, 1 or #1, outside of which these flows are: none goes on by an owner of it",
         is_needed,
     )
 }

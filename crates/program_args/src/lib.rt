@@ -10,6 +10,7 @@ mod args;
 mod audit;
 mod check;
 mod dialogue;
+mod ids;
 mod run;
 mod show;
 mod versions;
@@ -17,6 +18,8 @@ mod words;
 
 pub use answers::tell_answer;
 pub use audit::{AuditArgs, read_audit_words};
+pub use check::CheckArgs;
+pub use ids::without_marks;
 pub use run::RunArgs;
 pub use show::{Colours, ShowArgs, View, read_show_words};
 pub use words::{Verb, read_words};

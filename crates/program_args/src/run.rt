@@ -43,9 +43,13 @@ fn device<'a>(alloc: Global) -> Arg<'a> {
 }
 
 fn next_id<'a>(alloc: Global) -> Arg<'a> {
-    number(alloc, "next-id", "4", "The first id that a call gives").value_parser(value_parser!(
-        u64
-    ).range(4..2305843009213693953))
+    number(
+        alloc,
+        "next-id",
+        "4",
+        "The first id, 4 or #4, that a call gives",
+    )
+    .value_parser(value_parser!(u64).range(4..2305843009213693953))
 }
 
 fn next_category<'a>(alloc: Global) -> Arg<'a> {
@@ -53,7 +57,7 @@ fn next_category<'a>(alloc: Global) -> Arg<'a> {
         alloc,
         "next-category",
         "1",
-        "The first category that a call gives",
+        "The first category, 1 or #1, that a call gives",
     )
     .value_parser(value_parser!(u64).range(1..2305843009213693953))
 }

@@ -54,7 +54,7 @@ pub struct ShowArgs<'a> {
 
 /// What is told of a category beside an object that flows are from.
 const OUTSIDE: &str =
-    "The category outside of which these flows are: none goes on by an owner of it";
+    "The category, 1 or #1, outside of which these flows are: none goes on by an owner of it";
 
 /// The path of the dump.
 fn dump<'a>(alloc: Global) -> Arg<'a> {
@@ -173,7 +173,7 @@ fn dot<'a>(alloc: Global) -> Result<Command<'a>, AllocError> {
     with_flows(
         alloc,
         dot,
-        "Of a clean dump, show in red which objects flows from this one reach",
+        "Of a clean dump, show in red which objects flows from this one, 4 or #4, reach",
     )
 }
 
@@ -186,7 +186,7 @@ fn page<'a>(alloc: Global) -> Result<Command<'a>, AllocError> {
     with_flows(
         alloc,
         page,
-        "Of a clean dump, mark which objects flows from this one reach",
+        "Of a clean dump, mark which objects flows from this one, 4 or #4, reach",
     )
 }
 

@@ -2,7 +2,7 @@
 ghost use Rattle.std.specs.Prelude.{IfOk};
 ghost use Rattle.program_args.specs.Asked.{HasFileOfDump};
 
-use crate::check::{check, check_of};
+use crate::check::{CheckArgs, check, check_of};
 use crate::dialogue::{dialogue, limits_of};
 use crate::run::{RunArgs, run, run_of};
 use crate::versions::VERSION;
@@ -16,8 +16,8 @@ use std::convert::AsStr;
 pub enum Verb<'a> {
     /// A script is played.
     Run(RunArgs<'a>),
-    /// The script of this path is checked.
-    Check(&'a str),
+    /// A script is checked.
+    Check(CheckArgs<'a>),
     /// Calls are asked one by one, of a kernel with these limits.
     Try(Limits),
 }
@@ -41,7 +41,10 @@ pub fn read_words<'a, S: AsStr>(alloc: Global, words: &'a [S]) -> Result<Verb<'a
 {
     let matches = command(alloc)?.try_get_matches_from(words)?;
     let Some((name, args)) = matches.subcommand() else {
-        return Ok(Verb::Check(""));
+        return Ok(Verb::Check(CheckArgs {
+            script: "",
+            is_plain: false,
+        }));
     };
     Ok(match name {
         "run" => Verb::Run(run_of(args)),

@@ -2,14 +2,16 @@
 ghost use Rattle.std.specs.Prelude.{◌≡◌, ◌++◌, [], Ok, OnOk};
 ghost use Rattle.std.specs.Global.{Vec};
 ghost use Rattle.call_text.specs.Reply.{reply_text};
+ghost use Rattle.call_text.specs.ReplyWord.{value_text};
 ghost use Rattle.show_states.specs.Printed.{fault_status, IsPrinted};
 
 use crate::faults::ShowFault;
 use base::NoMemory;
-use call_text::{NameList, put_reply};
+use call_text::{Known, NameList, Named, Value, put_reply};
 use kernel_rules::Reply;
 use program_io::{Fault, Sink, deliver};
 use std::io::Write;
+use text_words::{put_name, put_number};
 
 /// The program's name, with which its lines on standard error begin.
 pub const NAME: &str = "histar-show";
@@ -19,6 +21,29 @@ pub fn put_bare(out: &mut Vec<u8>, reply: &Reply) -> Result<(), NoMemory>
     ensures { OnOk result (out.new.items ≡ out.old.items ++ reply_text [] reply.now) }
 {
     put_reply(out, reply, &NameList { named: &[] })
+}
+
+/// Adds a reply, with each object and category by the first name that is bound to it, or by its number.
+pub fn put_named(out: &mut Vec<u8>, reply: &Reply, named: &[Named]) -> Result<(), NoMemory>
+    ensures { OnOk result (out.new.items ≡ out.old.items ++ reply_text named.now reply.now) }
+{
+    put_reply(out, reply, &NameList { named })
+}
+
+/// Adds an object or a category by the first name that is bound to it, or by its number behind a `#`.
+pub fn put_value(out: &mut Vec<u8>, value: &Value, named: &[Named]) -> Result<(), NoMemory>
+    ensures { OnOk result (out.new.items ≡ out.old.items ++ value_text named.now value.now) }
+{
+    if let Some(name) = (NameList { named }).name_of(value) {
+        put_name(out, &name)?;
+        return Ok(());
+    }
+    out.push(b'#')?;
+    match value {
+        Value::Object(id) => put_number(out, id.number())?,
+        Value::Category(category) => put_number(out, category.0)?,
+    }
+    Ok(())
 }
 
 /// Tells in one line why nothing is shown, and answers the status that the program ends with.

@@ -14,6 +14,7 @@ use Rattle.histories.specs.History.{state_from}
 use Rattle.histories.specs.declared.events.Answered.{Answered}
 use Rattle.auditor.specs.Verdict.{begins}
 use Rattle.call_text.specs.Reply.{reply_text}
+use Rattle.call_text.specs.declared.known_names.Named.{Named}
 use Rattle.dump_text.specs.Dump.{IsDump, DumpFaultsAt}
 use Rattle.dump_text.specs.Lists.{DumpLists}
 use Rattle.dump_text.specs.Whole.{start_with}
@@ -28,15 +29,15 @@ use Rattle.show_text.specs.declared.places.Place.{Place}
 use Rattle.show_states.specs.declared.faults.ShowFault.{ShowFault}
 use Rattle.show_states.specs.declared.faults.ShowFault.TheVariants as faults
 
--- the line that tells a call or a read, and the rules' answer
-abbrev pub call_head : List ℕ → Reply → List ℕ
-call_head line reply = line ++ codes "\nthe rules answer: " ++ reply_text [] reply ++ 10 ∷ []
+-- the line that tells a call or a read, and the rules' answer, by the names that are known
+abbrev pub call_head : List Named → List ℕ → Reply → List ℕ
+call_head names line reply = line ++ codes "\nthe rules answer: " ++ reply_text names reply ++ 10 ∷ []
 
 -- why a thread's call is answered as it is in a state: the line that tells it, the rules' answer, and what refuses it, or all
 -- conditions
 abbrev pub call_explained : Bool → List ℕ → State → ℕ → Call → List ℕ
 call_explained whole line s t call =
-    call_head line (answer s t call) ++ flat_map (condition_text whole) (explained s t call)
+    call_head [] line (answer s t call) ++ flat_map (condition_text [] whole) (explained s t call)
 
 -- the same of calls one after another, which the lines of the text tell from its first on
 abbrev pub calls_explained : Bool → List ℕ → State → ℕ → List Answered → List ℕ
@@ -48,7 +49,7 @@ calls_explained whole text s t (a ∷ more) =
 -- the same of a read
 abbrev pub read_explained : Bool → List ℕ → State → Read → List ℕ
 read_explained whole line s r =
-    call_head line (query_answer s r.thread r.query) ++ flat_map (condition_text whole) (query_explained s r.thread r.query)
+    call_head [] line (query_answer s r.thread r.query) ++ flat_map (condition_text [] whole) (query_explained s r.thread r.query)
 
 -- whether a reply tells a refusal
 abbrev pub is_refused : Reply → Bool

@@ -14,6 +14,7 @@ use crate::lines::{after_lines, first_line};
 use crate::parts::put_findings;
 use crate::places::{Content, Place, place_at};
 use base::{Meter, NoMemory, ObjectId};
+use call_text::Named;
 use clean_dumps::begin;
 use dump_text::{Dump, PlacedRead, Read};
 use explained::{explain, explain_query};
@@ -22,7 +23,7 @@ use kernel_calls::{ask, step};
 use kernel_rules::{Call, Mapping, Query, Reply};
 use label_lattice::Label;
 use plain_state::PlainState;
-use show_states::{ShowFault, dump_in, make, make_all, put_bare};
+use show_states::{ShowFault, dump_in, make, make_all, put_named};
 use std::alloc::Global;
 
 /// Who calls, and whether all conditions are told, or the reasons of a refusal alone.
@@ -40,14 +41,14 @@ fn findings_text(
     meter: &mut Meter,
 ) -> Result<Vec<u8>, NoMemory>
     ensures { IfOk result (λ text. text.items
-        ≡ flat_map (condition_text caller.now.is_whole) (explained (state_of state.now) caller.now.thread call.now)) }
+        ≡ flat_map (condition_text [] caller.now.is_whole) (explained (state_of state.now) caller.now.thread call.now)) }
 {
     // (types that a finding has, which the proof of its drop names)
     let _label: Option<Label> = None;
     let _mapping: Option<Mapping> = None;
     let found = explain(state, caller.thread, call)?;
     let mut text = Vec::new(state.alloc());
-    put_findings(&mut text, caller.is_whole, found.as_slice(), meter)?;
+    put_findings(&mut text, caller.is_whole, found.as_slice(), &[], meter)?;
     Ok(text)
 }
 
@@ -59,24 +60,29 @@ fn query_text(
     meter: &mut Meter,
 ) -> Result<Vec<u8>, NoMemory>
     ensures { IfOk result (λ text. text.items
-        ≡ flat_map (condition_text caller.now.is_whole) (query_explained (state_of state.now) caller.now.thread query.now)) }
+        ≡ flat_map (condition_text [] caller.now.is_whole) (query_explained (state_of state.now) caller.now.thread query.now)) }
 {
     // (types that a finding has, which the proof of its drop names)
     let _label: Option<Label> = None;
     let _mapping: Option<Mapping> = None;
     let found = explain_query(state, caller.thread, query)?;
     let mut text = Vec::new(state.alloc());
-    put_findings(&mut text, caller.is_whole, found.as_slice(), meter)?;
+    put_findings(&mut text, caller.is_whole, found.as_slice(), &[], meter)?;
     Ok(text)
 }
 
-/// Adds the line that tells a call or a read, and the rules' answer. The error is want of memory.
-pub fn put_head(out: &mut Vec<u8>, line: &[u8], reply: &Reply) -> Result<(), NoMemory>
-    ensures { OnOk result (out.new.items ≡ out.old.items ++ call_head line.now reply.now) }
+/// Adds the line that tells a call or a read, and the rules' answer, with the names that are known. The error is want of memory.
+pub fn put_head(
+    out: &mut Vec<u8>,
+    line: &[u8],
+    reply: &Reply,
+    names: &[Named],
+) -> Result<(), NoMemory>
+    ensures { OnOk result (out.new.items ≡ out.old.items ++ call_head names.now line.now reply.now) }
 {
     out.extend_from_slice(line)?;
     out.extend_from_slice(b"\nthe rules answer: ")?;
-    put_bare(out, reply)?;
+    put_named(out, reply, names)?;
     out.push(b'\n')?;
     Ok(())
 }
@@ -97,7 +103,7 @@ fn answer_to(
 ) -> Result<Answer, NoMemory>
     ensures reply { IfOk result (λ given. given.reply ≡ answer (state_of state.old) caller.now.thread call.now) }
     ensures told { IfOk result (λ given. given.told.items
-        ≡ flat_map (condition_text caller.now.is_whole) (explained (state_of state.old) caller.now.thread call.now)) }
+        ≡ flat_map (condition_text [] caller.now.is_whole) (explained (state_of state.old) caller.now.thread call.now)) }
     ensures state { OnOk result (state_of state.new ≡ next (state_of state.old) caller.now.thread call.now) }
 {
     // (a type that a reply has, which the proof names)
@@ -110,9 +116,9 @@ fn answer_to(
 /// Adds the line that tells a call, the rules' answer, and the conditions.
 fn put_answer(out: &mut Vec<u8>, line: &[u8], given: &Answer) -> Result<(), NoMemory>
     ensures { OnOk result (out.new.items
-        ≡ out.old.items ++ (call_head line.now given.now.reply ++ given.now.told.items)) }
+        ≡ out.old.items ++ (call_head [] line.now given.now.reply ++ given.now.told.items)) }
 {
-    put_head(out, line, &given.reply)?;
+    put_head(out, line, &given.reply, &[])?;
     out.extend_from_slice(given.told.as_slice())?;
     Ok(())
 }

@@ -6,8 +6,9 @@ ghost use Rattle.explained.specs.Compared.{sides, named_of, rest_of};
 ghost use Rattle.show_text.specs.Parts.{rank_text, ranks_text, failure_text, named_text, rest_text, failing_text};
 
 use base::{Meter, NoMemory};
+use call_text::{Named, Value};
 use explained::{Comparison, Failing, Failure, Part, Rank, Ranks};
-use text_words::put_number;
+use show_states::put_value;
 
 /// Adds a rank as a level.
 fn put_rank(out: &mut Vec<u8>, rank: Rank) -> Result<(), NoMemory>
@@ -37,21 +38,21 @@ fn put_ranks(out: &mut Vec<u8>, ranks: Ranks) -> Result<(), NoMemory>
 }
 
 /// Adds a category at which a comparison fails.
-fn put_failure(out: &mut Vec<u8>, failure: Failure) -> Result<(), NoMemory>
-    ensures { OnOk result (out.new.items ≡ out.old.items ++ failure_text failure) }
+fn put_failure(out: &mut Vec<u8>, failure: Failure, names: &[Named]) -> Result<(), NoMemory>
+    ensures { OnOk result (out.new.items ≡ out.old.items ++ failure_text names.now failure) }
 {
-    out.extend_from_slice(b"          #")?;
-    put_number(out, failure.category.0)?;
+    out.extend_from_slice(b"          ")?;
+    put_value(out, &Value::Category(failure.category), names)?;
     out.extend_from_slice(b": ")?;
     put_ranks(out, failure.ranks)
 }
 
 /// Adds categories at which a comparison fails.
-fn put_failures(out: &mut Vec<u8>, failures: &[Failure]) -> Result<(), NoMemory>
-    ensures { OnOk result (out.new.items ≡ out.old.items ++ flat_map failure_text failures.now) }
+fn put_failures(out: &mut Vec<u8>, failures: &[Failure], names: &[Named]) -> Result<(), NoMemory>
+    ensures { OnOk result (out.new.items ≡ out.old.items ++ flat_map (failure_text names.now) failures.now) }
 {
     for failure in failures {
-        put_failure(out, *failure)?;
+        put_failure(out, *failure, names)?;
     }
     Ok(())
 }
@@ -70,36 +71,46 @@ fn put_rest(out: &mut Vec<u8>, rest: Option<Ranks>) -> Result<(), NoMemory>
 }
 
 /// Adds where a comparison fails, of which this was found.
-fn put_found(out: &mut Vec<u8>, found: &Option<Failing>) -> Result<(), NoMemory>
+fn put_found(out: &mut Vec<u8>, found: &Option<Failing>, names: &[Named]) -> Result<(), NoMemory>
     ensures { OnOk result (out.new.items ≡ out.old.items
-        ++ (named_text (option_map (λ f. f.named.items) found.now)
+        ++ (named_text names.now (option_map (λ f. f.named.items) found.now)
         ++ rest_text (option_and_then (λ f. f.rest) found.now))) }
 {
     match found {
         None => Ok(()),
         Some(failing) => {
-            put_failures(out, failing.named.as_slice())?;
+            put_failures(out, failing.named.as_slice(), names)?;
             put_rest(out, failing.rest)
         }
     }
 }
 
 /// Adds where a comparison of labels fails.
-fn put_compared(out: &mut Vec<u8>, labels: &Comparison, meter: &mut Meter) -> Result<(), NoMemory>
+fn put_compared(
+    out: &mut Vec<u8>,
+    labels: &Comparison,
+    names: &[Named],
+    meter: &mut Meter,
+) -> Result<(), NoMemory>
     ensures { OnOk result (out.new.items ≡ out.old.items
-        ++ (named_text (named_of (sides labels.now)) ++ rest_text (rest_of (sides labels.now)))) }
+        ++ (named_text names.now (named_of (sides labels.now)) ++ rest_text (rest_of (sides labels.now)))) }
 {
     let found = labels.failing(*out.allocator(), meter)?;
-    put_found(out, &found)
+    put_found(out, &found, names)
 }
 
 /// Adds where a part's comparison fails, if it has one.
-pub fn put_failing(out: &mut Vec<u8>, part: &Part, meter: &mut Meter) -> Result<(), NoMemory>
-    ensures { OnOk result (out.new.items ≡ out.old.items ++ failing_text part.now) }
+pub fn put_failing(
+    out: &mut Vec<u8>,
+    part: &Part,
+    names: &[Named],
+    meter: &mut Meter,
+) -> Result<(), NoMemory>
+    ensures { OnOk result (out.new.items ≡ out.old.items ++ failing_text names.now part.now) }
 {
     match part {
         Part::Fact(_, _) => Ok(()),
-        Part::Compared(labels) => put_compared(out, labels, meter),
+        Part::Compared(labels) => put_compared(out, labels, names, meter),
         Part::AtLeast(_, _) => Ok(()),
         Part::AtMost(_, _) => Ok(()),
         Part::Sum(_, _, _) => Ok(()),

@@ -8,29 +8,30 @@ ghost use Rattle.show_text.specs.Parts.{part_mark, finding_mark, shown_text, par
 use crate::facts::told_text;
 use crate::failures::put_failing;
 use base::{Meter, NoMemory, Refusal};
+use call_text::Named;
 use explained::{Comparison, Finding, Part};
 use itoa::Buffer;
 use kernel_rules::{Mapping, Reply};
 use label_lattice::Label;
-use show_states::put_bare;
+use show_states::{put_bare, put_named};
 use std::alloc::AllocError;
 use text_words::put_number;
 
 /// Adds a label, where it is there.
-fn put_label(out: &mut Vec<u8>, label: &Option<Label>) -> Result<(), NoMemory>
-    ensures { OnOk result (out.new.items ≡ out.old.items ++ label_text label.now) }
+fn put_label(out: &mut Vec<u8>, label: &Option<Label>, names: &[Named]) -> Result<(), NoMemory>
+    ensures { OnOk result (out.new.items ≡ out.old.items ++ label_text names.now label.now) }
 {
     match label {
         None => Ok(out.extend_from_slice(b"no label")?),
-        Some(label) => put_bare(out, &Reply::Label(*label)),
+        Some(label) => put_named(out, &Reply::Label(*label), names),
     }
 }
 
 /// Adds what a slot maps.
-fn put_mapping(out: &mut Vec<u8>, mapping: Option<Mapping>) -> Result<(), NoMemory>
-    ensures { OnOk result (out.new.items ≡ out.old.items ++ mapping_text mapping) }
+fn put_mapping(out: &mut Vec<u8>, mapping: Option<Mapping>, names: &[Named]) -> Result<(), NoMemory>
+    ensures { OnOk result (out.new.items ≡ out.old.items ++ mapping_text names.now mapping) }
 {
-    put_bare(out, &Reply::Mapping(mapping))
+    put_named(out, &Reply::Mapping(mapping), names)
 }
 
 /// Adds a label, some words, and a second label.
@@ -39,13 +40,14 @@ fn put_two(
     first: &Option<Label>,
     words: &str,
     second: &Option<Label>,
+    names: &[Named],
 ) -> Result<(), NoMemory>
     ensures { OnOk result (out.new.items
-        ≡ out.old.items ++ (label_text first.now ++ words.now ++ label_text second.now)) }
+        ≡ out.old.items ++ (label_text names.now first.now ++ words.now ++ label_text names.now second.now)) }
 {
-    put_label(out, first)?;
+    put_label(out, first, names)?;
     out.extend_from_slice(words.as_bytes())?;
-    put_label(out, second)
+    put_label(out, second, names)
 }
 
 /// Adds two labels with words between them, and more words.
@@ -55,13 +57,14 @@ fn put_three(
     words: &str,
     second: &Option<Label>,
     third: &Option<Label>,
+    names: &[Named],
 ) -> Result<(), NoMemory>
     ensures { OnOk result (out.new.items ≡ out.old.items
-        ++ (label_text first.now ++ words.now ++ label_text second.now ++ codes " and " ++ label_text third.now)) }
+        ++ (label_text names.now first.now ++ words.now ++ label_text names.now second.now ++ codes " and " ++ label_text names.now third.now)) }
 {
-    put_two(out, first, words, second)?;
+    put_two(out, first, words, second, names)?;
     out.extend_from_slice(b" and ")?;
-    put_label(out, third)
+    put_label(out, third, names)
 }
 
 /// Adds two labels with words between them, and that the second is taken with star raised.
@@ -70,11 +73,12 @@ fn put_two_raised(
     first: &Option<Label>,
     words: &str,
     second: &Option<Label>,
+    names: &[Named],
 ) -> Result<(), NoMemory>
     ensures { OnOk result (out.new.items ≡ out.old.items
-        ++ (label_text first.now ++ words.now ++ label_text second.now ++ codes " with star raised")) }
+        ++ (label_text names.now first.now ++ words.now ++ label_text names.now second.now ++ codes " with star raised")) }
 {
-    put_two(out, first, words, second)?;
+    put_two(out, first, words, second, names)?;
     out.extend_from_slice(b" with star raised")?;
     Ok(())
 }
@@ -86,12 +90,13 @@ fn put_three_raised(
     words: &str,
     second: &Option<Label>,
     third: &Option<Label>,
+    names: &[Named],
 ) -> Result<(), NoMemory>
     ensures { OnOk result (out.new.items ≡ out.old.items
-        ++ (label_text first.now ++ words.now ++ label_text second.now ++ codes " and " ++ label_text third.now
+        ++ (label_text names.now first.now ++ words.now ++ label_text names.now second.now ++ codes " and " ++ label_text names.now third.now
         ++ codes " with star raised")) }
 {
-    put_three(out, first, words, second, third)?;
+    put_three(out, first, words, second, third, names)?;
     out.extend_from_slice(b" with star raised")?;
     Ok(())
 }
@@ -141,16 +146,28 @@ fn floor_text(against: bool) -> &'static str
 }
 
 /// Adds what is to be so of labels, or that it is not.
-fn put_comparison(out: &mut Vec<u8>, against: bool, labels: &Comparison) -> Result<(), NoMemory>
-    ensures { OnOk result (out.new.items ≡ out.old.items ++ comparison_text against labels.now) }
+fn put_comparison(
+    out: &mut Vec<u8>,
+    against: bool,
+    labels: &Comparison,
+    names: &[Named],
+) -> Result<(), NoMemory>
+    ensures { OnOk result (out.new.items ≡ out.old.items ++ comparison_text names.now against labels.now) }
 {
     match labels {
-        Comparison::Below(a, b) => put_two(out, a, at_most_text(against), b),
-        Comparison::Visible(a, b) => put_two_raised(out, a, at_most_text(against), b),
-        Comparison::Shown(a, b) => put_two_raised(out, a, raised_text(against), b),
-        Comparison::BelowJoin(a, b, c) => put_three(out, a, maximum_text(against), b, c),
-        Comparison::BelowJoinUp(a, b, c) => put_three_raised(out, a, maximum_text(against), b, c),
-        Comparison::AboveFloor(a, b, c) => put_three(out, c, floor_text(against), a, b),
+        Comparison::Below(a, b) => put_two(out, a, at_most_text(against), b, names),
+        Comparison::Visible(a, b) => put_two_raised(out, a, at_most_text(against), b, names),
+        Comparison::Shown(a, b) => put_two_raised(out, a, raised_text(against), b, names),
+        Comparison::BelowJoin(a, b, c) => put_three(out, a, maximum_text(against), b, c, names),
+        Comparison::BelowJoinUp(a, b, c) => put_three_raised(
+            out,
+            a,
+            maximum_text(against),
+            b,
+            c,
+            names,
+        ),
+        Comparison::AboveFloor(a, b, c) => put_three(out, c, floor_text(against), a, b, names),
     }
 }
 
@@ -241,14 +258,15 @@ fn put_empty(
     against: bool,
     slot: u32,
     mapping: Option<Mapping>,
+    names: &[Named],
 ) -> Result<(), NoMemory>
     ensures { OnOk result (out.new.items ≡ out.old.items
-        ++ (codes "slot " ++ decimal slot ++ empty_text against ++ mapping_text mapping)) }
+        ++ (codes "slot " ++ decimal slot ++ empty_text against ++ mapping_text names.now mapping)) }
 {
     out.extend_from_slice(b"slot ")?;
     put_number(out, u64::from(slot))?;
     out.extend_from_slice(empty_text(against).as_bytes())?;
-    put_mapping(out, mapping)
+    put_mapping(out, mapping, names)
 }
 
 /// Whether a mapping meets a page of a slot.
@@ -269,29 +287,32 @@ fn put_apart(
     slot: u32,
     given: Mapping,
     mapping: Option<Mapping>,
+    names: &[Named],
 ) -> Result<(), NoMemory>
     ensures { OnOk result (out.new.items ≡ out.old.items
-        ++ said_text against (Part.Apart slot given mapping)) }
+        ++ said_text names.now against (Part.Apart slot given mapping)) }
 {
-    put_mapping(out, Some(given))?;
+    put_mapping(out, Some(given), names)?;
     out.extend_from_slice(apart_text(against).as_bytes())?;
     put_number(out, u64::from(slot))?;
     out.extend_from_slice(b": it has ")?;
-    put_mapping(out, mapping)
+    put_mapping(out, mapping, names)
 }
 
 /// Adds what is to be so, or that it is not.
-fn put_said(out: &mut Vec<u8>, against: bool, part: &Part) -> Result<(), NoMemory>
-    ensures { OnOk result (out.new.items ≡ out.old.items ++ said_text against part.now) }
+fn put_said(out: &mut Vec<u8>, against: bool, part: &Part, names: &[Named]) -> Result<(), NoMemory>
+    ensures { OnOk result (out.new.items ≡ out.old.items ++ said_text names.now against part.now) }
 {
     match part {
         Part::Fact(fact, _) => Ok(out.extend_from_slice(told_text(against, *fact).as_bytes())?),
-        Part::Compared(labels) => put_comparison(out, against, labels),
+        Part::Compared(labels) => put_comparison(out, against, labels, names),
         Part::AtLeast(number, least) => put_numbers(out, *number, least_text(against), *least),
         Part::AtMost(number, most) => put_numbers(out, *number, most_text(against), *most),
         Part::Sum(used, more, most) => put_sum(out, against, *used, *more, *most),
-        Part::Empty(slot, mapping) => put_empty(out, against, *slot, *mapping),
-        Part::Apart(slot, given, mapping) => put_apart(out, against, *slot, *given, *mapping),
+        Part::Empty(slot, mapping) => put_empty(out, against, *slot, *mapping, names),
+        Part::Apart(slot, given, mapping) => put_apart(
+            out, against, *slot, *given, *mapping, names,
+        ),
     }
 }
 
@@ -314,44 +335,60 @@ fn put_shown(
     out: &mut Vec<u8>,
     against: bool,
     part: &Part,
+    names: &[Named],
     meter: &mut Meter,
 ) -> Result<(), NoMemory>
     requires { against ≡ is_against part.now }
-    ensures { OnOk result (out.new.items ≡ out.old.items ++ shown_text part.now) }
+    ensures { OnOk result (out.new.items ≡ out.old.items ++ shown_text names.now part.now) }
 {
-    put_said(out, against, part)?;
+    put_said(out, against, part, names)?;
     out.push(b'\n')?;
-    put_failing(out, part, meter)
+    put_failing(out, part, names, meter)
 }
 
 /// Adds a part, after its mark.
-fn put_part(out: &mut Vec<u8>, part: &Part, meter: &mut Meter) -> Result<(), NoMemory>
-    ensures { OnOk result (out.new.items ≡ out.old.items ++ part_text part.now) }
+fn put_part(
+    out: &mut Vec<u8>,
+    part: &Part,
+    names: &[Named],
+    meter: &mut Meter,
+) -> Result<(), NoMemory>
+    ensures { OnOk result (out.new.items ≡ out.old.items ++ part_text names.now part.now) }
 {
     let against = part.is_against(meter);
     out.extend_from_slice(part_mark(against).as_bytes())?;
-    put_shown(out, against, part, meter)
+    put_shown(out, against, part, names, meter)
 }
 
 /// Adds parts.
-fn put_parts(out: &mut Vec<u8>, parts: &[Part], meter: &mut Meter) -> Result<(), NoMemory>
-    ensures { OnOk result (out.new.items ≡ out.old.items ++ flat_map part_text parts.now) }
+fn put_parts(
+    out: &mut Vec<u8>,
+    parts: &[Part],
+    names: &[Named],
+    meter: &mut Meter,
+) -> Result<(), NoMemory>
+    ensures { OnOk result (out.new.items ≡ out.old.items ++ flat_map (part_text names.now) parts.now) }
 {
     for part in parts {
-        put_part(out, part, meter)?;
+        put_part(out, part, names, meter)?;
     }
     Ok(())
 }
 
 /// Adds a condition: whether it refuses the call, and its parts.
-fn put_finding(out: &mut Vec<u8>, finding: &Finding, meter: &mut Meter) -> Result<(), NoMemory>
-    ensures { OnOk result (out.new.items ≡ out.old.items ++ finding_text finding.now) }
+fn put_finding(
+    out: &mut Vec<u8>,
+    finding: &Finding,
+    names: &[Named],
+    meter: &mut Meter,
+) -> Result<(), NoMemory>
+    ensures { OnOk result (out.new.items ≡ out.old.items ++ finding_text names.now finding.now) }
 {
     let holds = finding.holds(meter);
     out.extend_from_slice(finding_mark(holds).as_bytes())?;
     put_bare(out, &Reply::Refused(finding.refusal))?;
     out.push(b'\n')?;
-    put_parts(out, finding.parts.as_slice(), meter)
+    put_parts(out, finding.parts.as_slice(), names, meter)
 }
 
 /// Adds a part that stands against the call, after the refusal that it is the reason of.
@@ -359,9 +396,10 @@ fn put_reason(
     out: &mut Vec<u8>,
     refusal: Refusal,
     part: &Part,
+    names: &[Named],
     meter: &mut Meter,
 ) -> Result<(), NoMemory>
-    ensures { OnOk result (out.new.items ≡ out.old.items ++ reason_text refusal part.now) }
+    ensures { OnOk result (out.new.items ≡ out.old.items ++ reason_text names.now refusal part.now) }
 {
     let against = part.is_against(meter);
     if !against {
@@ -369,15 +407,20 @@ fn put_reason(
     }
     put_bare(out, &Reply::Refused(refusal))?;
     out.extend_from_slice(b": ")?;
-    put_shown(out, against, part, meter)
+    put_shown(out, against, part, names, meter)
 }
 
 /// Adds the parts of a condition that stand against the call.
-fn put_reasons(out: &mut Vec<u8>, finding: &Finding, meter: &mut Meter) -> Result<(), NoMemory>
-    ensures { OnOk result (out.new.items ≡ out.old.items ++ reasons_text finding.now) }
+fn put_reasons(
+    out: &mut Vec<u8>,
+    finding: &Finding,
+    names: &[Named],
+    meter: &mut Meter,
+) -> Result<(), NoMemory>
+    ensures { OnOk result (out.new.items ≡ out.old.items ++ reasons_text names.now finding.now) }
 {
     for part in finding.parts.as_slice() {
-        put_reason(out, finding.refusal, part, meter)?;
+        put_reason(out, finding.refusal, part, names, meter)?;
     }
     Ok(())
 }
@@ -387,28 +430,31 @@ fn put_condition(
     out: &mut Vec<u8>,
     is_whole: bool,
     finding: &Finding,
+    names: &[Named],
     meter: &mut Meter,
 ) -> Result<(), NoMemory>
-    ensures { OnOk result (out.new.items ≡ out.old.items ++ condition_text is_whole finding.now) }
+    ensures { OnOk result (out.new.items ≡ out.old.items ++ condition_text names.now is_whole finding.now) }
 {
     if is_whole {
-        put_finding(out, finding, meter)
+        put_finding(out, finding, names, meter)
     } else {
-        put_reasons(out, finding, meter)
+        put_reasons(out, finding, names, meter)
     }
 }
 
-/// Adds the conditions of a call, or, where not all are told, the reasons of those that refuse it. The error is want of memory.
+/// Adds the conditions of a call, or, where not all are told, the reasons of those that refuse it, with the names that are known.
+/// The error is want of memory.
 pub fn put_findings(
     out: &mut Vec<u8>,
     is_whole: bool,
     found: &[Finding],
+    names: &[Named],
     meter: &mut Meter,
 ) -> Result<(), NoMemory>
-    ensures { OnOk result (out.new.items ≡ out.old.items ++ flat_map (condition_text is_whole) found.now) }
+    ensures { OnOk result (out.new.items ≡ out.old.items ++ flat_map (condition_text names.now is_whole) found.now) }
 {
     for finding in found {
-        put_condition(out, is_whole, finding, meter)?;
+        put_condition(out, is_whole, finding, names, meter)?;
     }
     Ok(())
 }

@@ -22,11 +22,11 @@ costs (is.Gate g) = omega arith
 costs (is.Device packets) = omega arith
 
 -- what is not there has no lines
-none_there : (s : State) (levels : ℕ) (p : Place) → object_at s p.id ≡ None → tree_from s levels p ≡ []
+none_there : (s : State) (levels : ℕ) (p : Place) → object_at s p.id ≡ None → tree_from [] s levels p ≡ []
 none_there s zero p gone = refl
 none_there s (suc levels) p gone =
-    ap (λ (v : Option Object). of_object [] (object_lines s p) v
-    ++ flat_map (λ id. tree_from s levels (below p id)) (of_object [] (λ (x : Object). listed x.body) v)) gone
+    ap (λ (v : Option Object). of_object [] (object_lines [] s p) v
+    ++ flat_map (λ id. tree_from [] s levels (below p id)) (of_object [] (λ (x : Object). listed x.body) v)) gone
 
 -- each object has a quota
 absent : (s : State) → is_well_formed s ≡ true → (o : ℕ) → quota_at s o ≤ 0 → object_at s o ≡ None
@@ -65,10 +65,10 @@ same_each f g q n each (i ∷ ids) within =
 
 -- more levels than the quota of a place show no more
 pub no_deeper : (s : State) → is_well_formed s ≡ true → (n more : ℕ) (p : Place) → quota_at s p.id ≤ n
-    → tree_from s (n + more) p ≡ tree_from s n p
+    → tree_from [] s (n + more) p ≡ tree_from [] s n p
 no_deeper s h zero more p small = none_there s (0 + more) p (absent s h p.id small)
 no_deeper s h (suc n) more p small =
-    ap (λ m. tree_from s m p) (suc-add n more)
-    ∙ ap (λ l. lines_at s p ++ l)
-    (same_each (λ id. tree_from s (n + more) (below p id)) (λ id. tree_from s n (below p id)) (quota_at s) n
+    ap (λ m. tree_from [] s m p) (suc-add n more)
+    ∙ ap (λ l. lines_at [] s p ++ l)
+    (same_each (λ id. tree_from [] s (n + more) (below p id)) (λ id. tree_from [] s n (below p id)) (quota_at s) n
     (λ id less. no_deeper s h n more (below p id) less) (list_at s p.id) (room s h p.id n small))

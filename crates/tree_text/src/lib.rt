@@ -20,4 +20,4 @@ pub use painting::{colours_are_beside, painted_if};
 pub use places::Place;
 pub use program::tree_on;
 pub use slots::slots_of;
-pub use trees::{coloured_tree, tree, tree_of};
+pub use trees::{coloured_tree, named_tree, tree, tree_of};

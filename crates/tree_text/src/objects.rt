@@ -1,14 +1,16 @@
 //! The line of an object.
 ghost use Rattle.std.specs.Prelude.{◌≡◌, ◌++◌, [], OnOk, decimal, if◌then◌else◌};
+ghost use Rattle.call_text.specs.ReplyWord.{value_text};
 ghost use Rattle.plain_state.specs.StateOf.{state_of};
 ghost use Rattle.tree_text.specs.Objects.{indent, kind_word, label_text, head_text, owned_one, owned_text, space_text, bearer_text, body_text, quota_text, flags_text, other_one, others_text, own_text, object_text, object_line};
 
 use crate::places::Place;
 use base::{Kind, Level, Meter, NoMemory, ObjectId};
+use call_text::{Named, Value};
 use kernel_rules::{Body, Entry, Object, Reply};
 use label_lattice::{Label, Pair, RawLabel};
 use plain_state::{PlainState, kind_of};
-use show_states::put_bare;
+use show_states::{put_named, put_value};
 use text_words::put_number;
 
 /// Adds two spaces for each level.
@@ -35,11 +37,24 @@ fn kind_word(kind: Kind) -> &'static str
     }
 }
 
-/// Adds a label, with each category by its number.
-fn put_label(out: &mut Vec<u8>, label: &Label) -> Result<(), NoMemory>
-    ensures { OnOk result (out.new.items ≡ out.old.items ++ label_text label.now) }
+/// Adds a label, with each category by its name, or by its number where it has none.
+fn put_label(out: &mut Vec<u8>, label: &Label, names: &[Named]) -> Result<(), NoMemory>
+    ensures { OnOk result (out.new.items ≡ out.old.items ++ label_text names.now label.now) }
 {
-    put_bare(out, &Reply::Label(*label))
+    put_named(out, &Reply::Label(*label), names)
+}
+
+/// Adds words and an object.
+fn put_object_after(
+    out: &mut Vec<u8>,
+    words: &str,
+    id: ObjectId,
+    names: &[Named],
+) -> Result<(), NoMemory>
+    ensures { OnOk result (out.new.items ≡ out.old.items ++ (words.now ++ value_text names.now (Value.Object id))) }
+{
+    out.extend_from_slice(words.as_bytes())?;
+    put_value(out, &Value::Object(id), names)
 }
 
 /// Adds words and a number.
@@ -52,63 +67,73 @@ fn put_numbered(out: &mut Vec<u8>, words: &str, number: u64) -> Result<(), NoMem
 }
 
 /// Adds an object's id, its kind and its label.
-fn put_head(out: &mut Vec<u8>, id: ObjectId, object: &Object) -> Result<(), NoMemory>
-    ensures { OnOk result (out.new.items ≡ out.old.items ++ head_text id object.now) }
+fn put_head(
+    out: &mut Vec<u8>,
+    id: ObjectId,
+    object: &Object,
+    names: &[Named],
+) -> Result<(), NoMemory>
+    ensures { OnOk result (out.new.items ≡ out.old.items ++ head_text names.now id object.now) }
 {
-    out.extend_from_slice(b"#")?;
-    put_number(out, id.number())?;
+    put_value(out, &Value::Object(id), names)?;
     out.extend_from_slice(kind_word(kind_of(object)).as_bytes())?;
-    put_label(out, &object.label)
+    put_label(out, &object.label, names)
 }
 
 /// Adds a category where it is owned.
-fn put_owned_one(out: &mut Vec<u8>, pair: Pair) -> Result<(), NoMemory>
-    ensures { OnOk result (out.new.items ≡ out.old.items ++ owned_one pair) }
+fn put_owned_one(out: &mut Vec<u8>, pair: Pair, names: &[Named]) -> Result<(), NoMemory>
+    ensures { OnOk result (out.new.items ≡ out.old.items ++ owned_one names.now pair) }
 {
     if pair.level.rank() == 0 {
-        put_numbered(out, ", owns #", pair.category.0)
+        out.extend_from_slice(b", owns ")?;
+        put_value(out, &Value::Category(pair.category), names)
     } else {
         Ok(())
     }
 }
 
 /// Adds the categories that a label owns.
-fn put_owned(out: &mut Vec<u8>, label: &RawLabel) -> Result<(), NoMemory>
-    ensures { OnOk result (out.new.items ≡ out.old.items ++ owned_text label.now.pairs) }
+fn put_owned(out: &mut Vec<u8>, label: &RawLabel, names: &[Named]) -> Result<(), NoMemory>
+    ensures { OnOk result (out.new.items ≡ out.old.items ++ owned_text names.now label.now.pairs) }
 {
     for place in 0..label.pairs.len() {
-        put_owned_one(out, label.pairs.pair_at(place))?;
+        put_owned_one(out, label.pairs.pair_at(place), names)?;
     }
     Ok(())
 }
 
 /// Adds an address space, where there is one.
-fn put_space(out: &mut Vec<u8>, space: &Entry) -> Result<(), NoMemory>
-    ensures { OnOk result (out.new.items ≡ out.old.items ++ space_text space.now) }
+fn put_space(out: &mut Vec<u8>, space: &Entry, names: &[Named]) -> Result<(), NoMemory>
+    ensures { OnOk result (out.new.items ≡ out.old.items ++ space_text names.now space.now) }
 {
     if space.container.number() == 0 && space.object.number() == 0 {
         return Ok(());
     }
-    put_numbered(out, ", space #", space.container.number())?;
-    put_numbered(out, " #", space.object.number())
+    put_object_after(out, ", space ", space.container, names)?;
+    put_object_after(out, " ", space.object, names)
 }
 
 /// Adds the clearance of a thread or of a gate, and its address space where it has one.
-fn put_bearer(out: &mut Vec<u8>, clearance: &Label, space: &Entry) -> Result<(), NoMemory>
-    ensures { OnOk result (out.new.items ≡ out.old.items ++ bearer_text clearance.now space.now) }
+fn put_bearer(
+    out: &mut Vec<u8>,
+    clearance: &Label,
+    space: &Entry,
+    names: &[Named],
+) -> Result<(), NoMemory>
+    ensures { OnOk result (out.new.items ≡ out.old.items ++ bearer_text names.now clearance.now space.now) }
 {
     out.extend_from_slice(b", clearance ")?;
-    put_label(out, clearance)?;
-    put_space(out, space)
+    put_label(out, clearance, names)?;
+    put_space(out, space, names)
 }
 
 /// Adds what a thread and a gate have beside other objects.
-fn put_body(out: &mut Vec<u8>, body: &Body) -> Result<(), NoMemory>
-    ensures { OnOk result (out.new.items ≡ out.old.items ++ body_text body.now) }
+fn put_body(out: &mut Vec<u8>, body: &Body, names: &[Named]) -> Result<(), NoMemory>
+    ensures { OnOk result (out.new.items ≡ out.old.items ++ body_text names.now body.now) }
 {
     match body {
-        Body::Thread(thread) => put_bearer(out, &thread.clearance, &thread.space),
-        Body::Gate(gate) => put_bearer(out, &gate.clearance, &gate.space),
+        Body::Thread(thread) => put_bearer(out, &thread.clearance, &thread.space, names),
+        Body::Gate(gate) => put_bearer(out, &gate.clearance, &gate.space, names),
         Body::Container(_, _) => Ok(()),
         Body::Segment(_) => Ok(()),
         Body::AddressSpace(_) => Ok(()),
@@ -121,13 +146,14 @@ fn put_own(
     out: &mut Vec<u8>,
     id: ObjectId,
     object: &Object,
+    names: &[Named],
     meter: &mut Meter,
 ) -> Result<(), NoMemory>
-    ensures { OnOk result (out.new.items ≡ out.old.items ++ own_text id object.now) }
+    ensures { OnOk result (out.new.items ≡ out.old.items ++ own_text names.now id object.now) }
 {
-    put_head(out, id, object)?;
-    put_owned(out, &object.label.to_raw(meter))?;
-    put_body(out, &object.body)
+    put_head(out, id, object, names)?;
+    put_owned(out, &object.label.to_raw(meter), names)?;
+    put_body(out, &object.body, names)
 }
 
 /// Adds a quota, and how much of it is used, in pages of 256 bytes.
@@ -160,43 +186,50 @@ fn put_other(
     state: &PlainState,
     place: &Place,
     container: ObjectId,
+    names: &[Named],
 ) -> Result<(), NoMemory>
     ensures { OnOk result (out.new.items
-        ≡ out.old.items ++ other_one (state_of state.now) place.now container) }
+        ≡ out.old.items ++ other_one names.now (state_of state.now) place.now container) }
 {
     if state.lists(container, place.id) && container != place.container {
-        put_numbered(out, ", also in #", container.number())
+        put_object_after(out, ", also in ", container, names)
     } else {
         Ok(())
     }
 }
 
 /// Adds the other containers that list the object.
-fn put_others(out: &mut Vec<u8>, state: &PlainState, place: &Place) -> Result<(), NoMemory>
+fn put_others(
+    out: &mut Vec<u8>,
+    state: &PlainState,
+    place: &Place,
+    names: &[Named],
+) -> Result<(), NoMemory>
     ensures { OnOk result (out.new.items
-        ≡ out.old.items ++ others_text (state_of state.now) place.now) }
+        ≡ out.old.items ++ others_text names.now (state_of state.now) place.now) }
 {
     for (id, _) in state.records().objects.iter() {
-        put_other(out, state, place, *id)?;
+        put_other(out, state, place, *id, names)?;
     }
     Ok(())
 }
 
-/// Adds what is told of an object, which the state has at a place. The error is want of memory.
+/// Adds what is told of an object, which the state has at a place, with the names that are known. The error is want of memory.
 pub fn put_object(
     out: &mut Vec<u8>,
     state: &PlainState,
     place: &Place,
     object: &Object,
+    names: &[Named],
     meter: &mut Meter,
 ) -> Result<(), NoMemory>
     ensures { OnOk result (out.new.items
-        ≡ out.old.items ++ object_text (state_of state.now) place.now object.now) }
+        ≡ out.old.items ++ object_text names.now (state_of state.now) place.now object.now) }
 {
-    put_own(out, place.id, object, meter)?;
+    put_own(out, place.id, object, names, meter)?;
     put_quota(out, object.quota, state.used_pages(place.id))?;
     put_flags(out, object.fixed, object.immutable)?;
-    put_others(out, state, place)?;
+    put_others(out, state, place, names)?;
     Ok(())
 }
 
@@ -206,13 +239,14 @@ pub fn put_line(
     state: &PlainState,
     place: &Place,
     object: &Object,
+    names: &[Named],
     meter: &mut Meter,
 ) -> Result<(), NoMemory>
     ensures { OnOk result (out.new.items
-        ≡ out.old.items ++ object_line (state_of state.now) place.now object.now) }
+        ≡ out.old.items ++ object_line names.now (state_of state.now) place.now object.now) }
 {
     put_indent(out, place.depth)?;
-    put_object(out, state, place, object, meter)?;
+    put_object(out, state, place, object, names, meter)?;
     out.push(b'\n')?;
     Ok(())
 }

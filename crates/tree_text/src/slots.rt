@@ -5,8 +5,9 @@ ghost use Rattle.tree_text.specs.Slots.{slot_line, slot_lines};
 
 use crate::objects::put_indent;
 use base::NoMemory;
+use call_text::Named;
 use kernel_rules::{Body, Mapping, Object, Reply};
-use show_states::put_bare;
+use show_states::put_named;
 use text_words::put_number;
 
 /// Adds the line of a slot, nothing where it is empty.
@@ -15,8 +16,9 @@ fn put_slot(
     depth: usize,
     slot: u64,
     mapping: &Option<Mapping>,
+    names: &[Named],
 ) -> Result<(), NoMemory>
-    ensures { OnOk result (out.new.items ≡ out.old.items ++ slot_line depth slot mapping.now) }
+    ensures { OnOk result (out.new.items ≡ out.old.items ++ slot_line names.now depth slot mapping.now) }
 {
     let Some(mapping) = mapping else {
         return Ok(());
@@ -25,7 +27,7 @@ fn put_slot(
     out.extend_from_slice(b"slot ")?;
     put_number(out, slot)?;
     out.extend_from_slice(b": ")?;
-    put_bare(out, &Reply::Mapping(Some(*mapping)))?;
+    put_named(out, &Reply::Mapping(Some(*mapping)), names)?;
     out.push(b'\n')?;
     Ok(())
 }
@@ -36,15 +38,16 @@ pub fn put_slots(
     depth: usize,
     slot: u64,
     slots: &[Option<Mapping>],
+    names: &[Named],
 ) -> Result<(), NoMemory>
     requires { slot + length slots.now < 2 ^ 63 }
-    ensures { OnOk result (out.new.items ≡ out.old.items ++ slot_lines depth slot slots.now) }
+    ensures { OnOk result (out.new.items ≡ out.old.items ++ slot_lines names.now depth slot slots.now) }
 {
     match slots {
         [] => Ok(()),
         [first, rest @ ..] => {
-            put_slot(out, depth, slot, first)?;
-            put_slots(out, depth, slot + 1, rest)
+            put_slot(out, depth, slot, first, names)?;
+            put_slots(out, depth, slot + 1, rest, names)
         }
     }
 }

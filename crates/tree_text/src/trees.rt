@@ -4,12 +4,14 @@ ghost use Rattle.plain_state.specs.StateOf.{state_of};
 ghost use Rattle.show_states.specs.States.{ShowsAfter};
 ghost use Rattle.tree_text.specs.Colours.{coloured_if};
 ghost use Rattle.tree_text.specs.Trees.{lines_at, tree_from, tree_text};
+ghost use Rattle.tree_text.specs.Trees as spec;
 
 use crate::objects::put_line;
 use crate::painting::painted_if;
 use crate::places::Place;
 use crate::slots::{put_slots, slots_of};
 use base::{Meter, NoMemory, ObjectId};
+use call_text::Named;
 use plain_state::PlainState;
 use show_states::{ShowFault, state_after};
 use std::alloc::Global;
@@ -19,16 +21,17 @@ fn put_lines(
     out: &mut Vec<u8>,
     state: &PlainState,
     place: &Place,
+    names: &[Named],
     meter: &mut Meter,
 ) -> Result<(), NoMemory>
     requires { place.now.depth < 2 ^ 62 }
-    ensures { OnOk result (out.new.items ≡ out.old.items ++ lines_at (state_of state.now) place.now) }
+    ensures { OnOk result (out.new.items ≡ out.old.items ++ lines_at names.now (state_of state.now) place.now) }
 {
     let Some(object) = state.object(place.id) else {
         return Ok(());
     };
-    put_line(out, state, place, object, meter)?;
-    put_slots(out, place.depth + 1, 0, slots_of(object))
+    put_line(out, state, place, object, names, meter)?;
+    put_slots(out, place.depth + 1, 0, slots_of(object), names)
 }
 
 /// Adds so many levels of the tree from a place on.
@@ -37,31 +40,40 @@ fn put_tree(
     state: &PlainState,
     levels: u32,
     place: &Place,
+    names: &[Named],
     meter: &mut Meter,
 ) -> Result<(), NoMemory>
     requires { place.now.depth + levels < 2 ^ 62 }
     ensures { OnOk result (out.new.items
-        ≡ out.old.items ++ tree_from (state_of state.now) levels place.now) }
+        ≡ out.old.items ++ tree_from names.now (state_of state.now) levels place.now) }
 {
     if levels == 0 {
         return Ok(());
     }
-    put_lines(out, state, place, meter)?;
+    put_lines(out, state, place, names, meter)?;
     for id in state.list(place.id) {
-        put_tree(out, state, levels - 1, &place.below(*id), meter)?;
+        put_tree(out, state, levels - 1, &place.below(*id), names, meter)?;
     }
     Ok(())
 }
 
-/// The tree of a state. Want of memory is the only error.
-pub fn tree_of(state: &PlainState) -> Result<Vec<u8>, NoMemory>
-    ensures { IfOk result (λ text. text.items ≡ tree_text (state_of state.now)) }
+/// The tree of a state, with each object and category by the first name that is bound to it, or by its number. Want of memory is
+/// the only error.
+pub fn named_tree(state: &PlainState, names: &[Named]) -> Result<Vec<u8>, NoMemory>
+    ensures { IfOk result (λ text. text.items ≡ spec.named_tree names.now (state_of state.now)) }
 {
     let mut meter = Meter::new(state.alloc())?;
     let mut text = Vec::new(state.alloc());
     let levels = state.quota(ObjectId::root());
-    put_tree(&mut text, state, levels, &Place::root(), &mut meter)?;
+    put_tree(&mut text, state, levels, &Place::root(), names, &mut meter)?;
     Ok(text)
+}
+
+/// The same by numbers alone.
+pub fn tree_of(state: &PlainState) -> Result<Vec<u8>, NoMemory>
+    ensures { IfOk result (λ text. text.items ≡ tree_text (state_of state.now)) }
+{
+    named_tree(state, &[])
 }
 
 /// The objects that the first `after` events of a dump lead to, or all of them where no count is told, as a tree. The errors

@@ -1,6 +1,7 @@
 -- What a dialogue answers to a line, and how it goes on.
 use Rattle.std.specs.Prelude.{◌≡◌, ℕ, List, [], ◌∷◌, ◌++◌, Option, Some, None, codes}
-use Rattle.tree_text.specs.Trees.{tree_text}
+use Rattle.plain_scripts.specs.Lines.{plain_line}
+use Rattle.tree_text.specs.Trees.{named_tree}
 use Rattle.tried_lines.specs.Dialogues.{Talk, last_of, standing, undone}
 use Rattle.tried_lines.specs.FullLines.{full_line}
 use Rattle.tried_lines.specs.Takes.{Takes}
@@ -13,12 +14,13 @@ use Rattle.try_text.specs.declared.words.Word.TheVariants.{Nothing, Why, Tree, U
 -- what can be said
 abbrev pub help_text : List ℕ
 help_text =
-    codes "a line is a call, as in a script: [NAME =] [WORKER:] CALL ARGUMENTS, by boot where it names no worker\nwhy        why the last call was answered so\ntree       the objects, by their numbers\nundo       takes the last call back\nsave FILE  writes the calls as a script, which histar run plays\nquit       ends\n"
+    codes "a line is a call, as in a script: [NAME =] [WORKER:] CALL ARGUMENTS, by boot where it names no worker\nwhy        why the last call was answered so\ntree       the objects, by name where they have one\nundo       takes the last call back\nsave FILE  writes the calls as a script, which histar run plays\nquit       ends\n"
 
--- a call: its line, with a worker, is asked, and what comes of it is told
+-- a call: its line in exact form, with a worker, is asked, and what comes of it is told
 abbrev pub Calls : List ℕ → Talk → Talk → List ℕ → List ℕ → Type 0
 Calls line d d' old new =
-    (answer : Answer) × Takes (full_line line) d d' answer × AddsAnswer (full_line line) d' answer old new
+    (answer : Answer) × Takes (full_line (plain_line line)) d d' answer
+    × AddsAnswer (full_line (plain_line line)) d' answer old new
 
 -- the dialogue stays, and this is told
 abbrev pub Shows : List ℕ → Talk → Talk → List ℕ → List ℕ → Type 0
@@ -29,7 +31,7 @@ abbrev pub Responds : Word → List ℕ → Talk → Talk → List ℕ → List 
 Responds Call line d d' old new = Calls line d d' old new
 Responds Undo line d d' old new = (d' ≡ undone d) × (new ≡ old ++ undone_text (last_of d.lines))
 Responds Why line d d' old new = Shows (why_text d) d d' old new
-Responds Tree line d d' old new = Shows (tree_text (standing d).state) d d' old new
+Responds Tree line d d' old new = Shows (named_tree (standing d).names (standing d).state) d d' old new
 Responds Help line d d' old new = Shows help_text d d' old new
 Responds Nothing line d d' old new = Shows [] d d' old new
 Responds Quit line d d' old new = Shows [] d d' old new

@@ -3,6 +3,7 @@ use Rattle.std.specs.Prelude.{ℕ, false, List, [], ◌++◌, Option, Some, None
 use Rattle.std.specs.List.{flat_map}
 use Rattle.call_text.specs.declared.asking.Asked.{Asked}
 use Rattle.call_text.specs.declared.asking.Asked.TheVariants.{Read, Write}
+use Rattle.call_text.specs.declared.known_names.Named.{Named}
 use Rattle.call_text.specs.declared.phases.Line.{Line}
 use Rattle.explained.specs.Explained.{explained, query_explained}
 use Rattle.explained.specs.declared.parts.Finding.{Finding}
@@ -25,24 +26,25 @@ abbrev pub findings_of : State → Question → List Finding
 findings_of s q = findings_by s q.thread q.asked
 
 -- the line, what the rules answer to it, and the reasons of a refusal
-abbrev pub why_asked : Stands → List ℕ → Question → List ℕ
-why_asked s said q = call_head said (reply_to s.state q) ++ flat_map (condition_text false) (findings_of s.state q)
+abbrev pub why_asked : List Named → Stands → List ℕ → Question → List ℕ
+why_asked names s said q =
+    call_head names said (reply_to s.state q) ++ flat_map (condition_text names false) (findings_of s.state q)
 
-abbrev pub why_asking : Stands → List ℕ → Result Question (List ℕ) → List ℕ
-why_asking s said (Ok q) = why_asked s said q
-why_asking s said (Err name) = []
+abbrev pub why_asking : List Named → Stands → List ℕ → Result Question (List ℕ) → List ℕ
+why_asking names s said (Ok q) = why_asked names s said q
+why_asking names s said (Err name) = []
 
-abbrev pub why_of : Stands → Option (List ℕ) → Option Line → List ℕ
-why_of s binds None = []
-why_of s binds (Some l) = why_asking s (line_text binds l) (question s.names l)
+abbrev pub why_of : List Named → Stands → Option (List ℕ) → Option Line → List ℕ
+why_of names s binds None = []
+why_of names s binds (Some l) = why_asking names s (line_text binds l) (question s.names l)
 
-abbrev pub why_line : Stands → Kept → List ℕ
-why_line s k = why_of s k.binds (first_line k.script)
+abbrev pub why_line : List Named → Stands → Kept → List ℕ
+why_line names s k = why_of names s k.binds (first_line k.script)
 
-abbrev pub why_last : Stands → Option Kept → List ℕ
-why_last s None = codes "no call was made\n"
-why_last s (Some k) = why_line s k
+abbrev pub why_last : List Named → Stands → Option Kept → List ℕ
+why_last names s None = codes "no call was made\n"
+why_last names s (Some k) = why_line names s k
 
--- the same of the last line of a dialogue, in the state that the lines before it lead to
+-- the same of the last line of a dialogue, in the state that the lines before it lead to, with the names that are known after it
 abbrev pub why_text : Talk → List ℕ
-why_text d = why_last (standing (undone d)) (last_of d.lines)
+why_text d = why_last (standing d).names (standing (undone d)) (last_of d.lines)

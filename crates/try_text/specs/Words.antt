@@ -2,6 +2,7 @@
 use Rattle.std.specs.Prelude.{ℕ, ◌==◌, ◌&&◌, ◌||◌, not, List, [], length, Bool, codes, if◌then◌else◌}
 use Rattle.std.specs.Str.{bytes_eq}
 use Rattle.check_text.specs.Lines.{before_byte, after_byte, is_equals}
+use Rattle.plain_scripts.specs.Lines.{is_silent}
 use Rattle.try_text.specs.declared.words.Word.{Word}
 use Rattle.try_text.specs.declared.words.Word.TheVariants.{Nothing, Why, Tree, Undo, Help, Quit, Save, Call}
 
@@ -18,7 +19,7 @@ is_save line =
 -- what a line is
 abbrev pub word_of : List ℕ → Word
 word_of line =
-    if bytes_eq line [] || bytes_eq line (codes "--") then Nothing
+    if is_silent line || bytes_eq line (codes "--") then Nothing
     else if bytes_eq line (codes "why") then Why
     else if bytes_eq line (codes "tree") then Tree
     else if bytes_eq line (codes "undo") then Undo

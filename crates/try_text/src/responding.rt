@@ -1,7 +1,7 @@
 //! What a dialogue answers to a line.
 ghost use Rattle.std.specs.Prelude.{◌≡◌, ◌++◌, IfOk, OnOk};
 ghost use Rattle.try_text.specs.Responds.{help_text, Calls, Responds};
-ghost use Rattle.tree_text.specs.Trees.{tree_text};
+ghost use Rattle.tree_text.specs.Trees as trees;
 ghost use Rattle.tried_lines.specs.Dialogues.{last_of, standing, undone};
 ghost use Rattle.try_text.specs.Tells.{undone_text};
 ghost use Rattle.try_text.specs.Words.{word_of};
@@ -11,7 +11,8 @@ use crate::why::put_last_why;
 use crate::words::{Word, word_of};
 use base::NoMemory;
 use kernel_rules::{Mapping, Reply};
-use tree_text::tree_of;
+use plain_scripts::put_plain;
+use tree_text::named_tree;
 use tried_lines::{Dialogue, full_line};
 
 /// What can be said.
@@ -20,7 +21,7 @@ fn help_text() -> &'static str
 {
     "a line is a call, as in a script: [NAME =] [WORKER:] CALL ARGUMENTS, by boot where it names no worker\n\
     why        why the last call was answered so\n\
-    tree       the objects, by their numbers\n\
+    tree       the objects, by name where they have one\n\
     undo       takes the last call back\n\
     save FILE  writes the calls as a script, which histar run plays\n\
     quit       ends\n"
@@ -33,16 +34,19 @@ fn put_called(out: &mut Vec<u8>, talk: &mut Dialogue, line: &[u8]) -> Result<(),
     // (types that an answer has, which the proof names)
     let _reply: Option<Reply> = None;
     let _mapping: Option<Mapping> = None;
-    let full = full_line(talk.alloc(), line)?;
+    let mut plain = Vec::new(talk.alloc());
+    put_plain(&mut plain, line)?;
+    let full = full_line(talk.alloc(), plain.as_slice())?;
     let answer = talk.take(full.as_slice())?;
     put_answer(out, full.as_slice(), talk, &answer)
 }
 
 /// Adds the objects.
 fn put_tree(out: &mut Vec<u8>, talk: &Dialogue) -> Result<(), NoMemory>
-    ensures { OnOk result (out.new.items ≡ out.old.items ++ tree_text (standing talk.now).state) }
+    ensures { OnOk result (out.new.items ≡ out.old.items ++ trees.named_tree (standing talk.now).names (standing talk.now).state) }
 {
-    let text = tree_of(talk.standing().state())?;
+    let standing = talk.standing();
+    let text = named_tree(standing.state(), standing.names().named)?;
     out.extend_from_slice(text.as_slice())?;
     Ok(())
 }

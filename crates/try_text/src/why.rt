@@ -6,7 +6,7 @@ ghost use Rattle.show_text.specs.Parts.{condition_text};
 ghost use Rattle.try_text.specs.Why.{findings_of, why_asked, why_line, why_text};
 
 use base::{Meter, NoMemory};
-use call_text::Asked;
+use call_text::{Asked, Named};
 use explained::{Finding, explain, explain_query};
 use kernel_rules::Mapping;
 use label_lattice::Label;
@@ -28,16 +28,18 @@ fn findings(state: &PlainState, question: &Question) -> Result<Vec<Finding>, NoM
 fn findings_text(
     state: &PlainState,
     question: &Question,
+    names: &[Named],
     meter: &mut Meter,
 ) -> Result<Vec<u8>, NoMemory>
-    ensures { IfOk result (λ text. text.items ≡ flat_map (condition_text false) (findings_of (state_of state.now) question.now)) }
+    ensures { IfOk result (λ text. text.items
+        ≡ flat_map (condition_text names.now false) (findings_of (state_of state.now) question.now)) }
 {
     // (types that a finding has, which the proof of its drop names)
     let _label: Option<Label> = None;
     let _mapping: Option<Mapping> = None;
     let found = findings(state, question)?;
     let mut text = Vec::new(state.alloc());
-    put_findings(&mut text, false, found.as_slice(), meter)?;
+    put_findings(&mut text, false, found.as_slice(), names, meter)?;
     Ok(text)
 }
 
@@ -47,23 +49,29 @@ fn put_asked(
     before: Standing,
     said: &[u8],
     question: &Question,
+    names: &[Named],
 ) -> Result<(), NoMemory>
-    ensures { OnOk result (out.new.items ≡ out.old.items ++ why_asked before said.now question.now) }
+    ensures { OnOk result (out.new.items ≡ out.old.items ++ why_asked names.now before said.now question.now) }
 {
     // (a type that a reply has, which the proof names)
     let _mapping: Option<Mapping> = None;
     let mut before = before;
     let mut meter = Meter::new(*out.allocator())?;
-    let told = findings_text(before.state(), question, &mut meter)?;
+    let told = findings_text(before.state(), question, names, &mut meter)?;
     let reply = before.answer(&None, question, &mut meter)?;
-    put_head(out, said, &reply)?;
+    put_head(out, said, &reply, names)?;
     out.extend_from_slice(told.as_slice())?;
     Ok(())
 }
 
 /// Adds why a kept line is answered as it is, where it is asked there.
-fn put_line_why(out: &mut Vec<u8>, before: Standing, kept: &Kept) -> Result<(), NoMemory>
-    ensures { OnOk result (out.new.items ≡ out.old.items ++ why_line before kept.now) }
+fn put_line_why(
+    out: &mut Vec<u8>,
+    before: Standing,
+    kept: &Kept,
+    names: &[Named],
+) -> Result<(), NoMemory>
+    ensures { OnOk result (out.new.items ≡ out.old.items ++ why_line names.now before kept.now) }
 {
     let Some(line) = kept.line() else {
         return Ok(());
@@ -73,7 +81,7 @@ fn put_line_why(out: &mut Vec<u8>, before: Standing, kept: &Kept) -> Result<(), 
     };
     let mut said = Vec::new(*out.allocator());
     put_line(&mut said, kept.binds, &line)?;
-    put_asked(out, before, said.as_slice(), &question)
+    put_asked(out, before, said.as_slice(), &question, names)
 }
 
 /// Adds why the last line was answered as it was. The error is want of memory.
@@ -85,5 +93,5 @@ pub fn put_last_why(out: &mut Vec<u8>, talk: &Dialogue) -> Result<(), NoMemory>
         return Ok(());
     };
     let before = talk.before_last()?;
-    put_line_why(out, before, kept)
+    put_line_why(out, before, kept, talk.standing().names().named)
 }

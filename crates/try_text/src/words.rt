@@ -4,11 +4,12 @@ ghost use Rattle.std.specs.Str.{bytes_eq};
 ghost use Rattle.try_text.specs.Words.{is_save, word_of, path_in};
 
 use check_text::{binding, cut};
+use plain_scripts::is_silent;
 
 /// What a line of a dialogue is.
 #[derive(Clone, Copy, PartialEq, Eq)]
 pub enum Word {
-    /// Nothing, or what parts two phases of a script.
+    /// Nothing, a comment, or what parts two phases of a script.
     Nothing,
     /// It asks why the last call was answered so.
     Why,
@@ -51,7 +52,7 @@ fn is_word(line: &[u8], word: &str) -> bool
 pub fn word_of(line: &[u8]) -> Word
     ensures { result ≡ word_of line.now }
 {
-    if is_word(line, "") || is_word(line, "--") {
+    if is_silent(line) || is_word(line, "--") {
         return Word::Nothing;
     }
     if is_word(line, "why") {

@@ -5,5 +5,5 @@ use Rattle.show_text.proofs.failures.put_failures.Given as goal
 
 abbrev pub invariant-loop-failure : goal.invariant-loop-failure
 invariant-loop-failure l =
-    l.out.items ++ flat_map failure_text (drop l.failure-index l.failures)
-    ≡ l.fn.out.items ++ flat_map failure_text l.failures
+    l.out.items ++ flat_map (failure_text l.names) (drop l.failure-index l.failures)
+    ≡ l.fn.out.items ++ flat_map (failure_text l.names) l.failures

@@ -5,5 +5,5 @@ use Rattle.show_text.proofs.parts.put_findings.Given as goal
 
 abbrev pub invariant-loop-finding : goal.invariant-loop-finding
 invariant-loop-finding l =
-    l.out.items ++ flat_map (condition_text l.is_whole) (drop l.finding-index l.found)
-    ≡ l.fn.out.items ++ flat_map (condition_text l.is_whole) l.found
+    l.out.items ++ flat_map (condition_text l.names l.is_whole) (drop l.finding-index l.found)
+    ≡ l.fn.out.items ++ flat_map (condition_text l.names l.is_whole) l.found

@@ -5,4 +5,4 @@ use Rattle.show_text.proofs.parts.put_parts.Given as goal
 
 abbrev pub invariant-loop-part : goal.invariant-loop-part
 invariant-loop-part l =
-    l.out.items ++ flat_map part_text (drop l.part-index l.parts) ≡ l.fn.out.items ++ flat_map part_text l.parts
+    l.out.items ++ flat_map (part_text l.names) (drop l.part-index l.parts) ≡ l.fn.out.items ++ flat_map (part_text l.names) l.parts

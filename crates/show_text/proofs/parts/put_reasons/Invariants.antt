@@ -5,5 +5,5 @@ use Rattle.show_text.proofs.parts.put_reasons.Given as goal
 
 abbrev pub invariant-loop-part : goal.invariant-loop-part
 invariant-loop-part l =
-    l.out.items ++ flat_map (reason_text l.finding.refusal) (drop l.part-index l.finding.parts)
-    ≡ l.fn.out.items ++ flat_map (reason_text l.finding.refusal) l.finding.parts
+    l.out.items ++ flat_map (reason_text l.names l.finding.refusal) (drop l.part-index l.finding.parts)
+    ≡ l.fn.out.items ++ flat_map (reason_text l.names l.finding.refusal) l.finding.parts

@@ -7,5 +7,5 @@ use Rattle.tree_text.proofs.objects.put_others.Given as goal
 
 abbrev pub invariant-loop-id : goal.invariant-loop-id
 invariant-loop-id l =
-    l.out.items ++ flat_map (other_one (state_of l.state) l.place) (ids_of l.id-iterator)
-    ≡ l.fn.out.items ++ others_text (state_of l.state) l.place
+    l.out.items ++ flat_map (other_one l.names (state_of l.state) l.place) (ids_of l.id-iterator)
+    ≡ l.fn.out.items ++ others_text l.names (state_of l.state) l.place
