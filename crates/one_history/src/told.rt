@@ -4,52 +4,50 @@ ghost use mathlib.Core.List.{IsPrefix};
 ghost use Rattle.one_history.specs.OneHistory.{IsAnswered, IsCalled, IsOneHistory};
 
 use crate::faults::Fault;
-use crate::kept::{Kept, kept_of};
+use crate::kept::{Kept, Looked, kept_of};
 use base::{Meter, ObjectId};
 use kernel_rules::{Call, Query, Reply};
-use published_copy::{Naming, Note, Pass, Receipt, Shared};
+use published_copy::{BatchReceipt, Naming, Note, Pass, Shared};
 use std::sync::Wait;
 
-/// What is asked: a call of one thread, then a query of another, then what is kept of that one and of a live id. Neither thread
-/// has a seat or an event.
+/// What is asked: a batch of calls of one thread, then a query of another, then what is looked at. Neither thread has a seat or
+/// an event.
 #[derive(Clone, Copy)]
 pub struct Asked<'a> {
     /// The thread that calls.
     pub writer: ObjectId,
-    /// Its call.
-    pub call: &'a Call,
+    /// Its calls, 1 to 16.
+    pub calls: &'a [Call],
     /// The thread that reads.
     pub reader: ObjectId,
     /// Its query.
     pub query: &'a Query,
-    /// A slot of the reader's address space, from 0.
-    pub slot: usize,
-    /// The place of a live id among all of them, from 0.
-    pub place: usize,
+    /// What is looked at in the book's kernel.
+    pub looked: &'a Looked,
 }
 
 /// What is told.
-#[derive(Clone, Copy)]
+#[derive(Drop)]
 pub struct Told {
-    /// What the call was answered, and where its event stands.
-    pub receipt: Receipt,
+    /// What the calls were answered, and where their event stands.
+    pub receipt: BatchReceipt,
     /// What the query was answered.
     pub reply: Reply,
     /// What the book's kernel keeps.
     pub kept: Kept,
 }
 
-/// A thread's first call, through a seat, and the note of it.
+/// A thread's first batch, through a seat, and the note of it.
 fn called<B: Naming, R: Wait>(
     rt: &R,
     shared: &Shared<B>,
     thread: ObjectId,
-    call: &Call,
-) -> Result<(Receipt, Note<B>), Fault>
-    ensures { IfOk result (λ told. IsCalled B.boot.limits thread call.now told.0 told.1) }
+    calls: &[Call],
+) -> Result<(BatchReceipt, Note<B>), Fault>
+    ensures { IfOk result (λ told. IsCalled B.boot.limits thread calls.now told.0 told.1) }
 {
     let mut seat = shared.open_seat(rt, thread)?;
-    let receipt = seat.submit(rt, call)?;
+    let receipt = seat.submit_batch(rt, calls)?;
     Ok((receipt, seat.note()))
 }
 
@@ -69,8 +67,8 @@ fn answered<B: Naming, R: Wait>(
     Ok((reply, seat.into_pass()))
 }
 
-/// A thread calls, another one learns of it and reads, and then the book is looked at: all three are told of one legal
-/// history. It waits for the lock, and for those who read the copy that takes the call in. An error tells which step was
+/// A thread makes a batch of calls, another one learns of it and reads, and then the book is looked at: all three are told of one
+/// legal history. It waits for the lock, and for those who read the copy that takes the calls in. An error tells which step was
 /// refused; the steps before it are made.
 pub fn told_by<B: Naming, R: Wait>(
     rt: &R,
@@ -78,11 +76,10 @@ pub fn told_by<B: Naming, R: Wait>(
     asked: &Asked<'_>,
     meter: &mut Meter,
 ) -> Result<Told, Fault>
-    ensures { IfOk result (λ told. IsOneHistory B.boot.limits asked.now.writer asked.now.call.now
-        asked.now.reader asked.now.query.now asked.now.slot asked.now.place told.receipt told.reply
-        told.kept) }
+    ensures { IfOk result (λ told. IsOneHistory B.boot.limits asked.now.writer asked.now.calls.now asked.now.reader
+        asked.now.query.now asked.now.looked.now told.receipt told.reply told.kept) }
 {
-    let (receipt, note) = called(rt, shared, asked.writer, asked.call)?;
+    let (receipt, note) = called(rt, shared, asked.writer, asked.calls)?;
     let (reply, pass) = answered(rt, shared, &note, asked.reader, asked.query)?;
     let book = shared.book(rt);
     if !book.has_seen(&pass) {
@@ -90,7 +87,7 @@ pub fn told_by<B: Naming, R: Wait>(
     }
     // For the proof alone: the journal is legal.
     let _legal = book.events().len();
-    let kept = kept_of(book.kernel(), asked.reader, asked.slot, asked.place, meter);
+    let kept = kept_of(book.kernel(), asked.looked, meter);
     Ok(Told {
         receipt,
         reply,

@@ -4,7 +4,8 @@ use super::samples::{first_byte, make_two, passed, seated};
 use anyhow::Result;
 use base::{Meter, ObjectId};
 use kernel_rules::{Call, Query, Reply};
-use one_history::{Asked, Fault, Told, told_by};
+use label_intern::LabelIx;
+use one_history::{Asked, Fault, Looked, Told, told_by};
 use published_copy::{Naming, SeatRefusal, Shared};
 use std::alloc::Global;
 use std::sync::Wait;
@@ -12,15 +13,18 @@ use std::thread::Threads;
 use test_structures::look::Look;
 use test_structures::samples::{boot_thread, new_thread};
 
-/// Whether the writer made a category as its first event and the journal's fourth, the reader was shown its own values, and a
-/// page is kept as what it uses, with the root as the first live id.
+/// Whether the writer made two categories as its first event and the journal's fourth, the reader was shown its own values, a page
+/// is kept as what it uses, with the root as the first live id, and a stored label compares with itself.
 fn is_told(told: &Told) -> bool {
-    matches!(told.receipt.reply, Reply::Category(_))
-        && (told.receipt.number, told.receipt.length) == (1, 4)
+    matches!(
+        told.receipt.replies.as_slice(),
+        [Reply::Category(_), Reply::Category(_)]
+    ) && (told.receipt.number, told.receipt.length) == (1, 4)
         && matches!(told.reply, Reply::Own { .. })
         && told.kept.used == Some(1)
         && told.kept.live == Some(ObjectId::root())
         && told.kept.shown.is_none()
+        && told.kept.order.is_some()
 }
 
 /// The boot thread makes threads 4 and 6 and a segment 5, of which the threads have no seat yet.
@@ -42,11 +46,16 @@ pub fn tell_at<B: Naming, R: Wait>(
     make_threads(rt, shared)?;
     let asked = Asked {
         writer: ObjectId::new(4),
-        call: &Call::CatCreate,
+        calls: &[Call::CatCreate, Call::CatCreate],
         reader: ObjectId::new(6),
         query: &Query::SelfGet,
-        slot: 0,
-        place: 0,
+        looked: &Looked {
+            object: ObjectId::new(6),
+            slot: 0,
+            place: 0,
+            one: LabelIx(0),
+            other: LabelIx(0),
+        },
     };
     match told_by(rt, shared, &asked, &mut meter) {
         Ok(told) => look.sees(is_told(&told)),
