@@ -1,5 +1,5 @@
-"""Faults from a seed on the real engine: three members of etcd and three nodes on 127.0.0.1, which are killed or paused. After that
-the log is played: each call that was answered is there once with that answer, and none that was told never to be made; and
+"""Faults from a seed on the real engine: three members of etcd and three nodes, each on a host of its own (gate/hosts.py), which are
+killed, paused or cut off; a member is replaced by one that has nothing. After that the log is played: each call that was answered is there once with that answer, and none that was told never to be made; and
 histar-audit finds the log clean. Alone: python3 -m gate.cluster_faults FOLDER SECONDS SEED [AUDITOR]"""
 import glob
 import os
@@ -10,9 +10,14 @@ import subprocess
 import sys
 import time
 
+from gate.hosts import hosts_for
+
 CRATE = "bindings/rust/histar-etcd"
 BASE = 23790
 CALLERS = "12"
+# What is done to one thing, or to two at once.
+FAULTS = ("kill node", "kill member", "pause member", "pause node", "kill both", "pause two members", "replace member")
+CUTS = ("cut off node", "cut off member", "cut off both")
 
 
 class Faults:
@@ -21,7 +26,10 @@ class Faults:
     def __init__(self, folder, seed, programs):
         self.folder, self.programs = folder, programs
         self.random = random.Random(seed)
-        self.members = [f"127.0.0.1:{BASE + 10 * it}" for it in range(3)]
+        self.hosts = hosts_for([f"{kind}{it}" for kind in "mn" for it in range(3)])
+        self.faults = FAULTS + (CUTS if self.hosts.can_cut else ())
+        self.members = [f"{self.hosts.address(f'm{it}')}:{BASE + 10 * it}" for it in range(3)]
+        self.peers = [f"http://{self.hosts.address(f'm{it}')}:{BASE + 10 * it + 1}" for it in range(3)]
         self.starts = [0] * 3
         self.counts = {}
         shutil.rmtree(folder, ignore_errors=True)
@@ -31,41 +39,65 @@ class Faults:
         return open(f"{self.folder}/{name}.log", "a", encoding="utf-8")
 
     def member(self, it, state):
-        peer = [f"http://127.0.0.1:{BASE + 10 * at + 1}" for at in range(3)]
-        words = ["etcd", "--name", f"m{it}", "--data-dir", f"{self.folder}/m{it}", "--initial-cluster-state", state, "--log-level", "error",
+        peer = self.peers
+        words = [*self.hosts.on(f"m{it}"), "etcd", "--name", f"m{it}", "--data-dir", f"{self.folder}/m{it}", "--initial-cluster-state", state, "--log-level", "error",
                  "--initial-cluster", ",".join(f"m{at}={peer[at]}" for at in range(3)), "--listen-peer-urls", peer[it], "--initial-advertise-peer-urls", peer[it],
                  "--listen-client-urls", f"http://{self.members[it]}", "--advertise-client-urls", f"http://{self.members[it]}"]
         with self.log(f"m{it}") as out:
             return subprocess.Popen(words, stdout=out, stderr=out)
 
     def call(self, *words):
-        done = subprocess.run(words, stdout=subprocess.PIPE, stderr=subprocess.STDOUT, text=True)
+        done = subprocess.run([*self.hosts.on("hub"), *words], stdout=subprocess.PIPE, stderr=subprocess.STDOUT, text=True)
         return done.returncode, done.stdout
 
     def node(self, it, left):
         self.starts[it] += 1
         turned = ",".join(self.members[it:] + self.members[:it])
         file = f"{self.folder}/calls-{it}.{self.starts[it]}"
-        words = [f"{self.programs}/examples/caller", "run", "faults", turned, f"n{it}", self.threads[it], file, CALLERS, str(max(left, 1))]
+        words = [*self.hosts.on(f"n{it}"), f"{self.programs}/examples/caller", "run", "faults", turned, f"n{it}", self.threads[it], file, CALLERS, str(max(left, 1))]
         with self.log(f"n{it}") as out:
             return subprocess.Popen(words, stdout=out, stderr=out)
 
     def hurt(self, nodes, members):
-        """One thing is killed, or some are paused. What has to be started anew."""
-        what = self.random.choice(["kill node", "kill member", "pause member", "pause node", "kill both", "pause two members"])
+        """One thing is killed or replaced, or some are paused or cut off for a while. What has to be started anew."""
+        what = self.random.choice(self.faults)
         self.counts[what] = self.counts.get(what, 0) + 1
         first, second = self.random.sample(range(3), 2)
-        killed = [nodes[first]] * (what in ("kill node", "kill both")) + [members[second]] * (what in ("kill member", "kill both"))
+        killed = [nodes[first]] * (what in ("kill node", "kill both")) + [members[second]] * (what in ("kill member", "kill both", "replace member"))
         paused = {"pause member": [members[first]], "pause node": [nodes[first]], "pause two members": [members[first], members[second]]}.get(what, [])
+        cut = {"cut off node": [f"n{first}"], "cut off member": [f"m{second}"], "cut off both": [f"n{first}", f"m{second}"]}.get(what, [])
         for it in killed:
             it.kill()
             it.wait()
         for it in paused:
             it.send_signal(signal.SIGSTOP)
+        for it in cut:
+            self.hosts.cut(it, True)
         time.sleep(self.random.uniform(0.1, 5))
         for it in paused:
             it.send_signal(signal.SIGCONT)
+        for it in cut:
+            self.hosts.cut(it, False)
+        if what == "replace member":
+            self.replace(second)
         return (first if nodes[first] in killed else None), (second if members[second] in killed else None)
+
+    def replace(self, it):
+        """Another member takes the place of one that is gone with its disk."""
+        at = ["--endpoints", ",".join(self.members[:it] + self.members[it + 1 :]), "member"]
+        gone = next(line for line in self.called("etcdctl", *at, "list").splitlines() if self.peers[it] in line)
+        self.called("etcdctl", *at, "remove", gone.split(",")[0])
+        self.called("etcdctl", *at, "add", f"m{it}", "--peer-urls", self.peers[it])
+        shutil.rmtree(f"{self.folder}/m{it}")
+
+    def called(self, *words):
+        """What a command said, which is tried until it ends well, for half a minute: a cluster that chooses a leader answers none."""
+        for _ in range(30):
+            status, said = self.call(*words)
+            if status == 0:
+                return said
+            time.sleep(1)
+        raise RuntimeError(f"{' '.join(words)}: {said}")
 
     def play(self, seconds):
         """Plays for so many seconds. Whether all that was told holds, and what was said."""
@@ -95,6 +127,7 @@ class Faults:
             for it in nodes + members:
                 it.kill()
                 it.wait()
+            self.hosts.end()
 
     def check(self):
         files = sorted(glob.glob(f"{self.folder}/calls-*"))
