@@ -12,7 +12,7 @@ import subprocess
 import tempfile
 import time
 
-from gate import confine_attacks, confine_programs
+from gate import confine_attacks, confine_programs, confine_wrong
 from gate.confine_scenes import BY_POLICY, ONE, OWN, POLICY_SCENES, PUBLIC, SCENES, SECOND, SECRET, TWO, Scene
 from gate.confine_seen import Watched
 from gate.documents import commands_in
@@ -437,6 +437,13 @@ def try_scenes(report, room, auditor, more):
         report.say("left out: audits of confine's dumps: ./histar-audit is not built")
 
 
+def try_wrong(report, library, room, more=()):
+    """Whether scenes notice wrong confines."""
+    os.chmod(room, 0o755)
+    scenes = {it.name: it for it in (*SCENES, *POLICY_SCENES, *ATTACKS, *more)}
+    confine_wrong.try_all(report, library, f"{room}/wrong", (Play, scenes, ways(report)))
+
+
 def try_all(report, library, auditor, is_long=False):
     """Plays all scenes, and has the auditor look at their dumps, where there is one."""
     if not built(report, library):
@@ -458,6 +465,7 @@ def try_all(report, library, auditor, is_long=False):
         for call in NEEDED:
             report.counts(says_it_lacks(f"{tried.room}/lacking", call), f"confine: a machine without the call {call}: it says so, and starts nothing")
         try_scenes(report, room, auditor, tried.scenes(report, is_long))
+        try_wrong(report, library, room, tried.scenes(report, False))
     confine_programs.try_all(report)
 
 
