@@ -15,6 +15,7 @@ mod looks;
 mod making;
 mod pieces;
 mod records;
+mod restores;
 mod rows;
 mod states;
 
