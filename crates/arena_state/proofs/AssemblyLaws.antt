@@ -34,7 +34,7 @@ use Rattle.arena_state.specs.Restored.{bare, held_of, hollow_of, Hold, Holds, Is
 use Rattle.arena_state.proofs.FormedLaws.{IsFit, formed_filled, use_filled}
 use Rattle.arena_state.proofs.FilledLaws.{at_filled}
 use Rattle.arena_state.proofs.FillLaws.{id_middle, ids_length}
-use Rattle.arena_state.proofs.HoldLaws.{rise, root_there, found_has, found_middle, whole_of}
+use Rattle.arena_state.proofs.HoldLaws.{climbs, rise, root_there, found_has, found_middle, whole_of}
 use Rattle.arena_state.proofs.StockLaws.{slot_is}
 
 abbrev hollow : Object → Object
@@ -231,7 +231,7 @@ module _ (s : State) (hold : IsHoldable s) (p : Pieces) (limits : p.limits ≡ s
     owned = λ i. f.claimed i ∙ ap (λ (xs : List ℕ). claims_in p.holdings.records.items xs i) all_slots;
     uses = λ o. (λ i. use_in p.holdings.records.items (lookup (is_at (nat_cmp o)) (rows_of (lists i) slots)))
         ∙ uses_are s p.holdings s.objects slots f.hold o ∙ no_use o ∙ sym (uses o);
-    climbs = λ a b kind link. hold.climbs a b (sym (read false (is_kind kinds.Container) kind_hollow b) ∙ kind)
+    climbs = λ a b kind link. climbs s hold a b (sym (read false (is_kind kinds.Container) kind_hollow b) ∙ kind)
         (ap (λ (l : List (ℕ × List ℕ)). links l a b) (sym lists) ∙ link);
     cells = cells ∙ sym (ap (λ l. l.pages) limits);
     records = f.records ∙ sym (ap (λ l. l.pages) limits);

@@ -14,16 +14,41 @@ use Rattle.containers.specs.Tree.{ids_in, list_of, link_count}
 use Rattle.containers.proofs.Lists.{apart_test, above_absent, links_has}
 use Rattle.containers.proofs.Views.{at_has, or_left, or_right}
 use Rattle.base.specs.declared.kinds.Kind.TheVariants as kinds
-use Rattle.kernel_rules.specs.State.{State, object_at, of_object, is_kind, listed, lists_of, quota_at}
+use Rattle.kernel_rules.specs.State.{State, object_at, of_object, is_kind, is_kind_at, listed, lists_of, quota_at}
 use Rattle.kernel_rules.specs.WellFormed.{ids_rise, is_kept, is_stored, is_whole_body, listers, is_listed_rightly, is_distinct}
 use Rattle.kernel_rules.specs.declared.objects.Object.{Object}
 use Rattle.kernel_rules.proofs.ListerLaws.{IsKept, kept_parts}
 use Rattle.kernel_rules.proofs.LookupLaws.{at_is, all_at}
 use Rattle.kernel_rules.proofs.WellFormedLaws.{soundness_of}
 use Rattle.kernel_laws.proofs.Bounds.{root_bounds}
-use Rattle.arena_state.specs.Restored.{bare, IsHoldable}
+use Rattle.arena_state.specs.Restored.{bare, lists_younger, IsHoldable}
 use Rattle.std.proofs.lemmas.List.{append-nil}
 use Rattle.arena_state.proofs.LaidLaws.{before_less, ids_shape, rises_ids, absent_before, count_room, lists_append, links_split, links_left}
+
+-- what is tested of all ids holds of one of them
+tested_at : (test : ℕ → Bool) (ids : List ℕ) (i : ℕ) → list_all test ids ≡ true → has ids i ≡ true → test i ≡ true
+tested_at test [] i all h = absurd (both_ways false refl h)
+tested_at test (j ∷ ids) i all h =
+    let parts = and_parts (test j) (list_all test ids) all in
+    elim (or_cases (i == j) (has ids i) h) [
+      | inl is ↦ ap test (eqb-true i j is) ∙ parts.0
+      | inr later ↦ tested_at test ids i parts.1 later
+    ]
+
+-- a listed container is younger than the one that lists it
+younger_than : (s : State) (es : List (ℕ × Object)) (a b : ℕ) → list_all (λ e. lists_younger s e.0 (listed e.1.body)) es ≡ true
+    → is_kind_at s kinds.Container b ≡ true → links (lists_of es) a b ≡ true → a < b
+younger_than s [] a b all kind h = absurd (both_ways false refl h)
+younger_than s (e ∷ es) a b all kind h =
+    let parts = and_parts (lists_younger s e.0 (listed e.1.body)) (list_all (λ f. lists_younger s f.0 (listed f.1.body)) es) all in
+    elim (or_cases ((a == e.0) && has (listed e.1.body) b) (links (lists_of es) a b) h) [
+      | inl here ↦
+          let at = and_parts (a == e.0) (has (listed e.1.body) b) here in
+          let test = tested_at (λ i. not (is_kind_at s kinds.Container i) || nat_lt e.0 i) (listed e.1.body) b parts.0 at.1 in
+          let less : e.0 < b = ltb-true e.0 b (sym (ap (λ (k : Bool). not k || nat_lt e.0 b) kind) ∙ test) in
+          omega (arith, less, eqb-true a e.0 at.0)
+      | inr later ↦ younger_than s es a b parts.1 kind later
+    ]
 
 -- where some list has an id, there is one that links it
 linked_by : (lists : List (ℕ × List ℕ)) (o : ℕ) → 1 ≤ sum_by (λ e. cond (has e.1 o) 1 0) lists → (a : ℕ) × (links lists a o ≡ true)
@@ -145,6 +170,9 @@ module _ (s : State) (h : IsHoldable s) where
   pub whole_of : (o : ℕ) (x : Object) → object_at s o ≡ Some x → is_whole_body x.body ≡ true
   whole_of o x found = (and_parts (is_stored x.label && length x.metadata == 64) (is_whole_body x.body) (kept_at o x found).whole).1
 
+  pub climbs : (a b : ℕ) → is_kind_at s kinds.Container b ≡ true → links (lists_of s.objects) a b ≡ true → a < b
+  climbs a b kind link = younger_than s s.objects a b h.younger kind link
+
   -- some container lists each object but the root
   pub listed_by : (o : ℕ) (x : Object) → object_at s o ≡ Some x → o ≢ 1 → (a : ℕ) × (links (lists_of s.objects) a o ≡ true)
   listed_by o x found ne = linked_by (lists_of s.objects) o (rightly_some (listers s o) o x (kept_at o x found).rightly (apart_test o 1 ne))
@@ -231,7 +259,7 @@ module _ (s : State) (h : IsHoldable s) where
       | inl one ↦ inl one
       | inr ne ↦
           let by = listed_by e.0 e.1 found_here ne in
-          let less : by.0 < e.0 = h.climbs by.0 e.0 (ap (of_object false (is_kind kinds.Container)) found_here ∙ kind) by.1 in
+          let less : by.0 < e.0 = climbs by.0 e.0 (ap (of_object false (is_kind kinds.Container)) found_here ∙ kind) by.1 in
           let parted : links (lists_of done ++ lists_of (e ∷ rest)) by.0 e.0 ≡ true
           = ap (λ (t : List (ℕ × List ℕ)). links t by.0 e.0) (sym (lists_append done (e ∷ rest)) ∙ ap lists_of split) ∙ by.1 in
           inr (

@@ -55,4 +55,5 @@ pub mod LaidLaws
 pub mod HoldLaws
 pub mod PutLaws
 pub mod FillLaws
+pub mod BlankLaws
 pub mod AssemblyLaws

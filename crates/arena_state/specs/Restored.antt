@@ -1,8 +1,8 @@
 -- Which states can be laid out anew, and how far the tree of entries is laid.
-use Rattle.std.specs.Prelude.{◌≡◌, ℕ, ◌<◌, ◌*◌, ◌==◌, nat_lt, true, false, List, [], ◌∷◌, map, cond, length, replicate, Option, None, ◌+◌, ◌/◌, ◌≤◌, slice_set, take, sum_by}
+use Rattle.std.specs.Prelude.{◌≡◌, ℕ, ◌<◌, ◌*◌, ◌==◌, nat_lt, Bool, true, false, not, ◌||◌, List, [], ◌∷◌, map, cond, length, replicate, Option, None, ◌+◌, ◌/◌, ◌≤◌, slice_set, take, sum_by}
 use Rattle.std.specs.List.{list_all}
 use Rattle.base.specs.Limits.{in_range}
-use Rattle.base.specs.Live.{has, links}
+use Rattle.base.specs.Live.{has}
 use Rattle.base.specs.declared.kinds.Kind.TheVariants as kinds
 use Rattle.label_intern.specs.declared.held.Held.{Held}
 use Rattle.label_intern.specs.Held.{owned, owners_in, held_at}
@@ -21,6 +21,14 @@ use Rattle.arena_state.specs.Assembled.{assembled, body_of, body_use, claims, cl
 use Rattle.arena_state.specs.Filled.{Content, filled, filled_body}
 use Rattle.arena_state.specs.Stocked.{content_in, kept_pages, keeps_space}
 
+-- the containers among these ids have greater ids than d
+abbrev pub lists_younger : State → ℕ → List ℕ → Bool
+lists_younger s d ids = list_all (λ i. not (is_kind_at s kinds.Container i) || nat_lt d i) ids
+
+-- each container is younger than the one that lists it
+abbrev pub are_younger : State → Bool
+are_younger s = list_all (λ e. lists_younger s e.0 (listed e.1.body)) s.objects
+
 -- the state is well formed, no id is 0, the root's quota is the pages of the limits, which are in their range, and a container
 -- is younger than the one that lists it
 pub record IsHoldable (s : State) : Type 0 where
@@ -28,8 +36,7 @@ pub record IsHoldable (s : State) : Type 0 where
   pub some : list_all (λ e. nat_lt 0 e.0) s.objects ≡ true
   pub range : in_range s.limits ≡ true
   pub root : quota_at s 1 ≡ s.limits.pages
-  pub climbs : (a b : ℕ) → is_kind_at s kinds.Container b ≡ true
-      → links (lists_of s.objects) a b ≡ true → a < b
+  pub younger : are_younger s ≡ true
 
 -- the ids of objects, each with no list
 abbrev pub bare : List (ℕ × Object) → List (ℕ × List ℕ)

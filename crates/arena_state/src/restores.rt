@@ -5,10 +5,13 @@ ghost use Rattle.plain_state.specs.Recorded.{records_state};
 ghost use Rattle.arena_state.specs.Restored.{IsFilled, IsHoldable};
 ghost use Rattle.arena_state.specs.States.{state_of};
 
+mod ages;
 mod contents;
 mod fills;
 mod kept;
 mod trees;
+
+pub use ages::are_younger;
 
 use crate::holdings::Holdings;
 use crate::pieces::Pieces;
