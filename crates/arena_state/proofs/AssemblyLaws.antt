@@ -206,11 +206,13 @@ module _ (s : State) (hold : IsHoldable s) (p : Pieces) (limits : p.limits ≡ s
     where
       down : (es : List (ℕ × Object)) → of_object d g (lookup (is_at (nat_cmp o)) (map (λ e. (e.0, hollow e.1)) es)) ≡ of_object d g (lookup (is_at (nat_cmp o)) es)
       down [] = refl
-      down (e ∷ es) = elim (is_at (nat_cmp o) e.0) as (λ v. of_object d g (cond v (Some (hollow e.1)) (lookup (is_at (nat_cmp o)) (map (λ z. (z.0, hollow z.1)) es)))
-      ≡ of_object d g (cond v (Some e.1) (lookup (is_at (nat_cmp o)) es))) [
-        | true ↦ same e.1
-        | false ↦ down es
-      ]
+      down (e ∷ es) =
+          elim (is_at (nat_cmp o) e.0)
+          as (λ v. of_object d g (cond v (Some (hollow e.1)) (lookup (is_at (nat_cmp o)) (map (λ z. (z.0, hollow z.1)) es)))
+          ≡ of_object d g (cond v (Some e.1) (lookup (is_at (nat_cmp o)) es))) [
+            | true ↦ same e.1
+            | false ↦ down es
+          ]
 
   kind_hollow : (x : Object) → is_kind kinds.Container (hollow x) ≡ is_kind kinds.Container x
   kind_hollow x = of_body x.body
@@ -236,7 +238,7 @@ module _ (s : State) (hold : IsHoldable s) (p : Pieces) (limits : p.limits ≡ s
     cells = cells ∙ sym (ap (λ l. l.pages) limits);
     records = f.records ∙ sym (ap (λ l. l.pages) limits);
     pool = f.labels ∙ sym (ap (λ l. 3 * l.pages + 3) limits);
-    rooted = ap (λ (l : List (ℕ × List ℕ)). has (ids_in l) 1) lists ∙ rooted_in s.objects root_there' ;
+    rooted = ap (λ (l : List (ℕ × List ℕ)). has (ids_in l) 1) lists ∙ rooted_in s.objects root_there';
     root = read 0 (λ x. x.quota) (λ x. refl) 1 ∙ hold.root ∙ sym (ap (λ l. l.pages) limits);
   }
     where

@@ -5,7 +5,7 @@ use Rattle.std.specs.List.{list_all}
 use Rattle.std.specs.Map.{lookup}
 use Rattle.std.specs.BTreeMap.{is_at}
 use Rattle.std.specs.Ordering.{nat_cmp}
-use Rattle.std.proofs.lemmas.Bool.{ltb-true, leb-true, cases_Bool, cases_eq, both_ways, eqb-true, eq-eqb, and_parts, and_from, or_cases}
+use Rattle.std.proofs.lemmas.Bool.{ltb-true, leb-true, cases_Bool, cases_eq, cases_lt, both_ways, eqb-true, eq-eqb, and_parts, and_from, or_cases}
 use Rattle.std.proofs.lemmas.Option.{none-some}
 use Rattle.std.proofs.lemmas.List.Sums.{sum_by-cons}
 use Rattle.base.specs.Live.{has, links}
@@ -82,16 +82,16 @@ unlinked_by es p x o none found = flip (has (listed x.body) o) (all_at (λ q y. 
           | inr off ↦ and_from (not (has (listed f.1.body) o)) (list_all (λ e. not (has (listed e.1.body) o)) fs) (ap not off) (each fs (omega (arith, h, all)))
         ]
 
--- listed rightly, any but the root is in a list
-rightly_some : (n o : ℕ) (x : Object) → is_listed_rightly n o x ≡ true → (o == 1) ≡ false → 1 ≤ n
-rightly_some n o x h other =
-    second (is_kind kinds.Container x) (nat_le n 1 || x.fixed)
-    (subst (λ v. cond v (n == 0)
-    (cond (is_kind kinds.Container x) (n == 1) (nat_le 1 n && (nat_le n 1 || x.fixed))) ≡ true) other h)
+-- an object that stands in no list is the root
+alone_is_root : (o : ℕ) (x : Object) → is_listed_rightly 0 o x ≡ true → o ≡ 1
+alone_is_root o x h = elim (cases_Bool (o == 1)) [
+  | inl is ↦ eqb-true o 1 is
+  | inr off ↦ absurd (never (is_kind kinds.Container x) (subst (λ v. cond v true (cond (is_kind kinds.Container x) false false) ≡ true) off h))
+]
   where
-    second : (b fit : Bool) → cond b (n == 1) (nat_le 1 n && fit) ≡ true → 1 ≤ n
-    second true fit h = let is : n ≡ 1 = eqb-true n 1 h in omega (arith, is)
-    second false fit h = leb-true 1 n (and_parts (nat_le 1 n) fit h).0
+    never : (b : Bool) → cond b false false ≡ true → ⊥
+    never true h = both_ways false refl h
+    never false h = both_ways false refl h
 
 -- the object at a place of a rising list
 pub found_middle : (done : List (ℕ × Object)) (e : ℕ × Object) (rest : List (ℕ × Object)) → ids_rise (done ++ e ∷ rest) ≡ true
@@ -175,7 +175,12 @@ module _ (s : State) (h : IsHoldable s) where
 
   -- some container lists each object but the root
   pub listed_by : (o : ℕ) (x : Object) → object_at s o ≡ Some x → o ≢ 1 → (a : ℕ) × (links (lists_of s.objects) a o ≡ true)
-  listed_by o x found ne = linked_by (lists_of s.objects) o (rightly_some (listers s o) o x (kept_at o x found).rightly (apart_test o 1 ne))
+  listed_by o x found ne = linked_by (lists_of s.objects) o (elim (cases_lt 0 (listers s o)) [
+    | inl some ↦ omega (arith, some)
+    | inr none ↦
+        let alone : listers s o ≡ 0 = omega (arith, none) in
+        absurd (ne (alone_is_root o x (subst (λ n. is_listed_rightly n o x ≡ true) alone (kept_at o x found).rightly)))
+  ])
 
   -- none lists the root
   pub unlisted_root : (o : ℕ) (x : Object) → object_at s o ≡ Some x → (r : Object) → object_at s 1 ≡ Some r → has (listed x.body) 1 ≡ false

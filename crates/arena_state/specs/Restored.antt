@@ -8,7 +8,7 @@ use Rattle.label_intern.specs.declared.held.Held.{Held}
 use Rattle.label_intern.specs.Held.{owned, owners_in, held_at}
 use Rattle.label_intern.specs.Owners.{Takes}
 use Rattle.kernel_rules.specs.Sizes.{page_bytes}
-use Rattle.kernel_rules.specs.State.{State, listed, own_cost, lists_of, is_kind_at, quota_at, use_of}
+use Rattle.kernel_rules.specs.State.{State, listed, own_cost, is_kind_at, quota_at, use_of}
 use Rattle.kernel_rules.specs.WellFormed.{is_well_formed}
 use Rattle.kernel_rules.specs.declared.objects.Object.{Object}
 use Rattle.kernel_rules.specs.declared.objects.Body as body

@@ -11,13 +11,12 @@ mod fills;
 mod kept;
 mod trees;
 
-pub use ages::are_younger;
-
 use crate::holdings::Holdings;
 use crate::pieces::Pieces;
 use crate::records::{Kept, Record, fresh_record};
 use crate::states::ArenaState;
 use address_spaces::Spaces;
+pub use ages::are_younger;
 use base::{Meter, NoMemory};
 use fills::fill;
 use label_intern::{LabelIx, Labels};
@@ -32,12 +31,17 @@ fn no_holdings(alloc: Global, pool: usize) -> Result<Holdings, NoMemory>
     ensures { IfOk result (λ h. (s : State) → s.limits.pages ≡ pool → (slots : List ℕ) → IsFilled s slots [] h) }
 {
     let blank: Record = fresh_record(LabelIx(0), 0, Kept::Device);
+    let records = vec![in alloc; blank; pool]?;
+    let labels = Labels::boot(alloc, 3 * pool + 3)?;
+    let segments = Segments::boot(alloc, pool)?;
+    let queues = Queues::boot(alloc, pool)?;
+    let spaces = Spaces::boot(alloc, pool)?;
     Ok(Holdings {
-        records: vec![in alloc; blank; pool]?,
-        labels: Labels::boot(alloc, 3 * pool + 3)?,
-        segments: Segments::boot(alloc, pool)?,
-        queues: Queues::boot(alloc, pool)?,
-        spaces: Spaces::boot(alloc, pool)?,
+        records,
+        labels,
+        segments,
+        queues,
+        spaces,
     })
 }
 

@@ -34,7 +34,7 @@ module _ (size root : ℕ) (r : List Lists) (names ids slots : List ℕ) (drafte
     | inl one ↦
         let at_root : IsRecorded size root r root = record { within = drafted.sound.root_in; reached = inl refl } in
         subst (λ (s : ℕ). IsRecorded size root r s)
-            (sym (slot_at size root r names ids slots listing k root lt at_root (drafted.root_id ∙ sym one))) at_root
+        (sym (slot_at size root r names ids slots listing k root lt at_root (drafted.root_id ∙ sym one))) at_root
     | inr link ↦
         let n = listed_links size root r names ids slots drafted.sound listing link.0 (get_or ids k 0) link.1 in
         let rec : IsRecorded size root r n.o = record { within = n.listed.link.object; reached = inr (n.listed.cell, n.listed.link.names) } in

@@ -21,5 +21,4 @@ pub mod Removals
 pub mod Distinct
 pub mod Losses
 pub mod Lists
-
 pub mod Drafts

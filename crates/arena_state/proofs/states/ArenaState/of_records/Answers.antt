@@ -3,7 +3,7 @@ use Rattle.plain_state.specs.Recorded.{records_state}
 use Rattle.arena_state.specs.declared.pieces.Pieces.{Pieces}
 use Rattle.arena_state.proofs.HoldLaws.{few}
 use Rattle.arena_state.proofs.AssemblyLaws.{assembled_sound, assembled_stocked, assembled_whole}
-use Rattle.arena_state.proofs.restores.ArenaState.of_records.Goals as goal
+use Rattle.arena_state.proofs.states.ArenaState.of_records.Goals as goal
 
 pub no_holdings-requires : goal.no_holdings-requires
 no_holdings-requires c = few (records_state c.args.records.now) c.requires
