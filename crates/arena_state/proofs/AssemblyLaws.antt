@@ -128,7 +128,7 @@ module _ (s : State) (hold : IsHoldable s) (p : Pieces) (limits : p.limits ≡ s
   abbrev slots : List ℕ
   slots = p.places.slots
 
-  hollow_state : State
+  abbrev hollow_state : State
   hollow_state = record s { objects = map (λ e. (e.0, hollow e.1)) s.objects }
 
   long : length s.objects ≡ length slots
@@ -145,7 +145,7 @@ module _ (s : State) (hold : IsHoldable s) (p : Pieces) (limits : p.limits ≡ s
     next_category = next_category i;
   }
 
-  contents : ℕ → Content
+  abbrev contents : ℕ → Content
   contents o = of_object (zeros (is.Device [])) (λ x. zeros x.body) (object_at s o)
 
   -- hollow objects are those whose slots hold zeros

@@ -19,8 +19,8 @@ invariant_of-result c =
       next_category = s.next_category;
     } in
     record {
-      sound = assembled_sound s c.requires p refl refl refl c.in_ok-places.ensures.lists c.in_ok-places.ensures.cells c.len-_count.ensures.well_formed c.fill.ensures;
-      stocked = assembled_stocked s c.requires p refl refl refl c.in_ok-places.ensures.lists c.in_ok-places.ensures.cells c.len-_count.ensures.well_formed c.fill.ensures;
+      sound = assembled_sound s c.requires p refl refl refl c.in_ok-places.ensures.lists c.in_ok-places.ensures.cells c.len-count.ensures.well_formed c.fill.ensures;
+      stocked = assembled_stocked s c.requires p refl refl refl c.in_ok-places.ensures.lists c.in_ok-places.ensures.cells c.len-count.ensures.well_formed c.fill.ensures;
     }
 
 pub returns : goal.returns
@@ -33,4 +33,4 @@ returns c =
       next_id = s.next_id;
       next_category = s.next_category;
     } in
-    assembled_whole s c.requires p refl refl refl c.in_ok-places.ensures.lists c.in_ok-places.ensures.cells c.len-_count.ensures.well_formed c.fill.ensures
+    assembled_whole s c.requires p refl refl refl c.in_ok-places.ensures.lists c.in_ok-places.ensures.cells c.len-count.ensures.well_formed c.fill.ensures
