@@ -1,22 +1,19 @@
 -- Pieces that were laid out from a state's objects are that state.
-use Rattle.std.proofs.Common.{◌≡◌, ◌≢◌, ℕ, zero, suc, ◌+◌, ◌*◌, ◌<◌, ◌≤◌, Bool, true, false, cond, ◌&&◌, ◌==◌, nat_le, ◌/◌, List, [], ◌∷◌, ◌++◌, length, get_or, take, replicate, Option, Some, None, refl, sym, ap, ◌∙◌, subst, arith, inl, inr, sum_by, is_some, length-append}
+use Rattle.std.proofs.Common.{◌≡◌, ℕ, zero, suc, ◌+◌, ◌*◌, ◌<◌, Bool, true, false, cond, ◌&&◌, ◌==◌, nat_le, ◌/◌, List, [], ◌∷◌, ◌++◌, length, get_or, take, replicate, Option, Some, None, refl, sym, ap, ◌∙◌, subst, arith, inl, inr, sum_by, is_some, length-append}
 use Rattle.std.specs.Prelude.{map}
 use Rattle.std.specs.Map.{lookup}
 use Rattle.std.specs.BTreeMap.{is_at}
 use Rattle.std.specs.Ordering.{nat_cmp}
-use Rattle.std.specs.Option.{option_map}
-use Rattle.std.proofs.lemmas.Bool.{cases_Bool, cases_lt, cases_eq, both_ways, and_parts, eqb-true}
+use Rattle.std.proofs.lemmas.Bool.{cases_Bool, cases_lt, eqb-true}
 use Rattle.std.proofs.lemmas.List.{append_assoc, length-replicate, get_or_past, take_all}
 use Rattle.base.specs.Live.{has, links}
 use Rattle.base.specs.declared.kinds.Kind.TheVariants as kinds
 use Rattle.containers.specs.Tree.{ids_in, HasSlot}
 use Rattle.containers.specs.WellFormed.{IsWellFormed}
 use Rattle.containers.proofs.Views.{at_has, has_at}
-use Rattle.label_intern.specs.Held.{held_at, owners_in}
-use Rattle.kernel_rules.specs.State.{State, object_at, of_object, is_kind, is_kind_at, listed, lists_of, quota_at, own_cost, use_of}
+use Rattle.kernel_rules.specs.State.{State, object_at, of_object, is_kind, listed, lists_of, quota_at, own_cost, use_of}
 use Rattle.kernel_rules.specs.WellFormed.{ids_rise, is_well_formed, is_whole_body}
 use Rattle.kernel_rules.specs.declared.objects.Object.{Object}
-use Rattle.kernel_rules.specs.declared.objects.Mapping.{Mapping}
 use Rattle.kernel_rules.specs.declared.objects.Body as body
 use Rattle.kernel_rules.specs.declared.objects.Body.TheVariants as is
 use Rattle.kernel_rules.proofs.LookupLaws.{at_is}
@@ -26,13 +23,12 @@ use Rattle.address_spaces.specs.Mappings.{places_at}
 use Rattle.arena_state.specs.declared.holdings.Holdings.{Holdings}
 use Rattle.arena_state.specs.declared.pieces.Pieces.{Pieces}
 use Rattle.arena_state.specs.Rows.{rows_of}
-use Rattle.arena_state.specs.Assembled.{pieces_state, objects_in, object_in, record_in, assembled, claims_in, use_in, body_use}
+use Rattle.arena_state.specs.Assembled.{pieces_state, objects_in, object_in, record_in, claims_in, use_in}
 use Rattle.arena_state.specs.Filled.{Content, filled, filled_body, filled_in, filled_state}
 use Rattle.arena_state.specs.Stocked.{content_in, content_at, slot_of, whole_state, kept_pages, keeps_space, pages_at, is_space_at, IsStocked}
 use Rattle.arena_state.specs.Sound.{IsSound}
 use Rattle.arena_state.specs.Restored.{bare, held_of, hollow_of, Hold, Holds, IsFilled, IsHoldable}
 use Rattle.arena_state.proofs.FormedLaws.{IsFit, formed_filled, use_filled}
-use Rattle.arena_state.proofs.FilledLaws.{at_filled}
 use Rattle.arena_state.proofs.FillLaws.{id_middle, ids_length}
 use Rattle.arena_state.proofs.HoldLaws.{climbs, rise, root_there, found_has, found_middle, whole_of}
 use Rattle.arena_state.proofs.StockLaws.{slot_is}

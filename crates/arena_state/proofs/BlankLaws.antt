@@ -1,8 +1,7 @@
 -- Slots that hold nothing yet.
-use Rattle.std.proofs.Common.{◌≡◌, ℕ, zero, suc, ◌+◌, ◌*◌, ◌<◌, false, List, [], length, get_or, take, replicate, Option, None, refl, sym, ◌∙◌, ap, arith, sum_by}
+use Rattle.std.proofs.Common.{◌≡◌, ℕ, zero, suc, ◌+◌, ◌*◌, ◌<◌, List, [], length, replicate, Option, None, refl, sym, ◌∙◌, ap, arith, sum_by}
 use Rattle.std.proofs.lemmas.List.{length-replicate, get_or-replicate}
 use Rattle.std.proofs.lemmas.List.Sums.{sum_by-cons}
-use Rattle.base.specs.Live.{has}
 use Rattle.label_intern.specs.declared.held.Held.{Held}
 use Rattle.label_intern.specs.Held.{held_at, owned, owners_in}
 use Rattle.kernel_rules.specs.State.{State}
@@ -12,8 +11,6 @@ use Rattle.segments.specs.Queues.{packets_in}
 use Rattle.address_spaces.specs.Mappings.{places_at}
 use Rattle.arena_state.specs.declared.records.Record.{Record}
 use Rattle.arena_state.specs.declared.holdings.Holdings.{Holdings}
-use Rattle.arena_state.specs.Filled.{Content}
-use Rattle.arena_state.specs.Stocked.{content_in}
 use Rattle.arena_state.specs.Restored.{IsFilled}
 use Rattle.arena_state.proofs.BootLaws.{empty_first}
 

@@ -1,6 +1,6 @@
 -- Slots that are filled one after another.
-use Rattle.std.proofs.Common.{◌≡◌, ◌≢◌, ℕ, zero, suc, ◌+◌, ◌*◌, ◌/◌, ◌<◌, ◌≤◌, min, Bool, true, false, ◌||◌, ◌==◌, List, [], ◌∷◌, ◌++◌, length, get_or, take, set, replicate, Option, Some, None, ◌&&◌, refl, sym, ap, ap₂, ◌∙◌, subst, arith, inl, inr, sum_by, length-append, length-set, get_or-set_same, get_or-set_other}
-use Rattle.std.proofs.lemmas.Bool.{and_parts, cases_Bool, cases_eq, both_ways, or_cases, eqb-true, eq-eqb}
+use Rattle.std.proofs.Common.{◌≡◌, ◌≢◌, ℕ, zero, suc, ◌+◌, ◌/◌, ◌<◌, ◌≤◌, min, Bool, true, false, ◌||◌, ◌==◌, List, [], ◌∷◌, ◌++◌, length, get_or, take, replicate, Option, Some, None, ◌&&◌, refl, sym, ap, ◌∙◌, subst, arith, inl, inr, sum_by, length-append, length-set, get_or-set_same, get_or-set_other}
+use Rattle.std.proofs.lemmas.Bool.{and_parts, cases_Bool, both_ways, or_cases, eqb-true, eq-eqb}
 use Rattle.std.proofs.lemmas.List.{take_more, get_or-take, length-take}
 use Rattle.containers.proofs.Distinct.{has_append}
 use Rattle.std.proofs.lemmas.List.Sums.{sum_by-cons, sum_by-append, sum_by-set}
@@ -9,10 +9,10 @@ use Rattle.object_arena.specs.Objects.{Apart}
 use Rattle.containers.specs.Tree.{Tree, ids_in, HasSlot}
 use Rattle.containers.specs.WellFormed.{IsWellFormed}
 use Rattle.containers.proofs.Directories.{one_place}
-use Rattle.containers.proofs.Lists.{apart_test, or_no_left, or_no_right}
+use Rattle.containers.proofs.Lists.{or_no_left, or_no_right}
 use Rattle.containers.proofs.Views.{at_has, has_at}
 use Rattle.label_intern.specs.declared.held.Held.{Held}
-use Rattle.label_intern.specs.Held.{held_at, label_of, owners_in, owned}
+use Rattle.label_intern.specs.Held.{held_at, label_of, owners_in}
 use Rattle.kernel_rules.specs.State.{State, listed, lists_of, use_of, object_at, of_object, own_cost, quota_at}
 use Rattle.kernel_rules.specs.WellFormed.{is_stored, is_whole, is_whole_body}
 use Rattle.kernel_rules.specs.declared.objects.Body as body

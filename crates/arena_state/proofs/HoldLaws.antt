@@ -1,6 +1,6 @@
 -- What holds of a state that can be laid out anew.
 use Rattle.std.proofs.Common.{◌≡◌, ◌≢◌, ℕ, zero, suc, ◌+◌, ◌<◌, ◌≤◌, ◌⊎◌, Bool, true, false, cond, not, ◌&&◌, ◌||◌, ◌==◌, nat_lt, nat_le, List, [], ◌∷◌, ◌++◌, length, get_or, Option, Some, None, refl, sym, ap, ◌∙◌, subst, arith, inl, inr, sum_by}
-use Rattle.std.specs.Prelude.{is_some, map}
+use Rattle.std.specs.Prelude.{is_some}
 use Rattle.std.specs.List.{list_all}
 use Rattle.std.specs.Map.{lookup}
 use Rattle.std.specs.BTreeMap.{is_at}
@@ -10,12 +10,12 @@ use Rattle.std.proofs.lemmas.Option.{none-some}
 use Rattle.std.proofs.lemmas.List.Sums.{sum_by-cons}
 use Rattle.base.specs.Live.{has, links}
 use Rattle.object_arena.specs.Objects.{Rises}
-use Rattle.containers.specs.Tree.{ids_in, list_of, link_count}
+use Rattle.containers.specs.Tree.{ids_in, link_count}
 use Rattle.containers.proofs.Lists.{apart_test, above_absent, links_has}
 use Rattle.containers.proofs.Views.{at_has, or_left, or_right}
 use Rattle.base.specs.declared.kinds.Kind.TheVariants as kinds
-use Rattle.kernel_rules.specs.State.{State, object_at, of_object, is_kind, is_kind_at, listed, lists_of, quota_at}
-use Rattle.kernel_rules.specs.WellFormed.{ids_rise, is_kept, is_stored, is_whole_body, listers, is_listed_rightly, is_distinct}
+use Rattle.kernel_rules.specs.State.{State, object_at, of_object, is_kind, is_kind_at, listed, lists_of}
+use Rattle.kernel_rules.specs.WellFormed.{ids_rise, is_kept, is_stored, is_whole_body, listers, is_listed_rightly}
 use Rattle.kernel_rules.specs.declared.objects.Object.{Object}
 use Rattle.kernel_rules.proofs.ListerLaws.{IsKept, kept_parts}
 use Rattle.kernel_rules.proofs.LookupLaws.{at_is, all_at}

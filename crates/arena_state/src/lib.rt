@@ -2,9 +2,9 @@
 //! address spaces hold.
 //!
 //! A contract sees it as a state of the rules, which is well formed. Each change gives the state that the rules name:
-//! no slot, link, frame or label index ever lacks, since each object was admitted by its quota. Only a boot and a state
-//! that is laid out anew take memory. Labels of stored objects are compared by bits that are kept, without a scan. Which calls are refused is left
-//! to the crates above.
+//! no slot, link, frame or label index ever lacks, since each object was admitted by its quota. Only a boot, and a state
+//! that is laid out anew from records, take memory. Labels of stored objects are compared by bits that are kept, without
+//! a scan. Which calls are refused is left to the crates above.
 #![tactic(auto)]
 
 mod boots;

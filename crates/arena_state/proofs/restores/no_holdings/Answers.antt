@@ -1,4 +1,4 @@
-use Rattle.std.proofs.Common.{rules, ◌≡◌, replicate, ◌∙◌}
+use Rattle.std.proofs.Common.{rules, ◌≡◌, replicate}
 use Rattle.arena_state.specs.declared.holdings.Holdings.{Holdings}
 use Rattle.arena_state.proofs.BlankLaws.{blank_filled}
 use Rattle.arena_state.proofs.restores.no_holdings.Goals as goal

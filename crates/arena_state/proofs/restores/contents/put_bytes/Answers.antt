@@ -1,4 +1,4 @@
-use Rattle.std.proofs.Common.{rules, ◌≡◌, ℕ, ◌+◌, ◌*◌, ◌/◌, ◌<◌, ◌≤◌, List, [], ◌++◌, length, take, drop, set, replicate, refl, sym, ap, ◌∙◌, arith, get_or-set_same}
+use Rattle.std.proofs.Common.{◌≡◌, ℕ, ◌+◌, ◌*◌, ◌/◌, List, [], ◌++◌, length, drop, set, replicate, ap, ◌∙◌, arith, get_or-set_same}
 use Rattle.std.proofs.lemmas.List.{set-set, length-replicate, drop_all, append-nil}
 use Rattle.segments.specs.Segments.{bytes_in}
 use Rattle.kernel_rules.specs.Written.{written, resized}

@@ -1,4 +1,4 @@
-use Rattle.std.proofs.Common.{◌≡◌, ◌++◌, take, drop, replicate, set, length, None}
+use Rattle.std.proofs.Common.{◌≡◌, ◌++◌, take, drop, replicate, set, None}
 use Rattle.arena_state.proofs.restores.contents.put_slots.Given as goal
 
 abbrev pub invariant-loop-place : goal.invariant-loop-place

@@ -1,14 +1,12 @@
-use Rattle.std.proofs.Common.{rules, ◌≡◌, ℕ, ◌+◌, ◌*◌, ◌/◌, ◌<◌, ◌≤◌, true, false, List, [], ◌∷◌, ◌++◌, length, get_or, replicate, refl, sym, ap, ◌∙◌, subst, arith, None}
+use Rattle.std.proofs.Common.{rules, ◌≡◌, ℕ, ◌<◌, ◌≤◌, List, [], ◌∷◌, ◌++◌, length, get_or, sym, ap, ◌∙◌, subst, arith}
 use Rattle.std.proofs.lemmas.List.{append_assoc}
-use Rattle.base.specs.Live.{has}
-use Rattle.containers.specs.Tree.{ids_in}
 use Rattle.kernel_rules.specs.declared.objects.Object.{Object}
 use Rattle.plain_state.specs.Recorded.{records_state}
 use Rattle.arena_state.specs.Filled.{Content}
 use Rattle.std.specs.Prelude.{min}
 use Rattle.std.proofs.lemmas.Bool.{leb-true}
 use Rattle.kernel_rules.specs.State.{use_of}
-use Rattle.arena_state.specs.Restored.{uses_own, IsFilled, IsPut}
+use Rattle.arena_state.specs.Restored.{uses_own, IsPut}
 use Rattle.arena_state.proofs.HoldLaws.{here_kept}
 use Rattle.arena_state.proofs.FillLaws.{absent_not, filled_more, found_place, own_here, pages_here, whole_here}
 use Rattle.arena_state.proofs.restores.fills.fill.Goals as goal

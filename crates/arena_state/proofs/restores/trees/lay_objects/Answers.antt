@@ -1,11 +1,11 @@
-use Rattle.std.proofs.Common.{rules, ◌≡◌, ℕ, ◌+◌, ◌<◌, ◌≤◌, inl, inr, true, not, ◌==◌, List, [], ◌∷◌, ◌++◌, length, refl, sym, ap, ◌∙◌, subst, arith, length-append, length-set, Option, Some}
+use Rattle.std.proofs.Common.{rules, ◌≡◌, ℕ, ◌+◌, ◌<◌, inl, inr, not, ◌==◌, List, [], ◌∷◌, ◌++◌, length, sym, ap, ◌∙◌, subst, arith, length-append, length-set}
 use Rattle.std.specs.Prelude.{All}
 use Rattle.std.proofs.lemmas.Bool.{cases_Bool, both_ways, eqb-true}
 use Rattle.std.proofs.lemmas.List.{append_assoc}
 use Rattle.kernel_rules.specs.WellFormed.{ids_rise}
 use Rattle.kernel_rules.specs.declared.objects.Object.{Object}
 use Rattle.containers.specs.Tree.{ids_in}
-use Rattle.arena_state.specs.Restored.{bare, laid}
+use Rattle.arena_state.specs.Restored.{laid}
 use Rattle.arena_state.proofs.LaidLaws.{before_less, first_id, root_or_later, laid_more, laid_all, bare_length}
 use Rattle.arena_state.proofs.restores.trees.lay_objects.Goals as goal
 

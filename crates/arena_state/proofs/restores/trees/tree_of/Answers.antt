@@ -1,4 +1,4 @@
-use Rattle.std.proofs.Common.{◌≡◌, ◌≢◌, ℕ, ◌≤◌, true, List, subst, sym, arith}
+use Rattle.std.proofs.Common.{◌≡◌, ◌≢◌, ℕ, true, List, subst, sym, arith}
 use Rattle.base.specs.Live.{has, links}
 use Rattle.containers.specs.Tree.{ids_in}
 use Rattle.plain_state.specs.Recorded.{records_state}

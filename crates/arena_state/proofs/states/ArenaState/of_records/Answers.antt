@@ -1,4 +1,4 @@
-use Rattle.std.proofs.Common.{◌≡◌, refl, ◌∙◌, sym, ap}
+use Rattle.std.proofs.Common.{refl}
 use Rattle.plain_state.specs.Recorded.{records_state}
 use Rattle.arena_state.specs.declared.pieces.Pieces.{Pieces}
 use Rattle.arena_state.proofs.HoldLaws.{few}
