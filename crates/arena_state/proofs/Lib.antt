@@ -51,3 +51,9 @@ pub mod CarriedLaws
 pub mod KeptLaws
 pub mod ShownLaws
 pub mod RepairedLaws
+pub mod LaidLaws
+pub mod HoldLaws
+pub mod PutLaws
+pub mod FillLaws
+pub mod BlankLaws
+pub mod AssemblyLaws

@@ -1,7 +1,7 @@
 -- Pieces whose slot of one object has other bytes or other packets.
-use Rattle.std.proofs.Common.{◌≡◌, ◌≢◌, ℕ, ◌+◌, ◌<◌, ◌≤◌, ◌&&◌, ◌==◌, true, false, List, [], ◌++◌, length, take, drop, get_or, set, Option, Some, None, refl, sym, ◌∙◌, ap, subst, arith, inl, inr}
+use Rattle.std.proofs.Common.{◌≡◌, ◌≢◌, ℕ, ◌+◌, ◌<◌, ◌≤◌, ◌&&◌, ◌==◌, true, false, List, [], ◌++◌, length, take, drop, get_or, set, Option, Some, refl, sym, ◌∙◌, ap, subst, arith, inl, inr}
 use Rattle.std.proofs.Common.{get_or-set_same, get_or-set_other, length-set, length-append, length-drop}
-use Rattle.std.proofs.lemmas.List.{length-take, set-set}
+use Rattle.std.proofs.lemmas.List.{length-take}
 use Rattle.std.proofs.lemmas.Bool.{cases_eq, and_parts, both_ways}
 use Rattle.std.proofs.lemmas.Option.{same_Some}
 use Rattle.containers.specs.Tree.{HasSlot}
@@ -17,7 +17,7 @@ use Rattle.kernel_rules.proofs.LookupLaws.{all_at}
 use Rattle.kernel_rules.proofs.WellFormedLaws.{soundness_of}
 use Rattle.segments.specs.Segments.{bytes_in}
 use Rattle.segments.specs.Queues.{packets_in}
-use Rattle.address_spaces.specs.Mappings.{places_at, with_mapping}
+use Rattle.address_spaces.specs.Mappings.{places_at}
 use Rattle.kernel_rules.specs.declared.objects.Mapping.{Mapping}
 use Rattle.arena_state.specs.declared.records.Kept as kept
 use Rattle.arena_state.specs.declared.records.Kept.TheVariants as keeps

@@ -3,7 +3,6 @@ use Rattle.std.proofs.Common.{◌≡◌, ℕ, List, Option, Some, None, Bor, IfS
 use Rattle.std.specs.Prelude.{option_copied}
 use Rattle.std.specs.Option.{option_map}
 use Rattle.base.specs.declared.kinds.Kind as kind
-use Rattle.base.specs.declared.kinds.Kind.TheVariants as kinds
 use Rattle.label_intern.specs.declared.held.Held.{Held}
 use Rattle.kernel_rules.specs.State.{object_at, of_object, kind_of, label_at, is_immutable, is_fixed}
 use Rattle.kernel_rules.specs.State.{is_live_kind, page_count}

@@ -11,3 +11,4 @@ pub mod Stocked
 pub mod Contents
 pub mod Touched
 pub mod Shown
+pub mod Restored

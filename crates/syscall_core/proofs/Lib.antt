@@ -3,3 +3,4 @@ pub mod RepairLaws
 pub mod NamedLaws
 pub mod UnrefLaws
 pub mod UntouchedLaws
+pub mod RestoreLaws

@@ -1,1 +1,2 @@
 pub mod Kernel
+pub mod Restored

@@ -2,7 +2,7 @@
 //!
 //! A call has 720 bytes and a reply 688, since both can carry three labels. The compiler sets a value that a function makes to
 //! zero first. So calls have a second form that puts the reply where the caller wants it (`step_into`, `ask_into`).
-ghost use Rattle.std.specs.Prelude.{◌≡◌, ◌≤◌, ◌+◌, ◌↔◌, true, false, IfOk, IfSome, IsErrOf, IsTrue, None};
+ghost use Rattle.std.specs.Prelude.{◌≡◌, ◌≢◌, ◌≤◌, ◌+◌, ◌↔◌, true, false, IfOk, OnOk, IfErr, IfSome, IsErrOf, IsTrue, Some, None};
 ghost use Rattle.std.specs.Prelude.{option_copied, option_map, slice_get};
 ghost use Rattle.base.specs.Limits.{in_range};
 ghost use Rattle.base.specs.declared.kinds.Kind.TheVariants as kinds;
@@ -13,10 +13,14 @@ ghost use Rattle.kernel_rules.specs.WellFormed.{is_well_formed};
 ghost use Rattle.arena_state.specs.Kept.{AreStored, Stores};
 ghost use Rattle.kernel_rules.specs.Translate.{translate};
 ghost use Rattle.arena_state.specs.States.{state_of};
+ghost use Rattle.checkpoints.specs.Restored.{restored};
+ghost use Rattle.syscall_core.specs.Restored.{restore_refusal};
 
 use crate::kept_state::KeptState;
+use crate::restores::{RestoreError, restored_state};
 use arena_state::ArenaState;
 use base::{Kind, Limits, Meter, NoMemory, ObjectId, Rights};
+use checkpoints::Checkpoint;
 use kernel_calls::{ask_into, step_surely_into};
 use kernel_rules::{Call, Query, Reply, Tables};
 use kernel_tables::tables;
@@ -62,6 +66,27 @@ impl Kernel {
         match booted_state(alloc, limits) {
             Ok(kept) => Ok(Kernel { alloc, kept }),
             Err(_) => Err(BootRefusal::Unavailable),
+        }
+    }
+
+    /// A kernel in the state that a checkpoint writes down. All its memory is taken here, as at a boot. The error is
+    /// `BadLimits` exactly where a limit is out of its range. Else it is `IllFormed` only where the checkpoint can't be
+    /// restored, `OlderContainer` only where it can be and a container lists another one whose id is not above its own, and
+    /// want of memory at any time. The checkpoint stays.
+    pub fn restore(
+        alloc: Global,
+        limits: &Limits,
+        checkpoint: &Checkpoint,
+    ) -> Result<Kernel, RestoreError>
+        ensures state { IfOk result (λ kernel. kernel_state kernel ≡ restored limits.now checkpoint.now) }
+        ensures fit { OnOk result (restore_refusal limits.now checkpoint.now ≡ None) }
+        ensures limits { IsErrOf result RestoreError.BadLimits ↔ (in_range limits.now ≡ false) }
+        ensures refused { IfErr result (λ error. error ≢ RestoreError.NoMemory
+            → restore_refusal limits.now checkpoint.now ≡ Some error) }
+    {
+        match restored_state(alloc, limits, checkpoint) {
+            Ok(kept) => Ok(Kernel { alloc, kept }),
+            Err(error) => Err(error),
         }
     }
 

@@ -8,6 +8,7 @@
 
 mod kept_state;
 mod kernel;
+mod restores;
 mod stores;
 
 pub use kernel::Kernel;
@@ -16,3 +17,4 @@ pub use plain_core::{
     NewAddressSpace, NewContainer, NewCopy, NewGate, NewSegment, NewThread, Object, PlainKernel,
     Query, Reply, Shown, Tables, Thread, Used, run,
 };
+pub use restores::RestoreError;

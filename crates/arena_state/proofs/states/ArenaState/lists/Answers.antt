@@ -1,7 +1,6 @@
-use Rattle.std.proofs.Common.{◌≡◌, ◌∙◌, Option, None, sym, subst, IfSome, IfNone}
-use Rattle.base.specs.declared.ids.Slot.{Slot}
+use Rattle.std.proofs.Common.{◌≡◌, ◌∙◌, None, sym}
 use Rattle.kernel_rules.specs.State.{object_at}
-use Rattle.arena_state.specs.States.{state_of, HasRow}
+use Rattle.arena_state.specs.States.{state_of}
 use Rattle.arena_state.proofs.WholeLaws.{links_is, none_lists, none_listed}
 use Rattle.arena_state.proofs.states.ArenaState.lists.Goals as goal
 

@@ -1,8 +1,6 @@
-use Rattle.std.proofs.Common.{◌≡◌, Option, None, sym, subst, arith, IfSome, IfNone}
-use Rattle.base.specs.declared.ids.Slot.{Slot}
-use Rattle.kernel_rules.specs.State.{object_at}
+use Rattle.std.proofs.Common.{sym, subst, arith}
 use Rattle.arena_state.specs.declared.records.Record.{Record}
-use Rattle.arena_state.specs.States.{state_of, Shows, HasRow}
+use Rattle.arena_state.specs.States.{Shows, HasRow}
 use Rattle.arena_state.proofs.EditLaws.{read_is}
 use Rattle.arena_state.proofs.WholeLaws.{shown}
 use Rattle.arena_state.proofs.states.ArenaState.record.Goals as goal

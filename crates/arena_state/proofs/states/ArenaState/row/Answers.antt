@@ -1,4 +1,4 @@
-use Rattle.std.proofs.Common.{Option, ℕ, subst}
+use Rattle.std.proofs.Common.{ℕ, subst}
 use Rattle.std.specs.Option.{option_copied}
 use Rattle.arena_state.specs.States.{Finds}
 use Rattle.arena_state.proofs.SightLaws.{found_some, found_none}

@@ -1,0 +1,18 @@
+-- Which checkpoints an arena kernel refuses.
+use Rattle.std.specs.Prelude.{not, Option, Some, None, if◌then◌else◌}
+use Rattle.base.specs.Limits.{in_range}
+use Rattle.base.specs.declared.ranges.Limits.{Limits}
+use Rattle.checkpoints.specs.Checkpoint.{Checkpoint}
+use Rattle.checkpoints.specs.Restorable.{is_restorable}
+use Rattle.checkpoints.specs.Restored.{restored}
+use Rattle.arena_state.specs.Restored.{are_younger}
+use Rattle.syscall_core.specs.declared.restores.RestoreError.{RestoreError}
+use Rattle.syscall_core.specs.declared.restores.RestoreError.TheVariants as errors
+
+-- why a checkpoint is refused, if it is: the first of these
+abbrev pub restore_refusal : Limits → Checkpoint → Option RestoreError
+restore_refusal limits c =
+    if not (in_range limits) then Some errors.BadLimits
+    else if not (is_restorable limits c) then Some errors.IllFormed
+    else if not (are_younger (restored limits c)) then Some errors.OlderContainer
+    else None
