@@ -6,3 +6,7 @@ pub mod VerdictLaws
 pub mod LineLaws
 pub mod MigratedLaws
 pub mod StartLaws
+pub mod SplitLaws
+pub mod NumberLaws
+pub mod ToldLaws
+pub mod StopLaws

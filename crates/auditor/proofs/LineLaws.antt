@@ -2,6 +2,7 @@
 use Rattle.std.proofs.Common.{◌≡◌, ℕ, suc, ◌+◌, Bool, true, false, if◌then◌else◌, ◌==◌, List, [], ◌∷◌, ◌++◌, length, Option}
 use Rattle.std.proofs.Common.{Some, None, refl, sym, ap, ◌∙◌, subst, arith, append_assoc, ◌⊎◌, inl, inr}
 use Rattle.std.specs.List.{AllByRecursion}
+use Rattle.std.proofs.lemmas.Bool.{eq-eqb}
 use Rattle.std.proofs.lemmas.Bool.Decides.{eqb_tells}
 use Rattle.base.specs.declared.ranges.Limits.{Limits}
 use Rattle.checkpoints.specs.Checkpoint.{Checkpoint}
@@ -29,12 +30,12 @@ use Rattle.auditor.proofs.DifferenceLaws.{none_same}
 use Rattle.auditor.proofs.VerdictLaws.{begins_can, no_line}
 
 -- two texts that begin with these lines: the lines are the same and the rest is compared, or they are the difference
-abbrev Compared : ℕ → List ℕ → List ℕ → List ℕ → List ℕ → Type 0
+abbrev pub Compared : ℕ → List ℕ → List ℕ → List ℕ → List ℕ → Type 0
 Compared m a b p q =
     ((a ≡ b) × (first_difference m (a ++ 10 ∷ p) (b ++ 10 ∷ q) ≡ first_difference (m + 1) p q))
     ⊎ ((a ≡ b → ⊥) × (first_difference m (a ++ 10 ∷ p) (b ++ 10 ∷ q) ≡ Some m))
 
-first_same : (m x : ℕ) (xs ys : List ℕ) → (x == 10) ≡ false
+pub first_same : (m x : ℕ) (xs ys : List ℕ) → (x == 10) ≡ false
     → first_difference m (x ∷ xs) (x ∷ ys) ≡ first_difference m xs ys
 first_same m x xs ys apart =
     elim (eqb_tells x x) as (λ _. first_difference m (x ∷ xs) (x ∷ ys) ≡ first_difference m xs ys) [
@@ -42,7 +43,7 @@ first_same m x xs ys apart =
       | inr t ↦ absurd (t.1 refl)
     ]
 
-first_other : (m x y : ℕ) (xs ys : List ℕ) → (x == y) ≡ false
+pub first_other : (m x y : ℕ) (xs ys : List ℕ) → (x == y) ≡ false
     → first_difference m (x ∷ xs) (y ∷ ys) ≡ Some m
 first_other m x y xs ys apart = rw apart refl
 
@@ -53,18 +54,18 @@ one_more m x a b p q apart (inl same) =
 one_more m x a b p q apart (inr other) =
     inr ((λ e. other.0 cc), first_same m x (a ++ 10 ∷ p) (b ++ 10 ∷ q) apart ∙ other.1)
 
-flipped : (y : ℕ) → (y == 10) ≡ false → (10 == y) ≡ false
-flipped y apart =
-    elim (eqb_tells 10 y) as (λ _. (10 == y) ≡ false) [
-      | inl t ↦ absurd (let h : (10 == 10) ≡ false = subst (λ (z : ℕ). (z == 10) ≡ false) (sym t.1) apart in cc)
+pub flipped : (x y : ℕ) → (y == x) ≡ false → (x == y) ≡ false
+flipped x y apart =
+    elim (eqb_tells x y) as (λ _. (x == y) ≡ false) [
+      | inl t ↦ absurd (let h : true ≡ false = sym (eq-eqb y x (sym t.1)) ∙ apart in cc)
       | inr t ↦ t.0
     ]
 
-compared : (m : ℕ) (a b p q : List ℕ) → lacks 10 a ≡ true → lacks 10 b ≡ true → Compared m a b p q
+pub compared : (m : ℕ) (a b p q : List ℕ) → lacks 10 a ≡ true → lacks 10 b ≡ true → Compared m a b p q
 compared m [] [] p q la lb = inl (refl, refl)
 compared m [] (y ∷ b) p q la lb =
     let apart = (cond_false (y == 10) (lacks 10 b) lb).0 in
-    let other : (10 == y) ≡ false = flipped y apart in
+    let other : (10 == y) ≡ false = flipped 10 y apart in
     inr ((λ e. cc), first_other m 10 y p (b ++ 10 ∷ q) other)
 compared m (x ∷ a) [] p q la lb =
     let apart = (cond_false (x == 10) (lacks 10 a) la).0 in
@@ -78,7 +79,7 @@ compared m (x ∷ a) (y ∷ b) p q la lb =
       | inr t ↦ inr ((λ e. t.1 cc), first_other m x y (a ++ 10 ∷ p) (b ++ 10 ∷ q) t.0)
     ]
 
-text_more : (x : Line) (xs : List Line)
+pub text_more : (x : Line) (xs : List Line)
     → lines_text line_text (x ∷ xs) ≡ line_text x ++ 10 ∷ lines_text line_text xs
 text_more x xs = append_assoc (line_text x) (10 ∷ []) (lines_text line_text xs)
 
@@ -120,7 +121,7 @@ none_right m n [] p h = let k : m ≡ n = cc in omega arith
 none_right m n (z ∷ a) p h = let k : m ≡ n = cc in omega arith
 
 -- after a line that both have
-after_line : (i : ℕ) (x y : Line) (xs ys : List Line) → x ≡ y → DifferAt i xs ys → DifferAt (suc i) (x ∷ xs) (y ∷ ys)
+pub after_line : (i : ℕ) (x y : Line) (xs ys : List Line) → x ≡ y → DifferAt i xs ys → DifferAt (suc i) (x ∷ xs) (y ∷ ys)
 after_line i x y xs ys line rest = ((λ j. line j ∷ rest.0 j), rest.1)
 
 -- the line in which the texts of two lists of lines differ first

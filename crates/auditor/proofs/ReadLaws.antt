@@ -113,14 +113,14 @@ true_are start events rs = record {
 }
 
 -- they stand where the reads do
-placed_after : (start : Start) (events : List Event) (place thread first last : ℕ) (rs : List PlacedRead)
+pub placed_after : (start : Start) (events : List Event) (place thread first last : ℕ) (rs : List PlacedRead)
     → are_placed first last (true_reads_after start events place thread rs) ≡ are_placed first last rs
 placed_after start events place thread first last [] = refl
 placed_after start events place thread first last (r ∷ rs) =
     ap (λ (b : Bool). nat_le first r.place && (nat_le r.place last && b))
     (placed_after start events r.place (thread_after place thread r) r.place last rs)
 
-replayed_length : (start : Start) (before es : List Event) → length (replayed_after start before es) ≡ length (before ++ es)
+pub replayed_length : (start : Start) (before es : List Event) → length (replayed_after start before es) ≡ length (before ++ es)
 replayed_length start before [] = ap length (sym (append-nil before))
 replayed_length start before (e ∷ es) =
     replayed_length start (before ++ true_event start before e ∷ []) es

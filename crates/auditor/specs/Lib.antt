@@ -1,4 +1,5 @@
 pub mod Lines
 pub mod Migrated
 pub mod Replay
+pub mod Told
 pub mod Verdict

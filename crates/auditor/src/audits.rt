@@ -1,12 +1,11 @@
 //! Auditing dumps.
-ghost use Rattle.std.specs.Prelude.{◌≡◌, ℕ, ◌+◌, List, length, Option, IfOk, IfSome, OnOk, is_some, true};
-ghost use Rattle.dump_text.specs.Dump.{dump_text};
-ghost use Rattle.dump_text.specs.Fits.{FitsWords};
+ghost use Rattle.std.specs.Prelude.{◌≡◌, ℕ, ◌+◌, List, length, IfOk, IfSome, is_some, true};
 ghost use Rattle.dump_text.specs.Reads.{are_placed};
 ghost use Rattle.auditor.specs.declared.verdicts.Verdict.{Verdict as Found};
 ghost use Rattle.auditor.specs.declared.verdicts.Verdict.TheVariants.{Clean as Legal, False as FalseAt};
 ghost use Rattle.auditor.specs.Migrated.{IsMigrated};
-ghost use Rattle.auditor.specs.Verdict.{begins, false_line, true_dump, IsVerdict, IsLegalText, TellsFalse};
+ghost use Rattle.auditor.specs.Told.{IsTold, IsToldText, IsFound};
+ghost use Rattle.auditor.specs.Verdict.{begins, IsVerdict, IsLegalText, TellsFalse};
 
 use crate::differences::first_difference;
 use crate::replays::Replay;
@@ -16,12 +15,12 @@ use dump_text::{Dump, DumpError, dump_with, legal_is_dump, one_reading, read_dum
 use std::alloc::Global;
 
 /// The true dump: that of the dump's own limits, checkpoint, calls and queries, with the numbers, the replies and the tables of
-/// the rules, and with threads of reads that rise at each place. There is one exactly where the checkpoint, if there is one,
-/// can be restored.
+/// the rules, and with threads of reads that rise at each place; or its part up to an event whose number would be 2^64. There is
+/// one exactly where the checkpoint, if there is one, can be restored.
 fn true_dump(alloc: Global, dump: Dump) -> Result<Option<Dump>, NoMemory>
     requires { are_placed 0 (length dump.events) dump.reads ≡ true }
     ensures test { IfOk result (λ told. is_some told ≡ begins dump) }
-    ensures dump { IfOk result (λ told. IfSome told (λ d. d ≡ true_dump dump)) }
+    ensures dump { IfOk result (λ told. IfSome told (IsTold dump)) }
 {
     let Dump {
         limits,
@@ -33,20 +32,17 @@ fn true_dump(alloc: Global, dump: Dump) -> Result<Option<Dump>, NoMemory>
     let Some(mut replay) = Replay::begin(alloc, &limits, &checkpoint)? else {
         return Ok(None);
     };
-    let Some(told) = replay.take_all(alloc, events.as_slice(), reads.as_slice())? else {
-        return Err(NoMemory);
-    };
+    let told = replay.take_all(alloc, events.as_slice(), reads.as_slice())?;
     let tables = replay.kernel.tables(&mut replay.meter)?;
     let whole = dump_with(alloc, &limits, checkpoint, replay.events, told, tables)?;
     Ok(Some(whole))
 }
 
-/// The text of the true dump, where there is one.
+/// The text of the true dump, or of its part, where there is one.
 fn true_text(alloc: Global, dump: Dump) -> Result<Option<Vec<u8>>, NoMemory>
     requires { are_placed 0 (length dump.events) dump.reads ≡ true }
     ensures test { IfOk result (λ text. is_some text ≡ begins dump) }
-    ensures text { IfOk result (λ text. IfSome text (λ t. t.items ≡ dump_text (true_dump dump))) }
-    ensures fits { IfOk result (λ text. IfSome text (λ t. FitsWords (true_dump dump))) }
+    ensures text { IfOk result (λ text. IfSome text (λ t. IsToldText dump t.items)) }
 {
     let Some(told) = true_dump(alloc, dump)? else {
         return Ok(None);
@@ -55,11 +51,10 @@ fn true_text(alloc: Global, dump: Dump) -> Result<Option<Vec<u8>>, NoMemory>
     Ok(Some(text))
 }
 
-/// The first line of a dump that is not true.
+/// The first line of a dump that is not true. An event whose number no line can spell is not.
 fn false_line(alloc: Global, bytes: &[u8], dump: Dump) -> Result<Option<u64>, NoMemory>
     requires { are_placed 0 (length dump.events) dump.reads ≡ true }
-    ensures line { IfOk result (λ line. line ≡ false_line bytes.now dump) }
-    ensures fits { OnOk result (begins dump ≡ true → FitsWords (true_dump dump)) }
+    ensures { IfOk result (IsFound bytes.now dump) }
 {
     match true_text(alloc, dump)? {
         None => Ok(Some(3)),

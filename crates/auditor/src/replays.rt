@@ -1,5 +1,5 @@
 //! Playing calls again.
-ghost use Rattle.std.specs.Prelude.{◌≡◌, ◌≤◌, ◌++◌, ◌∷◌, [], length, map, take, IfOk, OnOk, IfSome, List, true};
+ghost use Rattle.std.specs.Prelude.{◌≡◌, ◌≤◌, ◌++◌, ◌∷◌, [], length, map, take, IfOk, OnOk, List, true, false};
 ghost use Rattle.std.specs.BTreeMap.{get};
 ghost use Rattle.std.specs.Option.{unwrap_or};
 ghost use Rattle.std.specs.Ordering.{nat_cmp};
@@ -9,7 +9,8 @@ ghost use Rattle.histories.specs.History.{Start, answered};
 ghost use Rattle.plain_core.specs.Kernel.{kernel_state};
 ghost use Rattle.dump_text.specs.Reads.{are_placed};
 ghost use Rattle.histories.specs.Events.{Event as Happened};
-ghost use Rattle.auditor.specs.Replay.{IsReplay, Takes, TakesAll, thread_after, true_read, true_reads};
+ghost use Rattle.auditor.specs.Replay.{IsReplay, Takes, TakesAll, thread_after, true_read};
+ghost use Rattle.auditor.specs.Told.{HasNoNumber, StopsBetween, TellsAll};
 
 use base::{Meter, NoMemory, ObjectId};
 use dump_text::{PlacedRead, Read, raw_reply};
@@ -90,10 +91,12 @@ fn thread_after(place: usize, thread: ObjectId, read: &PlacedRead) -> ObjectId
 }
 
 impl Replay {
-    /// Takes an event's calls again, where its thread has a next number below 2^64. The error is want of memory.
+    /// Takes an event's calls again, where its thread has a next number below 2^64, and else none. The error is want of memory.
     fn take(&mut self, alloc: Global, event: &Event) -> Result<bool, NoMemory>
-        ensures { IfOk result (λ taken. taken ≡ true → (start : Start) → IsReplay start self.old
+        ensures taken { IfOk result (λ taken. taken ≡ true → (start : Start) → IsReplay start self.old
             → Takes start self.old event.now self.new) }
+        ensures stopped { IfOk result (λ taken. taken ≡ false → (start : Start) → IsReplay start self.old
+            → (self.new ≡ self.old) × HasNoNumber start self.old.events.items event.now) }
     {
         let thread = event.thread;
         let Some(number) = last_of(&self.counts, thread).checked_add(1) else {
@@ -126,8 +129,10 @@ impl Replay {
     ) -> Result<bool, NoMemory>
         requires order { from ≤ to }
         requires within { to ≤ length events.now }
-        ensures { IfOk result (λ taken. taken ≡ true → (start : Start)
+        ensures taken { IfOk result (λ taken. taken ≡ true → (start : Start)
             → TakesAll start (take from events.now) self.old → TakesAll start (take to events.now) self.new) }
+        ensures stopped { IfOk result (λ taken. taken ≡ false → (start : Start)
+            → TakesAll start (take from events.now) self.old → StopsBetween start events.now from to self.new) }
     {
         for place in from..to {
             if !self.take(alloc, &events[place])? {
@@ -159,32 +164,29 @@ impl Replay {
     }
 
     /// Takes the calls of events again, and tells the reads among them with the rules' replies, and with threads that rise at
-    /// each place; nothing where an event's thread has no next number below 2^64. The error is want of memory.
+    /// each place; up to an event whose thread has no next number below 2^64, if there is one. The error is want of memory.
     pub fn take_all(
         &mut self,
         alloc: Global,
         events: &[Event],
         reads: &[PlacedRead],
-    ) -> Result<Option<Vec<PlacedRead>>, NoMemory>
+    ) -> Result<Vec<PlacedRead>, NoMemory>
         requires { are_placed 0 (length events.now) reads.now ≡ true }
-        ensures { IfOk result (λ told. IfSome told (λ all. (start : Start) → IsReplay start self.old
-            → self.old.events.items ≡ []
-            → TakesAll start events.now self.new × (all.items ≡ true_reads start events.now reads.now))) }
+        ensures { IfOk result (λ told. (start : Start) → IsReplay start self.old → self.old.events.items ≡ []
+            → TellsAll start events.now reads.now self.new told.items) }
     {
         let mut told = Vec::with_capacity(alloc, reads.len())?;
         let mut place = 0;
         let mut thread = ObjectId::new(0);
         for read in reads {
             if !self.take_between(alloc, events, place, read.place)? {
-                return Ok(None);
+                return Ok(told);
             }
             thread = thread_after(place, thread, read);
             place = read.place;
             told.push(self.answer(thread, read)?)?;
         }
-        if !self.take_between(alloc, events, place, events.len())? {
-            return Ok(None);
-        }
-        Ok(Some(told))
+        let _all = self.take_between(alloc, events, place, events.len())?;
+        Ok(told)
     }
 }

@@ -8,8 +8,8 @@ use Rattle.auditor.specs.Replay.{Takes}
 use Rattle.auditor.proofs.CountLaws.{replay_more, true_is}
 use Rattle.auditor.proofs.replays.Replay.take.Goals as goal
 
-pub returns : goal.returns
-returns c = λ taken start was.
+pub returns-clause-taken : goal.returns-clause-taken
+returns-clause-taken c = λ taken start was.
     let old = c.args.self.now in
     let seen : Event = record {
       thread = c.event.inside.thread;
