@@ -48,6 +48,7 @@ fn laid_out(alloc: Global, records: &Records) -> Result<KeptState, NoMemory>
 }
 
 /// What is kept of the state that a checkpoint writes down.
+#[tactic(auto, using(crate::proofs::RestoreLaws::holdable_in, crate::proofs::RestoreLaws::named_in))]
 pub(crate) fn restored_state(
     alloc: Global,
     limits: &Limits,
