@@ -13,6 +13,7 @@ use Rattle.checkpoints.proofs.NamesLaws.{restored_named}
 use Rattle.checkpoints.proofs.SoundLaws.{restorable_whole}
 use Rattle.translation_laws.specs.Names.{IsNamedRightly}
 use Rattle.arena_state.specs.Restored.{are_younger, IsHoldable}
+use Rattle.syscall_core.specs.Restored.{IsKeepable}
 
 -- the root's quota is that of the limits
 root_quota : (l : Limits) (o : Option Object) → of_object false (is_root l) o ≡ true → of_object 0 (λ x. x.quota) o ≡ l.pages
@@ -32,11 +33,11 @@ holdable l c range fit younger =
     }
 
 -- of a state that is one which a checkpoint's is
-pub holdable_in : (l : Limits) (c : Checkpoint) (p s : State) → s ≡ p → p ≡ restored l c → in_range l ≡ true → is_restorable l c ≡ true
-    → are_younger s ≡ true → IsHoldable s
-holdable_in l c p s same is range fit younger =
+pub keepable : (l : Limits) (c : Checkpoint) (p s : State) → s ≡ p → p ≡ restored l c → in_range l ≡ true → is_restorable l c ≡ true
+    → are_younger s ≡ true → IsKeepable s
+keepable l c p s same is range fit younger =
     let whole : s ≡ restored l c = same ∙ is in
-    subst IsHoldable (sym whole) (holdable l c range fit (subst (λ (t : State). are_younger t ≡ true) whole younger))
-
-pub named_in : (l : Limits) (c : Checkpoint) (p s : State) → s ≡ p → p ≡ restored l c → is_restorable l c ≡ true → IsNamedRightly s
-named_in l c p s same is fit = subst IsNamedRightly (sym (same ∙ is)) (restored_named l c fit)
+    record {
+      holdable = subst IsHoldable (sym whole) (holdable l c range fit (subst (λ (t : State). are_younger t ≡ true) whole younger));
+      named = subst IsNamedRightly (sym whole) (restored_named l c fit);
+    }

@@ -5,7 +5,9 @@ use Rattle.base.specs.declared.ranges.Limits.{Limits}
 use Rattle.checkpoints.specs.Checkpoint.{Checkpoint}
 use Rattle.checkpoints.specs.Restorable.{is_restorable}
 use Rattle.checkpoints.specs.Restored.{restored}
-use Rattle.arena_state.specs.Restored.{are_younger}
+use Rattle.translation_laws.specs.Names.{IsNamedRightly}
+use Rattle.arena_state.specs.Restored.{are_younger, IsHoldable}
+use Rattle.kernel_rules.specs.State.{State}
 use Rattle.syscall_core.specs.declared.restores.RestoreError.{RestoreError}
 use Rattle.syscall_core.specs.declared.restores.RestoreError.TheVariants as errors
 
@@ -16,3 +18,8 @@ restore_refusal limits c =
     else if not (is_restorable limits c) then Some errors.IllFormed
     else if not (are_younger (restored limits c)) then Some errors.OlderContainer
     else None
+
+-- a state that an arena kernel can keep: it can be laid out, and what its spaces name is named rightly
+pub record IsKeepable (s : State) : Type 0 where
+  pub holdable : IsHoldable s
+  pub named : IsNamedRightly s

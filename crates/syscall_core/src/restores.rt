@@ -3,10 +3,8 @@ ghost use Rattle.std.specs.Prelude.{◌≡◌, ◌≢◌, ◌↔◌, false, IfOk
 ghost use Rattle.base.specs.Limits.{in_range};
 ghost use Rattle.plain_state.specs.Recorded.{records_state};
 ghost use Rattle.checkpoints.specs.Restored.{restored};
-ghost use Rattle.translation_laws.specs.Names.{IsNamedRightly};
-ghost use Rattle.arena_state.specs.Restored.{IsHoldable};
 ghost use Rattle.arena_state.specs.States.{state_of};
-ghost use Rattle.syscall_core.specs.Restored.{restore_refusal};
+ghost use Rattle.syscall_core.specs.Restored.{restore_refusal, IsKeepable};
 
 use crate::kept_state::KeptState;
 use arena_state::{ArenaState, are_younger};
@@ -37,8 +35,7 @@ pub enum RestoreError {
 
 // What is kept of the state that records are. The error is want of memory.
 fn laid_out(alloc: Global, records: &Records) -> Result<KeptState, NoMemory>
-    requires holdable { IsHoldable (records_state records.now) }
-    requires named { IsNamedRightly (records_state records.now) }
+    requires { IsKeepable (records_state records.now) }
     ensures { IfOk result (λ kept. state_of kept.state ≡ records_state records.now) }
 {
     let mut meter = Meter::new(alloc)?;
@@ -48,7 +45,7 @@ fn laid_out(alloc: Global, records: &Records) -> Result<KeptState, NoMemory>
 }
 
 /// What is kept of the state that a checkpoint writes down.
-#[tactic(auto, using(crate::proofs::RestoreLaws::holdable_in, crate::proofs::RestoreLaws::named_in))]
+#[tactic(auto, using(crate::proofs::RestoreLaws::keepable))]
 pub(crate) fn restored_state(
     alloc: Global,
     limits: &Limits,

@@ -15,3 +15,6 @@ pub new_rows-requires : goal.new_rows-requires
 new_rows-requires c =
     subst (λ (s : State). s.limits.pages ≤ 1024) (sym c.in_ok-state.ensures)
     (few_pages (records_state c.args.records.now).limits c.requires.holdable.range)
+
+pub of_records-requires : goal.of_records-requires
+of_records-requires c = c.requires.holdable
