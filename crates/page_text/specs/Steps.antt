@@ -59,13 +59,14 @@ pub data Turn : Type 0 where
   Made : Event → Turn
   Asked : PlacedRead → Turn
 
--- events, and the reads at their places among them
 abbrev pub made : Event → List Turn
 made e = Made e ∷ []
 
+-- events, and the reads at their places among them
 abbrev pub turns : List Event → List PlacedRead → List Turn
 turns events reads = in_turn made Asked 0 events reads
 
+-- whether it is a read
 abbrev pub asks : Turn → Bool
 asks (Made e) = false
 asks (Asked r) = true
