@@ -25,10 +25,11 @@ DATA = re.compile(r"<script type='application/json' id='data'>([^<]*)</script>")
 ESCAPE = re.compile(r"\x1b\[[0-9]*m")
 # what the page's script is sent, after it has begun
 KEYS = "<script>for (const key of ['e', 'ArrowLeft', 'ArrowLeft', 'ArrowRight', 'ArrowDown', 'End']) document.dispatchEvent(new KeyboardEvent('keydown', { key }));</script>"
-# and with a modifier, which it leaves to the browser; and to the first refused event, from the beginning
+# and with a modifier, which it leaves to the browser; and to the first refused step, from the beginning
 HELD = "<script>for (const key of ['e', 'ArrowLeft']) document.dispatchEvent(new KeyboardEvent('keydown', { key, ctrlKey: key !== 'e' }));</script>"
 REFUSED = "<script>for (const key of ['g', 'n']) document.dispatchEvent(new KeyboardEvent('keydown', { key }));</script>"
 LEAK = "examples/dumps/leak.dump"
+READS = "examples/dumps/read_again.dump"
 # What the pictures of docs/ show, and how wide: on a desk and on a telephone.
 SHOWN = ("examples/dumps/scanner.dump", "--from", "4", "--category", "1")
 PICTURES = {"docs/page.png": "1280,560", "docs/page_narrow.png": "390,844"}
@@ -68,12 +69,27 @@ def trees_of(data):
 
 
 def told_lines(dump):
-    """The lines of a dump that tell calls, each with its number."""
-    return [(at, it) for at, it in enumerate(text(dump).split("\n"), 1) if it.startswith(("event ", "batch ", "call "))]
+    """The lines of a dump that tell calls and reads, each with its number."""
+    return [(at, it) for at, it in enumerate(text(dump).split("\n"), 1) if it.startswith(("event ", "batch ", "call ", "read "))]
+
+
+def places_of(dump):
+    """Where the steps of a dump's page stand: after how many events, and which of the reads after them it is, 0 of an event."""
+    places = [(0, 0)]
+    for _, line in told_lines(dump):
+        events, reads = places[-1]
+        if not line.startswith("call "):
+            places.append((events, reads + 1) if line.startswith("read ") else (events + 1, 0))
+    return places
+
+
+def number_of(place):
+    """How the address of a page names a step."""
+    return ".".join(map(str, place)) if place[1] else str(place[0])
 
 
 def why_of(dump, number, line):
-    """What `why` prints of a call that the rules refuse, and nothing of any other."""
+    """What `why` prints of a call or a read that the rules refuse, and nothing of any other."""
     if line.startswith("batch "):
         return ""
     _, why = ran("./histar-show", "why", dump, str(number))
@@ -81,17 +97,19 @@ def why_of(dump, number, line):
 
 
 def compare(report, dump, name, data, some):
-    """Each tree, or some, and each line that tells a call with its reason, or some, against what the other words print."""
+    """Each step, or some, and each line that tells a call or a read with its reason, or some, against what the other words print."""
     trees, is_marked = trees_of(data)
-    count = sum(not it.startswith("call ") for _, it in told_lines(dump))
-    wrong = [at for at in some(range(count + 1)) if at >= len(trees) or trees[at] != ran("./histar-show", "tree", dump, "--after", str(at))[1]]
-    report.counts(len(trees) == count + 1 and not wrong and is_marked, f"{name}: {len(trees)} trees as `tree` prints them, changed lines marked {wrong[:3]}")
+    places = places_of(dump)
+    is_placed = [it["read"] for it in data["steps"]] == [reads > 0 for _, reads in places]
+    wrong = [at for at in some(range(len(places))) if at >= len(trees) or trees[at] != ran("./histar-show", "tree", dump, "--after", str(places[at][0]))[1]]
+    reads = sum(it["read"] for it in data["steps"])
+    report.counts(is_placed and not wrong and is_marked, f"{name}: {len(trees)} trees as `tree` prints them, {reads} of reads, changed lines marked {wrong[:3]}")
     told = [it for step in data["steps"] for it in step["told"]]
     lines = told_lines(dump)
     is_told = [it["line"] for it in told] == [line for _, line in lines]
     wrong = [at for at in some(range(len(lines))) if is_told and told[at]["why"] != why_of(dump, *lines[at])]
     refused = sum(bool(it["why"]) for it in told)
-    report.counts(is_told and not wrong, f"{name}: {len(told)} lines of calls, {refused} of them refused as `why` tells {wrong[:3]}")
+    report.counts(is_told and not wrong, f"{name}: {len(told)} lines of calls and reads, {refused} of them refused as `why` tells {wrong[:3]}")
 
 
 def compare_stored(report, room):
@@ -107,7 +125,7 @@ def compare_stored(report, room):
 
 
 def long_dump(room):
-    """A dump of many events, the first of a drawn run."""
+    """A dump of many events and the reads among them, the first of a drawn run."""
     with open(f"{room}/script", "w", encoding="utf-8") as it:
         it.write(script(SEED, phases=EVENTS // 3))
     subprocess.run(["./histar", "run", f"{room}/script", "--dump", f"{room}/whole"], check=True, stdout=subprocess.DEVNULL)
@@ -158,28 +176,30 @@ def tree_in(document):
 
 
 def first_refused(dump):
-    """The place of the first event with a call that the rules refuse, from 1; none where no event has one."""
-    place = 0
+    """The place of the first event or read that the rules refuse; none where they refuse none."""
+    at, places = 0, places_of(dump)
     for number, line in told_lines(dump):
-        place += not line.startswith("call ")
+        at += not line.startswith("call ")
         if why_of(dump, number, line):
-            return place
+            return places[at]
     return None
 
 
 def browse_dump(report, room, dump, *words):
-    """The script shows the tree that the address names; by itself the first refused event, or the last; and others by keys."""
+    """The script shows the step that the address names; by itself the first refused one, or the last; and others by keys."""
     page = page_of(dump, f"{room}/page.html", *words) or ""
-    events = sum(it.startswith(("event ", "batch ")) for _, it in told_lines(dump))
-    opened = first_refused(dump) or events
+    places = places_of(dump)
+    opened = first_refused(dump) or places[-1]
     for name, script in (("keys", KEYS), ("held", HELD), ("refused", REFUSED)):
         with open(f"{room}/{name}.html", "w", encoding="utf-8") as it:
             it.write(page.replace("</body>", f"{script}</body>"))
-    cases = [("page", "", opened), ("page", "#3", 3), ("page", "#99", events), ("keys", "", events - 1), ("held", "", events), ("refused", "", first_refused(dump) or 0)]
-    for file, fragment, after in cases:
-        shown = tree_in(dom(f"{room}/{file}.html", fragment))
-        wanted = ran("./histar-show", "tree", dump, "--after", str(after))[1]
-        report.counts(shown == wanted, f"{dump}, {file}.html{fragment} in Chromium: {'the' if shown == wanted else 'not the'} tree after {after} events")
+    cases = [("page", "", opened), ("page", "#99", places[-1]), ("keys", "", places[-2]), ("held", "", places[-1])]
+    cases += [("refused", "", first_refused(dump) or (0, 0)), *(("page", f"#{number_of(it)}", it) for it in places if it[1] or it == (3, 0))]
+    for file, fragment, place in cases:
+        document = dom(f"{room}/{file}.html", fragment)
+        is_shown = tree_in(document) == ran("./histar-show", "tree", dump, "--after", str(place[0]))[1]
+        is_named = f'aria-current="true">{number_of(place)} ' in document or place == (0, 0)
+        report.counts(is_shown and is_named, f"{dump}, {file}.html{fragment} in Chromium: {'the' if is_shown and is_named else 'not the'} step {number_of(place)}")
 
 
 def browse(report, room):
@@ -188,6 +208,7 @@ def browse(report, room):
         return
     browse_dump(report, room, FLOWS[0], "--from", FLOWS[1], "--category", FLOWS[2])
     browse_dump(report, room, LEAK)
+    browse_dump(report, room, READS)
 
 
 def on_terminal(*words, **environment):

@@ -5,3 +5,4 @@ pub mod FloatLaws
 pub mod LineLaws
 pub mod ShownLaws
 pub mod StepLaws
+pub mod TurnLaws

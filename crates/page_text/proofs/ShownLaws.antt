@@ -4,11 +4,12 @@ use Rattle.std.specs.Global.{Vec}
 use Rattle.base.specs.declared.ids.Category.{Category}
 use Rattle.dump_text.specs.Lists.{DumpLists}
 use Rattle.dump_text.specs.Whole.{start_with}
+use Rattle.dump_text.specs.declared.tables.PlacedRead.{PlacedRead}
 use Rattle.histories.specs.Events.{Event}
 use Rattle.kernel_rules.specs.State.{State}
 use Rattle.page_text.specs.Page.{page_text, page_data, shown_data}
 use Rattle.page_text.specs.Shown.{PageShows}
-use Rattle.page_text.specs.Steps.{steps_of}
+use Rattle.page_text.specs.Steps.{turns, steps_of}
 use Rattle.page_text.specs.Told.{told_in}
 
 pub shown_of_all : (remaining : Option (List ℕ)) (flow : Option (ℕ × Category)) (read given : List ℕ) (told : Vec ℕ)
@@ -19,11 +20,11 @@ shown_of_all (Some left) flow read given told is same shown = subst (λ (l : Lis
 
 -- the page of what a dump was taken apart into is the dump's
 pub page_told : (text : List ℕ) (whole parts : DumpLists) (flow : Option (ℕ × Category)) (reached given : List ℕ) (s : State)
-    (events : List Event) (told : List ℕ) → told ≡ page_text (shown_data flow given (steps_of (told_in text) s events))
+    (events : List Event) (reads : List PlacedRead) (told : List ℕ)
+    → told ≡ page_text (shown_data flow given (steps_of (told_in text) s (turns events reads)))
     → given ≡ reached → parts ≡ whole → s ≡ (start_with parts.limits parts.checkpoint).state → events ≡ parts.events
-    → told ≡ page_text (page_data text whole flow reached)
-page_told text whole parts flow reached given s events told is same parted begun are =
-    is ∙ ap (λ (l : List ℕ). page_text (shown_data flow l (steps_of (told_in text) s events))) same
-    ∙ ap (λ (x : State). page_text (shown_data flow reached (steps_of (told_in text) x events))) begun
-    ∙ ap (λ (es : List Event). page_text (shown_data flow reached (steps_of (told_in text) (start_with parts.limits parts.checkpoint).state es))) are
+    → reads ≡ parts.reads → told ≡ page_text (page_data text whole flow reached)
+page_told text whole parts flow reached given s events reads told is same parted begun are asked =
+    is
+    ∙ (λ i. page_text (shown_data flow (same i) (steps_of (told_in text) (begun i) (turns (are i) (asked i)))))
     ∙ ap (λ (d : DumpLists). page_text (page_data text d flow reached)) parted

@@ -4,7 +4,7 @@ use Rattle.base.specs.declared.ids.Category.{Category}
 use Rattle.dump_text.specs.Lists.{DumpLists}
 use Rattle.dump_text.specs.Whole.{start_with}
 use Rattle.page_text.specs.Marked.{number_data}
-use Rattle.page_text.specs.Steps.{Step, steps_of, step_data}
+use Rattle.page_text.specs.Steps.{Step, turns, steps_of, step_data}
 use Rattle.page_text.specs.Told.{told_in}
 use Rattle.page_text.specs.declared.frame.TheConstants.{HEAD, TAIL}
 use Rattle.serde_json.specs.Data.{Data, null, array, object, member, no_members}
@@ -28,7 +28,7 @@ shown_data flow reached steps =
 -- of a dump, its steps from the state that its events begin in
 abbrev pub page_data : List ℕ → DumpLists → Option (ℕ × Category) → List ℕ → Data
 page_data text d flow reached =
-    shown_data flow reached (steps_of (told_in text) (start_with d.limits d.checkpoint).state d.events)
+    shown_data flow reached (steps_of (told_in text) (start_with d.limits d.checkpoint).state (turns d.events d.reads))
 
 -- JSON in which no < stands, which would end its place in a page
 abbrev pub escaped : List ℕ → List ℕ

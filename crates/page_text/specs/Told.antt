@@ -1,4 +1,4 @@
--- The lines of a dump that tell calls.
+-- The lines of a dump that tell calls and reads.
 use Rattle.std.specs.Prelude.{ℕ, ◌==◌, ◌||◌, ◌&&◌, Bool, true, false, List, [], ◌∷◌, codes, if◌then◌else◌}
 use Rattle.json_text.specs.Pieces.{lines_of}
 
@@ -8,10 +8,11 @@ begins_with [] text = true
 begins_with (w ∷ ws) [] = false
 begins_with (w ∷ ws) (x ∷ xs) = (w == x) && begins_with ws xs
 
--- a line tells an event, a batch or a call of a batch
+-- a line tells an event, a batch, a call of a batch or a read
 abbrev pub is_told : List ℕ → Bool
 is_told line =
-    begins_with (codes "event ") line || (begins_with (codes "batch ") line || begins_with (codes "call ") line)
+    begins_with (codes "event ") line || (begins_with (codes "batch ") line
+    || (begins_with (codes "call ") line || begins_with (codes "read ") line))
 
 abbrev pub told_lines : List (List ℕ) → List (List ℕ)
 told_lines [] = []

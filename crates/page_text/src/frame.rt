@@ -20,10 +20,12 @@ body { margin: 0; padding: 1em; background: var(--page); color: var(--ink); font
 h1 { margin: 0; font-size: 1.1em; }
 pre { margin: 0; font: 13px/1.5 monospace; white-space: pre-wrap; overflow-wrap: anywhere; }
 header { display: flex; flex-wrap: wrap; gap: .3em 1em; align-items: center; padding-bottom: .5em; border-bottom: 1px solid var(--rule); }
+#count { min-width: 15em; }
 #at { flex: 1; min-width: 10em; }
 main { display: flex; gap: 1em; padding-top: .5em; }
 #events { flex: 0 0 24em; max-height: calc(100vh - 8em); margin: 0; padding: 0 .5em 0 0; overflow-y: auto; list-style: none; border-right: 1px solid var(--rule); }
 #events a { display: block; padding: 0 .3em; color: inherit; font: 12px/1.6 monospace; text-decoration: none; white-space: nowrap; overflow: hidden; text-overflow: ellipsis; }
+#events a.read { padding-left: 2em; color: var(--dim); font-style: italic; }
 #events a.refused::before { content: '\\d7  '; }
 #events a.refused { color: var(--refused); }
 #events a[aria-current] { background: var(--new); font-weight: bold; }
@@ -48,7 +50,7 @@ b { font-weight: normal; }
 <header><h1 id='title'></h1><label for='at' id='count'></label><input id='at' type='range' min='0' value='0'></header>
 <div id='flow'></div>
 <main><ol id='events'></ol><section><div id='told'></div><pre id='tree'></pre><pre id='gone'></pre></section></main>
-<footer>&larr; &rarr; one event back or on; n, p the next or previous refused one; g, e the beginning or the end. <span style='border-left: 4px solid; background: var(--new)'>new</span>
+<footer>&larr; &rarr; one event or read back or on; n, p the next or previous refused one; g, e the beginning or the end. 7.1 is the first read after event 7. <span style='border-left: 4px solid; background: var(--new)'>new</span>
 <span style='text-decoration: line-through'>gone</span> <span style='background: var(--reached)'>reached by the flows that were asked for</span> Each category has one colour; <span class='s6'>owners and flags</span> are bold.</footer>
 <script type='application/json' id='data'>";
 
@@ -61,6 +63,15 @@ const page = JSON.parse(byId('data').textContent);
 const last = page.steps.length - 1;
 const name = decodeURIComponent(location.pathname.split('/').pop() || '').replace(/\\.html?$/, '') || 'dump';
 const refused = page.steps.map((step) => step.told.some((told) => told.why));
+
+// How many events have come at each step, and which of the reads after them it is: of an event none.
+const places = [];
+for (const step of page.steps) {
+  const before = places.at(-1) || { events: -1, reads: 0 };
+  places.push(step.read ? { events: before.events, reads: before.reads + 1 } : { events: before.events + 1, reads: 0 });
+}
+const numbers = places.map(({ events, reads }) => reads ? `${events}.${reads}` : `${events}`);
+const placed = ({ events, reads }) => `after ${events} of ${places[last].events} events${reads ? `, read ${reads}` : ''}`;
 
 // An edit keeps lines, lets lines go, and may put one. What is left goes.
 function patched(old, edits) {
@@ -75,9 +86,9 @@ function patched(old, edits) {
   return { lines, gone: gone.concat(old.slice(from)) };
 }
 
-function treeAfter(count) {
+function treeAfter(at) {
   let tree = { lines: [], gone: [] };
-  for (const step of page.steps.slice(0, count + 1)) tree = patched(tree.lines, step.edits);
+  for (const step of page.steps.slice(0, at + 1)) tree = patched(tree.lines, step.edits);
   return tree;
 }
 
@@ -110,8 +121,9 @@ function showFlow() {
 
 function listEvents() {
   byId('events').append(...page.steps.map((step, at) => {
-    const link = element('a', refused[at] ? 'refused' : '', at ? `${at}  ${step.told[0].line}` : 'the beginning');
-    link.href = '#' + at;
+    const kind = (step.read ? 'read ' : '') + (refused[at] ? 'refused' : '');
+    const link = element('a', kind, at ? `${numbers[at]}  ${step.told[0].line}` : 'the beginning');
+    link.href = '#' + numbers[at];
     link.title = step.told.map((told) => told.line).join('\\n');
     const item = element('li', '', '');
     item.append(link);
@@ -119,37 +131,37 @@ function listEvents() {
   }));
 }
 
-function markEvent(count) {
+function markStep(at) {
   for (const link of document.querySelectorAll('#events a[aria-current]')) link.removeAttribute('aria-current');
-  const link = byId('events').children[count].firstChild, list = byId('events');
+  const link = byId('events').children[at].firstChild, list = byId('events');
   link.setAttribute('aria-current', 'true');
   const above = link.offsetTop - list.offsetTop;
   if (above < list.scrollTop || above + link.offsetHeight > list.scrollTop + list.clientHeight) list.scrollTop = above - list.clientHeight / 2;
 }
 
-function show(count) {
-  const step = page.steps[count], tree = treeAfter(count);
+function show(at) {
+  const step = page.steps[at], tree = treeAfter(at);
   const put = new Set(step.edits.map((edit) => edit[2]));
-  byId('at').value = count;
-  byId('count').textContent = `after ${count} of ${last} events`;
+  byId('at').value = at;
+  byId('count').textContent = placed(places[at]);
   byId('title').textContent = name;
-  document.title = `${name}, after ${count} of ${last} events`;
+  document.title = `${name}, ${placed(places[at])}`;
   byId('told').replaceChildren(...step.told.flatMap((told) =>
     [element('pre', 'line', told.line), ...(told.why ? [element('pre', 'why', told.why)] : [])]));
-  byId('tree').replaceChildren(...tree.lines.map((line) => shown(line, count > 0 && put.has(line) && line.new)));
+  byId('tree').replaceChildren(...tree.lines.map((line) => shown(line, at > 0 && put.has(line) && line.new)));
   byId('gone').textContent = tree.gone.map((line) => line.text + '\\n').join('');
-  markEvent(count);
-  history.replaceState(null, '', '#' + count);
+  markStep(at);
+  history.replaceState(null, '', '#' + numbers[at]);
 }
 
-// The event that the address names, or else the first refused one, or else the last.
+// The step that the address names, or else the first refused one, or else the last.
 function asked() {
-  const count = parseInt(location.hash.slice(1), 10);
-  const first = refused.indexOf(true);
-  return isNaN(count) ? (first < 0 ? last : first) : within(count);
+  const number = location.hash.slice(1), named = numbers.indexOf(number), first = refused.indexOf(true);
+  if (named >= 0) return named;
+  return first < 0 || number > 0 ? last : first;
 }
 
-const within = (count) => Math.max(0, Math.min(last, count));
+const within = (at) => Math.max(0, Math.min(last, at));
 const nextRefused = (at) => { const found = refused.indexOf(true, at + 1); return found < 0 ? at : found; };
 const previousRefused = (at) => { const found = at ? refused.lastIndexOf(true, at - 1) : -1; return found < 0 ? at : found; };
 const keys = { ArrowLeft: (at) => at - 1, ArrowRight: (at) => at + 1, n: nextRefused, p: previousRefused, g: () => 0, e: () => last };

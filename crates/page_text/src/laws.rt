@@ -1,13 +1,12 @@
 //! That the page has each tree whole.
 ghost use Rattle.std.specs.Prelude.{◌≡◌, ℕ, List, [], map};
-ghost use Rattle.histories.specs.Events.{Event};
 ghost use Rattle.kernel_rules.specs.State.{State};
 ghost use Rattle.page_text.specs.Edits.{patched_all};
-ghost use Rattle.page_text.specs.Steps.{steps_of, states_from, step_edits, tree_lines};
+ghost use Rattle.page_text.specs.Steps.{Turn, steps_of, states_from, step_edits, tree_lines};
 
 /// A law, which does nothing when it is called: the edits of the steps, one after another, from no line on, make the tree of each
-/// state that the events lead to, from the first to the last.
+/// state that events and reads lead to, from the first to the last.
 pub fn trees_are_whole()
-    ensures { (lines : List (List ℕ)) (s : State) (events : List Event)
-        → patched_all [] (map step_edits (steps_of lines s events)) ≡ map tree_lines (states_from s events) }
+    ensures { (lines : List (List ℕ)) (s : State) (turns : List Turn)
+        → patched_all [] (map step_edits (steps_of lines s turns)) ≡ map tree_lines (states_from s turns) }
 {}

@@ -3,7 +3,7 @@ ghost use Rattle.std.specs.Prelude.{◌≡◌, false, List, map, IfOk};
 ghost use Rattle.page_text.specs.Marked.{number_data};
 ghost use Rattle.page_text.specs.Page.{flow_data, shown_data, framed, page_text};
 ghost use Rattle.page_text.specs.Shown.{IsPage};
-ghost use Rattle.page_text.specs.Steps.{Step, steps_of, step_data};
+ghost use Rattle.page_text.specs.Steps.{Step, turns, steps_of, step_data};
 ghost use Rattle.page_text.specs.Told.{told_in};
 ghost use Rattle.plain_state.specs.StateOf.{state_of};
 ghost use Rattle.serde_json.specs.View.{view};
@@ -11,12 +11,11 @@ ghost use Rattle.serde_json.specs.Written.{has_float, compact_text};
 
 use crate::escaping::escaped;
 use crate::frame::{HEAD, TAIL};
-use crate::steps::step_values;
+use crate::steps::{Source, step_values};
 use base::{Category, Meter, NoMemory, ObjectId};
 use clean_dumps::begin;
 use dot_text::{DotFault, red_in};
 use dump_text::Dump;
-use histories::Event;
 use plain_state::PlainState;
 use serde_json::{Value, json, push};
 use show_states::{ShowFault, dump_in};
@@ -84,28 +83,27 @@ fn framed(alloc: Global, text: &[u8]) -> Result<Vec<u8>, NoMemory>
     Ok(told)
 }
 
-/// The page of events from a state on, which the lines of a text tell.
+/// The page of the events of a dump, from a state on, and of the reads among them.
 fn page_of(
-    text: &[u8],
+    source: &Source<'_>,
     flow: Option<(ObjectId, Category)>,
-    reached: &[ObjectId],
     state: PlainState,
-    events: &[Event],
 ) -> Result<Vec<u8>, NoMemory>
-    ensures { IfOk result (λ told. told.items ≡ page_text (shown_data flow reached.now
-        (steps_of (told_in text.now) (state_of state) events.now))) }
+    ensures { IfOk result (λ told. told.items ≡ page_text (shown_data flow source.now.reached.now
+        (steps_of (told_in source.now.text.now) (state_of state) (turns source.now.events.now source.now.reads.now)))) }
 {
     let alloc = state.alloc();
     let mut meter = Meter::new(alloc)?;
-    let steps = step_values(text, reached, state, events, &mut meter)?;
-    let shown = shown_value(alloc, flow, reached, steps)?;
+    let steps = step_values(source, state, &mut meter)?;
+    let shown = shown_value(alloc, flow, source.reached, steps)?;
     let told = value_text(alloc, &shown)?;
     framed(alloc, told.as_slice())
 }
 
-/// The page of a dump: the tree after each event, the lines of the dump that tell it, and why each refused call is refused. Where
-/// flows are asked for, of an object outside a category, each object that they reach is marked. The errors come in this order: the
-/// text is no dump, its checkpoint can't be restored, an audit does not find it clean; or there is no memory.
+/// The page of a dump: the tree after each event, the lines of the dump that tell it, each read in its place, and why each refused
+/// call or read is refused. Where flows are asked for, of an object outside a category, each object that they reach is marked. The
+/// errors come in this order: the text is no dump, its checkpoint can't be restored, an audit does not find it clean; or there is
+/// no memory.
 pub fn page(
     alloc: Global,
     text: &[u8],
@@ -117,7 +115,7 @@ pub fn page(
         limits,
         checkpoint,
         events,
-        reads: _,
+        reads,
         tables: _,
     } = match dump_in(alloc, text) {
         Ok(dump) => dump,
@@ -127,5 +125,11 @@ pub fn page(
         return Err(DotFault::Unshown(ShowFault::IllFormed));
     };
     let reached = red_in(alloc, text, flow)?;
-    Ok(page_of(text, flow, reached.as_slice(), state, events.as_slice())?)
+    let source = Source {
+        text,
+        events: events.as_slice(),
+        reads: reads.as_slice(),
+        reached: reached.as_slice(),
+    };
+    Ok(page_of(&source, flow, state)?)
 }

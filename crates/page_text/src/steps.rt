@@ -1,10 +1,10 @@
 //! The steps that a page shows, as JSON.
-ghost use Rattle.std.specs.Prelude.{◌≡◌, List, [], ◌+◌, ◌++◌, ◌^◌, ◌<◌, map, drop, length, IfOk, OnOk};
+ghost use Rattle.std.specs.Prelude.{◌≡◌, true, List, [], ◌∷◌, ◌+◌, ◌++◌, ◌^◌, ◌<◌, map, drop, length, IfOk, OnOk};
 ghost use Rattle.histories.specs.Events.{by, calls_in};
 ghost use Rattle.json_text.specs.Pieces.{lines_of};
 ghost use Rattle.kernel_rules.specs.Runs.{state_after};
 ghost use Rattle.kernel_rules.specs.Step.{next};
-ghost use Rattle.page_text.specs.Steps.{Told, Step, call_told, calls_told, heads, head_told, event_told, event_after, steps_from, steps_of, told_data, step_data};
+ghost use Rattle.page_text.specs.Steps.{Told, call_told, read_told, calls_told, heads, head_told, event_told, event_after, Made, Asked, turns, line_count, step_of, steps_from, first_step, steps_of, told_data, step_data};
 ghost use Rattle.page_text.specs.Told.{told_in};
 ghost use Rattle.plain_state.specs.StateOf.{state_of};
 ghost use Rattle.serde_json.specs.View.{view};
@@ -14,16 +14,17 @@ use crate::edits::edit_values;
 use crate::lines::Before;
 use crate::told::{after_told, first_told};
 use base::{Meter, NoMemory, ObjectId};
+use dump_text::{PlacedRead, Read, part_reads};
 use histories::{Answered, Event};
 use json_text::word_value;
 use kernel_rules::Call;
 use plain_state::PlainState;
 use serde_json::{Value, json, push};
-use show_text::put_refusal;
+use show_text::{put_read_refusal, put_refusal};
 use std::alloc::Global;
 use tree_text::tree_of;
 
-/// A line, and why the call that it tells is refused, as JSON.
+/// A line, and why what it tells is refused, as JSON.
 fn told_value(alloc: Global, line: &[u8], why: &[u8]) -> Result<Value, NoMemory>
     ensures { IfOk result (λ value. view value ≡ told_data (record { line = line.now; why = why.now })) }
 {
@@ -84,7 +85,7 @@ fn heads(count: usize) -> usize
 
 /// How many lines tell an event.
 fn line_count(event: &Event) -> usize
-    ensures { result ≡ heads (length event.now.calls) + length event.now.calls }
+    ensures { result ≡ line_count (Made event.now) }
 {
     let count = event.calls.as_slice().len();
     heads(count) + count
@@ -120,51 +121,164 @@ fn event_values(
     Ok(values)
 }
 
-/// A step as JSON: what was told, and what makes the tree after it of the one before.
-fn step_value(before: &Before<'_>, told: Vec<Value>, after: &[u8]) -> Result<Value, NoMemory>
+/// A step as JSON: whether it is a read, what was told, and what makes the tree after it of the one before.
+fn step_value(
+    before: &Before<'_>,
+    is_read: bool,
+    told: Vec<Value>,
+    after: &[u8],
+) -> Result<Value, NoMemory>
     ensures { (lines : List Told) → map view told.items ≡ map told_data lines
         → IfOk result (λ value. view value ≡ step_data before.now.reached.now
-        (record { told = lines; before = before.now.tree.now; after = after.now })) }
+        (record { is_read = is_read; told = lines; before = before.now.tree.now; after = after.now })) }
 {
     let edits = Value::Array(edit_values(before, after)?);
     let told = Value::Array(told);
-    Ok(json!(in before.alloc; {"edits": edits, "told": told})?)
+    Ok(json!(in before.alloc; {"edits": edits, "read": is_read, "told": told})?)
 }
 
-/// Adds a step for each event, which the lines of a text tell, and makes the events.
-fn put_steps(
+/// The line of a read, and why it is refused, as JSON.
+fn read_value(
+    line: &[u8],
+    state: &PlainState,
+    read: &Read,
+    meter: &mut Meter,
+) -> Result<Value, NoMemory>
+    ensures { IfOk result (λ value. view value ≡ told_data (read_told line.now (state_of state.now) read.now)) }
+{
+    let alloc = state.alloc();
+    let mut why = Vec::new(alloc);
+    put_read_refusal(&mut why, line, state, read, meter)?;
+    told_value(alloc, line, why.as_slice())
+}
+
+/// The step of a read, which this line tells, as JSON. The tree before it is the state's, and stays.
+fn asked_value(
+    line: &[u8],
+    before: &Before<'_>,
+    state: &PlainState,
+    read: &Read,
+    meter: &mut Meter,
+) -> Result<Value, NoMemory>
+    requires { before.now.tree.now ≡ tree_text (state_of state.now) }
+    ensures { IfOk result (λ value. view value ≡ step_data before.now.reached.now
+        (record {
+          is_read = true;
+          told = read_told line.now (state_of state.now) read.now ∷ [];
+          before = tree_text (state_of state.now);
+          after = tree_text (state_of state.now);
+        })) }
+{
+    let mut told = Vec::new(before.alloc);
+    push(&mut told, read_value(line, state, read, meter)?)?;
+    step_value(before, true, told, before.tree)
+}
+
+/// Adds a step for each read, which the lines of a text tell. The tree before them is the state's.
+fn put_reads(
     values: &mut Vec<Value>,
     text: &[u8],
-    reached: &[ObjectId],
+    before: &Before<'_>,
+    state: &PlainState,
+    reads: &[PlacedRead],
+    meter: &mut Meter,
+) -> Result<(), NoMemory>
+    requires { before.now.tree.now ≡ tree_text (state_of state.now) }
+    ensures { OnOk result (map view values.new.items ≡ map view values.old.items
+        ++ map (step_data before.now.reached.now)
+        (steps_from (told_in text.now) (state_of state.now) (map Asked reads.now))) }
+{
+    let mut rest = text;
+    for placed in reads {
+        let parts = first_told(rest);
+        push(
+            values,
+            asked_value(parts.0, before, state, &placed.read, meter)?,
+        )?;
+        rest = parts.1;
+    }
+    Ok(())
+}
+
+/// Adds the step of an event, which the lines of a text tell, and makes its calls. The tree before it is the state's, and the
+/// answer is the tree after it.
+fn put_event(
+    values: &mut Vec<Value>,
+    text: &[u8],
+    before: &Before<'_>,
     state: &mut PlainState,
-    events: &[Event],
+    event: &Event,
+    meter: &mut Meter,
+) -> Result<Vec<u8>, NoMemory>
+    requires { before.now.tree.now ≡ tree_text (state_of state.old) }
+    ensures values { OnOk result (map view values.new.items ≡ map view values.old.items
+        ++ step_data before.now.reached.now (step_of (told_in text.now) (state_of state.old) (Made event.now)) ∷ []) }
+    ensures state { OnOk result (state_of state.new ≡ event_after (state_of state.old) event.now) }
+    ensures tree { IfOk result (λ tree. tree.items ≡ tree_text (state_of state.new)) }
+{
+    let told = event_values(text, state, event, meter)?;
+    let after = tree_of(state)?;
+    push(values, step_value(before, false, told, after.as_slice())?)?;
+    Ok(after)
+}
+
+/// What the steps of a page are made of: the text of the dump, its events and reads, and the objects that are reached.
+#[derive(Clone, Copy)]
+pub struct Source<'a> {
+    /// The text of the dump.
+    pub text: &'a [u8],
+    /// Its events, the oldest first.
+    pub events: &'a [Event],
+    /// Its reads, in the order of their places.
+    pub reads: &'a [PlacedRead],
+    /// The objects that are reached.
+    pub reached: &'a [ObjectId],
+}
+
+/// Adds a step for each event and each read, and makes the events.
+fn put_steps(
+    values: &mut Vec<Value>,
+    source: &Source<'_>,
+    state: &mut PlainState,
     meter: &mut Meter,
 ) -> Result<(), NoMemory>
     ensures { OnOk result (map view values.new.items ≡ map view values.old.items
-        ++ map (step_data reached.now) (steps_from (told_in text.now) (state_of state.old) events.now)) }
+        ++ map (step_data source.now.reached.now)
+        (steps_from (told_in source.now.text.now) (state_of state.old) (turns source.now.events.now source.now.reads.now))) }
 {
     let alloc = state.alloc();
-    let mut rest = text;
+    let reached = source.reached;
+    let mut text = source.text;
+    let mut rest = source.reads;
     let mut tree = tree_of(state)?;
-    for event in events {
-        let told = event_values(rest, state, event, meter)?;
-        let after = tree_of(state)?;
+    for place in 0..source.events.len() {
+        let event = &source.events[place];
+        let (here, past) = part_reads(place, rest);
         let before = Before {
             alloc,
             reached,
             tree: tree.as_slice(),
         };
-        push(values, step_value(&before, told, after.as_slice())?)?;
-        rest = after_told(line_count(event), rest);
+        put_reads(values, text, &before, state, here, meter)?;
+        let own = after_told(here.len(), text);
+        let after = put_event(values, own, &before, state, event, meter)?;
+        text = after_told(line_count(event), own);
+        rest = past;
         tree = after;
     }
+    let (here, _) = part_reads(source.events.len(), rest);
+    let before = Before {
+        alloc,
+        reached,
+        tree: tree.as_slice(),
+    };
+    put_reads(values, text, &before, state, here, meter)?;
     Ok(())
 }
 
 /// The whole tree, as the first step.
 fn first_step(reached: &[ObjectId], state: &PlainState) -> Result<Value, NoMemory>
-    ensures { IfOk result (λ value. view value ≡ step_data reached.now
-        (record { told = []; before = []; after = tree_text (state_of state.now) })) }
+    ensures { IfOk result (λ value. view value ≡ step_data reached.now (first_step (state_of state.now))) }
 {
     let alloc = state.alloc();
     let tree = tree_of(state)?;
@@ -173,24 +287,21 @@ fn first_step(reached: &[ObjectId], state: &PlainState) -> Result<Value, NoMemor
         reached,
         tree: &[],
     };
-    step_value(&before, Vec::new(alloc), tree.as_slice())
+    step_value(&before, false, Vec::new(alloc), tree.as_slice())
 }
 
-/// The steps of events from a state on, which the lines of a text tell, as JSON, where these objects are reached. Want of memory
-/// is the only error.
+/// The steps of the events of a dump, from a state on, and of the reads among them, as JSON. Want of memory is the only error.
 pub fn step_values(
-    text: &[u8],
-    reached: &[ObjectId],
+    source: &Source<'_>,
     state: PlainState,
-    events: &[Event],
     meter: &mut Meter,
 ) -> Result<Vec<Value>, NoMemory>
-    ensures { IfOk result (λ values. map view values.items
-        ≡ map (step_data reached.now) (steps_of (told_in text.now) (state_of state) events.now)) }
+    ensures { IfOk result (λ values. map view values.items ≡ map (step_data source.now.reached.now)
+        (steps_of (told_in source.now.text.now) (state_of state) (turns source.now.events.now source.now.reads.now))) }
 {
     let mut state = state;
     let mut values = Vec::new(state.alloc());
-    push(&mut values, first_step(reached, &state)?)?;
-    put_steps(&mut values, text, reached, &mut state, events, meter)?;
+    push(&mut values, first_step(source.reached, &state)?)?;
+    put_steps(&mut values, source, &mut state, meter)?;
     Ok(values)
 }

@@ -1,4 +1,4 @@
-//! The lines of a dump that tell calls.
+//! The lines of a dump that tell calls and reads.
 ghost use Rattle.std.specs.Prelude.{◌≡◌, drop};
 ghost use Rattle.page_text.specs.Told.{begins_with, is_told, told_in, first_of};
 
@@ -17,14 +17,17 @@ fn begins_with(word: &[u8], text: &[u8]) -> bool
     }
 }
 
-/// Whether a line tells an event, a batch or a call of a batch.
+/// Whether a line tells an event, a batch, a call of a batch or a read.
 fn is_told(line: &[u8]) -> bool
     ensures { result ≡ is_told line.now }
 {
-    begins_with(b"event ", line) || begins_with(b"batch ", line) || begins_with(b"call ", line)
+    begins_with(b"event ", line)
+        || begins_with(b"batch ", line)
+        || begins_with(b"call ", line)
+        || begins_with(b"read ", line)
 }
 
-/// The first line that tells a call or a batch, and what stands after it. Both are empty where there is none.
+/// The first line that tells calls or a read, and what stands after it. Both are empty where there is none.
 pub fn first_told(text: &[u8]) -> (&[u8], &[u8])
     ensures line { result.0.now ≡ first_of (told_in text.now) }
     ensures rest { told_in result.1.now ≡ drop 1 (told_in text.now) }

@@ -60,6 +60,11 @@ is_refused _ = false
 abbrev pub refusal_explained : List ℕ → State → ℕ → Call → List ℕ
 refusal_explained line s t call = if is_refused (answer s t call) then call_explained false line s t call else []
 
+-- and the same of a read
+abbrev pub read_refusal_explained : List ℕ → State → Read → List ℕ
+read_refusal_explained line s r =
+    if is_refused (query_answer s r.thread r.query) then read_explained false line s r else []
+
 -- so many lines stand before that of the first call, where line n tells it or is that of a batch
 abbrev pub lines_above : ℕ → Bool → ℕ
 lines_above n is_batch = if is_batch then n else n - 1

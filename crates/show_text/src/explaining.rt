@@ -6,7 +6,7 @@ ghost use Rattle.call_text.specs.Reply.{reply_text};
 ghost use Rattle.explained.specs.Explained.{explained, query_explained};
 ghost use Rattle.kernel_rules.specs.Step.{answer, next, query_answer};
 ghost use Rattle.plain_state.specs.StateOf.{state_of};
-ghost use Rattle.show_text.specs.Explained.{call_head, call_explained, read_explained, is_refused, refusal_explained, calls_explained, event_explained, place_explained, IsWhy};
+ghost use Rattle.show_text.specs.Explained.{call_head, call_explained, read_explained, is_refused, refusal_explained, read_refusal_explained, calls_explained, event_explained, place_explained, IsWhy};
 ghost use Rattle.show_text.specs.Parts.{condition_text};
 ghost use Rattle.show_text.specs.declared.places.Content.TheVariants.{Calls, Asked};
 
@@ -281,6 +281,27 @@ fn put_read(
     let told = query_text(state, &Caller { thread, is_whole }, &read.query, meter)?;
     let reply = ask(state, thread, &read.query, meter);
     put_answer(out, line, &Answer { reply, told })
+}
+
+/// Adds why a read is refused, after the line that tells it, and nothing where the rules answer it. Want of memory is the only
+/// error.
+pub fn put_read_refusal(
+    out: &mut Vec<u8>,
+    line: &[u8],
+    state: &PlainState,
+    read: &Read,
+    meter: &mut Meter,
+) -> Result<(), NoMemory>
+    ensures { OnOk result (out.new.items
+        ≡ out.old.items ++ read_refusal_explained line.now (state_of state.now) read.now) }
+{
+    // (a type that a reply has, which the proof names)
+    let _mapping: Option<Mapping> = None;
+    let reply = ask(state, read.thread, &read.query, meter);
+    if !is_refused(&reply) {
+        return Ok(());
+    }
+    put_read(out, line, state, false, read, meter)
 }
 
 /// Why the read that a line tells is answered as it is, from the state that the events before it lead to.
