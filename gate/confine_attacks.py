@@ -71,8 +71,10 @@ INODES = (
 
 
 def asks(number, *arguments):
-    """A system call by its number: it prints 1 where the machine's kernel does it, or looks at its arguments."""
-    return perl("$!=0; $r=syscall(" + ",".join(map(str, (number, *arguments))) + "); print $r>=0 || ($!!=38 && $!!=1 && $!!=95) ? 1 : 0")
+    """A system call by its number: it prints 1 where the machine's kernel does it, or looks at its arguments, and p where the kernel
+    says that the program may not."""
+    call = ",".join(map(str, (number, *arguments)))
+    return perl(f'$!=0; $r=syscall({call}); print $r>=0 || ($!!=38 && $!!=1 && $!!=95) ? 1 : $! == 1 ? "p" : 0')
 
 
 # What the machine has for calls that nobody needs here: 1 is printed where they are there. (Root alone may make some.)
