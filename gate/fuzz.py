@@ -100,9 +100,9 @@ def is_checked(words, line):
 
 
 def is_answered(words, text):
-    """Whether each line of a script is answered, but empty lines and those that end a phase."""
+    """Whether each line of a script is answered, but empty lines, comments and those that end a phase."""
     status, out, err = ran(words, text)
-    asked = [line for line in text.split(b"\n") if line not in (b"", b"--")]
+    asked = [line for line in text.split(b"\n") if line not in (b"", b"--") and not line.startswith(b"#")]
     return (status, err) == (0, b"") and len(asked) <= out.count(b"\n")
 
 
