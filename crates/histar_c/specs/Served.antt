@@ -8,7 +8,9 @@ use Rattle.kernel_rules.specs.Runs.{booted}
 use Rattle.kernel_rules.specs.Step.{answer, query_answer}
 use Rattle.kernel_rules.specs.declared.calls.Call.{Call}
 use Rattle.kernel_rules.specs.declared.replies.Reply.TheVariants as replies
-use Rattle.dump_text.specs.Boot.{IsBootDump}
+use Rattle.checkpoints.specs.Checkpoint.{Checkpoint}
+use Rattle.dump_text.specs.Boot.{boot_checkpoint}
+use Rattle.dump_text.specs.Whole.{IsLegalDump}
 use Rattle.logged_kernel.specs.Logged.{Logged, IsMade, begun, dump_of}
 use Rattle.call_records.specs.Asked.{Asked, Write, Read, Look, Log, Nothing, asked}
 use Rattle.call_records.specs.Logs.{TellsLength}
@@ -44,7 +46,8 @@ limits_of pages device id category =
 -- a new kernel that is booted with these limits, whose calls are not kept
 abbrev pub IsBooted : Limits → Result Logged ℕ → Type 0
 IsBooted limits (Ok k) =
-    (kernel_state k.kernel ≡ booted limits) × (k.limits ≡ limits) × (k.is_new ≡ true) × (k.log ≡ None)
+    (kernel_state k.kernel ≡ booted limits) × (k.limits ≡ limits) × (k.origin ≡ boot_checkpoint limits) × (k.is_new ≡ true)
+    × (k.log ≡ None)
 IsBooted limits (Err why) = ⊥
 
 -- a new kernel that is booted with these limits, or 30 for want of memory; 31 where they are out of range
@@ -87,16 +90,16 @@ IsBegun before after number old told =
     (IsRefused 45 before after number old told)
 
 -- this text is made, which is the dump of a legal list of events, and its length is told
-abbrev pub IsText : Limits → List ℕ → Kept → ℕ → Answer → Type 0
-IsText limits text after number told =
-    (after.text.items ≡ text) × IsBootDump limits text × (number ≡ 0) × TellsLength text told
+abbrev pub IsText : Limits → Checkpoint → List ℕ → Kept → ℕ → Answer → Type 0
+IsText limits origin text after number told =
+    (after.text.items ≡ text) × IsLegalDump limits (Some origin) text × (number ≡ 0) × TellsLength text told
 
 -- the text of the log's dump is made, or there is no memory for it, and the number is 51; where no log
 -- is kept, the number is 45
 abbrev pub IsDumpedAs : Option (List ℕ) → Kept → Kept → ℕ → Answer → Answer → Type 0
 IsDumpedAs None before after number old told = IsRefused 45 before after number old told
 IsDumpedAs (Some text) before after number old told =
-    ((after.logged ≡ before.logged) × IsText before.logged.limits text after number told)
+    ((after.logged ≡ before.logged) × IsText before.logged.limits before.logged.origin text after number told)
     ⊎ IsRefused 51 before after number old told
 
 abbrev pub IsDumped : Kept → Kept → ℕ → Answer → Answer → Type 0

@@ -1,27 +1,34 @@
 //! A kernel with its log.
-ghost use Rattle.std.specs.Prelude.{◌≡◌, ◌↔◌, false, true, IfOk, OnOk, OnErr, IfSome, IsErrOf, None, option_map};
+ghost use Rattle.std.specs.Prelude.{◌≡◌, ◌≢◌, ◌↔◌, false, true, IfErr, IfOk, OnOk, OnErr, IfSome, IsErrOf, None, Some, option_map};
 ghost use Rattle.base.specs.Limits.{in_range};
+ghost use Rattle.checkpoints.specs.Restored.{restored};
 ghost use Rattle.kernel_rules.specs.Runs.{booted};
 ghost use Rattle.kernel_rules.specs.Step.{answer};
-ghost use Rattle.dump_text.specs.Boot.{IsBootDump};
+ghost use Rattle.dump_text.specs.Boot.{boot_checkpoint};
+ghost use Rattle.dump_text.specs.Whole.{IsLegalDump};
 ghost use Rattle.syscall_core.specs.Kernel.{kernel_state};
-ghost use Rattle.logged_kernel.specs.Logged.{IsMade, begun, dump_of};
+ghost use Rattle.syscall_core.specs.Restored.{AreNext, restore_refusal};
+ghost use Rattle.logged_kernel.specs.Logged.{AreNumbered, IsCut, IsMade, Writes, begun, dump_of};
 
 use crate::logging::{EventLog, make_kept, text_of};
+use crate::numbers::next_numbers;
 use base::{Limits, Meter, NoMemory, ObjectId};
-use dump_text::legal_boot_is_dump;
+use checkpoints::{Checkpoint, NextNumber};
+use dump_text::{boot_checkpoint, boots_can_begin, legal_is_dump};
 use kernel_rules::{Call, Reply};
 use std::alloc::Global;
 use std::marker::Model;
-use syscall_core::{BootRefusal, Kernel};
+use syscall_core::{BootRefusal, Kernel, RestoreError};
 
-/// A kernel, and the events of its write calls since the boot where they are kept. A contract sees the kernel, its limits,
-/// whether no write call was made yet, and the events. These are legal, and the kernel is in the state that they lead to.
+/// A kernel, and the events of its write calls where they are kept. A contract sees the kernel, its limits, the checkpoint at
+/// which the events begin, whether no write call was made since, and the events. These are legal from there, and the kernel is
+/// in the state that they lead to.
 #[derive(Drop)]
 pub struct LoggedKernel {
     kernel: Kernel,
     alloc: Global,
     limits: Limits,
+    origin: Checkpoint,
     is_new: bool,
     log: Option<EventLog>,
 }
@@ -35,11 +42,12 @@ impl Model for LoggedKernel {
     ghost view = { λ k. record {
       kernel = k.kernel;
       limits = k.limits;
+      origin = k.origin;
       is_new = k.is_new;
       log = events_in k.log;
     } };
 
-    ghost invariant = { λ k. IsSound k.limits (kernel_state k.kernel) k.is_new (events_in k.log) };
+    ghost invariant = { λ k. IsSound k.limits k.origin (kernel_state k.kernel) k.is_new (events_in k.log) };
 }
 
 impl LoggedKernel {
@@ -47,15 +55,47 @@ impl LoggedKernel {
     pub fn boot(alloc: Global, limits: &Limits) -> Result<LoggedKernel, BootRefusal>
         ensures state { IfOk result (λ k. kernel_state k.kernel ≡ booted limits.now) }
         ensures limits { IfOk result (λ k. k.limits ≡ limits.now) }
+        ensures origin { IfOk result (λ k. k.origin ≡ boot_checkpoint limits.now) }
         ensures new { IfOk result (λ k. k.is_new ≡ true) }
         ensures unlogged { IfOk result (λ k. k.log ≡ None) }
         ensures refused { IsErrOf result BootRefusal.BadLimits ↔ (in_range limits.now ≡ false) }
     {
+        boots_can_begin();
         let kernel = Kernel::boot(alloc, limits)?;
+        let Ok(origin) = boot_checkpoint(alloc, limits) else {
+            return Err(BootRefusal::Unavailable);
+        };
         Ok(LoggedKernel {
             kernel,
             alloc,
             limits: *limits,
+            origin,
+            is_new: true,
+            log: None,
+        })
+    }
+
+    /// A kernel in the state that a checkpoint writes down, as `Kernel::restore` gives it. Its calls are not kept.
+    pub fn restore(
+        alloc: Global,
+        limits: &Limits,
+        origin: Checkpoint,
+    ) -> Result<LoggedKernel, RestoreError>
+        ensures state { IfOk result (λ k. kernel_state k.kernel ≡ restored limits.now origin) }
+        ensures limits { IfOk result (λ k. k.limits ≡ limits.now) }
+        ensures origin { IfOk result (λ k. k.origin ≡ origin) }
+        ensures new { IfOk result (λ k. k.is_new ≡ true) }
+        ensures unlogged { IfOk result (λ k. k.log ≡ None) }
+        ensures fit { OnOk result (restore_refusal limits.now origin ≡ None) }
+        ensures refused { IfErr result (λ error. error ≢ RestoreError.NoMemory
+            → restore_refusal limits.now origin ≡ Some error) }
+    {
+        let kernel = Kernel::restore(alloc, limits, &origin)?;
+        Ok(LoggedKernel {
+            kernel,
+            alloc,
+            limits: *limits,
+            origin,
             is_new: true,
             log: None,
         })
@@ -69,7 +109,7 @@ impl LoggedKernel {
     }
 
     /// Begins the log: each write call from here on is kept. Tells whether it began, which it does where no write call was
-    /// made since the boot. Else nothing changes.
+    /// made since the boot or the checkpoint. Else nothing changes.
     pub fn begin_log(&mut self) -> bool
         ensures began { result ≡ self.old.is_new }
         ensures log { self.new ≡ begun self.old }
@@ -85,8 +125,8 @@ impl LoggedKernel {
     }
 
     /// Makes a call of a thread. The reply becomes the answer. Where a log is kept, the call with its answer is its last
-    /// event. The error is want of memory for that event, and changes nothing in the kernel and the log; where no log is
-    /// kept, no memory is taken, and there is no error.
+    /// event. The error is want of memory for that event, or that the thread has no next number, and changes nothing in the
+    /// kernel and the log; where no log is kept, no memory is taken, and there is no error.
     pub fn step_into(
         &mut self,
         thread: ObjectId,
@@ -102,27 +142,71 @@ impl LoggedKernel {
     {
         match &mut self.log {
             None => self.kernel.step_into(thread, call, reply, meter),
-            Some(log) => make_kept(&mut self.kernel, log, thread, call, reply, meter)?,
+            Some(log) => make_kept(
+                &mut self.kernel,
+                &self.origin,
+                log,
+                thread,
+                call,
+                reply,
+                meter,
+            )?,
         }
         self.is_new = false;
         Ok(())
     }
 
-    /// The dump of the log, as text; none where no log is kept. It is the dump of a legal list of events, so an audit finds
-    /// it clean. The error is want of memory for the text of a log that is kept.
+    /// The dump of the log, as text; none where no log is kept. It is the dump of events that are legal from the checkpoint
+    /// at which they begin, so an audit finds it clean. The error is want of memory for the text of a log that is kept.
     pub fn dump(&self, meter: &mut Meter) -> Result<Option<Vec<u8>>, NoMemory>
         ensures text { IfOk result
             (λ text. option_map (λ t. t.items) text ≡ dump_of self.now) }
         ensures legal { IfOk result
-            (λ text. IfSome text (λ t. IsBootDump self.now.limits t.items)) }
+            (λ text. IfSome text (λ t. IsLegalDump self.now.limits (Some self.now.origin) t.items)) }
         ensures sure { self.now.log ≡ None → OnErr result ⊥ }
     {
-        legal_boot_is_dump();
+        legal_is_dump();
         let Some(log) = &self.log else {
             return Ok(None);
         };
         let tables = self.kernel.tables(meter)?;
-        let text = text_of(log, &self.limits, tables)?;
+        let text = text_of(log, &self.limits, &self.origin, tables)?;
         Ok(Some(text))
+    }
+
+    // The next number of each thread that was given, where it isn't 1; of none where no log is kept.
+    fn next(&self) -> Result<Vec<NextNumber>, NoMemory>
+        ensures whole { IfOk result (λ next. AreNext (kernel_state self.now.kernel) next.items) }
+        ensures numbers { IfOk result (λ next. AreNumbered self.now next.items) }
+    {
+        let Some(log) = &self.log else {
+            return Ok(Vec::new(self.alloc));
+        };
+        let next_id = self.kernel.next_id().number();
+        next_numbers(self.alloc, &self.origin, log.events.as_slice(), next_id)
+    }
+
+    /// The checkpoint of the kernel as it stands, with the next number of each thread that was given; where no log is kept,
+    /// each thread begins with 1. The error is want of memory, or that a thread has no next number.
+    pub fn checkpoint(&self) -> Result<Checkpoint, NoMemory>
+        ensures { IfOk result (Writes self.now) }
+    {
+        let next = self.next()?;
+        self.kernel.checkpoint(self.alloc, next)
+    }
+
+    /// Begins the log anew at the kernel as it stands: the events before are gone, and the numbers of threads go on. Where no
+    /// log was kept, one begins. The error is want of memory, or that a thread has no next number, and nothing changes.
+    pub fn cut_log(&mut self) -> Result<(), NoMemory>
+        ensures cut { OnOk result (IsCut self.old self.new) }
+        ensures kept { OnErr result (self.new ≡ self.old) }
+    {
+        self.origin = self.checkpoint()?;
+        self.is_new = true;
+        self.log = Some(EventLog {
+            alloc: self.alloc,
+            events: Vec::new(self.alloc),
+        });
+        Ok(())
     }
 }

@@ -1,17 +1,22 @@
 //! Keeping the events of calls.
-ghost use Rattle.std.specs.Prelude.{◌≡◌, ◌+◌, ◌<◌, ◌++◌, ◌∷◌, [], IfOk, OnOk, OnErr, vec_len, vec_capacity};
+ghost use Rattle.std.specs.Prelude.{◌≡◌, ◌+◌, ◌<◌, ◌++◌, ◌∷◌, [], Some, IfOk, IfSome, OnOk, OnErr, vec_len, vec_capacity};
+ghost use Rattle.checkpoints.specs.Restored.{restored};
+ghost use Rattle.checkpoints.specs.Starts.{number_of};
 ghost use Rattle.dump_text.specs.Dump.{dump_text};
 ghost use Rattle.dump_text.specs.Fits.{FitsWords};
-ghost use Rattle.dump_text.specs.Boot.{boot_dump};
+ghost use Rattle.dump_text.specs.Whole.{whole_dump};
 ghost use Rattle.histories.specs.Events.{told};
-ghost use Rattle.histories.specs.History.{count, state_of};
+ghost use Rattle.histories.specs.History.{count, state_from};
 ghost use Rattle.kernel_rules.specs.Scratch.{scratch};
 ghost use Rattle.kernel_rules.specs.Step.{answer, next};
 ghost use Rattle.syscall_core.specs.Kernel.{kernel_state};
-ghost use Rattle.logged_kernel.specs.Logged.{AreNumbered};
+ghost use Rattle.logged_kernel.specs.Numbers.{AreCounted};
 
+use crate::copies::copied;
+use crate::numbers::{later, number_of};
 use base::{Limits, Meter, NoMemory, ObjectId};
-use dump_text::{boot_checkpoint, dump_of};
+use checkpoints::Checkpoint;
+use dump_text::dump_of;
 use kept_events::{KeptCalls, KeptEvent, KeptReply, call_answers, events_of};
 use kernel_rules::{Call, Reply, Tables};
 use std::alloc::Global;
@@ -26,20 +31,20 @@ pub struct EventLog {
     pub events: Vec<KeptEvent>,
 }
 
-/// The number of a thread's next event.
-fn next_number(events: &[KeptEvent], thread: ObjectId) -> u64
-    requires { AreNumbered events.now }
-    ensures { result ≡ count thread events.now + 1 }
+/// The number of a thread's next event after events that begin at the checkpoint; none where the last number was taken.
+fn next_number(origin: &Checkpoint, events: &[KeptEvent], thread: ObjectId) -> Option<u64>
+    requires { AreCounted origin.now.next events.now }
+    ensures { IfSome result (λ number. number ≡ count thread events.now + number_of origin.now.next thread) }
 {
     let mut place = events.len();
     while place > 0 {
         place -= 1;
         let event = &events[place];
         if event.thread() == thread {
-            return event.number() + 1;
+            return later(event.number());
         }
     }
-    1
+    Some(number_of(origin.next.as_slice(), thread))
 }
 
 /// Keeps a call, with room for its event. Nothing else changes, also without memory.
@@ -52,29 +57,33 @@ fn keep_call(log: &mut EventLog, call: &Call) -> Result<KeptCalls, NoMemory>
     KeptCalls::new(log.alloc, call, &[])
 }
 
-/// A kernel makes a call of a thread, whose event is kept last. The reply becomes the answer. The error is want of memory:
-/// no call is made then, and no event is kept.
+/// A kernel makes a call of a thread, whose event is kept last, with the thread's next number since the checkpoint. The reply
+/// becomes the answer. The error is want of memory, or that the thread has no next number: no call is made then, and no event
+/// is kept.
 pub(crate) fn make_kept(
     kernel: &mut Kernel,
+    origin: &Checkpoint,
     log: &mut EventLog,
     thread: ObjectId,
     call: &Call,
     reply: &mut Reply,
     meter: &mut Meter,
 ) -> Result<(), NoMemory>
-    requires { AreNumbered log.old.events.items }
+    requires { AreCounted origin.now.next log.old.events.items }
     ensures state { OnOk result
         (kernel_state kernel.new ≡ next (kernel_state kernel.old) thread call.now) }
     ensures reply { OnOk result (reply.new ≡ answer (kernel_state kernel.old) thread call.now) }
     ensures event { OnOk result (log.new.events.items ≡ log.old.events.items ++ record {
       thread = thread;
-      number = count thread log.old.events.items + 1;
+      number = count thread log.old.events.items + number_of origin.now.next thread;
       calls = told call.now (answer (kernel_state kernel.old) thread call.now) ∷ [];
     } ∷ []) }
     ensures kernel { OnErr result (kernel.new ≡ kernel.old) }
     ensures kept { OnErr result (log.new.events.items ≡ log.old.events.items) }
 {
-    let number = next_number(log.events.as_slice(), thread);
+    let Some(number) = next_number(origin, log.events.as_slice(), thread) else {
+        return Err(NoMemory);
+    };
     let kept = keep_call(log, call)?;
     kernel.step_into(thread, call, reply, meter);
     call_answers();
@@ -83,17 +92,21 @@ pub(crate) fn make_kept(
     Ok(())
 }
 
-/// The dump of the events after a boot with these limits, as text, with the tables of the state that they lead to. Want of
-/// memory is the only error.
-#[tactic(auto, unfolding(dump_text::specs::Boot::boot_dump))]
-pub(crate) fn text_of(log: &EventLog, limits: &Limits, tables: Tables) -> Result<Vec<u8>, NoMemory>
-    requires { tables ≡ scratch (state_of limits.now log.now.events.items) }
+/// The dump of the events after a checkpoint, as text, with the tables of the state that they lead to. Want of memory is the
+/// only error.
+pub(crate) fn text_of(
+    log: &EventLog,
+    limits: &Limits,
+    origin: &Checkpoint,
+    tables: Tables,
+) -> Result<Vec<u8>, NoMemory>
+    requires { tables ≡ scratch (state_from (restored limits.now origin.now) log.now.events.items) }
     ensures text { IfOk result (λ text. text.items
-        ≡ dump_text (boot_dump limits.now log.now.events.items)) }
-    ensures fits { OnOk result (FitsWords (boot_dump limits.now log.now.events.items)) }
+        ≡ dump_text (whole_dump limits.now (Some origin.now) log.now.events.items [])) }
+    ensures fits { OnOk result (FitsWords (whole_dump limits.now (Some origin.now) log.now.events.items [])) }
 {
     let events = events_of(log.alloc, log.events.as_slice())?;
-    let checkpoint = boot_checkpoint(log.alloc, limits)?;
+    let checkpoint = copied(log.alloc, origin)?;
     dump_of(
         log.alloc,
         limits,

@@ -4,3 +4,5 @@ pub mod NamedLaws
 pub mod UnrefLaws
 pub mod UntouchedLaws
 pub mod RestoreLaws
+pub mod AgeLaws
+pub mod CheckpointLaws

@@ -16,7 +16,7 @@ use Rattle.arena_state.specs.Restored.{are_younger, IsHoldable}
 use Rattle.syscall_core.specs.Restored.{IsKeepable}
 
 -- the root's quota is that of the limits
-root_quota : (l : Limits) (o : Option Object) → of_object false (is_root l) o ≡ true → of_object 0 (λ x. x.quota) o ≡ l.pages
+pub root_quota : (l : Limits) (o : Option Object) → of_object false (is_root l) o ≡ true → of_object 0 (λ x. x.quota) o ≡ l.pages
 root_quota l None h = absurd (both_ways false refl h)
 root_quota l (Some x) h = eqb-true x.quota l.pages (and_parts (is_kind kinds.Container x) (x.quota == l.pages) h).1
 

@@ -14,13 +14,15 @@ ghost use Rattle.arena_state.specs.Kept.{AreStored, Stores};
 ghost use Rattle.kernel_rules.specs.Translate.{translate};
 ghost use Rattle.arena_state.specs.States.{state_of};
 ghost use Rattle.checkpoints.specs.Restored.{restored};
-ghost use Rattle.syscall_core.specs.Restored.{restore_refusal};
+ghost use Rattle.syscall_core.specs.Restored.{restore_refusal, AreNext, WasReached};
 
+use crate::checkpointing::{copied, written};
 use crate::kept_state::KeptState;
+use crate::origins::Origin;
 use crate::restores::{RestoreError, restored_state};
 use arena_state::ArenaState;
 use base::{Kind, Limits, Meter, NoMemory, ObjectId, Rights};
-use checkpoints::Checkpoint;
+use checkpoints::{Checkpoint, NextNumber};
 use kernel_calls::{ask_into, step_surely_into};
 use kernel_rules::{Call, Query, Reply, Tables};
 use kernel_tables::tables;
@@ -35,7 +37,9 @@ use std::alloc::Global;
 #[derive(Drop)]
 pub struct Kernel {
     alloc: Global,
+    origin: Origin,
     kept: KeptState,
+    ghost reached: { WasReached origin (state_of kept.state) },
 }
 
 // The state after a boot, for limits in range. Want of memory is the only error.
@@ -64,7 +68,11 @@ impl Kernel {
             return Err(BootRefusal::BadLimits);
         }
         match booted_state(alloc, limits) {
-            Ok(kept) => Ok(Kernel { alloc, kept }),
+            Ok(kept) => Ok(Kernel {
+                alloc,
+                origin: Origin::new(limits),
+                kept,
+            }),
             Err(_) => Err(BootRefusal::Unavailable),
         }
     }
@@ -85,9 +93,53 @@ impl Kernel {
             → restore_refusal limits.now checkpoint.now ≡ Some error) }
     {
         match restored_state(alloc, limits, checkpoint) {
-            Ok(kept) => Ok(Kernel { alloc, kept }),
+            Ok(kept) => Ok(Kernel {
+                alloc,
+                origin: Origin::new(limits),
+                kept,
+            }),
             Err(error) => Err(error),
         }
+    }
+
+    /// A kernel in the same state, whose calls leave this one as it is. All its memory is taken here, as at a boot. The error
+    /// is want of memory.
+    pub fn copy(&self, alloc: Global) -> Result<Kernel, NoMemory>
+        ensures { IfOk result (λ kernel. kernel_state kernel ≡ kernel_state self.now) }
+    {
+        let kept = copied(alloc, self.origin.limits(), &self.kept)?;
+        Ok(Kernel {
+            alloc,
+            origin: Origin::new(self.origin.limits()),
+            kept,
+        })
+    }
+
+    /// The checkpoint that writes the kernel's state down, with these next numbers. Where the numbers are from 2 and those of
+    /// given threads, which rise, `restore` refuses it for nothing but want of memory, with the limits of this kernel. The
+    /// error is want of memory.
+    pub fn checkpoint(&self, alloc: Global, next: Vec<NextNumber>) -> Result<Checkpoint, NoMemory>
+        ensures state { IfOk result (λ made.
+            restored (kernel_state self.now).limits made ≡ kernel_state self.now) }
+        ensures next { IfOk result (λ made. made.next ≡ next.items) }
+        ensures fit { AreNext (kernel_state self.now) next.items → IfOk result (λ made.
+            restore_refusal (kernel_state self.now).limits made ≡ None) }
+    {
+        written(alloc, self.origin.limits(), &self.kept, next)
+    }
+
+    /// The id of the next new object; at 2^61 there is none left.
+    pub fn next_id(&self) -> ObjectId
+        ensures { result ≡ (kernel_state self.now).next_id }
+    {
+        self.kept.state.next_id()
+    }
+
+    /// The limits of the boot.
+    pub fn limits(&self) -> &Limits
+        ensures { result.now ≡ (kernel_state self.now).limits }
+    {
+        self.origin.limits()
     }
 
     /// A law, which does nothing when it is called: the state of every kernel is well formed.

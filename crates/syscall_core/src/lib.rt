@@ -6,8 +6,10 @@
 //! names of `plain_core` are given on.
 #![tactic(auto)]
 
+mod checkpointing;
 mod kept_state;
 mod kernel;
+mod origins;
 mod restores;
 mod stores;
 

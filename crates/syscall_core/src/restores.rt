@@ -33,8 +33,8 @@ pub enum RestoreError {
     NoMemory,
 }
 
-// What is kept of the state that records are. The error is want of memory.
-fn laid_out(alloc: Global, records: &Records) -> Result<KeptState, NoMemory>
+/// What is kept of the state that records are. The error is want of memory.
+pub(crate) fn laid_out(alloc: Global, records: &Records) -> Result<KeptState, NoMemory>
     requires { IsKeepable (records_state records.now) }
     ensures { IfOk result (λ kept. state_of kept.state ≡ records_state records.now) }
 {

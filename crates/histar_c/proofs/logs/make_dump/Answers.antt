@@ -1,7 +1,7 @@
-use Rattle.std.proofs.Common.{◌≡◌, List, Option, Some, None, option_map, refl, inr}
+use Rattle.std.proofs.Common.{◌≡◌, List, [], Option, Some, None, option_map, refl, inr}
 use Rattle.histories.specs.Events.{Event}
 use Rattle.dump_text.specs.Dump.{dump_text}
-use Rattle.dump_text.specs.Boot.{boot_dump}
+use Rattle.dump_text.specs.Whole.{whole_dump}
 use Rattle.histar_c.specs.Served.{IsDumpedAs}
 use Rattle.histar_c.proofs.logs.make_dump.Goals as goal
 
@@ -11,7 +11,7 @@ returns-in-Err c =
     let told = c.args.answer.now in
     elim before.logged.log
     as (λ (log : Option (List Event)). before.logged.log ≡ log
-    → IsDumpedAs (option_map (λ (events : List Event). dump_text (boot_dump before.logged.limits events)) log)
+    → IsDumpedAs (option_map (λ (events : List Event). dump_text (whole_dump before.logged.limits (Some before.logged.origin) events [])) log)
     before (record { logged = before.logged; meter = c.dump.new.meter; call = before.call; reply = before.reply; text = before.text })
     51 told told) [
       | None ↦ λ none. absurd (c.in-Err.ensures.sure none)

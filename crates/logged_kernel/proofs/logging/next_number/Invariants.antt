@@ -1,11 +1,10 @@
-use Rattle.std.proofs.Common.{◌≡◌, ◌<◌, ◌≤◌, ◌^◌, length, drop}
+use Rattle.std.proofs.Common.{◌≡◌, ◌≤◌, length, drop}
 use Rattle.histories.specs.History.{count}
 use Rattle.logged_kernel.proofs.logging.next_number.Given as goal
 
 abbrev pub invariant-loop-place : goal.invariant-loop-place
 invariant-loop-place l = record {
   within : l.place ≤ length l.events;
-  few : length l.events < 2 ^ 63;
   none : count l.thread (drop l.place l.events) ≡ 0;
 }
 

@@ -1,4 +1,4 @@
-use Rattle.std.proofs.Common.{◌≡◌, List, refl, sym, subst, inr, rules}
+use Rattle.std.proofs.Common.{◌≡◌, List, refl, ap, sym, subst, inl, inr, rules}
 use mathlib.Core.List.{IsPrefix}
 use Rattle.histories.specs.Events.{Event}
 use Rattle.published_copy.specs.Turns.{IsLonger}
@@ -17,3 +17,20 @@ returns-then-has g c =
     let first : IsLonger seen note note = (inr refl, over, prefix_self note) in
     let second : IsLonger told note note = (inr refl, prefix_trans told seen note under over, prefix_self note) in
     (search rules, search rules, subst (λ (l : List Event). IsLonger seen note l) (sym new_seen) first, subst (λ (l : List Event). IsLonger told note l) (sym new_told) second)
+
+pub returns-then-has-2 : goal.returns-then-has-2
+returns-then-has-2 g c =
+    let note = c.args.note.now in
+    let seen = c.args.self.now.pass.seen in
+    let told = c.args.self.now.told in
+    let under : IsPrefix note seen = search rules in
+    let over : IsPrefix told note = search rules in
+    let new_told : c.again-then-has-2.result ≡ note = search rules in
+    let same : c.self.inside.pass.seen ≡ seen = ap (λ s. s.pass.seen) c.self.view_is in
+    let first : IsLonger seen note seen = (inl refl, prefix_self seen, under) in
+    let second : IsLonger told note note = (inr refl, over, prefix_self note) in (
+      ap (λ s. s.pass.thread) c.self.view_is,
+      ap (λ s. s.pass.number) c.self.view_is,
+      subst (λ (l : List Event). IsLonger seen note l) (sym same) first,
+      subst (λ (l : List Event). IsLonger told note l) (sym new_told) second,
+    )

@@ -1,7 +1,9 @@
-use Rattle.std.proofs.Common.{List, ◌∷◌, [], ap, subst}
+use Rattle.std.proofs.Common.{rules, ◌≡◌, List, ◌∷◌, [], ap, sym, subst}
+use mathlib.Core.List.{IsPrefix}
 use Rattle.histories.specs.Events.{Event}
 use Rattle.histories.specs.History.{IsLegal}
 use Rattle.published_copy.specs.Turns.{Turn, IsNotSubmitted}
+use Rattle.published_copy.proofs.Prefixes.{prefix_self}
 use Rattle.published_copy.proofs.Refused.{not_submitted}
 use Rattle.published_copy.proofs.seats.Seat.submit_batch.Goals as goal
 
@@ -13,3 +15,9 @@ returns-in-Err-clause-refused g c =
     (not_submitted c.commit_batch-made.result limits c.self.inside.pass c.args.calls.now c.deref_mut.result.now.journal c.in-Err.refusal c.in-Err.is
     (subst (λ (l : List Event). IsLegal limits l) (ap (λ b. b.journal) kept.0) c.commit_batch-made.ensures.legal)
     c.commit_batch-made.ensures.good c.commit_batch-made.ensures.turn)
+
+pub invariant_of-self : goal.invariant_of-self
+invariant_of-self g c =
+    let seen : List Event = c.commit_batch-made.new.pass.seen in
+    let same : c.again.result ≡ seen = search rules in
+    (subst (λ (l : List Event). IsPrefix l seen) (sym same) (prefix_self seen), c.self.invariant.1)

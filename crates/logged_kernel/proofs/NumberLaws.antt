@@ -1,0 +1,68 @@
+-- The numbers of threads' next events.
+use Rattle.std.proofs.Common.{◌≡◌, ℕ, zero, suc, ◌+◌, ◌<◌, ◌≤◌, ◌==◌, ◌&&◌, Bool, true, false, cond, nat_le, nat_lt}
+use Rattle.std.proofs.Common.{List, [], ◌∷◌, ◌++◌, length, take, drop, slice_index_or, Option, Some, refl, sym, ◌∙◌, ap, subst, arith}
+use Rattle.std.specs.List.{list_all}
+use Rattle.std.specs.Option.{unwrap_or}
+use Rattle.std.proofs.lemmas.Bool.{and_parts, and_from, leb-true, ne_eqb, eqb-true}
+use Rattle.std.proofs.lemmas.List.{drop_more, drop_all, take-append-drop, take_more}
+use Rattle.checkpoints.specs.Starts.{number_of}
+use Rattle.checkpoints.specs.declared.checkpoints.NextNumber.{NextNumber}
+use Rattle.histories.specs.Events.{Event}
+use Rattle.histories.specs.History.{count}
+use Rattle.histories.proofs.HistoryLaws.{count-snoc}
+use Rattle.logged_kernel.specs.Numbers.{is_noted, AreCounted}
+
+-- numbers are from 1
+pub number_some : (ns : List NextNumber) (t : ℕ) → list_all (λ (n : NextNumber). nat_le 2 n.number) ns ≡ true → 1 ≤ number_of ns t
+number_some [] t h = omega arith
+number_some (n ∷ ns) t h =
+    let parts = and_parts (nat_le 2 n.number) (list_all (λ (n : NextNumber). nat_le 2 n.number) ns) h in
+    let here : 2 ≤ n.number = leb-true 2 n.number parts.0 in
+    let rest : 1 ≤ number_of ns t = number_some ns t parts.1 in
+    elim (t == n.thread) as (λ b. 1 ≤ cond b n.number (number_of ns t)) [
+      | true ↦ omega arith
+      | false ↦ rest
+    ]
+
+-- what is looked up once a number is noted
+pub noted_value : (b : Bool) (v : ℕ) (o : Option ℕ) → unwrap_or (cond b (Some v) o) 1 ≡ cond b v (unwrap_or o 1)
+noted_value true v o = refl
+noted_value false v o = refl
+
+-- an event has its number
+pub counted_at : (first : List NextNumber) (events : List Event) (i : ℕ) (e : Event) → AreCounted first events → i < length events
+    → e ≡ slice_index_or events i e → e.number ≡ count e.thread (take i events) + number_of first e.thread
+counted_at first events i e are less is =
+    are (take i events) (drop (i + 1) events) e
+    (sym (take-append-drop i events) ∙ ap (λ l. take i events ++ l) (drop_more events i e less)
+    ∙ ap (λ (x : Event). take i events ++ x ∷ drop (i + 1) events) (sym is))
+
+-- one event more is counted
+pub counted_more : (first : List NextNumber) (events : List Event) (i : ℕ) (e : Event) (t old v : ℕ) → AreCounted first events
+    → i < length events → e ≡ slice_index_or events i e → old ≡ count t (take i events) + number_of first t → v ≡ e.number + 1
+    → cond (e.thread == t) v old ≡ count t (take (i + 1) events) + number_of first t
+counted_more first events i e t old v are less is before next =
+    let own : e.number ≡ count e.thread (take i events) + number_of first e.thread = counted_at first events i e are less is in
+    let more : count t (take (i + 1) events) ≡ count t (take i events) + cond (e.thread == t) 1 0
+    = ap (count t) (take_more events i e less ∙ ap (λ (z : Event). take i events ++ z ∷ []) (sym is)) ∙ count-snoc t (take i events) e in
+    elim (e.thread == t) as (λ b. (e.thread == t) ≡ b → cond b v old ≡ (count t (take i events) + cond b 1 0) + number_of first t) [
+      | true ↦ λ on.
+          let same : e.thread ≡ t = eqb-true e.thread t on in
+          let there : e.number ≡ count t (take i events) + number_of first t =
+          own ∙ ap (λ k. count k (take i events) + number_of first k) same in
+          omega arith
+      | false ↦ λ off. omega arith
+    ] refl
+    ∙ ap (λ n. n + number_of first t) (sym more)
+
+-- all that is noted was given, and is from 2
+pub noted_parts : (next_id : ℕ) (es : List (ℕ × ℕ)) → list_all (is_noted next_id) es ≡ true
+    → (list_all (λ (e : ℕ × ℕ). nat_le 2 e.1) es ≡ true) × (list_all (λ (e : ℕ × ℕ). nat_lt e.0 next_id) es ≡ true)
+noted_parts next_id [] h = (refl, refl)
+noted_parts next_id (e ∷ es) h =
+    let parts = and_parts (nat_lt e.0 next_id && nat_le 2 e.1) (list_all (is_noted next_id) es) h in
+    let here = and_parts (nat_lt e.0 next_id) (nat_le 2 e.1) parts.0 in
+    let rest = noted_parts next_id es parts.1 in (
+      and_from (nat_le 2 e.1) _ here.1 rest.0,
+      and_from (nat_lt e.0 next_id) _ here.0 rest.1,
+    )
