@@ -21,6 +21,7 @@ from gate.scripts import script
 SEEDS = range(1, 41)
 RECORDS = 10_000_000
 SESSIONS = 100_000
+SHARED_CALLS = 10_000_000
 FUZZ_SECONDS = int(os.environ.get("FUZZ_SECONDS", "60"))
 THREAD_SECONDS = int(os.environ.get("THREAD_SECONDS", "60"))
 WARNINGS = ["-Wall", "-Wextra", "-Wpedantic", "-Werror"]
@@ -296,13 +297,17 @@ class Bindings:
         if threads:
             self.counts(f"C: eight threads share a kernel for {THREAD_SECONDS} seconds", threads, str(THREAD_SECONDS))
             self.audit_seats(threads)
+        wrapped = "-Wl,--wrap=malloc,--wrap=realloc,--wrap=free"
+        given = self.compile([compiler, "-std=gnu11"], "given_back.c", "given_back", *WARNINGS, "-pthread", wrapped)
+        if given:
+            self.counts(f"C: what all seats have seen is given back, over {SHARED_CALLS:,} calls", given, str(SHARED_CALLS), str(THREAD_SECONDS))
         self.compile([compiler, "-std=gnu11"], "shared_bench.c", "shared_bench", *WARNINGS, "-pthread")
         if threads and shutil.which("valgrind"):
             self.counts("C: eight threads share a kernel, under valgrind", "valgrind", "-q", "--error-exitcode=9", "--leak-check=full", threads, "0", "0")
         if not self.has_runtime("thread"):
             self.leave_out("the sanitizer of threads", "clang or its runtime is missing")
             return
-        watched = self.compile(["clang", "-std=gnu11", "-fsanitize=thread"], "threads.c", "threads-watched", "-pthread")
+        watched = self.compile(["clang", "-std=gnu11", "-fsanitize=thread", "-DLOGS=1"], "threads.c", "threads-watched", "-pthread")
         if watched:
             self.counts("C: eight threads share a kernel, with clang's sanitizer of threads", watched, "5", "0")
 

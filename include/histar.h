@@ -35,12 +35,10 @@
 #ifdef __cplusplus
 #define HISTAR_ALIGNED alignas(16)
 #define HISTAR_INIT {}
-#define HISTAR_SHARED_INIT {}
 extern "C" {
 #else
 #define HISTAR_ALIGNED _Alignas(16)
 #define HISTAR_INIT {{0}, 0, 0, 0, {0, 0, 0}, {0}, {0}}
-#define HISTAR_SHARED_INIT {{0}, 0, 0, {0, 0, 0}}
 #endif
 
 /* The version of this header. The library that it is used with has the same, or nothing is opened. */
@@ -128,7 +126,7 @@ enum histar_refusal {
     HISTAR_MEMORY = 40,          /* there is no memory to keep the call: in the log, or in the list of a shared kernel */
     HISTAR_BAD_BATCH = 45,       /* the arguments make no call, or no batch */
     HISTAR_BUSY = 46,            /* another call uses the kernel or has not ended adding itself to the list, or it is open already */
-    HISTAR_LIST_FULL = 47,       /* the list of a shared kernel has as many batches as it may have */
+    HISTAR_LIST_FULL = 47,       /* a seat of the shared kernel lacks as many batches as it may lack; with a log, there are so many */
     HISTAR_OTHER_LIST = 48,      /* the note is not of this shared kernel */
     HISTAR_TEXT_MEMORY = 51      /* there is no memory for the text of a dump */
 };
@@ -302,20 +300,20 @@ void histar_boot(uint32_t pages, uint8_t device_level, uint64_t next_id, uint64_
 uint32_t histar_call(void *room, const histar_request *request, histar_answer *answer);
 void histar_end(void *room);
 
-/* The same of a kernel that threads share, and of its seats, in rooms of histar_shared_size() and histar_seat_size() bytes.
- * Seats of one shared kernel are called at once, each by one thread at a time. Nothing here waits: histar_seat_call is refused
- * HISTAR_BUSY where another seat adds a batch at this moment, and no call is made. */
-size_t histar_shared_size(void);
+/* The same of the seats of a kernel that threads share, in rooms of histar_seat_size() bytes: of its first seat, of another beside one,
+ * and of calls. Seats of one shared kernel are called at once, each by one thread at a time, and histar_seat_beside calls the seat that
+ * it is given. Nothing here waits: histar_seat_call is refused HISTAR_BUSY where another seat adds a batch at this moment, and no call
+ * is made. */
 size_t histar_seat_size(void);
-void histar_shared_boot(uint32_t pages, uint8_t device_level, uint64_t next_id, uint64_t next_category, uint64_t most, void *shared);
-void histar_seat_boot(void *shared, void *seat);
+void histar_seat_first(uint32_t pages, uint8_t device_level, uint64_t next_id, uint64_t next_category, uint64_t most, uint8_t logs, void *seat);
+void histar_seat_beside(void *from, void *seat);
 uint32_t histar_seat_call(void *seat, const histar_request *request, histar_answer *answer);
 void histar_seat_end(void *seat);
-void histar_shared_end(void *shared);
 
 /* ---- A kernel ---- */
 
-/* What a seat has seen: how many calls, of which a batch counts as one, and of which shared kernel: where it stands, and since when. */
+/* What a seat has seen: how many calls, of which a batch counts as one, and of which shared kernel: where its first seat stood, and since
+ * when. */
 typedef struct {
     uint64_t at, since, calls;
 } histar_note;
@@ -407,54 +405,17 @@ static inline uint32_t histar_open(histar *k, uint64_t pages) { return histar_op
 
 /* ---- A kernel that threads share ---- */
 
-/* A kernel that threads share, or one that is closed. It begins as HISTAR_SHARED_INIT, or is static; it is not to be copied while
- * it is open. */
-typedef struct {
-    HISTAR_ALIGNED unsigned char room[256];
-    const void *open_at;         /* where it stands while it is open */
-    unsigned char is_busy;       /* a function uses it */
-    histar_note none;            /* what a seat of it has seen that has seen nothing */
-} histar_shared;
-
-/* Takes it for one function, as a kernel is taken. */
-static inline uint32_t histar_shared_taken(histar_shared *shared)
-{
-    return __atomic_test_and_set(&shared->is_busy, __ATOMIC_ACQUIRE) ? HISTAR_BUSY : HISTAR_DONE;
-}
-static inline int histar_is_shared(const histar_shared *shared) { return __atomic_load_n(&shared->open_at, __ATOMIC_RELAXED) == shared; }
-static inline uint32_t histar_shared_released(histar_shared *shared, uint32_t refusal)
-{
-    __atomic_clear(&shared->is_busy, __ATOMIC_RELEASE);
-    return refusal;
-}
-
-/* Lets go of the shared kernel: it opens no more seats. Those that are open stay, and its list goes with the last of them. One that
- * is closed stays so. HISTAR_BUSY where another thread opens a seat. */
-__attribute__((nonnull)) static inline uint32_t histar_unshare(histar_shared *shared)
-{
-    if (histar_shared_taken(shared)) return HISTAR_BUSY;
-    if (histar_is_shared(shared)) {
-        histar_shared_end(shared->room);
-        __atomic_store_n(&shared->open_at, NULL, __ATOMIC_RELAXED);
-        histar_wipes(shared->room, sizeof shared->room);
-    }
-    return histar_shared_released(shared, HISTAR_DONE);
-}
-
-/* Boots a seat that is taken and closed, of a shared kernel that is taken and open. */
-static inline uint32_t histar_seat_boots(histar *seat, histar_shared *shared)
+/* A seat that was booted into the room of one that is taken and closed: it is open, or ended again where there is none. */
+static inline uint32_t histar_seat_booted(histar *seat, histar_note shared)
 {
     uint32_t refusal;
-    if (histar_version() != HISTAR_VERSION_NUMBER) return HISTAR_OTHER_VERSION;
-    if (histar_seat_size() > sizeof seat->room) return HISTAR_UNAVAILABLE;
     memset(&seat->request, 0, sizeof seat->request);
     memset(&seat->answer, 0, sizeof seat->answer);
-    histar_seat_boot(shared->room, seat->room);
     /* A record of zeros asks for nothing: a seat that is there says so. */
     refusal = histar_seat_call(seat->room, &seat->request, &seat->answer);
     if (refusal == HISTAR_BAD_BATCH) {
         seat->is_seat = 1;
-        seat->shared = shared->none;
+        seat->shared = shared;
         __atomic_store_n(&seat->open_at, seat, __ATOMIC_RELAXED);
         return HISTAR_DONE;
     }
@@ -462,61 +423,66 @@ static inline uint32_t histar_seat_boots(histar *seat, histar_shared *shared)
     return refusal;
 }
 
-/* Opens a seat, which is a kernel to every function below: one call at a time uses it, and the seats of one shared kernel are used at
- * once. All of them are in one state: each write call stands in one list, and a call through a seat first plays what others added to
- * it since, on the seat's own kernel. No lock is taken: a read waits for nobody, and a write is refused HISTAR_BUSY only where
- * another thread stands still in the middle of adding its call. A seat has a log from the start, that of all seats: histar_dump is of
- * what it has seen, and histar_log_on is refused HISTAR_BAD_BATCH, as is a look-up of histar_debug.h. histar_close ends it.
- * HISTAR_UNAVAILABLE where there is no memory or the shared kernel is not open, HISTAR_BUSY where another thread opens a seat of it or
- * the seat is open. */
+/* No bound on the write calls that a seat may lack but that of the library: 4,194,304. */
+#define HISTAR_ANY_NUMBER UINT64_MAX
+
+/* Opens a kernel for threads to share, with the limits of histar_open_with, by its first seat; histar_seat_open opens the others. A seat
+ * is a kernel to every function below: one call at a time uses it, and the seats of one shared kernel are used at once. All of them are
+ * in one state: each write call stands in one list, and a call through a seat first plays what others added to it since, on the seat's
+ * own kernel. No lock is taken: a read waits for nobody, and a write is refused HISTAR_BUSY only where another thread stands still in the
+ * middle of adding its call. histar_close ends a seat; the shared kernel goes with its last.
+ *
+ * The list takes memory as it grows, and gives back what all seats have seen. `most` is how many write calls a seat may lack, of which a
+ * batch counts as one: 4,194,304 at most, and rounded up to a multiple of 256, and 256 more. Where a seat lacks more, write calls by
+ * others are refused HISTAR_LIST_FULL until it makes a call or is closed.
+ *
+ * With `logs` the list has a log, and gives nothing back: histar_dump is of all that the seat has seen since the open, and `most` is how
+ * many write calls there may be, rounded up as before. Without it histar_dump is refused HISTAR_BAD_BATCH. histar_log_on is always
+ * refused so, as is a look-up of histar_debug.h. Refused as histar_open_with. */
+HISTAR_LOOKED_AT(1)
+static inline uint32_t histar_share_with(histar *seat, uint64_t pages, uint64_t device_level, uint64_t next_id,
+                                         uint64_t next_category, uint64_t most, int logs)
+{
+    struct timespec since;
+    histar_note shared;
+    uint32_t refusal = HISTAR_UNAVAILABLE;
+    if (pages > UINT32_MAX) pages = UINT32_MAX; /* no kernel has so many, either */
+    if (histar_taken(seat)) return HISTAR_BUSY;
+    if (histar_is_open(seat)) return histar_released(seat, HISTAR_BUSY);
+    if (histar_version() != HISTAR_VERSION_NUMBER) return histar_released(seat, HISTAR_OTHER_VERSION);
+    if (histar_seat_size() <= sizeof seat->room && timespec_get(&since, TIME_UTC)) {
+        shared.at = (uint64_t)(uintptr_t)seat;
+        shared.since = (uint64_t)since.tv_sec * 1000000000 + (uint64_t)since.tv_nsec;
+        shared.calls = 0;
+        histar_seat_first((uint32_t)pages, histar_level_byte(device_level), next_id, next_category, most, logs != 0, seat->room);
+        refusal = histar_seat_booted(seat, shared);
+    }
+    return histar_released(seat, refusal);
+}
+
+/* The same, with the limits of histar_open and no log. */
+HISTAR_LOOKED_AT(1)
+static inline uint32_t histar_share(histar *seat, uint64_t pages, uint64_t most)
+{
+    return histar_share_with(seat, pages, 1, 4, 1, most, 0);
+}
+
+/* Opens another seat beside one that is open, with a kernel that is a copy of that one's: it has seen what that one has, and no call is
+ * played again. A shared kernel has up to 4,096 seats at a time. HISTAR_UNAVAILABLE where it has as many, where there is no memory, or
+ * where `from` is no open seat; HISTAR_BUSY where a call uses that one, or `seat` is open. */
 HISTAR_LOOKED_AT(1, 2)
-static inline uint32_t histar_seat_open(histar *seat, histar_shared *shared)
+static inline uint32_t histar_seat_open(histar *seat, histar *from)
 {
     uint32_t refusal = HISTAR_UNAVAILABLE;
     if (histar_taken(seat)) return HISTAR_BUSY;
     if (histar_is_open(seat)) return histar_released(seat, HISTAR_BUSY);
-    if (histar_shared_taken(shared)) return histar_released(seat, HISTAR_BUSY);
-    if (histar_is_shared(shared)) refusal = histar_seat_boots(seat, shared);
-    histar_shared_released(shared, HISTAR_DONE);
-    return histar_released(seat, refusal);
-}
-
-/* No bound on the write calls of a shared kernel but that of memory. */
-#define HISTAR_ANY_NUMBER UINT64_MAX
-
-/* Opens a kernel for threads to share, with the limits of histar_open_with, whose list may have so many write calls, of which a batch
- * counts as one. The list takes memory as it grows. Refused as histar_open_with, which it finds out by a seat that it ends again. */
-HISTAR_LOOKED_AT(1)
-static inline uint32_t histar_share_with(histar_shared *shared, uint64_t pages, uint64_t device_level, uint64_t next_id,
-                                         uint64_t next_category, uint64_t most)
-{
-    histar tried = HISTAR_INIT;
-    struct timespec since;
-    uint32_t refusal;
-    if (pages > UINT32_MAX) pages = UINT32_MAX; /* no kernel has so many, either */
-    if (histar_shared_taken(shared)) return HISTAR_BUSY;
-    if (histar_is_shared(shared)) return histar_shared_released(shared, HISTAR_BUSY);
-    if (histar_shared_size() > sizeof shared->room) return histar_shared_released(shared, HISTAR_UNAVAILABLE);
-    histar_shared_boot((uint32_t)pages, histar_level_byte(device_level), next_id, next_category, most, shared->room);
-    refusal = HISTAR_UNAVAILABLE;
-    if (timespec_get(&since, TIME_UTC)) refusal = histar_seat_boots(&tried, shared);
-    if (!refusal) {
-        histar_seat_end(tried.room);
-        shared->none.at = (uint64_t)(uintptr_t)shared;
-        shared->none.since = (uint64_t)since.tv_sec * 1000000000 + (uint64_t)since.tv_nsec;
-        shared->none.calls = 0;
-        __atomic_store_n(&shared->open_at, shared, __ATOMIC_RELAXED);
-    } else {
-        histar_shared_end(shared->room);
+    if (histar_taken(from)) return histar_released(seat, HISTAR_BUSY);
+    if (histar_is_open(from) && from->is_seat) {
+        histar_seat_beside(from->room, seat->room);
+        refusal = histar_seat_booted(seat, from->shared);
     }
-    return histar_shared_released(shared, refusal);
-}
-
-/* The same, with the limits of histar_open. */
-HISTAR_LOOKED_AT(1)
-static inline uint32_t histar_share(histar_shared *shared, uint64_t pages, uint64_t most)
-{
-    return histar_share_with(shared, pages, 1, 4, 1, most);
+    histar_released(from, HISTAR_DONE);
+    return histar_released(seat, refusal);
 }
 
 /* ---- How the functions below fill a record and read an answer ---- */

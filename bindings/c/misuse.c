@@ -18,8 +18,7 @@
 /* The kernel that is misused: it has a log, a secret at level 3 in a category, a stranger, an address space and a packet. And
  * others: one that is closed, and one that was never open. */
 static histar k, closed, never;
-/* A shared kernel with a seat, and seats and shared kernels that are closed. Its list has room for three calls, of which one is made. */
-static histar_shared shared, unshared, bare;
+/* A seat of a shared kernel whose list has a log and one call, and a seat that is closed. */
 static histar seat, unseated;
 static histar_object shared_segment;
 static histar_object secret, stranger, space;
@@ -52,13 +51,10 @@ static void opens(void)
     must(histar_dev_send(&k, HISTAR_BOOT, in_root(HISTAR_DEVICE), "packet", 6));
     must(histar_open(&closed, 8));
     must(histar_close(&closed));
-    must(histar_share(&shared, 8, 3));
-    must(histar_seat_open(&seat, &shared));
+    must(histar_share_with(&seat, 8, 1, 4, 1, 3, 1));
     must(histar_segment_create(&seat, HISTAR_BOOT, HISTAR_ROOT, &plain, 2, 1, &shared_segment));
-    must(histar_share(&unshared, 8, 3));
-    must(histar_seat_open(&unseated, &unshared));
+    must(histar_share(&unseated, 8, 3));
     must(histar_close(&unseated));
-    must(histar_unshare(&unshared));
 }
 
 /* ---- Kernels that are not open, or are already ---- */
@@ -286,47 +282,50 @@ static uint32_t closed_with_the_key(void)
 
 /* ---- A kernel that threads share ---- */
 
-static uint32_t shared_twice(void) { return histar_share(&shared, 8, 3); }
-static uint32_t shared_with_seven_pages(void) { return histar_share(&unshared, 7, 3); }
-static uint32_t shared_with_far_more_pages(void) { return histar_share(&unshared, FAR + 64, 3); }
-static uint32_t shared_with_a_device_at_257(void) { return histar_share_with(&unshared, 64, 257, 4, 1, 3); }
-static uint32_t unshared_twice(void) { return histar_unshare(&unshared); }
-static uint32_t seat_of_a_bare_one(void) { return histar_seat_open(&unseated, &bare); }
-static uint32_t seat_of_an_unshared_one(void) { return histar_seat_open(&unseated, &unshared); }
-static uint32_t seat_of_a_copy(void)
+static uint32_t shared_twice(void) { return histar_share(&seat, 8, 3); }
+static uint32_t shared_where_a_kernel_is(void) { return histar_share(&k, 8, 3); }
+static uint32_t shared_with_seven_pages(void) { return histar_share(&unseated, 7, 3); }
+static uint32_t shared_with_far_more_pages(void) { return histar_share(&unseated, FAR + 64, 3); }
+static uint32_t shared_with_a_device_at_257(void) { return histar_share_with(&unseated, 64, 257, 4, 1, 3, 0); }
+static uint32_t shared_in_a_call(void)
 {
-    static histar_shared copy;
-    memcpy(&copy, &shared, sizeof shared);
-    must(histar_unshare(&copy));
+    uint32_t refusal;
+    must(histar_taken(&unseated));
+    refusal = histar_share(&unseated, 8, 3);
+    histar_released(&unseated, HISTAR_DONE);
+    return refusal;
+}
+static uint32_t seat_beside_one_never_opened(void) { return histar_seat_open(&unseated, &never); }
+static uint32_t seat_beside_a_closed_one(void)
+{
+    static histar it;
+    return histar_seat_open(&it, &unseated);
+}
+static uint32_t seat_beside_a_kernel(void) { return histar_seat_open(&unseated, &k); }
+static uint32_t seat_beside_itself(void) { return histar_seat_open(&unseated, &unseated); }
+static uint32_t seat_beside_a_copy(void)
+{
+    static histar copy;
+    memcpy(&copy, &seat, sizeof seat);
     return histar_seat_open(&unseated, &copy);
 }
-static uint32_t seat_opened_twice(void) { return histar_seat_open(&seat, &shared); }
-static uint32_t seat_where_a_kernel_is(void) { return histar_seat_open(&k, &shared); }
+static uint32_t seat_opened_twice(void) { return histar_seat_open(&seat, &seat); }
+static uint32_t seat_where_a_kernel_is(void) { return histar_seat_open(&k, &seat); }
 static uint32_t kernel_where_a_seat_is(void) { return histar_open(&seat, 8); }
 static uint32_t seat_opened_in_a_call(void)
 {
     uint32_t refusal;
     must(histar_taken(&unseated));
-    refusal = histar_seat_open(&unseated, &shared);
+    refusal = histar_seat_open(&unseated, &seat);
     histar_released(&unseated, HISTAR_DONE);
     return refusal;
 }
-static uint32_t seats_opened_at_once(void)
-{
-    uint32_t refusal, other, third;
-    must(histar_shared_taken(&shared));
-    refusal = histar_seat_open(&unseated, &shared);
-    other = histar_unshare(&shared);
-    third = histar_share(&shared, 8, 3);
-    histar_shared_released(&shared, HISTAR_DONE);
-    return refusal == other && refusal == third ? refusal : HISTAR_DONE;
-}
-static uint32_t shared_by_another_at_once(void)
+static uint32_t seat_beside_one_in_a_call(void)
 {
     uint32_t refusal;
-    must(histar_shared_taken(&unshared));
-    refusal = histar_share(&unshared, 8, 3);
-    histar_shared_released(&unshared, HISTAR_DONE);
+    must(histar_taken(&seat));
+    refusal = histar_seat_open(&unseated, &seat);
+    histar_released(&seat, HISTAR_DONE);
     return refusal;
 }
 static histar_note a_note(void)
@@ -378,24 +377,11 @@ static uint32_t look_up_by_a_seat(void)
     histar_object it;
     return histar_kept_live(&seat, 0, &is_there, &it);
 }
-static uint32_t seat_after_the_unshare(void)
-{
-    histar_shared other = HISTAR_SHARED_INIT;
-    histar its = HISTAR_INIT;
-    uint32_t refusal;
-    must(histar_share(&other, 8, 3));
-    must(histar_seat_open(&its, &other));
-    must(histar_unshare(&other));
-    must(is_called(&its));
-    refusal = histar_seat_open(&unseated, &other);
-    must(histar_close(&its));
-    return refusal;
-}
 static uint32_t opened_after_a_seat(void)
 {
     histar it = HISTAR_INIT;
     uint32_t refusal;
-    must(histar_seat_open(&it, &shared));
+    must(histar_seat_open(&it, &seat));
     must(histar_close(&it));
     must(histar_open(&it, 8));
     must(histar_log_on(&it)); /* which a seat is refused */
@@ -424,33 +410,43 @@ static uint32_t seat_dumped_into_too_little(void)
     size_t needed = 0;
     return histar_dump(&seat, place, 1, &needed);
 }
-static uint32_t calls_past_the_room(void)
+static uint32_t dumped_without_a_log(void)
 {
-    histar_shared other = HISTAR_SHARED_INIT;
     histar its = HISTAR_INIT;
     uint32_t refusal;
-    must(histar_share(&other, 8, 1));
-    must(histar_seat_open(&its, &other));
+    size_t needed = 0;
+    must(histar_share(&its, 8, 1));
     must(is_called(&its));
-    refusal = is_called(&its);
+    refusal = histar_dump(&its, place, sizeof place, &needed);
     must(histar_close(&its));
-    must(histar_unshare(&other));
+    return refusal;
+}
+/* The list has room for 512 calls, and another seat makes none. */
+static uint32_t calls_past_the_room(void)
+{
+    histar its = HISTAR_INIT, other = HISTAR_INIT;
+    histar_object it;
+    uint32_t refusal;
+    must(histar_share(&its, 8, 1));
+    must(histar_seat_open(&other, &its));
+    must(histar_segment_create(&its, HISTAR_BOOT, HISTAR_ROOT, &plain, 2, 1, &it));
+    for (int i = 1; i < 512; i++) must(histar_segment_write(&its, HISTAR_BOOT, in_root(it), 0, "once", 4));
+    refusal = histar_segment_write(&its, HISTAR_BOOT, in_root(it), 0, "more", 4);
+    must(histar_close(&its));
+    must(histar_close(&other));
     return refusal;
 }
 static uint32_t shared_key_after_a_close(void)
 {
-    histar_shared other = HISTAR_SHARED_INIT;
     static histar its;
     char bytes[64];
     histar_object it;
-    must(histar_share(&other, 8, 2));
-    must(histar_seat_open(&its, &other));
+    must(histar_share(&its, 8, 2));
     must(histar_segment_create(&its, HISTAR_BOOT, HISTAR_ROOT, &plain, 2, 1, &it));
     must(histar_segment_write(&its, HISTAR_BOOT, in_root(it), 0, KEY, sizeof KEY));
     must(histar_segment_read(&its, HISTAR_BOOT, in_root(it), 0, bytes, sizeof KEY));
     if (records_have_key(&its)) return HISTAR_DONE;
     must(histar_close(&its));
-    must(histar_unshare(&other));
     return has_key(&its, sizeof its) ? HISTAR_DONE : is_called(&its);
 }
 
@@ -513,20 +509,21 @@ static const struct row {
     {"a stranger's read after a reader", HISTAR_CANNOT_OBSERVE, read_after_a_reader},
     {"a call after a close with the key in it", HISTAR_UNAVAILABLE, closed_with_the_key},
     {"a second share", HISTAR_BUSY, shared_twice},
+    {"a share where a kernel is", HISTAR_BUSY, shared_where_a_kernel_is},
     {"a share of 7 pages", HISTAR_BAD_LIMITS, shared_with_seven_pages},
     {"a share of 2^32 + 64 pages", HISTAR_BAD_LIMITS, shared_with_far_more_pages},
     {"a share with a device at level 257", HISTAR_BAD_LIMITS, shared_with_a_device_at_257},
-    {"a second unshare", HISTAR_DONE, unshared_twice},
-    {"a seat of what was never shared", HISTAR_UNAVAILABLE, seat_of_a_bare_one},
-    {"a seat after the unshare", HISTAR_UNAVAILABLE, seat_of_an_unshared_one},
-    {"a seat after the unshare, beside one before", HISTAR_UNAVAILABLE, seat_after_the_unshare},
-    {"a seat of a copy", HISTAR_UNAVAILABLE, seat_of_a_copy},
+    {"a share in a call", HISTAR_BUSY, shared_in_a_call},
+    {"a seat beside one that was never opened", HISTAR_UNAVAILABLE, seat_beside_one_never_opened},
+    {"a seat beside one that is closed", HISTAR_UNAVAILABLE, seat_beside_a_closed_one},
+    {"a seat beside a kernel", HISTAR_UNAVAILABLE, seat_beside_a_kernel},
+    {"a seat beside itself", HISTAR_BUSY, seat_beside_itself},
+    {"a seat beside a copy", HISTAR_UNAVAILABLE, seat_beside_a_copy},
     {"a seat that is opened twice", HISTAR_BUSY, seat_opened_twice},
     {"a seat where a kernel is", HISTAR_BUSY, seat_where_a_kernel_is},
     {"a kernel where a seat is", HISTAR_BUSY, kernel_where_a_seat_is},
     {"a seat that is opened in a call", HISTAR_BUSY, seat_opened_in_a_call},
-    {"two seats opened at once", HISTAR_BUSY, seats_opened_at_once},
-    {"a share by another at once", HISTAR_BUSY, shared_by_another_at_once},
+    {"a seat beside one in a call", HISTAR_BUSY, seat_beside_one_in_a_call},
     {"a note of another shared kernel", HISTAR_OTHER_LIST, note_of_another},
     {"a note of one at another place", HISTAR_OTHER_LIST, note_of_another_place},
     {"a note of more calls than there are", HISTAR_OTHER_LIST, note_of_more_calls},
@@ -546,6 +543,7 @@ static const struct row {
     {"a batch by a kernel", HISTAR_BAD_BATCH, batch_by_a_kernel},
     {"a batch by a closed seat", HISTAR_UNAVAILABLE, batch_by_a_closed_seat},
     {"a dump of a seat into one byte", HISTAR_BOUNDS, seat_dumped_into_too_little},
+    {"a dump of a seat without a log", HISTAR_BAD_BATCH, dumped_without_a_log},
     {"a call after a seat's close with the key in it", HISTAR_UNAVAILABLE, shared_key_after_a_close},
 };
 
@@ -577,7 +575,6 @@ int main(void)
     must(histar_segment_create(&seat, HISTAR_BOOT, HISTAR_ROOT, &plain, 2, 1, &next));
     if (next.id != shared_segment.id + 1) went_well--, printf("the shared kernel is changed\n");
     must(histar_close(&seat));
-    must(histar_unshare(&shared));
     printf("%zu of %zu misuses are refused and change nothing\n", went_well, count);
     must(histar_close(&k));
     return went_well != count;

@@ -1,8 +1,8 @@
 /* Opens kernels, each with another request for memory refused, the first, the second and so on, until none is: an open that
  * is refused one is told 30, and keeps nothing. No call takes memory or writes past histar_size() bytes, and a close gives
  * all back. Then the same of calls that are kept in a log, and of its dump: a call that is refused memory is told 40 and is
- * made as ever when it is asked for again, and a dump is told 51. And the same of a kernel that threads share: of the share, of a
- * seat, and of its write calls, while reads take none.
+ * made as ever when it is asked for again, and a dump is told 51. And the same of a kernel that threads share: of its first seat, of
+ * another, and of write calls, those that lay a block of the list too, while reads take none.
  *
  * To be linked with -Wl,--wrap=malloc,--wrap=realloc,--wrap=free. */
 #include "histar.h"
@@ -121,7 +121,6 @@ static int logs_are_kept(void)
     }
 }
 
-static histar_shared shared;
 static histar seat, other;
 
 /* Whether calls through two seats are done, each once, and reads take no memory. */
@@ -140,7 +139,14 @@ static int calls_are_shared(void)
     before = asked;
     for (int i = 0; i < 100; i++)
         if (histar_segment_read(&seat, HISTAR_BOOT, histar_in(HISTAR_ROOT, two), 0, bytes, 64)) return 0;
-    return asked == before;
+    if (asked != before) return 0;
+    /* The other sees 600 calls more, one of which lays a block and one gives one back, where no seat lacks it. */
+    for (int i = 0; i < 600; i++) {
+        refusal = histar_segment_write(&seat, HISTAR_BOOT, histar_in(HISTAR_ROOT, two), 0, &i, sizeof i);
+        if (refusal == HISTAR_MEMORY) again++, refusal = histar_segment_write(&seat, HISTAR_BOOT, histar_in(HISTAR_ROOT, two), 0, &i, sizeof i);
+        if (refusal || histar_segment_read(&other, HISTAR_BOOT, histar_in(HISTAR_ROOT, two), 0, bytes, 64) || memcmp(bytes, &i, sizeof i)) return 0;
+    }
+    return 1;
 }
 
 /* Whether a kernel is shared by two seats with each request for memory refused in turn, or else opens nothing. */
@@ -149,14 +155,13 @@ static int kernels_are_shared(void)
     for (refused = 1;; refused++) {
         uint32_t refusal;
         asked = out = again = 0;
-        refusal = histar_share(&shared, 8, 4);
+        refusal = histar_share(&seat, 8, 4);
         if (refusal == HISTAR_UNAVAILABLE && asked >= refused && out == 0) continue;
         if (refusal) return 0;
-        refusal = histar_seat_open(&seat, &shared);
-        if (!refusal && (refusal = histar_seat_open(&other, &shared)) != 0 && histar_close(&seat)) return 0;
+        refusal = histar_seat_open(&other, &seat);
         if (refusal && (refusal != HISTAR_UNAVAILABLE || asked < refused)) return 0;
         if (!refusal && (!calls_are_shared() || again > 1)) return 0;
-        if (histar_close(&seat) || histar_unshare(&shared) || histar_close(&other) || out != 0) return 0;
+        if (histar_close(&seat) || histar_close(&other) || out != 0) return 0;
         if (asked < refused) return again == 0 && refused > 9;
     }
 }

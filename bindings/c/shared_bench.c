@@ -16,7 +16,6 @@
 enum { MOST = 4, MANY = 64 };
 static int calls = 20000, runs = 15;
 static histar k, seats[MANY];
-static histar_shared share;
 static histar_object of_k, of_share;
 static pthread_rwlock_t lock = PTHREAD_RWLOCK_INITIALIZER;
 static int file;
@@ -166,10 +165,10 @@ int main(int count, char **words)
     done(file < 0 || write(file, zeros, 4096) != 4096);
     done(histar_open(&k, 64));
     done(histar_segment_create(&k, HISTAR_BOOT, HISTAR_ROOT, &plain, 2, 1, &of_k));
-    done(histar_share(&share, 64, (uint64_t)calls * (uint64_t)runs * 12 + 100000));
-    for (int i = 0; i < MANY; i++) done(histar_seat_open(&seats[i], &share));
+    done(histar_share(&seats[0], 64, HISTAR_ANY_NUMBER));
+    for (int i = 1; i < MANY; i++) done(histar_seat_open(&seats[i], &seats[0]));
     done(histar_segment_create(&seats[0], HISTAR_BOOT, HISTAR_ROOT, &plain, 2, 1, &of_share));
-    printf("rooms: share %zu, seat %zu, kernel %zu bytes\n", histar_shared_size(), histar_seat_size(), histar_size());
+    printf("rooms: seat %zu, kernel %zu bytes\n", histar_seat_size(), histar_size());
 
     row("pread, 1 thread", 1, file_read, file_read);
     row("one kernel, no lock, read, 1 thread", 1, alone_read, alone_read);
@@ -194,6 +193,5 @@ int main(int count, char **words)
     beside_many(3);
     beside_many(MANY - 1);
     for (int i = 0; i < MANY; i++) done(histar_close(&seats[i]));
-    done(histar_unshare(&share));
     done(histar_close(&k));
 }

@@ -1,5 +1,5 @@
 -- What the exports do to what C's memory holds, and what C is told.
-use Rattle.std.specs.Prelude.{◌≡◌, ◌≢◌, ◌⊎◌, ◌↔◌, ℕ, List, [], ◌∷◌, ◌++◌, Bool, false, length, take, drop, nat_lt, slice_get, if◌then◌else◌, Option, Some, None, option_map, Result, Ok, Err}
+use Rattle.std.specs.Prelude.{◌≡◌, ◌≢◌, ◌⊎◌, ◌↔◌, ℕ, List, [], ◌∷◌, ◌++◌, Bool, false, length, take, drop, not, nat_eq, nat_lt, slice_get, if◌then◌else◌, Option, Some, None, option_map, Result, Ok, Err}
 use Rattle.std.specs.Bool.{MatchBool}
 use Rattle.base.specs.Limits.{in_range}
 use Rattle.base.specs.declared.ranges.Limits.{Limits}
@@ -20,9 +20,9 @@ use Rattle.call_records.specs.declared.logs.LogRequest.TheVariants as logs
 use Rattle.call_records.specs.declared.records.Answer.{Answer}
 use Rattle.call_records.specs.declared.records.Request.{Request}
 use Rattle.shared_calls.specs.Events.{events_of}
-use Rattle.shared_calls.specs.Seats.{SharedView, SeatView, IsBatchSubmitted, IsLater, IsLearned, IsOpened, IsRead, IsSubmitted}
-use Rattle.shared_calls.specs.declared.seats.SubmitRefusal.{SubmitRefusal}
-use Rattle.shared_calls.specs.declared.seats.SubmitRefusal.TheVariants as refusals
+use Rattle.shared_calls.specs.Seats.{SeatView, IsBatchSubmitted, IsBeside, IsFirst, IsLater, IsLearned, IsRead, IsSubmitted}
+use Rattle.shared_calls.specs.declared.refusals.SubmitRefusal.{SubmitRefusal}
+use Rattle.shared_calls.specs.declared.refusals.SubmitRefusal.TheVariants as refusals
 use Rattle.shared_c.specs.Asking.{batch_call_of, seat_request_of}
 use Rattle.shared_c.specs.declared.asking.SeatRequest.{SeatRequest}
 use Rattle.shared_c.specs.declared.asking.SeatRequest.TheVariants as seats
@@ -34,26 +34,36 @@ limits_of pages device id category =
     option_map (λ level. record { pages = pages; device = level; next_id = id; next_category = category })
     (level_of device)
 
--- the kernel that is to be shared has these limits; or 30 for want of memory
-abbrev pub IsSharedBy : Limits → Result SharedView ℕ → Type 0
-IsSharedBy limits (Ok shared) = shared.limits ≡ limits
-IsSharedBy limits (Err why) = why ≡ 30
-
--- the same; 31 where the limits are out of range
-abbrev pub IsShare : Option Limits → Result SharedView ℕ → Type 0
-IsShare None share = share ≡ Err 31
-IsShare (Some limits) share = MatchBool (in_range limits) (IsSharedBy limits share) (share ≡ Err 31)
-
 -- the seat, or why there is none
 abbrev pub seat_in : Result KeptSeat ℕ → Result SeatView ℕ
 seat_in (Ok kept) = Ok kept.seat
 seat_in (Err why) = Err why
 
--- a seat of the share that has seen no batch; or 30 for want of memory, or why there is no share
-abbrev pub IsSeat : Result SharedView ℕ → Result SeatView ℕ → Type 0
-IsSeat (Ok shared) (Ok seat) = IsOpened shared seat
-IsSeat (Ok shared) (Err why) = why ≡ 30
-IsSeat (Err why) seat = seat ≡ Err why
+-- whether a list has a log, by the number that asks for it
+abbrev pub has_log : ℕ → Bool
+has_log logs = not (nat_eq logs 0)
+
+-- it is this seat; or there is none, and the number is 30
+abbrev pub IsKeptAs : SeatView → Result SeatView ℕ → Type 0
+IsKeptAs seat (Ok kept) = kept ≡ seat
+IsKeptAs seat (Err why) = why ≡ 30
+
+-- the first seat of a list, of a kernel with these limits; or 30 for want of memory
+abbrev pub IsFirstBy : Limits → Bool → Result SeatView ℕ → Type 0
+IsFirstBy limits is_logged (Ok seat) = IsFirst limits is_logged seat
+IsFirstBy limits is_logged (Err why) = why ≡ 30
+
+-- the same; 31 where the limits are out of range
+abbrev pub IsFirstSeat : Option Limits → Bool → Result SeatView ℕ → Type 0
+IsFirstSeat None is_logged seat = seat ≡ Err 31
+IsFirstSeat (Some limits) is_logged seat = MatchBool (in_range limits) (IsFirstBy limits is_logged seat) (seat ≡ Err 31)
+
+-- a seat of the same list that has seen the same as the other; 30 for want of memory or where the list has as many seats as it may
+-- have, or why there is no other
+abbrev pub IsSeatBeside : Result SeatView ℕ → Result SeatView ℕ → Type 0
+IsSeatBeside (Ok other) (Ok seat) = IsBeside other seat
+IsSeatBeside (Ok other) (Err why) = why ≡ 30
+IsSeatBeside (Err why) seat = seat ≡ Err why
 
 -- the number that tells why calls are not made
 abbrev pub number_of : SubmitRefusal → ℕ
@@ -165,12 +175,14 @@ IsText seat text number told =
     (text ≡ dump_text (boot_dump seat.limits (events_of seat.limits seat.seen)))
     × IsBootDump seat.limits text × (number ≡ 0) × TellsLength text told
 
--- that text is made; or there is no memory for it, and the number is 51
+-- that text is made; or there is no memory for it, and the number is 51; 45 where the list has no log
 abbrev pub IsDumped : KeptSeat → KeptSeat → ℕ → Answer → Answer → Type 0
 IsDumped before after number old told =
-    ((after.seat ≡ before.seat) × SameCalls before after × SameReplies before after
+    MatchBool before.seat.is_logged
+    (((after.seat ≡ before.seat) × SameCalls before after × SameReplies before after
     × IsText before.seat after.text.items number told)
-    ⊎ IsRefused 51 before after number old told
+    ⊎ IsRefused 51 before after number old told)
+    (IsRefused 45 before after number old told)
 
 -- what is asked of the log is done; it does not begin
 abbrev pub IsLogAsked : LogRequest → KeptSeat → KeptSeat → ℕ → Answer → Answer → Type 0

@@ -4,8 +4,10 @@ ghost use Rattle.shared_c.specs.Served.{IsDumped, IsLogAsked};
 
 use crate::held::KeptSeat;
 use call_records::{Answer, LogRequest, tell_length, tell_text};
+use shared_calls::DumpRefusal;
 
-/// Makes the text of the dump of what the seat has seen, and gives 0; 51 for want of memory, and nothing changes.
+/// Makes the text of the dump of what the seat has seen, and gives 0; 51 for want of memory and 45 where the list has no log, and
+/// nothing changes.
 fn make_dump(kept: &mut KeptSeat, answer: &mut Answer) -> u32
     ensures { IsDumped kept.old kept.new result answer.old answer.new }
 {
@@ -15,11 +17,13 @@ fn make_dump(kept: &mut KeptSeat, answer: &mut Answer) -> u32
             kept.text = text;
             0
         }
-        Err(_) => 51,
+        Err(DumpRefusal::Memory) => 51,
+        Err(DumpRefusal::NoLog) => 45,
     }
 }
 
-/// Does what is asked of the log, which a seat always has, and gives the number of the refusal: 45 where it should begin.
+/// Does what is asked of the log, which a seat has from the start or never, and gives the number of the refusal: 45 where it should
+/// begin.
 #[inline(never)]
 pub(crate) fn answer_log(kept: &mut KeptSeat, asked: LogRequest, answer: &mut Answer) -> u32
     ensures { IsLogAsked asked kept.old kept.new result answer.old answer.new }

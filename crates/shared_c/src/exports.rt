@@ -1,44 +1,44 @@
 //! The functions that C calls. Each only finds what lies in C's memory, and calls a safe function.
-ghost use Rattle.std.specs.Prelude.{◌≡◌};
 ghost use Rattle.std.specs.Borrow.{full_share, sem};
 ghost use Rattle.std.specs.Ptr.{lies_at, room_at};
-ghost use Rattle.shared_c.specs.contracts.held.HeldShare.{the_row as ShareRow};
 ghost use Rattle.shared_c.specs.contracts.held.HeldSeat.{the_row as SeatRow};
-ghost use Rattle.shared_c.specs.Served.{IsSeat, IsServed, IsShare, limits_of, seat_in};
+ghost use Rattle.shared_c.specs.Served.{has_log, IsFirstSeat, IsSeatBeside, IsServed, limits_of, seat_in};
 
-use crate::held::{HeldSeat, HeldShare, end_seat, end_share, seated, serve, shared};
+use crate::held::{HeldSeat, beside, end_seat, first, serve};
 use call_records::{Answer, Request};
 use std::alloc::Global;
 
-/// A kernel to share, in room for it, with limits as `base::Limits` has them, and a list of at most so many batches. The room
-/// then holds it, or why there is none: 30 for want of memory, 31 for limits out of range, which each seat's calls tell.
+/// The first seat of a kernel to share, in room for it, with limits as `base::Limits` has them, and a list of which a seat may lack so
+/// many batches; with a log, unless `logs` is 0, it may have so many. The room then holds the seat, or why there is none: 30 for want
+/// of memory, 31 for limits out of range.
 #[unsafe(no_mangle)]
-pub unsafe extern "C" fn histar_shared_boot(
+pub unsafe extern "C" fn histar_seat_first(
     alloc: Global,
     pages: u32,
     device: u8,
     next_id: u64,
     next_category: u64,
-    calls: u64,
+    most: u64,
+    logs: u8,
     at: *mut u8,
 )
-    requires* { sem 𝓛 (room_at ShareRow at) }
-    ensures* { ∃ₛ (λ (held : HeldShare). sem 𝓛 (lies_at ShareRow full_share at held)
-        ∗ ⌜ IsShare (limits_of pages device next_id next_category) held.share ⌝) }
+    requires* { sem 𝓛 (room_at SeatRow at) }
+    ensures* { ∃ₛ (λ (held : HeldSeat). sem 𝓛 (lies_at SeatRow full_share at held)
+        ∗ ⌜ IsFirstSeat (limits_of pages device next_id next_category) (has_log logs) (seat_in held.seat) ⌝) }
 {
-    at.cast::<HeldShare>().write(shared(alloc, pages, device, next_id, next_category, calls));
+    at.cast::<HeldSeat>().write(first(alloc, pages, device, next_id, next_category, most, logs));
 }
 
-/// A seat of what a room holds, in room for it, which then holds the seat, or why there is none.
+/// Another seat beside the one that a room holds, in room for it, which then holds the seat, or why there is none.
 #[unsafe(no_mangle)]
-pub unsafe extern "C" fn histar_seat_boot(from: *mut u8, alloc: Global, at: *mut u8)
-    ghost share: { HeldShare }
-    requires* { sem 𝓛 (lies_at ShareRow full_share from share) ∗ sem 𝓛 (room_at SeatRow at) }
-    ensures* { ∃ₛ (λ (held : HeldSeat). sem 𝓛 (lies_at ShareRow full_share from share)
-        ∗ sem 𝓛 (lies_at SeatRow full_share at held) ∗ ⌜ IsSeat share.share (seat_in held.seat) ⌝) }
+pub unsafe extern "C" fn histar_seat_beside(from: *mut u8, alloc: Global, at: *mut u8)
+    ghost other: { HeldSeat }
+    requires* { sem 𝓛 (lies_at SeatRow full_share from other) ∗ sem 𝓛 (room_at SeatRow at) }
+    ensures* { ∃ₛ (λ (held : HeldSeat). sem 𝓛 (lies_at SeatRow full_share from other)
+        ∗ sem 𝓛 (lies_at SeatRow full_share at held) ∗ ⌜ IsSeatBeside (seat_in other.seat) (seat_in held.seat) ⌝) }
 {
     at.cast::<HeldSeat>()
-        .write(seated(&mut *from.cast::<HeldShare>(), alloc));
+        .write(beside(&mut *from.cast::<HeldSeat>(), alloc));
 }
 
 /// Does what the record asks for through the seat, and gives the number of the refusal: 0 for none, 45 where the record asks
@@ -66,22 +66,6 @@ pub unsafe extern "C" fn histar_seat_end(at: *mut u8)
     ensures* { sem 𝓛 (room_at SeatRow at) }
 {
     end_seat(at.cast::<HeldSeat>().read());
-}
-
-/// Gives back what the share took; its list once no seat has it. The memory is room again.
-#[unsafe(no_mangle)]
-pub unsafe extern "C" fn histar_shared_end(at: *mut u8)
-    ghost before: { HeldShare }
-    requires* { sem 𝓛 (lies_at ShareRow full_share at before) }
-    ensures* { sem 𝓛 (room_at ShareRow at) }
-{
-    end_share(at.cast::<HeldShare>().read());
-}
-
-/// How many bytes the room for a share has, at a multiple of 16.
-#[unsafe(no_mangle)]
-pub extern "C" fn histar_shared_size() -> usize {
-    std::mem::size_of::<HeldShare>()
 }
 
 /// How many bytes the room for a seat has, at a multiple of 16.

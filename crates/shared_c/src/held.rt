@@ -1,8 +1,8 @@
-//! What C's memory holds: a kernel that is shared, or a seat of it, or why there is none.
+//! What C's memory holds: a seat at a kernel that is shared, or why there is none.
 ghost use Rattle.std.specs.Prelude.{◌≡◌, Some, Ok};
 ghost use Rattle.call_records.specs.Logs.{log_request_of};
 ghost use Rattle.shared_c.specs.Asking.{batch_call_of, seat_request_of};
-ghost use Rattle.shared_c.specs.Served.{IsAsked, IsCalled, IsDone, IsOther, IsSeat, IsServed, IsShare, limits_of, number_of, seat_in};
+ghost use Rattle.shared_c.specs.Served.{has_log, IsAsked, IsCalled, IsDone, IsFirstSeat, IsKeptAs, IsOther, IsSeatBeside, IsServed, limits_of, number_of, seat_in};
 
 use crate::asking::{SeatRequest, batch_call_into, seat_request_of, tell_count};
 use crate::batches::{begin, keep, make_batch, tell_reply};
@@ -10,15 +10,8 @@ use crate::dumps::answer_log;
 use base::{Limits, Meter, ObjectId};
 use call_records::{Answer, Request, call_into, level_of, log_request_of, query_of, tell};
 use kernel_rules::{Call, Reply};
-use shared_calls::{Seat, Shared, SubmitRefusal};
+use shared_calls::{Seat, SubmitRefusal};
 use std::alloc::Global;
-
-/// A kernel that threads share, or the number that tells why there is none: 30 for want of memory, 31 for limits out of range.
-#[derive(Drop)]
-pub struct HeldShare {
-    /// The kernel, or why there is none.
-    pub share: Result<Shared, u32>,
-}
 
 /// A seat, with what its calls need beside it.
 #[derive(Drop)]
@@ -41,58 +34,17 @@ pub struct KeptSeat {
     pub text: Vec<u8>,
 }
 
-/// A seat, or the number that tells why there is none.
+/// A seat, or the number that tells why there is none: 30 for want of memory, 31 for limits out of range.
 #[derive(Drop)]
 pub struct HeldSeat {
     /// The seat, or why there is none.
     pub seat: Result<KeptSeat, u32>,
 }
 
-/// A kernel to share, or why there is none.
-fn new_share(alloc: Global, limits: &Limits, calls: u64) -> Result<Shared, u32>
-    ensures { IsShare (Some limits.now) result }
+/// A seat with what its calls need, or why there is none.
+fn kept_seat(alloc: Global, seat: Seat) -> Result<KeptSeat, u32>
+    ensures { IsKeptAs seat (seat_in result) }
 {
-    if !limits.is_in_range() {
-        return Err(31);
-    }
-    match Shared::new(alloc, limits, calls as usize) {
-        Ok(shared) => Ok(shared),
-        Err(_) => Err(30),
-    }
-}
-
-/// A kernel to share, with these limits, or why there is none.
-pub(crate) fn shared(
-    alloc: Global,
-    pages: u32,
-    device: u8,
-    next_id: u64,
-    next_category: u64,
-    calls: u64,
-) -> HeldShare
-    ensures { IsShare (limits_of pages device next_id next_category) result.share }
-{
-    let Some(device) = level_of(device) else {
-        return HeldShare { share: Err(31) };
-    };
-    let limits = Limits {
-        pages,
-        device,
-        next_id,
-        next_category,
-    };
-    HeldShare {
-        share: new_share(alloc, &limits, calls),
-    }
-}
-
-/// A seat, or why there is none.
-fn new_seat(alloc: Global, shared: &Shared) -> Result<KeptSeat, u32>
-    ensures { IsSeat (Ok shared.now) (seat_in result) }
-{
-    let Ok(seat) = Seat::open(alloc, shared) else {
-        return Err(30);
-    };
     match Meter::new(alloc) {
         Ok(meter) => Ok(KeptSeat {
             seat,
@@ -108,12 +60,61 @@ fn new_seat(alloc: Global, shared: &Shared) -> Result<KeptSeat, u32>
     }
 }
 
-/// A seat of what is held, or why there is none.
-pub(crate) fn seated(held: &mut HeldShare, alloc: Global) -> HeldSeat
-    ensures { (held.new ≡ held.old) × IsSeat held.old.share (seat_in result.seat) }
+/// The first seat of a kernel to share, or why there is none.
+fn new_seat(alloc: Global, limits: &Limits, most: u64, is_logged: bool) -> Result<KeptSeat, u32>
+    ensures { IsFirstSeat (Some limits.now) is_logged (seat_in result) }
 {
-    let seat = match &held.share {
-        Ok(shared) => new_seat(alloc, shared),
+    if !limits.is_in_range() {
+        return Err(31);
+    }
+    match Seat::first(alloc, limits, most as usize, is_logged) {
+        Ok(seat) => kept_seat(alloc, seat),
+        Err(_) => Err(30),
+    }
+}
+
+/// The first seat of a kernel to share, with these limits, or why there is none. Its list has a log unless `logs` is 0.
+pub(crate) fn first(
+    alloc: Global,
+    pages: u32,
+    device: u8,
+    next_id: u64,
+    next_category: u64,
+    most: u64,
+    logs: u8,
+) -> HeldSeat
+    ensures { IsFirstSeat (limits_of pages device next_id next_category) (has_log logs) (seat_in result.seat) }
+{
+    let Some(device) = level_of(device) else {
+        return HeldSeat { seat: Err(31) };
+    };
+    let limits = Limits {
+        pages,
+        device,
+        next_id,
+        next_category,
+    };
+    HeldSeat {
+        seat: new_seat(alloc, &limits, most, logs != 0),
+    }
+}
+
+/// Another seat beside one, or why there is none.
+fn seat_beside(alloc: Global, kept: &KeptSeat) -> Result<KeptSeat, u32>
+    ensures { IsSeatBeside (Ok kept.now.seat) (seat_in result) }
+{
+    match kept.seat.beside(alloc) {
+        Ok(seat) => kept_seat(alloc, seat),
+        Err(_) => Err(30),
+    }
+}
+
+/// Another seat beside the one that is held, or why there is none.
+pub(crate) fn beside(held: &mut HeldSeat, alloc: Global) -> HeldSeat
+    ensures { (held.new ≡ held.old) × IsSeatBeside (seat_in held.old.seat) (seat_in result.seat) }
+{
+    let seat = match &held.seat {
+        Ok(kept) => seat_beside(alloc, kept),
         Err(why) => Err(*why),
     };
     HeldSeat { seat }
@@ -224,20 +225,10 @@ pub(crate) fn end_seat(held: HeldSeat) {
     drop(held);
 }
 
-/// Gives back what a share took, once no seat has it.
-pub(crate) fn end_share(held: HeldShare) {
-    drop(held);
-}
-
 /// What may be handed to another thread.
 fn crosses<T: Send>(_value: &T) {}
 
 /// A seat in C's memory may be called by one thread and then by another, while others call other seats.
 fn seat_crosses(held: &HeldSeat) {
-    crosses(held);
-}
-
-/// A share in C's memory may be handed to another thread.
-fn share_crosses(held: &HeldShare) {
     crosses(held);
 }

@@ -1,5 +1,5 @@
-//! A label kernel that threads of C share, as a static library: a share, seats of it, and one call for all calls through a seat,
-//! in memory that C gives.
+//! A label kernel that threads of C share, as a static library: seats at it, and one call for all calls through a seat, in memory
+//! that C gives.
 //!
 //! Each seat is called by one thread at a time, and any number of seats at once. Nothing here waits, locks, prints or ends the
 //! program. What does not hold here is left to C: that the memory is what the functions ask for, and that one call at a time
@@ -14,7 +14,6 @@ mod held;
 
 pub use asking::SeatRequest;
 pub use exports::{
-    histar_seat_boot, histar_seat_call, histar_seat_end, histar_seat_size, histar_shared_boot,
-    histar_shared_end, histar_shared_size,
+    histar_seat_beside, histar_seat_call, histar_seat_end, histar_seat_first, histar_seat_size,
 };
-pub use held::{HeldSeat, HeldShare, KeptSeat};
+pub use held::{HeldSeat, KeptSeat};

@@ -3,7 +3,6 @@ use Rattle.std.specs.Prelude.{◌≡◌, ◌+◌, List, [], ◌∷◌, ◌++◌}
 use Rattle.base.specs.declared.ranges.Limits.{Limits}
 use Rattle.histories.specs.Events.{Event}
 use Rattle.histories.specs.History.{answered, count, state_of, IsLegal}
-use Rattle.logbook.specs.Pages.{Book}
 use Rattle.syscall_core.specs.Kernel.{kernel_state}
 use Rattle.shared_calls.specs.declared.journals.Journal.{Journal}
 use Rattle.shared_calls.specs.declared.rules.Made.{Made}
@@ -30,9 +29,8 @@ abbrev pub AreNumbered : List Event → Type 0
 AreNumbered events =
     (before after : List Event) (e : Event) → events ≡ before ++ e ∷ after → e.number ≡ count e.thread before + 1
 
--- the events of a beginning of this list, which are legal, and a kernel in the state that they lead to
-pub record IsJournal (limits : Limits) (book : Book) (journal : Journal) : Type 0 where
-  pub seen : journal.seen.book ≡ book
-  pub events : journal.events.items ≡ events_of limits journal.seen.log
+-- the events of these batches, which are legal, and a kernel in the state that they lead to
+pub record IsJournal (limits : Limits) (batches : List Made) (journal : Journal) : Type 0 where
+  pub events : journal.events.items ≡ events_of limits batches
   pub legal : IsLegal limits journal.events.items
   pub state : kernel_state journal.kernel ≡ state_of limits journal.events.items

@@ -13,37 +13,37 @@ use Rattle.kernel_rules.specs.declared.replies.Reply.{Reply}
 use Rattle.shared_calls.specs.Lists.{calls_in, made}
 use Rattle.shared_calls.specs.declared.rules.Made.{Made}
 
--- the limits of the boot, and which list the calls stand in
-pub record SharedView : Type 0 where
-  pub limits : Limits
-  pub list : Book
-
-abbrev pub shared_with : Limits → Book → SharedView
-shared_with limits list = record { limits = limits; list = list }
-
--- the limits of the boot, which list it is, the beginning of the list that the seat has seen, and the mark of its next batch
+-- the limits of the boot, which list it is and whether it has a log, the beginning of the list that the seat has seen, and the mark of
+-- its next batch
 pub record SeatView : Type 0 where
   pub limits : Limits
   pub list : Book
+  pub is_logged : Bool
   pub seen : List Made
   pub mark : ℕ
 
-abbrev pub seat_with : Limits → Book → List Made → ℕ → SeatView
-seat_with limits list seen mark = record { limits = limits; list = list; seen = seen; mark = mark }
+abbrev pub seat_with : Limits → Book → Bool → List Made → ℕ → SeatView
+seat_with limits list is_logged seen mark =
+    record { limits = limits; list = list; is_logged = is_logged; seen = seen; mark = mark }
 
 -- the state that the calls of batches lead to, after a boot
 abbrev pub state_of : Limits → List Made → State
 state_of limits batches = state_after (booted limits) (calls_in batches)
 
--- a seat that has seen no batch
-abbrev pub IsOpened : SharedView → SeatView → Type 0
-IsOpened shared seat = (mark : ℕ) × (seat ≡ seat_with shared.limits shared.list [] mark)
+-- a seat of a list of these limits that has seen no batch
+abbrev pub IsFirst : Limits → Bool → SeatView → Type 0
+IsFirst limits is_logged seat =
+    (list : Book) × (mark : ℕ) × (seat ≡ seat_with limits list is_logged [] mark)
+
+-- a seat of the same list that has seen the same
+abbrev pub IsBeside : SeatView → SeatView → Type 0
+IsBeside other seat = (mark : ℕ) × (seat ≡ record other { mark = mark })
 
 -- the seat has seen no less, and its mark is as it was
 abbrev pub IsLater : SeatView → SeatView → Type 0
 IsLater before after =
-    (after.limits ≡ before.limits) × (after.list ≡ before.list) × IsPrefix before.seen after.seen
-    × (after.mark ≡ before.mark)
+    (after.limits ≡ before.limits) × (after.list ≡ before.list) × (after.is_logged ≡ before.is_logged)
+    × IsPrefix before.seen after.seen × (after.mark ≡ before.mark)
 
 -- the reply is the answer in the state of what the seat has then seen
 abbrev pub IsRead : ℕ → SeatView → Query → Reply → SeatView → Type 0
@@ -55,7 +55,7 @@ IsRead thread before query reply after =
 abbrev pub IsSubmittedAs : (State → Type 0) → ℕ → SeatView → List Call → SeatView → Type 0
 IsSubmittedAs Tells thread before calls after =
     (batches : List Made) × (mark : ℕ) × IsPrefix before.seen batches
-    × (after ≡ seat_with before.limits before.list (batches ++ made before.mark thread calls ∷ []) mark)
+    × (after ≡ seat_with before.limits before.list before.is_logged (batches ++ made before.mark thread calls ∷ []) mark)
     × Tells (state_of before.limits batches)
 
 -- the same of one call: the reply is the answer in that state

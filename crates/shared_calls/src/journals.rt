@@ -7,11 +7,12 @@ ghost use Rattle.dump_text.specs.Fits.{FitsWords};
 ghost use Rattle.histories.specs.History.{IsLegal, count, state_of};
 ghost use Rattle.kernel_rules.specs.Scratch.{scratch};
 ghost use Rattle.shared_calls.specs.Events.{AreNumbered, IsJournal, events_of};
-ghost use Rattle.shared_calls.specs.Knowledge.{IsKnown, IsNext};
-ghost use Rattle.shared_calls.specs.Lists.{AreBatches};
+ghost use Rattle.shared_calls.specs.Cursors.{IsPlaced};
+ghost use Rattle.shared_calls.specs.Rules.{IsNext};
 ghost use Rattle.syscall_core.specs.Kernel.{kernel_state};
 
-use crate::lists::{CallList, Known};
+use crate::cursors::Cursor;
+use crate::lists::CallList;
 use crate::playing::answer_all;
 use crate::rules::{Entry, Prefix};
 use base::{Limits, Meter, NoMemory, ObjectId};
@@ -21,13 +22,12 @@ use kernel_rules::Tables;
 use std::alloc::Global;
 use syscall_core::Kernel;
 
-/// The events of a beginning of the list, and a kernel in the state that they lead to.
+/// The events of batches, and a kernel in the state that they lead to.
 #[derive(Drop)]
 pub(crate) struct Journal {
     pub(crate) kernel: Kernel,
     pub(crate) meter: Meter,
     pub(crate) events: Vec<Event>,
-    pub(crate) seen: Prefix,
 }
 
 /// The number of a thread's next event.
@@ -47,12 +47,11 @@ fn next_number(events: &[Event], thread: ObjectId) -> u64
 }
 
 /// A journal of no event. The error is want of memory.
-fn empty_journal(alloc: Global, list: &CallList) -> Result<Journal, NoMemory>
-    ensures journal { IfOk result (IsJournal list.now.limits list.now.start.book) }
-    ensures empty { IfOk result (λ journal. journal.seen.log ≡ []) }
-    ensures range { OnOk result (in_range list.now.limits ≡ true) }
+fn empty_journal(alloc: Global, limits: &Limits) -> Result<Journal, NoMemory>
+    ensures journal { IfOk result (IsJournal limits.now []) }
+    ensures range { OnOk result (in_range limits.now ≡ true) }
 {
-    let Ok(kernel) = Kernel::boot(alloc, &list.limits) else {
+    let Ok(kernel) = Kernel::boot(alloc, limits) else {
         return Err(NoMemory);
     };
     let meter = Meter::new(alloc)?;
@@ -60,22 +59,20 @@ fn empty_journal(alloc: Global, list: &CallList) -> Result<Journal, NoMemory>
         kernel,
         meter,
         events: Vec::new(alloc),
-        seen: list.start.again(),
     })
 }
 
-/// Adds the next batch to a journal, as an event. The error is want of memory.
+/// Adds the batch that comes after these to their journal, as an event. The error is want of memory.
 fn add_event(
     alloc: Global,
     list: &CallList,
+    seen: &Prefix,
     journal: &mut Journal,
     entry: &Entry,
 ) -> Result<(), NoMemory>
-    requires journal { IsJournal list.now.limits list.now.start.book journal.old }
-    requires book { entry.now.seen.book ≡ list.now.start.book }
-    requires next { IsNext journal.old.seen.log entry.now }
-    ensures journal { OnOk result (IsJournal list.now.limits list.now.start.book journal.new) }
-    ensures count { OnOk result (length journal.new.seen.log ≡ length journal.old.seen.log + 1) }
+    requires journal { IsJournal list.now.limits seen.now.log journal.old }
+    requires next { IsNext seen.now.log entry.now }
+    ensures { OnOk result (IsJournal list.now.limits entry.now.seen.log journal.new) }
 {
     let number = next_number(journal.events.as_slice(), entry.thread);
     journal.events.reserve(1)?;
@@ -85,29 +82,71 @@ fn add_event(
         number,
         calls,
     });
-    journal.seen = entry.seen.again();
     Ok(())
 }
 
-/// The journal of what is known of the list. An error is want of memory.
-fn journal_of(alloc: Global, list: &CallList, known: &Known) -> Result<Journal, NoMemory>
-    requires { IsKnown list.now.start.book known.now }
-    ensures journal { IfOk result (IsJournal list.now.limits list.now.start.book) }
-    ensures same { IfOk result (λ journal. journal.seen.log ≡ known.now.seen.log) }
-    ensures range { OnOk result (in_range list.now.limits ≡ true) }
+/// Adds the next batch of the list to the journal of those that were seen. The error is want of memory.
+fn add_next(
+    alloc: Global,
+    list: &CallList,
+    cursor: &mut Cursor,
+    journal: &mut Journal,
+) -> Result<(), NoMemory>
+    requires placed { IsPlaced cursor.old }
+    requires list { cursor.old.seen.book ≡ list.now.start.book }
+    requires journal { IsJournal list.now.limits cursor.old.seen.log journal.old }
+    ensures placed { OnOk result (IsPlaced cursor.new) }
+    ensures list { OnOk result (cursor.new.seen.book ≡ list.now.start.book) }
+    ensures journal { OnOk result (IsJournal list.now.limits cursor.new.seen.log journal.new) }
+    ensures count { OnOk result (length cursor.new.seen.log ≡ length cursor.old.seen.log + 1) }
 {
-    let mut journal = empty_journal(alloc, list)?;
-    let mut count = 0;
-    while count < known.count {
-        let Some(entry) = list.next(&journal.seen, count) else {
-            return Err(NoMemory);
-        };
-        add_event(alloc, list, &mut journal, entry)?;
-        count += 1;
+    if !list.reach(cursor) {
+        return Err(NoMemory);
+    }
+    let Some(next) = cursor.block.next(cursor.at, &cursor.seen) else {
+        return Err(NoMemory);
+    };
+    add_event(alloc, list, &cursor.seen, journal, next)?;
+    let seen = next.seen.again();
+    cursor.step(seen);
+    Ok(())
+}
+
+/// Adds what was seen of a list with a log to a journal of no event. An error is want of memory.
+fn add_all(
+    alloc: Global,
+    list: &CallList,
+    known: &Cursor,
+    journal: &mut Journal,
+) -> Result<(), NoMemory>
+    requires placed { IsPlaced known.now }
+    requires list { known.now.seen.book ≡ list.now.start.book }
+    requires journal { IsJournal list.now.limits [] journal.old }
+    ensures { OnOk result (IsJournal list.now.limits known.now.seen.log journal.new) }
+{
+    let Some(mut cursor) = list.beginning() else {
+        return Err(NoMemory);
+    };
+    while cursor.count < known.count {
+        add_next(alloc, list, &mut cursor, journal)?;
     }
     let mut both = known.seen.again();
-    both.learn(&journal.seen);
-    Ok(journal)
+    both.learn(&cursor.seen);
+    Ok(())
+}
+
+/// The journal of what was seen of a list with a log. An error is want of memory.
+fn journal_of(alloc: Global, list: &CallList, known: &Cursor) -> Result<Journal, NoMemory>
+    requires placed { IsPlaced known.now }
+    requires list { known.now.seen.book ≡ list.now.start.book }
+    ensures journal { IfOk result (IsJournal list.now.limits known.now.seen.log) }
+    ensures range { OnOk result (in_range list.now.limits ≡ true) }
+{
+    let mut journal = empty_journal(alloc, &list.limits)?;
+    match add_all(alloc, list, known, &mut journal) {
+        Ok(()) => Ok(journal),
+        Err(error) => Err(error),
+    }
 }
 
 /// The text of the dump of events after a boot with these limits, with the tables of the state that they lead to. Want of memory is
@@ -134,9 +173,14 @@ fn text_of(
     )
 }
 
-/// The text of the dump of what is known of the list, which an audit finds clean. An error is want of memory.
-pub(crate) fn dump_known(alloc: Global, list: &CallList, known: &Known) -> Result<Vec<u8>, NoMemory>
-    requires { IsKnown list.now.start.book known.now }
+/// The text of the dump of what was seen of a list with a log, which an audit finds clean. An error is want of memory.
+pub(crate) fn dump_known(
+    alloc: Global,
+    list: &CallList,
+    known: &Cursor,
+) -> Result<Vec<u8>, NoMemory>
+    requires placed { IsPlaced known.now }
+    requires list { known.now.seen.book ≡ list.now.start.book }
     ensures text { IfOk result (λ text. text.items ≡ dump_text
         (boot_dump list.now.limits (events_of list.now.limits known.now.seen.log))) }
     ensures legal { IfOk result (λ text. IsBootDump list.now.limits text.items) }
@@ -147,7 +191,6 @@ pub(crate) fn dump_known(alloc: Global, list: &CallList, known: &Known) -> Resul
         kernel,
         mut meter,
         events,
-        seen: _,
     } = journal;
     let tables = kernel.tables(&mut meter)?;
     let text = text_of(alloc, &list.limits, events, tables)?;

@@ -7,11 +7,17 @@
 //! so a batch that is refused is in nobody's list. What a seat has seen can be dumped as a legal history.
 #![tactic(auto)]
 
+mod blocks;
+mod chairs;
+mod cursors;
+mod directory;
 mod journals;
 mod lists;
 mod playing;
-mod rows;
+mod refusals;
 mod rules;
 mod seats;
+mod standing;
 
-pub use seats::{Seat, Shared, SubmitRefusal};
+pub use refusals::{DumpRefusal, SeatRefusal, SubmitRefusal};
+pub use seats::Seat;

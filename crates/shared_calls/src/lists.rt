@@ -1,35 +1,36 @@
 //! The list of calls.
-ghost use Rattle.std.specs.Prelude.{◌≡◌, ◌+◌, ◌<◌, ◌^◌, ◌++◌, ◌∷◌, [], IfOk, IfSome, IfNone, IsErrOf, OnOk, OnErr, length, true};
-ghost use Rattle.boxcar.specs.Table.{Tagged};
+ghost use Rattle.std.specs.Prelude.{◌≡◌, ◌+◌, ◌<◌, ◌^◌, ◌++◌, ◌∷◌, [], IfOk, IfSome, IfNone, IsErrOf, IsTrue, OnOk, OnErr, length, true};
 ghost use Rattle.logbook.specs.Pages.{may_write};
 ghost use Rattle.histories.specs.History.{is_batch};
-ghost use Rattle.shared_calls.specs.Names.{name_of};
-ghost use Rattle.shared_calls.specs.Knowledge.{IsKnown, IsNew, IsNext};
+ghost use Rattle.shared_calls.specs.Cursors.{IsPlaced};
+ghost use Rattle.shared_calls.specs.Knowledge.{IsKnown};
 ghost use Rattle.shared_calls.specs.Lists.{AreMarked, IsSource, Lacks, head_of, made, source_of, word_of};
 
-use crate::rows::{PLACES, locate, new_row, no_rows};
-use crate::rules::{
-    Add, Asked, Draw, Entry, InRow, Law, Look, Made, Marked, Nothing, Place, Prefix, Row, Tracked,
-};
-use crate::seats::SubmitRefusal;
+use crate::blocks::PLACES;
+use crate::cursors::Cursor;
+use crate::directory::Directory;
+use crate::refusals::SubmitRefusal;
+use crate::rules::{Add, Asked, Draw, Entry, Law, Look, Made, Marked, Nothing, Prefix, Tracked};
+use crate::standing::Standing;
 use base::{Limits, NoMemory};
-use boxcar::slot::OnceSlot;
 use kept_events::KeptCall;
 use logbook::{Offer, Pen, Seen, Start, Word};
 use std::alloc::Global;
 
-/// The one list of the batches of all seats. Nothing is taken out of it. Threads share it.
+/// The one list of the batches of all seats. Threads share it. A block that all its seats have passed is given back, unless the list
+/// has a log.
 #[derive(Drop)]
 pub(crate) struct CallList {
     pub(crate) head: Tracked,
     pub(crate) source: Tracked,
-    pub(crate) rows: Vec<OnceSlot<Row, InRow>>,
+    pub(crate) directory: Directory,
+    pub(crate) standing: Standing,
     pub(crate) limits: Limits,
-    pub(crate) most: usize,
+    pub(crate) is_logged: bool,
     pub(crate) start: Prefix,
     pub(crate) ghost headed: { head ≡ head_of start.book },
     pub(crate) ghost sourced: { source ≡ source_of start.book },
-    pub(crate) ghost named: { Tagged (name_of start.book) 0 58 rows.items },
+    pub(crate) ghost own: { directory.start.book ≡ start.book },
     pub(crate) ghost empty: { start.log ≡ [] },
 }
 
@@ -37,10 +38,8 @@ pub(crate) struct CallList {
 /// the seat has the right to it.
 #[derive(Drop)]
 pub(crate) struct Known {
-    /// How many batches the seat has seen.
-    pub(crate) count: usize,
-    /// These batches.
-    pub(crate) seen: Prefix,
+    /// How far the seat has seen the list.
+    pub(crate) cursor: Cursor,
     /// The word of the mark, which is not at home.
     pub(crate) word: Tracked,
     /// The right to bring it home.
@@ -68,111 +67,103 @@ impl Known {
     fn renew(&mut self, next: Prefix)
         requires word { self.old.word ≡ word_of next.book self.old.word.key }
         requires source { IsSource self.old.word.key next.log }
-        requires count { self.old.count + 1 ≡ length next.log }
-        requires room { self.old.count + 1 < 2 ^ 64 }
+        requires placed { IsPlaced self.old.cursor }
+        requires within { self.old.cursor.at < 256 }
+        requires list { next.book ≡ self.old.cursor.seen.book }
+        requires count { length next.log ≡ length self.old.cursor.seen.log + 1 }
         ensures known { IsKnown next.book self.new }
-        ensures seen { self.new.seen ≡ next }
+        ensures seen { self.new.cursor.seen ≡ next }
     {
         let (word, pen) = draw(&self.word, &next);
-        self.count += 1;
-        self.seen = next;
+        self.cursor.step(next);
         self.word = word;
         self.pen = pen;
     }
 }
 
 impl CallList {
-    /// An empty list, of calls to a kernel with these limits, for at most so many batches. The error is want of memory.
-    pub(crate) fn new(alloc: Global, limits: &Limits, most: usize) -> Result<CallList, NoMemory>
-        ensures { IfOk result (λ list. list.limits ≡ limits.now) }
+    /// An empty list, of calls to a kernel with these limits. A seat may lack so many batches of it; with a log it may have so many.
+    /// The error is want of memory.
+    pub(crate) fn new(
+        alloc: Global,
+        limits: &Limits,
+        most: usize,
+        is_logged: bool,
+    ) -> Result<CallList, NoMemory>
+        ensures limits { IfOk result (λ list. list.limits ≡ limits.now) }
+        ensures log { IfOk result (λ list. list.is_logged ≡ is_logged) }
     {
         let (start, mut first, mut second) = Seen::open(Start::alone(), 0, 0);
         let head = Word::tracked(0, &mut first);
         let source = Word::tracked(0, &mut second);
-        let rows = no_rows(alloc, &start)?;
+        let directory = Directory::new(alloc, &start, most)?;
+        let standing = Standing::new(alloc)?;
         Ok(CallList {
             head,
             source,
-            rows,
+            directory,
+            standing,
             limits: *limits,
-            most,
+            is_logged,
             start,
         })
     }
 
-    /// What a seat knows that has seen nothing.
-    pub(crate) fn nothing_seen(&self) -> Known
-        ensures { IsNew self.now.start.book result }
+    /// Before the first batch. None where the first block is not laid.
+    pub(crate) fn beginning(&self) -> Option<Cursor>
+        ensures placed { IfSome result (λ cursor. IsPlaced cursor) }
+        ensures seen { IfSome result (λ cursor. cursor.seen ≡ self.now.start) }
     {
-        let seen = self.start.again();
-        let (word, pen) = draw(&self.source, &seen);
-        Known {
+        let block = self.directory.find(0)?;
+        Some(Cursor {
             count: 0,
-            seen,
-            word,
-            pen,
-        }
+            seen: self.start.again(),
+            block,
+            at: 0,
+        })
     }
 
-    /// The place of the batch of this number, from 0, where its row is laid.
-    fn place(&self, batch: usize) -> Option<&Place>
-        ensures { IfSome result (λ place. (place.now.tag ≡ (batch + 32) ∷ name_of self.now.start.book)
-            × (batch + 1 < 2 ^ 64)) }
+    /// What a seat knows that has seen so far.
+    pub(crate) fn known_at(&self, cursor: Cursor) -> Known
+        requires placed { IsPlaced cursor }
+        requires list { cursor.seen.book ≡ self.now.start.book }
+        ensures known { IsKnown self.now.start.book result }
+        ensures seen { result.cursor.seen ≡ cursor.seen }
     {
-        if batch >= PLACES {
-            return None;
-        }
-        let (row, at) = locate(batch);
-        let places = self.rows[row].get()?;
-        Some(&places[at])
+        let (word, pen) = draw(&self.source, &cursor.seen);
+        Known { cursor, word, pen }
     }
 
-    /// Lays the row of that batch. Where another seat has laid it since, this one goes.
+    /// Lays the block of this number where it does not stand, and gives back those that all seats have passed. The error is `Full`
+    /// where there is no room for it, `Memory`, or `Busy` where another seat is about it.
     #[cold]
-    fn lay(&self, alloc: Global, batch: usize) -> Result<(), SubmitRefusal>
+    pub(crate) fn lay(&self, alloc: Global, number: usize) -> Result<(), SubmitRefusal>
         ensures { IsErrOf result SubmitRefusal.BadBatch → ⊥ }
     {
-        if batch >= PLACES {
-            return Err(SubmitRefusal::Full);
-        }
-        let (row, _at) = locate(batch);
-        let places = new_row(alloc, &self.start, row)?;
-        drop(self.rows[row].set_written(places));
-        Ok(())
-    }
-
-    /// The place of the batch of this number, whose row is laid where it was not. The error is `Full` where the list has no room,
-    /// `Memory`, or `Busy` where another seat is laying the row.
-    fn room(&self, alloc: Global, batch: usize) -> Result<&Place, SubmitRefusal>
-        ensures tag { IfOk result (λ place. place.now.tag ≡ (batch + 32) ∷ name_of self.now.start.book) }
-        ensures room { OnOk result (batch + 1 < 2 ^ 64) }
-        ensures good { IsErrOf result SubmitRefusal.BadBatch → ⊥ }
-    {
-        if batch >= self.most {
-            return Err(SubmitRefusal::Full);
-        }
-        if let Some(place) = self.place(batch) {
-            return Ok(place);
-        }
-        self.lay(alloc, batch)?;
-        match self.place(batch) {
-            Some(place) => Ok(place),
-            None => Err(SubmitRefusal::Busy),
+        let is_known = self.is_logged || self.directory.give_back(&self.standing);
+        match self.directory.lay(alloc, number) {
+            Err(SubmitRefusal::Full) if !is_known => Err(SubmitRefusal::Busy),
+            laid => laid,
         }
     }
 
-    /// What stands next in the list, after what was seen of it.
-    pub(crate) fn next(&self, seen: &Prefix, count: usize) -> Option<&Entry>
-        requires book { seen.now.book ≡ self.now.start.book }
-        requires count { count ≡ length seen.now.log }
-        ensures book { IfSome result (λ next. next.now.seen.book ≡ seen.now.book) }
-        ensures log { IfSome result (λ next. IsNext seen.now.log next.now) }
-        ensures room { IfSome result (λ next. count + 1 < 2 ^ 64) }
+    /// Goes on to the next block where its own was seen to the end and that is laid, and tells whether the next place is in its block.
+    pub(crate) fn reach(&self, cursor: &mut Cursor) -> bool
+        requires placed { IsPlaced cursor.old }
+        requires list { cursor.old.seen.book ≡ self.now.start.book }
+        ensures placed { IsPlaced cursor.new }
+        ensures seen { cursor.new.seen ≡ cursor.old.seen }
+        ensures within { IsTrue result → cursor.new.at < 256 }
     {
-        let next = self.place(count)?.get()?;
-        let mut both = seen.again();
-        both.learn(&next.seen);
-        Some(next)
+        if cursor.at < PLACES {
+            return true;
+        }
+        let Some(block) = self.directory.find(cursor.block.number + 1) else {
+            return false;
+        };
+        cursor.block = block;
+        cursor.at = 0;
+        true
     }
 
     /// Adds a batch to what is known of the list, where that is all of it, and gives the list with it: the right to its mark is used
@@ -180,15 +171,15 @@ impl CallList {
     fn exchange(&self, known: &mut Known, asked: &Asked<'_>) -> Option<Prefix>
         requires known { IsKnown self.now.start.book known.old }
         requires size { is_batch (asked.now.call.now ∷ asked.now.more.now) ≡ true }
-        requires room { known.old.count + 1 < 2 ^ 64 }
+        requires room { known.old.cursor.count + 1 < 2 ^ 64 }
         ensures rest { known.new ≡ record known.old { pen = known.new.pen } }
         ensures book { IfSome result (λ next. next.book ≡ self.now.start.book) }
-        ensures log { IfSome result (λ next. next.log ≡ known.old.seen.log
+        ensures log { IfSome result (λ next. next.log ≡ known.old.cursor.seen.log
             ++ made known.old.pen.nib.key asked.now.thread (asked.now.call.now ∷ asked.now.more.now) ∷ []) }
         ensures none { IfNone result
             ((known.new.pen.book ≡ known.old.pen.book) × (known.new.pen.nib ≡ known.old.pen.nib)) }
     {
-        let mut next = known.seen.again();
+        let mut next = known.cursor.seen.again();
         let marked = Marked {
             asked,
             pen: &known.pen,
@@ -196,7 +187,7 @@ impl CallList {
         let mut offer: Offer<Made, u64, Law, Nothing> = next.plain::<Nothing, Marked<'_>, Add>(
             &marked,
         );
-        let count = known.count as u64;
+        let count = known.cursor.count as u64;
         let found = self
             .head
             .compare_exchange::<Add, Nothing>(
@@ -212,12 +203,10 @@ impl CallList {
         None
     }
 
-    /// Adds a batch to what is known of the list, where that is all of it. It has the mark that was kept for it, and another mark is
-    /// drawn. The error is `Full` where there is no room, `Memory`, and `Busy` where the list is longer: nothing is added then, and
-    /// the mark is kept.
+    /// Adds a batch to what is known of the list, where that is all of it and the place is in the block. It has the mark that was kept
+    /// for it, and another mark is drawn. The error is `Busy`, where the list is longer: nothing is added then, and the mark is kept.
     pub(crate) fn add(
         &self,
-        alloc: Global,
         known: &mut Known,
         asked: &Asked<'_>,
         call: KeptCall,
@@ -226,14 +215,14 @@ impl CallList {
         requires known { IsKnown self.now.start.book known.old }
         requires size { is_batch (asked.now.call.now ∷ asked.now.more.now) ≡ true }
         requires kept { call ∷ more.items ≡ asked.now.call.now ∷ asked.now.more.now }
+        requires within { known.old.cursor.at < 256 }
         ensures known { IsKnown self.now.start.book known.new }
-        ensures log { OnOk result (known.new.seen.log ≡ known.old.seen.log
+        ensures log { OnOk result (known.new.cursor.seen.log ≡ known.old.cursor.seen.log
             ++ made known.old.pen.nib.key asked.now.thread (asked.now.call.now ∷ asked.now.more.now) ∷ []) }
-        ensures seen { OnErr result (known.new.seen ≡ known.old.seen) }
+        ensures seen { OnErr result (known.new.cursor.seen ≡ known.old.cursor.seen) }
         ensures mark { OnErr result (known.new.pen.nib ≡ known.old.pen.nib) }
         ensures good { IsErrOf result SubmitRefusal.BadBatch → ⊥ }
     {
-        let place = self.room(alloc, known.count)?;
         let Some(next) = self.exchange(known, asked) else {
             return Err(SubmitRefusal::Busy);
         };
@@ -243,7 +232,7 @@ impl CallList {
             more,
             seen: next.again(),
         };
-        drop(place.set_written(entry));
+        drop(known.cursor.block.places[known.cursor.at].set_written(entry));
         known.renew(next);
         Ok(())
     }

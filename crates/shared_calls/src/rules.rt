@@ -145,19 +145,7 @@ impl SlotRule<Entry> for InPlace {
 /// A place of the list.
 pub(crate) type Place = OnceSlot<Entry, InPlace>;
 
-/// The places of a row, one after another.
-pub(crate) type Row = Vec<Place>;
-
-/// What stands where a row is laid is a row of that number.
-pub(crate) struct InRow;
-
-impl SlotRule<Row> for InRow {
-    ghost use Rattle.boxcar.specs.Table.{Tagged, first, others, span};
-
-    ghost holds = { λ tag row. Tagged (others tag) (span (first tag)) (span (first tag)) row.items };
-}
-
-/// A number, of a row or of a place, in a list.
+/// A number of a place in a list.
 #[derive(Drop)]
 pub(crate) struct Numbered<'a> {
     /// The number.
@@ -175,7 +163,7 @@ impl<'a> Names<Numbered<'a>> for Named {
     ghost numbers = { λ p. p.number ∷ name_of p.seen.now.book };
 }
 
-/// What names a row or a place.
+/// What names a place.
 pub(crate) fn tag_at(number: usize, seen: &Prefix) -> Tag
     ensures { result.numbers ≡ number ∷ name_of seen.now.book }
 {

@@ -1,21 +1,24 @@
 //! A place at a kernel that threads share.
-ghost use Rattle.std.specs.Prelude.{◌≡◌, ◌↔◌, ◌+◌, ◌++◌, ◌∷◌, [], IfOk, OnOk, OnErr, IsErrOf, IsTrue, length, false, MatchBool};
+ghost use Rattle.std.specs.Prelude.{◌≡◌, ◌↔◌, ◌+◌, ◌++◌, ◌∷◌, [], IfOk, IfSome, OnOk, OnErr, IsErrOf, IsTrue, length, false, MatchBool};
 ghost use Rattle.std.specs.Arc.{arc_value};
 ghost use mathlib.Core.List.{IsPrefix};
 ghost use Rattle.dump_text.specs.Boot.{boot_dump, IsBootDump};
 ghost use Rattle.dump_text.specs.Dump.{dump_text};
 ghost use Rattle.histories.specs.History.{is_batch};
 ghost use Rattle.kernel_rules.specs.Runs.{booted};
+ghost use Rattle.shared_calls.specs.Cursors.{IsPlaced};
 ghost use Rattle.shared_calls.specs.Events.{events_of};
+ghost use Rattle.shared_calls.specs.Knowledge.{IsKnown};
 ghost use Rattle.shared_calls.specs.Lists.{AreMarked, Lacks};
-ghost use Rattle.shared_calls.specs.Seats.{Has, IsBatchSubmitted, IsLater, IsLearned, IsOpened, IsRead, IsSubmitted, seat_with};
-ghost use Rattle.shared_calls.specs.declared.seats.SubmitRefusal.TheVariants.{Memory};
+ghost use Rattle.shared_calls.specs.Seats.{Has, IsBatchSubmitted, IsBeside, IsFirst, IsLater, IsLearned, IsRead, IsSubmitted, seat_with};
 ghost use Rattle.syscall_core.specs.Kernel.{kernel_state};
 
+use crate::chairs::Chair;
+use crate::cursors::Cursor;
 use crate::journals::dump_known;
 use crate::lists::{CallList, Known};
 use crate::playing::{batch_of, kept_calls, make_all, play, replies_room};
-use crate::rows::PLACES;
+use crate::refusals::{DumpRefusal, SeatRefusal, SubmitRefusal};
 use crate::rules::Asked;
 use base::{Limits, Meter, NoMemory, ObjectId};
 use kept_events::KeptCall;
@@ -24,65 +27,13 @@ use std::alloc::Global;
 use std::marker::Model;
 use std::sync::Arc;
 use syscall_core::Kernel;
-use thiserror::Error;
 
-/// Why a batch is not submitted. It is not in the list then.
-#[derive(Clone, Copy, PartialEq, Eq, Debug, Error)]
-pub enum SubmitRefusal {
-    /// There was no memory.
-    #[error("out of memory")]
-    Memory,
-    /// There are no calls, or more than 16.
-    #[error("bad batch")]
-    BadBatch,
-    /// Another seat adds a batch at this moment.
-    #[error("busy")]
-    Busy,
-    /// The list has as many batches as it may have.
-    #[error("list full")]
-    Full,
-}
-
-impl From<NoMemory> for SubmitRefusal {
-    ghost from_gives = { λ _ refusal. refusal ≡ Memory };
-
-    fn from(_: NoMemory) -> SubmitRefusal {
-        SubmitRefusal::Memory
-    }
-}
-
-/// A kernel that threads share. A contract sees the limits of its boot, and which list its calls stand in.
-#[derive(Drop)]
-pub struct Shared {
-    pub(crate) list: Arc<CallList>,
-}
-
-impl Model for Shared {
-    ghost use Rattle.std.specs.Arc.{arc_value};
-    ghost use Rattle.shared_calls.specs.Seats.{SharedView, shared_with};
-
-    ghost Value = { SharedView };
-
-    ghost view = { λ s. shared_with (arc_value s.list).limits (arc_value s.list).start.book };
-}
-
-impl Shared {
-    /// A kernel that is to be booted with these limits, whose list may have so many batches. The error is want of memory.
-    pub fn new(alloc: Global, limits: &Limits, most: usize) -> Result<Shared, NoMemory>
-        ensures { IfOk result (λ shared. shared.limits ≡ limits.now) }
-    {
-        let list = CallList::new(alloc, limits, most)?;
-        let list = Arc::new(alloc, list)?;
-        Ok(Shared { list })
-    }
-}
-
-/// A place at a kernel that threads share: one thread at a time calls and reads through it. A contract sees which list it is of,
-/// the beginning of the list that it has seen, and the mark of its next batch. Its own kernel is in the state that the calls of
-/// that beginning lead to.
+/// A place at a kernel that threads share: one thread at a time calls and reads through it. A contract sees the limits of the
+/// kernel's boot, which list its calls stand in and whether that has a log, the beginning of the list that the seat has seen, and the
+/// mark of its next batch. Its own kernel is in the state that the calls of that beginning lead to.
 #[derive(Drop)]
 pub struct Seat {
-    list: Arc<CallList>,
+    chair: Chair,
     kernel: Kernel,
     meter: Meter,
     reply: Reply,
@@ -98,30 +49,112 @@ impl Model for Seat {
 
     ghost Value = { SeatView };
 
-    ghost view = { λ s. seat_with (arc_value s.list).limits (arc_value s.list).start.book s.known.seen.log s.known.pen.nib.key };
+    ghost view = { λ s. seat_with (arc_value s.chair.list).limits (arc_value s.chair.list).start.book (arc_value s.chair.list).is_logged
+        s.known.cursor.seen.log s.known.pen.nib.key };
 
-    ghost invariant = { λ s. IsKnown (arc_value s.list).start.book s.known
-        × (kernel_state s.kernel ≡ state_of (arc_value s.list).limits s.known.seen.log) };
+    ghost invariant = { λ s. IsKnown (arc_value s.chair.list).start.book s.known
+        × (kernel_state s.kernel ≡ state_of (arc_value s.chair.list).limits s.known.cursor.seen.log) };
+}
+
+/// A chair for a seat that has seen a list so far, and what it knows then. None where the list has as many seats as it may have.
+fn taken(list: Arc<CallList>, cursor: Cursor) -> Option<(Chair, Known)>
+    requires placed { IsPlaced cursor }
+    requires list { cursor.seen.book ≡ (arc_value list).start.book }
+    ensures list { IfSome result (λ it. it.0.list ≡ list) }
+    ensures known { IfSome result (λ it. IsKnown (arc_value list).start.book it.1) }
+    ensures seen { IfSome result (λ it. it.1.cursor.seen ≡ cursor.seen) }
+{
+    let number = cursor.block.number;
+    let known = list.known_at(cursor);
+    let chair = Chair::new(list, number)?;
+    Some((chair, known))
+}
+
+/// The same of a new list, whose first block is laid. The error is want of memory.
+fn first_chair(
+    alloc: Global,
+    limits: &Limits,
+    most: usize,
+    is_logged: bool,
+) -> Result<(Chair, Known), NoMemory>
+    ensures limits { IfOk result (λ it. (arc_value it.0.list).limits ≡ limits.now) }
+    ensures log { IfOk result (λ it. (arc_value it.0.list).is_logged ≡ is_logged) }
+    ensures known { IfOk result (λ it. IsKnown (arc_value it.0.list).start.book it.1) }
+    ensures seen { IfOk result (λ it. it.1.cursor.seen.log ≡ []) }
+{
+    let list = CallList::new(alloc, limits, most, is_logged)?;
+    let list = Arc::new(alloc, list)?;
+    let Ok(()) = list.lay(alloc, 0) else {
+        return Err(NoMemory);
+    };
+    let Some(cursor) = list.beginning() else {
+        return Err(NoMemory);
+    };
+    match taken(list, cursor) {
+        Some(it) => Ok(it),
+        None => Err(NoMemory),
+    }
+}
+
+/// The same of the list of a seat, for another that has seen as much. The error is `TooMany` where the list has as many seats as it may
+/// have, or want of memory.
+fn chair_beside(chair: &Chair, known: &Known) -> Result<(Chair, Known), SeatRefusal>
+    requires { IsKnown (arc_value chair.now.list).start.book known.now }
+    ensures list { IfOk result (λ it. arc_value it.0.list ≡ arc_value chair.now.list) }
+    ensures known { IfOk result (λ it. IsKnown (arc_value chair.now.list).start.book it.1) }
+    ensures seen { IfOk result (λ it. it.1.cursor.seen ≡ known.now.cursor.seen) }
+{
+    let cursor = known.cursor.again()?;
+    let list = chair.list_again()?;
+    match taken(list, cursor) {
+        Some(it) => Ok(it),
+        None => Err(SeatRefusal::TooMany),
+    }
 }
 
 impl Seat {
-    /// A seat that has seen no call yet. The error is want of memory.
-    pub fn open(alloc: Global, shared: &Shared) -> Result<Seat, NoMemory>
-        ensures { IfOk result (λ seat. IsOpened shared.now seat) }
+    /// The first seat of a kernel that is booted with these limits, and of its list. A seat of the list may lack so many batches, up to
+    /// 4,194,304; a list with a log may have so many. Both are rounded up to whole blocks of 256, and one more. The error is want of
+    /// memory.
+    pub fn first(
+        alloc: Global,
+        limits: &Limits,
+        most: usize,
+        is_logged: bool,
+    ) -> Result<Seat, NoMemory>
+        ensures { IfOk result (λ seat. IsFirst limits.now is_logged seat) }
     {
-        let list = Arc::try_clone(&shared.list)?;
-        let Ok(kernel) = Kernel::boot(alloc, &list.limits) else {
-            return Err(NoMemory);
-        };
+        let (chair, known) = first_chair(alloc, limits, most, is_logged)?;
         let meter = Meter::new(alloc)?;
-        let known = list.nothing_seen();
-        Ok(Seat {
-            list,
-            kernel,
-            meter,
-            reply: Reply::Done,
-            known,
-        })
+        match Kernel::boot(alloc, limits) {
+            Ok(kernel) => Ok(Seat {
+                chair,
+                kernel,
+                meter,
+                reply: Reply::Done,
+                known,
+            }),
+            Err(_) => Err(NoMemory),
+        }
+    }
+
+    /// Another seat of the same list, which has seen what this one has: its kernel is a copy of this one's. The error is `TooMany` where the
+    /// list has 4,096 seats, or want of memory.
+    pub fn beside(&self, alloc: Global) -> Result<Seat, SeatRefusal>
+        ensures { IfOk result (λ seat. IsBeside self.now seat) }
+    {
+        let (chair, known) = chair_beside(&self.chair, &self.known)?;
+        let meter = Meter::new(alloc)?;
+        match self.kernel.copy(alloc) {
+            Ok(kernel) => Ok(Seat {
+                chair,
+                kernel,
+                meter,
+                reply: Reply::Done,
+                known,
+            }),
+            Err(_) => Err(SeatRefusal::Memory),
+        }
     }
 
     /// Plays the next batch of the list, and tells whether there was one.
@@ -129,13 +162,16 @@ impl Seat {
     fn take_next(&mut self) -> bool
         ensures { IsLater self.old self.new }
     {
-        let list = &self.list;
-        let Some(next) = list.next(&self.known.seen, self.known.count) else {
+        if !self.chair.reach(&mut self.known.cursor) {
+            return false;
+        }
+        let cursor = &self.known.cursor;
+        let Some(next) = cursor.block.next(cursor.at, &cursor.seen) else {
             return false;
         };
         play(&mut self.kernel, next, &mut self.reply, &mut self.meter);
-        self.known.seen = next.seen.again();
-        self.known.count += 1;
+        let seen = next.seen.again();
+        self.known.cursor.step(seen);
         true
     }
 
@@ -144,7 +180,7 @@ impl Seat {
     pub fn catch_up(&mut self)
         ensures { IsLater self.old self.new }
     {
-        for _ in 0..PLACES {
+        for _ in 0..u64::MAX {
             if !self.take_next() {
                 return;
             }
@@ -155,7 +191,7 @@ impl Seat {
     pub fn count(&self) -> usize
         ensures { result ≡ length self.now.seen }
     {
-        self.known.count
+        self.known.cursor.count
     }
 
     /// Whether the seat has seen no fewer batches than another of the same list. Of the two beginnings of the list the shorter
@@ -164,9 +200,9 @@ impl Seat {
         requires { other.now.list ≡ self.now.list }
         ensures { Has result self.now.seen other.now.seen }
     {
-        let mut both = self.known.seen.again();
-        both.learn(&other.known.seen);
-        self.known.count >= other.known.count
+        let mut both = self.known.cursor.seen.again();
+        both.learn(&other.known.cursor.seen);
+        self.known.cursor.count >= other.known.cursor.count
     }
 
     /// Of two seats of one list: no batch that the other has seen has the mark of this seat's next batch. So what this seat was
@@ -177,7 +213,9 @@ impl Seat {
         ensures lacks { Lacks self.old.mark other.now.seen }
         ensures marked { AreMarked other.now.seen }
     {
-        self.list.look(&mut self.known, &other.known.seen);
+        self.chair
+            .list
+            .look(&mut self.known, &other.known.cursor.seen);
     }
 
     /// Plays all that stands in the list, and tells whether the seat has then seen so many batches: what a note of another seat of the
@@ -186,7 +224,7 @@ impl Seat {
         ensures { IsLearned count self.old result self.new }
     {
         self.catch_up();
-        self.known.count >= count
+        self.known.cursor.count >= count
     }
 
     /// Asks as a thread, in the state of what the seat has then seen. It waits for nobody and takes no memory.
@@ -218,8 +256,9 @@ impl Seat {
             call,
             more: &[],
         };
-        let list = &self.list;
-        list.add(alloc, &mut self.known, &asked, kept, Vec::new(alloc))?;
+        self.chair.room(alloc, &mut self.known.cursor)?;
+        let list = &self.chair.list;
+        list.add(&mut self.known, &asked, kept, Vec::new(alloc))?;
         self.kernel.step_into(thread, call, reply, &mut self.meter);
         Ok(())
     }
@@ -248,8 +287,9 @@ impl Seat {
         let mut replies = replies_room(alloc, calls)?;
         self.catch_up();
         let asked = Asked { thread, call, more };
-        let list = &self.list;
-        list.add(alloc, &mut self.known, &asked, kept, kept_more)?;
+        self.chair.room(alloc, &mut self.known.cursor)?;
+        let list = &self.chair.list;
+        list.add(&mut self.known, &asked, kept, kept_more)?;
         make_all(
             &mut self.kernel,
             &mut self.meter,
@@ -261,12 +301,19 @@ impl Seat {
     }
 
     /// The dump of what the seat has seen, as text: an event for each batch, with the answers of its calls. An audit finds it clean.
-    /// An error is want of memory.
-    pub fn dump(&self, alloc: Global) -> Result<Vec<u8>, NoMemory>
+    /// The error is `NoLog` exactly where the list has no log, and else want of memory.
+    pub fn dump(&self, alloc: Global) -> Result<Vec<u8>, DumpRefusal>
         ensures text { IfOk result (λ text. text.items ≡ dump_text
             (boot_dump self.now.limits (events_of self.now.limits self.now.seen))) }
         ensures legal { IfOk result (λ text. IsBootDump self.now.limits text.items) }
+        ensures log { IsErrOf result DumpRefusal.NoLog ↔ (self.now.is_logged ≡ false) }
     {
-        dump_known(alloc, &self.list, &self.known)
+        if !self.chair.list.is_logged {
+            return Err(DumpRefusal::NoLog);
+        }
+        match dump_known(alloc, &self.chair.list, &self.known.cursor) {
+            Ok(text) => Ok(text),
+            Err(_) => Err(DumpRefusal::Memory),
+        }
     }
 }

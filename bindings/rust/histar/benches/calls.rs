@@ -2,7 +2,7 @@
 #![allow(missing_docs)]
 #![allow(clippy::incompatible_msrv)] // black_box: the crate itself needs no more than Cargo.toml says
 use histar::trusted::Thread;
-use histar::{label, Call, Entry, Kernel, Mapping, Object, Rights, Shared};
+use histar::{label, Call, Entry, Kernel, Mapping, Object, Rights, Seat};
 use std::hint::black_box;
 use std::os::unix::fs::FileExt;
 use std::sync::Mutex;
@@ -86,15 +86,15 @@ fn main() {
     let under_lock = || seen(mutex.lock().expect("the lock").session().segment_read(entry, 128, 64).expect("a read"));
     least("segment_read of 64 bytes under a free Mutex", under_lock);
 
-    let all = Shared::boot(64, 2).expect("a shared kernel");
-    let first = all.seat().expect("a seat");
+    let first = Seat::share(64, 2).expect("a shared kernel");
     first.call(Thread::BOOT, &Call::CatCreate).expect("a category");
     let create = Call::SegmentCreate { container: Object::ROOT, label: (&guarded).into(), quota: 2, pages: 1 };
     first.call(Thread::BOOT, &create).expect("a segment");
     let read = Call::SegmentRead { entry, offset: 128, count: 64 };
+    let first = Mutex::new(first);
     two_threads("two threads that read, one Mutex", |measure| measure(&mut || under_lock()));
     two_threads("two threads that read, a seat each", |measure| {
-        let seat = all.seat().expect("a seat");
+        let seat = first.lock().expect("the lock").another().expect("a seat");
         measure(&mut || seen(seat.call(Thread::BOOT, &read).expect("a read")));
     });
 }

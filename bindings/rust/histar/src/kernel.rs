@@ -7,7 +7,7 @@ use crate::{Call, Limits, Refusal, Reply, Session};
 use crate::Refusal::*;
 
 /// A label kernel. It can be sent to another thread, and one thread at a time calls it: many threads
-/// [share](crate::Shared) one.
+/// [share](crate::Seat::share) one.
 ///
 /// ```
 /// fn can_be_sent<T: Send>() {}

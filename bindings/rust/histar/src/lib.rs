@@ -45,5 +45,5 @@ pub use label::{Label, Level, ParseLabelError};
 pub use refusal::{NoRefusal, Refusal};
 pub use reply::{Entered, Listed, Own, Quota, Reply};
 pub use session::Session;
-pub use shared::{Note, Seat, Shared};
+pub use shared::{Log, Note, Seat};
 pub use words::{Kinds, Limits, Mapping, Rights};

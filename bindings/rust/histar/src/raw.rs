@@ -86,7 +86,7 @@ impl Answer {
     };
 }
 
-/// The memory that a kernel, a shared kernel or a seat stands in, which only the library looks at.
+/// The memory that a kernel or a seat stands in, which only the library looks at.
 #[repr(C, align(16))]
 struct Room([u64; 384]);
 
@@ -94,20 +94,26 @@ impl Room {
     /// Room in which nothing is held.
     fn new() -> Box<Room> {
         // SAFETY: these functions look at nothing.
-        let needed = unsafe { histar_size().max(histar_seat_size()).max(histar_shared_size()) };
+        let needed = unsafe { histar_size().max(histar_seat_size()) };
         assert!(needed <= size_of::<Room>(), "the library needs a larger room than this crate gives");
         Box::new(Room([0; 384]))
     }
 }
 
 extern "C" {
-    fn histar_shared_size() -> usize;
     fn histar_seat_size() -> usize;
-    fn histar_shared_boot(pages: u32, device_level: u8, next_id: u64, next_category: u64, most: u64, shared: *mut Room);
-    fn histar_seat_boot(shared: *mut Room, seat: *mut Room);
+    fn histar_seat_first(
+        pages: u32,
+        device_level: u8,
+        next_id: u64,
+        next_category: u64,
+        most: u64,
+        logs: u8,
+        seat: *mut Room,
+    );
+    fn histar_seat_beside(from: *mut Room, seat: *mut Room);
     fn histar_seat_call(seat: *mut Room, request: *const Request, answer: *mut Answer) -> u32;
     fn histar_seat_end(seat: *mut Room);
-    fn histar_shared_end(shared: *mut Room);
     fn histar_size() -> usize;
     fn histar_version() -> u32;
     fn histar_boot(pages: u32, device_level: u8, next_id: u64, next_category: u64, room: *mut Room);
@@ -216,7 +222,7 @@ impl Raw {
     /// A kernel or a seat in a room that holds it, or why there is none: then the error is the number that tells why.
     ///
     /// # Safety
-    /// `histar_boot` or, for a seat, `histar_seat_boot` filled the room.
+    /// `histar_boot` or, for a seat, `histar_seat_first` or `histar_seat_beside` filled the room.
     unsafe fn of(room: Box<Room>, holds: Holds) -> Result<Raw, u32> {
         let raw = Raw {
             room: UnsafeCell::new(room),
@@ -241,6 +247,40 @@ impl Raw {
         unsafe {
             histar_boot(limits.pages, limits.device.number(), limits.next_id, limits.next_category, &mut *room);
             Raw::of(room, Holds::Kernel)
+        }
+    }
+
+    /// Boots the first seat of a kernel that threads share. The error is the number that tells why there is none.
+    pub fn first_seat(limits: &Limits, most: u64, logs: bool) -> Result<Raw, u32> {
+        check_version()?;
+        let mut room = Room::new();
+        // SAFETY: as for a kernel.
+        unsafe {
+            histar_seat_first(
+                limits.pages,
+                limits.device.number(),
+                limits.next_id,
+                limits.next_category,
+                most,
+                logs.into(),
+                &mut *room,
+            );
+            Raw::of(room, Holds::Seat)
+        }
+    }
+
+    /// Another seat beside one. The error is the number that tells why there is none.
+    pub fn seat_beside(&self) -> Result<Raw, u32> {
+        if self.holds != Holds::Seat {
+            return Err(BAD_BATCH);
+        }
+        let mut room = Room::new();
+        // SAFETY: this room holds a seat, and keeps it. A `Raw` is not `Sync` and no call is under way, for a call borrows the records
+        // for its length and calls nothing of this crate: so nobody else is at this room. The other room is as for a kernel.
+        unsafe {
+            let from: *mut Room = &mut **self.room.get();
+            histar_seat_beside(from, &mut *room);
+            Raw::of(room, Holds::Seat)
         }
     }
 
@@ -290,54 +330,5 @@ impl Drop for Raw {
         }
         wipe(&mut room.0);
         self.records.get_mut().request = Request::ZEROS;
-    }
-}
-
-/// A kernel that threads share.
-pub(crate) struct RawShared {
-    room: Box<Room>,
-    // Not `Sync`: one seat at a time is opened.
-    one_caller: PhantomData<*mut Room>,
-}
-
-// SAFETY: as for `Raw`. The library's proof has that what the room holds is `Send`.
-unsafe impl Send for RawShared {}
-
-impl RawShared {
-    /// A kernel to share, whose list may have so many batches. Why there is none is told by its first seat.
-    pub fn boot(limits: &Limits, most: u64) -> RawShared {
-        let mut room = Room::new();
-        // SAFETY: the room is its own and nothing is held in it yet. It is large enough and stands at a multiple of 16.
-        unsafe {
-            histar_shared_boot(
-                limits.pages,
-                limits.device.number(),
-                limits.next_id,
-                limits.next_category,
-                most,
-                &mut *room,
-            );
-        }
-        RawShared { room, one_caller: PhantomData }
-    }
-
-    /// A seat. The error is the number that tells why there is none.
-    pub fn seat(&mut self) -> Result<Raw, u32> {
-        check_version()?;
-        let mut room = Room::new();
-        // SAFETY: `boot` made this room hold what `histar_seat_boot` requires, which keeps it, and `&mut self` keeps every other call
-        // away. The seat's room is its own and nothing is held in it yet; from here on it holds a seat, or why there is none.
-        unsafe {
-            histar_seat_boot(&mut *self.room, &mut *room);
-            Raw::of(room, Holds::Seat)
-        }
-    }
-}
-
-impl Drop for RawShared {
-    fn drop(&mut self) {
-        // SAFETY: `boot` filled the room.
-        unsafe { histar_shared_end(&mut *self.room) }
-        wipe(&mut self.room.0);
     }
 }

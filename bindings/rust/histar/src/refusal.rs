@@ -56,7 +56,7 @@ pub enum Refusal {
     DeviceEmpty = 24,
     /// No id or category is left.
     Spent = 25,
-    /// There is no memory for a kernel or a seat.
+    /// There is no memory for a kernel or a seat, or the shared kernel has 4,096 seats.
     Unavailable = 30,
     /// A limit is out of its range.
     BadLimits = 31,
@@ -68,7 +68,7 @@ pub enum Refusal {
     BadBatch = 45,
     /// Another thread stands still in the middle of adding its call to the list of a shared kernel. The call may be made again.
     Busy = 46,
-    /// The list of a shared kernel has no room for the call.
+    /// A seat of the shared kernel lacks as many calls as it may lack, or the list has a log and as many as it may have.
     ListFull = 47,
     /// The note is of another shared kernel.
     OtherList = 48,

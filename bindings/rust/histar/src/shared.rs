@@ -1,42 +1,24 @@
 //! One kernel for many threads, with no lock: each thread has a seat.
 use crate::kernel::refusal;
-use crate::raw::{Answer, RawShared, Request};
+use crate::raw::{Answer, Raw, Request};
 use crate::trusted::Thread;
 use crate::{Call, Entry, Kernel, Limits, Refusal, Reply, Session};
 use std::sync::atomic::{AtomicU64, Ordering};
-use std::sync::{Mutex, PoisonError};
 
 #[cfg(doc)]
 use crate::Refusal::*;
 
-/// A kernel that threads share. Each thread opens a seat and calls through it, and all seats are in one state: each write call
-/// stands in one list, and a call through a seat first plays what others added to it since, on the seat's own kernel. No call takes a
-/// lock, and a read waits for nobody. That the calls are one history, and that each seat answers by the rules, is proved of the library.
-///
-/// ```
-/// use histar::{label, Entry, Object, Shared};
-///
-/// let shared = Shared::boot(64, 1000)?;
-/// let seat = shared.seat()?;
-/// let made = Entry::in_root(seat.session().segment_create(Object::ROOT, &label! { L1 }, 2, 1)?);
-/// let other = shared.seat()?;
-/// std::thread::spawn(move || other.session().segment_write(made, 0, b"mine")).join().unwrap()?;
-/// assert_eq!(seat.session().segment_read(made, 0, 4)?, b"mine");
-/// # Ok::<(), histar::Refusal>(())
-/// ```
-///
-/// ```
-/// fn can_be_shared<T: Send + Sync>() {}
-/// can_be_shared::<histar::Shared>();
-/// ```
-pub struct Shared {
-    // The lock is taken by the opening of a seat, and by no call.
-    raw: Mutex<RawShared>,
-    number: u64,
-}
-
 /// How many kernels were shared: each has a number of its own.
 static COUNT: AtomicU64 = AtomicU64::new(0);
+
+/// Whether the list of a shared kernel's write calls has a log.
+#[derive(Clone, Copy, PartialEq, Eq, Debug)]
+pub enum Log {
+    /// It gives back what all seats have seen, and has no dump.
+    None,
+    /// It keeps all write calls, so that seats have dumps.
+    Whole,
+}
 
 /// What a seat has seen, for another seat of the same kernel to [learn](Seat::learn).
 #[derive(Clone, Copy, PartialEq, Eq, Debug)]
@@ -45,7 +27,23 @@ pub struct Note {
     calls: u64,
 }
 
-/// One thread's seat at a [`Shared`] kernel. It keeps what it needs of the shared kernel, which may be dropped before it.
+/// One thread's seat at a kernel that threads share. Each thread calls through a seat of its own, and all seats are in one state: each
+/// write call stands in one list, and a call through a seat first plays what others added to it since, on the seat's own kernel. No call
+/// takes a lock, and a read waits for nobody. That the calls are one history, and that each seat answers by the rules, is proved of the
+/// library. The kernel is shared by its first seat, and [another](Seat::another) is opened beside any; it goes with the last.
+///
+/// The list gives back what all seats have seen, so a seat that makes no call keeps what it lacks.
+///
+/// ```
+/// use histar::{label, Entry, Object, Seat};
+///
+/// let seat = Seat::share(64, 1000)?;
+/// let made = Entry::in_root(seat.session().segment_create(Object::ROOT, &label! { L1 }, 2, 1)?);
+/// let other = seat.another()?;
+/// std::thread::spawn(move || other.session().segment_write(made, 0, b"mine")).join().unwrap()?;
+/// assert_eq!(seat.session().segment_read(made, 0, 4)?, b"mine");
+/// # Ok::<(), histar::Refusal>(())
+/// ```
 ///
 /// ```
 /// fn can_be_sent<T: Send + 'static>() {}
@@ -61,67 +59,64 @@ pub struct Seat {
     shared: u64,
 }
 
-impl Shared {
-    /// A kernel for threads to share, with all limits, whose list may have so many write calls, of which a batch counts as one:
-    /// `u64::MAX` for no bound. The list takes memory as it grows.
+impl Seat {
+    /// The first seat of a kernel for threads to share, with all limits. A seat may lack so many write calls, of which a batch counts as
+    /// one: at most 4,194,304, for which `u64::MAX` stands, rounded up to a multiple of 256, and 256 more. A list with a log may have so
+    /// many. The list takes memory as it grows.
     ///
     /// ```
-    /// use histar::{Limits, Refusal, Shared};
-    /// let shared = Shared::boot_with(&Limits { next_category: 7, ..Limits::pages(64) }, 1)?;
-    /// let seat = shared.seat()?;
+    /// use histar::{Limits, Log, Refusal, Seat};
+    /// let seat = Seat::share_with(&Limits { next_category: 7, ..Limits::pages(64) }, 1, Log::Whole)?;
     /// assert_eq!(seat.session().cat_create()?.0, 7);
-    /// assert_eq!(seat.session().cat_create(), Err(Refusal::ListFull));
+    /// assert!(seat.dump()?.contains("cat_create => cat #7"));
     /// # Ok::<(), histar::Refusal>(())
     /// ```
     ///
     /// # Errors
     /// [`BadLimits`] where a limit is out of its range, and [`Unavailable`] for want of memory.
-    pub fn boot_with(limits: &Limits, most: u64) -> Result<Shared, Refusal> {
-        let mut raw = RawShared::boot(limits, most);
-        raw.seat().map_err(refusal)?; // (a seat is tried: why there is none is told here)
-        Ok(Shared { raw: Mutex::new(raw), number: COUNT.fetch_add(1, Ordering::Relaxed) })
+    pub fn share_with(limits: &Limits, most: u64, log: Log) -> Result<Seat, Refusal> {
+        let raw = Raw::first_seat(limits, most, log == Log::Whole).map_err(refusal)?;
+        Ok(Seat { kernel: Kernel { raw }, shared: COUNT.fetch_add(1, Ordering::Relaxed) })
     }
 
-    /// The same, of so many pages of 256 bytes, 8 to 1,024, with the limits of a script.
+    /// The same, of so many pages of 256 bytes, 8 to 1,024, with the limits of a script, and no log.
     ///
     /// ```
-    /// use histar::{Refusal, Shared};
-    /// assert!(Shared::boot(8, 10)?.seat().is_ok());
-    /// assert_eq!(Shared::boot(7, 10).err(), Some(Refusal::BadLimits));
+    /// use histar::{Refusal, Seat};
+    /// assert!(Seat::share(8, 10).is_ok());
+    /// assert_eq!(Seat::share(7, 10).err(), Some(Refusal::BadLimits));
     /// # Ok::<(), histar::Refusal>(())
     /// ```
     ///
     /// # Errors
-    /// As [`boot_with`](Shared::boot_with).
-    pub fn boot(pages: u32, most: u64) -> Result<Shared, Refusal> {
-        Shared::boot_with(&Limits::pages(pages), most)
+    /// As [`share_with`](Seat::share_with).
+    pub fn share(pages: u32, most: u64) -> Result<Seat, Refusal> {
+        Seat::share_with(&Limits::pages(pages), most, Log::None)
     }
 
-    /// A seat, which has a kernel of its own. Its first call plays all calls of the list.
+    /// Another seat of the same kernel, for another thread. Its own kernel is a copy of this one's: it has seen what this one has, and no
+    /// call is played again.
     ///
     /// ```
-    /// use histar::{label, Shared};
-    /// let shared = Shared::boot(64, 10)?;
-    /// let c = shared.seat()?.session().cat_create()?;
-    /// assert_eq!(shared.seat()?.session().self_get()?.label, label! { c => Star; L1 });
+    /// use histar::{label, Seat};
+    /// let seat = Seat::share(64, 10)?;
+    /// let c = seat.session().cat_create()?;
+    /// assert_eq!(seat.another()?.session().self_get()?.label, label! { c => Star; L1 });
     /// # Ok::<(), histar::Refusal>(())
     /// ```
     ///
     /// # Errors
-    /// [`Unavailable`] for want of memory.
-    pub fn seat(&self) -> Result<Seat, Refusal> {
-        // (a panic with the lock leaves the shared kernel as it was)
-        let mut raw = self.raw.lock().unwrap_or_else(PoisonError::into_inner);
-        raw.seat().map(|raw| Seat { kernel: Kernel { raw }, shared: self.number }).map_err(refusal)
+    /// [`Unavailable`] for want of memory, and where the kernel has 4,096 seats.
+    pub fn another(&self) -> Result<Seat, Refusal> {
+        let raw = self.kernel.raw.seat_beside().map_err(refusal)?;
+        Ok(Seat { kernel: Kernel { raw }, shared: self.shared })
     }
-}
 
-impl Seat {
     /// The session of the boot thread, as [`Kernel::session`].
     ///
     /// ```
-    /// use histar::{Object, Shared};
-    /// let seat = Shared::boot(64, 10)?.seat()?;
+    /// use histar::{Object, Seat};
+    /// let seat = Seat::share(64, 10)?;
     /// assert_eq!(seat.session().id(), Object(2));
     /// # Ok::<(), histar::Refusal>(())
     /// ```
@@ -138,17 +133,16 @@ impl Seat {
     ///
     /// ```
     /// use histar::trusted::Thread;
-    /// use histar::{Call, Refusal, Reply, Shared};
-    /// let seat = Shared::boot(64, 1)?.seat()?;
+    /// use histar::{Call, Reply, Seat};
+    /// let seat = Seat::share(64, 10)?;
     /// assert!(matches!(seat.call(Thread::BOOT, &Call::CatCreate), Ok(Reply::Category(_))));
-    /// assert_eq!(seat.call(Thread::BOOT, &Call::CatCreate), Err(Refusal::ListFull));
     /// assert!(seat.call(Thread::BOOT, &Call::SelfGet).is_ok());
     /// # Ok::<(), histar::Refusal>(())
     /// ```
     ///
     /// # Errors
-    /// Those of the call; and of a write call [`Memory`], where there is none to keep it, [`ListFull`], where the list has as many as it
-    /// may have, and [`Busy`], where another thread stands still in the middle of adding its call. It is not made then.
+    /// Those of the call; and of a write call [`Memory`], where there is none to keep it, [`ListFull`], where a seat lacks as many as
+    /// it may lack, or a list with a log has as many as it may have, and [`Busy`], where another thread stands still in the middle of adding its call. It is not made then.
     pub fn call(&self, thread: Thread, call: &Call<'_>) -> Result<Reply, Refusal> {
         self.kernel.call(thread, call)
     }
@@ -158,9 +152,9 @@ impl Seat {
     ///
     /// ```
     /// use histar::trusted::Thread;
-    /// use histar::{label, Call, Object, Refusal, Reply, Shared};
+    /// use histar::{label, Call, Object, Refusal, Reply, Seat};
     ///
-    /// let seat = Shared::boot(64, u64::MAX)?.seat()?;
+    /// let seat = Seat::share(64, u64::MAX)?;
     /// let large = Call::SegmentCreate { container: Object::ROOT, label: label! { L1 }.into(), quota: 99, pages: 1 };
     /// let replies = seat.batch(Thread::BOOT, &[large, Call::CatCreate])?;
     /// assert_eq!(replies[0], Err(Refusal::NoQuota));
@@ -194,16 +188,18 @@ impl Seat {
     /// [`Kernel::dump`] is, so `histar-audit` tells whether its answers are those of the rules.
     ///
     /// ```
-    /// let shared = histar::Shared::boot(64, 10)?;
-    /// let (first, second) = (shared.seat()?, shared.seat()?);
+    /// use histar::{Limits, Log, Refusal, Seat};
+    /// let first = Seat::share_with(&Limits::pages(64), 10, Log::Whole)?;
+    /// let second = first.another()?;
     /// first.session().cat_create()?;
     /// second.learn(first.seen())?;
     /// assert!(second.dump()?.contains("cat_create => cat #1"));
+    /// assert_eq!(Seat::share(64, 10)?.dump(), Err(Refusal::BadBatch));
     /// # Ok::<(), histar::Refusal>(())
     /// ```
     ///
     /// # Errors
-    /// `TextMemory` where the library has no memory for the text.
+    /// `BadBatch` where the list has no log, and `TextMemory` where the library has no memory for the text.
     pub fn dump(&self) -> Result<String, Refusal> {
         self.kernel.dump()
     }
@@ -211,8 +207,8 @@ impl Seat {
     /// A note of what the seat has seen.
     ///
     /// ```
-    /// let shared = histar::Shared::boot(64, 10)?;
-    /// let (first, second) = (shared.seat()?, shared.seat()?);
+    /// let first = histar::Seat::share(64, 10)?;
+    /// let second = first.another()?;
     /// assert_eq!(first.seen(), second.seen());
     /// first.session().cat_create()?;
     /// assert_ne!(first.seen(), second.seen());
@@ -229,13 +225,13 @@ impl Seat {
     /// The seat sees all that the note tells, so its reads from here on do.
     ///
     /// ```
-    /// use histar::{Refusal, Shared};
-    /// let (shared, another) = (Shared::boot(64, 10)?, Shared::boot(64, 10)?);
-    /// let (first, second) = (shared.seat()?, shared.seat()?);
+    /// use histar::{Refusal, Seat};
+    /// let first = Seat::share(64, 10)?;
+    /// let second = first.another()?;
     /// first.session().cat_create()?;
     /// second.learn(first.seen())?;
     /// assert_eq!(second.seen(), first.seen());
-    /// assert_eq!(another.seat()?.learn(first.seen()), Err(Refusal::OtherList));
+    /// assert_eq!(Seat::share(64, 10)?.learn(first.seen()), Err(Refusal::OtherList));
     /// # Ok::<(), histar::Refusal>(())
     /// ```
     ///
@@ -250,13 +246,6 @@ impl Seat {
 }
 
 /// It tells nothing of the calls, which have bytes in them.
-impl std::fmt::Debug for Shared {
-    fn fmt(&self, f: &mut std::fmt::Formatter<'_>) -> std::fmt::Result {
-        f.debug_struct("Shared").finish_non_exhaustive()
-    }
-}
-
-/// The same.
 impl std::fmt::Debug for Seat {
     fn fmt(&self, f: &mut std::fmt::Formatter<'_>) -> std::fmt::Result {
         f.debug_struct("Seat").finish_non_exhaustive()

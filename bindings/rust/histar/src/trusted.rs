@@ -42,8 +42,8 @@ pub fn session_of(kernel: &Kernel, thread: Thread) -> Session<'_> {
 ///
 /// ```
 /// use histar::trusted::{session_at, Thread};
-/// use histar::{Refusal, Shared};
-/// let seat = Shared::boot(64, 10)?.seat()?;
+/// use histar::{Refusal, Seat};
+/// let seat = Seat::share(64, 10)?;
 /// assert_eq!(session_at(&seat, Thread::BOOT).cat_create()?.0, 1);
 /// assert_eq!(session_at(&seat, Thread(99)).self_get().err(), Some(Refusal::Halted));
 /// # Ok::<(), histar::Refusal>(())

@@ -1,8 +1,7 @@
 //! Many threads share one kernel, each through a seat.
 use histar::trusted::{session_at, Thread};
-use histar::{label, Call, Entry, Object, Refusal, Reply, Seat, Shared};
+use histar::{label, Call, Entry, Limits, Log, Object, Refusal, Reply, Seat};
 use std::sync::atomic::{AtomicU64, Ordering};
-use std::sync::Arc;
 
 const BOOT: Thread = Thread::BOOT;
 
@@ -26,11 +25,11 @@ fn number_in(seat: &Seat, entry: Entry) -> u64 {
 
 #[test]
 fn all_seats_see_what_each_wrote() {
-    let all = Shared::boot(1024, 400).unwrap();
+    let first = Seat::share(1024, 400).unwrap();
     std::thread::scope(|scope| {
         for _ in 0..4 {
-            scope.spawn(|| {
-                let seat = all.seat().unwrap();
+            let seat = first.another().unwrap();
+            scope.spawn(move || {
                 for _ in 0..50 {
                     let id = made(seat.call(BOOT, &create()));
                     let write = Call::SegmentWrite {
@@ -43,8 +42,9 @@ fn all_seats_see_what_each_wrote() {
             });
         }
     });
-    let last = all.seat().unwrap();
+    let last = first.another().unwrap();
     for id in 4..204 {
+        assert_eq!(number_in(&first, Entry::in_root(Object(id))), id);
         assert_eq!(number_in(&last, Entry::in_root(Object(id))), id);
     }
 }
@@ -52,15 +52,15 @@ fn all_seats_see_what_each_wrote() {
 /// A reader that is told of a write, by an ordinary number in memory, reads that write or a later one.
 #[test]
 fn no_read_is_stale() {
-    let all = Shared::boot(64, 30_000).unwrap();
-    let writer = all.seat().unwrap();
+    let writer = Seat::share(64, 30_000).unwrap();
     let entry = Entry::in_root(made(writer.call(BOOT, &create())));
     let written = AtomicU64::new(0);
     const LAST: u64 = 20_000;
     std::thread::scope(|scope| {
         for _ in 0..3 {
-            scope.spawn(|| {
-                let seat = all.seat().unwrap();
+            let seat = writer.another().unwrap();
+            let written = &written;
+            scope.spawn(move || {
                 let mut seen = 0;
                 while seen < LAST {
                     let told = written.load(Ordering::SeqCst);
@@ -80,15 +80,15 @@ fn no_read_is_stale() {
 /// Two readers that are told by each other: of two reads one after the other, the second sees no less.
 #[test]
 fn no_read_goes_back() {
-    let all = Shared::boot(64, 30_000).unwrap();
-    let writer = all.seat().unwrap();
+    let writer = Seat::share(64, 30_000).unwrap();
     let entry = Entry::in_root(made(writer.call(BOOT, &create())));
     let last = AtomicU64::new(0);
     const LAST: u64 = 20_000;
     std::thread::scope(|scope| {
         for _ in 0..3 {
-            scope.spawn(|| {
-                let seat = all.seat().unwrap();
+            let seat = writer.another().unwrap();
+            let last = &last;
+            scope.spawn(move || {
                 while last.load(Ordering::SeqCst) < LAST {
                     let told = last.load(Ordering::SeqCst);
                     let read = number_in(&seat, entry);
@@ -119,16 +119,14 @@ fn write_both(seat: &Seat, both: [Entry; 2], number: u64) {
 fn a_storm_is_one_history() {
     const THREADS: usize = 8;
     const ROUNDS: u64 = 1_000;
-    let all = Arc::new(Shared::boot(128, u64::MAX).unwrap());
-    let boot = all.seat().unwrap();
+    let boot = Seat::share_with(&Limits::pages(128), u64::MAX, Log::Whole).unwrap();
     let segment = || Entry::in_root(made(boot.call(BOOT, &create())));
     let own: Vec<[Entry; 3]> = (0..THREADS).map(|_| [segment(), segment(), segment()]).collect();
-    let threads: Vec<_> = (0..THREADS).map(|at| (all.clone(), own[at], own[(at + 1) % THREADS])).collect();
+    let threads: Vec<_> = (0..THREADS).map(|at| (boot.another().unwrap(), own[at], own[(at + 1) % THREADS])).collect();
     let threads: Vec<_> = threads
         .into_iter()
-        .map(|(all, [entry, left, right], [_, others_left, others_right])| {
+        .map(|(seat, [entry, left, right], [_, others_left, others_right])| {
             std::thread::spawn(move || {
-                let seat = all.seat().unwrap();
                 let mut ids = Vec::new();
                 for round in 0..ROUNDS {
                     let session = seat.session();
@@ -151,12 +149,12 @@ fn a_storm_is_one_history() {
     ids.sort_unstable();
     let first = 4 + 3 * THREADS as u64;
     assert!(ids.into_iter().eq(first..first + THREADS as u64 * ROUNDS));
-    let late = all.seat().unwrap();
-    drop(all);
+    let late = boot.another().unwrap();
     for entry in own.into_iter().flatten() {
         assert_eq!(number_in(&late, entry), ROUNDS - 1);
         assert_eq!(number_in(&boot, entry), ROUNDS - 1);
     }
+    late.learn(boot.seen()).unwrap();
     let dump = late.dump().unwrap();
     assert!(dump == boot.dump().unwrap());
     assert!(dump.contains("batch") && dump.ends_with("end\n"));
@@ -165,8 +163,7 @@ fn a_storm_is_one_history() {
 /// What is no batch makes no call: not of no calls, not of 17, and not where one of them is none.
 #[test]
 fn what_is_no_batch_is_not_made() {
-    let all = Shared::boot(64, u64::MAX).unwrap();
-    let seat = all.seat().unwrap();
+    let seat = Seat::share(64, u64::MAX).unwrap();
     let before = seat.seen();
     let long = Call::DevSend { entry: Entry::in_root(Object(3)), bytes: vec![0; 65].into() };
     assert_eq!(seat.batch(BOOT, &[]), Err(Refusal::BadBatch));
@@ -178,34 +175,55 @@ fn what_is_no_batch_is_not_made() {
     assert_ne!(seat.seen(), before);
 }
 
-/// A batch counts as one call of the list, and its calls are answered one after another.
+/// A batch counts as one call of the list, which has room for 512 of a seat that makes none, and its calls are answered one after another.
 #[test]
 fn a_batch_is_one_of_the_list() {
-    let all = Shared::boot(64, 1).unwrap();
-    let (first, second) = (all.seat().unwrap(), all.seat().unwrap());
+    let first = Seat::share(64, 1).unwrap();
+    let second = first.another().unwrap();
     let replies = first.batch(BOOT, &[create(), create()]).unwrap();
     assert_eq!(replies, [Ok(Reply::Object(Object(4))), Ok(Reply::Object(Object(5)))]);
-    assert_eq!(second.batch(BOOT, &[Call::CatCreate]), Err(Refusal::ListFull));
+    let refused = Call::Unref { entry: Entry::in_root(Object::ROOT) };
+    for _ in 1..512 {
+        first.batch(BOOT, &[refused.clone(), refused.clone()]).unwrap();
+    }
+    assert_eq!(first.batch(BOOT, &[Call::CatCreate]), Err(Refusal::ListFull));
+    assert_eq!(first.call(BOOT, &Call::CatCreate), Err(Refusal::ListFull));
     assert_eq!(number_in(&second, Entry::in_root(Object(5))), 0);
-    assert!(second.dump().unwrap() == first.dump().unwrap());
+    assert!(first.batch(BOOT, &[Call::CatCreate]).is_ok());
+}
+
+/// A list with a log gives nothing back, and is full at its bound. One without a log has no dump.
+#[test]
+fn a_log_keeps_each_call() {
+    let first = Seat::share_with(&Limits::pages(64), 1, Log::Whole).unwrap();
+    let refused = Call::Unref { entry: Entry::in_root(Object::ROOT) };
+    for _ in 0..512 {
+        assert_eq!(first.call(BOOT, &refused), Err(Refusal::RootKept));
+    }
+    assert_eq!(first.call(BOOT, &refused), Err(Refusal::ListFull));
+    let second = first.another().unwrap();
+    let dump = first.dump().unwrap();
+    assert!(second.dump().unwrap() == dump);
+    assert_eq!(dump.matches("RootKept").count(), 512);
+    assert_eq!(Seat::share(64, 1).unwrap().dump(), Err(Refusal::BadBatch));
 }
 
 #[test]
 fn a_refused_call_stands_in_the_list_too() {
-    let all = Shared::boot(8, 3).unwrap();
-    let (first, second) = (all.seat().unwrap(), all.seat().unwrap());
+    let first = Seat::share_with(&Limits::pages(8), 3, Log::Whole).unwrap();
+    let second = first.another().unwrap();
     let large = Call::SegmentCreate { container: Object::ROOT, label: label! { L1 }.into(), quota: 9, pages: 1 };
     assert_eq!(first.call(BOOT, &large), Err(Refusal::NoQuota));
     assert_eq!(made(second.call(BOOT, &create())), Object(4));
     assert_eq!(made(first.call(BOOT, &create())), Object(5));
-    assert_eq!(first.call(BOOT, &create()), Err(Refusal::ListFull));
     assert_eq!(number_in(&second, Entry::in_root(Object(5))), 0);
+    assert!(second.dump().unwrap().contains("NoQuota"));
 }
 
 #[test]
 fn a_note_is_learned_and_one_of_another_is_refused() {
-    let (all, others) = (Shared::boot(64, 10).unwrap(), Shared::boot(64, 10).unwrap());
-    let (first, second, other) = (all.seat().unwrap(), all.seat().unwrap(), others.seat().unwrap());
+    let (first, other) = (Seat::share(64, 10).unwrap(), Seat::share(64, 10).unwrap());
+    let second = first.another().unwrap();
     first.call(BOOT, &create()).unwrap();
     let note = first.seen();
     assert_ne!(second.seen(), note);
@@ -218,13 +236,13 @@ fn a_note_is_learned_and_one_of_another_is_refused() {
 
 #[test]
 fn limits_are_refused_at_the_boot() {
-    assert_eq!(Shared::boot(7, 10).err(), Some(Refusal::BadLimits));
+    assert_eq!(Seat::share(7, 10).err(), Some(Refusal::BadLimits));
 }
 
 #[test]
 fn a_session_is_of_one_seat_and_any_thread() {
-    let all = Shared::boot(64, 10).unwrap();
-    let (first, second) = (all.seat().unwrap(), all.seat().unwrap());
+    let first = Seat::share(64, 10).unwrap();
+    let second = first.another().unwrap();
     let made = first.session().thread_create(Object::ROOT, &label! { L1 }, 1, &label! { L2 }, 0).unwrap().id();
     let other = session_at(&second, made.into());
     assert_eq!(other.self_get().unwrap().label, label! { L1 });

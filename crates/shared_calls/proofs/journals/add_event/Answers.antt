@@ -1,4 +1,4 @@
-use Rattle.std.proofs.Common.{◌≡◌, ◌+◌, ◌++◌, ◌∷◌, [], refl, ap, ◌∙◌, rules}
+use Rattle.std.proofs.Common.{◌≡◌, ◌+◌, ◌++◌, ◌∷◌, [], refl, rules}
 use Rattle.histories.specs.Events.{Event}
 use Rattle.histories.specs.History.{count}
 use Rattle.syscall_core.specs.Kernel.{kernel_state}
@@ -7,24 +7,22 @@ use Rattle.shared_calls.specs.declared.rules.Made.{Made}
 use Rattle.shared_calls.proofs.EventLaws.{journal_more}
 use Rattle.shared_calls.proofs.journals.add_event.Goals as goal
 
-pub returns-clause-journal : goal.returns-clause-journal
-returns-clause-journal c =
+pub returns : goal.returns
+returns c =
     let limits = c.args.list.now.limits in
     let j = c.args.journal.now in
     let known = c.requires.journal in
     let next = c.requires.next in
     let entry = c.args.entry.now in
     let m : Made = made next.0 entry.thread (entry.call ∷ entry.more.items) in
-    let log : c.again.result.log ≡ j.seen.log ++ m ∷ [] = ap (λ s. s.log) c.again.ensures ∙ next.1 in
     let told = c.in_ok-calls.ensures in
     let event : Event = record { thread = entry.thread; number = c.next_number-number.result; calls = c.in_ok-calls.calls.items } in
     let number : event.number ≡ count m.thread j.events.items + 1 = search rules in
     let put : c.push_reserved.new.self.items ≡ j.events.items ++ event ∷ [] = search rules in
-    let all = journal_more limits j.events.items c.push_reserved.new.self.items j.seen.log c.again.result.log m event
+    let all = journal_more limits j.events.items c.push_reserved.new.self.items c.args.seen.now.log entry.seen.log m event
     (kernel_state j.kernel) (kernel_state c.answer_all.new.kernel)
-    known.events known.legal known.state log next.2 refl number told.told told.state put in
+    known.events known.legal known.state next.1 next.2 refl number told.told told.state put in
     record {
-      seen = ap (λ s. s.book) c.again.ensures ∙ c.requires.book;
       events = all.0;
       legal = all.1;
       state = all.2;

@@ -1,18 +1,14 @@
-use Rattle.std.proofs.Common.{◌≡◌, ℕ, List, ap, sym, ◌∙◌, subst, rules}
+use Rattle.std.proofs.Common.{ℕ, List, ap, sym, ◌∙◌, subst, rules}
 use Rattle.dump_text.specs.Boot.{boot_dump}
 use Rattle.dump_text.specs.Dump.{dump_text, IsDump}
 use Rattle.dump_text.specs.Line.{IsBootable}
 use Rattle.histories.specs.Events.{Event}
-use Rattle.shared_calls.specs.Events.{events_of}
 use Rattle.shared_calls.proofs.journals.dump_known.Goals as goal
 
 pub returns-clause-text : goal.returns-clause-text
 returns-clause-text c =
     let limits = c.args.list.now.limits in
-    let told = c.in_ok-journal.ensures in
-    let events : c.in_ok-journal.journal.events.items ≡ events_of limits c.args.known.now.seen.log =
-    told.journal.events ∙ ap (events_of limits) told.same in
-    c.in_ok-text.ensures.text ∙ ap (λ (l : List Event). dump_text (boot_dump limits l)) events
+    c.in_ok-text.ensures.text ∙ ap (λ (l : List Event). dump_text (boot_dump limits l)) c.in_ok-journal.ensures.journal.events
 
 pub returns-clause-legal : goal.returns-clause-legal
 returns-clause-legal c =

@@ -9,10 +9,10 @@ compare_exchange-found-requires c =
     let same = c.again-next.ensures in
     let offer = c.plain-offer.ensures in (
       ap (λ w. w.tracked) h,
-      ap (λ s. s.book) same ∙ (known.seen ∙ sym (ap (λ w. w.book) h)),
+      ap (λ s. s.book) same ∙ (known.list ∙ sym (ap (λ w. w.book) h)),
       known.pen ∙ sym (ap (λ w. w.book) h),
       offer.0,
       rw (ap (λ w. w.key) h, offer.1, offer.3)
-          (adds_moves c.again-next.result.log _ c.args.known.now.pen.nib c.args.known.now.count _ _
-          (ap (λ s. length s.log) same ∙ sym known.count) refl known.right refl c.requires.size),
+          (adds_moves c.again-next.result.log _ c.args.known.now.pen.nib c.args.known.now.cursor.count _ _
+          (ap (λ s. length s.log) same ∙ sym known.placed.count) refl known.right refl c.requires.size),
     )

@@ -14,14 +14,15 @@ use Rattle.shared_calls.proofs.seats.Seat.submit_batch.Goals as goal
 pub invariant_of-self-2 : goal.invariant_of-self-2
 invariant_of-self-2 c =
     let s = c.self.inside in
-    let limits = (arc_value s.list).limits in
+    let limits = (arc_value s.chair.list).limits in
     let thread = c.args.thread in
     let calls : List Call = c.args.calls.now in
     let m : Made = made s.known.pen.nib.key thread calls in
     let some : c.in-Some.call.now ∷ c.in-Some.more.now ≡ calls = search rules in
-    let log : c.add.new.known.seen.log ≡ s.known.seen.log ++ m ∷ [] =
-    c.in_ok-add.ensures.log ∙ ap (λ (l : List Call). s.known.seen.log ++ made s.known.pen.nib.key thread l ∷ []) some in (
+    let log : c.add.new.known.cursor.seen.log ≡ s.known.cursor.seen.log ++ m ∷ [] =
+    c.in_ok-add.ensures.log
+    ∙ (λ i. (ap (λ t. t.log) c.room.ensures.seen) i ++ made s.known.pen.nib.key thread (some i) ∷ []) in (
       subst (λ (l : CallList). IsKnown l.start.book c.add.new.known) c.deref.ensures c.add.ensures.known,
       c.make_all.ensures.state ∙ (ap (λ t. state_after t (by thread calls)) c.self.invariant.1
-          ∙ (sym (state_more limits s.known.seen.log m) ∙ ap (state_of limits) (sym log))),
+          ∙ (sym (state_more limits s.known.cursor.seen.log m) ∙ ap (state_of limits) (sym log))),
     )

@@ -1,4 +1,4 @@
-use Rattle.std.proofs.Common.{◌≡◌, ◌++◌, ◌∷◌, [], ap, sym, ◌∙◌, subst}
+use Rattle.std.proofs.Common.{◌≡◌, ◌++◌, ◌∷◌, [], List, ap, sym, ◌∙◌, subst}
 use Rattle.std.specs.Arc.{arc_value}
 use Rattle.kernel_rules.specs.Step.{next}
 use Rattle.shared_calls.specs.Knowledge.{IsKnown}
@@ -12,10 +12,11 @@ use Rattle.shared_calls.proofs.seats.Seat.submit_into.Goals as goal
 pub invariant_of-self-2 : goal.invariant_of-self-2
 invariant_of-self-2 c =
     let s = c.self.inside in
-    let limits = (arc_value s.list).limits in
+    let limits = (arc_value s.chair.list).limits in
     let m : Made = made s.known.pen.nib.key c.args.thread (c.args.call.now ∷ []) in
-    let log : c.add.new.known.seen.log ≡ s.known.seen.log ++ m ∷ [] = c.in_ok-add.ensures.log in (
+    let log : c.add.new.known.cursor.seen.log ≡ s.known.cursor.seen.log ++ m ∷ [] =
+    c.in_ok-add.ensures.log ∙ ap (λ (l : List Made). l ++ m ∷ []) (ap (λ t. t.log) c.room.ensures.seen) in (
       subst (λ (l : CallList). IsKnown l.start.book c.add.new.known) c.deref.ensures c.add.ensures.known,
       c.step_into.ensures.state ∙ (ap (λ t. next t m.thread c.args.call.now) c.self.invariant.1
-          ∙ (sym (state_more limits s.known.seen.log m) ∙ ap (state_of limits) (sym log))),
+          ∙ (sym (state_more limits s.known.cursor.seen.log m) ∙ ap (state_of limits) (sym log))),
     )
