@@ -211,10 +211,17 @@ impl Engine for Memory {
                     Err(RecvTimeoutError::Timeout) => {}
                 }
                 if let Some((number, from, to, after)) = &mut watch {
-                    let events = store.changes(from, to, *after, PAGE).unwrap_or_default();
-                    if let Some(last) = events.last() {
-                        *after = last.revision;
-                        told.push((*number, Answer::Events(events)));
+                    match store.changes(from, to, *after, PAGE) {
+                        None => {
+                            told.push((*number, Answer::Forgotten));
+                            watch = None;
+                        }
+                        Some(events) => {
+                            if let Some(last) = events.last() {
+                                *after = last.revision;
+                                told.push((*number, Answer::Events(events)));
+                            }
+                        }
                     }
                 }
                 let id = store.id;

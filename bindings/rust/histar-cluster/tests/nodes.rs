@@ -6,6 +6,7 @@ use histar_cluster::engine::Request;
 use histar_cluster::memory::{Memory, Store};
 use histar_cluster::{Fault, Item, Name, Options, Receipt, Running, Told, Uncalled};
 use model::{Call, Model, Reply};
+use std::time::Duration;
 
 fn name(text: &str) -> Name {
     Name::new(text).expect("a name")
@@ -17,6 +18,13 @@ fn options(node: &str) -> Options {
 
 fn open(store: &Memory, node: &str) -> Running<Model> {
     Running::open(store.clone(), options(node))
+}
+
+/// Two nodes. Thread 2 belongs to the one that boots first: to north.
+fn north_and_south(store: &Memory) -> (Running<Model>, Running<Model>) {
+    let north = open(store, "north");
+    north.latest().expect("a note");
+    (north, open(store, "south"))
 }
 
 fn call(thread: u64, number: u64, deed: u64) -> Item<Call> {
@@ -47,9 +55,9 @@ fn with(store: &Memory, act: impl FnOnce(&mut Store)) {
 #[test]
 fn a_read_sees_what_its_note_tells() {
     let store = Memory::new();
-    let (north, south) = (open(&store, "north"), open(&store, "south"));
+    let (north, south) = north_and_south(&store);
     for number in 1..100 {
-        told(&north, &[call(2, number, 0)]);
+        assert!(matches!(told(&north, &[call(2, number, 0)])[0], Told::Reply(_)));
         let note = south.latest().expect("a note");
         assert!(south.read(|model| model.replies.contains_key(&number)).expect("a machine"));
         assert_eq!(north.reaches(note), Ok(()));
@@ -85,7 +93,7 @@ fn other_limits_start_no_node() {
 #[test]
 fn unknown_rules_stop_each_node_at_their_place() {
     let store = Memory::new();
-    let (north, south) = (open(&store, "north"), open(&store, "south"));
+    let (north, south) = north_and_south(&store);
     assert_eq!(told(&north, &[Item::Rules(2)]), [Told::Done]);
     let waiting = north.submit(&[call(2, 1, 0), Item::Rules(3)]).expect("a node that runs");
     assert_eq!((waiting.wait(), stops(&north), stops(&south)), (None, Fault::UnknownRules(3), Fault::UnknownRules(3)));
@@ -165,7 +173,7 @@ fn a_lost_engine_is_told_of() {
 #[test]
 fn the_log_is_dropped_where_two_nodes_agree() {
     let store = Memory::new();
-    let (north, south) = (open(&store, "north"), open(&store, "south"));
+    let (north, south) = north_and_south(&store);
     let entries = |of: &str| {
         let (from, to) = (format!("/c/log/e/{of}/"), format!("/c/log/e/{of}0"));
         let request = Request::Page { from: from.into_bytes(), to: to.into_bytes(), at: 0 };
@@ -177,7 +185,10 @@ fn the_log_is_dropped_where_two_nodes_agree() {
     let mut number = 0;
     while number < 50 || entries("north") > 20 {
         number += 1;
-        told(&north, &[call(2, number, 0)]);
+        assert!(matches!(told(&north, &[call(2, number, 0)])[0], Told::Reply(_)));
+        if number > 50 {
+            std::thread::sleep(Duration::from_millis(200)); // (a node looks each second how far the others are)
+        }
     }
     let east = open(&store, "east");
     east.latest().expect("a note");
