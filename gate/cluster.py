@@ -16,7 +16,7 @@ PACKAGES = "/usr/share/cargo/registry"
 SECONDS, SEED = int(os.environ.get("CLUSTER_SECONDS", "60")), 1
 CRATE = "bindings/rust/histar-cluster"
 # So many runs, and so many steps each: over 10,000 faults are done in a minute.
-RUNS, STEPS = "400", "3000"
+RUNS, STEPS = "600", "3000"
 # A wrong rule is mostly caught by one of the first seeds, so that it is compiled quickly tells most.
 QUICKLY = {"CARGO_PROFILE_DEV_OPT_LEVEL": "1", "CARGO_PROFILE_DEV_DEBUG": "0"}
 EDIT = re.compile(r"file: (\S+)\nold: (.*?)\nnew: (.*)\n", re.S)

@@ -76,6 +76,7 @@ fn callers_are_told_what_the_log_has() {
         return;
     };
     let north = Arc::new(member.open("north"));
+    north.latest().expect("a note"); // (thread 2 belongs to the node that boots first)
     let calls = Arc::new(AtomicU64::new(1));
     let end = Instant::now() + Duration::from_secs(12);
     let callers: Vec<_> = (0..8)
