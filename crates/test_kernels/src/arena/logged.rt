@@ -93,12 +93,56 @@ fn keep_calls(look: &mut Look, alloc: Global, kernel: &mut LoggedKernel, meter: 
     look.sees(is_dumped(alloc, kernel, meter));
 }
 
+/// Whether the log begins anew, again where there was no memory.
+fn cuts(kernel: &mut LoggedKernel) -> bool {
+    kernel.cut_log().is_ok() || kernel.cut_log().is_ok()
+}
+
+/// A kernel that the checkpoint of another one restores.
+fn restored(alloc: Global, kernel: &LoggedKernel) -> Option<LoggedKernel> {
+    let Ok(checkpoint) = kernel.checkpoint() else {
+        return None;
+    };
+    match LoggedKernel::restore(alloc, &EIGHT_PAGES, checkpoint) {
+        Ok(other) => Some(other),
+        Err(_) => None,
+    }
+}
+
+/// The same, made again where there was no memory.
+fn restored_again(alloc: Global, kernel: &LoggedKernel) -> Option<LoggedKernel> {
+    match restored(alloc, kernel) {
+        Some(other) => Some(other),
+        None => restored(alloc, kernel),
+    }
+}
+
+// A kernel that is restored keeps the calls from there.
+fn keep_restored(look: &mut Look, alloc: Global, other: &mut LoggedKernel, meter: &mut Meter) {
+    look.sees(begins(other));
+    look.sees(refusal_of(other, &new_thread(), meter) == 0);
+    look.sees(is_dumped(alloc, other, meter));
+}
+
+// A log that is cut keeps the calls after it, and so does that of a kernel which its checkpoint restores.
+fn cut_and_restore(look: &mut Look, alloc: Global, kernel: &mut LoggedKernel, meter: &mut Meter) {
+    look.sees(cuts(kernel));
+    look.sees(is_dumped(alloc, kernel, meter));
+    look.sees(refusal_of(kernel, &new_thread(), meter) == 0);
+    look.sees(is_dumped(alloc, kernel, meter));
+    match restored_again(alloc, kernel) {
+        Some(mut other) => keep_restored(look, alloc, &mut other, meter),
+        None => look.sees(false),
+    }
+}
+
 // Also where an allocation is refused: what is made again is kept once, and the dump is clean.
 fn want_of_memory_keeps_each_call_once(alloc: Global, look: &mut Look) -> Result<()> {
     look.part("want_of_memory_keeps_each_call_once");
     let mut meter = meter_again(alloc)?;
     let mut kernel = boot_again(alloc)?;
     keep_calls(look, alloc, &mut kernel, &mut meter);
+    cut_and_restore(look, alloc, &mut kernel, &mut meter);
     Ok(())
 }
 
