@@ -2,7 +2,7 @@
 of examples/ print by them what is stored, and ./histar-audit finds the dumps of their logs clean; the scripts of the rules
 print what is stored of them; random scripts print what ./histar prints, leave the tables that its dump has, and dump what it
 dumps; random records leave the heap as it was; each row of the table of misuse is refused and changes nothing; threads share a
-kernel. The programs of docs/EMBED.md print what it says.
+kernel; a service comes back at its checkpoint. The programs of docs/EMBED.md print what it says.
 
 What a machine lacks (compilers, cargo, valgrind, clang's runtime) is left out, with a line for each."""
 import glob
@@ -266,6 +266,7 @@ class Bindings:
             self.try_wrong_headers(compilers[0])
             self.try_misuse(compilers[0])
             self.try_threads(compilers[0])
+            self.try_coming_back(compilers[0])
             login = self.compile([compilers[0], "-std=c11"], "login.c", "login", *WARNINGS)
             if login:
                 self.report.counts(ran(login) == (0, LOGIN), "C: a login gate")
@@ -322,6 +323,20 @@ class Bindings:
         seats = sorted(glob.glob(f"{folder}/seat-*"))
         unclean = [os.path.basename(it) for it in seats if run(self.auditor, it) != (True, "clean\n")]
         self.report.counts(len(seats) == 8 and not unclean, f"./histar-audit finds the dumps of {len(seats)} seats clean" + but_not(unclean))
+
+    def try_coming_back(self, compiler):
+        """A service that ends and comes back at its checkpoint, and audits of that and of its log."""
+        service = self.compile([compiler, "-std=gnu11"], "comes_back.c", "comes_back", *WARNINGS)
+        if not service:
+            return
+        texts = [f"{self.room}/state", f"{self.room}/calls"]
+        said = [ran(service, *texts) for _ in range(3)]
+        self.report.counts(said == [(0, f"start {n}\n") for n in (1, 2, 3)], "C: a service comes back at its checkpoint")
+        if self.auditor:
+            unclean = [it for it in texts if ran(self.auditor, it) != (0, "clean\n")]
+            self.report.counts(not unclean, "./histar-audit finds its checkpoint and its log clean" + but_not(unclean))
+        else:
+            self.leave_out("audits of a checkpoint", "./histar-audit is not built")
 
     def try_refused(self, compiler):
         """A kernel is opened with each request for memory refused in turn, and calls take none."""

@@ -14,8 +14,8 @@
  * - HISTAR_UNAVAILABLE comes where the kernel is not open: it was closed, was never opened, or is a copy of another's
  *   bytes. HISTAR_BUSY comes where another call uses it: by another thread, or by the code that a signal interrupted.
  *   Nothing is done then, and the call may be made again.
- * - It takes no memory, prints nothing and never waits. Only histar_open takes memory, and what the log needs: a
- *   write call after histar_log_on, which is refused HISTAR_MEMORY where there is none, and histar_dump. Of a kernel that
+ * - It takes no memory, prints nothing and never waits. Only the opens take memory, histar_checkpoint, and what the log needs: a
+ *   write call after histar_log_on, which is refused HISTAR_MEMORY where there is none, histar_log_cut and histar_dump. Of a kernel that
  *   threads share, the opens and each write call take memory, and a write call may sleep where another's is not ended.
  * - The bytes and labels that it gave or took stand in no record of the kernel once it returns. The library keeps the last
  *   call and the last reply inside the room, and histar_close wipes all of it.
@@ -128,7 +128,10 @@ enum histar_refusal {
     HISTAR_BUSY = 46,            /* another call uses the kernel or has not ended adding itself to the list, or it is open already */
     HISTAR_LIST_FULL = 47,       /* a seat of the shared kernel lacks as many batches as it may lack; with a log, there are so many */
     HISTAR_OTHER_LIST = 48,      /* the note is not of this shared kernel */
-    HISTAR_TEXT_MEMORY = 51      /* there is no memory for the text of a dump */
+    HISTAR_TEXT_FAULT = 50,      /* the text is no dump */
+    HISTAR_TEXT_MEMORY = 51,     /* there is no memory for the text of a dump or of a checkpoint */
+    HISTAR_ILL_FORMED = 60,      /* no calls lead to what the text's checkpoint says */
+    HISTAR_HAS_EVENTS = 63       /* the text is a dump with calls after its checkpoint */
 };
 
 /* The name of a refusal, as docs/CALLS.md has it; "" for a number that is none. */
@@ -168,7 +171,10 @@ static inline const char *histar_refusal_name(uint32_t refusal)
     case HISTAR_BUSY: return "Busy";
     case HISTAR_LIST_FULL: return "ListFull";
     case HISTAR_OTHER_LIST: return "OtherList";
+    case HISTAR_TEXT_FAULT: return "TextFault";
     case HISTAR_TEXT_MEMORY: return "TextMemory";
+    case HISTAR_ILL_FORMED: return "IllFormed";
+    case HISTAR_HAS_EVENTS: return "HasEvents";
     default: return "";
     }
 }
@@ -222,8 +228,8 @@ static inline histar_label histar_with(histar_label label, histar_category categ
 
 /* ---- The library ---- */
 
-/* What a record asks for. 1 to 24 are write calls, 25 to 34 read calls, 35 to 39 look-ups, 40 to 42 of the log, 43 to 47 of a seat. With
- * HISTAR_CALL_IN_BATCH more than its own, a write call is kept for a batch. */
+/* What a record asks for. 1 to 24 are write calls, 25 to 34 read calls, 35 to 39 look-ups, 40 to 42 of the log, 43 to 47 of a seat, 48 and 49
+ * of checkpoints. With HISTAR_CALL_IN_BATCH more than its own, a write call is kept for a batch. */
 enum histar_call_number {
     HISTAR_CALL_CAT_CREATE = 1,
     HISTAR_CALL_SELF_SET_LABEL = 2,
@@ -272,6 +278,8 @@ enum histar_call_number {
     HISTAR_CALL_BATCH_BEGIN = 45,
     HISTAR_CALL_BATCH_MAKE = 46,
     HISTAR_CALL_BATCH_TOLD = 47,
+    HISTAR_CALL_CHECKPOINT = 48,
+    HISTAR_CALL_LOG_CUT = 49,
     HISTAR_CALL_IN_BATCH = 64
 };
 
@@ -292,11 +300,12 @@ typedef struct {
 } histar_answer;
 
 /* The library's functions. A room is histar_size() bytes at a multiple of 16, which nobody else reads or writes.
- * histar_boot makes it hold a kernel, or why there is none, which histar_call then returns. histar_end makes it room
+ * histar_boot and histar_boot_at make it hold a kernel, or why there is none, which histar_call then returns. histar_end makes it room
  * again. A room that holds a kernel is not to be copied or booted again. */
 size_t histar_size(void);
 uint32_t histar_version(void); /* as HISTAR_VERSION_NUMBER */
 void histar_boot(uint32_t pages, uint8_t device_level, uint64_t next_id, uint64_t next_category, void *room);
+void histar_boot_at(const void *text, size_t len, void *room);
 uint32_t histar_call(void *room, const histar_request *request, histar_answer *answer);
 void histar_end(void *room);
 
@@ -365,16 +374,20 @@ __attribute__((nonnull)) static inline uint32_t histar_close(histar *k)
     return histar_released(k, HISTAR_DONE);
 }
 
-/* Boots a kernel that is taken and closed. */
-static inline uint32_t histar_boots(histar *k, uint32_t pages, uint8_t device_level, uint64_t next_id, uint64_t next_category)
+/* The library is of this header's version, and a kernel has room for what it holds. */
+static inline uint32_t histar_suits(void)
+{
+    if (histar_version() != HISTAR_VERSION_NUMBER) return HISTAR_OTHER_VERSION;
+    return histar_size() > sizeof ((histar *)NULL)->room ? HISTAR_UNAVAILABLE : HISTAR_DONE;
+}
+
+/* A kernel that was booted into the room of one that is taken and closed: it is open, or ended again where there is none. */
+static inline uint32_t histar_booted(histar *k)
 {
     uint32_t refusal;
-    if (histar_version() != HISTAR_VERSION_NUMBER) return HISTAR_OTHER_VERSION;
-    if (histar_size() > sizeof k->room) return HISTAR_UNAVAILABLE;
     memset(&k->request, 0, sizeof k->request);
     memset(&k->answer, 0, sizeof k->answer);
     k->is_seat = 0;
-    histar_boot(pages, device_level, next_id, next_category, k->room);
     /* A record of zeros asks for nothing: a kernel that is there says so. */
     refusal = histar_call(k->room, &k->request, &k->answer);
     if (refusal == HISTAR_BAD_BATCH) {
@@ -392,16 +405,38 @@ HISTAR_LOOKED_AT(1)
 static inline uint32_t histar_open_with(histar *k, uint64_t pages, uint64_t device_level, uint64_t next_id,
                                         uint64_t next_category)
 {
+    uint32_t refusal;
     if (pages > UINT32_MAX) pages = UINT32_MAX; /* no kernel has so many, either */
     if (histar_taken(k)) return HISTAR_BUSY;
     if (histar_is_open(k)) return histar_released(k, HISTAR_BUSY);
-    return histar_released(k, histar_boots(k, (uint32_t)pages, histar_level_byte(device_level), next_id, next_category));
+    refusal = histar_suits();
+    if (!refusal) histar_boot((uint32_t)pages, histar_level_byte(device_level), next_id, next_category, k->room);
+    return histar_released(k, refusal ? refusal : histar_booted(k));
 }
 
 /* Opens a kernel of so many pages of 256 bytes, 8 to 1,024, as a script does: the device's label is 1, the first id 4 and
  * the first category 1. Refused as histar_open_with. */
 HISTAR_LOOKED_AT(1)
 static inline uint32_t histar_open(histar *k, uint64_t pages) { return histar_open_with(k, pages, 1, 4, 1); }
+
+/* Opens a kernel at a text that histar_checkpoint wrote, on this machine or another: it has the limits of the kernel that was written
+ * down and is in its state, so every read is answered the same, and ids and categories go on. No log is kept until histar_log_on, whose dump
+ * begins at the checkpoint, and in which threads' numbers go on. A dump of `./histar run` opens too where it has no events: one without a
+ * checkpoint opens a kernel that was just booted. HISTAR_TEXT_FAULT where the text is no dump, as one that is cut short;
+ * HISTAR_HAS_EVENTS where events come after the checkpoint; HISTAR_ILL_FORMED where no calls lead to what it says. What histar-audit finds
+ * clean is refused neither; a text that may have been changed is for it to judge, since another one may open too. The text is
+ * not needed any more then. Else refused as histar_open_with. */
+HISTAR_LOOKED_AT(1, 2)
+static inline uint32_t histar_open_at(histar *k, const void *text, size_t len)
+{
+    uint32_t refusal;
+    if (histar_taken(k)) return HISTAR_BUSY;
+    if (histar_is_open(k)) return histar_released(k, HISTAR_BUSY);
+    refusal = histar_suits();
+    if (!refusal && len > PTRDIFF_MAX) refusal = HISTAR_TEXT_FAULT; /* no text is so long */
+    if (!refusal) histar_boot_at(text, len, k->room);
+    return histar_released(k, refusal ? refusal : histar_booted(k));
+}
 
 /* ---- A kernel that threads share ---- */
 
@@ -438,7 +473,7 @@ static inline uint32_t histar_seat_booted(histar *seat, histar_note shared)
  *
  * With `logs` the list has a log, and gives nothing back: histar_dump is of all that the seat has seen since the open, and `most` is how
  * many write calls there may be, rounded up as before. Without it histar_dump is refused HISTAR_BAD_BATCH. histar_log_on is always
- * refused so, as is a look-up of histar_debug.h. Refused as histar_open_with. */
+ * refused so, as are histar_log_cut, histar_checkpoint and a look-up of histar_debug.h. Refused as histar_open_with. */
 HISTAR_LOOKED_AT(1)
 static inline uint32_t histar_share_with(histar *seat, uint64_t pages, uint64_t device_level, uint64_t next_id,
                                          uint64_t next_category, uint64_t most, int logs)
@@ -1078,7 +1113,7 @@ static inline uint32_t histar_batch(histar *seat, histar_object thread, const hi
     return histar_told(seat, refusal);
 }
 
-/* ---- The log: each write call since histar_open, refused or not, with its answer. Its dump is the text that
+/* ---- The log: each write call since the open or the last cut, refused or not, with its answer. Its dump is the text that
  * `./histar run --dump` writes of a run, and histar-audit tells whether its answers are those of the rules. ---- */
 
 /* Begins the log, before the first write call. From here on each write call takes memory, and is refused HISTAR_MEMORY
@@ -1091,15 +1126,22 @@ static inline uint32_t histar_log_on(histar *k)
     return histar_done(k);
 }
 
-/* Writes the text of the log's dump, and its length in bytes to *needed; no zero byte ends it. Of a seat it is the dump of what the seat
- * has seen, with all calls that it was told of by a note. HISTAR_BOUNDS where it is
- * longer than `size`: nothing but *needed is written then. HISTAR_BAD_BATCH where no log was begun, HISTAR_TEXT_MEMORY
- * where there is no memory for the text. The log stays as it is, so it may be dumped again, and calls may follow. */
-HISTAR_LOOKED_AT(1, 4)
-static inline uint32_t histar_dump(histar *k, void *text, size_t size, size_t *needed)
+/* Begins the log anew at the kernel as it stands, so that the memory of its calls is given back: its dump has the checkpoint of this
+ * moment and the write calls from here on. Where no log was kept, one begins, in which each thread's first event has number 1.
+ * HISTAR_MEMORY where there is no memory for that, and the log is as before; HISTAR_BAD_BATCH of a seat. */
+HISTAR_LOOKED_AT(1)
+static inline uint32_t histar_log_cut(histar *k)
+{
+    uint32_t refusal = histar_asks(k, HISTAR_CALL_LOG_CUT, HISTAR_NOTHING, HISTAR_NOWHERE);
+    if (refusal) return refusal;
+    return histar_done(k);
+}
+
+/* Has the library make a text, and writes it. */
+static inline uint32_t histar_writes(histar *k, uint32_t call, void *text, size_t size, size_t *needed)
 {
     size_t at, len = 0;
-    uint32_t refusal = histar_asks(k, HISTAR_CALL_DUMP, HISTAR_NOTHING, HISTAR_NOWHERE);
+    uint32_t refusal = histar_asks(k, call, HISTAR_NOTHING, HISTAR_NOWHERE);
     if (refusal) return refusal;
     refusal = histar_serves(k);
     if (!refusal) *needed = len = (size_t)k->answer.numbers[0];
@@ -1111,6 +1153,25 @@ static inline uint32_t histar_dump(histar *k, void *text, size_t size, size_t *n
         if (!refusal) memcpy((unsigned char *)text + at, k->answer.bytes, len - at < 64 ? len - at : 64);
     }
     return histar_told(k, refusal);
+}
+
+/* Writes the text of the log's dump, and its length in bytes to *needed; no zero byte ends it. Of a seat it is the dump of what the seat
+ * has seen, with all calls that it was told of by a note. HISTAR_BOUNDS where it is
+ * longer than `size`: nothing but *needed is written then. HISTAR_BAD_BATCH where no log was begun, HISTAR_TEXT_MEMORY
+ * where there is no memory for the text. The log stays as it is, so it may be dumped again, and calls may follow. */
+HISTAR_LOOKED_AT(1, 4)
+static inline uint32_t histar_dump(histar *k, void *text, size_t size, size_t *needed)
+{
+    return histar_writes(k, HISTAR_CALL_DUMP, text, size, needed);
+}
+
+/* Writes the text of a checkpoint, as histar_dump writes a dump's: the kernel's limits and state, with all that segments hold, so keep it
+ * as you would the kernel. Where a log is kept it has the number of each thread's next call too. It is a dump without calls: histar-audit finds it
+ * clean, and histar_open_at opens it. HISTAR_BOUNDS and HISTAR_TEXT_MEMORY as of a dump, HISTAR_BAD_BATCH of a seat. */
+HISTAR_LOOKED_AT(1, 4)
+static inline uint32_t histar_checkpoint(histar *k, void *text, size_t size, size_t *needed)
+{
+    return histar_writes(k, HISTAR_CALL_CHECKPOINT, text, size, needed);
 }
 
 #ifdef __cplusplus

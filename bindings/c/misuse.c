@@ -450,6 +450,71 @@ static uint32_t shared_key_after_a_close(void)
     return has_key(&its, sizeof its) ? HISTAR_DONE : is_called(&its);
 }
 
+/* ---- A checkpoint, and what opens no kernel ---- */
+
+static char written[1 << 16];
+static size_t written_len;
+static uint32_t checkpoint_closed(void) { return histar_checkpoint(&closed, place, sizeof place, &written_len); }
+static uint32_t checkpoint_in_63(void)
+{
+    size_t needed = 0;
+    uint32_t refusal = histar_checkpoint(&k, place, 63, &needed);
+    return needed > 63 && !place[0] ? refusal : 0;
+}
+static uint32_t checkpoint_of_a_seat(void) { return histar_checkpoint(&seat, place, sizeof place, &written_len); }
+static uint32_t cut_closed(void) { return histar_log_cut(&closed); }
+static uint32_t cut_by_a_seat(void) { return histar_log_cut(&seat); }
+/* A kernel opened at the checkpoint, in which these bytes stand in place of the first that are those, or at the first `len` bytes of it. It
+ * is closed after a refused open, and opens otherwise. */
+static uint32_t opened_with(const char *those, const char *these, size_t cut)
+{
+    uint32_t refusal;
+    char *at;
+    must(histar_checkpoint(&k, written, sizeof written, &written_len));
+    at = memmem(written, written_len, those, strlen(those));
+    if (!at) return HISTAR_DONE;
+    memcpy(at, these, strlen(these));
+    refusal = histar_open_at(&closed, written, written_len - cut);
+    if (!refusal) must(histar_close(&closed));
+    return is_called(&closed) == HISTAR_UNAVAILABLE ? refusal : HISTAR_DONE;
+}
+static uint32_t opened_at_its_checkpoint(void) { return opened_with("", "", 0); }
+static uint32_t text_cut_short(void) { return opened_with("", "", 1); }
+static uint32_t text_of_nothing(void) { return opened_with("", "", written_len); }
+static uint32_t text_with_another_byte(void) { return opened_with("segment", "segmenT", 0); }
+static uint32_t text_of_version_3(void) { return opened_with("dump 2", "dump 3", 0); }
+static uint32_t text_with_the_first_id_3(void) { return opened_with("limits 64 1 4 1", "limits 64 1 3 1", 0); }
+static uint32_t text_without_a_root(void) { return opened_with("object 1 ", "object 9 ", 0); }
+static uint32_t text_of_far_more(void)
+{
+    must(histar_checkpoint(&k, written, sizeof written, &written_len));
+    return histar_open_at(&closed, written, (size_t)PTRDIFF_MAX + 1);
+}
+static uint32_t text_with_events(void)
+{
+    must(histar_dump(&k, written, sizeof written, &written_len));
+    return histar_open_at(&closed, written, written_len);
+}
+static uint32_t opened_at_twice(void) { return histar_open_at(&k, written, written_len); }
+static uint32_t opened_at_where_a_seat_is(void) { return histar_open_at(&seat, written, written_len); }
+static uint32_t opened_at_in_a_call(void)
+{
+    uint32_t refusal;
+    must(histar_taken(&closed));
+    refusal = histar_open_at(&closed, written, written_len);
+    histar_released(&closed, HISTAR_DONE);
+    return refusal;
+}
+static uint32_t written_with_the_key(void)
+{
+    char bytes[64];
+    must(histar_open_at(&closed, written, written_len));
+    must(histar_segment_read(&closed, HISTAR_BOOT, in_root(secret), 0, bytes, sizeof KEY));
+    if (memcmp(bytes, KEY, sizeof KEY) || records_have_key(&closed)) return HISTAR_DONE;
+    must(histar_close(&closed));
+    return has_key(&closed, sizeof closed) ? HISTAR_DONE : is_called(&closed);
+}
+
 static const struct row {
     const char *what;
     uint32_t refusal;
@@ -545,6 +610,24 @@ static const struct row {
     {"a dump of a seat into one byte", HISTAR_BOUNDS, seat_dumped_into_too_little},
     {"a dump of a seat without a log", HISTAR_BAD_BATCH, dumped_without_a_log},
     {"a call after a seat's close with the key in it", HISTAR_UNAVAILABLE, shared_key_after_a_close},
+    {"a checkpoint after the close", HISTAR_UNAVAILABLE, checkpoint_closed},
+    {"a checkpoint in room for 63 bytes", HISTAR_BOUNDS, checkpoint_in_63},
+    {"a checkpoint of a seat", HISTAR_BAD_BATCH, checkpoint_of_a_seat},
+    {"a log that is cut after the close", HISTAR_UNAVAILABLE, cut_closed},
+    {"a log that is cut by a seat", HISTAR_BAD_BATCH, cut_by_a_seat},
+    {"a text that is cut short by a byte", HISTAR_TEXT_FAULT, text_cut_short},
+    {"a text of no bytes", HISTAR_TEXT_FAULT, text_of_nothing},
+    {"a text with another byte", HISTAR_TEXT_FAULT, text_with_another_byte},
+    {"a text of version 3", HISTAR_TEXT_FAULT, text_of_version_3},
+    {"a text with the first id 3", HISTAR_TEXT_FAULT, text_with_the_first_id_3},
+    {"a text of 2^63 bytes", HISTAR_TEXT_FAULT, text_of_far_more},
+    {"a text without a root", HISTAR_ILL_FORMED, text_without_a_root},
+    {"a text with calls", HISTAR_HAS_EVENTS, text_with_events},
+    {"an open at the checkpoint", HISTAR_DONE, opened_at_its_checkpoint},
+    {"an open at a text where a kernel is", HISTAR_BUSY, opened_at_twice},
+    {"an open at a text where a seat is", HISTAR_BUSY, opened_at_where_a_seat_is},
+    {"an open at a text in a call", HISTAR_BUSY, opened_at_in_a_call},
+    {"a call after a close with the written key in it", HISTAR_UNAVAILABLE, written_with_the_key},
 };
 
 /* The log's dump, which has the state. */

@@ -1,7 +1,8 @@
 /* Opens kernels, each with another request for memory refused, the first, the second and so on, until none is: an open that
  * is refused one is told 30, and keeps nothing. No call takes memory or writes past histar_size() bytes, and a close gives
  * all back. Then the same of calls that are kept in a log, and of its dump: a call that is refused memory is told 40 and is
- * made as ever when it is asked for again, and a dump is told 51. And the same of a kernel that threads share: of its first seat, of
+ * made as ever when it is asked for again, and a dump is told 51. The same of a checkpoint, of the open at its text, and of a log that is
+ * cut. And the same of a kernel that threads share: of its first seat, of
  * another, and of write calls, those that lay a block of the list too, while reads take none.
  *
  * To be linked with -Wl,--wrap=malloc,--wrap=realloc,--wrap=free. */
@@ -69,13 +70,13 @@ static int calls_are_done(void)
     return histar_self_get(&k, HISTAR_BOOT, &self) == HISTAR_DONE;
 }
 
-/* What happens at a call: it is made again where it is told 40, which may be once. */
+/* What happens at a call: it is made again where memory lacks for it, which may be once. */
 static int again;
 
 static uint32_t once_more(uint32_t (*asks)(void))
 {
     uint32_t refusal = asks();
-    if (refusal != HISTAR_MEMORY) return refusal;
+    if (refusal != HISTAR_MEMORY && refusal != HISTAR_TEXT_MEMORY && refusal != HISTAR_UNAVAILABLE) return refusal;
     again++;
     return asks();
 }
@@ -118,6 +119,37 @@ static int logs_are_kept(void)
         histar_close(&k);
         if (out != 0) return 0;
         if (asked < refused) return later > 3;
+    }
+}
+
+/* The kernel that comes back, the checkpoint of the one before, and the dump of its log that is cut. */
+static histar back;
+static char written[1 << 16], cut[1 << 16];
+static size_t written_len, cut_len;
+static uint32_t writes_checkpoint(void) { return histar_checkpoint(&k, written, sizeof written, &written_len); }
+static uint32_t opens_back(void) { return histar_open_at(&back, written, written_len); }
+static uint32_t cuts_log(void) { return histar_log_cut(&back); }
+static uint32_t dumps_cut(void) { return histar_dump(&back, cut, sizeof cut, &cut_len); }
+
+/* Whether a kernel comes back at its checkpoint, and its log, which is cut there, has that checkpoint and no calls. */
+static int is_back(void)
+{
+    if (creates_category() || creates_segment() || once_more(writes_checkpoint) || once_more(opens_back)) return 0;
+    if (once_more(cuts_log) || once_more(dumps_cut)) return 0;
+    return written_len && written_len == cut_len && !memcmp(written, cut, cut_len);
+}
+
+/* Whether kernels come back with each request for memory after the first open refused in turn. */
+static int kernels_come_back(void)
+{
+    for (long later = 1;; later++) {
+        refused = 0;
+        asked = out = again = 0;
+        if (histar_open(&k, 8)) return 0;
+        refused = asked + later;
+        if (!is_back() || again != (asked >= refused)) return 0;
+        if (histar_close(&k) || histar_close(&back) || out != 0) return 0;
+        if (asked < refused) return later > 10;
     }
 }
 
@@ -183,6 +215,7 @@ int main(void)
         if (out != 0) return 5;
         if (!logs_are_kept()) return 6;
         if (!kernels_are_shared()) return 7;
+        if (!kernels_come_back()) return 8;
         printf("%ld requests\n", at_open);
         return at_open == 0;
     }

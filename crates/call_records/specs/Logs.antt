@@ -1,6 +1,5 @@
--- What records ask of the log of the calls that were made, and what an answer tells of its dump.
-use Rattle.std.specs.Prelude.{ℕ, ◌-◌, List, [], ◌∷◌, Option, Some, None, nat_le, slice_get, length, if◌then◌else◌}
-use Rattle.std.specs.Option.{option_and_then}
+-- What records ask of the log of the calls that were made and of checkpoints, and what an answer tells of their texts.
+use Rattle.std.specs.Prelude.{ℕ, ◌==◌, List, [], ◌∷◌, Option, Some, None, length, if◌then◌else◌}
 use Rattle.call_records.specs.declared.logs.LogRequest.{LogRequest}
 use Rattle.call_records.specs.declared.logs.LogRequest.TheVariants as logs
 use Rattle.call_records.specs.declared.records.Answer.{Answer}
@@ -8,15 +7,14 @@ use Rattle.call_records.specs.declared.records.Request.{Request}
 use Rattle.call_records.specs.Told.{Has}
 use Rattle.call_records.specs.Words.{wide_at}
 
--- what may be asked of the log, by its numbers, from 40
-abbrev pub all : List (Request → LogRequest)
-all = (λ r. logs.Begin) ∷ (λ r. logs.Dump) ∷ (λ r. logs.Text (wide_at r 0)) ∷ []
-
 -- what a record asks of the log
 abbrev pub log_request_of : Request → Option LogRequest
 log_request_of r =
-    if nat_le 40 r.call
-    then option_and_then (λ asks. Some (asks r)) (slice_get all (r.call - 40))
+    if r.call == 40 then Some logs.Begin
+    else if r.call == 41 then Some logs.Dump
+    else if r.call == 42 then Some (logs.Text (wide_at r 0))
+    else if r.call == 48 then Some logs.Checkpoint
+    else if r.call == 49 then Some logs.Cut
     else None
 
 -- the answer tells how many bytes a text has

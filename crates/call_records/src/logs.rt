@@ -1,4 +1,4 @@
-//! What is asked of the log of the calls that were made, and what is told of its dump.
+//! What is asked of the log of the calls that were made and of checkpoints, and what is told of their texts.
 ghost use Rattle.std.specs.Prelude.{◌≡◌, take, drop};
 ghost use Rattle.kernel_rules.specs.declared.replies.Reply.TheVariants as replies;
 ghost use Rattle.call_records.specs.Logs.{log_request_of, TellsLength};
@@ -8,7 +8,7 @@ use crate::answers::{put, put_bytes};
 use crate::records::{Answer, Request};
 use base::Data;
 
-/// What is asked of the log.
+/// What is asked of the log, and of checkpoints.
 #[derive(Clone, Copy)]
 pub enum LogRequest {
     /// That it begins.
@@ -20,9 +20,13 @@ pub enum LogRequest {
         /// The place of the first, from 0.
         from: u64,
     },
+    /// That the text of a checkpoint is made, and how many bytes it has.
+    Checkpoint,
+    /// That it begins anew.
+    Cut,
 }
 
-/// What a record asks of the log. None where its number is not 40 to 42.
+/// What a record asks of the log. None where its number is not 40 to 42, 48 or 49.
 pub fn log_request_of(request: &Request) -> Option<LogRequest>
     ensures { result ≡ log_request_of request.now }
 {
@@ -32,6 +36,8 @@ pub fn log_request_of(request: &Request) -> Option<LogRequest>
         42 => LogRequest::Text {
             from: request.numbers[0],
         },
+        48 => LogRequest::Checkpoint,
+        49 => LogRequest::Cut,
         _ => return None,
     })
 }

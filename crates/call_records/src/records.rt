@@ -18,7 +18,7 @@ pub struct LabelRecord {
 #[repr(C)]
 #[derive(Clone, Copy)]
 pub struct Request {
-    /// What is asked for: 1 to 24 is a write call, 25 to 34 a read call, 35 to 39 a look-up, 40 to 42 of the log.
+    /// What is asked for: 1 to 24 is a write call, 25 to 34 a read call, 35 to 39 a look-up, 40 to 42, 48 and 49 of the log.
     pub call: u32,
     /// How many bytes there are: 0 to 64.
     pub len: u32,

@@ -11,7 +11,7 @@ use Rattle.kernel_rules.specs.declared.replies.Reply.TheVariants as replies
 use Rattle.checkpoints.specs.Checkpoint.{Checkpoint}
 use Rattle.dump_text.specs.Boot.{boot_checkpoint}
 use Rattle.dump_text.specs.Whole.{IsLegalDump}
-use Rattle.logged_kernel.specs.Logged.{Logged, IsMade, begun, dump_of}
+use Rattle.logged_kernel.specs.Logged.{Logged, IsCut, IsMade, IsWritten, begun, dump_of}
 use Rattle.call_records.specs.Asked.{Asked, Write, Read, Look, Log, Nothing, asked}
 use Rattle.call_records.specs.Logs.{TellsLength}
 use Rattle.call_records.specs.declared.logs.LogRequest.TheVariants as logs
@@ -36,6 +36,11 @@ kernel_in (Err why) = Err why
 -- the same of what is held
 abbrev pub held_kernel : Held → Result Logged ℕ
 held_kernel held = kernel_in held.kernel
+
+-- it is this kernel; or there is none, and the number is 30
+abbrev pub IsKept : Logged → Result Logged ℕ → Type 0
+IsKept k (Ok kept) = kept ≡ k
+IsKept k (Err why) = why ≡ 30
 
 -- the limits of these numbers, none where the device's level is none
 abbrev pub limits_of : ℕ → ℕ → ℕ → ℕ → Option Limits
@@ -105,6 +110,21 @@ IsDumpedAs (Some text) before after number old told =
 abbrev pub IsDumped : Kept → Kept → ℕ → Answer → Answer → Type 0
 IsDumped before after number old told = IsDumpedAs (dump_of before.logged) before after number old told
 
+-- the text of a checkpoint that writes down the kernel is made, and its length is told; or there is no memory for it, and
+-- the number is 51
+abbrev pub IsSaved : Kept → Kept → ℕ → Answer → Answer → Type 0
+IsSaved before after number old told =
+    ((after.logged ≡ before.logged) × IsWritten before.logged after.text.items
+    × (number ≡ 0) × TellsLength after.text.items told)
+    ⊎ IsRefused 51 before after number old told
+
+-- the log begins anew at the kernel as it stands; or there is no memory for that, and the number is 40
+abbrev pub IsLogCut : Kept → Kept → ℕ → Answer → Answer → Type 0
+IsLogCut before after number old told =
+    (IsCut before.logged after.logged × (after.text.items ≡ before.text.items)
+    × IsTold replies.Done number told)
+    ⊎ IsRefused 40 before after number old told
+
 -- exactly what is asked for is done, and answered by the rules; where that is nothing, nothing changes
 -- and the number is 45
 abbrev pub IsDone : Asked → ℕ → Kept → Kept → ℕ → Answer → Answer → Type 0
@@ -118,6 +138,8 @@ IsDone (Log logs.Begin) thread before after number old told = IsBegun before aft
 IsDone (Log logs.Dump) thread before after number old told = IsDumped before after number old told
 IsDone (Log (logs.Text from)) thread before after number old told =
     IsSame before after × IsTold (replies.Bytes (take 64 (drop from before.text.items))) number told
+IsDone (Log logs.Checkpoint) thread before after number old told = IsSaved before after number old told
+IsDone (Log logs.Cut) thread before after number old told = IsLogCut before after number old told
 IsDone Nothing thread before after number old told = IsRefused 45 before after number old told
 
 -- the same, where a kernel may be held; where none is, nothing changes and the number is why

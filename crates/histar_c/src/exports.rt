@@ -5,9 +5,11 @@ ghost use Rattle.std.specs.Ptr.{lies_at, room_at};
 ghost use denote.Param.{layout};
 ghost use prog.Memory.{capped, size};
 ghost use Rattle.histar_c.specs.contracts.held.Held.{the_row as HeldRow};
+ghost use Rattle.histar_c.specs.Opened.{IsOpened};
 ghost use Rattle.histar_c.specs.Served.{IsBoot, IsServed, held_kernel, limits_of};
 
 use crate::held::{Held, booted, end, serve};
+use crate::opening::opened;
 use call_records::{Answer, Request};
 use std::alloc::Global;
 
@@ -28,6 +30,18 @@ pub unsafe extern "C" fn histar_boot(
 {
     at.cast::<Held>()
         .write(booted(alloc, pages, device, next_id, next_category));
+}
+
+/// Opens a kernel at a text, which `histar_call` makes of a checkpoint, in room for it. The room then holds a kernel that is restored from
+/// the checkpoint of the text's dump, or is booted with the dump's limits where that has none; or why there is none: 30 for want of memory,
+/// 31 for limits out of range, 50 where the text is no dump, 60 where the checkpoint can't be restored, 63 where events come after it.
+#[unsafe(no_mangle)]
+pub unsafe extern "C" fn histar_boot_at(alloc: Global, text: &[u8], at: *mut u8)
+    requires* { sem 𝓛 (room_at HeldRow at) }
+    ensures* { ∃ₛ (λ (held : Held). sem 𝓛 (lies_at HeldRow full_share at held)
+        ∗ ⌜ IsOpened text.now (held_kernel held) ⌝) }
+{
+    at.cast::<Held>().write(opened(alloc, text));
 }
 
 /// Does what the record asks for, and gives the number of the refusal: 0 for none, 45 where the record asks for nothing.

@@ -3,7 +3,7 @@ ghost use Rattle.std.specs.Prelude.{◌≡◌, Some, None};
 ghost use Rattle.call_records.specs.Asked.{asked, asked_by};
 ghost use Rattle.call_records.specs.Logs.{log_request_of};
 ghost use Rattle.call_records.specs.Lookups.{lookup_of};
-ghost use Rattle.histar_c.specs.Served.{IsBoot, IsCalled, IsDone, IsFoundTold, IsSame, IsServed};
+ghost use Rattle.histar_c.specs.Served.{IsBoot, IsCalled, IsDone, IsFoundTold, IsKept, IsSame, IsServed};
 ghost use Rattle.histar_c.specs.Served.{held_kernel, kernel_in, limits_of};
 
 use crate::logs::answer_log;
@@ -29,26 +29,22 @@ pub struct Kept {
     pub call: Call,
     /// The last reply. A reply is large, so none is made anew.
     pub reply: Reply,
-    /// The text of the dump that was made last.
+    /// The text of the dump or the checkpoint that was made last.
     pub text: Vec<u8>,
 }
 
-/// A kernel, or the number that tells why there is none: 30 for want of memory, 31 for limits out of range.
+/// A kernel, or the number that tells why there is none: 30 for want of memory, 31 for limits out of range; of a text also 50, 60 and
+/// 63.
 #[derive(Drop)]
 pub struct Held {
     /// The kernel, or why there is none.
     pub kernel: Result<Kept, u32>,
 }
 
-/// A newly booted kernel, or why there is none.
-fn new_kernel(alloc: Global, limits: &Limits) -> Result<Kept, u32>
-    ensures { IsBoot (Some limits.now) (kernel_in result) }
+/// The kernel with what its calls need, or 30 for want of memory.
+pub(crate) fn kept_kernel(alloc: Global, logged: LoggedKernel) -> Result<Kept, u32>
+    ensures { IsKept logged (kernel_in result) }
 {
-    let logged = match LoggedKernel::boot(alloc, limits) {
-        Ok(logged) => logged,
-        Err(BootRefusal::BadLimits) => return Err(31),
-        Err(BootRefusal::Unavailable) => return Err(30),
-    };
     match Meter::new(alloc) {
         Ok(meter) => Ok(Kept {
             logged,
@@ -58,6 +54,17 @@ fn new_kernel(alloc: Global, limits: &Limits) -> Result<Kept, u32>
             text: Vec::new(alloc),
         }),
         Err(_) => Err(30),
+    }
+}
+
+/// A newly booted kernel, or why there is none.
+pub(crate) fn new_kernel(alloc: Global, limits: &Limits) -> Result<Kept, u32>
+    ensures { IsBoot (Some limits.now) (kernel_in result) }
+{
+    match LoggedKernel::boot(alloc, limits) {
+        Ok(logged) => kept_kernel(alloc, logged),
+        Err(BootRefusal::BadLimits) => Err(31),
+        Err(BootRefusal::Unavailable) => Err(30),
     }
 }
 

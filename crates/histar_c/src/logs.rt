@@ -1,7 +1,8 @@
-//! The log of the calls, for C.
-ghost use Rattle.std.specs.Prelude.{ℕ};
-ghost use Rattle.histar_c.specs.Served.{IsBegun, IsDone, IsDumped};
+//! The log of the calls and checkpoints, for C.
+ghost use Rattle.std.specs.Prelude.{◌≡◌, ℕ};
+ghost use Rattle.histar_c.specs.Served.{IsBegun, IsDone, IsDumped, IsLogCut, IsSaved};
 ghost use Rattle.call_records.specs.Asked.{Log};
+ghost use Rattle.call_records.specs.Logs.{TellsLength};
 
 use crate::held::Kept;
 use call_records::{Answer, LogRequest, tell, tell_length, tell_text};
@@ -17,18 +18,44 @@ fn begin(kept: &mut Kept, answer: &mut Answer) -> u32
     tell(&Reply::Done, answer, &mut kept.meter)
 }
 
+/// Keeps a text that was made, tells how many bytes it has, and gives 0.
+fn keep_text(kept: &mut Kept, text: Vec<u8>, answer: &mut Answer) -> u32
+    ensures kept { (kept.new.logged ≡ kept.old.logged) × (kept.new.text.items ≡ text.items) }
+    ensures told { (result ≡ 0) × TellsLength text.items answer.new }
+{
+    tell_length(text.as_slice(), answer);
+    kept.text = text;
+    0
+}
+
 /// Makes the text of the log's dump, and gives 0; 45 where no log is kept, and 51 for want of memory, and nothing changes.
 fn make_dump(kept: &mut Kept, answer: &mut Answer) -> u32
     ensures { IsDumped kept.old kept.new result answer.old answer.new }
 {
     match kept.logged.dump(&mut kept.meter) {
-        Ok(Some(text)) => {
-            tell_length(text.as_slice(), answer);
-            kept.text = text;
-            0
-        }
+        Ok(Some(text)) => keep_text(kept, text, answer),
         Ok(None) => 45,
         Err(_) => 51,
+    }
+}
+
+/// Makes the text of the kernel's checkpoint, and gives 0; 51 for want of memory, and nothing changes.
+fn make_checkpoint(kept: &mut Kept, answer: &mut Answer) -> u32
+    ensures { IsSaved kept.old kept.new result answer.old answer.new }
+{
+    match kept.logged.checkpoint_text(&mut kept.meter) {
+        Ok(text) => keep_text(kept, text, answer),
+        Err(_) => 51,
+    }
+}
+
+/// Begins the log anew, and gives 0; 40 for want of memory, and nothing changes.
+fn cut(kept: &mut Kept, answer: &mut Answer) -> u32
+    ensures { IsLogCut kept.old kept.new result answer.old answer.new }
+{
+    match kept.logged.cut_log() {
+        Ok(()) => tell(&Reply::Done, answer, &mut kept.meter),
+        Err(_) => 40,
     }
 }
 
@@ -43,5 +70,7 @@ pub(crate) fn answer_log(kept: &mut Kept, request: LogRequest, answer: &mut Answ
             tell_text(kept.text.as_slice(), from, answer);
             0
         }
+        LogRequest::Checkpoint => make_checkpoint(kept, answer),
+        LogRequest::Cut => cut(kept, answer),
     }
 }

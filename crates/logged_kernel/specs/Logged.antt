@@ -13,7 +13,7 @@ use Rattle.kernel_rules.specs.State.{State}
 use Rattle.kernel_rules.specs.Step.{answer, next}
 use Rattle.kernel_rules.specs.declared.calls.Call.{Call}
 use Rattle.dump_text.specs.Dump.{dump_text}
-use Rattle.dump_text.specs.Whole.{whole_dump}
+use Rattle.dump_text.specs.Whole.{whole_dump, IsLegalDump}
 use Rattle.syscall_core.specs.Kernel.{kernel_state}
 use Rattle.syscall_core.specs.declared.kernel.Kernel.{Kernel}
 use Rattle.logged_kernel.specs.declared.logging.EventLog.{EventLog}
@@ -88,6 +88,18 @@ pub record Writes (k : Logged) (c : Checkpoint) : Type 0 where
   pub state : restored k.limits c ≡ kernel_state k.kernel
   pub fit : is_restorable k.limits c ≡ true
   pub numbers : AreNumbered k c.next
+
+-- the text of the dump of a checkpoint, with no events
+abbrev pub checkpoint_text : Limits → Checkpoint → List ℕ
+checkpoint_text limits c = dump_text (whole_dump limits (Some c) [] [])
+
+-- this text, which is a legal dump's
+abbrev pub IsTextOf : Limits → Checkpoint → List ℕ → Type 0
+IsTextOf limits c text = (text ≡ checkpoint_text limits c) × IsLegalDump limits (Some c) text
+
+-- the text of a checkpoint that writes down the kernel
+abbrev pub IsWritten : Logged → List ℕ → Type 0
+IsWritten k text = (c : Checkpoint) × Writes k c × IsTextOf k.limits c text
 
 -- the log begins anew at the kernel as it stands
 pub record IsCut (before after : Logged) : Type 0 where

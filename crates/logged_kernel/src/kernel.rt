@@ -8,9 +8,9 @@ ghost use Rattle.dump_text.specs.Boot.{boot_checkpoint};
 ghost use Rattle.dump_text.specs.Whole.{IsLegalDump};
 ghost use Rattle.syscall_core.specs.Kernel.{kernel_state};
 ghost use Rattle.syscall_core.specs.Restored.{AreNext, restore_refusal};
-ghost use Rattle.logged_kernel.specs.Logged.{AreNumbered, IsCut, IsMade, Writes, begun, dump_of};
+ghost use Rattle.logged_kernel.specs.Logged.{AreNumbered, IsCut, IsMade, IsWritten, Writes, begun, dump_of};
 
-use crate::logging::{EventLog, make_kept, text_of};
+use crate::logging::{EventLog, checkpoint_text_of, make_kept, text_of};
 use crate::numbers::next_numbers;
 use base::{Limits, Meter, NoMemory, ObjectId};
 use checkpoints::{Checkpoint, NextNumber};
@@ -193,6 +193,17 @@ impl LoggedKernel {
     {
         let next = self.next()?;
         self.kernel.checkpoint(self.alloc, next)
+    }
+
+    /// The text of the kernel's checkpoint: the dump of that and of no events, so an audit finds it clean. The error is want
+    /// of memory, or that a thread has no next number.
+    pub fn checkpoint_text(&self, meter: &mut Meter) -> Result<Vec<u8>, NoMemory>
+        ensures { IfOk result (λ text. IsWritten self.now text.items) }
+    {
+        let checkpoint = self.checkpoint()?;
+        let tables = self.kernel.tables(meter)?;
+        let text = checkpoint_text_of(self.alloc, &self.limits, checkpoint, tables)?;
+        Ok(text)
     }
 
     /// Begins the log anew at the kernel as it stands: the events before are gone, and the numbers of threads go on. Where no

@@ -1,5 +1,7 @@
 //! Keeping the events of calls.
-ghost use Rattle.std.specs.Prelude.{◌≡◌, ◌+◌, ◌<◌, ◌++◌, ◌∷◌, [], Some, IfOk, IfSome, OnOk, OnErr, vec_len, vec_capacity};
+ghost use Rattle.std.specs.Prelude.{◌≡◌, ◌+◌, ◌<◌, ◌++◌, ◌∷◌, [], true, Some, IfOk, IfSome, OnOk, OnErr, vec_len, vec_capacity};
+ghost use Rattle.base.specs.Limits.{in_range};
+ghost use Rattle.checkpoints.specs.Restorable.{is_restorable};
 ghost use Rattle.checkpoints.specs.Restored.{restored};
 ghost use Rattle.checkpoints.specs.Starts.{number_of};
 ghost use Rattle.dump_text.specs.Dump.{dump_text};
@@ -10,13 +12,14 @@ ghost use Rattle.histories.specs.History.{count, state_from};
 ghost use Rattle.kernel_rules.specs.Scratch.{scratch};
 ghost use Rattle.kernel_rules.specs.Step.{answer, next};
 ghost use Rattle.syscall_core.specs.Kernel.{kernel_state};
+ghost use Rattle.logged_kernel.specs.Logged.{IsTextOf};
 ghost use Rattle.logged_kernel.specs.Numbers.{AreCounted};
 
 use crate::copies::copied;
 use crate::numbers::{later, number_of};
 use base::{Limits, Meter, NoMemory, ObjectId};
 use checkpoints::Checkpoint;
-use dump_text::dump_of;
+use dump_text::{dump_of, legal_is_dump};
 use kept_events::{KeptCalls, KeptEvent, KeptReply, call_answers, events_of};
 use kernel_rules::{Call, Reply, Tables};
 use std::alloc::Global;
@@ -90,6 +93,24 @@ pub(crate) fn make_kept(
     let event = kept.event(thread, number, KeptReply::new(reply), &[]);
     log.events.push_reserved(event);
     Ok(())
+}
+
+/// The text of a checkpoint's dump, with no events. Want of memory is the only error.
+pub(crate) fn checkpoint_text_of(
+    alloc: Global,
+    limits: &Limits,
+    checkpoint: Checkpoint,
+    tables: Tables,
+) -> Result<Vec<u8>, NoMemory>
+    requires range { in_range limits.now ≡ true }
+    requires fit { is_restorable limits.now checkpoint ≡ true }
+    requires tables { tables ≡ scratch (restored limits.now checkpoint) }
+    ensures { IfOk result (λ text. IsTextOf limits.now checkpoint text.items) }
+{
+    legal_is_dump();
+    let (events, reads) = (Vec::new(alloc), Vec::new(alloc));
+    let text = dump_of(alloc, limits, Some(checkpoint), events, reads, tables)?;
+    Ok(text)
 }
 
 /// The dump of the events after a checkpoint, as text, with the tables of the state that they lead to. Want of memory is the

@@ -23,13 +23,15 @@ fn make_dump(kept: &mut KeptSeat, answer: &mut Answer) -> u32
 }
 
 /// Does what is asked of the log, which a seat has from the start or never, and gives the number of the refusal: 45 where it should
-/// begin.
+/// begin or be cut, and of checkpoints.
 #[inline(never)]
 pub(crate) fn answer_log(kept: &mut KeptSeat, asked: LogRequest, answer: &mut Answer) -> u32
     ensures { IsLogAsked asked kept.old kept.new result answer.old answer.new }
 {
     match asked {
         LogRequest::Begin => 45,
+        LogRequest::Checkpoint => 45,
+        LogRequest::Cut => 45,
         LogRequest::Dump => make_dump(kept, answer),
         LogRequest::Text { from } => {
             tell_text(kept.text.as_slice(), from, answer);

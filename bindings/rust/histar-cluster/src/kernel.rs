@@ -35,7 +35,7 @@ fn put_numbers(out: &mut Vec<u8>, numbers: [u64; 3]) {
 
 /// A kernel keeps no log of its own here: a call may be refused for want of memory to keep it, which is no rule of the kernel.
 ///
-/// The library can't begin a kernel at a checkpoint, so it gives none: a cluster of kernels keeps its whole log.
+/// It gives no checkpoint, so a cluster of kernels keeps its whole log: one that lacks memory for the text would seem to be in another state.
 impl Machine for Kernel {
     type Call = Record;
     type Reply = Result<Reply, Refusal>;

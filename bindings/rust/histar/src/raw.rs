@@ -117,6 +117,7 @@ extern "C" {
     fn histar_size() -> usize;
     fn histar_version() -> u32;
     fn histar_boot(pages: u32, device_level: u8, next_id: u64, next_category: u64, room: *mut Room);
+    fn histar_boot_at(text: *const u8, len: usize, room: *mut Room);
     fn histar_call(room: *mut Room, request: *const Request, answer: *mut Answer) -> u32;
     fn histar_end(room: *mut Room);
 }
@@ -246,6 +247,17 @@ impl Raw {
         // here on it holds a kernel, or why there is none.
         unsafe {
             histar_boot(limits.pages, limits.device.number(), limits.next_id, limits.next_category, &mut *room);
+            Raw::of(room, Holds::Kernel)
+        }
+    }
+
+    /// Opens a kernel at a text. The error is the number that tells why there is none.
+    pub fn boot_at(text: &[u8]) -> Result<Raw, u32> {
+        check_version()?;
+        let mut room = Room::new();
+        // SAFETY: as at a boot. The text is read for the length of the call, and nobody writes it meanwhile.
+        unsafe {
+            histar_boot_at(text.as_ptr(), text.len(), &mut *room);
             Raw::of(room, Holds::Kernel)
         }
     }

@@ -72,12 +72,18 @@ pub enum Refusal {
     ListFull = 47,
     /// The note is of another shared kernel.
     OtherList = 48,
-    /// There is no memory for the text of a dump.
+    /// The text is no dump.
+    TextFault = 50,
+    /// There is no memory for the text of a dump or of a checkpoint.
     TextMemory = 51,
+    /// No calls lead to what the text's checkpoint says.
+    IllFormed = 60,
+    /// The text is a dump with calls after its checkpoint.
+    HasEvents = 63,
 }
 
 /// All refusals.
-const REFUSALS: [Refusal; 34] = [
+const REFUSALS: [Refusal; 37] = [
     Refusal::Halted,
     Refusal::NoAccess,
     Refusal::NoEntry,
@@ -111,7 +117,10 @@ const REFUSALS: [Refusal; 34] = [
     Refusal::Busy,
     Refusal::ListFull,
     Refusal::OtherList,
+    Refusal::TextFault,
     Refusal::TextMemory,
+    Refusal::IllFormed,
+    Refusal::HasEvents,
 ];
 
 impl Refusal {
@@ -171,7 +180,7 @@ impl TryFrom<u32> for Refusal {
 }
 
 /// `PermissionDenied` where labels refuse it, `NotFound` where an entry leads nowhere, `OutOfMemory` for want of memory, `InvalidInput`
-/// where a number is out of its range, and else `Other`.
+/// where a number is out of its range, `InvalidData` where a text opens no kernel, and else `Other`.
 ///
 /// ```
 /// let error = std::io::Error::from(histar::Refusal::CannotObserve);
@@ -187,6 +196,7 @@ impl From<Refusal> for std::io::Error {
             Refusal::NoAccess | Refusal::NoEntry => ErrorKind::NotFound,
             Refusal::Unavailable | Refusal::Memory | Refusal::TextMemory => ErrorKind::OutOfMemory,
             Refusal::BadBatch | Refusal::BadLimits | Refusal::Bounds => ErrorKind::InvalidInput,
+            Refusal::TextFault | Refusal::IllFormed | Refusal::HasEvents => ErrorKind::InvalidData,
             _ => ErrorKind::Other,
         };
         std::io::Error::new(kind, refusal)

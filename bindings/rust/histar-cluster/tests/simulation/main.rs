@@ -3,7 +3,7 @@
 //! loses its disks. No promise to a caller may be broken.
 //!
 //! `simulation [RUNS [STEPS [SEED]]]`: so many runs of so many steps of a model, from a seed on, and a tenth of them with the proved kernel,
-//! which has no checkpoint.
+//! which gives no checkpoint.
 mod model;
 mod player;
 #[path = "../../src/sha256.rs"]

@@ -36,7 +36,7 @@ impl Player for Model {
     }
 }
 
-/// The kernel, with what each call was answered. It can't be begun at a checkpoint, so it gives none.
+/// The kernel, with what each call was answered. It gives no checkpoint.
 pub struct Real {
     kernel: Kernel,
     replies: BTreeMap<u64, Result<histar::Reply, Refusal>>,
@@ -65,7 +65,7 @@ impl Machine for Real {
         Machine::is_live(&self.kernel, thread)
     }
     fn checkpoint(&self) -> Option<Vec<u8>> {
-        self.kernel.checkpoint()
+        Machine::checkpoint(&self.kernel)
     }
     fn restore(_limits: &[u8], _state: &[u8]) -> Option<Real> {
         None
