@@ -23,6 +23,7 @@ GUARDS = (
     ("    if (histar_taken(k)) return HISTAR_BUSY;\n    if (histar_is_open(k)) return histar_released(k, HISTAR_BUSY);\n", "    (void)histar_taken(k);\n"),
     ("    if (histar_is_open(k)) return histar_released(k, HISTAR_BUSY);\n", ""),
     ("    if (pages > UINT32_MAX) pages = UINT32_MAX; /* no kernel has so many, either */\n", ""),
+    ("    if (!refusal && len > PTRDIFF_MAX) refusal = HISTAR_TEXT_FAULT; /* no text is so long */\n", ""),
     ("return level > HISTAR_STAR ? 255 : (uint8_t)level;", "return (uint8_t)level;"),
     ("change >= INT32_MIN && change <= INT32_MAX ? (uint32_t)change : UINT64_MAX", "(uint32_t)change"),
     ("    if (len > 64) return histar_released(k, HISTAR_BAD_BATCH);\n", "    len = len > 64 ? 64 : len;\n"),
