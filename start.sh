@@ -78,6 +78,7 @@ ends() {
 writes_no_file() {
     for word; do
         case $word in --dump | --dump=* | --out | --out=* | --migrate | --migrate=*) ends 78 "${word%%=*} needs the proved program, which ./prove builds" ;; esac
+        case "$name $word" in 'histar --names' | 'histar --names='*) ends 78 '--names needs the proved program, which ./prove builds' ;; esac
     done
     ! grep -q '^save [^=]' "$said.lines" || ends 78 'save needs the proved program, which ./prove builds'
 }
@@ -88,8 +89,8 @@ name_of() {
 }
 
 # Runs the program by `rt try`, which compiles the sources as they stand with checks and keeps nothing. Each word that is a file is
-# handed over. Its input is read whole first, since it answers all lines together. What rt says of a run that the program ended is left
-# out.
+# handed over, and so is the file of `--names=FILE`. Its input is read whole first, since it answers all lines together. What rt says
+# of a run that the program ended is left out.
 unproved() {
     command -v rt >/dev/null || ends 69 'rt (the Rattle toolchain) is not on the path'
     printf '%s: not proved yet: this run is compiled with checks, which takes some minutes; ./prove builds the proved program\n' "$name" >&2
@@ -101,6 +102,10 @@ unproved() {
         cat >"$said.lines"
     fi
     writes_no_file "$@"
+    for word; do
+        case $word in --names=*) set -- "$@" --names "${word#*=}" ;; *) set -- "$@" "$word" ;; esac
+        shift
+    done
     words=$#
     for word; do
         [ ! -f "$word" ] || set -- "$@" --data "$(name_of "$word")=$(realpath "$word")"

@@ -17,7 +17,7 @@ FAILED = {3: "a file can't be read or written", 4: "out of memory"}
 STATUSES = {
     "histar": {0: "done; a refused call is no failure", 1: "the script has a fault, or check has found something", 2: "wrong arguments", **FAILED},
     "histar-audit": {0: "the dump is clean", 1: "a line is false", 2: "the file is no dump, or wrong arguments", **FAILED},
-    "histar-show": {0: "shown", 1: "what is asked for needs a clean dump, and this is none", 2: "no dump, no call at the line, or wrong arguments", **FAILED},
+    "histar-show": {0: "shown", 1: "what is asked for needs a clean dump, and this is none", 2: "no dump, no names, no call at the line, or wrong arguments", **FAILED},
     "confine": {"N": "the program's own status, or 0 once a secret was read", 2: "wrong arguments", 69: "this machine lacks something; nothing was started", 70: "something failed"},
 }
 EXAMPLES = {

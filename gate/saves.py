@@ -33,6 +33,7 @@ class Save:
 
 SAVES = [
     Save("histar", ["run", "script", "--dump", "file"]),
+    Save("histar", ["run", "script", "--names", "file"]),
     Save("histar", ["try"], DIALOGUE),
     Save("histar_audit", ["dump", "--migrate", "file"]),
     Save("histar_show", ["page", "dump", "--out", "file"]),

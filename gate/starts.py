@@ -128,12 +128,16 @@ def try_unproved(report, tree):
     outside = os.path.realpath(f"{tree.top}/script")
     expect(report, "./histar unproved, a script by its whole path", tree.start("./histar", "run", outside), (1, f"{given} run script\n", UNPROVED))
     expect(report, "./histar unproved, no such script", tree.start("./histar", "run", "none"), (1, "try -- run none\n", UNPROVED))
+    write(f"{tree.top}/names", "")
+    for words in (("tree", "script", "--names", "names"), ("tree", "script", "--names=names")):
+        handed = f"{given.removesuffix(' --')} --data names={os.path.realpath(tree.top)}/names -- tree script --names names\n"
+        expect(report, f"./histar-show {' '.join(words)} unproved", tree.start("./histar-show", *words), (1, handed, unproved_of("histar-show")))
     no_rt = (69, "", "histar: rt (the Rattle toolchain) is not on the path\n")
     expect(report, "./histar without rt", tree.start("./histar", "run", "script", has_rt=False), no_rt)
     expect(report, "./histar try unproved", tree.start("./histar", "try"), (1, "try -- try\n", UNPROVED))
     save = (78, "", f"{UNPROVED}histar: save {NEEDS}")
     expect(report, "./histar try unproved, with save", tree.start("./histar", "try", given="save c\n"), save)
-    for program, words in (("histar", ("run", "script", "--dump", "d")), ("histar-audit", ("script", "--migrate=d")), ("histar-show", ("page", "script", "--out", "d"))):
+    for program, words in (("histar", ("run", "script", "--dump", "d")), ("histar", ("run", "script", "--names=n")), ("histar-audit", ("script", "--migrate=d")), ("histar-show", ("page", "script", "--out", "d"))):
         option = next(it for it in words if it.startswith("--")).partition("=")[0]
         wanted = (78, "", f"{unproved_of(program)}{program}: {option} {NEEDS}")
         expect(report, f"./{program} {' '.join(words)} unproved", tree.start(f"./{program}", *words), wanted)

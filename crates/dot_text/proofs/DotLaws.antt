@@ -5,6 +5,7 @@ use Rattle.std.specs.Global.{Vec}
 use Rattle.std.specs.Io.KnownBytes.{Appends}
 use Rattle.std.specs.List.{flat_map}
 use Rattle.base.specs.declared.ids.Category.{Category}
+use Rattle.call_text.specs.declared.known_names.Named.{Named}
 use Rattle.kernel_rules.specs.State.{State, list_at}
 use Rattle.dot_text.specs.Dots.{opened_at, closed_at, dot_from, arrows_at, arrows_from}
 use Rattle.dot_text.specs.Shown.{IsDot, PrintsDot}
@@ -13,28 +14,28 @@ use Rattle.tree_text.specs.Places.{below}
 use Rattle.tree_text.specs.declared.places.Place.{Place}
 
 -- a level of the graph, and the levels below it
-level : (s : State) (reached : List ℕ) (levels : ℕ) (p : Place) → 0 < levels
-    → opened_at s reached p ++ flat_map (λ id. dot_from s reached (levels - 1) (below p id)) (list_at s p.id) ++ closed_at s p
-    ≡ dot_from s reached levels p
-level s reached zero p some = absurd (omega arith)
-level s reached (suc n) p some =
+level : (names : List Named) (s : State) (reached : List ℕ) (levels : ℕ) (p : Place) → 0 < levels
+    → opened_at names s reached p ++ flat_map (λ id. dot_from names s reached (levels - 1) (below p id)) (list_at s p.id) ++ closed_at s p
+    ≡ dot_from names s reached levels p
+level names s reached zero p some = absurd (omega arith)
+level names s reached (suc n) p some =
     let less : suc n - 1 ≡ n = omega arith in
-    ap (λ m. opened_at s reached p ++ flat_map (λ id. dot_from s reached m (below p id)) (list_at s p.id) ++ closed_at s p) less
+    ap (λ m. opened_at names s reached p ++ flat_map (λ id. dot_from names s reached m (below p id)) (list_at s p.id) ++ closed_at s p) less
 
 -- all levels were told
-pub told_level : (s : State) (reached : List ℕ) (levels : ℕ) (p : Place) (out lines told end : List ℕ) (ids : List ℕ) (i : ℕ)
-    → 0 < levels → lines ≡ out ++ opened_at s reached p → ids ≡ list_at s p.id → length ids ≤ i
-    → told ++ flat_map (λ id. dot_from s reached (levels - 1) (below p id)) (drop i ids)
-    ≡ lines ++ flat_map (λ id. dot_from s reached (levels - 1) (below p id)) ids
-    → end ≡ told ++ closed_at s p → end ≡ out ++ dot_from s reached levels p
-told_level s reached levels p out lines told end ids i some first listed all more closed =
-    let f : ℕ → List ℕ = λ id. dot_from s reached (levels - 1) (below p id) in
+pub told_level : (names : List Named) (s : State) (reached : List ℕ) (levels : ℕ) (p : Place) (out lines told end : List ℕ) (ids : List ℕ) (i : ℕ)
+    → 0 < levels → lines ≡ out ++ opened_at names s reached p → ids ≡ list_at s p.id → length ids ≤ i
+    → told ++ flat_map (λ id. dot_from names s reached (levels - 1) (below p id)) (drop i ids)
+    ≡ lines ++ flat_map (λ id. dot_from names s reached (levels - 1) (below p id)) ids
+    → end ≡ told ++ closed_at s p → end ≡ out ++ dot_from names s reached levels p
+told_level names s reached levels p out lines told end ids i some first listed all more closed =
+    let f : ℕ → List ℕ = λ id. dot_from names s reached (levels - 1) (below p id) in
     closed
     ∙ ap (λ l. l ++ closed_at s p)
-    (all_listed f out (opened_at s reached p) lines told ids i first all more
-    ∙ ap (λ l. out ++ (opened_at s reached p ++ flat_map f l)) listed)
-    ∙ append_assoc out (opened_at s reached p ++ flat_map f (list_at s p.id)) (closed_at s p)
-    ∙ ap (λ l. out ++ l) (level s reached levels p some)
+    (all_listed f out (opened_at names s reached p) lines told ids i first all more
+    ∙ ap (λ l. out ++ (opened_at names s reached p ++ flat_map f l)) listed)
+    ∙ append_assoc out (opened_at names s reached p ++ flat_map f (list_at s p.id)) (closed_at s p)
+    ∙ ap (λ l. out ++ l) (level names s reached levels p some)
 
 arrow_level : (s : State) (levels : ℕ) (p : Place) → 0 < levels
     → arrows_at s p ++ flat_map (λ id. arrows_from s (levels - 1) (below p id)) (list_at s p.id) ≡ arrows_from s levels p
@@ -56,12 +57,12 @@ told_arrows s levels p out lines told ids i some first listed all more =
     ∙ ap (λ l. out ++ l) (arrow_level s levels p some)
 
 -- the graph of all that was read was printed
-pub printed_dot : (remaining old new : Option (List ℕ)) (flow : Option (ℕ × Category)) (read given : List ℕ) (told : Vec ℕ)
-    → IfSome remaining (λ left. read ≡ left) → given ≡ read → IsDot flow given (Ok told) → Appends old new told.items
-    → IfSome remaining (PrintsDot flow old new)
-printed_dot None old new flow read given told is same shown printed = tt
-printed_dot (Some left) old new flow read given told is same shown printed = (
+pub printed_dot : (names : List Named) (remaining old new : Option (List ℕ)) (flow : Option (ℕ × Category)) (read given : List ℕ) (told : Vec ℕ)
+    → IfSome remaining (λ left. read ≡ left) → given ≡ read → IsDot names flow given (Ok told) → Appends old new told.items
+    → IfSome remaining (PrintsDot names flow old new)
+printed_dot names None old new flow read given told is same shown printed = tt
+printed_dot names (Some left) old new flow read given told is same shown printed = (
   told,
-  subst (λ (l : List ℕ). IsDot flow l (Ok told)) (same ∙ is) shown,
+  subst (λ (l : List ℕ). IsDot names flow l (Ok told)) (same ∙ is) shown,
   printed,
 )

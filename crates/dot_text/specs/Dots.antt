@@ -1,6 +1,7 @@
 -- A state as a graph for Graphviz: a cluster for each container, and in it a node for each object that it lists.
 use Rattle.std.specs.Prelude.{ℕ, List, [], ◌++◌, codes, zero, suc}
 use Rattle.std.specs.List.{flat_map}
+use Rattle.call_text.specs.declared.known_names.Named.{Named}
 use Rattle.kernel_rules.specs.State.{State, object_at, of_object, list_at, quota_at}
 use Rattle.kernel_rules.specs.declared.objects.Object.{Object}
 use Rattle.dot_text.specs.Nodes.{open_text, close_text, body_arrows}
@@ -8,17 +9,17 @@ use Rattle.tree_text.specs.Places.{root, below}
 use Rattle.tree_text.specs.declared.places.Place.{Place}
 
 -- what stands at a place before what the object lists, and after it
-abbrev pub opened_at : State → List ℕ → Place → List ℕ
-opened_at s reached p = of_object [] (open_text s reached p) (object_at s p.id)
+abbrev pub opened_at : List Named → State → List ℕ → Place → List ℕ
+opened_at names s reached p = of_object [] (open_text names s reached p) (object_at s p.id)
 
 abbrev pub closed_at : State → Place → List ℕ
 closed_at s p = of_object [] (close_text p) (object_at s p.id)
 
 -- so many levels from a place on, of which these objects are reached
-abbrev pub dot_from : State → List ℕ → ℕ → Place → List ℕ
-dot_from s reached zero p = []
-dot_from s reached (suc levels) p =
-    opened_at s reached p ++ flat_map (λ id. dot_from s reached levels (below p id)) (list_at s p.id) ++ closed_at s p
+abbrev pub dot_from : List Named → State → List ℕ → ℕ → Place → List ℕ
+dot_from names s reached zero p = []
+dot_from names s reached (suc levels) p =
+    opened_at names s reached p ++ flat_map (λ id. dot_from names s reached levels (below p id)) (list_at s p.id) ++ closed_at s p
 
 -- the arrows from what stands at a place
 abbrev pub arrows_at : State → Place → List ℕ
@@ -31,7 +32,7 @@ arrows_from s (suc levels) p =
     arrows_at s p ++ flat_map (λ id. arrows_from s levels (below p id)) (list_at s p.id)
 
 -- the whole graph, which has as many levels as the tree
-abbrev pub dot_text : State → List ℕ → List ℕ
-dot_text s reached =
-    codes "digraph dump {\nnode [shape=box];\n" ++ dot_from s reached (quota_at s 1) root
+abbrev pub dot_text : List Named → State → List ℕ → List ℕ
+dot_text names s reached =
+    codes "digraph dump {\nnode [shape=box];\n" ++ dot_from names s reached (quota_at s 1) root
     ++ arrows_from s (quota_at s 1) root ++ codes "}\n"

@@ -2,6 +2,7 @@
 use Rattle.std.specs.Prelude.{ℕ, ◌+◌, ◌==◌, ◌&&◌, Bool, List, [], ◌∷◌, ◌++◌, Option, Some, None, codes, decimal, if◌then◌else◌}
 use Rattle.base.specs.Live.{has}
 use Rattle.base.specs.declared.kinds.Kind.TheVariants as kinds
+use Rattle.call_text.specs.declared.known_names.Named.{Named}
 use Rattle.kernel_rules.specs.State.{State, is_kind}
 use Rattle.kernel_rules.specs.declared.calls.Entry.{Entry}
 use Rattle.kernel_rules.specs.declared.objects.Mapping.{Mapping}
@@ -16,9 +17,9 @@ abbrev pub broken : ℕ → List ℕ → List ℕ
 broken last [] = []
 broken last (x ∷ xs) = (if (last == 44) && (x == 32) then codes "\\n" else x ∷ []) ++ broken x xs
 
--- what the tree tells of the object, as a label
-abbrev pub node_label : State → Place → Object → List ℕ
-node_label s p x = codes "label=\"" ++ broken 0 (object_text [] s p x) ++ codes "\""
+-- what the tree tells of the object, as a label, with the names that are known
+abbrev pub node_label : List Named → State → Place → Object → List ℕ
+node_label names s p x = codes "label=\"" ++ broken 0 (object_text names s p x) ++ codes "\""
 
 -- the name of the node of an object in a container
 abbrev pub node_name : ℕ → ℕ → List ℕ
@@ -32,13 +33,13 @@ abbrev pub mark_text : List ℕ → ℕ → List ℕ
 mark_text reached id = color_text (has reached id)
 
 -- what Graphviz is told of the object
-abbrev pub attributes : State → List ℕ → Place → Object → List ℕ
-attributes s reached p x = node_label s p x ++ mark_text reached p.id
+abbrev pub attributes : List Named → State → List ℕ → Place → Object → List ℕ
+attributes names s reached p x = node_label names s p x ++ mark_text reached p.id
 
 -- the line of a node
-abbrev pub node_line : State → List ℕ → Place → Object → List ℕ
-node_line s reached p x =
-    indent p.depth ++ node_name p.container p.id ++ codes " [" ++ attributes s reached p x ++ codes "];\n"
+abbrev pub node_line : List Named → State → List ℕ → Place → Object → List ℕ
+node_line names s reached p x =
+    indent p.depth ++ node_name p.container p.id ++ codes " [" ++ attributes names s reached p x ++ codes "];\n"
 
 -- an arrow to what an entry names
 abbrev pub arrow_text : Place → Entry → List ℕ
@@ -72,13 +73,13 @@ cluster_begin p = indent p.depth ++ codes "subgraph cluster_" ++ decimal p.id ++
 abbrev pub unseen_node : ℕ → List ℕ
 unseen_node id = codes "]; c" ++ decimal id ++ codes " [style=invis];\n"
 
-abbrev pub cluster_text : State → List ℕ → Place → Object → List ℕ
-cluster_text s reached p x = cluster_begin p ++ attributes s reached p x ++ unseen_node p.id
+abbrev pub cluster_text : List Named → State → List ℕ → Place → Object → List ℕ
+cluster_text names s reached p x = cluster_begin p ++ attributes names s reached p x ++ unseen_node p.id
 
 -- what stands of an object before what it lists, and after it
-abbrev pub open_text : State → List ℕ → Place → Object → List ℕ
-open_text s reached p x =
-    if is_kind kinds.Container x then cluster_text s reached p x else node_line s reached p x
+abbrev pub open_text : List Named → State → List ℕ → Place → Object → List ℕ
+open_text names s reached p x =
+    if is_kind kinds.Container x then cluster_text names s reached p x else node_line names s reached p x
 
 abbrev pub close_text : Place → Object → List ℕ
 close_text p x = if is_kind kinds.Container x then indent p.depth ++ codes "}\n" else []

@@ -5,6 +5,7 @@ use Rattle.std.specs.Io.KnownBytes.{Appends}
 use Rattle.auditor.specs.Verdict.{IsVerdict}
 use Rattle.auditor.specs.declared.verdicts.Verdict.TheVariants as is
 use Rattle.base.specs.declared.ids.Category.{Category}
+use Rattle.call_text.specs.declared.known_names.Named.{Named}
 use Rattle.dot_text.specs.Dots.{dot_text}
 use Rattle.dot_text.specs.declared.faults.DotFault.{DotFault}
 use Rattle.dot_text.specs.declared.faults.DotFault.TheVariants as faults
@@ -22,13 +23,18 @@ abbrev pub IsUntraced : Option (ℕ × Category) → List ℕ → Type 0
 IsUntraced None text = ⊥
 IsUntraced (Some flow) text = IsVerdict text is.Clean → ⊥
 
--- the graph of the state that all events of a dump lead to
-abbrev pub IsDot : Option (ℕ × Category) → List ℕ → Result (Vec ℕ) DotFault → Type 0
-IsDot flow text (Ok told) =
-    (s : State) × LeadsTo text None s × ((reached : List ℕ) × IsRed flow text reached × (told.items ≡ dot_text s reached))
-IsDot flow text (Err (faults.Unshown fault)) = IsWhyNone text fault
-IsDot flow text (Err faults.NotClean) = IsUntraced flow text
+-- why there is no graph
+abbrev pub IsNoDot : Option (ℕ × Category) → List ℕ → DotFault → Type 0
+IsNoDot flow text (faults.Unshown fault) = IsWhyNone text fault
+IsNoDot flow text faults.NotClean = IsUntraced flow text
+
+-- the graph of the state that all events of a dump lead to, with the names that are known
+abbrev pub IsDot : List Named → Option (ℕ × Category) → List ℕ → Result (Vec ℕ) DotFault → Type 0
+IsDot names flow text (Ok told) =
+    (s : State) × LeadsTo text None s
+    × ((reached : List ℕ) × IsRed flow text reached × (told.items ≡ dot_text names s reached))
+IsDot names flow text (Err fault) = IsNoDot flow text fault
 
 -- the same of a dump that was read, added to what was printed
-abbrev pub PrintsDot : Option (ℕ × Category) → Option (List ℕ) → Option (List ℕ) → List ℕ → Type 0
-PrintsDot flow old new text = (told : Vec ℕ) × IsDot flow text (Ok told) × Appends old new told.items
+abbrev pub PrintsDot : List Named → Option (ℕ × Category) → Option (List ℕ) → Option (List ℕ) → List ℕ → Type 0
+PrintsDot names flow old new text = (told : Vec ℕ) × IsDot names flow text (Ok told) × Appends old new told.items

@@ -1,12 +1,14 @@
 //! The graph.
 ghost use Rattle.std.specs.Prelude.{◌≡◌, ◌++◌, ◌+◌, ◌^◌, ◌<◌, IfErr, IfOk, OnOk};
 ghost use Rattle.dot_text.specs.Dots.{opened_at, closed_at, dot_from, arrows_at, arrows_from, dot_text};
-ghost use Rattle.dot_text.specs.Shown.{IsRed, IsDot};
+ghost use Rattle.dot_text.specs.Shown.{IsRed, IsDot, IsNoDot};
 ghost use Rattle.plain_state.specs.StateOf.{state_of};
 
 use crate::faults::DotFault;
+use crate::looks::Look;
 use crate::nodes::{put_arrows, put_closed, put_opened};
 use base::{Category, Meter, NoMemory, ObjectId};
+use call_text::Named;
 use clean_dumps::DumpFault;
 use plain_state::PlainState;
 use show_states::{ShowFault, state_after};
@@ -18,16 +20,16 @@ use tree_text::Place;
 fn put_before(
     out: &mut Vec<u8>,
     state: &PlainState,
-    reached: &[ObjectId],
+    look: &Look<'_>,
     place: &Place,
     meter: &mut Meter,
 ) -> Result<(), NoMemory>
     ensures { OnOk result (out.new.items
-        ≡ out.old.items ++ opened_at (state_of state.now) reached.now place.now) }
+        ≡ out.old.items ++ opened_at look.now.names.now (state_of state.now) look.now.reached.now place.now) }
 {
     match state.object(place.id) {
         None => Ok(()),
-        Some(object) => put_opened(out, state, reached, place, object, meter),
+        Some(object) => put_opened(out, state, look, place, object, meter),
     }
 }
 
@@ -45,21 +47,21 @@ fn put_after(out: &mut Vec<u8>, state: &PlainState, place: &Place) -> Result<(),
 fn put_dot(
     out: &mut Vec<u8>,
     state: &PlainState,
-    reached: &[ObjectId],
+    look: &Look<'_>,
     levels: u32,
     place: &Place,
     meter: &mut Meter,
 ) -> Result<(), NoMemory>
     requires { place.now.depth + levels < 2 ^ 62 }
     ensures { OnOk result (out.new.items
-        ≡ out.old.items ++ dot_from (state_of state.now) reached.now levels place.now) }
+        ≡ out.old.items ++ dot_from look.now.names.now (state_of state.now) look.now.reached.now levels place.now) }
 {
     if levels == 0 {
         return Ok(());
     }
-    put_before(out, state, reached, place, meter)?;
+    put_before(out, state, look, place, meter)?;
     for id in state.list(place.id) {
-        put_dot(out, state, reached, levels - 1, &place.below(*id), meter)?;
+        put_dot(out, state, look, levels - 1, &place.below(*id), meter)?;
     }
     put_after(out, state, place)?;
     Ok(())
@@ -96,22 +98,16 @@ fn put_all_arrows(
     Ok(())
 }
 
-/// The graph of a state, in which these objects are reached.
-fn dot_of(state: &PlainState, reached: &[ObjectId]) -> Result<Vec<u8>, NoMemory>
-    ensures { IfOk result (λ text. text.items ≡ dot_text (state_of state.now) reached.now) }
+/// The graph of a state.
+fn dot_of(state: &PlainState, look: &Look<'_>) -> Result<Vec<u8>, NoMemory>
+    ensures { IfOk result (λ text. text.items
+        ≡ dot_text look.now.names.now (state_of state.now) look.now.reached.now) }
 {
     let mut meter = Meter::new(state.alloc())?;
     let mut text = Vec::new(state.alloc());
     let levels = state.quota(ObjectId::root());
     text.extend_from_slice(b"digraph dump {\nnode [shape=box];\n")?;
-    put_dot(
-        &mut text,
-        state,
-        reached,
-        levels,
-        &Place::root(),
-        &mut meter,
-    )?;
+    put_dot(&mut text, state, look, levels, &Place::root(), &mut meter)?;
     put_all_arrows(&mut text, state, levels, &Place::root())?;
     text.extend_from_slice(b"}\n")?;
     Ok(text)
@@ -125,7 +121,7 @@ pub fn red_in(
     flow: Option<(ObjectId, Category)>,
 ) -> Result<Vec<ObjectId>, DotFault>
     ensures red { IfOk result (λ ids. IsRed flow text.now ids.items) }
-    ensures fault { IfErr result (λ fault. IsDot flow text.now (Err fault)) }
+    ensures fault { IfErr result (IsNoDot flow text.now) }
 {
     let Some(asked) = flow else {
         return Ok(Vec::new(alloc));
@@ -137,20 +133,25 @@ pub fn red_in(
     }
 }
 
-/// The objects that a dump leads to as a graph. Where flows are asked for, of an object outside a category, each object that
-/// they reach is red. The errors come in this order: the text is no dump, its checkpoint can't be restored, an audit does not
-/// find it clean; or there is no memory.
+/// The objects that a dump leads to as a graph, with the names that are known. Where flows are asked for, of an object outside a
+/// category, each object that they reach is red. The errors come in this order: the text is no dump, its checkpoint can't be
+/// restored, an audit does not find it clean; or there is no memory.
 pub fn dot(
     alloc: Global,
     text: &[u8],
     flow: Option<(ObjectId, Category)>,
+    names: &[Named],
 ) -> Result<Vec<u8>, DotFault>
-    ensures { IsDot flow text.now result }
+    ensures { IsDot names.now flow text.now result }
 {
     let state = match state_after(alloc, text, None) {
         Ok(state) => state,
         Err(fault) => return Err(DotFault::Unshown(fault)),
     };
     let red = red_in(alloc, text, flow)?;
-    Ok(dot_of(&state, red.as_slice())?)
+    let look = Look {
+        names,
+        reached: red.as_slice(),
+    };
+    Ok(dot_of(&state, &look)?)
 }

@@ -4,7 +4,9 @@ ghost use Rattle.base.specs.Live.{has};
 ghost use Rattle.dot_text.specs.Nodes.{broken, node_label, node_name, color_text, mark_text, attributes, node_line, arrow_text, slot_arrow, slot_arrows, space_arrow, body_arrows, cluster_begin, unseen_node, cluster_text, open_text, close_text};
 ghost use Rattle.plain_state.specs.StateOf.{state_of};
 
+use crate::looks::Look;
 use base::{Kind, Meter, NoMemory, ObjectId};
+use call_text::Named;
 use kernel_rules::{Body, Entry, Mapping, Object};
 use plain_state::{PlainState, kind_of};
 use text_words::put_number;
@@ -26,19 +28,20 @@ fn put_broken(out: &mut Vec<u8>, text: &[u8]) -> Result<(), NoMemory>
     Ok(())
 }
 
-/// Adds what the tree tells of an object, as a label.
+/// Adds what the tree tells of an object, as a label, with the names that are known.
 fn put_label(
     out: &mut Vec<u8>,
     state: &PlainState,
     place: &Place,
     object: &Object,
+    names: &[Named],
     meter: &mut Meter,
 ) -> Result<(), NoMemory>
     ensures { OnOk result (out.new.items
-        ≡ out.old.items ++ node_label (state_of state.now) place.now object.now) }
+        ≡ out.old.items ++ node_label names.now (state_of state.now) place.now object.now) }
 {
     let mut told = Vec::new(state.alloc());
-    put_object(&mut told, state, place, object, &[], meter)?;
+    put_object(&mut told, state, place, object, names, meter)?;
     out.extend_from_slice(b"label=\"")?;
     put_broken(out, told.as_slice())?;
     out.extend_from_slice(b"\"")?;
@@ -86,34 +89,34 @@ fn put_mark(out: &mut Vec<u8>, reached: &[ObjectId], id: ObjectId) -> Result<(),
 fn put_attributes(
     out: &mut Vec<u8>,
     state: &PlainState,
-    reached: &[ObjectId],
+    look: &Look<'_>,
     place: &Place,
     object: &Object,
     meter: &mut Meter,
 ) -> Result<(), NoMemory>
     ensures { OnOk result (out.new.items
-        ≡ out.old.items ++ attributes (state_of state.now) reached.now place.now object.now) }
+        ≡ out.old.items ++ attributes look.now.names.now (state_of state.now) look.now.reached.now place.now object.now) }
 {
-    put_label(out, state, place, object, meter)?;
-    put_mark(out, reached, place.id)
+    put_label(out, state, place, object, look.names, meter)?;
+    put_mark(out, look.reached, place.id)
 }
 
 /// Adds the line of an object's node.
 fn put_node(
     out: &mut Vec<u8>,
     state: &PlainState,
-    reached: &[ObjectId],
+    look: &Look<'_>,
     place: &Place,
     object: &Object,
     meter: &mut Meter,
 ) -> Result<(), NoMemory>
     ensures { OnOk result (out.new.items
-        ≡ out.old.items ++ node_line (state_of state.now) reached.now place.now object.now) }
+        ≡ out.old.items ++ node_line look.now.names.now (state_of state.now) look.now.reached.now place.now object.now) }
 {
     put_indent(out, place.depth)?;
     put_name(out, place.container, place.id)?;
     out.extend_from_slice(b" [")?;
-    put_attributes(out, state, reached, place, object, meter)?;
+    put_attributes(out, state, look, place, object, meter)?;
     out.extend_from_slice(b"];\n")?;
     Ok(())
 }
@@ -216,16 +219,16 @@ fn put_unseen(out: &mut Vec<u8>, id: ObjectId) -> Result<(), NoMemory>
 fn put_cluster(
     out: &mut Vec<u8>,
     state: &PlainState,
-    reached: &[ObjectId],
+    look: &Look<'_>,
     place: &Place,
     object: &Object,
     meter: &mut Meter,
 ) -> Result<(), NoMemory>
     ensures { OnOk result (out.new.items
-        ≡ out.old.items ++ cluster_text (state_of state.now) reached.now place.now object.now) }
+        ≡ out.old.items ++ cluster_text look.now.names.now (state_of state.now) look.now.reached.now place.now object.now) }
 {
     put_cluster_begin(out, place)?;
-    put_attributes(out, state, reached, place, object, meter)?;
+    put_attributes(out, state, look, place, object, meter)?;
     put_unseen(out, place.id)
 }
 
@@ -233,18 +236,18 @@ fn put_cluster(
 pub fn put_opened(
     out: &mut Vec<u8>,
     state: &PlainState,
-    reached: &[ObjectId],
+    look: &Look<'_>,
     place: &Place,
     object: &Object,
     meter: &mut Meter,
 ) -> Result<(), NoMemory>
     ensures { OnOk result (out.new.items
-        ≡ out.old.items ++ open_text (state_of state.now) reached.now place.now object.now) }
+        ≡ out.old.items ++ open_text look.now.names.now (state_of state.now) look.now.reached.now place.now object.now) }
 {
     if kind_of(object) == Kind::Container {
-        return put_cluster(out, state, reached, place, object, meter);
+        return put_cluster(out, state, look, place, object, meter);
     }
-    put_node(out, state, reached, place, object, meter)
+    put_node(out, state, look, place, object, meter)
 }
 
 /// Adds what stands of an object after what it lists. The error is want of memory.

@@ -1,6 +1,6 @@
-//! `histar run SCRIPT` plays a script, with a dump of the run where one is asked for; `check SCRIPT` says what is wrong or doubtful in
-//! it; `try` is a dialogue with a newly booted kernel, over the standard input. Without words it plays its standard input with the
-//! default options.
+//! `histar run SCRIPT` plays a script, with a dump of the run and its names where they are asked for; `check SCRIPT` says what is
+//! wrong or doubtful in it; `try` is a dialogue with a newly booted kernel, over the standard input. Without words it plays its
+//! standard input with the default options.
 #![tactic(auto)]
 
 mod dialogue;

@@ -1,28 +1,44 @@
 //! `histar run`.
+use base::NoMemory;
 use program_args::RunArgs;
 use program_io::{Fault, Sink, beside, open_input, put_file};
-use script_runner::{NAME, histar_on};
+use script_runner::{NAME, RunFiles, histar_on};
 use std::alloc::Global;
 use std::io::Write;
 use std::rt::Files;
 use std::sync::Wait;
 use std::thread::Threads;
 
-/// Ends a run that was played: writes the dump where one is asked for. The answer is the status.
-fn ended_with<R: Files, E: Write>(
-    rt: &R,
-    path: Option<&str>,
-    beside: &str,
-    file: &[u8],
-    err: &mut E,
-) -> u8 {
-    let Some(path) = path else {
-        return 0;
-    };
-    match put_file(rt, path, beside, file) {
-        Ok(()) => 0,
-        Err(fault) => fault.tell(NAME, err),
+/// Where a file goes, if it is asked for, and the name of the new file beside it.
+#[derive(Drop)]
+struct Place<'a> {
+    path: Option<&'a str>,
+    beside: String,
+}
+
+/// The place at a path.
+fn place_at<'a>(alloc: Global, path: Option<&'a str>) -> Result<Place<'a>, NoMemory> {
+    let beside = beside(alloc, path.unwrap_or(""))?;
+    Ok(Place { path, beside })
+}
+
+/// Writes a file, where it is asked for.
+fn put_at<R: Files>(rt: &R, place: &Place<'_>, bytes: &[u8]) -> Result<(), Fault> {
+    match place.path {
+        None => Ok(()),
+        Some(path) => put_file(rt, path, place.beside.as_str(), bytes),
     }
+}
+
+/// Ends a run that was played: writes the dump and the names, each where it is asked for.
+fn ended_with<R: Files>(
+    rt: &R,
+    dump: &Place<'_>,
+    names: &Place<'_>,
+    files: &RunFiles,
+) -> Result<(), Fault> {
+    put_at(rt, dump, files.dump.as_slice())?;
+    put_at(rt, names, files.names.as_slice())
 }
 
 /// Plays a script. The answer is the status.
@@ -37,11 +53,18 @@ pub fn run<R: Threads + Wait + Sync + Files, S: Sink, E: Write>(
         Ok(script) => script,
         Err(status) => return status,
     };
-    let Ok(beside) = beside(alloc, args.dump.unwrap_or("")) else {
+    let Ok(dump) = place_at(alloc, args.dump) else {
         return Fault::Memory.tell(NAME, err);
     };
-    match histar_on(rt, alloc, args.script, &mut script, &args.options, out) {
-        Ok(file) => ended_with(rt, args.dump, beside.as_str(), file.as_slice(), err),
-        Err(fault) => fault.tell(err),
+    let Ok(names) = place_at(alloc, args.names) else {
+        return Fault::Memory.tell(NAME, err);
+    };
+    let files = match histar_on(rt, alloc, args.script, &mut script, &args.options, out) {
+        Ok(files) => files,
+        Err(fault) => return fault.tell(err),
+    };
+    match ended_with(rt, &dump, &names, &files) {
+        Ok(()) => 0,
+        Err(fault) => fault.tell(NAME, err),
     }
 }

@@ -1,21 +1,31 @@
 //! `histar-show why DUMP LINE`: why a call or a read of a dump is answered as it is. `histar-show tree DUMP`: the objects that it leads
 //! to; `dot` the same as a graph. `histar-show json DUMP`: the dump as JSON. `histar-show page DUMP --out FILE`: the dump as a page.
+//! With `--names FILE` what has a name is shown by it.
 //! Without words it looks at the dump on its standard input, for the first false line.
 #![tactic(auto)]
 
 use base::{Category, ObjectId};
+use call_text::Named;
 use dot_text::dot_on;
 use json_text::json_on;
 use page_text::page_on;
 use program_args::{Colours, ShowArgs, View, read_show_words, tell_answer, without_marks};
 use program_io::{Counted, Fault, Sink, beside, open_input, put_file, words_of};
-use show_states::NAME;
-use show_text::why_on;
+use show_states::{NAME, names_on};
+use show_text::{Telling, why_on};
 use std::env::VarError;
 use std::io::{IsTerminal, Read, Write};
 use std::process::ExitCode;
 use std::{env, io};
-use tree_text::tree_on;
+use tree_text::{Look, tree_on};
+
+/// What a page has beside its dump, and where it goes.
+#[derive(Clone, Copy)]
+struct Paged<'a> {
+    flow: Option<(ObjectId, Category)>,
+    names: &'a [Named],
+    path: &'a str,
+}
 
 /// Whether `NO_COLOR` is set to something.
 fn is_plain_asked(rt: &HostRuntime) -> bool {
@@ -35,26 +45,66 @@ fn is_coloured(rt: &HostRuntime, colours: Colours) -> bool {
     }
 }
 
+/// The names that stand at a path, none where none is told. The error is the status that the program ends with.
+fn names_at<E: Write>(rt: &HostRuntime, path: Option<&str>, err: &mut E) -> Result<Vec<Named>, u8> {
+    let alloc = rt.alloc();
+    let Some(path) = path else {
+        return Ok(Vec::new(alloc));
+    };
+    let mut input = open_input(rt, NAME, path, err)?;
+    names_on(alloc, path, &mut input, err)
+}
+
 /// Writes the page of the dump that a reader gives to a file. The answer is the status.
 fn put_page<I: Read, S: Sink, E: Write>(
     rt: &HostRuntime,
     dump: &mut I,
-    flow: Option<(ObjectId, Category)>,
-    path: &str,
+    paged: &Paged<'_>,
     out: &mut S,
     err: &mut E,
 ) -> u8 {
     let alloc = rt.alloc();
+    let Paged { flow, names, path } = *paged;
     let Ok(beside) = beside(alloc, path) else {
         return Fault::Memory.tell(NAME, err);
     };
-    let page = match page_on(alloc, dump, flow, out, err) {
+    let page = match page_on(alloc, dump, flow, names, out, err) {
         Ok(page) => page,
         Err(status) => return status,
     };
     match put_file(rt, path, beside.as_str(), page.as_slice()) {
         Ok(()) => 0,
         Err(fault) => fault.tell(NAME, err),
+    }
+}
+
+/// Shows what is asked for of a dump, by the names that are known. The answer is the status.
+fn show<I: Read, S: Sink, E: Write>(
+    rt: &HostRuntime,
+    told: &ShowArgs<'_>,
+    names: &[Named],
+    dump: &mut I,
+    out: &mut S,
+    err: &mut E,
+) -> u8 {
+    let alloc = rt.alloc();
+    match told.view {
+        View::Why { line, is_whole } => {
+            let telling = Telling { names, is_whole };
+            why_on(alloc, dump, line, &telling, out, err)
+        }
+        View::Tree { after, colours } => {
+            let is_coloured = is_coloured(rt, colours);
+            let look = Look { names, is_coloured };
+            tree_on(alloc, dump, after, &look, out, err)
+        }
+        View::Json => json_on(alloc, dump, out, err),
+        View::Dot(flow) => dot_on(alloc, dump, flow, names, out, err),
+        View::Page(flow) => {
+            let path = told.out.unwrap_or("");
+            let paged = Paged { flow, names, path };
+            put_page(rt, dump, &paged, out, err)
+        }
     }
 }
 
@@ -71,31 +121,23 @@ fn main(rt: HostRuntime) -> ExitCode {
     };
     if words.len() <= 1 {
         let mut dump = rt.reader();
-        return ExitCode::from(why_on(alloc, &mut dump, None, false, &mut out, &mut err));
+        let telling = Telling {
+            names: &[],
+            is_whole: false,
+        };
+        return ExitCode::from(why_on(alloc, &mut dump, None, &telling, &mut out, &mut err));
     }
-    let ShowArgs {
-        dump,
-        view,
-        out: page,
-    } = match read_show_words(alloc, typed.as_slice()) {
+    let told = match read_show_words(alloc, typed.as_slice()) {
         Ok(told) => told,
         Err(answer) => return ExitCode::from(tell_answer(alloc, NAME, &answer, &mut out, &mut err)),
     };
-    let mut dump = match open_input(&rt, NAME, dump, &mut err) {
+    let mut dump = match open_input(&rt, NAME, told.dump, &mut err) {
         Ok(dump) => dump,
         Err(status) => return ExitCode::from(status),
     };
-    let status = match view {
-        View::Why { line, is_whole } => why_on(
-            alloc, &mut dump, line, is_whole, &mut out, &mut err,
-        ),
-        View::Tree { after, colours } => {
-            let is_coloured = is_coloured(&rt, colours);
-            tree_on(alloc, &mut dump, after, is_coloured, &mut out, &mut err)
-        }
-        View::Json => json_on(alloc, &mut dump, &mut out, &mut err),
-        View::Dot(flow) => dot_on(alloc, &mut dump, flow, &mut out, &mut err),
-        View::Page(flow) => put_page(&rt, &mut dump, flow, page.unwrap_or(""), &mut out, &mut err),
+    let names = match names_at(&rt, told.names, &mut err) {
+        Ok(names) => names,
+        Err(status) => return ExitCode::from(status),
     };
-    ExitCode::from(status)
+    ExitCode::from(show(&rt, &told, names.as_slice(), &mut dump, &mut out, &mut err))
 }

@@ -1,7 +1,11 @@
 -- A line of a tree as data: its words that have a colour, whether the tree before had it, and whether its object is reached.
-use Rattle.std.specs.Prelude.{ℕ, ◌==◌, not, Bool, List, [], ◌∷◌, ◌++◌, map, codes, decimal, if◌then◌else◌}
+use Rattle.std.specs.Prelude.{ℕ, ◌==◌, ◌&&◌, not, Bool, List, [], ◌∷◌, map, codes, if◌then◌else◌}
 use Rattle.std.specs.List.{list_any}
 use Rattle.std.specs.Str.{bytes_eq}
+use Rattle.base.specs.Live.{has}
+use Rattle.call_text.specs.ReplyWord.{value_text}
+use Rattle.call_text.specs.declared.known_names.Named.{Named}
+use Rattle.call_text.specs.declared.known_names.Value.TheVariants.{Object as OfObject}
 use Rattle.json_text.specs.Json.{word_data}
 use Rattle.json_text.specs.Pieces.{lines_of, words_of}
 use Rattle.page_text.specs.Edits.{Edit, has_line}
@@ -34,19 +38,20 @@ after_spaces (x ∷ xs) = if x == 32 then after_spaces xs else x ∷ xs
 abbrev pub first_word : List ℕ → List ℕ
 first_word line = first_of (words_of (after_spaces line))
 
--- the line is that of one of these objects
-abbrev pub is_of : List ℕ → List ℕ → Bool
-is_of ids line = list_any (λ id. bytes_eq (codes "#" ++ decimal id) (first_word line)) ids
+-- the line is that of one of these objects: it begins with its name or number, and has commas, as no line of a slot has
+abbrev pub is_of : List Named → List ℕ → List ℕ → Bool
+is_of names ids line =
+    has line 44 && list_any (λ id. bytes_eq (value_text names (OfObject id)) (first_word line)) ids
 
 -- a line, of which these lines stood in the tree before, where these objects are reached
-abbrev pub line_data : List ℕ → List ℕ → List ℕ → Data
-line_data reached before line =
+abbrev pub line_data : List Named → List ℕ → List ℕ → List ℕ → Data
+line_data names reached before line =
     object (member (codes "marks") (array (items_of (map mark_data (marks_of line))))
     (member (codes "new") (boolean (not (has_line (lines_of before) line)))
-    (member (codes "reached") (boolean (is_of reached line))
+    (member (codes "reached") (boolean (is_of names reached line))
     (member (codes "text") (word_data line) no_members))))
 
 -- an edit: how many lines stay, how many go, and the lines that come
-abbrev pub edit_data : List ℕ → List ℕ → Edit → Data
-edit_data reached before e =
-    array (items_of (number_data e.keep ∷ number_data e.gone ∷ map (line_data reached before) e.put))
+abbrev pub edit_data : List Named → List ℕ → List ℕ → Edit → Data
+edit_data names reached before e =
+    array (items_of (number_data e.keep ∷ number_data e.gone ∷ map (line_data names reached before) e.put))

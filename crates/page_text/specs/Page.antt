@@ -1,6 +1,7 @@
 -- The page of a dump: a fixed head, its data as JSON, and a fixed tail.
 use Rattle.std.specs.Prelude.{ℕ, ◌==◌, List, [], ◌∷◌, ◌++◌, map, codes, Option, Some, None, if◌then◌else◌}
 use Rattle.base.specs.declared.ids.Category.{Category}
+use Rattle.call_text.specs.declared.known_names.Named.{Named}
 use Rattle.dump_text.specs.Lists.{DumpLists}
 use Rattle.dump_text.specs.Whole.{start_with}
 use Rattle.page_text.specs.Marked.{number_data}
@@ -20,15 +21,15 @@ flow_data (Some flow) reached =
     (member (codes "reached") (array (items_of (map number_data reached))) no_members)))
 
 -- what a page shows
-abbrev pub shown_data : Option (ℕ × Category) → List ℕ → List Step → Data
-shown_data flow reached steps =
+abbrev pub shown_data : List Named → Option (ℕ × Category) → List ℕ → List Step → Data
+shown_data names flow reached steps =
     object (member (codes "flow") (flow_data flow reached)
-    (member (codes "steps") (array (items_of (map (step_data reached) steps))) no_members))
+    (member (codes "steps") (array (items_of (map (step_data names reached) steps))) no_members))
 
 -- of a dump, its steps from the state that its events begin in
-abbrev pub page_data : List ℕ → DumpLists → Option (ℕ × Category) → List ℕ → Data
-page_data text d flow reached =
-    shown_data flow reached (steps_of (told_in text) (start_with d.limits d.checkpoint).state (turns d.events d.reads))
+abbrev pub page_data : List Named → List ℕ → DumpLists → Option (ℕ × Category) → List ℕ → Data
+page_data names text d flow reached =
+    shown_data names flow reached (steps_of names (told_in text) (start_with d.limits d.checkpoint).state (turns d.events d.reads))
 
 -- JSON in which no < stands, which would end its place in a page
 abbrev pub escaped : List ℕ → List ℕ

@@ -1,5 +1,6 @@
 -- The steps that a page shows: what began, and then one for each event and each read.
 use Rattle.std.specs.Prelude.{ℕ, ◌+◌, ◌==◌, Bool, true, false, List, [], ◌∷◌, ◌++◌, map, length, drop, codes, if◌then◌else◌}
+use Rattle.call_text.specs.declared.known_names.Named.{Named}
 use Rattle.dump_text.specs.Reads.{in_turn}
 use Rattle.dump_text.specs.declared.reads.Read.{Read}
 use Rattle.dump_text.specs.declared.tables.PlacedRead.{PlacedRead}
@@ -11,44 +12,46 @@ use Rattle.kernel_rules.specs.Runs.{state_after}
 use Rattle.kernel_rules.specs.State.{State}
 use Rattle.kernel_rules.specs.Step.{next}
 use Rattle.kernel_rules.specs.declared.calls.Call.{Call}
+use Rattle.names_text.specs.Lines.{named_line}
 use Rattle.page_text.specs.Edits.{Edit, edits}
 use Rattle.page_text.specs.Marked.{edit_data}
 use Rattle.page_text.specs.Told.{first_of}
 use Rattle.serde_json.specs.Data.{Data, array, boolean, object, member, no_members}
 use Rattle.serde_json.specs.View.{items_of}
 use Rattle.show_text.specs.Explained.{refusal_explained, read_refusal_explained}
-use Rattle.tree_text.specs.Trees.{tree_text}
+use Rattle.tree_text.specs.Trees.{named_tree}
 
--- a line that tells a call, a batch or a read, and why what it tells is refused, which is empty where it isn't
+-- a line that tells a call, a batch or a read, by names, and why what it tells is refused, which is empty where it isn't
 pub record Told : Type 0 where
   pub line : List ℕ
   pub why : List ℕ
 
 -- a line that tells a call of a thread in a state
-abbrev pub call_told : List ℕ → State → ℕ → Call → Told
-call_told line s t call = record { line = line; why = refusal_explained line s t call }
+abbrev pub call_told : List Named → List ℕ → State → ℕ → Call → Told
+call_told names line s t call = record { line = named_line names line; why = refusal_explained names line s t call }
 
 -- a line that tells a read in a state
-abbrev pub read_told : List ℕ → State → Read → Told
-read_told line s r = record { line = line; why = read_refusal_explained line s r }
+abbrev pub read_told : List Named → List ℕ → State → Read → Told
+read_told names line s r = record { line = named_line names line; why = read_refusal_explained names line s r }
 
 -- calls one after another, which these lines tell
-abbrev pub calls_told : List (List ℕ) → State → ℕ → List Answered → List Told
-calls_told lines s t [] = []
-calls_told lines s t (a ∷ more) =
-    call_told (first_of lines) s t a.call ∷ calls_told (drop 1 lines) (next s t a.call) t more
+abbrev pub calls_told : List Named → List (List ℕ) → State → ℕ → List Answered → List Told
+calls_told names lines s t [] = []
+calls_told names lines s t (a ∷ more) =
+    call_told names (first_of lines) s t a.call ∷ calls_told names (drop 1 lines) (next s t a.call) t more
 
 -- a batch has a line above those of its calls
 abbrev pub heads : ℕ → ℕ
 heads count = if count == 1 then 0 else 1
 
-abbrev pub head_told : ℕ → List (List ℕ) → List Told
-head_told count lines = if count == 1 then [] else record { line = first_of lines; why = [] } ∷ []
+abbrev pub head_told : List Named → ℕ → List (List ℕ) → List Told
+head_told names count lines =
+    if count == 1 then [] else record { line = named_line names (first_of lines); why = [] } ∷ []
 
 -- an event, which these lines tell
-abbrev pub event_told : List (List ℕ) → State → Event → List Told
-event_told lines s e =
-    head_told (length e.calls) lines ++ calls_told (drop (heads (length e.calls)) lines) s e.thread e.calls
+abbrev pub event_told : List Named → List (List ℕ) → State → Event → List Told
+event_told names lines s e =
+    head_told names (length e.calls) lines ++ calls_told names (drop (heads (length e.calls)) lines) s e.thread e.calls
 
 -- the state after an event
 abbrev pub event_after : State → Event → State
@@ -72,9 +75,9 @@ asks (Made e) = false
 asks (Asked r) = true
 
 -- what the first of these lines tell, in a state
-abbrev pub turn_told : List (List ℕ) → State → Turn → List Told
-turn_told lines s (Made e) = event_told lines s e
-turn_told lines s (Asked r) = read_told (first_of lines) s r.read ∷ []
+abbrev pub turn_told : List Named → List (List ℕ) → State → Turn → List Told
+turn_told names lines s (Made e) = event_told names lines s e
+turn_told names lines s (Asked r) = read_told names (first_of lines) s r.read ∷ []
 
 -- how many lines tell it
 abbrev pub line_count : Turn → ℕ
@@ -93,25 +96,25 @@ pub record Step : Type 0 where
   pub before : List ℕ
   pub after : List ℕ
 
-abbrev pub step_of : List (List ℕ) → State → Turn → Step
-step_of lines s t = record {
+abbrev pub step_of : List Named → List (List ℕ) → State → Turn → Step
+step_of names lines s t = record {
   is_read = asks t;
-  told = turn_told lines s t;
-  before = tree_text s;
-  after = tree_text (turn_after s t);
+  told = turn_told names lines s t;
+  before = named_tree names s;
+  after = named_tree names (turn_after s t);
 }
 
 -- events and reads from a state on, which these lines tell
-abbrev pub steps_from : List (List ℕ) → State → List Turn → List Step
-steps_from lines s [] = []
-steps_from lines s (t ∷ ts) = step_of lines s t ∷ steps_from (drop (line_count t) lines) (turn_after s t) ts
+abbrev pub steps_from : List Named → List (List ℕ) → State → List Turn → List Step
+steps_from names lines s [] = []
+steps_from names lines s (t ∷ ts) = step_of names lines s t ∷ steps_from names (drop (line_count t) lines) (turn_after s t) ts
 
 -- first nothing is told, and the whole tree comes
-abbrev pub first_step : State → Step
-first_step s = record { is_read = false; told = []; before = []; after = tree_text s }
+abbrev pub first_step : List Named → State → Step
+first_step names s = record { is_read = false; told = []; before = []; after = named_tree names s }
 
-abbrev pub steps_of : List (List ℕ) → State → List Turn → List Step
-steps_of lines s ts = first_step s ∷ steps_from lines s ts
+abbrev pub steps_of : List Named → List (List ℕ) → State → List Turn → List Step
+steps_of names lines s ts = first_step names s ∷ steps_from names lines s ts
 
 -- the edits of a step
 abbrev pub step_edits : Step → List Edit
@@ -123,16 +126,16 @@ states_from s [] = s ∷ []
 states_from s (t ∷ ts) = s ∷ states_from (turn_after s t) ts
 
 -- the lines of a state's tree
-abbrev pub tree_lines : State → List (List ℕ)
-tree_lines s = lines_of (tree_text s)
+abbrev pub tree_lines : List Named → State → List (List ℕ)
+tree_lines names s = lines_of (named_tree names s)
 
 abbrev pub told_data : Told → Data
 told_data t =
     object (member (codes "line") (word_data t.line) (member (codes "why") (word_data t.why) no_members))
 
 -- a step, where these objects are reached
-abbrev pub step_data : List ℕ → Step → Data
-step_data reached p =
-    object (member (codes "edits") (array (items_of (map (edit_data reached p.before) (step_edits p))))
+abbrev pub step_data : List Named → List ℕ → Step → Data
+step_data names reached p =
+    object (member (codes "edits") (array (items_of (map (edit_data names reached p.before) (step_edits p))))
     (member (codes "read") (boolean p.is_read)
     (member (codes "told") (array (items_of (map told_data p.told))) no_members)))

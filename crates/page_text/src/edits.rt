@@ -12,7 +12,7 @@ use serde_json::{Value, json, push};
 
 /// An edit that puts no line, as JSON.
 fn gone_value(before: &Before<'_>, kept: u64, gone: u64) -> Result<Value, NoMemory>
-    ensures { IfOk result (λ value. view value ≡ edit_data before.now.reached.now before.now.tree.now
+    ensures { IfOk result (λ value. view value ≡ edit_data before.now.names.now before.now.reached.now before.now.tree.now
         (record { keep = kept; gone = gone; put = [] })) }
 {
     Ok(json!(in before.alloc; [kept, gone])?)
@@ -20,7 +20,7 @@ fn gone_value(before: &Before<'_>, kept: u64, gone: u64) -> Result<Value, NoMemo
 
 /// An edit that puts a line, as JSON.
 fn put_value(before: &Before<'_>, kept: u64, gone: u64, line: &[u8]) -> Result<Value, NoMemory>
-    ensures { IfOk result (λ value. view value ≡ edit_data before.now.reached.now before.now.tree.now
+    ensures { IfOk result (λ value. view value ≡ edit_data before.now.names.now before.now.reached.now before.now.tree.now
         (record { keep = kept; gone = gone; put = line.now ∷ [] })) }
 {
     let line = line_value(before, line)?;
@@ -56,7 +56,7 @@ fn put_edit<'a>(
 ) -> Result<(u64, &'a [u8]), NoMemory>
     requires { kept < 2 ^ 63 }
     ensures edits { OnOk result (map view values.new.items ≡ map view values.old.items
-        ++ map (edit_data before.now.reached.now before.now.tree.now)
+        ++ map (edit_data before.now.names.now before.now.reached.now before.now.tree.now)
         (edits_for kept (lines_of old.now) line.now (lines_of later.now) (place_in (lines_of old.now) line.now))) }
     ensures kept { IfOk result (λ left. left.0 ≡ kept_after kept (place_in (lines_of old.now) line.now)) }
     ensures old { IfOk result (λ left. lines_of left.1.now
@@ -79,7 +79,7 @@ fn put_edit<'a>(
 /// The edits that make a tree of the one before it, as JSON. Want of memory is the only error.
 pub fn edit_values(before: &Before<'_>, after: &[u8]) -> Result<Vec<Value>, NoMemory>
     ensures { IfOk result (λ values. map view values.items
-        ≡ map (edit_data before.now.reached.now before.now.tree.now)
+        ≡ map (edit_data before.now.names.now before.now.reached.now before.now.tree.now)
         (edits 0 (lines_of before.now.tree.now) (lines_of after.now))) }
 {
     let mut values = Vec::new(before.alloc);

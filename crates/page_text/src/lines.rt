@@ -1,6 +1,11 @@
 //! Lines of trees as JSON.
-ghost use Rattle.std.specs.Prelude.{◌≡◌, ◌+◌, ◌++◌, codes, decimal, map, drop, not, IfOk, IfSome};
+ghost use Rattle.std.specs.Prelude.{◌≡◌, ◌+◌, map, drop, not, IfOk, IfSome};
 ghost use Rattle.std.specs.Option.{option_map};
+ghost use Rattle.std.specs.List.{list_any};
+ghost use Rattle.std.specs.Str.{bytes_eq};
+ghost use Rattle.base.specs.Live.{has};
+ghost use Rattle.call_text.specs.ReplyWord.{value_text};
+ghost use Rattle.call_text.specs.declared.known_names.Value.TheVariants.{Object as OfObject};
 ghost use Rattle.json_text.specs.Pieces.{lines_of};
 ghost use Rattle.page_text.specs.Edits.{has_line, place_in};
 ghost use Rattle.page_text.specs.Marked.{style_number, mark_data, after_spaces, first_word, is_of, line_data};
@@ -9,10 +14,12 @@ ghost use Rattle.tree_text.specs.Colours.{marks_of};
 
 use crate::first_lines::first_line;
 use base::{NoMemory, ObjectId};
+use call_text::Named;
 use json_text::word_value;
 use serde_json::{Value, json, push};
+use show_states::put_value;
 use std::alloc::{AllocError, Global};
-use text_words::{parted, put_number};
+use text_words::parted;
 use tree_text::{Mark, Style, marks_of};
 
 /// Of which lines a step is made: those of the tree before, of which these objects are reached.
@@ -20,6 +27,8 @@ use tree_text::{Mark, Style, marks_of};
 pub struct Before<'a> {
     /// Where memory is from.
     pub alloc: Global,
+    /// The names that are known.
+    pub names: &'a [Named],
     /// The objects that are reached.
     pub reached: &'a [ObjectId],
     /// The tree before.
@@ -109,38 +118,58 @@ fn first_word(line: &[u8]) -> &[u8]
     }
 }
 
-/// The name of an object, as a line has it.
-fn object_word(alloc: Global, id: ObjectId) -> Result<Vec<u8>, NoMemory>
-    ensures { IfOk result (λ word. word.items ≡ codes "#" ++ decimal id) }
+/// The name or the number of an object, as a line has it.
+fn object_word(alloc: Global, names: &[Named], id: ObjectId) -> Result<Vec<u8>, NoMemory>
+    ensures { IfOk result (λ word. word.items ≡ value_text names.now (OfObject id)) }
 {
     let mut word = Vec::new(alloc);
-    word.push(b'#')?;
-    put_number(&mut word, id.number())?;
+    put_value(&mut word, &call_text::Value::Object(id), names)?;
     Ok(word)
 }
 
-/// Whether a line is that of one of these objects.
-fn is_of(alloc: Global, ids: &[ObjectId], line: &[u8]) -> Result<bool, NoMemory>
-    ensures { IfOk result (λ is_one. is_one ≡ is_of ids.now line.now) }
+/// Whether a line begins with the word of one of these objects.
+fn begins_with_one(
+    alloc: Global,
+    names: &[Named],
+    ids: &[ObjectId],
+    line: &[u8],
+) -> Result<bool, NoMemory>
+    ensures { IfOk result (λ is_one. is_one
+        ≡ list_any (λ id. bytes_eq (value_text names.now (OfObject id)) (first_word line.now)) ids.now) }
 {
     let word = first_word(line);
     for id in ids {
-        if object_word(alloc, *id)?.as_slice() == word {
+        if object_word(alloc, names, *id)?.as_slice() == word {
             return Ok(true);
         }
     }
     Ok(false)
 }
 
+/// Whether a text has a comma.
+fn has_comma(text: &[u8]) -> bool
+    ensures { result ≡ has text.now 44 }
+{
+    text.iter().any(|byte| b',' == *byte)
+}
+
+/// Whether a line is that of one of these objects.
+fn is_of(alloc: Global, names: &[Named], ids: &[ObjectId], line: &[u8]) -> Result<bool, NoMemory>
+    ensures { IfOk result (λ is_one. is_one ≡ is_of names.now ids.now line.now) }
+{
+    let is_one = begins_with_one(alloc, names, ids, line)?;
+    Ok(has_comma(line) && is_one)
+}
+
 /// A line as JSON. Want of memory is the only error.
 pub fn line_value(before: &Before<'_>, line: &[u8]) -> Result<Value, NoMemory>
     ensures { IfOk result (λ value. view value
-        ≡ line_data before.now.reached.now before.now.tree.now line.now) }
+        ≡ line_data before.now.names.now before.now.reached.now before.now.tree.now line.now) }
 {
     let alloc = before.alloc;
     let marks = Value::Array(mark_values(alloc, line)?);
     let is_new = !has_line(before.tree, line);
-    let is_reached = is_of(alloc, before.reached, line)?;
+    let is_reached = is_of(alloc, before.names, before.reached, line)?;
     let text = word_value(alloc, line)?;
     Ok(json!(in alloc; {"marks": marks, "new": is_new, "reached": is_reached, "text": text})?)
 }

@@ -1,5 +1,6 @@
 //! The page of a dump.
 ghost use Rattle.std.specs.Prelude.{◌≡◌, false, List, map, IfOk};
+ghost use Rattle.call_text.specs.declared.known_names.Named.{Named as NamedValue};
 ghost use Rattle.page_text.specs.Marked.{number_data};
 ghost use Rattle.page_text.specs.Page.{flow_data, shown_data, framed, page_text};
 ghost use Rattle.page_text.specs.Shown.{IsPage};
@@ -13,6 +14,7 @@ use crate::escaping::escaped;
 use crate::frame::{HEAD, TAIL};
 use crate::steps::{Source, step_values};
 use base::{Category, Meter, NoMemory, ObjectId};
+use call_text::Named;
 use clean_dumps::begin;
 use dot_text::{DotFault, red_in};
 use dump_text::Dump;
@@ -56,8 +58,8 @@ fn shown_value(
     reached: &[ObjectId],
     steps: Vec<Value>,
 ) -> Result<Value, NoMemory>
-    ensures { (list : List Step) → map view steps.items ≡ map (step_data reached.now) list
-        → IfOk result (λ value. view value ≡ shown_data flow reached.now list) }
+    ensures { (names : List NamedValue) (list : List Step) → map view steps.items ≡ map (step_data names reached.now) list
+        → IfOk result (λ value. view value ≡ shown_data names flow reached.now list) }
 {
     let flow = flow_value(alloc, flow, reached)?;
     let steps = Value::Array(steps);
@@ -89,8 +91,8 @@ fn page_of(
     flow: Option<(ObjectId, Category)>,
     state: PlainState,
 ) -> Result<Vec<u8>, NoMemory>
-    ensures { IfOk result (λ told. told.items ≡ page_text (shown_data flow source.now.reached.now
-        (steps_of (told_in source.now.text.now) (state_of state) (turns source.now.events.now source.now.reads.now)))) }
+    ensures { IfOk result (λ told. told.items ≡ page_text (shown_data source.now.names.now flow source.now.reached.now
+        (steps_of source.now.names.now (told_in source.now.text.now) (state_of state) (turns source.now.events.now source.now.reads.now)))) }
 {
     let alloc = state.alloc();
     let mut meter = Meter::new(alloc)?;
@@ -100,16 +102,17 @@ fn page_of(
     framed(alloc, told.as_slice())
 }
 
-/// The page of a dump: the tree after each event, the lines of the dump that tell it, each read in its place, and why each refused
-/// call or read is refused. Where flows are asked for, of an object outside a category, each object that they reach is marked. The
-/// errors come in this order: the text is no dump, its checkpoint can't be restored, an audit does not find it clean; or there is
-/// no memory.
+/// The page of a dump: the tree after each event, the lines of the dump that tell it, each read in its place, and why each
+/// refused call or read is refused, with the names that are known. Where flows are asked for, of an object outside a category,
+/// each object that they reach is marked. The errors come in this order: the text is no dump, its checkpoint can't be restored,
+/// an audit does not find it clean; or there is no memory.
 pub fn page(
     alloc: Global,
     text: &[u8],
     flow: Option<(ObjectId, Category)>,
+    names: &[Named],
 ) -> Result<Vec<u8>, DotFault>
-    ensures { IsPage flow text.now result }
+    ensures { IsPage names.now flow text.now result }
 {
     let Dump {
         limits,
@@ -127,6 +130,7 @@ pub fn page(
     let reached = red_in(alloc, text, flow)?;
     let source = Source {
         text,
+        names,
         events: events.as_slice(),
         reads: reads.as_slice(),
         reached: reached.as_slice(),

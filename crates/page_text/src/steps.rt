@@ -4,31 +4,35 @@ ghost use Rattle.histories.specs.Events.{by, calls_in};
 ghost use Rattle.json_text.specs.Pieces.{lines_of};
 ghost use Rattle.kernel_rules.specs.Runs.{state_after};
 ghost use Rattle.kernel_rules.specs.Step.{next};
+ghost use Rattle.names_text.specs.Lines.{named_line};
 ghost use Rattle.page_text.specs.Steps.{Told, call_told, read_told, calls_told, heads, head_told, event_told, event_after, Made, Asked, turns, line_count, step_of, steps_from, first_step, steps_of, told_data, step_data};
 ghost use Rattle.page_text.specs.Told.{told_in};
 ghost use Rattle.plain_state.specs.StateOf.{state_of};
 ghost use Rattle.serde_json.specs.View.{view};
-ghost use Rattle.tree_text.specs.Trees.{tree_text};
+ghost use Rattle.tree_text.specs.Trees.{named_tree};
 
 use crate::edits::edit_values;
 use crate::lines::Before;
 use crate::told::{after_told, first_told};
 use base::{Meter, NoMemory, ObjectId};
+use call_text::Named;
 use dump_text::{PlacedRead, Read, part_reads};
 use histories::{Answered, Event};
 use json_text::word_value;
 use kernel_rules::Call;
+use names_text::named_line;
 use plain_state::PlainState;
 use serde_json::{Value, json, push};
-use show_text::{put_read_refusal, put_refusal};
+use show_text::{read_refusal_text, refusal_text};
 use std::alloc::Global;
-use tree_text::tree_of;
+use tree_text::named_tree;
 
-/// A line, and why what it tells is refused, as JSON.
-fn told_value(alloc: Global, line: &[u8], why: &[u8]) -> Result<Value, NoMemory>
-    ensures { IfOk result (λ value. view value ≡ told_data (record { line = line.now; why = why.now })) }
+/// A line, by names, and why what it tells is refused, as JSON.
+fn told_value(alloc: Global, names: &[Named], line: &[u8], why: &[u8]) -> Result<Value, NoMemory>
+    ensures { IfOk result (λ value. view value ≡ told_data (record { line = named_line names.now line.now; why = why.now })) }
 {
-    let line = word_value(alloc, line)?;
+    let line = named_line(alloc, line, names)?;
+    let line = word_value(alloc, line.as_slice())?;
     let why = word_value(alloc, why)?;
     Ok(json!(in alloc; {"line": line, "why": why})?)
 }
@@ -36,40 +40,47 @@ fn told_value(alloc: Global, line: &[u8], why: &[u8]) -> Result<Value, NoMemory>
 /// The line of a call, and why it is refused, as JSON. Makes the call.
 fn call_value(
     line: &[u8],
+    names: &[Named],
     state: &mut PlainState,
     thread: ObjectId,
     call: &Call,
     meter: &mut Meter,
 ) -> Result<Value, NoMemory>
     ensures value { IfOk result (λ value. view value
-        ≡ told_data (call_told line.now (state_of state.old) thread call.now)) }
+        ≡ told_data (call_told names.now line.now (state_of state.old) thread call.now)) }
     ensures state { OnOk result (state_of state.new ≡ next (state_of state.old) thread call.now) }
 {
-    let mut why = Vec::new(state.alloc());
-    put_refusal(&mut why, line, state, thread, call, meter)?;
-    told_value(state.alloc(), line, why.as_slice())
+    let why = refusal_text(line, names, state, thread, call, meter)?;
+    told_value(state.alloc(), names, line, why.as_slice())
 }
 
-/// Adds calls of a thread, which the lines of a text tell, and makes them.
+/// The lines of a text, and the names by which they are told.
+#[derive(Clone, Copy)]
+struct Lines<'a> {
+    text: &'a [u8],
+    names: &'a [Named],
+}
+
+/// Adds calls of a thread, which lines tell, and makes them.
 fn put_calls(
     values: &mut Vec<Value>,
-    text: &[u8],
+    lines: &Lines<'_>,
     state: &mut PlainState,
     thread: ObjectId,
     calls: &[Answered],
     meter: &mut Meter,
 ) -> Result<(), NoMemory>
     ensures values { OnOk result (map view values.new.items ≡ map view values.old.items
-        ++ map told_data (calls_told (told_in text.now) (state_of state.old) thread calls.now)) }
+        ++ map told_data (calls_told lines.now.names.now (told_in lines.now.text.now) (state_of state.old) thread calls.now)) }
     ensures state { OnOk result (state_of state.new
         ≡ state_after (state_of state.old) (by thread (map (λ a. a.call) calls.now))) }
 {
-    let mut rest = text;
+    let mut rest = lines.text;
     for answered in calls {
         let parts = first_told(rest);
         push(
             values,
-            call_value(parts.0, state, thread, &answered.call, meter)?,
+            call_value(parts.0, lines.names, state, thread, &answered.call, meter)?,
         )?;
         rest = parts.1;
     }
@@ -92,13 +103,21 @@ fn line_count(event: &Event) -> usize
 }
 
 /// The line above those of the calls of a batch of so many, as JSON, where there is one.
-fn head_values(alloc: Global, count: usize, text: &[u8]) -> Result<Vec<Value>, NoMemory>
+fn head_values(
+    alloc: Global,
+    names: &[Named],
+    count: usize,
+    text: &[u8],
+) -> Result<Vec<Value>, NoMemory>
     ensures { IfOk result (λ values. map view values.items
-        ≡ map told_data (head_told count (told_in text.now))) }
+        ≡ map told_data (head_told names.now count (told_in text.now))) }
 {
     let mut values = Vec::new(alloc);
     if count != 1 {
-        push(&mut values, told_value(alloc, first_told(text).0, &[])?)?;
+        push(
+            &mut values,
+            told_value(alloc, names, first_told(text).0, &[])?,
+        )?;
     }
     Ok(values)
 }
@@ -106,18 +125,20 @@ fn head_values(alloc: Global, count: usize, text: &[u8]) -> Result<Vec<Value>, N
 /// An event, which the lines of a text tell, as JSON. Makes its calls.
 fn event_values(
     text: &[u8],
+    names: &[Named],
     state: &mut PlainState,
     event: &Event,
     meter: &mut Meter,
 ) -> Result<Vec<Value>, NoMemory>
     ensures values { IfOk result (λ values. map view values.items
-        ≡ map told_data (event_told (told_in text.now) (state_of state.old) event.now)) }
+        ≡ map told_data (event_told names.now (told_in text.now) (state_of state.old) event.now)) }
     ensures state { OnOk result (state_of state.new ≡ event_after (state_of state.old) event.now) }
 {
     let calls = event.calls.as_slice();
-    let mut values = head_values(state.alloc(), calls.len(), text)?;
+    let mut values = head_values(state.alloc(), names, calls.len(), text)?;
     let rest = after_told(heads(calls.len()), text);
-    put_calls(&mut values, rest, state, event.thread, calls, meter)?;
+    let lines = Lines { text: rest, names };
+    put_calls(&mut values, &lines, state, event.thread, calls, meter)?;
     Ok(values)
 }
 
@@ -129,7 +150,7 @@ fn step_value(
     after: &[u8],
 ) -> Result<Value, NoMemory>
     ensures { (lines : List Told) → map view told.items ≡ map told_data lines
-        → IfOk result (λ value. view value ≡ step_data before.now.reached.now
+        → IfOk result (λ value. view value ≡ step_data before.now.names.now before.now.reached.now
         (record { is_read = is_read; told = lines; before = before.now.tree.now; after = after.now })) }
 {
     let edits = Value::Array(edit_values(before, after)?);
@@ -140,16 +161,16 @@ fn step_value(
 /// The line of a read, and why it is refused, as JSON.
 fn read_value(
     line: &[u8],
+    names: &[Named],
     state: &PlainState,
     read: &Read,
     meter: &mut Meter,
 ) -> Result<Value, NoMemory>
-    ensures { IfOk result (λ value. view value ≡ told_data (read_told line.now (state_of state.now) read.now)) }
+    ensures { IfOk result (λ value. view value ≡ told_data (read_told names.now line.now (state_of state.now) read.now)) }
 {
     let alloc = state.alloc();
-    let mut why = Vec::new(alloc);
-    put_read_refusal(&mut why, line, state, read, meter)?;
-    told_value(alloc, line, why.as_slice())
+    let why = read_refusal_text(line, names, state, read, meter)?;
+    told_value(alloc, names, line, why.as_slice())
 }
 
 /// The step of a read, which this line tells, as JSON. The tree before it is the state's, and stays.
@@ -160,17 +181,20 @@ fn asked_value(
     read: &Read,
     meter: &mut Meter,
 ) -> Result<Value, NoMemory>
-    requires { before.now.tree.now ≡ tree_text (state_of state.now) }
-    ensures { IfOk result (λ value. view value ≡ step_data before.now.reached.now
+    requires { before.now.tree.now ≡ named_tree before.now.names.now (state_of state.now) }
+    ensures { IfOk result (λ value. view value ≡ step_data before.now.names.now before.now.reached.now
         (record {
           is_read = true;
-          told = read_told line.now (state_of state.now) read.now ∷ [];
-          before = tree_text (state_of state.now);
-          after = tree_text (state_of state.now);
+          told = read_told before.now.names.now line.now (state_of state.now) read.now ∷ [];
+          before = named_tree before.now.names.now (state_of state.now);
+          after = named_tree before.now.names.now (state_of state.now);
         })) }
 {
     let mut told = Vec::new(before.alloc);
-    push(&mut told, read_value(line, state, read, meter)?)?;
+    push(
+        &mut told,
+        read_value(line, before.names, state, read, meter)?,
+    )?;
     step_value(before, true, told, before.tree)
 }
 
@@ -183,10 +207,10 @@ fn put_reads(
     reads: &[PlacedRead],
     meter: &mut Meter,
 ) -> Result<(), NoMemory>
-    requires { before.now.tree.now ≡ tree_text (state_of state.now) }
+    requires { before.now.tree.now ≡ named_tree before.now.names.now (state_of state.now) }
     ensures { OnOk result (map view values.new.items ≡ map view values.old.items
-        ++ map (step_data before.now.reached.now)
-        (steps_from (told_in text.now) (state_of state.now) (map Asked reads.now))) }
+        ++ map (step_data before.now.names.now before.now.reached.now)
+        (steps_from before.now.names.now (told_in text.now) (state_of state.now) (map Asked reads.now))) }
 {
     let mut rest = text;
     for placed in reads {
@@ -210,14 +234,14 @@ fn put_event(
     event: &Event,
     meter: &mut Meter,
 ) -> Result<Vec<u8>, NoMemory>
-    requires { before.now.tree.now ≡ tree_text (state_of state.old) }
+    requires { before.now.tree.now ≡ named_tree before.now.names.now (state_of state.old) }
     ensures values { OnOk result (map view values.new.items ≡ map view values.old.items
-        ++ step_data before.now.reached.now (step_of (told_in text.now) (state_of state.old) (Made event.now)) ∷ []) }
+        ++ step_data before.now.names.now before.now.reached.now (step_of before.now.names.now (told_in text.now) (state_of state.old) (Made event.now)) ∷ []) }
     ensures state { OnOk result (state_of state.new ≡ event_after (state_of state.old) event.now) }
-    ensures tree { IfOk result (λ tree. tree.items ≡ tree_text (state_of state.new)) }
+    ensures tree { IfOk result (λ tree. tree.items ≡ named_tree before.now.names.now (state_of state.new)) }
 {
-    let told = event_values(text, state, event, meter)?;
-    let after = tree_of(state)?;
+    let told = event_values(text, before.names, state, event, meter)?;
+    let after = named_tree(state, before.names)?;
     push(values, step_value(before, false, told, after.as_slice())?)?;
     Ok(after)
 }
@@ -227,6 +251,8 @@ fn put_event(
 pub struct Source<'a> {
     /// The text of the dump.
     pub text: &'a [u8],
+    /// The names that are known.
+    pub names: &'a [Named],
     /// Its events, the oldest first.
     pub events: &'a [Event],
     /// Its reads, in the order of their places.
@@ -243,19 +269,21 @@ fn put_steps(
     meter: &mut Meter,
 ) -> Result<(), NoMemory>
     ensures { OnOk result (map view values.new.items ≡ map view values.old.items
-        ++ map (step_data source.now.reached.now)
-        (steps_from (told_in source.now.text.now) (state_of state.old) (turns source.now.events.now source.now.reads.now))) }
+        ++ map (step_data source.now.names.now source.now.reached.now)
+        (steps_from source.now.names.now (told_in source.now.text.now) (state_of state.old) (turns source.now.events.now source.now.reads.now))) }
 {
     let alloc = state.alloc();
     let reached = source.reached;
     let mut text = source.text;
     let mut rest = source.reads;
-    let mut tree = tree_of(state)?;
+    let names = source.names;
+    let mut tree = named_tree(state, names)?;
     for place in 0..source.events.len() {
         let event = &source.events[place];
         let (here, past) = part_reads(place, rest);
         let before = Before {
             alloc,
+            names,
             reached,
             tree: tree.as_slice(),
         };
@@ -269,6 +297,7 @@ fn put_steps(
     let (here, _) = part_reads(source.events.len(), rest);
     let before = Before {
         alloc,
+        names,
         reached,
         tree: tree.as_slice(),
     };
@@ -277,13 +306,15 @@ fn put_steps(
 }
 
 /// The whole tree, as the first step.
-fn first_step(reached: &[ObjectId], state: &PlainState) -> Result<Value, NoMemory>
-    ensures { IfOk result (λ value. view value ≡ step_data reached.now (first_step (state_of state.now))) }
+fn first_step(names: &[Named], reached: &[ObjectId], state: &PlainState) -> Result<Value, NoMemory>
+    ensures { IfOk result (λ value. view value
+        ≡ step_data names.now reached.now (first_step names.now (state_of state.now))) }
 {
     let alloc = state.alloc();
-    let tree = tree_of(state)?;
+    let tree = named_tree(state, names)?;
     let before = Before {
         alloc,
+        names,
         reached,
         tree: &[],
     };
@@ -296,12 +327,15 @@ pub fn step_values(
     state: PlainState,
     meter: &mut Meter,
 ) -> Result<Vec<Value>, NoMemory>
-    ensures { IfOk result (λ values. map view values.items ≡ map (step_data source.now.reached.now)
-        (steps_of (told_in source.now.text.now) (state_of state) (turns source.now.events.now source.now.reads.now))) }
+    ensures { IfOk result (λ values. map view values.items ≡ map (step_data source.now.names.now source.now.reached.now)
+        (steps_of source.now.names.now (told_in source.now.text.now) (state_of state) (turns source.now.events.now source.now.reads.now))) }
 {
     let mut state = state;
     let mut values = Vec::new(state.alloc());
-    push(&mut values, first_step(source.reached, &state)?)?;
+    push(
+        &mut values,
+        first_step(source.names, source.reached, &state)?,
+    )?;
     put_steps(&mut values, source, &mut state, meter)?;
     Ok(values)
 }

@@ -17,7 +17,6 @@ mod replies;
 mod scenes;
 mod streams;
 mod texts;
-mod turns;
 
 use anyhow::Result;
 use base::NoMemory;

@@ -1,5 +1,5 @@
 //! The scenes by their names.
-use crate::{bound_names, laws, numbers, streams, turns};
+use crate::{bound_names, laws, numbers, streams};
 use anyhow::Result;
 use std::alloc::Global;
 use std::sync::Wait;
@@ -103,8 +103,6 @@ fn of_seats<R: Threads + Wait + Sync + AllocGlobal>(
         seats::threads::play(rt, look)?;
     } else if scene == "told" {
         seats::told::play(rt, look)?;
-    } else if scene == "turns" {
-        turns::play(rt, look)?;
     } else {
         return Ok(false);
     }

@@ -10,6 +10,15 @@ pub fn script<'a>(alloc: Global, help: &'a str) -> Arg<'a> {
         .help(help)
 }
 
+/// A file of names.
+pub fn names<'a>(alloc: Global, help: &'a str) -> Arg<'a> {
+    Arg::new(alloc, "names")
+        .long("names")
+        .value_name("FILE")
+        .action(ArgAction::Set)
+        .help(help)
+}
+
 /// A number that has a default.
 pub fn number<'a>(alloc: Global, name: &'a str, default: &'a str, help: &'a str) -> Arg<'a> {
     Arg::new(alloc, name)

@@ -1,7 +1,7 @@
 //! The command line of `histar run`.
 ghost use Rattle.std.specs.Prelude.{◌≡◌, is_some};
 
-use crate::args::{number, pages, pages_of, script};
+use crate::args::{names, number, pages, pages_of, script};
 use base::{Level, Limits};
 use clap::{Arg, ArgAction, ArgMatches, Command, value_parser};
 use program_io::Options;
@@ -16,6 +16,8 @@ pub struct RunArgs<'a> {
     pub script: &'a str,
     /// The path of the file that the dump goes to, where one is asked for.
     pub dump: Option<&'a str>,
+    /// The path of the file that the names go to, where they are asked for.
+    pub names: Option<&'a str>,
 }
 
 fn dump<'a>(alloc: Global) -> Arg<'a> {
@@ -72,7 +74,11 @@ pub fn run<'a>(alloc: Global) -> Result<Command<'a>, AllocError> {
         .arg(next_id(alloc))?
         .arg(next_category(alloc))?
         .arg(dump(alloc))?
-        .arg(checkpoint(alloc))
+        .arg(checkpoint(alloc))?
+        .arg(names(
+            alloc,
+            "Where to write the names of the run, for histar-show to show",
+        ))
 }
 
 fn level_of(number: u64) -> Level {
@@ -100,16 +106,20 @@ fn checkpoint_of(run: &ArgMatches<'_>) -> u32 {
 
 /// What the arguments of `run` ask for.
 pub fn run_of<'a>(run: &ArgMatches<'a>) -> RunArgs<'a>
-    ensures { result.options.dump ≡ is_some result.dump }
+    ensures dump { result.options.dump ≡ is_some result.dump }
+    ensures names { result.options.names ≡ is_some result.names }
 {
     let dump = run.get_str("dump");
+    let names = run.get_str("names");
     RunArgs {
         options: Options {
             limits: limits_of(run),
             dump: dump.is_some(),
             checkpoint: checkpoint_of(run),
+            names: names.is_some(),
         },
         script: run.get_str("SCRIPT").unwrap_or(""),
         dump,
+        names,
     }
 }

@@ -1,4 +1,5 @@
 //! The command line of `histar-show`.
+use crate::args::names;
 use crate::versions::VERSION;
 use base::{Category, ObjectId};
 use clap::{Arg, ArgAction, ArgMatches, Command, Error, value_parser};
@@ -50,7 +51,13 @@ pub struct ShowArgs<'a> {
     pub view: View,
     /// The path of the page, where one is written.
     pub out: Option<&'a str>,
+    /// The path of the names by which it is shown, where they are asked for.
+    pub names: Option<&'a str>,
 }
+
+/// What is told of a file of names.
+const NAMES: &str =
+    "The names of the run, which histar run --names wrote, to show in place of numbers";
 
 /// What is told of a category beside an object that flows are from.
 const OUTSIDE: &str =
@@ -146,7 +153,8 @@ fn why<'a>(alloc: Global) -> Result<Command<'a>, AllocError> {
         .about("Tells why a call or a read of a dump is refused")
         .arg(dump(alloc))?
         .arg(line(alloc))?
-        .arg(all(alloc))
+        .arg(all(alloc))?
+        .arg(names(alloc, NAMES))
 }
 
 /// The words of `tree`.
@@ -155,7 +163,8 @@ fn tree<'a>(alloc: Global) -> Result<Command<'a>, AllocError> {
         .about("Shows the objects that a dump leads to as a tree")
         .arg(dump(alloc))?
         .arg(after(alloc))?
-        .arg(color(alloc))
+        .arg(color(alloc))?
+        .arg(names(alloc, NAMES))
 }
 
 /// The words of `json`.
@@ -169,7 +178,8 @@ fn json<'a>(alloc: Global) -> Result<Command<'a>, AllocError> {
 fn dot<'a>(alloc: Global) -> Result<Command<'a>, AllocError> {
     let dot = Command::new(alloc, "dot")
         .about("Shows the objects that a dump leads to as a graph for Graphviz")
-        .arg(dump(alloc))?;
+        .arg(dump(alloc))?
+        .arg(names(alloc, NAMES))?;
     with_flows(
         alloc,
         dot,
@@ -182,7 +192,8 @@ fn page<'a>(alloc: Global) -> Result<Command<'a>, AllocError> {
     let page = Command::new(alloc, "page")
         .about("Writes a dump as a page of HTML, with the tree after each event")
         .arg(dump(alloc))?
-        .arg(out(alloc))?;
+        .arg(out(alloc))?
+        .arg(names(alloc, NAMES))?;
     with_flows(
         alloc,
         page,
@@ -236,6 +247,14 @@ fn out_of<'a>(view: View, words: &ArgMatches<'a>) -> Option<&'a str> {
     }
 }
 
+/// The path of the names, where the view shows them.
+fn names_of<'a>(view: View, words: &ArgMatches<'a>) -> Option<&'a str> {
+    match view {
+        View::Json => None,
+        _ => words.get_str("names"),
+    }
+}
+
 /// What is shown, by the name of the view.
 fn view_of(name: &str, words: &ArgMatches<'_>) -> View {
     match name {
@@ -265,6 +284,7 @@ pub fn read_show_words<'a, S: AsStr>(alloc: Global, words: &'a [S]) -> Result<Sh
                 is_whole: false,
             },
             out: None,
+            names: None,
         });
     };
     let view = view_of(name, args);
@@ -272,5 +292,6 @@ pub fn read_show_words<'a, S: AsStr>(alloc: Global, words: &'a [S]) -> Result<Sh
         dump: args.get_str("DUMP").unwrap_or(""),
         view,
         out: out_of(view, args),
+        names: names_of(view, args),
     })
 }

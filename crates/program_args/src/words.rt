@@ -1,6 +1,6 @@
 //! The command line of `histar`.
 ghost use Rattle.std.specs.Prelude.{IfOk};
-ghost use Rattle.program_args.specs.Asked.{HasFileOfDump};
+ghost use Rattle.program_args.specs.Asked.{HasFiles};
 
 use crate::check::{CheckArgs, check, check_of};
 use crate::dialogue::{dialogue, limits_of};
@@ -37,7 +37,7 @@ fn command<'a>(alloc: Global) -> Result<Command<'a>, AllocError> {
 /// What the words ask for, the first of them being the program's name, or what `clap` answers to them: help, a fault of
 /// usage, or want of memory.
 pub fn read_words<'a, S: AsStr>(alloc: Global, words: &'a [S]) -> Result<Verb<'a>, Error>
-    ensures { IfOk result (λ verb. HasFileOfDump verb) }
+    ensures { IfOk result (λ verb. HasFiles verb) }
 {
     let matches = command(alloc)?.try_get_matches_from(words)?;
     let Some((name, args)) = matches.subcommand() else {

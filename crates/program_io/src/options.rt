@@ -11,10 +11,12 @@ pub struct Options {
     /// How many of the run's first events a dump tells by the state that they lead to, in place of one by one; all where
     /// it has fewer.
     pub checkpoint: u32,
+    /// Whether the names of the run are told.
+    pub names: bool,
 }
 
 /// The options of a run that is told none: 64 pages, a device of level 1, the first id 4 and the first category 1, no
-/// dump, and no event told by a state.
+/// dump, no event told by a state, and no names.
 pub const DEFAULTS: Options = Options {
     limits: Limits {
         pages: 64,
@@ -24,6 +26,7 @@ pub const DEFAULTS: Options = Options {
     },
     dump: false,
     checkpoint: 0,
+    names: false,
 };
 
 /// How a dump is audited.

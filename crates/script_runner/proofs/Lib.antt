@@ -8,5 +8,6 @@ pub mod Plays
 pub mod ReadLaws
 pub mod RunLaws
 pub mod SeatLaws
+pub mod SharedLaws
 pub mod TurnLaws
 pub mod WorkerLemmas

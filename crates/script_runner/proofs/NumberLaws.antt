@@ -1,6 +1,5 @@
--- The workers of lines, and the numbers of each one's lines.
+-- The workers of lines.
 use Rattle.std.proofs.Common.{◌≡◌, ℕ, zero, suc, ◌+◌, ◌<◌, ◌≤◌, Bool, true, false, cond, eqb, leb, ◌||◌, List, [], ◌∷◌, ◌++◌, take, length, slice_get, slice_set, get_or, map, Option, Some, None, IfSome, option_map, refl, ap, sym, ◌∙◌, subst, ◌⊎◌, inl, inr, append_assoc, arith, position, true≢false, ◌≢◌}
-use Rattle.std.specs.Global.{Vec}
 use Rattle.std.specs.List.{list_any, position_or_len, IsDistinct}
 use Rattle.std.specs.Option.{option_eq}
 use Rattle.std.specs.Str.{bytes_eq}
@@ -19,7 +18,6 @@ use Rattle.text_words.proofs.NameLemmas.{same_name}
 use Rattle.text_words.specs.contracts.names.NamePartialEq.TheImpl.{eq-value}
 use Rattle.call_text.specs.declared.phases.Line.{Line}
 use Rattle.script_rules.specs.Workers.{lines_in, with_workers, workers_of}
-use Rattle.script_runner.specs.Workers.{lines_of, numbers_of, AreNumbers, WithLines, WithNumber}
 
 -- the lines of phases, with one phase more
 lines_in-snoc : (phases : List (List Line)) (lines : List Line) → lines_in (phases ++ lines ∷ []) ≡ lines_in phases ++ lines
@@ -35,13 +33,6 @@ take_next xs k x there =
 pub lines_after : (phases : List (List Line)) (k : ℕ) (lines : List Line) → slice_get phases k ≡ Some lines
     → lines_in (take (k + 1) phases) ≡ lines_in (take k phases) ++ lines
 lines_after phases k lines there = ap lines_in (take_next phases k lines there) ∙ lines_in-snoc (take k phases) lines
-
--- each worker's numbers with those of a phase more
-pub numbers_after : (workers : List (List ℕ)) (phases : List (List Line)) (k : ℕ) (lines : List Line) (old new : List (Vec ℕ))
-    → slice_get phases k ≡ Some lines → WithLines workers lines old new
-    → AreNumbers workers (lines_in (take k phases)) old → AreNumbers workers (lines_in (take (k + 1) phases)) new
-numbers_after workers phases k lines old new there adds are =
-    subst (λ (ls : List Line). AreNumbers workers ls new) (sym (lines_after phases k lines there)) (adds (lines_in (take k phases)) are)
 
 -- lines after lines
 workers-append : (workers : List (List ℕ)) (xs ys : List Line) → with_workers workers (xs ++ ys) ≡ with_workers (with_workers workers xs) ys
@@ -89,30 +80,6 @@ distinct_as_bytes workers distinct = subst (λ (eq : List ℕ → List ℕ → B
 pub place_as_bytes : (workers : List (List ℕ)) (worker : List ℕ) → position (eq-value.it worker) workers ≡ position (bytes_eq worker) workers
 place_as_bytes workers worker = (λ i. position (λ a. same_name worker a i) workers)
 
--- the place of a worker is that of the last line's, where it is the same one
-pub place_of_last : (workers : List (List ℕ)) (last : Option (List ℕ)) (place : Option ℕ) (worker : List ℕ)
-    → option_eq eq-value.it last (Some worker) ≡ true → IfSome last (λ w. place ≡ position (bytes_eq w) workers)
-    → place ≡ position (bytes_eq worker) workers
-place_of_last workers None place worker same known = absurd (true≢false (sym same))
-place_of_last workers (Some w) place worker same known =
-    known ∙ ap (λ (n : List ℕ). position (bytes_eq n) workers) ((bytes_decides w worker).0 (sym (same_name w worker) ∙ same))
-
--- the numbers of a worker with one line more, of its own or of another
-numbers_own : (worker : List ℕ) (lines : List Line) (line : Line) → bytes_eq line.worker worker ≡ true
-    → numbers_of worker (lines ++ line ∷ []) ≡ numbers_of worker lines ++ line.number ∷ []
-numbers_own worker lines line own =
-    ap (map (λ (l : Line). l.number)) (filter-append (λ (l : Line). bytes_eq l.worker worker) lines (line ∷ []))
-    ∙ map-append (λ (l : Line). l.number) (lines_of worker lines) (lines_of worker (line ∷ []))
-    ∙ ap (λ (b : Bool). numbers_of worker lines ++ map (λ (l : Line). l.number) (cond b (line ∷ []) [])) own
-
-numbers_other : (worker : List ℕ) (lines : List Line) (line : Line) → bytes_eq line.worker worker ≡ false
-    → numbers_of worker (lines ++ line ∷ []) ≡ numbers_of worker lines
-numbers_other worker lines line other =
-    ap (map (λ (l : Line). l.number)) (filter-append (λ (l : Line). bytes_eq l.worker worker) lines (line ∷ []))
-    ∙ map-append (λ (l : Line). l.number) (lines_of worker lines) (lines_of worker (line ∷ []))
-    ∙ ap (λ (b : Bool). numbers_of worker lines ++ map (λ (l : Line). l.number) (cond b (line ∷ []) [])) other
-    ∙ append-nil (numbers_of worker lines)
-
 -- where a worker stands, and nowhere else
 pub stands_at : (workers : List (List ℕ)) (w worker : List ℕ) (index i : ℕ) → position (bytes_eq w) workers ≡ Some index
     → slice_get workers i ≡ Some worker → (i ≡ index) → bytes_eq w worker ≡ true
@@ -138,120 +105,3 @@ stands_not workers w worker index i distinct found there other = of (leb_tells i
     of (inl h) = ap (bytes_eq w) (sym is) ∙ at.2 i (omega (arith, h.1, other))
     of (inr h) = (λ j. bytes_eq (own j) (sym is j))
         ∙ apart_from_distinct bytes_eq workers index i worker distinct h.1 (slice_get_within workers i worker there)
-
--- each worker's numbers with one line more
-pub numbers_more : (workers : List (List ℕ)) (line : Line) (index : ℕ) (old new : List (Vec ℕ))
-    → IsDistinct bytes_eq workers → position (bytes_eq line.worker) workers ≡ Some index → WithNumber index line.number old new
-    → WithLines workers (line ∷ []) old new
-numbers_more workers line index old new distinct found with lines are i =
-    at (slice_get workers i) (slice_get new i) (slice_get old i)
-    (λ worker there. stands_at workers line.worker worker index i found there)
-    (λ worker there. stands_not workers line.worker worker index i distinct found there) (with i) (are i) refl
-  where
-    own : (worker : List ℕ) (new was : Vec ℕ) → (i ≡ index → bytes_eq line.worker worker ≡ true)
-        → (i ≢ index → bytes_eq line.worker worker ≡ false) → (i ≡ index → new.items ≡ was.items ++ line.number ∷ [])
-        → (i ≢ index → new.items ≡ was.items) → was.items ≡ numbers_of worker lines
-        → ((eqb i index ≡ true) × (i ≡ index)) ⊎ ((eqb i index ≡ false) × (i ≢ index))
-        → new.items ≡ numbers_of worker (lines ++ line ∷ [])
-    own worker new was same other more stays was_is (inl h) =
-        more h.1 ∙ ap (λ (ns : List ℕ). ns ++ line.number ∷ []) was_is ∙ sym (numbers_own worker lines line (same h.1))
-    own worker new was same other more stays was_is (inr h) =
-        stays h.1 ∙ was_is ∙ sym (numbers_other worker lines line (other h.1))
-
-    at : (w : Option (List ℕ)) (n o : Option (Vec ℕ))
-        → ((worker : List ℕ) → slice_get workers i ≡ Some worker → i ≡ index → bytes_eq line.worker worker ≡ true)
-        → ((worker : List ℕ) → slice_get workers i ≡ Some worker → i ≢ index → bytes_eq line.worker worker ≡ false)
-        → IfSome n (λ own. (was : Vec ℕ) × (o ≡ Some was) × (i ≡ index → own.items ≡ was.items ++ line.number ∷ [])
-        × (i ≢ index → own.items ≡ was.items))
-        → IfSome w (λ worker. IfSome o (λ own. own.items ≡ numbers_of worker lines)) → slice_get workers i ≡ w
-        → IfSome w (λ worker. IfSome n (λ own. own.items ≡ numbers_of worker (lines ++ line ∷ [])))
-    at None n o same other h are there = tt
-    at (Some worker) None o same other h are there = tt
-    at (Some worker) (Some new) o same other h are there =
-        own worker new h.0 (same worker there) (other worker there) h.2 h.3
-        (subst (λ (p : Option (Vec ℕ)). IfSome p (λ was. was.items ≡ numbers_of worker lines)) h.1 are) (eqb_tells i index)
-
--- a test that no element passes
-passed_over : (p : List ℕ → Bool) (xs : List (List ℕ)) (i : ℕ) (x : List ℕ) → position p xs ≡ None → slice_get xs i ≡ Some x → p x ≡ false
-passed_over p xs i x none there = at (leb_tells (suc (position_or_len p xs)) (length xs))
-  where
-    at : ((leb (suc (position_or_len p xs)) (length xs) ≡ true) × (suc (position_or_len p xs) ≤ length xs))
-        ⊎ ((leb (suc (position_or_len p xs)) (length xs) ≡ false) × (length xs < suc (position_or_len p xs))) → p x ≡ false
-    at (inl h) = absurd (none-some (position_or_len p xs) (sym none ∙ ap (λ b. cond b (Some (position_or_len p xs)) None) h.0))
-    at (inr h) = ap p (sym (get_or_from_slice_get xs i x x there))
-        ∙ fails_before_first p xs i x (omega (arith, h.1, slice_get_within xs i x there))
-
--- and with a line of none of them
-pub numbers_stay : (workers : List (List ℕ)) (line : Line) (numbers : List (Vec ℕ))
-    → position (bytes_eq line.worker) workers ≡ None → WithLines workers (line ∷ []) numbers numbers
-numbers_stay workers line numbers none lines are i = at (slice_get workers i) (slice_get numbers i) refl (are i)
-  where
-    at : (w : Option (List ℕ)) (n : Option (Vec ℕ)) → slice_get workers i ≡ w
-        → IfSome w (λ worker. IfSome n (λ own. own.items ≡ numbers_of worker lines))
-        → IfSome w (λ worker. IfSome n (λ own. own.items ≡ numbers_of worker (lines ++ line ∷ [])))
-    at None n there h = tt
-    at (Some worker) None there h = tt
-    at (Some worker) (Some own) there h = h ∙ sym (numbers_other worker lines line
-        (passed_over (bytes_eq line.worker) workers i worker none there))
-
-kept : (o : Option (Vec ℕ)) (place number i : ℕ) → i ≢ place
-    → IfSome o (λ own. (was : Vec ℕ) × (o ≡ Some was) × (i ≡ place → own.items ≡ was.items ++ number ∷ []) × (i ≢ place → own.items ≡ was.items))
-kept None place number i other = tt
-kept (Some own) place number i other = (own, refl, (λ same. absurd (other same)), (λ _. refl))
-
--- the numbers of one line more
-pub with_more : (workers : List (List ℕ)) (lines : List Line) (k : ℕ) (line : Line) (old now new : List (Vec ℕ))
-    → slice_get lines k ≡ Some line → WithLines workers (take k lines) old now → WithLines workers (line ∷ []) now new
-    → WithLines workers (take (k + 1) lines) old new
-with_more workers lines k line old now new there first then before are =
-    subst (λ (ls : List Line). AreNumbers workers ls new)
-    (append_assoc before (take k lines) (line ∷ []) ∙ ap (λ (ls : List Line). before ++ ls) (sym (take_next lines k line there)))
-    (then (before ++ take k lines) (first before are))
-
--- no number is added where there is no such place
-pub number_of_none : (place number : ℕ) (numbers : List (Vec ℕ)) → slice_get numbers place ≡ None → WithNumber place number numbers numbers
-number_of_none place number numbers none i = at (eqb_tells i place)
-  where
-    at : ((eqb i place ≡ true) × (i ≡ place)) ⊎ ((eqb i place ≡ false) × (i ≢ place))
-        → IfSome (slice_get numbers i) (λ own. (was : Vec ℕ) × (slice_get numbers i ≡ Some was)
-        × (i ≡ place → own.items ≡ was.items ++ number ∷ []) × (i ≢ place → own.items ≡ was.items))
-    at (inl h) = subst (λ (o : Option (Vec ℕ)). IfSome o (λ own. (was : Vec ℕ) × (o ≡ Some was)
-        × (i ≡ place → own.items ≡ was.items ++ number ∷ []) × (i ≢ place → own.items ≡ was.items)))
-        (sym (ap (slice_get numbers) h.1 ∙ none)) tt
-    at (inr h) = kept (slice_get numbers i) place number i h.1
-
--- a number is added at its place
-pub number_added : (place number : ℕ) (numbers : List (Vec ℕ)) (was own : Vec ℕ) → slice_get numbers place ≡ Some was
-    → own.items ≡ was.items ++ number ∷ [] → WithNumber place number numbers (slice_set numbers place own)
-number_added place number [] was own there is i = absurd (subst (λ (o : Option (Vec ℕ)). IfSome o (λ v. ⊥)) there tt)
-number_added zero number (n ∷ ns) was own there is zero =
-    let same : n ≡ was = cc in
-    (n, refl, (λ _. is ∙ ap (λ (v : Vec ℕ). v.items ++ number ∷ []) (sym same)), (λ other. absurd (other refl)))
-number_added zero number (n ∷ ns) was own there is (suc i) = kept (slice_get ns i) zero number (suc i) (λ e. omega arith)
-number_added (suc place) number (n ∷ ns) was own there is zero = (n, refl, (λ e. absurd (omega arith)), (λ _. refl))
-number_added (suc place) number (n ∷ ns) was own there is (suc i) =
-    at (slice_get (slice_set ns place own) i) (number_added place number ns was own there is i)
-  where
-    at : (o : Option (Vec ℕ))
-        → IfSome o (λ own. (was : Vec ℕ) × (slice_get ns i ≡ Some was) × (i ≡ place → own.items ≡ was.items ++ number ∷ [])
-        × (i ≢ place → own.items ≡ was.items))
-        → IfSome o (λ own. (was : Vec ℕ) × (slice_get ns i ≡ Some was) × (suc i ≡ suc place → own.items ≡ was.items ++ number ∷ [])
-        × (suc i ≢ suc place → own.items ≡ was.items))
-    at None h = tt
-    at (Some v) (was, there, more, stays) = (was, there, (λ e. more (omega arith)), (λ other. stays (λ e. other (ap suc e))))
-
--- no numbers at any place
-pub none_more : (numbers : List (Vec ℕ)) (none : Vec ℕ) → none.items ≡ [] → ((i : ℕ) → IfSome (slice_get numbers i) (λ own. own.items ≡ []))
-    → (i : ℕ) → IfSome (slice_get (numbers ++ none ∷ []) i) (λ own. own.items ≡ [])
-none_more [] none is are zero = is
-none_more [] none is are (suc i) = tt
-none_more (n ∷ ns) none is are zero = are zero
-none_more (n ∷ ns) none is are (suc i) = none_more ns none is (λ j. are (suc j)) i
-
--- the numbers at a worker's place are those of its lines
-pub own_numbers : (workers : List (List ℕ)) (lines : List Line) (numbers : List (Vec ℕ)) (i : ℕ) (worker : List ℕ) (own : Vec ℕ)
-    → AreNumbers workers lines numbers → slice_get workers i ≡ Some worker → slice_get numbers i ≡ Some own
-    → own.items ≡ numbers_of worker lines
-own_numbers workers lines numbers i worker own are there at =
-    subst (λ (p : Option (List ℕ) × Option (Vec ℕ)). IfSome p.0 (λ w. IfSome p.1 (λ ns. ns.items ≡ numbers_of w lines)))
-    (λ j. (there j, at j)) (are i)

@@ -189,13 +189,14 @@ SoFar limits room workers book names left rest all =
     (r : Run) × IsRun workers book names left r × (run_from limits room r rest ≡ all)
 
 -- so a run whose workers take turns leaves what the rules say
-pub turns_are : (limits : Limits) (script : List (List Line)) (workers : List (List ℕ)) (seats n : ℕ) (text : List ℕ) (made : List Event)
+pub turns_are : (limits : Limits) (script : List (List Line)) (workers : List (List ℕ)) (seats n : ℕ) (text : List ℕ) (made : List Event) (known : List Named)
     → workers ≡ workers_of (lines_in script) → n ≡ length workers → seats ≡ max 1 (min 64 n)
     → text ≡ text_of (run_from limits seats start script) workers → made ≡ (run_from limits seats start script).events
-    → IsTurns limits script text made
-turns_are limits script workers seats n text made are n_is seats_are text_is made_is = record {
+    → known ≡ (run_from limits seats start script).names → IsTurns limits script text made known
+turns_are limits script workers seats n text made known are n_is seats_are text_is made_is known_is = record {
   output = text_is ∙ (λ i. text_of (run_from limits (room i) start script) (are i));
   events = made_is ∙ ap (λ (k : ℕ). (run_from limits k start script).events) room;
+  names = known_is ∙ ap (λ (k : ℕ). (run_from limits k start script).names) room;
 }
   where
     room : seats ≡ room_for (workers_of (lines_in script))

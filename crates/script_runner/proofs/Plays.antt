@@ -32,13 +32,14 @@ pub turns_ok : {E : Type 0} (limits : Limits) (script : List (List Line)) (worke
     → workers ≡ workers_of (lines_in script) → n ≡ length workers → seats ≡ max 1 (min 64 n)
     → IfOk r (λ p. p.output.items ≡ text_of (run_from limits seats start script) workers)
     → IfOk r (λ p. p.events.items ≡ (run_from limits seats start script).events)
-    → IfOk r (λ p. take_turns script ≡ true → IsTurns limits script p.output.items p.events.items)
-turns_ok limits script workers seats n (Ok p) are n_is seats_are text events =
-    λ turns. turns_are limits script workers seats n p.output.items p.events.items are n_is seats_are text events
-turns_ok limits script workers seats n (Err e) are n_is seats_are text events = text
+    → IfOk r (λ p. p.names ≡ (run_from limits seats start script).names)
+    → IfOk r (λ p. take_turns script ≡ true → IsTurns limits script p.output.items p.events.items p.names)
+turns_ok limits script workers seats n (Ok p) are n_is seats_are text events names =
+    λ turns. turns_are limits script workers seats n p.output.items p.events.items p.names are n_is seats_are text events names
+turns_ok limits script workers seats n (Err e) are n_is seats_are text events names = text
 
 -- and where they do not, nothing is said
 pub no_turns : {E : Type 0} (limits : Limits) (script : List (List Line)) (r : Result Played E) → take_turns script ≡ false
-    → IfOk r (λ p. take_turns script ≡ true → IsTurns limits script p.output.items p.events.items)
+    → IfOk r (λ p. take_turns script ≡ true → IsTurns limits script p.output.items p.events.items p.names)
 no_turns limits script (Ok p) none = λ turns. absurd (true≢false (sym turns ∙ none))
 no_turns limits script (Err e) none = tt

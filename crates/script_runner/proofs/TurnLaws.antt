@@ -92,7 +92,8 @@ made_refused limits thread journal names g k q are is =
     p : Stand
     p = stand journal names g k
 
-not_one : (n : ℕ) → 2 ≤ n → (n == 1) ≡ false
+-- two and more are not one
+pub not_one : (n : ℕ) → 2 ≤ n → (n == 1) ≡ false
 not_one n more = at (eqb_tells n 1)
   where
     at : ((eqb n 1 ≡ true) × (n ≡ 1)) ⊎ ((eqb n 1 ≡ false) × (n ≢ 1)) → (n == 1) ≡ false

@@ -1,8 +1,10 @@
 pub mod Answers
+pub mod Desks
 pub mod Dumps
 pub mod Faults
 pub mod Names
-pub mod Output
 pub mod Reads
+pub mod Shared
 pub mod Turns
 pub mod Workers
+pub mod Runs

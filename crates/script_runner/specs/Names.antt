@@ -1,9 +1,10 @@
--- The names of a script, as the entries of a map.
-use Rattle.std.specs.Prelude.{◌≡◌, ℕ, List, [], ◌∷◌, map, nat_eq, Option}
+-- The names of a script, as the entries of a map, and the file that they go to.
+use Rattle.std.specs.Prelude.{◌≡◌, ℕ, Bool, true, false, List, [], ◌∷◌, map, nat_eq, Option}
 use Rattle.call_text.specs.declared.known_names.Named.{Named}
 use Rattle.call_text.specs.declared.known_names.Value.{Value}
 use Rattle.call_text.specs.declared.known_names.Value.TheVariants.{Object, Category}
 use Rattle.call_text.specs.Known.{name_of}
+use Rattle.names_text.specs.Names.{names_text}
 use Rattle.script_rules.specs.Names.{bound}
 use Rattle.indexmap.specs.IndexMap.{get}
 use Rattle.script_runner.specs.declared.names.FirstNames.{FirstNames}
@@ -29,3 +30,8 @@ first_name first (Category category) = get nat_eq first.categories category.0
 -- the name that is noted for a value is the first in the list that is bound to it
 abbrev pub AreFirst : FirstNames → List Named → Type 0
 AreFirst first names = (value : Value) → first_name first value ≡ name_of value names
+
+-- the bytes of the file that names go to: their text where it is asked for, and else none
+abbrev pub IsNamesFileOf : Bool → List Named → List ℕ → Type 0
+IsNamesFileOf true names bytes = bytes ≡ names_text names
+IsNamesFileOf false names bytes = bytes ≡ []

@@ -1,6 +1,5 @@
 -- A run whose workers take turns, as it stands in memory, and what it leaves.
-use Rattle.std.specs.Prelude.{◌≡◌, ℕ, Bool, true, List, [], ◌∷◌, ◌++◌, map, slice_get, Option, Some, None, IfSome, Result, Ok, Err}
-use Rattle.std.specs.Io.KnownBytes.{Appends}
+use Rattle.std.specs.Prelude.{◌≡◌, ℕ, List, [], ◌∷◌, ◌++◌, map, slice_get, Option, Some, None, IfSome, Result, Ok, Err}
 use Rattle.base.specs.declared.ranges.Limits.{Limits}
 use Rattle.base.specs.declared.refusals.Refusal.{Refusal}
 use Rattle.histories.specs.Events.{Event}
@@ -10,16 +9,11 @@ use Rattle.call_text.specs.declared.asking.Asked.TheVariants.{Read, Write}
 use Rattle.call_text.specs.declared.known_names.Named.{Named}
 use Rattle.call_text.specs.declared.phases.Line.{Line}
 use Rattle.call_text.specs.Resolve.{resolved}
-use Rattle.call_text.specs.Script.{IsScript}
-use Rattle.plain_scripts.specs.Numbers.{renumbered}
-use Rattle.plain_scripts.specs.Scripts.{kept_numbers, plain_text}
 use Rattle.published_copy.specs.Books.{BookView}
 use Rattle.script_rules.specs.Lines.{Stand, Waiting, tell_waiting}
 use Rattle.script_rules.specs.Output.{output_text, own}
 use Rattle.script_rules.specs.Run.{Run, run, thread_of}
 use Rattle.script_runner.specs.Answers.{Kept}
-use Rattle.script_runner.specs.Dumps.{IsFileOf}
-use Rattle.script_runner.specs.Workers.{take_turns}
 use Rattle.script_runner.specs.declared.answers.Left.{Left}
 use Rattle.script_runner.specs.declared.batches.Gathered.{Gathered}
 
@@ -91,15 +85,8 @@ pub record IsRun (workers : List (List ℕ)) (book : BookView) (known : List Nam
   pub names : known ≡ r.names
   pub own : AreOwn workers left r
 
--- what a script leaves is that of its run, and so is what it prints
-pub record IsTurns (limits : Limits) (script : List (List Line)) (text : List ℕ) (made : List Event) : Type 0 where
+-- what a script leaves is that of its run, and so is what it prints, and which names are known at the end
+pub record IsTurns (limits : Limits) (script : List (List Line)) (text : List ℕ) (made : List Event) (known : List Named) : Type 0 where
   pub output : text ≡ output_text script (run limits script)
   pub events : made ≡ (run limits script).events
-
--- if the workers of the script that the exact form of these bytes spells take turns, the text of its run was added to what was
--- printed, by the numbers of the lines as they were written, and the file is of the events of its run
-abbrev pub IsRunTold : Bool → ℕ → Limits → List ℕ → Option (List ℕ) → Option (List ℕ) → List ℕ → Type 0
-IsRunTold dump n limits bytes old new file =
-    (phases : List (List Line)) × IsScript (plain_text bytes) phases × (take_turns phases ≡ true
-    → Appends old new (renumbered (kept_numbers bytes) (output_text phases (run limits phases)))
-    × IsFileOf dump n limits (run limits phases).events file)
+  pub names : known ≡ (run limits script).names

@@ -6,13 +6,11 @@ ghost use Rattle.std.specs.Prelude.{◌≡◌, ◌++◌, ◌∷◌, [], ℕ, tru
 ghost use Rattle.std.specs.Option.{option_map};
 ghost use Rattle.kernel_rules.specs.declared.replies.Reply.{Reply as ReplyValue};
 ghost use Rattle.kernel_rules.specs.declared.replies.Reply.TheVariants as replies;
-ghost use Rattle.text_words.specs.Name.{IsName};
 ghost use Rattle.call_text.specs.Reply.{making, reply_text};
 ghost use Rattle.call_text.specs.declared.known_names.Named.{Named};
 ghost use Rattle.script_rules.specs.Lines.{seen, told};
 ghost use Rattle.script_rules.specs.Output.{answer_text};
 ghost use Rattle.script_runner.specs.Answers.{answer_of, reply_of, AllStay, Keeps};
-ghost use Rattle.script_runner.specs.Output.{Adds, IsAnswer};
 
 use crate::faults::PlayFault;
 use crate::names::BoundNames;
@@ -269,7 +267,6 @@ fn put_kept(out: &mut Vec<u8>, reply: Option<&Reply>, names: &BoundNames) -> Res
 fn put_unbound(out: &mut Vec<u8>, name: &Name) -> Result<(), AllocError>
     ensures text { OnOk result ((names : List Named)
         → out.new.items ≡ out.old.items ++ answer_text names (Err name.now)) }
-    ensures name { OnOk result (IsName name.now) }
 {
     out.extend_from_slice(b"unbound ")?;
     out.extend_from_slice(name.as_slice())
@@ -285,7 +282,6 @@ fn put_answer(
 ) -> Result<(), PlayFault>
     ensures text { OnOk result
         (out.new.items ≡ out.old.items ++ answer_text names.now (answer_of kept.now whole.now answer.now)) }
-    ensures answer { OnOk result (Adds (IsAnswer names.now) out.old.items out.new.items) }
 {
     match answer {
         Answer::Made(made) => Ok(put_made(out, made, names)?),
@@ -367,7 +363,6 @@ impl Answers {
     pub fn put(&self, out: &mut Vec<u8>, place: usize, names: &BoundNames) -> Result<(), PlayFault>
         ensures text { OnOk result (IfSome (slice_get self.now.told place)
             (λ t. out.new.items ≡ out.old.items ++ answer_text names.now t.answer)) }
-        ensures answer { OnOk result (Adds (IsAnswer names.now) out.old.items out.new.items) }
     {
         let Some(line) = self.lines.get(place) else {
             return Err(PlayFault::Stopped);

@@ -8,8 +8,6 @@ ghost use Rattle.call_text.specs.Known.{start_values};
 ghost use Rattle.script_rules.specs.Output.{text_of};
 ghost use Rattle.script_rules.specs.Run.{phase_after, refusal_by, run_from, seat_for, seated, start, unless_refused, Run};
 ghost use Rattle.script_runner.specs.Dumps.{IsPlayed};
-ghost use Rattle.script_rules.specs.Workers.{lines_in};
-ghost use Rattle.script_runner.specs.Output.{AreToldBy};
 ghost use Rattle.script_runner.specs.Turns.{seated_after, thread_after, IsRun, IsUnplayed};
 
 use crate::answers::{Answers, Left};
@@ -146,13 +144,14 @@ fn told_in<B: Naming>(
     requires names { player.old.names ≡ start_values }
     ensures text { IfOk result (λ told. told.0.output.items
         ≡ text_of (run_from B.boot.limits B.boot.seats start script.now) workers.now.keys) }
-    ensures output { IfOk result (λ told. AreToldBy workers.now.keys (lines_in script.now) told.0.output.items) }
     ensures events { OnOk result (player.new.desk.journal
         ≡ (run_from B.boot.limits B.boot.seats start script.now).events) }
+    ensures names { OnOk result (player.new.names
+        ≡ (run_from B.boot.limits B.boot.seats start script.now).names) }
     ensures tables { IfOk result (λ told. told.1 ≡ scratch (state_of B.boot.limits player.new.desk.journal)) }
 {
     let left = play_phases(alloc, player, script, workers)?;
-    let told = told_of(alloc, script, workers, left, &player.names)?;
+    let told = told_of(alloc, workers, left, &player.names)?;
     let tables = player.desk.tables(alloc)?;
     Ok((told, tables))
 }
@@ -171,9 +170,10 @@ pub fn play_alone<B: Naming>(
     ensures played { IfOk result (λ played. IsPlayed limits.now played.events.items played.tables) }
     ensures text { IfOk result (λ played. played.output.items
         ≡ text_of (run_from limits.now seats start script.now) workers.now.keys) }
-    ensures output { IfOk result (λ played. AreToldBy workers.now.keys (lines_in script.now) played.output.items) }
     ensures events { IfOk result (λ played. played.events.items
         ≡ (run_from limits.now seats start script.now).events) }
+    ensures names { IfOk result (λ played. played.names
+        ≡ (run_from limits.now seats start script.now).names) }
 {
     let names = BoundNames::start(alloc)?;
     let mut player = Player::<B> {
@@ -186,7 +186,7 @@ pub fn play_alone<B: Naming>(
     let told = told_in(alloc, &mut player, script, workers);
     let Player {
         desk,
-        names: _,
+        names,
         batch: _,
         call: _,
         reply: _,
@@ -199,5 +199,6 @@ pub fn play_alone<B: Naming>(
         events,
         reads,
         tables,
+        names,
     })
 }

@@ -4,11 +4,14 @@ ghost use Rattle.std.specs.Option.{option_or};
 ghost use Rattle.call_text.specs.declared.known_names.Named.{Named as NamedValue};
 ghost use Rattle.call_text.specs.Known.{start_values};
 ghost use Rattle.indexmap.specs.IndexMap.{get, IsUnchanged};
+ghost use Rattle.names_text.specs.Names.{names_text};
 ghost use Rattle.script_rules.specs.Names.{bound};
 ghost use Rattle.script_runner.specs.Names.{all_bound, first_name, AreFirst};
 
+use base::NoMemory;
 use call_text::{Known, Named, Value, start_names};
 use indexmap::IndexMap;
+use names_text::put_named;
 use std::alloc::{AllocError, Global};
 use std::marker::Model;
 use text_words::Name;
@@ -82,6 +85,21 @@ impl BoundNames {
             })?;
         }
         Ok(())
+    }
+
+    /// Their text, in their order. Want of memory is the only error.
+    pub fn text(&self, alloc: Global) -> Result<Vec<u8>, NoMemory>
+        ensures { IfOk result (λ text. text.items ≡ names_text self.now) }
+    {
+        let mut text = Vec::new(alloc);
+        for (name, bound) in &self.values {
+            let named = Named {
+                name: *name,
+                value: *bound,
+            };
+            put_named(&mut text, &named)?;
+        }
+        Ok(text)
     }
 }
 

@@ -1,15 +1,15 @@
 //! Playing a script.
-ghost use Rattle.std.specs.Prelude.{◌≡◌, ◌<◌, ◌≤◌, true, max, min, IfOk};
+ghost use Rattle.std.specs.Prelude.{◌≡◌, ◌<◌, ◌≤◌, true, false, max, min, IfOk};
 ghost use Rattle.script_runner.specs.Dumps.{IsPlayed};
 ghost use Rattle.script_rules.specs.Workers as rules;
 ghost use Rattle.script_rules.specs.Workers.{lines_in};
-ghost use Rattle.script_runner.specs.Output.{AreToldBy, IsOutput};
+ghost use Rattle.script_runner.specs.Shared.{IsShared};
 ghost use Rattle.script_runner.specs.Turns.{IsTurns};
 ghost use Rattle.script_runner.specs.Workers.{take_turns};
 
 use crate::faults::PlayFault;
-use crate::gates::Gate;
 use crate::lone_play::play_alone;
+use crate::names::BoundNames;
 use crate::parts::{Workers, workers_of};
 use crate::reads::Reads;
 use crate::shared_play::play_shared;
@@ -37,6 +37,8 @@ pub struct Played {
     pub reads: Vec<Reads>,
     /// The tables of the state that the journal leads to.
     pub tables: Tables,
+    /// The names of the script that something is bound to at the end.
+    pub names: BoundNames,
 }
 
 /// How many seats so many workers can have, of the most that a boot has.
@@ -48,19 +50,19 @@ fn seats_for(workers: usize) -> usize
 }
 
 /// Plays a script of these workers through seats, on a newly booted kernel in two copies.
-fn play_seated<R: Threads + Wait + Sync, G: Gate>(
+fn play_seated<R: Threads + Wait + Sync>(
     rt: &R,
     alloc: Global,
     script: &Script,
     workers: &IndexSet<Name>,
     limits: &Limits,
-    gate: &G,
 ) -> Result<Played, PlayFault>
-    ensures output { IfOk result (λ played. AreToldBy workers.now.keys (lines_in script.now) played.output.items) }
+    requires { workers.now.keys ≡ rules.workers_of (lines_in script.now) }
+    ensures shared { IfOk result (λ played. IsShared limits.now script.now played.output.items played.events.items played.names) }
     ensures played { IfOk result (λ played. IsPlayed limits.now played.events.items played.tables) }
 {
     match Blank::boot_for(alloc, limits, seats_for(workers.len())) {
-        Ok(blank) => play_shared::<Brand, R, G>(rt, alloc, blank, script, workers, gate),
+        Ok(blank) => play_shared::<Brand, R>(rt, alloc, blank, script, workers),
         Err(refusal) => Err(PlayFault::Boot(refusal)),
     }
 }
@@ -74,8 +76,7 @@ fn play_turns(
 ) -> Result<Played, PlayFault>
     requires { workers.now.keys ≡ rules.workers_of (lines_in script.now) }
     ensures turns { IfOk result (λ played. take_turns script.now ≡ true
-        → IsTurns limits.now script.now played.output.items played.events.items) }
-    ensures output { IfOk result (λ played. AreToldBy workers.now.keys (lines_in script.now) played.output.items) }
+        → IsTurns limits.now script.now played.output.items played.events.items played.names) }
     ensures played { IfOk result (λ played. IsPlayed limits.now played.events.items played.tables) }
 {
     let seats = seats_for(workers.len());
@@ -90,18 +91,20 @@ fn play_turns(
 /// for all threads that it starts. Nothing is printed after a fault. The journal and the tables are the book's at the end:
 /// the journal is legal, and the tables are those of the state that it leads to. The limits are then in range. Which
 /// lines are printed, in which order and with which numbers, depends on the script alone; each has the text of a reply, or
-/// of a name that is not known. Where the workers take turns, the output and the journal are those of the script's run by
-/// the rules: each line has the reply of the rules in the state in which its turn came. No gate is asked then.
-pub fn play_all<R: Threads + Wait + Sync, G: Gate>(
+/// of a name that is not known. Where the workers take turns, the output, the journal and the names are those of the script's run
+/// by the rules: each line has the reply of the rules in the state in which its turn came. Where they share phases, each line has
+/// the reply of the rules after the events that its worker had then seen: these begin the journal, and begin with those of the line
+/// before, and a call is the next event after them.
+pub fn play_all<R: Threads + Wait + Sync>(
     rt: &R,
     alloc: Global,
     script: &Script,
     limits: &Limits,
-    gate: &G,
 ) -> Result<Played, PlayFault>
+    ensures shared { IfOk result (λ played. take_turns script.now ≡ false
+        → IsShared limits.now script.now played.output.items played.events.items played.names) }
     ensures turns { IfOk result (λ played. take_turns script.now ≡ true
-        → IsTurns limits.now script.now played.output.items played.events.items) }
-    ensures output { IfOk result (λ played. IsOutput script.now played.output.items) }
+        → IsTurns limits.now script.now played.output.items played.events.items played.names) }
     ensures played { IfOk result (λ played. IsPlayed limits.now played.events.items played.tables) }
 {
     let Workers {
@@ -109,23 +112,7 @@ pub fn play_all<R: Threads + Wait + Sync, G: Gate>(
         take_turns: turns,
     } = workers_of(alloc, script)?;
     if !turns {
-        return play_seated(rt, alloc, script, &names, limits, gate);
+        return play_seated(rt, alloc, script, &names, limits);
     }
     play_turns(alloc, script, &names, limits)
-}
-
-/// Plays a script as `play_all` does where its workers play at once, also where they take turns. What it leaves is the
-/// same. Its output has the same lines in the same order.
-pub fn play_at_once<R: Threads + Wait + Sync, G: Gate>(
-    rt: &R,
-    alloc: Global,
-    script: &Script,
-    limits: &Limits,
-    gate: &G,
-) -> Result<Played, PlayFault>
-    ensures output { IfOk result (λ played. IsOutput script.now played.output.items) }
-    ensures played { IfOk result (λ played. IsPlayed limits.now played.events.items played.tables) }
-{
-    let workers = workers_of(alloc, script)?;
-    play_seated(rt, alloc, script, &workers.names, limits, gate)
 }

@@ -1,17 +1,14 @@
 //! The program, over a reader, a sink and a writer.
-ghost use Rattle.std.specs.Prelude.{◌≡◌, true, IfErr, IfOk, IfSome, OnOk};
+ghost use Rattle.std.specs.Prelude.{◌≡◌, IfErr, IfOk, IfSome};
 ghost use Rattle.call_text.specs.Script.{IsScript};
 ghost use Rattle.plain_scripts.specs.Scripts.{kept_numbers, plain_text};
 ghost use Rattle.script_runner.specs.Faults.{IsFaultOf, IsRefusedFor, run_status};
-ghost use Rattle.script_rules.specs.Output.{output_text};
-ghost use Rattle.script_rules.specs.Run as rules;
 ghost use Rattle.script_runner.specs.Dumps.{IsFile, IsFileOf, IsPlayed};
-ghost use Rattle.script_runner.specs.Output.{IsOutput, IsPrinted};
-ghost use Rattle.script_runner.specs.Turns.{IsRunTold};
-ghost use Rattle.script_runner.specs.Workers.{take_turns};
+ghost use Rattle.script_runner.specs.Names.{IsNamesFileOf};
+ghost use Rattle.script_runner.specs.Runs.{IsRunTold, Writes};
 
 use crate::dumps::dump_of;
-use crate::gates::Always;
+use crate::names::BoundNames;
 use crate::play::{Played, play_all};
 use crate::reads::{Reads, seen_reads};
 use base::NoMemory;
@@ -89,13 +86,22 @@ impl From<NoMemory> for RunFault {
     }
 }
 
+/// What goes to the files of a run.
+#[derive(Drop)]
+pub struct RunFiles {
+    /// The dump, nothing where none is asked for.
+    pub dump: Vec<u8>,
+    /// The names, nothing where they are not asked for.
+    pub names: Vec<u8>,
+}
+
 /// What a run writes.
 #[derive(Drop)]
 struct Texts {
     /// The replies.
     output: Vec<u8>,
-    /// What goes to the dump's file.
-    file: Vec<u8>,
+    /// What goes to its files.
+    files: RunFiles,
 }
 
 /// The script that the exact form of bytes spells, with the path that they stand at.
@@ -137,6 +143,17 @@ fn file_of(
     )
 }
 
+/// The text of the names, where it is asked for.
+fn names_of(alloc: Global, options: &Options, names: &BoundNames) -> Result<Vec<u8>, NoMemory>
+    ensures { IfOk result (λ file. IsNamesFileOf options.now.names names.now file.items) }
+{
+    if options.names {
+        names.text(alloc)
+    } else {
+        Ok(Vec::new(alloc))
+    }
+}
+
 /// Plays a script, and makes all that the run writes.
 fn texts_of<R: Threads + Wait + Sync>(
     rt: &R,
@@ -144,15 +161,12 @@ fn texts_of<R: Threads + Wait + Sync>(
     script: &Script,
     options: &Options,
 ) -> Result<Texts, NoMemory>
-    ensures output { IfOk result (λ texts. IsOutput script.now texts.output.items) }
     ensures file { IfOk result
-        (λ texts. IsFile options.now.dump options.now.checkpoint options.now.limits texts.file.items) }
-    ensures run { IfOk result (λ texts. take_turns script.now ≡ true
-        → (texts.output.items ≡ output_text script.now (rules.run options.now.limits script.now))
-        × IsFileOf options.now.dump options.now.checkpoint options.now.limits
-        (rules.run options.now.limits script.now).events texts.file.items) }
+        (λ texts. IsFile options.now.dump options.now.checkpoint options.now.limits texts.files.dump.items) }
+    ensures run { IfOk result (λ texts. Writes options.now script.now texts.output.items
+        texts.files.dump.items texts.files.names.items) }
 {
-    let Ok(played) = play_all(rt, alloc, script, &options.limits, &Always) else {
+    let Ok(played) = play_all(rt, alloc, script, &options.limits) else {
         return Err(NoMemory);
     };
     let Played {
@@ -160,21 +174,26 @@ fn texts_of<R: Threads + Wait + Sync>(
         events,
         reads,
         tables,
+        names,
     } = played;
     let file = file_of(alloc, options, events.as_slice(), reads.as_slice(), tables);
+    let known = names_of(alloc, options, &names);
     forget(events);
-    Ok(Texts {
-        output,
-        file: file?,
-    })
+    let files = RunFiles {
+        dump: file?,
+        names: known?,
+    };
+    Ok(Texts { output, files })
 }
 
 /// Plays the script whose exact form the bytes of a reader have, which stand at a path, and writes its replies, by the numbers of
-/// the lines as they were written. The answer is what goes to the dump's
-/// file: the dump where one is asked for, else nothing. The faults are found in this order: reading, the script's, want of
-/// memory in playing and in making the texts, writing. No byte goes to `out` before the replies and the dump are whole. Where
-/// the workers take turns, the output and the dump are those of the script's run by the rules. It waits for all threads that it starts. The lines of the script and the events are not given back: that would take as long as
-/// to read many of them, and the program ends then.
+/// the lines as they were written. The answer is what goes to the files: the dump and the names, each where it is asked for, else
+/// nothing. The faults are found in this order: reading, the script's, want of memory in playing and in making the texts,
+/// writing. No byte goes to `out` before the replies, the dump and the names are whole. Where the workers take turns, output,
+/// dump and names are those of the script's run by the rules. Where they share phases, each line that is printed is answered after
+/// events that its worker had then seen, which begin those of the dump, and the names are as they are known at the end. It waits for
+/// all threads that it starts. The lines of the script and the events are not given back: that would take as long as to read many of
+/// them, and the program ends then.
 pub fn histar_on<R: Threads + Wait + Sync, I: Read, S: Sink>(
     rt: &R,
     alloc: Global,
@@ -182,13 +201,12 @@ pub fn histar_on<R: Threads + Wait + Sync, I: Read, S: Sink>(
     script: &mut I,
     options: &Options,
     out: &mut S,
-) -> Result<Vec<u8>, RunFault>
-    ensures file { IfOk result (λ file. IsFile options.now.dump options.now.checkpoint options.now.limits file.items) }
-    ensures printed { OnOk result (IfSome (I.remaining script.old)
-        (λ bytes. IsPrinted bytes (S.contents out.old) (S.contents out.new))) }
-    ensures run { IfOk result (λ file. IfSome (I.remaining script.old)
-        (λ bytes. IsRunTold options.now.dump options.now.checkpoint options.now.limits bytes
-        (S.contents out.old) (S.contents out.new) file.items)) }
+) -> Result<RunFiles, RunFault>
+    ensures file { IfOk result
+        (λ files. IsFile options.now.dump options.now.checkpoint options.now.limits files.dump.items) }
+    ensures run { IfOk result (λ files. IfSome (I.remaining script.old)
+        (λ bytes. IsRunTold options.now bytes (S.contents out.old) (S.contents out.new)
+        files.dump.items files.names.items)) }
     ensures fault { IfErr result (IsRefusedFor path.now (I.remaining script.old)) }
 {
     let bytes = bytes_of(alloc, script)?;
@@ -196,8 +214,8 @@ pub fn histar_on<R: Threads + Wait + Sync, I: Read, S: Sink>(
     let Plain { text: _, numbers } = plain;
     let texts = texts_of(rt, alloc, &script, options);
     forget(script);
-    let Texts { output, file } = texts?;
+    let Texts { output, files } = texts?;
     let shown = renumbered(alloc, numbers.as_slice(), output)?;
     deliver(out, shown.as_slice())?;
-    Ok(file)
+    Ok(files)
 }

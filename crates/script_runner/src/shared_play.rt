@@ -1,327 +1,313 @@
-//! Playing a script whose workers play at once: each in a thread of its own, through a seat of one kernel in two copies.
-ghost use Rattle.std.specs.Prelude.{◌≡◌, IfOk};
+//! Playing a script whose workers share phases: each in a thread of its own, through a seat of one kernel in two copies.
+ghost use Rattle.std.specs.Prelude.{◌≡◌, ◌<◌, [], true, map, vec_len, IfOk, IfSome, IsTrue, OnOk};
+ghost use Rattle.std.specs.List.{AllByRecursion, AllZip};
+ghost use Rattle.std.specs.Thread.{IsSend, IsSync};
+ghost use mathlib.Core.List.{IsPrefix};
+ghost use Rattle.call_text.specs.Known.{start_values};
 ghost use Rattle.script_runner.specs.Dumps.{IsClosing};
-ghost use Rattle.script_runner.specs.Output.{AreToldBy};
-ghost use Rattle.script_rules.specs.Workers.{lines_in};
+ghost use Rattle.script_runner.specs.Shared as rules;
+ghost use Rattle.script_runner.specs.Shared.{all_known, posts_text, unplayed, ArePhases, AreLeft, AreSeen, HasSeen, IsPhase, Plays, Settles, Sits};
 
 use crate::answers::Left;
 use crate::closings::{Closing, closing_of};
 use crate::faults::PlayFault;
-use crate::gates::Gate;
 use crate::names::BoundNames;
-use crate::parts::{Parts, parts_of};
 use crate::play::Played;
 use crate::printing::{Told, told_of};
 use crate::workers::Worker;
-use base::ObjectId;
-use call_text::{Known, Phase, Script, Value};
+use call_text::{Phase, Script};
 use indexmap::IndexSet;
-use published_copy::{Blank, Naming, Note, Seat, Shared};
+use published_copy::{Blank, Book, Naming, Note, Pass, Shared};
 use std::alloc::{AllocError, Global};
-use std::sync::{Mutex, Wait};
+use std::sync::Wait;
 use std::thread;
 use std::thread::Threads;
 use text_words::Name;
 
-/// What was played: what each worker leaves, in the order of their first lines, and the names as they are bound at the end.
+/// What was played.
 #[derive(Drop)]
-struct Answered {
-    /// What each worker leaves.
+struct Answered<B: Naming> {
+    /// What each worker leaves, in the order of their first lines.
     left: Vec<Left>,
-    /// The names.
+    /// The passes of their seats.
+    passes: Vec<Option<Pass<B>>>,
+    /// The names as they are bound at the end.
     names: BoundNames,
 }
 
-/// A worker with its seat, where it has one.
-#[derive(Drop)]
-struct Seated<'s, B: Naming> {
-    /// Its seat, from the phase in which one was opened.
-    seat: Option<Seat<'s, B>>,
-    /// The seat's thread.
-    thread: Option<ObjectId>,
-    worker: Worker,
-}
-
-impl<'s, B: Naming> Seated<'s, B> {
-    /// Opens the seat, and says whether there is one then.
-    fn open<R: Wait>(&mut self, rt: &R, shared: &'s Shared<B>, thread: ObjectId) -> bool {
-        match shared.open_seat(rt, thread) {
-            Ok(seat) => {
-                self.seat = Some(seat);
-                self.thread = Some(thread);
-                true
-            }
-            Err(refusal) => {
-                self.worker.refusal = Some(refusal);
-                false
-            }
-        }
-    }
-
-    /// Whether it has a seat, which is opened where it has none and its name is bound to an object.
-    fn sit<R: Wait>(&mut self, rt: &R, shared: &'s Shared<B>, bound: Option<Value>) -> bool {
-        if self.seat.is_some() {
-            return true;
-        }
-        match &bound {
-            Some(Value::Object(thread)) => self.open(rt, shared, *thread),
-            _ => false,
-        }
-    }
-
-    /// Its seat, where it has one, has then seen what the notes have.
-    fn learn_all(&mut self, notes: &[Note<B>]) {
-        if let Some(seat) = &mut self.seat {
-            for note in notes {
-                seat.learn(note);
-            }
-        }
-    }
-
-    /// Ends a phase: why its lines ended early, if they did, and else the names that they bound are added to all.
-    fn end(&mut self, alloc: Global, names: &mut BoundNames) -> Result<(), PlayFault> {
-        self.worker.end()?;
-        names.bind_all(&self.worker.own)?;
-        self.worker.own = BoundNames::none(alloc);
-        Ok(())
-    }
-
-    /// What it leaves, who has no answers then.
-    fn leave(&mut self, alloc: Global) -> Left {
-        Left {
-            thread: self.thread,
-            answers: self.worker.take_answers(alloc),
-        }
-    }
-
-    /// Plays its lines of a phase.
-    fn play<R: Wait, G: Gate>(
-        &mut self,
-        rt: &R,
-        gate: &G,
-        index: usize,
-        phase: &Phase,
-        places: &[usize],
-        names: &BoundNames,
-    ) {
-        let seat = &mut self.seat;
-        self.worker
-            .play(rt, gate, seat, index, phase, places, names);
-    }
-}
-
-/// The workers that play a phase, by their places among all.
-#[derive(Drop)]
-struct Cast {
-    /// Those with a seat.
-    seated: Vec<usize>,
-    /// Those without one.
-    unseated: Vec<usize>,
-}
-
-/// Opens the seats of the workers that have lines in a phase, in the workers' order.
+/// The workers before a phase: each that has lines there is given a seat, in the workers' order.
 fn seat_all<'s, B: Naming, R: Wait>(
     rt: &R,
     alloc: Global,
     shared: &'s Shared<B>,
-    parts: &Parts,
-    workers: &IndexSet<Name>,
-    played: &[Mutex<Seated<'s, B>>],
-    names: &BoundNames,
-) -> Result<Cast, AllocError> {
-    let mut seated = Vec::new(alloc);
-    let mut unseated = Vec::new(alloc);
-    for (index, _) in parts {
-        if let (Some(name), Some(worker)) = (workers.get_index(*index), played.get(*index)) {
-            let bound = names.value_of(name);
-            if worker.lock(rt).sit(rt, shared, bound) {
-                seated.push(*index)?;
-            } else {
-                unseated.push(*index)?;
-            }
-        }
-    }
-    Ok(Cast { seated, unseated })
-}
-
-/// Plays a phase, each seated worker in a thread of its own, all at once, and those without a seat in this one. All are
-/// joined. False where a thread can't be started.
-fn play_cast<'s, B: Naming + Send, R: Threads + Wait + Sync, G: Gate>(
-    rt: &R,
-    gate: &G,
+    workers: Vec<Worker<'s, B>>,
     phase: &Phase,
-    parts: &Parts,
-    cast: &Cast,
-    played: &[Mutex<Seated<'s, B>>],
-    names: &BoundNames,
-) -> bool {
-    thread::scope(thread::scope_env(), rt, |scope| {
-        let mut all = true;
-        for index in &cast.seated {
-            let index = *index;
-            if let (Some(places), Some(worker)) = (parts.get(&index), played.get(index)) {
-                let places = places.as_slice();
-                let spawned = scope.spawn(move || {
-                    worker.lock(rt).play(rt, gate, index, phase, places, names);
-                });
-                all = all && spawned.is_ok();
-            }
-        }
-        for index in &cast.unseated {
-            if let (Some(places), Some(worker)) = (parts.get(index), played.get(*index)) {
-                let places = places.as_slice();
-                worker.lock(rt).play(rt, gate, *index, phase, places, names);
-            }
-        }
-        all
-    })
+    known: &BoundNames,
+) -> Result<Vec<Worker<'s, B>>, AllocError>
+    ensures { IfOk result (λ seated. AllZip (Sits B.boot.limits B.boot.seats known.now phase.now) workers.entry.items seated.items) }
+{
+    let mut seated = Vec::with_capacity(alloc, workers.len())?;
+    for mut worker in workers {
+        worker.sit(rt, shared, phase, known);
+        seated.push(worker)?;
+    }
+    Ok(seated)
 }
 
-/// Why the workers of a phase ended early, if one did, and else the names that they bound are added to all.
-fn settle<B: Naming, R: Wait>(
+/// A worker after it played its lines.
+fn played<'s, B: Naming, R: Wait>(
+    rt: &R,
+    phase: &Phase,
+    known: &BoundNames,
+    mut worker: Worker<'s, B>,
+) -> Result<Worker<'s, B>, PlayFault>
+    ensures { IfOk result (Plays B.boot.limits known.now phase.now worker.entry) }
+{
+    worker.play(rt, phase, known)?;
+    Ok(worker)
+}
+
+/// At most one worker after it played its lines.
+fn played_alone<'s, B: Naming, R: Wait>(
     rt: &R,
     alloc: Global,
-    parts: &Parts,
-    played: &[Mutex<Seated<'_, B>>],
-    names: &mut BoundNames,
-) -> Result<(), PlayFault> {
-    for (index, _) in parts {
-        if let Some(worker) = played.get(*index) {
-            worker.lock(rt).end(alloc, names)?;
-        }
+    phase: &Phase,
+    known: &BoundNames,
+    mut workers: Vec<Worker<'s, B>>,
+) -> Result<Vec<Worker<'s, B>>, PlayFault>
+    requires { vec_len workers < 2 }
+    ensures { IfOk result (λ played. AllZip (Plays B.boot.limits known.now phase.now) workers.entry.items played.items) }
+{
+    let mut all = Vec::new(alloc);
+    let Some(worker) = workers.pop() else {
+        return Ok(all);
+    };
+    all.push(played(rt, phase, known, worker)?)?;
+    Ok(all)
+}
+
+/// Workers after they all played at once, each in a thread of its own where one can be made. All threads are joined. Half of
+/// the workers go to another thread at each step, so the stack grows as the logarithm of their number.
+#[cycle(together)]
+fn played_together<'s, B: Naming + Send, R: Threads + Wait + Sync>(
+    rt: &R,
+    alloc: Global,
+    phase: &Phase,
+    known: &BoundNames,
+    mut workers: Vec<Worker<'s, B>>,
+) -> Result<Vec<Worker<'s, B>>, PlayFault>
+    ensures { IfOk result (λ played. AllZip (Plays B.boot.limits known.now phase.now) workers.entry.items played.items) }
+{
+    if workers.len() < 2 {
+        return played_alone(rt, alloc, phase, known, workers);
+    }
+    let others = workers.split_off(workers.len() / 2)?;
+    let front = move || -> Result<Vec<Worker<'_, B>>, PlayFault>
+        requires { IsSync R.row × IsSend B.row }
+        ensures { IfOk result (λ played. AllZip (Plays B.boot.limits known.entry.now phase.entry.now) workers.entry.items played.items) }
+    { played_together(rt, alloc, phase, known, workers) };
+    let back = move || -> Result<Vec<Worker<'_, B>>, PlayFault>
+        requires { IsSync R.row × IsSend B.row }
+        ensures { IfOk result (λ played. AllZip (Plays B.boot.limits known.entry.now phase.entry.now) others.entry.items played.items) }
+    { played_together(rt, alloc, phase, known, others) };
+    let (first, second) = thread::join(rt, front, back);
+    let mut all = first?;
+    let mut rest = second?;
+    all.append(&mut rest)?;
+    Ok(all)
+}
+
+/// What the workers' lines bound in a phase is known to all.
+fn bind_all<B: Naming>(workers: &[Worker<'_, B>], names: &mut BoundNames) -> Result<(), AllocError>
+    ensures { OnOk result (names.new ≡ all_known workers.now names.old) }
+{
+    for worker in workers {
+        names.bind_all(worker.names())?;
     }
     Ok(())
 }
 
 /// What each worker that has a seat tells the others.
-fn notes_of<B: Naming, R: Wait>(
-    rt: &R,
+fn notes_of<B: Naming>(
     alloc: Global,
-    played: &[Mutex<Seated<'_, B>>],
+    workers: &[Worker<'_, B>],
 ) -> Result<Vec<Note<B>>, AllocError> {
-    let mut notes = Vec::new(alloc);
-    for worker in played {
-        if let Some(seat) = &worker.lock(rt).seat {
-            notes.push(seat.note())?;
+    let mut notes = Vec::with_capacity(alloc, workers.len())?;
+    for worker in workers {
+        if let Some(note) = worker.note() {
+            notes.push(note)?;
         }
     }
     Ok(notes)
 }
 
-/// Every seat learns what every other tells.
-fn tell_all<B: Naming, R: Wait>(
-    rt: &R,
+/// The workers after a phase: each has seen what the others tell.
+fn settle_all<'s, B: Naming>(
     alloc: Global,
-    played: &[Mutex<Seated<'_, B>>],
-) -> Result<(), AllocError> {
-    let notes = notes_of(rt, alloc, played)?;
-    for worker in played {
-        worker.lock(rt).learn_all(notes.as_slice());
+    workers: Vec<Worker<'s, B>>,
+) -> Result<Vec<Worker<'s, B>>, AllocError>
+    ensures { IfOk result (λ settled. AllZip Settles workers.entry.items settled.items) }
+{
+    let notes = notes_of(alloc, workers.as_slice())?;
+    let mut settled = Vec::with_capacity(alloc, workers.len())?;
+    for mut worker in workers {
+        worker.settle(alloc, notes.as_slice());
+        settled.push(worker)?;
     }
-    Ok(())
+    Ok(settled)
 }
 
-/// The workers of a script, none with a seat.
+/// Plays a phase.
+fn play_phase<'s, B: Naming + Send, R: Threads + Wait + Sync>(
+    rt: &R,
+    alloc: Global,
+    shared: &'s Shared<B>,
+    workers: Vec<Worker<'s, B>>,
+    phase: &Phase,
+    known: &mut BoundNames,
+) -> Result<Vec<Worker<'s, B>>, PlayFault>
+    ensures { IfOk result (λ after. IsPhase B.boot.limits B.boot.seats phase.now known.old workers.entry.items known.new after.items) }
+{
+    let seated = seat_all(rt, alloc, shared, workers, phase, known)?;
+    let played = played_together(rt, alloc, phase, known, seated)?;
+    bind_all(played.as_slice(), known)?;
+    Ok(settle_all(alloc, played)?)
+}
+
+/// The workers of these names, none of which has played.
 fn idle<'s, B: Naming>(
     alloc: Global,
-    count: usize,
-) -> Result<Vec<Mutex<Seated<'s, B>>>, AllocError> {
+    names: &IndexSet<Name>,
+) -> Result<Vec<Worker<'s, B>>, PlayFault>
+    ensures { IfOk result (λ idle. idle.items ≡ map unplayed names.now.keys) }
+{
     let mut idle = Vec::new(alloc);
-    for _ in 0..count {
-        idle.push(Mutex::new(Seated {
-            seat: None,
-            thread: None,
-            worker: Worker::new(alloc),
-        }))?;
+    for index in 0..names.len() {
+        let Some(name) = names.get_index(index) else {
+            return Err(PlayFault::Stopped);
+        };
+        idle.push(Worker::new(alloc, *name))?;
     }
     Ok(idle)
 }
 
-fn play_phase<'s, B: Naming + Send, R: Threads + Wait + Sync, G: Gate>(
-    rt: &R,
-    alloc: Global,
-    shared: &'s Shared<B>,
-    phase: &Phase,
-    gate: &G,
-    workers: &IndexSet<Name>,
-    played: &[Mutex<Seated<'s, B>>],
-    names: &mut BoundNames,
-) -> Result<(), PlayFault> {
-    let parts = parts_of(alloc, phase, workers)?;
-    let cast = seat_all(rt, alloc, shared, &parts, workers, played, names)?;
-    if !play_cast(rt, gate, phase, &parts, &cast, played, names) {
-        return Err(PlayFault::Memory);
-    }
-    settle(rt, alloc, &parts, played, names)?;
-    Ok(tell_all(rt, alloc, played)?)
-}
-
-/// What the workers leave, who have no answers then.
-fn left_by<B: Naming, R: Wait>(
-    rt: &R,
-    alloc: Global,
-    played: &[Mutex<Seated<'_, B>>],
-) -> Result<Vec<Left>, AllocError> {
-    let mut left = Vec::with_capacity(alloc, played.len())?;
-    for worker in played {
-        left.push(worker.lock(rt).leave(alloc))?;
-    }
-    Ok(left)
-}
-
 /// Plays the phases one after another.
-fn play_phases<'s, B: Naming + Send, R: Threads + Wait + Sync, G: Gate>(
+fn play_phases<'s, B: Naming + Send, R: Threads + Wait + Sync>(
     rt: &R,
     alloc: Global,
     shared: &'s Shared<B>,
     script: &Script,
     workers: &IndexSet<Name>,
-    gate: &G,
-) -> Result<Answered, PlayFault> {
-    let played: Vec<Mutex<Seated<'s, B>>> = idle(alloc, workers.len())?;
-    let mut names = BoundNames::start(alloc)?;
+    known: &mut BoundNames,
+) -> Result<Vec<Worker<'s, B>>, PlayFault>
+    ensures { IfOk result (λ after. ArePhases B.boot.limits B.boot.seats script.now known.old
+        (map unplayed workers.now.keys) known.new after.items) }
+{
+    let mut played = idle(alloc, workers)?;
     for phase in &script.phases {
-        play_phase(
-            rt,
-            alloc,
-            shared,
-            phase,
-            gate,
-            workers,
-            played.as_slice(),
-            &mut names,
-        )?;
+        played = play_phase(rt, alloc, shared, played, phase, known)?;
+    }
+    Ok(played)
+}
+
+/// What workers leave, and the passes of their seats.
+fn part<B: Naming>(
+    alloc: Global,
+    workers: Vec<Worker<'_, B>>,
+    names: BoundNames,
+) -> Result<Answered<B>, AllocError>
+    ensures left { IfOk result (λ answered. AreLeft workers.entry.items answered.left.items) }
+    ensures seen { IfOk result (λ answered. AllZip (λ p pass. HasSeen pass p.events) workers.entry.items answered.passes.items) }
+    ensures names { IfOk result (λ answered. answered.names ≡ names) }
+{
+    let mut left = Vec::with_capacity(alloc, workers.len())?;
+    let mut passes = Vec::with_capacity(alloc, workers.len())?;
+    for worker in workers {
+        let (own, pass) = worker.leave();
+        left.push(own)?;
+        passes.push(pass)?;
     }
     Ok(Answered {
-        left: left_by(rt, alloc, played.as_slice())?,
+        left,
+        passes,
         names,
     })
 }
 
+/// Plays a script, and gives what its workers leave.
+fn play_workers<B: Naming + Send, R: Threads + Wait + Sync>(
+    rt: &R,
+    alloc: Global,
+    shared: &Shared<B>,
+    script: &Script,
+    workers: &IndexSet<Name>,
+) -> Result<Answered<B>, PlayFault>
+    ensures { IfOk result (λ answered. rules.IsAnswered B.boot.limits B.boot.seats script.now workers.now.keys
+        answered.names answered.left.items answered.passes.items) }
+{
+    let mut names = BoundNames::start(alloc)?;
+    let played = play_phases(rt, alloc, shared, script, workers, &mut names)?;
+    Ok(part(alloc, played, names)?)
+}
+
+/// Whether the journal has no fewer events than each pass has seen, which it has in every run.
+fn are_seen<B: Naming>(book: &Book<B>, passes: &[Option<Pass<B>>]) -> bool
+    ensures { IsTrue result → AllByRecursion (AreSeen book.now.journal) passes.now }
+{
+    for pass in passes {
+        if let Some(pass) = pass {
+            if !book.has_seen(pass) {
+                return false;
+            }
+        }
+    }
+    true
+}
+
+/// Whether the journal has no fewer events than each pass has seen, where there was no fault.
+fn all_seen<B: Naming>(book: &Book<B>, answered: &Result<Answered<B>, PlayFault>) -> bool
+    ensures { IsTrue result → IfOk answered.now (λ a. AllByRecursion (AreSeen book.now.journal) a.passes.items) }
+{
+    match answered {
+        Ok(answered) => are_seen(book, answered.passes.as_slice()),
+        Err(_) => true,
+    }
+}
+
 /// Plays a script on a boot, closes it, and makes the output: what is told of the book is what stands in it once every
 /// seat is gone. It is closed after a fault too, so the copies' memory is given back.
-pub fn play_shared<B: Naming + Send, R: Threads + Wait + Sync, G: Gate>(
+pub fn play_shared<B: Naming + Send, R: Threads + Wait + Sync>(
     rt: &R,
     alloc: Global,
     blank: Blank,
     script: &Script,
     workers: &IndexSet<Name>,
-    gate: &G,
 ) -> Result<Played, PlayFault>
     requires { blank ≡ B.boot }
     ensures closing { IfOk result (λ played. IsClosing B.boot.limits played.events.items played.tables) }
-    ensures output { IfOk result (λ played. AreToldBy workers.now.keys (lines_in script.now) played.output.items) }
+    ensures shared { IfOk result (λ played. rules.IsSharedBy B.boot.limits B.boot.seats script.now workers.now.keys
+        played.output.items played.events.items played.names) }
 {
     let shared = blank.open::<B>();
-    let answered = play_phases(rt, alloc, &shared, script, workers, gate);
-    let closing = closing_of(rt, alloc, shared.close());
-    let Answered { left, names } = answered?;
+    let answered = play_workers(rt, alloc, &shared, script, workers);
+    let book = shared.close();
+    let seen = all_seen(&book, &answered);
+    let closing = closing_of(rt, alloc, book);
+    let Answered {
+        left,
+        passes: _,
+        names,
+    } = answered?;
     let Closing { events, tables } = closing?;
-    let Told { output, reads } = told_of(alloc, script, workers, left, &names)?;
+    if !seen {
+        return Err(PlayFault::Stopped);
+    }
+    let Told { output, reads } = told_of(alloc, workers, left, &names)?;
     Ok(Played {
         output,
         events,
         reads,
         tables,
+        names,
     })
 }

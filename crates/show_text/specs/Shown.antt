@@ -6,6 +6,7 @@ use Rattle.auditor.specs.Verdict.{begins, IsVerdict}
 use Rattle.auditor.specs.Lines.{verdict_line}
 use Rattle.auditor.specs.declared.verdicts.Verdict.{Verdict}
 use Rattle.auditor.specs.declared.verdicts.Verdict.TheVariants as is
+use Rattle.call_text.specs.declared.known_names.Named.{Named}
 use Rattle.dump_text.specs.Dump.{IsDump, DumpFaultsAt}
 use Rattle.dump_text.specs.Lists.{DumpLists}
 use Rattle.show_text.specs.Explained.{IsWhy, line_explained, Explains}
@@ -13,38 +14,38 @@ use Rattle.show_states.specs.declared.faults.ShowFault.{ShowFault}
 use Rattle.show_states.specs.declared.faults.ShowFault.TheVariants as faults
 
 -- line n tells no call and no read, or is that of a checkpoint that can't be restored
-abbrev pub TellsNone : Bool → List ℕ → ℕ → Type 0
-TellsNone whole text n =
-    (d : DumpLists) × IsDump text d × ((begins d ≡ false) ⊎ (line_explained whole text d n ≡ None))
+abbrev pub TellsNone : List Named → Bool → List ℕ → ℕ → Type 0
+TellsNone names whole text n =
+    (d : DumpLists) × IsDump text d × ((begins d ≡ false) ⊎ (line_explained names whole text d n ≡ None))
 
 -- why what line n tells is answered as it is, and nothing where it tells none
-abbrev pub WhyOrNone : Bool → List ℕ → ℕ → List ℕ → Type 0
-WhyOrNone whole text n more = Explains whole text n more ⊎ ((more ≡ []) × TellsNone whole text n)
+abbrev pub WhyOrNone : List Named → Bool → List ℕ → ℕ → List ℕ → Type 0
+WhyOrNone names whole text n more = Explains names whole text n more ⊎ ((more ≡ []) × TellsNone names whole text n)
 
-abbrev pub IsWhyOrNone : Bool → List ℕ → ℕ → Result (Vec ℕ) ShowFault → Type 0
-IsWhyOrNone whole text n (Ok told) = WhyOrNone whole text n told.items
-IsWhyOrNone whole text n (Err (faults.Unreadable m)) = DumpFaultsAt text m
-IsWhyOrNone whole text n (Err faults.Memory) = Unit {0}
-IsWhyOrNone whole text n (Err faults.IllFormed) = ⊥
-IsWhyOrNone whole text n (Err faults.NoCall) = ⊥
+abbrev pub IsWhyOrNone : List Named → Bool → List ℕ → ℕ → Result (Vec ℕ) ShowFault → Type 0
+IsWhyOrNone names whole text n (Ok told) = WhyOrNone names whole text n told.items
+IsWhyOrNone names whole text n (Err (faults.Unreadable m)) = DumpFaultsAt text m
+IsWhyOrNone names whole text n (Err faults.Memory) = Unit {0}
+IsWhyOrNone names whole text n (Err faults.IllFormed) = ⊥
+IsWhyOrNone names whole text n (Err faults.NoCall) = ⊥
 
 -- the verdict's line, and why what the first false line tells is answered as it is, where it tells a call or a read
-abbrev pub TellsVerdict : Bool → List ℕ → Verdict → List ℕ → Type 0
-TellsVerdict whole text is.Clean told = told ≡ verdict_line is.Clean
-TellsVerdict whole text (is.False n) told =
-    (more : List ℕ) × (told ≡ verdict_line (is.False n) ++ more) × WhyOrNone whole text n more
-TellsVerdict whole text (is.Unreadable n) told = ⊥
+abbrev pub TellsVerdict : List Named → Bool → List ℕ → Verdict → List ℕ → Type 0
+TellsVerdict names whole text is.Clean told = told ≡ verdict_line is.Clean
+TellsVerdict names whole text (is.False n) told =
+    (more : List ℕ) × (told ≡ verdict_line (is.False n) ++ more) × WhyOrNone names whole text n more
+TellsVerdict names whole text (is.Unreadable n) told = ⊥
 
 -- what is shown of line n, or of the first false line where none is named
-abbrev pub IsShown : Bool → Option ℕ → List ℕ → Result (Vec ℕ) ShowFault → Type 0
-IsShown whole (Some n) text result = IsWhy whole text n result
-IsShown whole None text (Ok told) = (v : Verdict) × IsVerdict text v × TellsVerdict whole text v told.items
-IsShown whole None text (Err (faults.Unreadable m)) = DumpFaultsAt text m
-IsShown whole None text (Err faults.Memory) = Unit {0}
-IsShown whole None text (Err faults.IllFormed) = ⊥
-IsShown whole None text (Err faults.NoCall) = ⊥
+abbrev pub IsShown : List Named → Bool → Option ℕ → List ℕ → Result (Vec ℕ) ShowFault → Type 0
+IsShown names whole (Some n) text result = IsWhy names whole text n result
+IsShown names whole None text (Ok told) = (v : Verdict) × IsVerdict text v × TellsVerdict names whole text v told.items
+IsShown names whole None text (Err (faults.Unreadable m)) = DumpFaultsAt text m
+IsShown names whole None text (Err faults.Memory) = Unit {0}
+IsShown names whole None text (Err faults.IllFormed) = ⊥
+IsShown names whole None text (Err faults.NoCall) = ⊥
 
 -- what is shown of the text was added to what was printed
-abbrev pub Shows : Bool → Option ℕ → Option (List ℕ) → Option (List ℕ) → List ℕ → Type 0
-Shows whole line before after text =
-    (told : Vec ℕ) × IsShown whole line text (Ok told) × Appends before after told.items
+abbrev pub Shows : List Named → Bool → Option ℕ → Option (List ℕ) → Option (List ℕ) → List ℕ → Type 0
+Shows names whole line before after text =
+    (told : Vec ℕ) × IsShown names whole line text (Ok told) × Appends before after told.items

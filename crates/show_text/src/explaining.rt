@@ -5,6 +5,7 @@ ghost use Rattle.std.specs.Option.{option_map};
 ghost use Rattle.call_text.specs.Reply.{reply_text};
 ghost use Rattle.explained.specs.Explained.{explained, query_explained};
 ghost use Rattle.kernel_rules.specs.Step.{answer, next, query_answer};
+ghost use Rattle.names_text.specs.Lines.{named_line};
 ghost use Rattle.plain_state.specs.StateOf.{state_of};
 ghost use Rattle.show_text.specs.Explained.{call_head, call_explained, read_explained, is_refused, refusal_explained, read_refusal_explained, calls_explained, event_explained, place_explained, IsWhy};
 ghost use Rattle.show_text.specs.Parts.{condition_text};
@@ -13,6 +14,7 @@ ghost use Rattle.show_text.specs.declared.places.Content.TheVariants.{Calls, Ask
 use crate::lines::{after_lines, first_line};
 use crate::parts::put_findings;
 use crate::places::{Content, Place, place_at};
+use crate::telling::Telling;
 use base::{Meter, NoMemory, ObjectId};
 use call_text::Named;
 use clean_dumps::begin;
@@ -22,52 +24,55 @@ use histories::{Answered, Event};
 use kernel_calls::{ask, step};
 use kernel_rules::{Call, Mapping, Query, Reply};
 use label_lattice::Label;
+use names_text::named_line;
 use plain_state::PlainState;
 use show_states::{ShowFault, dump_in, make, make_all, put_named};
 use std::alloc::Global;
 
-/// Who calls, and whether all conditions are told, or the reasons of a refusal alone.
+/// Who calls, and how it is told.
 #[derive(Clone, Copy)]
-struct Caller {
+struct Caller<'a> {
     thread: ObjectId,
-    is_whole: bool,
+    telling: Telling<'a>,
 }
 
 /// The conditions of a call in words.
 fn findings_text(
     state: &PlainState,
-    caller: &Caller,
+    caller: &Caller<'_>,
     call: &Call,
     meter: &mut Meter,
 ) -> Result<Vec<u8>, NoMemory>
     ensures { IfOk result (λ text. text.items
-        ≡ flat_map (condition_text [] caller.now.is_whole) (explained (state_of state.now) caller.now.thread call.now)) }
+        ≡ flat_map (condition_text caller.now.telling.names.now caller.now.telling.is_whole) (explained (state_of state.now) caller.now.thread call.now)) }
 {
     // (types that a finding has, which the proof of its drop names)
     let _label: Option<Label> = None;
     let _mapping: Option<Mapping> = None;
     let found = explain(state, caller.thread, call)?;
     let mut text = Vec::new(state.alloc());
-    put_findings(&mut text, caller.is_whole, found.as_slice(), &[], meter)?;
+    let Telling { names, is_whole } = caller.telling;
+    put_findings(&mut text, is_whole, found.as_slice(), names, meter)?;
     Ok(text)
 }
 
 /// Those of a read.
 fn query_text(
     state: &PlainState,
-    caller: &Caller,
+    caller: &Caller<'_>,
     query: &Query,
     meter: &mut Meter,
 ) -> Result<Vec<u8>, NoMemory>
     ensures { IfOk result (λ text. text.items
-        ≡ flat_map (condition_text [] caller.now.is_whole) (query_explained (state_of state.now) caller.now.thread query.now)) }
+        ≡ flat_map (condition_text caller.now.telling.names.now caller.now.telling.is_whole) (query_explained (state_of state.now) caller.now.thread query.now)) }
 {
     // (types that a finding has, which the proof of its drop names)
     let _label: Option<Label> = None;
     let _mapping: Option<Mapping> = None;
     let found = explain_query(state, caller.thread, query)?;
     let mut text = Vec::new(state.alloc());
-    put_findings(&mut text, caller.is_whole, found.as_slice(), &[], meter)?;
+    let Telling { names, is_whole } = caller.telling;
+    put_findings(&mut text, is_whole, found.as_slice(), names, meter)?;
     Ok(text)
 }
 
@@ -97,13 +102,13 @@ struct Answer {
 /// The rules' answer to a call, which it makes.
 fn answer_to(
     state: &mut PlainState,
-    caller: &Caller,
+    caller: &Caller<'_>,
     call: &Call,
     meter: &mut Meter,
 ) -> Result<Answer, NoMemory>
     ensures reply { IfOk result (λ given. given.reply ≡ answer (state_of state.old) caller.now.thread call.now) }
     ensures told { IfOk result (λ given. given.told.items
-        ≡ flat_map (condition_text [] caller.now.is_whole) (explained (state_of state.old) caller.now.thread call.now)) }
+        ≡ flat_map (condition_text caller.now.telling.names.now caller.now.telling.is_whole) (explained (state_of state.old) caller.now.thread call.now)) }
     ensures state { OnOk result (state_of state.new ≡ next (state_of state.old) caller.now.thread call.now) }
 {
     // (a type that a reply has, which the proof names)
@@ -113,12 +118,19 @@ fn answer_to(
     Ok(Answer { reply, told })
 }
 
-/// Adds the line that tells a call, the rules' answer, and the conditions.
-fn put_answer(out: &mut Vec<u8>, line: &[u8], given: &Answer) -> Result<(), NoMemory>
-    ensures { OnOk result (out.new.items
-        ≡ out.old.items ++ (call_head [] line.now given.now.reply ++ given.now.told.items)) }
+/// Adds the line that tells a call, by names, the rules' answer, and the conditions.
+fn put_answer(
+    alloc: Global,
+    out: &mut Vec<u8>,
+    line: &[u8],
+    given: &Answer,
+    names: &[Named],
+) -> Result<(), NoMemory>
+    ensures { OnOk result (out.new.items ≡ out.old.items
+        ++ (call_head names.now (named_line names.now line.now) given.now.reply ++ given.now.told.items)) }
 {
-    put_head(out, line, &given.reply, &[])?;
+    let line = named_line(alloc, line, names)?;
+    put_head(out, line.as_slice(), &given.reply, names)?;
     out.extend_from_slice(given.told.as_slice())?;
     Ok(())
 }
@@ -128,18 +140,18 @@ fn put_call(
     out: &mut Vec<u8>,
     line: &[u8],
     state: &mut PlainState,
-    caller: &Caller,
+    caller: &Caller<'_>,
     call: &Call,
     meter: &mut Meter,
 ) -> Result<(), NoMemory>
     ensures text { OnOk result (out.new.items
-        ≡ out.old.items ++ call_explained caller.now.is_whole line.now (state_of state.old) caller.now.thread call.now) }
+        ≡ out.old.items ++ call_explained caller.now.telling.names.now caller.now.telling.is_whole line.now (state_of state.old) caller.now.thread call.now) }
     ensures state { OnOk result (state_of state.new ≡ next (state_of state.old) caller.now.thread call.now) }
 {
     // (a type that a reply has, which the proof names)
     let _mapping: Option<Mapping> = None;
     let given = answer_to(state, caller, call, meter)?;
-    put_answer(out, line, &given)
+    put_answer(state.alloc(), out, line, &given, caller.telling.names)
 }
 
 /// Whether a reply tells a refusal.
@@ -149,28 +161,32 @@ fn is_refused(reply: &Reply) -> bool
     matches!(reply, Reply::Refused(_))
 }
 
-/// Adds why a call is refused, after the line that tells it, and nothing where the rules accept it. Makes the call. Want of
-/// memory is the only error.
-pub fn put_refusal(
-    out: &mut Vec<u8>,
+/// Why a call is refused, after the line that tells it, and nothing where the rules accept it. Makes the call. Want of memory is
+/// the only error.
+pub fn refusal_text(
     line: &[u8],
+    names: &[Named],
     state: &mut PlainState,
     thread: ObjectId,
     call: &Call,
     meter: &mut Meter,
-) -> Result<(), NoMemory>
-    ensures text { OnOk result (out.new.items
-        ≡ out.old.items ++ refusal_explained line.now (state_of state.old) thread call.now) }
+) -> Result<Vec<u8>, NoMemory>
+    ensures text { IfOk result (λ text. text.items
+        ≡ refusal_explained names.now line.now (state_of state.old) thread call.now) }
     ensures state { OnOk result (state_of state.new ≡ next (state_of state.old) thread call.now) }
 {
     // (a type that a reply has, which the proof names)
     let _mapping: Option<Mapping> = None;
-    let is_whole = false;
-    let given = answer_to(state, &Caller { thread, is_whole }, call, meter)?;
-    if !is_refused(&given.reply) {
-        return Ok(());
+    let telling = Telling {
+        names,
+        is_whole: false,
+    };
+    let given = answer_to(state, &Caller { thread, telling }, call, meter)?;
+    let mut text = Vec::new(state.alloc());
+    if is_refused(&given.reply) {
+        put_answer(state.alloc(), &mut text, line, &given, names)?;
     }
-    put_answer(out, line, &given)
+    Ok(text)
 }
 
 /// Adds why calls are answered as they are, which the lines of a text tell from its first on, and makes them.
@@ -178,12 +194,12 @@ fn put_calls(
     out: &mut Vec<u8>,
     text: &[u8],
     state: &mut PlainState,
-    caller: &Caller,
+    caller: &Caller<'_>,
     calls: &[Answered],
     meter: &mut Meter,
 ) -> Result<(), NoMemory>
     ensures { OnOk result (out.new.items ≡ out.old.items
-        ++ calls_explained caller.now.is_whole text.now (state_of state.old) caller.now.thread calls.now) }
+        ++ calls_explained caller.now.telling.names.now caller.now.telling.is_whole text.now (state_of state.old) caller.now.thread calls.now) }
 {
     let mut rest = text;
     for answered in calls {
@@ -198,19 +214,19 @@ fn put_calls(
 #[tactic(auto, using(std::proofs::lemmas::List::take_min, std::proofs::lemmas::List::drop_min))]
 fn event_explained(
     text: &[u8],
-    is_whole: bool,
+    telling: &Telling<'_>,
     state: PlainState,
     place: &Place,
     event: &Event,
     meter: &mut Meter,
 ) -> Result<Vec<u8>, NoMemory>
     ensures { IfOk result (λ told. told.items
-        ≡ event_explained is_whole text.now (state_of state) place.now event.now) }
+        ≡ event_explained telling.now.names.now telling.now.is_whole text.now (state_of state) place.now event.now) }
 {
     let mut state = state;
     let caller = Caller {
         thread: event.thread,
-        is_whole,
+        telling: *telling,
     };
     let calls = event.calls.as_slice();
     let (before, rest) = calls.split_at(place.first.min(calls.len()));
@@ -221,25 +237,25 @@ fn event_explained(
     Ok(out)
 }
 
-/// What is asked of a line: its number, from 1, and whether all conditions are told of it.
+/// What is asked of a line: its number, from 1, and how it is told.
 #[derive(Clone, Copy)]
-struct Wanted {
+struct Wanted<'a> {
     line: u64,
-    is_whole: bool,
+    telling: Telling<'a>,
 }
 
 /// Why the calls that a line tells are answered as they are, from the state that the events before theirs lead to.
 #[tactic(auto, using(std::proofs::lemmas::List::take_min))]
 fn calls_explained(
     text: &[u8],
-    wanted: Wanted,
+    wanted: &Wanted<'_>,
     state: PlainState,
     events: &[Event],
     place: &Place,
     meter: &mut Meter,
 ) -> Result<Option<Vec<u8>>, NoMemory>
     ensures { IfOk result (λ told. option_map (λ t. t.items) told
-        ≡ place_explained wanted.is_whole text.now wanted.line (state_of state) events.now (Some (Calls place.now))) }
+        ≡ place_explained wanted.now.telling.names.now wanted.now.telling.is_whole text.now wanted.now.line (state_of state) events.now (Some (Calls place.now))) }
 {
     let Some(event) = events.get(place.event) else {
         return Ok(None);
@@ -254,7 +270,7 @@ fn calls_explained(
     };
     let told = event_explained(
         after_lines(above, text),
-        wanted.is_whole,
+        &wanted.telling,
         state,
         place,
         event,
@@ -268,75 +284,85 @@ fn put_read(
     out: &mut Vec<u8>,
     line: &[u8],
     state: &PlainState,
-    is_whole: bool,
+    telling: &Telling<'_>,
     read: &Read,
     meter: &mut Meter,
 ) -> Result<(), NoMemory>
     ensures { OnOk result (out.new.items
-        ≡ out.old.items ++ read_explained is_whole line.now (state_of state.now) read.now) }
+        ≡ out.old.items ++ read_explained telling.now.names.now telling.now.is_whole line.now (state_of state.now) read.now) }
 {
     // (a type that a reply has, which the proof names)
     let _mapping: Option<Mapping> = None;
     let thread = read.thread;
-    let told = query_text(state, &Caller { thread, is_whole }, &read.query, meter)?;
+    let caller = Caller {
+        thread,
+        telling: *telling,
+    };
+    let told = query_text(state, &caller, &read.query, meter)?;
     let reply = ask(state, thread, &read.query, meter);
-    put_answer(out, line, &Answer { reply, told })
+    let given = Answer { reply, told };
+    put_answer(state.alloc(), out, line, &given, telling.names)
 }
 
-/// Adds why a read is refused, after the line that tells it, and nothing where the rules answer it. Want of memory is the only
+/// Why a read is refused, after the line that tells it, and nothing where the rules answer it. Want of memory is the only
 /// error.
-pub fn put_read_refusal(
-    out: &mut Vec<u8>,
+pub fn read_refusal_text(
     line: &[u8],
+    names: &[Named],
     state: &PlainState,
     read: &Read,
     meter: &mut Meter,
-) -> Result<(), NoMemory>
-    ensures { OnOk result (out.new.items
-        ≡ out.old.items ++ read_refusal_explained line.now (state_of state.now) read.now) }
+) -> Result<Vec<u8>, NoMemory>
+    ensures { IfOk result (λ text. text.items
+        ≡ read_refusal_explained names.now line.now (state_of state.now) read.now) }
 {
     // (a type that a reply has, which the proof names)
     let _mapping: Option<Mapping> = None;
     let reply = ask(state, read.thread, &read.query, meter);
-    if !is_refused(&reply) {
-        return Ok(());
+    let mut text = Vec::new(state.alloc());
+    if is_refused(&reply) {
+        let telling = Telling {
+            names,
+            is_whole: false,
+        };
+        put_read(&mut text, line, state, &telling, read, meter)?;
     }
-    put_read(out, line, state, false, read, meter)
+    Ok(text)
 }
 
 /// Why the read that a line tells is answered as it is, from the state that the events before it lead to.
 #[tactic(auto, using(std::proofs::lemmas::List::take_min))]
 fn read_explained(
     text: &[u8],
-    wanted: Wanted,
+    wanted: &Wanted<'_>,
     state: PlainState,
     events: &[Event],
     read: &PlacedRead,
     meter: &mut Meter,
 ) -> Result<Vec<u8>, NoMemory>
     ensures { IfOk result (λ told. Some told.items
-        ≡ place_explained wanted.is_whole text.now wanted.line (state_of state) events.now (Some (Asked read.now))) }
+        ≡ place_explained wanted.now.telling.names.now wanted.now.telling.is_whole text.now wanted.now.line (state_of state) events.now (Some (Asked read.now))) }
 {
     let mut state = state;
     let (before, _) = events.split_at(read.place.min(events.len()));
     make_all(&mut state, before, meter)?;
     let (line, _) = first_line(after_lines(wanted.line.saturating_sub(1), text));
     let mut out = Vec::new(state.alloc());
-    put_read(&mut out, line, &state, wanted.is_whole, &read.read, meter)?;
+    put_read(&mut out, line, &state, &wanted.telling, &read.read, meter)?;
     Ok(out)
 }
 
 /// Why what a line tells is answered as it is.
 fn content_explained(
     text: &[u8],
-    wanted: Wanted,
+    wanted: &Wanted<'_>,
     state: PlainState,
     events: &[Event],
     content: &Content,
     meter: &mut Meter,
 ) -> Result<Option<Vec<u8>>, NoMemory>
     ensures { IfOk result (λ told. option_map (λ t. t.items) told
-        ≡ place_explained wanted.is_whole text.now wanted.line (state_of state) events.now (Some content.now)) }
+        ≡ place_explained wanted.now.telling.names.now wanted.now.telling.is_whole text.now wanted.now.line (state_of state) events.now (Some content.now)) }
 {
     match content {
         Content::Calls(place) => calls_explained(text, wanted, state, events, place, meter),
@@ -350,8 +376,13 @@ fn content_explained(
 /// Why what a line of a dump tells, calls or a read, is answered as it is: the reasons of a refusal, or all conditions. The
 /// lines of the text count from 1. The errors come in this order: the text is no dump, its checkpoint can't be restored, the
 /// line tells no call and no read; or there is no memory.
-pub fn why(alloc: Global, text: &[u8], line: u64, is_whole: bool) -> Result<Vec<u8>, ShowFault>
-    ensures { IsWhy is_whole text.now line result }
+pub fn why(
+    alloc: Global,
+    text: &[u8],
+    line: u64,
+    telling: &Telling<'_>,
+) -> Result<Vec<u8>, ShowFault>
+    ensures { IsWhy telling.now.names.now telling.now.is_whole text.now line result }
 {
     let Dump {
         limits,
@@ -368,8 +399,11 @@ pub fn why(alloc: Global, text: &[u8], line: u64, is_whole: bool) -> Result<Vec<
         return Err(ShowFault::NoCall);
     };
     let mut meter = Meter::new(alloc)?;
-    let wanted = Wanted { line, is_whole };
-    match content_explained(text, wanted, state, events, &content, &mut meter)? {
+    let wanted = Wanted {
+        line,
+        telling: *telling,
+    };
+    match content_explained(text, &wanted, state, events, &content, &mut meter)? {
         Some(told) => Ok(told),
         None => Err(ShowFault::NoCall),
     }

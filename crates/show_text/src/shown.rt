@@ -5,16 +5,22 @@ ghost use Rattle.auditor.specs.Lines.{verdict_line};
 ghost use Rattle.auditor.specs.declared.verdicts.Verdict.TheVariants.{Clean as Legal, False as FalseAt};
 
 use crate::explaining::why;
+use crate::telling::Telling;
 use auditor::{Verdict, audit, put_verdict};
 use base::NoMemory;
 use show_states::ShowFault;
 use std::alloc::Global;
 
 /// Why what a line tells is answered as it is, and nothing where it tells no call and no read.
-fn why_or_none(alloc: Global, text: &[u8], line: u64, is_whole: bool) -> Result<Vec<u8>, ShowFault>
-    ensures { IsWhyOrNone is_whole text.now line result }
+fn why_or_none(
+    alloc: Global,
+    text: &[u8],
+    line: u64,
+    telling: &Telling<'_>,
+) -> Result<Vec<u8>, ShowFault>
+    ensures { IsWhyOrNone telling.now.names.now telling.now.is_whole text.now line result }
 {
-    match why(alloc, text, line, is_whole) {
+    match why(alloc, text, line, telling) {
         Err(ShowFault::NoCall) => Ok(Vec::new(alloc)),
         Err(ShowFault::IllFormed) => Ok(Vec::new(alloc)),
         told => told,
@@ -46,17 +52,17 @@ pub fn why_or_false(
     alloc: Global,
     text: &[u8],
     line: Option<u64>,
-    is_whole: bool,
+    telling: &Telling<'_>,
 ) -> Result<Vec<u8>, ShowFault>
-    ensures { IsShown is_whole line text.now result }
+    ensures { IsShown telling.now.names.now telling.now.is_whole line text.now result }
 {
     if let Some(line) = line {
-        return why(alloc, text, line, is_whole);
+        return why(alloc, text, line, telling);
     }
     match audit(alloc, text)? {
         Verdict::Clean => Ok(clean_shown(alloc)?),
         Verdict::False(line) => {
-            let more = why_or_none(alloc, text, line, is_whole)?;
+            let more = why_or_none(alloc, text, line, telling)?;
             Ok(false_shown(alloc, line, more.as_slice())?)
         }
         Verdict::Unreadable(line) => Err(ShowFault::Unreadable(line)),

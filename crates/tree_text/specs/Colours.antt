@@ -3,6 +3,7 @@ use Rattle.std.specs.Prelude.{ℕ, ◌+◌, ◌*◌, ◌-◌, ◌%◌, ◌==◌,
 use Rattle.std.specs.List.{flat_map}
 use Rattle.std.specs.Str.{bytes_eq}
 use Rattle.base.specs.Live.{has}
+use Rattle.text_words.specs.Name.{is_letter}
 use Rattle.tree_text.specs.declared.colours.Mark.{Mark}
 use Rattle.tree_text.specs.declared.colours.Style.{Style}
 use Rattle.tree_text.specs.declared.colours.Style.TheVariants as styles
@@ -16,15 +17,15 @@ abbrev pub hue_from : ℕ → List ℕ → ℕ
 hue_from n [] = n
 hue_from n (x ∷ xs) = if x == 58 then n else hue_from ((n * 10 + (x - 48)) % 6) xs
 
--- the same of a word that begins with # and the number
+-- the same of a word: # and the number, or a name, whose bytes count as digits
 abbrev pub hue_of : List ℕ → ℕ
 hue_of [] = 0
-hue_of (x ∷ xs) = hue_from 0 xs
+hue_of (x ∷ xs) = if x == 35 then hue_from 0 xs else hue_from 0 (x ∷ xs)
 
 -- a category with its level, as a label has it
 abbrev pub is_exception : List ℕ → Bool
 is_exception [] = false
-is_exception (x ∷ xs) = (x == 35) && has xs 58
+is_exception (x ∷ xs) = ((x == 35) || is_letter x) && has xs 58
 
 abbrev pub is_owns : List ℕ → Bool
 is_owns word = bytes_eq word (codes "owns")

@@ -27,7 +27,3 @@ tree_from names s (suc levels) p =
 -- has pages
 abbrev pub named_tree : List Named → State → List ℕ
 named_tree names s = tree_from names s (quota_at s 1) root
-
--- the same by numbers alone
-abbrev pub tree_text : State → List ℕ
-tree_text s = named_tree [] s

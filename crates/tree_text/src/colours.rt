@@ -1,6 +1,7 @@
 //! Which words of a tree have a colour.
 ghost use Rattle.std.specs.Prelude.{◌≡◌, ◌++◌, ◌+◌, ◌<◌, ◌≤◌, ◌^◌, IfOk, OnOk, length, decimal};
 ghost use Rattle.base.specs.Live.{has};
+ghost use Rattle.text_words.specs.Name.{is_letter};
 ghost use Rattle.tree_text.specs.Colours.{is_break, hue_from, hue_of, is_exception, is_owns, is_strong, style_of, mark_of, plain_after, marks_of};
 
 use base::NoMemory;
@@ -33,7 +34,7 @@ fn is_break(byte: u8) -> bool
     byte == b' ' || byte == b',' || byte == b'{' || byte == b'}' || byte == b'\n'
 }
 
-/// The colour of the number whose digits stand at the beginning of a text.
+/// The colour of the number whose digits stand at the beginning of a text. Bytes of a name count as digits.
 fn hue_in(digits: &[u8]) -> u8
     ensures hue { result ≡ hue_from 0 digits.now }
     ensures bound { result < 6 }
@@ -55,7 +56,8 @@ fn hue_of(word: &[u8]) -> u8
 {
     match word {
         [] => 0,
-        [_, digits @ ..] => hue_in(digits),
+        [b'#', digits @ ..] => hue_in(digits),
+        _ => hue_in(word),
     }
 }
 
@@ -66,13 +68,20 @@ fn has(text: &[u8], byte: u8) -> bool
     text.iter().any(|one| byte == *one)
 }
 
+/// Whether a byte is a letter, with which a name begins.
+fn is_letter(byte: u8) -> bool
+    ensures { result ≡ is_letter byte }
+{
+    b'a' <= byte && byte <= b'z'
+}
+
 /// Whether a word is a category with its level.
 fn is_exception(word: &[u8]) -> bool
     ensures { result ≡ is_exception word.now }
 {
     match word {
         [] => false,
-        [first, rest @ ..] => *first == b'#' && has(rest, b':'),
+        [first, rest @ ..] => (*first == b'#' || is_letter(*first)) && has(rest, b':'),
     }
 }
 

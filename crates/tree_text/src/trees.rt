@@ -3,9 +3,10 @@ ghost use Rattle.std.specs.Prelude.{◌≡◌, ◌++◌, ◌+◌, ◌^◌, ◌<�
 ghost use Rattle.plain_state.specs.StateOf.{state_of};
 ghost use Rattle.show_states.specs.States.{ShowsAfter};
 ghost use Rattle.tree_text.specs.Colours.{coloured_if};
-ghost use Rattle.tree_text.specs.Trees.{lines_at, tree_from, tree_text};
+ghost use Rattle.tree_text.specs.Trees.{lines_at, tree_from};
 ghost use Rattle.tree_text.specs.Trees as spec;
 
+use crate::looks::Look;
 use crate::objects::put_line;
 use crate::painting::painted_if;
 use crate::places::Place;
@@ -69,20 +70,18 @@ pub fn named_tree(state: &PlainState, names: &[Named]) -> Result<Vec<u8>, NoMemo
     Ok(text)
 }
 
-/// The same by numbers alone.
-pub fn tree_of(state: &PlainState) -> Result<Vec<u8>, NoMemory>
-    ensures { IfOk result (λ text. text.items ≡ tree_text (state_of state.now)) }
-{
-    named_tree(state, &[])
-}
-
-/// The objects that the first `after` events of a dump lead to, or all of them where no count is told, as a tree. The errors
-/// come in this order: the text is no dump, its checkpoint can't be restored; or there is no memory.
-pub fn tree(alloc: Global, text: &[u8], after: Option<u64>) -> Result<Vec<u8>, ShowFault>
-    ensures { ShowsAfter tree_text text.now after result }
+/// The objects that the first `after` events of a dump lead to, or all of them where no count is told, as a tree, with the names
+/// that are known. The errors come in this order: the text is no dump, its checkpoint can't be restored; or there is no memory.
+pub fn tree(
+    alloc: Global,
+    text: &[u8],
+    after: Option<u64>,
+    names: &[Named],
+) -> Result<Vec<u8>, ShowFault>
+    ensures { ShowsAfter (spec.named_tree names.now) text.now after result }
 {
     let state = state_after(alloc, text, after)?;
-    Ok(tree_of(&state)?)
+    Ok(named_tree(&state, names)?)
 }
 
 /// The same, in colours where they are wanted. The errors come in the same order.
@@ -90,10 +89,10 @@ pub fn coloured_tree(
     alloc: Global,
     text: &[u8],
     after: Option<u64>,
-    is_coloured: bool,
+    look: &Look<'_>,
 ) -> Result<Vec<u8>, ShowFault>
-    ensures { ShowsAfter (λ s. coloured_if is_coloured (tree_text s)) text.now after result }
+    ensures { ShowsAfter (λ s. coloured_if look.now.is_coloured (spec.named_tree look.now.names.now s)) text.now after result }
 {
-    let told = tree(alloc, text, after)?;
-    Ok(painted_if(alloc, is_coloured, told)?)
+    let told = tree(alloc, text, after, look.names)?;
+    Ok(painted_if(alloc, look.is_coloured, told)?)
 }

@@ -5,7 +5,7 @@ use Rattle.dot_text.proofs.dots.+put_dot.Goals as goal
 
 pub returns : goal.returns
 returns t c =
-    told_level (state_of c.args.state.now) c.args.reached.now c.args.levels c.args.place.now c.args.out.now.items
+    told_level c.args.look.now.names.now (state_of c.args.state.now) c.args.look.now.reached.now c.args.levels c.args.place.now c.args.out.now.items
     c.put_before.new.out.items c.loop-id.out.items c.put_after.new.out.items c.list-id-items.result.now c.loop-id.id-index
     (omega (arith, c.if-levels-eq0.false)) c.in_ok-put_before.ensures c.list-id-items.ensures c.loop-id-test.false
     c.loop-id.invariant c.in_ok-put_after.ensures

@@ -11,6 +11,6 @@ decreases-put_dot l = l.levels
 abbrev pub invariant-loop-id : goal.invariant-loop-id
 invariant-loop-id l =
     l.out.items
-    ++ flat_map (λ id. dot_from (state_of l.state) l.reached (l.levels - 1) (below l.place id)) (drop l.id-index l.id-items)
+    ++ flat_map (λ id. dot_from l.look.names.now (state_of l.state) l.look.reached.now (l.levels - 1) (below l.place id)) (drop l.id-index l.id-items)
     ≡ l.initial.out.items
-    ++ flat_map (λ id. dot_from (state_of l.state) l.reached (l.levels - 1) (below l.place id)) l.id-items
+    ++ flat_map (λ id. dot_from l.look.names.now (state_of l.state) l.look.reached.now (l.levels - 1) (below l.place id)) l.id-items

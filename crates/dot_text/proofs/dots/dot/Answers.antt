@@ -10,6 +10,6 @@ returns c = (
   (
     c.in_ok-red.red.items,
     c.in_ok-red.ensures.red,
-    c.in_ok-dot_of.ensures ∙ ap (λ (l : List ℕ). dot_text (state_of c.in-Ok.state) l) c.as_slice.ensures.value,
+    c.in_ok-dot_of.ensures ∙ ap (λ (l : List ℕ). dot_text c.args.names.now (state_of c.in-Ok.state) l) c.as_slice.ensures.value,
   ),
 )

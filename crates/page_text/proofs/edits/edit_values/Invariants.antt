@@ -8,8 +8,8 @@ use Rattle.page_text.proofs.edits.edit_values.Given as goal
 abbrev pub invariant-lines : goal.invariant-lines
 invariant-lines l = record {
   told : map view l.values.items
-      ++ map (edit_data l.before.reached.now l.before.tree.now) (edits l.kept (lines_of l.old) (lines_of l.new))
-      ≡ map (edit_data l.before.reached.now l.before.tree.now) (edits 0 (lines_of l.before.tree.now) (lines_of l.after));
+      ++ map (edit_data l.before.names.now l.before.reached.now l.before.tree.now) (edits l.kept (lines_of l.old) (lines_of l.new))
+      ≡ map (edit_data l.before.names.now l.before.reached.now l.before.tree.now) (edits 0 (lines_of l.before.tree.now) (lines_of l.after));
   few : l.kept + length l.new ≤ length l.after;
 }
 

@@ -13,7 +13,7 @@ returns c = (
   (
     c.in_ok-reached.reached.items,
     c.in_ok-reached.ensures.red,
-    page_told c.args.text.now c.in-Ok.dump _ c.args.flow c.in_ok-reached.reached.items c.as_slice-3.result.now
+    page_told c.args.names.now c.args.text.now c.in-Ok.dump _ c.args.flow c.in_ok-reached.reached.items c.as_slice-3.result.now
         (state_of c.in-Some.state) c.as_slice.result.now c.as_slice-2.result.now c.in_ok-page_of.field-0.items
         c.in_ok-page_of.ensures c.as_slice-3.ensures.value c.checkpoint.view_is (search rules) c.as_slice.ensures.value
         c.as_slice-2.ensures.value,

@@ -8,9 +8,9 @@ use Rattle.page_text.proofs.steps.asked_value.Goals as goal
 
 pub returns : goal.returns
 returns c =
-    let lines : List Told = read_told c.args.line.now (state_of c.args.state.now) c.args.read.now ∷ [] in
+    let lines : List Told = read_told c.args.before.now.names.now c.args.line.now (state_of c.args.state.now) c.args.read.now ∷ [] in
     subst (λ (l : List ℕ). IfOk c.step_value.result (λ value. view value
-    ≡ step_data c.args.before.now.reached.now (record { is_read = true; told = lines; before = l; after = l })))
+    ≡ step_data c.args.before.now.names.now c.args.before.now.reached.now (record { is_read = true; told = lines; before = l; after = l })))
     c.requires
     (c.step_value.ensures lines
     (ap (λ (l : List Value). map view l)

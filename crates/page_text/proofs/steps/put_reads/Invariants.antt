@@ -8,6 +8,6 @@ use Rattle.page_text.proofs.steps.put_reads.Given as goal
 abbrev pub invariant-loop-placed : goal.invariant-loop-placed
 invariant-loop-placed l =
     map view l.values.items
-    ++ map (step_data l.before.reached.now) (steps_from (told_in l.rest) (state_of l.state) (map Asked (drop l.placed-index l.reads)))
+    ++ map (step_data l.before.names.now l.before.reached.now) (steps_from l.before.names.now (told_in l.rest) (state_of l.state) (map Asked (drop l.placed-index l.reads)))
     ≡ map view l.fn.values.items
-    ++ map (step_data l.before.reached.now) (steps_from (told_in l.text) (state_of l.state) (map Asked l.reads))
+    ++ map (step_data l.before.names.now l.before.reached.now) (steps_from l.before.names.now (told_in l.text) (state_of l.state) (map Asked l.reads))

@@ -9,7 +9,7 @@ use Rattle.page_text.proofs.steps.put_steps.Goals as goal
 
 pub loop-place-preserved : goal.loop-place-preserved
 loop-place-preserved c = record {
-  told = steps_more c.args.source.now.reached.now c.loop-place.place c.args.source.now.events.now c.index-source-place.result
+  told = steps_more c.args.source.now.names.now c.args.source.now.reached.now c.loop-place.place c.args.source.now.events.now c.index-source-place.result
       c.loop-place.rest.now c.part_reads.result.0.now c.part_reads.result.1.now (told_in c.loop-place.text.now)
       (told_in c.after_told-own.result.now) (told_in c.after_told-text.result.now) (state_of c.loop-place.state)
       (state_of c.put_event.new.state) (map view c.loop-place.values.items) (map view c.put_reads.new.values.items)
@@ -22,8 +22,8 @@ loop-place-preserved c = record {
       c.in_ok-put_reads.ensures
       (c.in_ok-after.ensures.values
       ∙ ap (λ (e : Event). map view c.put_reads.new.values.items
-      ++ step_data c.args.source.now.reached.now
-      (step_of (told_in c.after_told-own.result.now) (state_of c.loop-place.state) (Made e)) ∷ [])
+      ++ step_data c.args.source.now.names.now c.args.source.now.reached.now
+      (step_of c.args.source.now.names.now (told_in c.after_told-own.result.now) (state_of c.loop-place.state) (Made e)) ∷ [])
       (sym c.index-source-place.is))
       c.loop-place.invariant.told;
   tree = c.in_ok-after.ensures.tree;
@@ -31,7 +31,7 @@ loop-place-preserved c = record {
 
 pub returns : goal.returns
 returns c =
-    steps_end c.args.source.now.reached.now c.loop-place.place (length c.args.source.now.events.now) c.args.source.now.events.now
+    steps_end c.args.source.now.names.now c.args.source.now.reached.now c.loop-place.place (length c.args.source.now.events.now) c.args.source.now.events.now
     c.loop-place.rest.now c.part_reads-2.result.0.now (told_in c.loop-place.text.now) (state_of c.loop-place.state)
     (map view c.loop-place.values.items) (map view c.put_reads-2.new.values.items) _ (omega arith) (omega arith)
     c.part_reads-2.ensures.here c.in_ok-put_reads-2.ensures c.loop-place.invariant.told

@@ -34,3 +34,8 @@ returns-clause-events g c =
     ≡ (run_from g.B.Naming.boot.limits g.B.Naming.boot.seats start c.args.script.now).events = c.in_ok-told.ensures.events in
     c.into_events-events.ensures.journal ∙ events
     ∙ (λ i. (run_from (sym c.requires.limits i) (sym c.requires.seats i) start c.args.script.now).events)
+
+pub returns-clause-names : goal.returns-clause-names
+returns-clause-names g c =
+    c.in_ok-told.ensures.names
+    ∙ (λ i. (run_from (sym c.requires.limits i) (sym c.requires.seats i) start c.args.script.now).names)

@@ -8,3 +8,6 @@ returns-clause-text g c =
 
 pub returns-clause-events : goal.returns-clause-events
 returns-clause-events g c = c.in_ok-left.ensures.journal
+
+pub returns-clause-names : goal.returns-clause-names
+returns-clause-names g c = c.in_ok-left.ensures.names

@@ -6,5 +6,5 @@ use Rattle.tree_text.proofs.Whole.{no_deeper}
 use Rattle.tree_text.proofs.laws.tree_is_whole.Goals as goal
 
 pub returns : goal.returns
-returns c = λ more.
-    no_deeper (state_of c.args.state.now) c.well_formed-2.ensures (quota_at (state_of c.args.state.now) 1) more root (omega arith)
+returns c = λ names more.
+    no_deeper names (state_of c.args.state.now) c.well_formed-2.ensures (quota_at (state_of c.args.state.now) 1) more root (omega arith)

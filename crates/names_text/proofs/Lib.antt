@@ -1,0 +1,3 @@
+pub mod LineLaws
+pub mod NameLines
+pub mod Progress

@@ -1,0 +1,122 @@
+//! A kernel that workers share, as one of them has it.
+ghost use Rattle.std.specs.Prelude.{◌≡◌, [], ◌∷◌, List, length, Ok, IfOk, IfErr, OnOk};
+ghost use mathlib.Core.List.{IsPrefix};
+ghost use Rattle.histories.specs.Events.{by};
+ghost use Rattle.histories.specs.History.{state_of};
+ghost use Rattle.kernel_rules.specs.Runs.{replies_to};
+ghost use Rattle.kernel_rules.specs.Step.{answer, query_answer};
+ghost use Rattle.script_runner.specs.Desks.{IsGiven, IsSubmitted, seat_in};
+
+use crate::faults::PlayFault;
+use base::{ObjectId, Refusal};
+use kernel_rules::{Call, Query, Reply};
+use published_copy::{Naming, Note, Pass, ReadReceipt, Seat, Shared};
+use std::alloc::Global;
+use std::marker::Model;
+use std::sync::Wait;
+
+/// A worker's seat. A contract sees its thread, and the events that it has seen.
+#[derive(Drop)]
+pub struct SharedDesk<'s, B: Naming> {
+    seat: Seat<'s, B>,
+}
+
+impl<'s, B: Naming> Model for SharedDesk<'s, B> {
+    ghost use Rattle.script_runner.specs.Desks.{Place, place};
+
+    ghost Value = { Place };
+
+    ghost view = { λ d. place d.seat.pass.thread d.seat.pass.seen };
+}
+
+impl<'s, B: Naming> SharedDesk<'s, B> {
+    /// A seat for a thread, or what refuses it one. It waits for the lock.
+    pub fn open<R: Wait>(
+        rt: &R,
+        shared: &'s Shared<B>,
+        thread: ObjectId,
+    ) -> Result<SharedDesk<'s, B>, Option<Refusal>>
+        ensures { IsGiven B.boot.limits B.boot.seats thread (seat_in result) }
+    {
+        match shared.open_seat(rt, thread) {
+            Ok(seat) => Ok(SharedDesk { seat }),
+            Err(refusal) => Err(Some(refusal.refusal())),
+        }
+    }
+}
+
+impl<B: Naming> SharedDesk<'_, B> {
+    /// Makes a call, whose reply is put in its place. It waits for the lock. The error is want of memory.
+    pub fn submit<R: Wait>(
+        &mut self,
+        rt: &R,
+        call: &Call,
+        reply: &mut Reply,
+    ) -> Result<(), PlayFault>
+        ensures { OnOk result (IsSubmitted B.boot.limits
+            (λ s. reply.new ≡ answer s self.old.thread call.now) self.old (call.now ∷ []) self.new) }
+    {
+        match self.seat.submit_into(rt, call, reply) {
+            Ok(_) => Ok(()),
+            Err(_) => Err(PlayFault::Memory),
+        }
+    }
+
+    /// Makes up to 16 calls, which are one event where there is one, and gives their replies. It waits for the lock. The error is
+    /// want of memory, or more calls.
+    pub fn submit_all<R: Wait>(
+        &mut self,
+        rt: &R,
+        alloc: Global,
+        calls: &[Call],
+    ) -> Result<Vec<Reply>, PlayFault>
+        ensures { IfOk result (λ replies. IsSubmitted B.boot.limits
+            (λ s. replies.items ≡ replies_to s (by self.old.thread calls.now)) self.old calls.now self.new) }
+    {
+        if calls.is_empty() {
+            return Ok(Vec::new(alloc));
+        }
+        match self.seat.submit_batch(rt, calls) {
+            Ok(receipt) => Ok(receipt.replies),
+            Err(_) => Err(PlayFault::Memory),
+        }
+    }
+
+    /// Asks a query, and tells the reply with how many events the worker has then seen. It waits for nobody. An error comes where no
+    /// reader is let in any more.
+    pub fn ask(&mut self, query: &Query) -> Result<ReadReceipt, PlayFault>
+        ensures seen { OnOk result (IsPrefix self.old.events self.new.events) }
+        ensures thread { OnOk result (self.new.thread ≡ self.old.thread) }
+        ensures length { IfOk result (λ receipt. receipt.length ≡ length self.new.events) }
+        ensures reply { IfOk result (λ receipt. receipt.reply
+            ≡ query_answer (state_of B.boot.limits self.new.events) self.old.thread query.now) }
+    {
+        match self.seat.read_at(query) {
+            Ok(receipt) => Ok(receipt),
+            Err(_) => Err(PlayFault::Memory),
+        }
+    }
+
+    /// What it tells the others.
+    pub fn note(&self) -> Note<B> {
+        self.seat.note()
+    }
+
+    /// It has then seen what notes tell.
+    #[tactic(auto, using(crate::proofs::SharedLaws::seen_same, crate::proofs::SharedLaws::seen_later))]
+    pub fn learn(&mut self, notes: &[Note<B>])
+        ensures thread { self.new.thread ≡ self.old.thread }
+        ensures seen { IsPrefix self.old.events self.new.events }
+    {
+        for note in notes {
+            self.seat.learn(note);
+        }
+    }
+
+    /// The pass of the seat, which has seen the same.
+    pub fn into_pass(self) -> Pass<B>
+        ensures { result.seen ≡ self.entry.events }
+    {
+        self.seat.into_pass()
+    }
+}
