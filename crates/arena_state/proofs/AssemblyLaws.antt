@@ -17,9 +17,9 @@ use Rattle.kernel_rules.specs.declared.objects.Object.{Object}
 use Rattle.kernel_rules.specs.declared.objects.Body as body
 use Rattle.kernel_rules.specs.declared.objects.Body.TheVariants as is
 use Rattle.kernel_rules.proofs.LookupLaws.{at_is}
-use Rattle.segments.specs.Segments.{bytes_in}
-use Rattle.segments.specs.Queues.{packets_in}
-use Rattle.address_spaces.specs.Mappings.{places_at}
+use Rattle.arena_memory.specs.Segments.{bytes_in}
+use Rattle.arena_memory.specs.Queues.{packets_in}
+use Rattle.arena_memory.specs.Mappings.{places_at}
 use Rattle.arena_state.specs.declared.holdings.Holdings.{Holdings}
 use Rattle.arena_state.specs.declared.pieces.Pieces.{Pieces}
 use Rattle.arena_state.specs.Rows.{rows_of}

@@ -6,9 +6,9 @@ use Rattle.label_intern.specs.declared.held.Held.{Held}
 use Rattle.label_intern.specs.Held.{held_at, owned, owners_in}
 use Rattle.kernel_rules.specs.State.{State}
 use Rattle.kernel_rules.specs.declared.objects.Mapping.{Mapping}
-use Rattle.segments.specs.Segments.{all_pages, bytes_in, pages_of}
-use Rattle.segments.specs.Queues.{packets_in}
-use Rattle.address_spaces.specs.Mappings.{places_at}
+use Rattle.arena_memory.specs.Segments.{all_pages, bytes_in, pages_of}
+use Rattle.arena_memory.specs.Queues.{packets_in}
+use Rattle.arena_memory.specs.Mappings.{places_at}
 use Rattle.arena_state.specs.declared.records.Record.{Record}
 use Rattle.arena_state.specs.declared.holdings.Holdings.{Holdings}
 use Rattle.arena_state.specs.Restored.{IsFilled}

@@ -4,9 +4,9 @@ use Rattle.std.proofs.Common.{◌-◌, slice_range, take, drop}
 use Rattle.containers.specs.Tree.{HasSlot}
 use Rattle.label_intern.specs.declared.held.Held.{Held}
 use Rattle.kernel_rules.specs.State.{of_object, bytes_of, bytes_at, slots_of, slots_at, packets_of, packets_at}
-use Rattle.segments.specs.Segments.{bytes_in}
-use Rattle.segments.specs.Queues.{packets_in}
-use Rattle.address_spaces.specs.Mappings.{places_at}
+use Rattle.arena_memory.specs.Segments.{bytes_in}
+use Rattle.arena_memory.specs.Queues.{packets_in}
+use Rattle.arena_memory.specs.Mappings.{places_at}
 use Rattle.arena_state.specs.declared.records.Kept as kept
 use Rattle.arena_state.specs.declared.records.Kept.TheVariants as keeps
 use Rattle.arena_state.specs.declared.states.ArenaState.{ArenaState}

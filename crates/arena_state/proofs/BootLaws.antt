@@ -21,7 +21,7 @@ use Rattle.kernel_rules.specs.declared.objects.Body.TheVariants as is
 use Rattle.kernel_rules.specs.Runs.{booted, root_object, boot_thread, device_object}
 use Rattle.kernel_rules.specs.Step.{uniform}
 use Rattle.kernel_rules.proofs.BootLaws.{booted_well_formed}
-use Rattle.object_arena.specs.Objects.{Apart}
+use Rattle.containers.specs.Objects.{Apart}
 use Rattle.base.specs.declared.levels.Level.TheVariants.{L1, L2, L3}
 use Rattle.arena_state.specs.declared.records.Record.{Record}
 use Rattle.arena_state.specs.declared.records.Kept.TheVariants as keeps

@@ -15,7 +15,7 @@ use Rattle.kernel_rules.specs.Changes.{made, fresh_object}
 use Rattle.kernel_rules.specs.Fitting.{IsFitting}
 use Rattle.kernel_rules.specs.WellFormed.{is_stored, is_whole_body}
 use Rattle.kernel_rules.specs.declared.objects.Body.TheVariants as is
-use Rattle.segments.specs.Segments.{bytes_in, pages_of, HasRoom}
+use Rattle.arena_memory.specs.Segments.{bytes_in, pages_of, HasRoom}
 use Rattle.arena_state.specs.declared.records.Record.{Record}
 use Rattle.arena_state.specs.declared.records.Kept as kept
 use Rattle.arena_state.specs.declared.records.Kept.TheVariants as keeps

@@ -10,7 +10,7 @@ use Rattle.std.proofs.lemmas.List.Sums.{sum_by_push}
 use Rattle.base.specs.Live.{has, links}
 use Rattle.base.specs.declared.kinds.Kind.TheVariants as kinds
 use Rattle.base.specs.declared.ranges.Limits.{Limits}
-use Rattle.object_arena.specs.Objects.{Rises}
+use Rattle.containers.specs.Objects.{Rises}
 use Rattle.containers.specs.Tree.{ids_in, add_lists, HasSlot}
 use Rattle.containers.proofs.Views.{at_has}
 use Rattle.containers.proofs.Lists.{ids_added, links_last, has_first, links_added}

@@ -5,7 +5,7 @@ use Rattle.std.proofs.lemmas.List.{take_more, get_or-take, length-take}
 use Rattle.containers.proofs.Distinct.{has_append}
 use Rattle.std.proofs.lemmas.List.Sums.{sum_by-cons, sum_by-append, sum_by-set}
 use Rattle.base.specs.Live.{has}
-use Rattle.object_arena.specs.Objects.{Apart}
+use Rattle.containers.specs.Objects.{Apart}
 use Rattle.containers.specs.Tree.{Tree, ids_in, HasSlot}
 use Rattle.containers.specs.WellFormed.{IsWellFormed}
 use Rattle.containers.proofs.Directories.{one_place}
@@ -20,9 +20,9 @@ use Rattle.kernel_rules.specs.declared.objects.Body.TheVariants as is
 use Rattle.kernel_laws.proofs.Bounds.{root_bounds}
 use Rattle.kernel_rules.specs.declared.objects.Mapping.{Mapping}
 use Rattle.kernel_rules.specs.declared.objects.Object.{Object}
-use Rattle.segments.specs.Segments.{all_pages, bytes_in, pages_of}
-use Rattle.segments.specs.Queues.{packets_in}
-use Rattle.address_spaces.specs.Mappings.{places_at}
+use Rattle.arena_memory.specs.Segments.{all_pages, bytes_in, pages_of}
+use Rattle.arena_memory.specs.Queues.{packets_in}
+use Rattle.arena_memory.specs.Mappings.{places_at}
 use Rattle.arena_state.specs.declared.records.Record.{Record}
 use Rattle.arena_state.specs.declared.holdings.Holdings.{Holdings}
 use Rattle.arena_state.specs.Filled.{Content, filled}

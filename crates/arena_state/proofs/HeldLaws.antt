@@ -21,9 +21,9 @@ use Rattle.arena_state.specs.Rows.{Row, rows_of, row_slot}
 use Rattle.arena_state.specs.Filled.{Content, filled, filled_state}
 use Rattle.arena_state.specs.Assembled.{pieces_state, record_in, blank}
 use Rattle.arena_state.specs.Stocked.{slot_of, content_at, whole_state, kept_pages, keeps_space, pages_at, is_space_at, IsStocked}
-use Rattle.segments.specs.Segments.{bytes_in}
+use Rattle.arena_memory.specs.Segments.{bytes_in}
 use Rattle.kernel_rules.specs.declared.objects.Mapping.{Mapping}
-use Rattle.address_spaces.specs.Mappings.{places_at}
+use Rattle.arena_memory.specs.Mappings.{places_at}
 use Rattle.arena_state.specs.Sound.{IsSound}
 use Rattle.arena_state.proofs.FilledLaws.{changed_filled}
 use Rattle.arena_state.proofs.RebindLaws.{with_both}

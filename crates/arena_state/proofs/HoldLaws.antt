@@ -9,7 +9,7 @@ use Rattle.std.proofs.lemmas.Bool.{ltb-true, leb-true, cases_Bool, cases_eq, cas
 use Rattle.std.proofs.lemmas.Option.{none-some}
 use Rattle.std.proofs.lemmas.List.Sums.{sum_by-cons}
 use Rattle.base.specs.Live.{has, links}
-use Rattle.object_arena.specs.Objects.{Rises}
+use Rattle.containers.specs.Objects.{Rises}
 use Rattle.containers.specs.Tree.{ids_in, link_count}
 use Rattle.containers.proofs.Lists.{apart_test, above_absent, links_has}
 use Rattle.containers.proofs.Views.{at_has, or_left, or_right}

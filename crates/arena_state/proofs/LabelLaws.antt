@@ -6,7 +6,7 @@ use Rattle.std.proofs.lemmas.List.Sums.{sum_by-cons}
 use Rattle.label_lattice.specs.Label.{LabelValue}
 use Rattle.label_lattice.specs.Order.{levels, leq_test, up}
 use Rattle.label_lattice.specs.Bits.{bits_of}
-use Rattle.label_rules.specs.LabelRules.{below, visible, shown}
+use Rattle.label_lattice.specs.LabelRules.{below, visible, shown}
 use Rattle.label_intern.specs.declared.held.Held.{Held}
 use Rattle.label_intern.specs.Held.{owners_in, label_in}
 use Rattle.label_intern.specs.Owners.{one_at}

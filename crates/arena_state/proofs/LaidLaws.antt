@@ -7,7 +7,7 @@ use Rattle.std.proofs.lemmas.List.Folds.{list_any-append}
 use Rattle.std.proofs.lemmas.Bool.{ltb-true, or_cases, cases_Bool, both_ways, eqb-true, eq-eqb, and_parts}
 use Rattle.std.proofs.lemmas.List.Sums.{sum_by-cons, sum_by-append}
 use Rattle.base.specs.Live.{has, links}
-use Rattle.object_arena.specs.Objects.{Rises}
+use Rattle.containers.specs.Objects.{Rises}
 use Rattle.containers.specs.Tree.{ids_in, list_of, add_lists, link_count}
 use Rattle.containers.proofs.Lists.{or_no_left, or_no_right, rises_tail, above_absent, apart_test}
 use Rattle.containers.proofs.Views.{has_at}

@@ -10,7 +10,7 @@ use Rattle.std.proofs.lemmas.List.Sums.{sum_by-cons}
 use Rattle.base.specs.Live.{has}
 use Rattle.kernel_rules.specs.State.{lists_of, listed}
 use Rattle.kernel_rules.specs.declared.objects.Object.{Object}
-use Rattle.object_arena.specs.Objects.{Rises}
+use Rattle.containers.specs.Objects.{Rises}
 use Rattle.containers.specs.Tree.{ids_in, list_of, cut_lists, add_lists, without}
 use Rattle.containers.proofs.Lists.{no_room, or_no_left, rises_tail, above_absent}
 use Rattle.arena_state.specs.Rows.{Row, rows_of}

@@ -4,7 +4,7 @@ use Rattle.std.specs.List.{list_any}
 use Rattle.std.proofs.lemmas.Bool.{cases_Bool, ne_eqb}
 use Rattle.base.specs.Live.{has}
 use Rattle.containers.specs.Tree.{HasSlot, ids_in}
-use Rattle.address_spaces.specs.Mappings.{mapping_at, places_at}
+use Rattle.arena_memory.specs.Mappings.{mapping_at, places_at}
 use Rattle.kernel_rules.specs.State.{of_object, slots_of, slots_at}
 use Rattle.kernel_rules.specs.declared.objects.Mapping.{Mapping}
 use Rattle.arena_state.specs.declared.states.ArenaState.{ArenaState}

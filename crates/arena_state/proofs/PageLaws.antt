@@ -4,7 +4,7 @@ use Rattle.std.proofs.lemmas.Bool.{cases_Bool, cases_eq, eqb-true}
 use Rattle.std.proofs.lemmas.List.{get_or-set_same, get_or-set_other}
 use Rattle.std.proofs.lemmas.List.Sums.{sum_by-cons, sum_by-set}
 use Rattle.base.specs.Live.{has}
-use Rattle.object_arena.specs.Objects.{Apart}
+use Rattle.containers.specs.Objects.{Apart}
 use Rattle.containers.specs.Tree.{ids_in}
 use Rattle.containers.proofs.Views.{at_has}
 use Rattle.label_intern.specs.declared.held.Held.{Held}
@@ -18,7 +18,7 @@ use Rattle.arena_state.specs.declared.pieces.Pieces.{Pieces}
 use Rattle.arena_state.specs.Rows.{rows_of}
 use Rattle.arena_state.specs.Assembled.{pieces_state, objects_in, object_in, record_in, body_of}
 use Rattle.arena_state.specs.Stocked.{kept_pages, pages_at, IsStocked}
-use Rattle.segments.specs.Segments.{bytes_in, pages_of, pages_in, all_pages}
+use Rattle.arena_memory.specs.Segments.{bytes_in, pages_of, pages_in, all_pages}
 use Rattle.arena_state.specs.Sound.{IsSound}
 use Rattle.arena_state.proofs.RecordLaws.{segment_cost, sum_same_in}
 use Rattle.arena_state.proofs.RoomLaws.{root_at}

@@ -19,7 +19,7 @@ use Rattle.arena_state.specs.declared.pieces.Pieces.{Pieces}
 use Rattle.arena_state.specs.Assembled.{pieces_state, record_in, body_of, body_claims, body_use, fresh_record}
 use Rattle.arena_state.specs.Creations.{IsPlaced}
 use Rattle.arena_state.specs.Stocked.{kept_pages, IsStocked}
-use Rattle.segments.specs.Segments.{all_pages}
+use Rattle.arena_memory.specs.Segments.{all_pages}
 use Rattle.arena_state.specs.Sound.{IsSound}
 use Rattle.arena_state.proofs.RecordLaws.{sum_same_in}
 use Rattle.arena_state.proofs.WholeEditLaws.{reuse_pages}

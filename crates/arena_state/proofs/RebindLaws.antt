@@ -8,7 +8,7 @@ use Rattle.std.proofs.lemmas.Bool.{cases_eq, and_parts, both_ways, eq-eqb}
 use Rattle.std.proofs.lemmas.List.{get_or-set_same, get_or-set_other}
 use Rattle.base.specs.Live.{has}
 use Rattle.base.specs.declared.kinds.Kind.TheVariants as kinds
-use Rattle.object_arena.specs.Objects.{Apart}
+use Rattle.containers.specs.Objects.{Apart}
 use Rattle.containers.specs.Tree.{without, HasSlot}
 use Rattle.containers.proofs.Distinct.{distinct_from, sum_without_one, has_without}
 use Rattle.containers.proofs.Views.{has_at}

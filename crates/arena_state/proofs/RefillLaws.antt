@@ -15,9 +15,9 @@ use Rattle.kernel_rules.specs.Written.{written}
 use Rattle.kernel_rules.proofs.ListerLaws.{kept_parts}
 use Rattle.kernel_rules.proofs.LookupLaws.{all_at}
 use Rattle.kernel_rules.proofs.WellFormedLaws.{soundness_of}
-use Rattle.segments.specs.Segments.{bytes_in}
-use Rattle.segments.specs.Queues.{packets_in}
-use Rattle.address_spaces.specs.Mappings.{places_at}
+use Rattle.arena_memory.specs.Segments.{bytes_in}
+use Rattle.arena_memory.specs.Queues.{packets_in}
+use Rattle.arena_memory.specs.Mappings.{places_at}
 use Rattle.kernel_rules.specs.declared.objects.Mapping.{Mapping}
 use Rattle.arena_state.specs.declared.records.Kept as kept
 use Rattle.arena_state.specs.declared.records.Kept.TheVariants as keeps

@@ -11,7 +11,7 @@ use Rattle.kernel_rules.specs.Translate.{names_none, own_space, translate}
 use Rattle.kernel_rules.specs.declared.calls.Entry.{Entry}
 use Rattle.kernel_rules.specs.declared.objects.Object.{Object}
 use Rattle.kernel_laws.proofs.Frames.{restricted_at}
-use Rattle.translation_rows.specs.Rows.{BySlot, Shows, slot_count, thread_at}
+use Rattle.arena_memory.specs.Rows.{BySlot, Shows, slot_count, thread_at}
 use Rattle.arena_state.specs.Shown.{AreKept, AreKeptBut, IsRow, KeepsAllSlots, SameAt, Tells, named_by}
 use Rattle.arena_state.specs.States.{state_of}
 use Rattle.arena_state.specs.Touched.{reaches, reaches_by, touches}

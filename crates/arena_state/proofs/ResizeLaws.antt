@@ -19,7 +19,7 @@ use Rattle.kernel_rules.proofs.LookupLaws.{at_is, at_self, lookup_put}
 use Rattle.kernel_rules.proofs.RecordLaws.{lists_of-set_value}
 use Rattle.kernel_rules.proofs.ResizeLaws.{resized_well_formed}
 use Rattle.kernel_rules.proofs.WellFormedLaws.{soundness_of}
-use Rattle.segments.specs.Segments.{bytes_in, pages_in, HasRoom}
+use Rattle.arena_memory.specs.Segments.{bytes_in, pages_in, HasRoom}
 use Rattle.arena_state.specs.declared.records.Record.{Record}
 use Rattle.arena_state.specs.declared.records.Kept as kept
 use Rattle.arena_state.specs.declared.records.Kept.TheVariants as keeps

@@ -7,7 +7,7 @@ use Rattle.std.specs.BTreeMap.{is_at}
 use Rattle.std.proofs.lemmas.Bool.{cases_Bool, eq-eqb}
 use Rattle.std.proofs.lemmas.Option.{none-some}
 use Rattle.base.specs.Live.{has}
-use Rattle.object_arena.specs.Objects.{Rises}
+use Rattle.containers.specs.Objects.{Rises}
 use Rattle.containers.specs.Tree.{ids_in}
 use Rattle.containers.proofs.Lists.{no_room, apart_test, or_no_left, or_no_right, rises_tail, rises_first}
 use Rattle.kernel_rules.proofs.LookupLaws.{at_self, at_is}

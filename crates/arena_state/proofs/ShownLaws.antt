@@ -20,7 +20,7 @@ use Rattle.kernel_rules.proofs.WellFormedLaws.{soundness_of, live_kind}
 use Rattle.base.specs.declared.ranges.Limits.{Limits}
 use Rattle.containers.specs.Tree.{Tree, HasSlot, ids_in, add_lists}
 use Rattle.containers.proofs.Lists.{ids_added}
-use Rattle.translation_rows.specs.Rows.{BySlot, Shows, slot_count, thread_at, with_row}
+use Rattle.arena_memory.specs.Rows.{BySlot, Shows, slot_count, thread_at, with_row}
 use Rattle.arena_state.specs.Sound.{IsSound}
 use Rattle.arena_state.specs.declared.pieces.Pieces.{Pieces}
 use Rattle.arena_state.specs.declared.states.ArenaState.{ArenaState}

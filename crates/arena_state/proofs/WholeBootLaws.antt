@@ -12,9 +12,9 @@ use Rattle.arena_state.specs.declared.pieces.Pieces.{Pieces}
 use Rattle.arena_state.specs.Filled.{filled_state}
 use Rattle.arena_state.specs.Assembled.{pieces_state, record_in, blank}
 use Rattle.arena_state.specs.Stocked.{slot_of, content_at, whole_state, kept_pages, pages_at, IsStocked}
-use Rattle.segments.specs.Segments.{bytes_in}
-use Rattle.segments.specs.Queues.{packets_in}
-use Rattle.address_spaces.specs.Mappings.{places_at}
+use Rattle.arena_memory.specs.Segments.{bytes_in}
+use Rattle.arena_memory.specs.Queues.{packets_in}
+use Rattle.arena_memory.specs.Mappings.{places_at}
 use Rattle.arena_state.proofs.HeldLaws.{read_set}
 
 nothing_in : {X : Type 0} (n i : ℕ) → get_or (replicate {A = List X} n []) i [] ≡ []

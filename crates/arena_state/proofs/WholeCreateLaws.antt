@@ -32,10 +32,10 @@ use Rattle.arena_state.specs.Filled.{Content, filled, filled_state}
 use Rattle.arena_state.specs.Assembled.{pieces_state, record_in, body_of, body_claims, body_use, fresh_record, with_use}
 use Rattle.arena_state.specs.Creations.{IsPlaced}
 use Rattle.arena_state.specs.Stocked.{slot_of, content_in, content_at, whole_state, kept_pages, keeps_space, pages_at, is_space_at, IsStocked}
-use Rattle.segments.specs.Segments.{bytes_in}
-use Rattle.segments.specs.Queues.{packets_in}
+use Rattle.arena_memory.specs.Segments.{bytes_in}
+use Rattle.arena_memory.specs.Queues.{packets_in}
 use Rattle.kernel_rules.specs.declared.objects.Mapping.{Mapping}
-use Rattle.address_spaces.specs.Mappings.{places_at}
+use Rattle.arena_memory.specs.Mappings.{places_at}
 use Rattle.arena_state.specs.Sound.{IsSound}
 use Rattle.arena_state.proofs.SoundLaws.{object_none}
 use Rattle.arena_state.proofs.FilledLaws.{same_filled}

@@ -25,9 +25,9 @@ use Rattle.arena_state.specs.Filled.{filled_state}
 use Rattle.arena_state.specs.Assembled.{pieces_state, record_in}
 use Rattle.arena_state.specs.Stocked.{content_in, content_at, whole_state, kept_pages, keeps_space, pages_at, is_space_at, IsStocked}
 use Rattle.arena_state.specs.Sound.{IsSound}
-use Rattle.segments.specs.Segments.{bytes_in}
-use Rattle.segments.specs.Queues.{packets_in}
-use Rattle.address_spaces.specs.Mappings.{places_at}
+use Rattle.arena_memory.specs.Segments.{bytes_in}
+use Rattle.arena_memory.specs.Queues.{packets_in}
+use Rattle.arena_memory.specs.Mappings.{places_at}
 use Rattle.arena_state.proofs.SoundLaws.{object_none, slot_within}
 use Rattle.arena_state.proofs.DeathLaws.{keeps_pages, dead_slots, IsGone}
 use Rattle.arena_state.proofs.FilledLaws.{same_filled, restricted_filled}

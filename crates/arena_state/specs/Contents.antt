@@ -1,7 +1,7 @@
 -- Which records have contents beside them, and the bytes of a slot.
 use Rattle.std.specs.Prelude.{ℕ, Bool, true, false, List, [], Option, Some, None}
 use Rattle.base.specs.declared.ids.Slot.{Slot}
-use Rattle.segments.specs.Segments.{bytes_in}
+use Rattle.arena_memory.specs.Segments.{bytes_in}
 use Rattle.arena_state.specs.declared.records.Kept as kept
 use Rattle.arena_state.specs.declared.records.Kept.TheVariants as keeps
 

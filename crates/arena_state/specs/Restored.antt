@@ -16,7 +16,7 @@ use Rattle.kernel_rules.specs.declared.objects.Body.TheVariants as is
 use Rattle.arena_state.specs.declared.records.Record.{Record}
 use Rattle.arena_state.specs.declared.records.Kept as kept
 use Rattle.arena_state.specs.declared.holdings.Holdings.{Holdings}
-use Rattle.segments.specs.Segments.{all_pages}
+use Rattle.arena_memory.specs.Segments.{all_pages}
 use Rattle.arena_state.specs.Assembled.{assembled, body_of, body_use, claims, claims_in, record_in}
 use Rattle.arena_state.specs.Filled.{Content, filled, filled_body}
 use Rattle.arena_state.specs.Stocked.{content_in, kept_pages, keeps_space}

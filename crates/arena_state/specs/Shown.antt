@@ -5,7 +5,7 @@ use Rattle.containers.specs.Tree.{HasSlot}
 use Rattle.kernel_rules.specs.State.{State}
 use Rattle.kernel_rules.specs.Translate.{names_none, own_space, translate}
 use Rattle.kernel_rules.specs.declared.calls.Entry.{Entry}
-use Rattle.translation_rows.specs.Rows.{BySlot, Shows, row_at, slot_count, thread_at}
+use Rattle.arena_memory.specs.Rows.{BySlot, Shows, row_at, slot_count, thread_at}
 use Rattle.arena_state.specs.declared.rows.repairs.Change.{Change}
 use Rattle.arena_state.specs.declared.states.ArenaState.{ArenaState}
 use Rattle.arena_state.specs.States.{state_of}

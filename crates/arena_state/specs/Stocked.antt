@@ -5,9 +5,9 @@ use Rattle.std.specs.Ordering.{nat_cmp}
 use Rattle.std.specs.Map.{lookup}
 use Rattle.std.specs.BTreeMap.{is_at}
 use Rattle.base.specs.Live.{has}
-use Rattle.segments.specs.Segments.{bytes_in}
-use Rattle.segments.specs.Queues.{packets_in}
-use Rattle.address_spaces.specs.Mappings.{places_at}
+use Rattle.arena_memory.specs.Segments.{bytes_in}
+use Rattle.arena_memory.specs.Queues.{packets_in}
+use Rattle.arena_memory.specs.Mappings.{places_at}
 use Rattle.kernel_rules.specs.Sizes.{page_bytes, slot_count}
 use Rattle.kernel_rules.specs.State.{State}
 use Rattle.kernel_rules.specs.WellFormed.{is_whole_body}

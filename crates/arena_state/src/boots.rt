@@ -14,11 +14,11 @@ use crate::making::uniform;
 use crate::pieces::Pieces;
 use crate::records::{Kept, fresh_record, kept_thread};
 use crate::states::ArenaState;
-use address_spaces::Spaces;
+use arena_memory::address_spaces::Spaces;
+use arena_memory::segments::{Queues, Segments};
 use base::{Level, Limits, Meter, NoMemory, ObjectId, TypeSet};
 use containers::Containers;
 use label_intern::{LabelIx, Labels};
-use segments::{Queues, Segments};
 use std::alloc::Global;
 
 // The labels that a boot stores: those of the root, of the boot thread with its clearance and verify label, and of the

@@ -3,11 +3,11 @@ ghost use Rattle.std.specs.Prelude.{◌≡◌, None, [], replicate, slice_set};
 ghost use Rattle.arena_state.specs.Deaths.{released, bytes_left, mappings_left, IsVacated};
 
 use crate::records::{Kept, Record};
-use address_spaces::Spaces;
+use arena_memory::address_spaces::Spaces;
+use arena_memory::segments::{Queues, Segments};
 use base::{Meter, Slot};
 use containers::{Located, Visitor};
 use label_intern::Labels;
-use segments::{Queues, Segments};
 
 /// What is kept beside the tree of entries: for each slot a record, the bytes of a segment, the packets of a device and
 /// the mappings of an address space; and the stored labels.

@@ -15,13 +15,13 @@ use crate::holdings::Holdings;
 use crate::pieces::Pieces;
 use crate::records::{Kept, Record, fresh_record};
 use crate::states::ArenaState;
-use address_spaces::Spaces;
 pub use ages::are_younger;
+use arena_memory::address_spaces::Spaces;
+use arena_memory::segments::{Queues, Segments};
 use base::{Meter, NoMemory};
 use fills::fill;
 use label_intern::{LabelIx, Labels};
 use plain_state::Records;
-use segments::{Queues, Segments};
 use std::alloc::Global;
 use trees::tree_of;
 

@@ -6,12 +6,12 @@ use Rattle.std.specs.Option.{unwrap_or}
 use Rattle.std.specs.Ordering.{nat_cmp}
 use Rattle.std.proofs.lemmas.Bool.{eqb-true, eq-eqb}
 use Rattle.std.proofs.lemmas.List.{map_push}
-use Rattle.histories.proofs.HistoryLaws.{count-snoc, state_from-snoc}
+use Rattle.kernel_rules.proofs.HistoryLaws.{count-snoc, state_from-snoc}
 use Rattle.kernel_rules.proofs.RecordLaws.{same_id}
-use Rattle.histories.proofs.BatchLaws.{answered_calls, answered-snoc, by-snoc, state_after-snoc}
-use Rattle.histories.specs.Events.{Event, calls_in, by, told}
-use Rattle.histories.specs.History.{Start, answered, state_from, count}
-use Rattle.histories.specs.declared.events.Answered.{Answered}
+use Rattle.kernel_rules.proofs.BatchLaws.{answered_calls, answered-snoc, by-snoc, state_after-snoc}
+use Rattle.kernel_rules.specs.Events.{Event, calls_in, by, told}
+use Rattle.kernel_rules.specs.History.{Start, answered, state_from, count}
+use Rattle.kernel_rules.specs.declared.histories.events.Answered.{Answered}
 use Rattle.kernel_rules.specs.Runs.{state_after}
 use Rattle.kernel_rules.specs.State.{State}
 use Rattle.kernel_rules.specs.Step.{answer, next}

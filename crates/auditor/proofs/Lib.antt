@@ -10,3 +10,6 @@ pub mod SplitLaws
 pub mod NumberLaws
 pub mod ToldLaws
 pub mod StopLaws
+pub mod Cleaning
+pub mod Turns
+pub mod Telling

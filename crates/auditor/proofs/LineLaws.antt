@@ -6,8 +6,8 @@ use Rattle.std.proofs.lemmas.Bool.{eq-eqb}
 use Rattle.std.proofs.lemmas.Bool.Decides.{eqb_tells}
 use Rattle.base.specs.declared.ranges.Limits.{Limits}
 use Rattle.checkpoints.specs.Checkpoint.{Checkpoint}
-use Rattle.histories.specs.History.{IsLegalFrom}
-use Rattle.histories.specs.Events.{Event}
+use Rattle.kernel_rules.specs.History.{IsLegalFrom}
+use Rattle.kernel_rules.specs.Events.{Event}
 use Rattle.text_words.specs.Lacks.{lacks}
 use Rattle.text_words.proofs.Split.{cond_false}
 use Rattle.call_text.specs.Text.{lines_text}

@@ -4,8 +4,8 @@ use Rattle.std.proofs.Common.{Option, Some, None, sym, ap, ◌∙◌, subst}
 use Rattle.std.specs.Prelude.{option_map}
 use Rattle.std.specs.List.{flat_map}
 use Rattle.base.specs.declared.ranges.Limits.{Limits}
-use Rattle.histories.specs.Events.{Event}
-use Rattle.histories.specs.History.{Start, boot_start, state_from}
+use Rattle.kernel_rules.specs.Events.{Event}
+use Rattle.kernel_rules.specs.History.{Start, boot_start, state_from}
 use Rattle.kernel_rules.specs.Scratch.{scratch}
 use Rattle.call_text.specs.Text.{lines_text}
 use Rattle.checkpoints.specs.Checkpoint.{Checkpoint}

@@ -6,9 +6,9 @@ use Rattle.std.specs.List.{AllByRecursion}
 use Rattle.std.proofs.lemmas.Bool.Decides.{eqb_tells}
 use Rattle.std.proofs.lemmas.Fmt.{decimal_is_IsNumeral, decimal_is_IsNumeral_wide, decimal_by_steps_wide}
 use Rattle.std.specs.Str.Parse.{digits_value}
-use Rattle.histories.specs.Events.{told}
-use Rattle.histories.specs.History.{answered}
-use Rattle.histories.specs.declared.events.Answered.{Answered}
+use Rattle.kernel_rules.specs.Events.{told}
+use Rattle.kernel_rules.specs.History.{answered}
+use Rattle.kernel_rules.specs.declared.histories.events.Answered.{Answered}
 use Rattle.kernel_rules.specs.State.{State}
 use Rattle.kernel_rules.specs.Step.{answer}
 use Rattle.text_words.specs.Lacks.{lacks}

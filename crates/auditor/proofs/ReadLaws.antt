@@ -5,9 +5,9 @@ use Rattle.std.specs.List.{AllByRecursion}
 use Rattle.std.proofs.lemmas.Bool.{and_parts, le-leb}
 use Rattle.std.proofs.lemmas.List.{append_assoc, append-nil, length-append, take_all}
 use Rattle.checkpoints.specs.Checkpoint.{Checkpoint}
-use Rattle.histories.proofs.BatchLaws.{answered_calls}
-use Rattle.histories.specs.Events.{Event, calls_in, by}
-use Rattle.histories.specs.History.{Start, calls_of, state_from}
+use Rattle.kernel_rules.proofs.BatchLaws.{answered_calls}
+use Rattle.kernel_rules.specs.Events.{Event, calls_in, by}
+use Rattle.kernel_rules.specs.History.{Start, calls_of, state_from}
 use Rattle.kernel_rules.specs.Runs.{state_after}
 use Rattle.kernel_rules.specs.Step.{query_answer}
 use Rattle.kernel_rules.specs.declared.calls.Call.{Call}

@@ -4,11 +4,11 @@ use Rattle.std.proofs.Common.{refl, sym, ap, ◌∙◌, subst, add-one}
 use Rattle.std.proofs.Math.Seq.{take-suc}
 use Rattle.std.specs.List.{AllByRecursion}
 use Rattle.std.proofs.lemmas.List.{append_assoc, append-nil, length-map}
-use Rattle.histories.specs.History.{Start, answered, state_from, is_batch, FollowsFrom, IsLegalFrom}
-use Rattle.histories.proofs.BatchLaws.{answered_calls, answered_length}
-use Rattle.histories.proofs.HistoryLaws.{legal_none_from, legal-snoc_from}
-use Rattle.histories.specs.Events.{Event, calls_in}
-use Rattle.histories.specs.declared.events.Answered.{Answered}
+use Rattle.kernel_rules.specs.History.{Start, answered, state_from, is_batch, FollowsFrom, IsLegalFrom}
+use Rattle.kernel_rules.proofs.BatchLaws.{answered_calls, answered_length}
+use Rattle.kernel_rules.proofs.HistoryLaws.{legal_none_from, legal-snoc_from}
+use Rattle.kernel_rules.specs.Events.{Event, calls_in}
+use Rattle.kernel_rules.specs.declared.histories.events.Answered.{Answered}
 use Rattle.auditor.specs.Replay.{true_event, replayed_after, replayed}
 
 -- one event more is replayed after the others

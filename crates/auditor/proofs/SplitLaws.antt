@@ -4,10 +4,10 @@ use Rattle.std.proofs.Common.{refl, sym, ap, ◌∙◌, subst, arith, append_ass
 use Rattle.std.specs.List.{flat_map}
 use Rattle.std.proofs.lemmas.Bool.{ne_eqb}
 use Rattle.std.proofs.lemmas.List.{append-nil, length-append, length-map, take-append-le}
-use Rattle.histories.proofs.BatchLaws.{answered_length}
-use Rattle.histories.specs.Events.{Event, calls_in}
-use Rattle.histories.specs.History.{Start, state_from}
-use Rattle.histories.specs.declared.events.Answered.{Answered}
+use Rattle.kernel_rules.proofs.BatchLaws.{answered_length}
+use Rattle.kernel_rules.specs.Events.{Event, calls_in}
+use Rattle.kernel_rules.specs.History.{Start, state_from}
+use Rattle.kernel_rules.specs.declared.histories.events.Answered.{Answered}
 use Rattle.kernel_rules.specs.Step.{query_answer}
 use Rattle.dump_text.specs.Dump.{lines_with, event_lines, told_lines}
 use Rattle.dump_text.specs.Reads.{read_line, reads_at, reads_past, are_placed}

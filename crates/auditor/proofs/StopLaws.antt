@@ -1,12 +1,9 @@
 -- Where a replay stops, and what it has told then.
-use Rattle.std.proofs.Common.{◌≡◌, ℕ, ◌+◌, ◌≤◌, ◌<◌, ◌^◌, Bool, true, false, List, [], ◌∷◌, ◌++◌, length, take, drop, get_or}
+use Rattle.std.proofs.Common.{◌≡◌, ℕ, ◌+◌, ◌≤◌, ◌<◌, Bool, true, false, List, [], ◌∷◌, ◌++◌, length, take, drop, get_or}
 use Rattle.std.proofs.Common.{refl, sym, ap, ◌∙◌, subst, arith, append_assoc, inl, inr}
 use Rattle.std.proofs.lemmas.List.{append-nil, length-take-le, take-append-drop, take_all, drop_more}
-use Rattle.std.specs.BTreeMap.{get}
-use Rattle.std.specs.Option.{unwrap_or}
-use Rattle.std.specs.Ordering.{nat_cmp}
-use Rattle.histories.specs.Events.{Event}
-use Rattle.histories.specs.History.{Start, state_from}
+use Rattle.kernel_rules.specs.Events.{Event}
+use Rattle.kernel_rules.specs.History.{Start, state_from}
 use Rattle.kernel_rules.specs.Scratch.{scratch}
 use Rattle.kernel_rules.specs.Tables.{TableLists}
 use Rattle.plain_core.specs.Kernel.{kernel_state}
@@ -15,15 +12,10 @@ use Rattle.dump_text.specs.Whole.{start_with, placed}
 use Rattle.dump_text.specs.Reads.{are_placed}
 use Rattle.dump_text.specs.declared.tables.PlacedRead.{PlacedRead}
 use Rattle.dump_text.proofs.Placing.{placed_parts, placed_from}
-use Rattle.auditor.specs.Replay.{thread_after, true_read, true_reads_after, true_reads, IsReplay, TakesAll}
+use Rattle.auditor.specs.Replay.{thread_after, true_read, true_reads_after, true_reads, TakesAll}
 use Rattle.auditor.specs.Told.{HasNoNumber, StopsBetween, TellsAll, IsTold}
 use Rattle.auditor.specs.declared.replays.Replay.{Replay}
 use Rattle.auditor.proofs.SplitLaws.{lower, reads_front}
-
--- the event after a thread's last number has none
-pub no_number : (start : Start) (r : Replay) (e : Event) (last : ℕ) → IsReplay start r
-    → last ≡ unwrap_or (get nat_cmp r.counts e.thread) 0 → last + 1 ≡ 2 ^ 64 → HasNoNumber start r.events.items e
-no_number start r e last is last_is spent = sym (ap (λ (n : ℕ). n + 1) last_is ∙ is.counted e.thread) ∙ spent
 
 -- a replay that stays as it is at an event without a number stops there
 pub stops_at : (start : Start) (events : List Event) (from to place : ℕ) (e : Event) (was now : Replay)

@@ -4,8 +4,8 @@ use Rattle.std.proofs.Common.{refl, sym, ap, ◌∙◌, subst, arith, append_ass
 use Rattle.std.specs.List.{AllByRecursion}
 use Rattle.std.proofs.lemmas.List.{append-nil, length-append}
 use Rattle.checkpoints.specs.Checkpoint.{Checkpoint}
-use Rattle.histories.specs.Events.{Event}
-use Rattle.histories.specs.History.{Start, state_from}
+use Rattle.kernel_rules.specs.Events.{Event}
+use Rattle.kernel_rules.specs.History.{Start, state_from}
 use Rattle.call_text.specs.Text.{lines_text}
 use Rattle.dump_text.specs.CheckpointLines.{start_lines}
 use Rattle.dump_text.specs.Dump.{dump_text, event_lines, told_lines, table_lines, format_of, lines_of, IsDump}

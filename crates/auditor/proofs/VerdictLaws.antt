@@ -5,8 +5,8 @@ use Rattle.std.proofs.lemmas.Bool.{leb-true}
 use Rattle.base.specs.declared.ranges.Limits.{Limits}
 use Rattle.call_text.specs.Text.{run}
 use Rattle.checkpoints.specs.Checkpoint.{Checkpoint}
-use Rattle.histories.specs.History.{IsLegalFrom}
-use Rattle.histories.specs.Events.{Event}
+use Rattle.kernel_rules.specs.History.{IsLegalFrom}
+use Rattle.kernel_rules.specs.Events.{Event}
 use Rattle.dump_text.specs.CheckpointLines.{start_lines}
 use Rattle.dump_text.specs.Dump.{dump_text, history_lines, table_lines, format_of, next, start, IsDump, DumpFaultsAt}
 use Rattle.dump_text.specs.declared.lines.Format.TheVariants as formats

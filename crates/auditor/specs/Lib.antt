@@ -3,3 +3,6 @@ pub mod Migrated
 pub mod Replay
 pub mod Told
 pub mod Verdict
+pub mod Refused
+pub mod Steps
+pub mod Traces

@@ -3,8 +3,8 @@ use Rattle.std.specs.Prelude.{◌≡◌, ℕ, ◌+◌, ◌==◌, ◌&&◌, not, 
 use Rattle.std.specs.BTreeMap.{BTreeMap, get}
 use Rattle.std.specs.Option.{unwrap_or}
 use Rattle.std.specs.Ordering.{nat_cmp}
-use Rattle.histories.specs.Events.{Event, calls_in}
-use Rattle.histories.specs.History.{Start, answered, state_from, count}
+use Rattle.kernel_rules.specs.Events.{Event, calls_in}
+use Rattle.kernel_rules.specs.History.{Start, answered, state_from, count}
 use Rattle.dump_text.specs.Whole.{reply_at}
 use Rattle.dump_text.specs.declared.tables.PlacedRead.{PlacedRead}
 use Rattle.plain_core.specs.Kernel.{kernel_state}

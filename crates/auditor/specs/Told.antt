@@ -1,7 +1,7 @@
 -- What a replay tells of a dump: all of it, or what comes before an event whose number no line can spell.
 use Rattle.std.specs.Prelude.{◌≡◌, ◌≤◌, ◌<◌, ℕ, ◌+◌, ◌^◌, ◌⊎◌, true, false, List, ◌∷◌, ◌++◌, length, take, Option, Some}
-use Rattle.histories.specs.Events.{Event}
-use Rattle.histories.specs.History.{Start}
+use Rattle.kernel_rules.specs.Events.{Event}
+use Rattle.kernel_rules.specs.History.{Start}
 use Rattle.dump_text.specs.Dump.{dump_text}
 use Rattle.dump_text.specs.Fits.{FitsWords}
 use Rattle.dump_text.specs.Lists.{DumpLists}

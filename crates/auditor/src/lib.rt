@@ -3,10 +3,12 @@
 #![tactic(auto)]
 
 mod audits;
+pub mod clean_dumps;
 mod differences;
 mod lines;
 mod replays;
 mod starts;
+pub mod tracing;
 mod verdicts;
 
 pub use audits::{audit, clean_is_legal, migrated_verdicts, one_verdict};

@@ -6,7 +6,7 @@ ghost use Rattle.std.specs.Option.{unwrap_or};
 ghost use Rattle.std.specs.Ordering.{nat_cmp};
 ghost use Rattle.checkpoints.specs.Restorable.{is_restorable, threads_rise};
 ghost use Rattle.checkpoints.specs.Starts.{number_of, start_of};
-ghost use Rattle.histories.specs.History.{boot_start};
+ghost use Rattle.kernel_rules.specs.History.{boot_start};
 ghost use Rattle.dump_text.specs.Whole.{start_with};
 ghost use Rattle.auditor.specs.Replay.{IsReplay};
 ghost use Rattle.auditor.specs.Verdict.{can_begin};

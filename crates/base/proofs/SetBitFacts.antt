@@ -1,6 +1,6 @@
 -- Sets of the same digits are one set.
 use Rattle.std.proofs.Common.{◌≡◌}
-use Rattle.set_digits.proofs.DigitLaws.{then_is}
+use Rattle.base.specs.DigitLaws.{then_is}
 use Rattle.base.specs.declared.sets.Rights.{Rights}
 use Rattle.base.specs.declared.sets.TypeSet.{TypeSet}
 use Rattle.base.specs.SetBits.{rights_bits, types_bits}

@@ -7,3 +7,5 @@ pub mod Sets
 pub mod Live
 pub mod SetBits
 pub mod SetBitLaws
+pub mod Digits
+pub mod DigitLaws

@@ -2,8 +2,8 @@
 use Rattle.std.proofs.Common.{◌≡◌, ◌-◌, ◌^◌, Bool, true, false, ◌&&◌, ◌||◌, ◌==◌, refl, sym, ◌∙◌, ap}
 use Rattle.std.specs.Int.RustNames.{bit_and, bit_or, bit_xor}
 use mathlib.Core.Bool.{beq}
-use Rattle.set_digits.specs.Digits.{one_of}
-use Rattle.set_digits.proofs.DigitLaws.{and_then, or_then, xor_then, eq_then, no_other, other_then, other_is}
+use Rattle.base.specs.Digits.{one_of}
+use Rattle.base.specs.DigitLaws.{and_then, or_then, xor_then, eq_then, no_other, other_then, other_is}
 use Rattle.base.specs.declared.sets.Rights.{Rights}
 use Rattle.base.specs.declared.sets.TypeSet.{TypeSet}
 use Rattle.base.specs.SetBits.{rights_bits, types_bits, rights_by, other_rights, types_by, other_types}

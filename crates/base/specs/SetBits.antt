@@ -1,6 +1,6 @@
 -- Sets as numbers: each right and each kind has a binary digit, the first the highest.
 use Rattle.std.specs.Prelude.{ℕ, Bool, not, ◌&&◌, List, [], ◌∷◌, codes}
-use Rattle.set_digits.specs.Digits.{then_digit}
+use Rattle.base.specs.Digits.{then_digit}
 use Rattle.base.specs.declared.sets.Rights.{Rights}
 use Rattle.base.specs.declared.sets.TypeSet.{TypeSet}
 

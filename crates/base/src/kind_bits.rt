@@ -1,6 +1,6 @@
 //! A set of kinds as a set of named bits, one to each kind, so that no other bit is in one.
 ghost use Rattle.std.specs.Prelude.{◌≡◌, ◌&&◌, ◌||◌, ⊤};
-ghost use Rattle.set_digits.specs.Digits.{one_of};
+ghost use Rattle.base.specs.Digits.{one_of};
 ghost use Rattle.base.specs.SetBits.{other_types, types_bits, types_by, types_table, without};
 ghost use Rattle.base.specs.SetBitLaws.{types_and, types_eq, types_not, types_or, types_xor};
 

@@ -16,6 +16,7 @@ mod meters;
 mod ranges;
 mod refusals;
 mod right_bits;
+pub mod set_digits;
 mod sets;
 
 pub use bytes::Data;

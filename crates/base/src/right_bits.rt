@@ -1,6 +1,6 @@
 //! A set of rights as a set of named bits, one to each right, so that no other bit is in one.
 ghost use Rattle.std.specs.Prelude.{◌≡◌, ◌&&◌, ◌||◌, ⊤};
-ghost use Rattle.set_digits.specs.Digits.{one_of};
+ghost use Rattle.base.specs.Digits.{one_of};
 ghost use Rattle.base.specs.SetBits.{other_rights, rights_bits, rights_by, rights_table, without};
 ghost use Rattle.base.specs.SetBitLaws.{rights_and, rights_eq, rights_not, rights_or, rights_xor};
 

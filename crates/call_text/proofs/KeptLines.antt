@@ -3,10 +3,10 @@ use Rattle.std.proofs.Common.{◌≡◌, ◌≤◌, List, [], ◌∷◌, ◌++�
 use Rattle.std.proofs.Math.Seq.{take-append-le, drop-append-le, drop-append_seam, take-length}
 use Rattle.std.proofs.lemmas.List.{length-drop}
 use Rattle.std.specs.List.{AllByRecursion}
-use Rattle.spoken_calls.specs.declared.args.Arg.{Arg}
-use Rattle.spoken_calls.specs.Verb.{kinds_of}
-use Rattle.spoken_calls.specs.Spoken.{AreArgs, call_with}
-use Rattle.spoken_calls.proofs.SpokenLemmas.{same_length}
+use Rattle.text_words.specs.declared.spoken_calls.args.Arg.{Arg}
+use Rattle.text_words.specs.Verb.{kinds_of}
+use Rattle.text_words.specs.Spoken.{AreArgs, call_with}
+use Rattle.text_words.proofs.SpokenLemmas.{same_length}
 use Rattle.call_text.specs.declared.phases.KeptLine.{KeptLine}
 use Rattle.call_text.specs.declared.phases.Line.{Line}
 use Rattle.call_text.specs.Phase.{args_in, line_in, IsKept}

@@ -7,3 +7,8 @@ pub mod KeptLines
 pub mod ReadSoFar
 pub mod Unbound
 pub mod OpenBatches
+mod LineLaws
+mod ExactLaws
+pub mod NameLineLaws
+pub mod NameLines
+pub mod NameProgress

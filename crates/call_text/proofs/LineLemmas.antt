@@ -8,8 +8,8 @@ use Rattle.text_words.proofs.Split.{both_true}
 use Rattle.text_words.proofs.LackLemmas.{lacks-append, name_lacks}
 use Rattle.text_words.proofs.OneLemmas.{first_part}
 use Rattle.text_words.proofs.Outside.{name_outside, space_outside, end_outside}
-use Rattle.spoken_calls.specs.Spoken.{Spoken, spoken_text}
-use Rattle.spoken_calls.proofs.SpokenLemmas.{spoken_is_one, spoken_lacks_end}
+use Rattle.text_words.specs.Spoken.{Spoken, spoken_text}
+use Rattle.text_words.proofs.SpokenLemmas.{spoken_is_one, spoken_lacks_end}
 use Rattle.text_words.proofs.PartLemmas.{not_in}
 use Rattle.call_text.proofs.TextLemmas.{IsGrammar}
 use Rattle.call_text.specs.Line.{Written, Break, Said, Saying, mark, said_text, IsSaid, bound_text, IsBound, written_text, IsWritten, FitsWritten}

@@ -4,8 +4,8 @@ use Rattle.std.proofs.lemmas.Bool.{eqb-true}
 use Rattle.text_words.specs.Lacks.{lacks}
 use Rattle.text_words.proofs.OneLemmas.{first_part}
 use Rattle.text_words.proofs.PartLemmas.{not_in}
-use Rattle.spoken_calls.specs.declared.args.Arg.{Arg}
-use Rattle.spoken_calls.specs.Spoken.{Spoken, call_with}
+use Rattle.text_words.specs.declared.spoken_calls.args.Arg.{Arg}
+use Rattle.text_words.specs.Spoken.{Spoken, call_with}
 use Rattle.call_text.specs.declared.lines.Outline.{Outline}
 use Rattle.call_text.specs.declared.lines.Outline.TheVariants as outlines
 use Rattle.call_text.specs.Reading.{GoesPast}

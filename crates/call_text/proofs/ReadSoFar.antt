@@ -2,8 +2,8 @@
 use Rattle.std.proofs.Common.{◌≡◌, ℕ, ◌+◌, Bool, true, List, [], ◌∷◌, ◌++◌, length, map, Option, Some, None, ap, ◌∙◌}
 use Rattle.std.specs.List.{AllByRecursion}
 use Rattle.std.proofs.lemmas.List.{map_push}
-use Rattle.spoken_calls.specs.declared.args.Arg.{Arg}
-use Rattle.spoken_calls.specs.Spoken.{Spoken, IsSpoken, call_with}
+use Rattle.text_words.specs.declared.spoken_calls.args.Arg.{Arg}
+use Rattle.text_words.specs.Spoken.{Spoken, IsSpoken, call_with}
 use Rattle.call_text.specs.declared.lines.Outline.{Outline}
 use Rattle.call_text.specs.declared.lines.Outline.TheVariants as outlines
 use Rattle.call_text.specs.declared.phases.KeptLine.{KeptLine}

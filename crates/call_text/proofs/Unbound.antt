@@ -4,14 +4,14 @@ use Rattle.std.specs.Prelude.{slice_get, OnSome}
 use Rattle.kernel_rules.specs.declared.calls.Call.{Call}
 use Rattle.kernel_rules.specs.declared.calls.Query.{Query}
 use Rattle.text_words.specs.declared.spoken_labels.SpokenPair.{SpokenPair}
-use Rattle.spoken_calls.specs.declared.args.Arg.{Arg}
-use Rattle.spoken_calls.specs.declared.args.Arg.TheVariants as args
-use Rattle.spoken_calls.specs.declared.args.ArgKind.{ArgKind}
-use Rattle.spoken_calls.specs.declared.args.ArgKind.TheVariants as kinds
-use Rattle.spoken_calls.specs.Arg.{kind_of}
-use Rattle.spoken_calls.specs.Spoken.{Spoken, AreArgs, IsSpoken}
+use Rattle.text_words.specs.declared.spoken_calls.args.Arg.{Arg}
+use Rattle.text_words.specs.declared.spoken_calls.args.Arg.TheVariants as args
+use Rattle.text_words.specs.declared.spoken_calls.args.ArgKind.{ArgKind}
+use Rattle.text_words.specs.declared.spoken_calls.args.ArgKind.TheVariants as kinds
+use Rattle.text_words.specs.Arg.{kind_of}
+use Rattle.text_words.specs.Spoken.{Spoken, AreArgs, IsSpoken}
 use Rattle.call_text.specs.declared.known_names.Named.{Named}
-use Rattle.spoken_calls.specs.declared.verbs.Verb.{Verb}
+use Rattle.text_words.specs.declared.spoken_calls.verbs.Verb.{Verb}
 use Rattle.call_text.specs.declared.asking.Asked.{Asked}
 use Rattle.call_text.specs.Asked.{asked_of, asked_by}
 use Rattle.call_text.specs.Resolve.{or_else, or_unbound, resolved, written, unbound_object, unbound_category, unbound_pair, unbound_in, first_unbound}

@@ -4,9 +4,9 @@ use Rattle.kernel_rules.specs.declared.calls.Call.{Call}
 use Rattle.kernel_rules.specs.declared.calls.Call.TheVariants as calls
 use Rattle.kernel_rules.specs.declared.calls.Query.{Query}
 use Rattle.kernel_rules.specs.declared.calls.Query.TheVariants as queries
-use Rattle.spoken_calls.specs.declared.args.Arg.{Arg}
-use Rattle.spoken_calls.specs.declared.verbs.Verb.{Verb}
-use Rattle.spoken_calls.specs.declared.verbs.Verb.TheVariants as verbs
+use Rattle.text_words.specs.declared.spoken_calls.args.Arg.{Arg}
+use Rattle.text_words.specs.declared.spoken_calls.verbs.Verb.{Verb}
+use Rattle.text_words.specs.declared.spoken_calls.verbs.Verb.TheVariants as verbs
 use Rattle.call_text.specs.declared.asking.Asked.{Asked}
 use Rattle.call_text.specs.declared.asking.Asked.TheVariants.{Write, Read}
 use Rattle.call_text.specs.declared.known_names.Named.{Named}

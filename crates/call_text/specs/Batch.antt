@@ -3,9 +3,9 @@ use Rattle.std.specs.Prelude.{◌≡◌, ℕ, ◌+◌, ◌==◌, ◌&&◌, ◌�
 use Rattle.std.specs.Prelude.{length, filter, codes, Option, Some, None}
 use Rattle.std.specs.Str.{bytes_eq}
 use Rattle.text_words.specs.Lacks.{lacks}
-use Rattle.spoken_calls.specs.declared.verbs.Verb.{Verb}
-use Rattle.spoken_calls.specs.Verb.{writes}
-use Rattle.spoken_calls.specs.Spoken.{Spoken}
+use Rattle.text_words.specs.declared.spoken_calls.verbs.Verb.{Verb}
+use Rattle.text_words.specs.Verb.{writes}
+use Rattle.text_words.specs.Spoken.{Spoken}
 use Rattle.call_text.specs.declared.batches.Open.{Open}
 use Rattle.call_text.specs.Line.{Written, Break, Said, written_text, FitsWritten}
 

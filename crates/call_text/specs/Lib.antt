@@ -13,3 +13,9 @@ pub mod Place
 pub mod Asked
 pub mod Resolve
 pub mod Unbound
+pub mod Lines
+pub mod Numbers
+pub mod Scripts
+pub mod NameLines
+pub mod RunNames
+pub mod NameReading

@@ -2,10 +2,10 @@
 use Rattle.std.specs.Prelude.{◌≡◌, ◌≤◌, ℕ, List, [], ◌∷◌, ◌++◌, length, codes, Option, Some, None, Bool}
 use Rattle.std.specs.Prelude.{true, false, not, ◌||◌}
 use Rattle.text_words.specs.Name.{IsName, name_text}
-use Rattle.spoken_calls.specs.declared.args.Arg.{Arg}
-use Rattle.spoken_calls.specs.declared.verbs.Verb.{Verb}
-use Rattle.spoken_calls.specs.Verb.{makes, writes}
-use Rattle.spoken_calls.specs.Spoken.{Spoken, IsSpoken, spoken_text, call_with}
+use Rattle.text_words.specs.declared.spoken_calls.args.Arg.{Arg}
+use Rattle.text_words.specs.declared.spoken_calls.verbs.Verb.{Verb}
+use Rattle.text_words.specs.Verb.{makes, writes}
+use Rattle.text_words.specs.Spoken.{Spoken, IsSpoken, spoken_text, call_with}
 use Rattle.call_text.specs.declared.lines.Outline.{Outline}
 use Rattle.call_text.specs.declared.lines.Outline.TheVariants as outlines
 

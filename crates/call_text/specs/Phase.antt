@@ -1,8 +1,8 @@
 -- The lines of a phase, whose calls' arguments stand in one list.
 use Rattle.std.specs.Prelude.{◌≤◌, ◌+◌, List, length, take, drop}
-use Rattle.spoken_calls.specs.declared.args.Arg.{Arg}
-use Rattle.spoken_calls.specs.Verb.{kinds_of}
-use Rattle.spoken_calls.specs.Spoken.{AreArgs, call_with}
+use Rattle.text_words.specs.declared.spoken_calls.args.Arg.{Arg}
+use Rattle.text_words.specs.Verb.{kinds_of}
+use Rattle.text_words.specs.Spoken.{AreArgs, call_with}
 use Rattle.call_text.specs.declared.phases.KeptLine.{KeptLine}
 use Rattle.call_text.specs.declared.phases.Line.{Line}
 

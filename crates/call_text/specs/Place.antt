@@ -14,8 +14,8 @@ use Rattle.text_words.specs.declared.references.Reference.{Reference}
 use Rattle.text_words.specs.declared.references.Reference.TheVariants.{Number, Name}
 use Rattle.text_words.specs.declared.spoken_labels.SpokenPair.{SpokenPair}
 use Rattle.text_words.specs.Label.{LabelValue}
-use Rattle.spoken_calls.specs.declared.args.Arg.{Arg}
-use Rattle.spoken_calls.specs.declared.args.Arg.TheVariants as args
+use Rattle.text_words.specs.declared.spoken_calls.args.Arg.{Arg}
+use Rattle.text_words.specs.declared.spoken_calls.args.Arg.TheVariants as args
 use Rattle.call_text.specs.declared.known_names.Named.{Named}
 use Rattle.call_text.specs.declared.known_names.Value.{Value}
 use Rattle.call_text.specs.declared.known_names.Value.TheVariants.{Object, Category}

@@ -1,6 +1,6 @@
 -- What is read of a script.
 use Rattle.std.specs.Prelude.{◌≡◌, ℕ, List, [], ◌∷◌, ◌++◌, Some, None, map, Result, Ok, Err, Bool, true, false}
-use Rattle.spoken_calls.specs.declared.args.Arg.{Arg}
+use Rattle.text_words.specs.declared.spoken_calls.args.Arg.{Arg}
 use Rattle.call_text.specs.declared.lines.Outline.{Outline}
 use Rattle.call_text.specs.declared.lines.Outline.TheVariants as outlines
 use Rattle.call_text.specs.declared.phases.KeptLine.{KeptLine}

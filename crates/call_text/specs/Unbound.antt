@@ -1,12 +1,12 @@
 -- The first unbound name of the places that were read so far.
 use Rattle.std.specs.Prelude.{ℕ, suc, ◌+◌, List, [], ◌∷◌, slice_get, Option, Some, None}
 use Rattle.text_words.specs.declared.spoken_labels.SpokenPair.{SpokenPair}
-use Rattle.spoken_calls.specs.declared.args.Arg.{Arg}
-use Rattle.spoken_calls.specs.declared.args.Arg.TheVariants as args
-use Rattle.spoken_calls.specs.declared.args.ArgKind.{ArgKind}
-use Rattle.spoken_calls.specs.declared.args.ArgKind.TheVariants as kinds
-use Rattle.spoken_calls.specs.declared.verbs.Verb.{Verb}
-use Rattle.spoken_calls.specs.Verb.{kinds_of}
+use Rattle.text_words.specs.declared.spoken_calls.args.Arg.{Arg}
+use Rattle.text_words.specs.declared.spoken_calls.args.Arg.TheVariants as args
+use Rattle.text_words.specs.declared.spoken_calls.args.ArgKind.{ArgKind}
+use Rattle.text_words.specs.declared.spoken_calls.args.ArgKind.TheVariants as kinds
+use Rattle.text_words.specs.declared.spoken_calls.verbs.Verb.{Verb}
+use Rattle.text_words.specs.Verb.{kinds_of}
 use Rattle.call_text.specs.declared.known_names.Named.{Named}
 use Rattle.call_text.specs.Resolve.{or_else, unbound_object, unbound_category}
 

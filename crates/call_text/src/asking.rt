@@ -10,8 +10,8 @@ mod reads;
 use crate::known_names::Known;
 use crate::places::make_entry;
 use kernel_rules::{Call, Query};
-use spoken_calls::{Arg, Verb};
 use text_words::Name;
+use text_words::spoken_calls::{Arg, Verb};
 
 /// What a call asks of a machine.
 #[derive(Clone, Copy)]

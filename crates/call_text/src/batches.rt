@@ -1,15 +1,15 @@
 //! Batches of a phase that are open: whose worker has lines to come in them.
 ghost use Rattle.std.specs.Prelude.{◌≡◌, ◌+◌, ◌<◌, ◌≤◌, List, not, filter, length, IfOk, OnOk};
 ghost use Rattle.std.specs.Str.{bytes_eq};
-ghost use Rattle.spoken_calls.specs.declared.args.Arg.{Arg as ArgValue};
+ghost use Rattle.text_words.specs.declared.spoken_calls.args.Arg.{Arg as ArgValue};
 ghost use Rattle.call_text.specs.Batch.{lines_open, others, with_line, LeavesOpen};
 ghost use Rattle.call_text.specs.Line.{written_with};
 ghost use Rattle.call_text.specs.Reading.{Joins, GoesPast, TellsFault};
 
 use crate::errors::ScriptError;
 use crate::lines::{Outline, read_line};
-use spoken_calls::Verb;
 use std::alloc::{AllocError, Global};
+use text_words::spoken_calls::Verb;
 use text_words::{Name, is_same, parted};
 
 /// A batch whose last line so far says that it goes on.

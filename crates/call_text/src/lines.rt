@@ -1,12 +1,12 @@
 //! A line of a script.
 ghost use Rattle.std.specs.Prelude.{◌≡◌, ◌++◌, ◌∷◌, [], ℕ, List, Bool, IfOk, IfSome, IfNone};
-ghost use Rattle.spoken_calls.specs.Spoken.{ReadsInto};
+ghost use Rattle.text_words.specs.Spoken.{ReadsInto};
 ghost use Rattle.call_text.specs.Line.{said_with, said_text, IsSaid, bound_with, bound_text, IsBound};
 ghost use Rattle.call_text.specs.Line.{mark, may_go_on};
 ghost use Rattle.call_text.specs.Line.{written_with, written_text, FitsWritten};
 
-use spoken_calls::{Arg, Verb, read_spoken};
 use std::alloc::{AllocError, Global};
+use text_words::spoken_calls::{Arg, Verb, read_spoken};
 use text_words::{Name, is_same, parted, read_name};
 
 /// The most bytes that stand before a line's end.

@@ -7,9 +7,9 @@ ghost use Rattle.std.specs.Option.{option_map};
 ghost use Rattle.std.specs.List.{AllByRecursion};
 ghost use Rattle.call_text.specs.Phase.{line_in, IsKept};
 
-use spoken_calls::{Arg, SpokenCall, Verb};
 use std::marker::Model;
 use text_words::Name;
+use text_words::spoken_calls::{Arg, SpokenCall, Verb};
 
 /// A worker's call.
 #[derive(Drop)]

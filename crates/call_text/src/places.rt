@@ -13,7 +13,7 @@ use crate::known_names::{Known, Value};
 use base::{Category, Data, Level, ObjectId, Rights, TypeSet};
 use kernel_rules::{Entry, Mapping};
 use label_lattice::{Pair, Pairs, RawLabel};
-use spoken_calls::Arg;
+use text_words::spoken_calls::Arg;
 use text_words::{Name, Reference, SpokenLabel};
 
 /// Notes a name that is unbound, unless one was noted before.

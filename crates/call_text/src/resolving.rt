@@ -6,8 +6,8 @@ ghost use Rattle.call_text.specs.Resolve.{resolved, resolved_by, written};
 use crate::asking::{Asked, ask};
 use crate::known_names::Known;
 use kernel_rules::{Call, Query};
-use spoken_calls::SpokenCall;
 use text_words::Name;
+use text_words::spoken_calls::SpokenCall;
 
 /// What the spoken call asks, where each of its names is known as what stands there, or the first name, in the order of
 /// the words, that is not known or known as the other kind. A number stands for itself. A query is the answer, and a call is

@@ -7,9 +7,9 @@ ghost use Rattle.call_text.specs.Script.{said_of, script_text};
 
 use crate::phases::{Line, Phase, Script};
 use base::NoMemory;
-use spoken_calls::put_spoken;
 use std::alloc::{AllocError, Global};
 use text_words::put_name;
+use text_words::spoken_calls::put_spoken;
 
 /// Adds what stands after a worker: a plus where its batch goes on.
 fn put_mark(out: &mut Vec<u8>, more: bool) -> Result<(), AllocError>

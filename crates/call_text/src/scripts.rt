@@ -1,7 +1,7 @@
 //! Reading scripts.
 ghost use Rattle.std.specs.Prelude.{◌≡◌, ◌/◌, ◌++◌, ◌∷◌, [], map, min, ℕ, List, IfOk, OnOk};
 ghost use Rattle.std.specs.List.{AllByRecursion};
-ghost use Rattle.spoken_calls.specs.declared.args.Arg.{Arg as ArgValue};
+ghost use Rattle.text_words.specs.declared.spoken_calls.args.Arg.{Arg as ArgValue};
 ghost use Rattle.call_text.specs.declared.phases.Line.{Line as LineValue};
 ghost use Rattle.call_text.specs.Script.{IsScript, ScriptFaultsAt, known_names, binds_of};
 ghost use Rattle.call_text.specs.Line.{written_with};
@@ -14,9 +14,9 @@ use crate::errors::ScriptError;
 use crate::lines::{Outline, read_line};
 use crate::phases::{KeptLine, Phase, Script};
 use indexmap::IndexSet;
-use spoken_calls::Arg;
 use std::alloc::{AllocError, Global};
 use std::mem;
+use text_words::spoken_calls::Arg;
 use text_words::{Name, parted};
 
 /// The most lines of a script.

@@ -1,3 +1,9 @@
 mod LineLaws
 mod LaterLaws
 mod PrintLaws
+mod FaultLemmas
+mod Samples
+mod Parts
+mod WarningLineLaws
+mod NameLaws
+mod PhaseLaws

@@ -4,14 +4,14 @@ use Rattle.std.specs.Io.KnownBytes.{Appends}
 use Rattle.call_text.specs.Line.{written_text, IsWritten}
 use Rattle.call_text.specs.Script.{IsScript, ScriptFaultsAt}
 use Rattle.call_text.specs.declared.phases.Line.{Line}
-use Rattle.line_faults.specs.Faults.{TellsFault}
-use Rattle.line_faults.specs.declared.expected.Fault.{Fault}
-use Rattle.script_checks.specs.Warnings.{warnings_of}
+use Rattle.check_text.specs.Faults.{TellsFault}
+use Rattle.check_text.specs.declared.line_faults.expected.Fault.{Fault}
+use Rattle.check_text.specs.Warnings.{warnings_of}
 use Rattle.check_text.specs.FaultTexts.{fault_text, reason_text}
 use Rattle.check_text.specs.Lines.{before_byte, after_byte}
 use Rattle.check_text.specs.Reasons.{IsReason, from_line, line_at, numbered}
-use Rattle.plain_scripts.specs.Numbers.{number_at}
-use Rattle.plain_scripts.specs.Scripts.{kept_numbers, plain_text}
+use Rattle.call_text.specs.Numbers.{number_at}
+use Rattle.call_text.specs.Scripts.{kept_numbers, plain_text}
 use Rattle.check_text.specs.WarningTexts.{warnings_text}
 use Rattle.check_text.specs.declared.checks.Checked.{Checked}
 use Rattle.check_text.specs.declared.checks.Checked.TheVariants as is

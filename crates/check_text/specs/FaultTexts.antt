@@ -1,10 +1,10 @@
 -- What is printed of a faulty line.
 use Rattle.std.specs.Prelude.{◌≤◌, ℕ, ◌==◌, ◌+◌, ◌-◌, List, [], ◌∷◌, ◌++◌, length, take, drop, map, codes, decimal, true, false, ◌||◌, nat_lt, if◌then◌else◌}
-use Rattle.spoken_calls.specs.declared.args.ArgKind.{ArgKind}
-use Rattle.spoken_calls.specs.declared.args.ArgKind.TheVariants as kinds
-use Rattle.line_faults.specs.declared.expected.Expected.{Expected}
-use Rattle.line_faults.specs.declared.expected.Expected.TheVariants as expected
-use Rattle.line_faults.specs.declared.expected.Fault.{Fault}
+use Rattle.text_words.specs.declared.spoken_calls.args.ArgKind.{ArgKind}
+use Rattle.text_words.specs.declared.spoken_calls.args.ArgKind.TheVariants as kinds
+use Rattle.check_text.specs.declared.line_faults.expected.Expected.{Expected}
+use Rattle.check_text.specs.declared.line_faults.expected.Expected.TheVariants as expected
+use Rattle.check_text.specs.declared.line_faults.expected.Fault.{Fault}
 use Rattle.check_text.specs.Hints.{hint}
 use Rattle.check_text.specs.Lines.{before_byte}
 use Rattle.check_text.specs.Places.{place_text}

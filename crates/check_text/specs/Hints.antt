@@ -3,14 +3,14 @@ use Rattle.std.specs.Prelude.{ℕ, ◌==◌, ◌-◌, ◌&&◌, ◌||◌, not, n
 use Rattle.std.specs.Prelude.{List, [], ◌∷◌, ◌++◌, length, slice_get, codes, Option, Some, None}
 use Rattle.std.specs.List.{list_any}
 use Rattle.strsim.specs.Edits.{levenshtein_row}
-use Rattle.spoken_calls.specs.declared.args.ArgKind.{ArgKind}
-use Rattle.spoken_calls.specs.declared.args.ArgKind.TheVariants as kinds
-use Rattle.spoken_calls.specs.declared.verbs.Verb.{Verb}
-use Rattle.spoken_calls.specs.Verb.{name_of}
-use Rattle.line_faults.specs.Faults.{suits}
-use Rattle.line_faults.specs.Verbs.{all_verbs}
-use Rattle.line_faults.specs.declared.expected.Expected.{Expected}
-use Rattle.line_faults.specs.declared.expected.Expected.TheVariants as expected
+use Rattle.text_words.specs.declared.spoken_calls.args.ArgKind.{ArgKind}
+use Rattle.text_words.specs.declared.spoken_calls.args.ArgKind.TheVariants as kinds
+use Rattle.text_words.specs.declared.spoken_calls.verbs.Verb.{Verb}
+use Rattle.text_words.specs.Verb.{name_of}
+use Rattle.check_text.specs.Faults.{suits}
+use Rattle.check_text.specs.Verbs.{all_verbs}
+use Rattle.check_text.specs.declared.line_faults.expected.Expected.{Expected}
+use Rattle.check_text.specs.declared.line_faults.expected.Expected.TheVariants as expected
 use Rattle.check_text.specs.Lines.{before_byte}
 
 -- a capital letter stands in the word

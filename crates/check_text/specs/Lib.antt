@@ -5,3 +5,11 @@ pub mod Hints
 pub mod FaultTexts
 pub mod WarningTexts
 pub mod Checks
+pub mod Faults
+pub mod Verbs
+pub mod Mentions
+pub mod Outlines
+pub mod Binders
+pub mod Givers
+pub mod Surveys
+pub mod Warnings

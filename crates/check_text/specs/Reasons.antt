@@ -2,8 +2,8 @@
 use Rattle.std.specs.Prelude.{◌≡◌, ℕ, ◌-◌, List, length, Option, Some, None, Bool, not, nat_lt, nat_le, if◌then◌else◌, option_map}
 use Rattle.call_text.specs.Line.{Written, written_text, IsWritten}
 use Rattle.call_text.specs.Script.{is_bound, known_names}
-use Rattle.line_faults.specs.Faults.{StopsAt}
-use Rattle.plain_scripts.specs.Numbers.{number_at}
+use Rattle.check_text.specs.Faults.{StopsAt}
+use Rattle.call_text.specs.Numbers.{number_at}
 use Rattle.check_text.specs.Lines.{before_byte, after_lines, binding, binding_line}
 use Rattle.check_text.specs.declared.reasons.Reason.{Reason}
 use Rattle.check_text.specs.declared.reasons.Reason.TheVariants.{Malformed, NoEnd, TooLong, TooMany, Reserved, Rebinds, Batch}

@@ -2,9 +2,9 @@
 use Rattle.std.specs.Prelude.{ℕ, List, [], ◌∷◌, ◌++◌, Bool, true, false, codes}
 use Rattle.std.specs.List.{flat_map}
 use Rattle.check_text.specs.Places.{place_text}
-use Rattle.script_checks.specs.declared.warnings.Warned.{Warned}
-use Rattle.script_checks.specs.declared.warnings.Warning.{Warning}
-use Rattle.script_checks.specs.declared.warnings.Warning.TheVariants.{Unused, NoWorker, Unbound}
+use Rattle.check_text.specs.declared.script_checks.warnings.Warned.{Warned}
+use Rattle.check_text.specs.declared.script_checks.warnings.Warning.{Warning}
+use Rattle.check_text.specs.declared.script_checks.warnings.Warning.TheVariants.{Unused, NoWorker, Unbound}
 
 -- as what a name is not bound
 abbrev pub kind_text : Bool → List ℕ

@@ -1,20 +1,20 @@
 //! What is told of a script.
 ghost use Rattle.std.specs.Prelude.{◌≡◌, ◌-◌, [], IfOk, OnOk};
-ghost use Rattle.plain_scripts.specs.Numbers.{number_at};
-ghost use Rattle.script_checks.specs.Warnings as spec;
+ghost use Rattle.call_text.specs.Numbers.{number_at};
+ghost use Rattle.check_text.specs.Warnings as spec;
 ghost use Rattle.check_text.specs.WarningTexts.{warnings_text};
 ghost use Rattle.check_text.specs.Checks.{IsChecked, IsTold, AddsFaults, AddsLater, AddsLaterLine, AddsWhy};
 
 use crate::fault_texts::{put_fault, put_reason};
+use crate::line_faults::fault_in;
 use crate::lines::{after_lines, cut};
 use crate::places::Source;
 use crate::reasons::{MOST_LINES, Reason, find_reason};
+use crate::script_checks::warnings_of;
 use crate::warning_texts::put_warnings;
 use base::NoMemory;
+use call_text::plain_scripts::{Plain, number_at, plain_of};
 use call_text::{Script, ScriptError, read_script};
-use line_faults::fault_in;
-use plain_scripts::{Plain, number_at, plain_of};
-use script_checks::warnings_of;
 use std::alloc::Global;
 
 /// Adds where a line after the first faulty one is not well formed, if it isn't.

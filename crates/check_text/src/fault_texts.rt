@@ -5,14 +5,14 @@ ghost use Rattle.check_text.specs.FaultTexts.{beginning, IsWithin, malformed_tex
 ghost use Rattle.check_text.specs.FaultTexts.{standing_words};
 
 use crate::hints::put_hint;
+use crate::line_faults::{Expected, Fault};
 use crate::lines::cut;
 use crate::places::{Source, put_place};
 use crate::reasons::Reason;
 use base::NoMemory;
-use line_faults::{Expected, Fault};
-use spoken_calls::ArgKind;
 use std::alloc::Global;
 use text_words::put_number;
+use text_words::spoken_calls::ArgKind;
 
 /// What an argument of a kind is.
 fn kind_text(kind: ArgKind) -> &'static str

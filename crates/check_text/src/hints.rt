@@ -3,14 +3,14 @@ ghost use Rattle.std.specs.Prelude.{◌≡◌, ◌++◌, false, Some, IfOk, OnOk
 ghost use Rattle.check_text.specs.Hints.{argument_hint, colon_last, data_hint, edits, end_hint, end_of_windows, ends_with, first_hint};
 ghost use Rattle.check_text.specs.Hints.{first_within, fixed_hint};
 ghost use Rattle.check_text.specs.Hints.{has, has_capital, has_high, hint, is_high, label_hint, meant, name_hint, nearest};
-ghost use Rattle.line_faults.specs.Verbs as spec;
+ghost use Rattle.check_text.specs.Verbs as spec;
 
+use crate::line_faults::{Expected, all_verbs, suits};
 use crate::lines::cut;
 use base::NoMemory;
-use line_faults::{Expected, all_verbs, suits};
-use spoken_calls::{ArgKind, Verb};
 use std::alloc::{AllocError, Global};
 use strsim::generic_levenshtein;
+use text_words::spoken_calls::{ArgKind, Verb};
 
 /// Whether a capital letter stands in a word.
 fn has_capital(word: &[u8]) -> bool

@@ -7,10 +7,12 @@
 mod checks;
 mod fault_texts;
 mod hints;
+pub mod line_faults;
 mod lines;
 mod places;
 mod program;
 mod reasons;
+pub mod script_checks;
 mod warning_texts;
 
 pub use checks::{Checked, Exact, Faults, check, put_why, read_or_tell};

@@ -3,7 +3,7 @@ ghost use Rattle.std.specs.Prelude.{◌≡◌, ◌++◌, OnOk};
 ghost use Rattle.check_text.specs.Places.{place_text};
 
 use base::NoMemory;
-use plain_scripts::number_at;
+use call_text::plain_scripts::number_at;
 use text_words::put_number;
 
 /// Where a script stands, and which of its lines were written where.

@@ -4,7 +4,7 @@ ghost use Rattle.check_text.specs.Checks.{status_of, IsExact, Prints, PrintsPlai
 
 use crate::checks::{Checked, Exact, check, read_or_tell};
 use base::NoMemory;
-use plain_scripts::Plain;
+use call_text::plain_scripts::Plain;
 use program_io::{Fault, Sink, bytes_of, deliver};
 use std::alloc::Global;
 use std::io::{Read, Write};

@@ -4,9 +4,9 @@ ghost use Rattle.call_text.specs.Script.{is_bound, known_names};
 ghost use Rattle.check_text.specs.Lines.{binding};
 ghost use Rattle.check_text.specs.Reasons.{name_reason, numbered, reason_of, IsReason};
 
+use crate::line_faults::{Fault, fault_in};
 use crate::lines::{after_lines, binding, binding_line, cut};
-use line_faults::{Fault, fault_in};
-use plain_scripts::number_at;
+use call_text::plain_scripts::number_at;
 use std::alloc::{AllocError, Global};
 use text_words::is_same;
 

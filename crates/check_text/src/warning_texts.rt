@@ -3,8 +3,8 @@ ghost use Rattle.std.specs.Prelude.{◌≡◌, ◌++◌, OnOk};
 ghost use Rattle.check_text.specs.WarningTexts.{kind_text, name_in, said_text, warning_text, warned_text, warnings_text};
 
 use crate::places::{Source, put_place};
+use crate::script_checks::{Warned, Warning};
 use base::NoMemory;
-use script_checks::{Warned, Warning};
 use text_words::{Name, put_name};
 
 /// As what a name is not bound.

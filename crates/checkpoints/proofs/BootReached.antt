@@ -13,7 +13,7 @@ use Rattle.kernel_rules.specs.State.{State, object_at, of_object, listed}
 use Rattle.kernel_rules.proofs.BootLaws.{booted_well_formed}
 use Rattle.kernel_rules.proofs.LookupLaws.{all_at}
 use Rattle.kernel_laws.proofs.Apart.{boot_sound}
-use Rattle.translation_laws.proofs.Boot.{booted_lem}
+use Rattle.kernel_laws.proofs.Boot.{booted_lem}
 use Rattle.checkpoints.specs.Reached.{IsSound}
 use Rattle.checkpoints.specs.Restorable.{may_hold, avoid_of, lists_rightly, each}
 use Rattle.checkpoints.proofs.HoldLaws.{HoldRightly}

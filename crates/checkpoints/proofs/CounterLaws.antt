@@ -5,7 +5,7 @@ use Rattle.std.proofs.lemmas.Bool.{leb-false, le-leb, leb-true, and_from, and_pa
 use Rattle.base.specs.Limits.{spent}
 use Rattle.base.specs.declared.ranges.Limits.{Limits}
 use Rattle.label_lattice.specs.Label.{LabelValue}
-use Rattle.label_rules.specs.LabelRules.{stored}
+use Rattle.label_lattice.specs.LabelRules.{stored}
 use Rattle.kernel_rules.specs.Changes.{listing}
 use Rattle.kernel_rules.specs.Conditions.{own_label, own_clearance}
 use Rattle.kernel_rules.specs.Table.{halted, refused, row}

@@ -14,7 +14,7 @@ use Rattle.base.specs.declared.sets.TypeSet.{TypeSet}
 use Rattle.base.specs.declared.kinds.Kind as kind
 use Rattle.base.specs.declared.kinds.Kind.TheVariants as kinds
 use Rattle.label_lattice.specs.Label.{LabelValue}
-use Rattle.label_rules.specs.LabelRules.{stored}
+use Rattle.label_lattice.specs.LabelRules.{stored}
 use Rattle.kernel_rules.specs.Changes.{changed, made, listing, fresh_object, joined, joined_at, owning}
 use Rattle.kernel_rules.specs.Conditions.{avoids_kind_of}
 use Rattle.kernel_rules.specs.Table.{halted, refused, row}

@@ -1,7 +1,7 @@
 -- No call changes the limits.
 use Rattle.std.proofs.Common.{◌≡◌, ℕ, true, false, Option, Some, None, List, [], ◌∷◌, refl, ◌∙◌, ap}
 use Rattle.label_lattice.specs.Label.{LabelValue}
-use Rattle.label_rules.specs.LabelRules.{stored}
+use Rattle.label_lattice.specs.LabelRules.{stored}
 use Rattle.kernel_rules.specs.Changes.{put, changed, listing, owning}
 use Rattle.kernel_rules.specs.Conditions.{own_label, own_clearance}
 use Rattle.kernel_rules.specs.Table.{refused}

@@ -13,7 +13,7 @@ use Rattle.label_lattice.specs.declared.pairings.Pair.{Pair}
 use Rattle.label_lattice.specs.declared.raw_labels.RawLabel.{RawLabel}
 use Rattle.label_lattice.proofs.MadeLemmas.{made_stored, made_placed, made_later}
 use Rattle.label_lattice.proofs.RawLemmas.{star_kept}
-use Rattle.label_rules.specs.LabelRules.{stored, with_category}
+use Rattle.label_lattice.specs.LabelRules.{stored, with_category}
 use Rattle.kernel_rules.specs.Changes.{rebyte, relist, requeue, rethread, reslot}
 use Rattle.kernel_rules.specs.Scratch.{labels_of, labels_of_body}
 use Rattle.kernel_rules.specs.State.{kind_of, kind_number, is_kind}

@@ -12,7 +12,7 @@ use Rattle.base.specs.declared.levels.Level.TheVariants.{Star, L3}
 use Rattle.label_lattice.specs.Label.{LabelValue, has_star}
 use Rattle.label_lattice.specs.Raw.{all_made, is_bad_below, raw_has_star}
 use Rattle.label_lattice.specs.declared.raw_labels.RawLabel.{RawLabel}
-use Rattle.label_rules.specs.LabelRules.{stored, with_category}
+use Rattle.label_lattice.specs.LabelRules.{stored, with_category}
 use Rattle.kernel_rules.specs.Scratch.{labels_of_body}
 use Rattle.kernel_rules.specs.Sizes.{last_slot, page_limit, most_pages}
 use Rattle.base.specs.Sets.{may_read, may_write}
@@ -39,7 +39,7 @@ use Rattle.kernel_rules.specs.declared.objects.Thread as thread
 use Rattle.kernel_rules.specs.declared.places.Place.{Place}
 use Rattle.kernel_rules.proofs.RowLaws.{none_hold}
 use Rattle.kernel_rules.proofs.WellFormedLaws.{soundness_of}
-use Rattle.translation_laws.proofs.Names.{accessible_kind}
+use Rattle.kernel_laws.proofs.Names.{accessible_kind}
 use Rattle.checkpoints.specs.Restorable.{is_in_bounds, is_whole_entry, spaces_in}
 use Rattle.checkpoints.proofs.Everywhere.{Everywhere, everywhere_changed, everywhere_made, everywhere_weaker, found}
 use Rattle.checkpoints.proofs.LocalLaws.{Local, Alike, alike_self, alike_list, alike_bytes, alike_queue, local_body}

@@ -13,7 +13,7 @@ use Rattle.kernel_rules.specs.declared.objects.Body as body
 use Rattle.kernel_rules.specs.declared.objects.Body.TheVariants as is
 use Rattle.kernel_rules.specs.declared.objects.Mapping.{Mapping}
 use Rattle.kernel_rules.proofs.LookupLaws.{all_at}
-use Rattle.translation_laws.specs.Names.{NamesKind, IsNamedRightly, space_in}
+use Rattle.kernel_laws.specs.Names.{NamesKind, IsNamedRightly, space_in}
 use Rattle.checkpoints.specs.Restorable.{is_restorable, each, names_given, names_kinds, names_kind}
 use Rattle.checkpoints.specs.Restorable.{is_entry_given, mapped, spaces_in}
 use Rattle.checkpoints.specs.Restored.{restored}

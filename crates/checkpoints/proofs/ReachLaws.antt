@@ -9,8 +9,8 @@ use Rattle.kernel_rules.specs.WellFormed.{is_well_formed}
 use Rattle.kernel_rules.specs.declared.calls.Call.{Call}
 use Rattle.kernel_rules.proofs.StepLaws.{step_refused, step_done}
 use Rattle.kernel_laws.proofs.Apart.{Sound, next_sound}
-use Rattle.translation_laws.proofs.Names.{named_lem}
-use Rattle.translation_laws.specs.Names.{IsNamedRightly}
+use Rattle.kernel_laws.proofs.Names.{named_lem}
+use Rattle.kernel_laws.specs.Names.{IsNamedRightly}
 use Rattle.checkpoints.specs.Restorable.{has_root}
 use Rattle.checkpoints.proofs.CounterLaws.{Counters, edit_counters, category_after}
 use Rattle.checkpoints.proofs.Everywhere.{everywhere_filtered}

@@ -23,7 +23,7 @@ use Rattle.kernel_rules.specs.declared.objects.Object.{Object}
 use Rattle.kernel_rules.proofs.LookupLaws.{all_from}
 use Rattle.kernel_rules.proofs.WellFormedLaws.{soundness_of}
 use Rattle.kernel_laws.proofs.Apart.{Apart, Sound, apart_found}
-use Rattle.translation_laws.specs.Names.{NamesKind, NamesSpace, IsNamedRightly, space_in}
+use Rattle.kernel_laws.specs.Names.{NamesKind, NamesSpace, IsNamedRightly, space_in}
 use Rattle.checkpoints.specs.Reached.{IsSound}
 use Rattle.checkpoints.specs.Restorable.{each, names_given, lists_rightly, maps_rightly, names_kinds, names_kind}
 use Rattle.checkpoints.specs.Restorable.{is_made_below, is_starless, is_whole_entry, spaces_in}

@@ -1,5 +1,5 @@
 -- Sound states: what keeps them so, and that their checkpoints can be restored.
-use Rattle.std.proofs.Common.{◌≡◌, ◌↔◌, ℕ, ◌≤◌, Bool, true, ◌&&◌, nat_lt, List, [], ◌∷◌, refl}
+use Rattle.std.proofs.Common.{◌≡◌, ◌↔◌, ℕ, ◌≤◌, true, ◌&&◌, nat_lt, List, [], ◌∷◌, refl}
 use Rattle.std.specs.List.{list_all}
 use Rattle.std.proofs.lemmas.Bool.{and_from, and_parts}
 use Rattle.base.specs.declared.ranges.Limits.{Limits}
@@ -121,9 +121,6 @@ whole_of limits c p = record {
   ordered = p.ordered;
   threads = p.threads;
 }
-
-more : (b : Bool) (bs : List Bool) → b ≡ true → list_all (λ v. v) bs ≡ true → list_all (λ v. v) (b ∷ bs) ≡ true
-more b bs h g = and_from b (list_all (λ v. v) bs) h g
 
 restorable_from : (limits : Limits) (c : Checkpoint) → IsWhole limits c → is_restorable limits c ≡ true
 unfolding is_restorable

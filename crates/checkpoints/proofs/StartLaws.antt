@@ -2,9 +2,9 @@
 use Rattle.std.proofs.Common.{◌≡◌, ◌+◌, List, ◌∷◌, ◌++◌, sym, ◌∙◌, ap}
 use Rattle.base.specs.declared.ranges.Limits.{Limits}
 use Rattle.kernel_rules.specs.State.{State}
-use Rattle.histories.specs.Events.{Event, calls_in}
-use Rattle.histories.specs.History.{answered, boot_start, count, later, state_from, FollowsFrom, IsLegal, IsLegalFrom}
-use Rattle.histories.proofs.LaterLaws.{legal_later}
+use Rattle.kernel_rules.specs.Events.{Event, calls_in}
+use Rattle.kernel_rules.specs.History.{answered, boot_start, count, later, state_from, FollowsFrom, IsLegal, IsLegalFrom}
+use Rattle.kernel_rules.proofs.LaterLaws.{legal_later}
 use Rattle.checkpoints.specs.Starts.{start_of, IsCheckpointOf}
 use Rattle.checkpoints.specs.Checkpoint.{Checkpoint}
 

@@ -12,9 +12,9 @@ use Rattle.kernel_rules.specs.State.{State}
 use Rattle.kernel_rules.specs.Translate.{covers, slot_at}
 use Rattle.kernel_rules.specs.WellFormed.{is_well_formed, is_stored}
 use Rattle.kernel_rules.specs.declared.calls.Call.{Call}
-use Rattle.translation_laws.specs.Names.{IsNamedRightly}
-use Rattle.histories.specs.Events.{Event}
-use Rattle.histories.specs.History.{IsLegal, IsLegalFrom}
+use Rattle.kernel_laws.specs.Names.{IsNamedRightly}
+use Rattle.kernel_rules.specs.Events.{Event}
+use Rattle.kernel_rules.specs.History.{IsLegal, IsLegalFrom}
 use Rattle.checkpoints.specs.Restorable.{is_restorable, is_ordered}
 use Rattle.checkpoints.specs.Reached.{IsSound}
 use Rattle.checkpoints.specs.Restored.{restored, as_written}

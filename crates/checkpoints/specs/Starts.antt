@@ -2,8 +2,8 @@
 use Rattle.std.specs.Prelude.{◌≡◌, ℕ, true, ◌+◌, ◌==◌, nat_le, List, [], ◌∷◌, if◌then◌else◌}
 use Rattle.std.specs.List.{list_all}
 use Rattle.base.specs.declared.ranges.Limits.{Limits}
-use Rattle.histories.specs.Events.{Event}
-use Rattle.histories.specs.History.{Start, state_of, count}
+use Rattle.kernel_rules.specs.Events.{Event}
+use Rattle.kernel_rules.specs.History.{Start, state_of, count}
 use Rattle.checkpoints.specs.Restorable.{threads_rise}
 use Rattle.checkpoints.specs.Restored.{restored}
 use Rattle.checkpoints.specs.Checkpoint.{Checkpoint}

@@ -4,8 +4,8 @@ use Rattle.std.specs.Prelude.{slice_get, IfSome, IfNone}
 use Rattle.std.proofs.lemmas.Bool.{cases_eq}
 use Rattle.std.proofs.lemmas.Option.{IfSome_then}
 use Rattle.base.specs.declared.ids.Slot.{Slot}
-use Rattle.entry_lists.specs.Lists.{Lists, family_at, cells_at, StandsAt, IsLinked, IsWellFormed}
-use Rattle.object_arena.specs.Objects.{Objects, IsEntry, IsAbsent}
+use Rattle.containers.specs.Lists.{Lists, family_at, cells_at, StandsAt, IsLinked, IsWellFormed}
+use Rattle.containers.specs.Objects.{Objects, IsEntry, IsAbsent}
 use Rattle.base.specs.Live.{has, links}
 use Rattle.containers.specs.Tree.{Tree, HasSlot, ids_in, list_of}
 use Rattle.containers.specs.View.{head_in, ids_of, lists_of, IsKept}

@@ -4,7 +4,7 @@ use Rattle.std.specs.Prelude.{sum_by, All}
 use Rattle.std.proofs.lemmas.Bool.{cases_eq, cases_lt}
 use Rattle.std.proofs.lemmas.List.{get_or_past, get_or_default, length-map}
 use Rattle.std.proofs.lemmas.List.Sums.{sum_by-set, sum_by-cons}
-use Rattle.entry_lists.specs.Lists.{Lists, family_at, cells_at, StandsAt}
+use Rattle.containers.specs.Lists.{Lists, family_at, cells_at, StandsAt}
 use Rattle.containers.specs.Cells.{Stands}
 use Rattle.containers.specs.Tree.{link_count}
 use Rattle.containers.specs.View.{head_in, ids_of, lists_of, IsDrafted}

@@ -3,8 +3,8 @@ use Rattle.std.proofs.Common.{◌≡◌, ◌≢◌, ℕ, ◌<◌, inl, inr, List
 use Rattle.std.specs.Prelude.{All}
 use Rattle.std.proofs.lemmas.Bool.{cases_lt}
 use Rattle.std.proofs.lemmas.List.{get_or_append_left, get_or_push}
-use Rattle.object_arena.proofs.Kept.{Rises-push}
-use Rattle.entry_lists.specs.Lists.{Lists, family_at, cells_at}
+use Rattle.containers.proofs.Kept.{Rises-push}
+use Rattle.containers.specs.Lists.{Lists, family_at, cells_at}
 use Rattle.containers.specs.Cells.{IsAdded, IsRecorded, Lists'}
 use Rattle.containers.specs.Directory.{IsDirectory}
 use Rattle.containers.specs.Tree.{add_lists}

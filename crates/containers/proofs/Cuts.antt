@@ -3,7 +3,7 @@ use Rattle.std.proofs.Common.{◌≡◌, ℕ, ◌≤◌, inl, inr, List, [], len
 use Rattle.std.specs.Prelude.{slice_get, sum_by, IfSome}
 use Rattle.std.proofs.lemmas.Bool.{cases_lt}
 use Rattle.std.proofs.lemmas.Option.{slice_get-get_or, slice_get_past}
-use Rattle.entry_lists.specs.Lists.{Lists, family_at, cells_at, StandsAt}
+use Rattle.containers.specs.Lists.{Lists, family_at, cells_at, StandsAt}
 use Rattle.containers.specs.Cells.{Stands, IsLink, Lists', IsDropped, IsSound}
 use Rattle.containers.specs.Sweep.{IsSweeping, IsSwept, IsSimple, IsTree, IsCut}
 use Rattle.containers.proofs.Moves.{changed_at}

@@ -1,8 +1,8 @@
 -- What changes of the links leave the directory.
 use Rattle.std.proofs.Common.{◌≡◌, ℕ, ◌<◌, inl, inr, List, length, get_or, sym, ap, ◌∙◌, arith}
 use Rattle.std.proofs.lemmas.Bool.{cases_eq, cases_lt}
-use Rattle.object_arena.specs.Objects.{Rises}
-use Rattle.entry_lists.specs.Lists.{Lists}
+use Rattle.containers.specs.Objects.{Rises}
+use Rattle.containers.specs.Lists.{Lists}
 use Rattle.containers.specs.Cells.{IsRecorded}
 use Rattle.containers.specs.Directory.{IsDirectory, IsListing}
 use Rattle.containers.specs.View.{IsKept, IsDrafted}

@@ -2,7 +2,7 @@
 use Rattle.std.proofs.Common.{◌≡◌, ℕ, suc, ◌+◌, Bool, true, false, cond, not, ◌||◌, ◌&&◌, ◌==◌, List, [], ◌∷◌, ◌++◌, refl, sym, ◌∙◌, ap, arith, sum_by, inl, inr}
 use Rattle.std.proofs.lemmas.Bool.{cases_Bool, both_ways, eqb-true, eq-eqb}
 use Rattle.std.proofs.lemmas.List.Sums.{sum_by-cons}
-use Rattle.object_arena.specs.Objects.{Apart}
+use Rattle.containers.specs.Objects.{Apart}
 use Rattle.base.specs.Live.{has}
 use Rattle.containers.specs.Tree.{without}
 use Rattle.containers.proofs.Views.{at_has, or_right}

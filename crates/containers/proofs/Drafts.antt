@@ -3,8 +3,8 @@ use Rattle.std.proofs.Common.{◌≡◌, ◌≢◌, ℕ, suc, ◌<◌, ◌⊎◌
 use Rattle.std.specs.Prelude.{All}
 use Rattle.std.proofs.lemmas.Bool.{cases_eq, cases_lt}
 use Rattle.std.proofs.lemmas.List.{get_or_append_left, get_or_push}
-use Rattle.object_arena.proofs.Kept.{Rises-push}
-use Rattle.entry_lists.specs.Lists.{Lists, family_at, cells_at}
+use Rattle.containers.proofs.Kept.{Rises-push}
+use Rattle.containers.specs.Lists.{Lists, family_at, cells_at}
 use Rattle.base.specs.Live.{links}
 use Rattle.containers.specs.Cells.{Stands, IsRecorded}
 use Rattle.containers.specs.Directory.{IsListing}

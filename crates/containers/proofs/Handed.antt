@@ -2,7 +2,7 @@
 use Rattle.std.proofs.Common.{inl, inr, ◌≡◌, ℕ, List, [], ◌∷◌, ◌++◌, Some, None, refl, sym, ap, ap₂, ◌∙◌, subst, arith}
 use Rattle.std.specs.Prelude.{slice_get}
 use Rattle.std.proofs.lemmas.List.{append-nil, map-append}
-use Rattle.entry_lists.specs.Lists.{Lists, cells_at, StandsAt}
+use Rattle.containers.specs.Lists.{Lists, cells_at, StandsAt}
 use Rattle.containers.specs.Cells.{Stands}
 use Rattle.containers.specs.Visits.{Event, Step, Follows, IsTold, links_in, objects_in, place_of, named, named_one, object_ids}
 use Rattle.containers.specs.declared.visitor.Located.{Located}

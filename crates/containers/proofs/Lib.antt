@@ -22,3 +22,13 @@ pub mod Distinct
 pub mod Losses
 pub mod Lists
 pub mod Drafts
+pub mod Segments
+pub mod ListViews
+pub mod Changes
+pub mod Fresh
+pub mod Slices
+pub mod Lookups
+pub mod SearchSteps
+pub mod Kept
+pub mod GapSteps
+pub mod HintSteps

@@ -2,7 +2,7 @@
 use Rattle.std.proofs.Common.{◌≡◌, ◌≢◌, ℕ, suc, ◌+◌, ◌<◌, ◌⊎◌, inl, inr, Bool, cond, ◌==◌, List, [], ◌∷◌, ◌++◌, map, length, get_or, refl, sym, ap, ap₂, ◌∙◌, subst, arith, lit<}
 use Rattle.std.proofs.lemmas.Bool.{cases_eq, cases_Bool, eqb-true, eq-eqb, both_ways}
 use Rattle.std.proofs.lemmas.List.{map-append}
-use Rattle.entry_lists.specs.Lists.{Lists, family_at, cells_at, list_at, IsWellFormed}
+use Rattle.containers.specs.Lists.{Lists, family_at, cells_at, list_at, IsWellFormed}
 use Rattle.containers.specs.Cells.{Stands, IsAdded, IsPaired, IsSound, IsRecorded, IsLink, Lists'}
 use Rattle.containers.specs.Directory.{IsDirectory, IsListing}
 use Rattle.std.specs.Prelude.{sum_by}

@@ -2,7 +2,7 @@
 use Rattle.std.proofs.Common.{◌≡◌, ◌≢◌, ◌⊎◌, ℕ, zero, suc, ◌<◌, Bool, true, false, cond, ◌||◌, ◌&&◌, ◌==◌, List, [], ◌∷◌, ◌++◌, length, get_or, refl, sym, ◌∙◌, ap, arith, inl, inr}
 use Rattle.std.specs.List.{filter}
 use Rattle.std.proofs.lemmas.Bool.{cases_Bool, both_ways, eqb-true, eq-eqb, and_parts}
-use Rattle.object_arena.specs.Objects.{Rises}
+use Rattle.containers.specs.Objects.{Rises}
 use Rattle.base.specs.Live.{has, links}
 use Rattle.containers.specs.Tree.{ids_in, list_of, cut_lists, add_lists, without}
 use Rattle.containers.proofs.Views.{at_has}

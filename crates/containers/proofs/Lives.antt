@@ -2,8 +2,8 @@
 use Rattle.std.proofs.Common.{◌≡◌, ◌≢◌, ℕ, suc, ◌<◌, ◌≤◌, inl, inr, Bool, true, cond, ◌==◌, List, [], ◌∷◌, get_or, refl, sym, ap, ap₂, ◌∙◌, subst, arith}
 use Rattle.std.specs.List.{filter}
 use Rattle.std.proofs.lemmas.Bool.{or_cases, eqb-true, eq-eqb, cases_Bool, both_ways}
-use Rattle.object_arena.specs.Objects.{Rises}
-use Rattle.entry_lists.specs.Lists.{Lists}
+use Rattle.containers.specs.Objects.{Rises}
+use Rattle.containers.specs.Lists.{Lists}
 use Rattle.base.specs.Live.{has, is_live}
 use Rattle.containers.specs.Sweep.{IsCut}
 use Rattle.containers.specs.Directory.{IsDirectory}

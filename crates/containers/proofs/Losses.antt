@@ -4,7 +4,7 @@ use Rattle.std.specs.Prelude.{Contains}
 use Rattle.std.proofs.lemmas.Bool.{cases_Bool, both_ways, eqb-true, eq-eqb}
 use Rattle.std.proofs.lemmas.List.{get_or_default}
 use Rattle.std.proofs.lemmas.List.Sums.{sum_by-cons, sum_by-append}
-use Rattle.object_arena.specs.Objects.{Rises}
+use Rattle.containers.specs.Objects.{Rises}
 use Rattle.base.specs.Live.{has}
 use Rattle.containers.specs.declared.visitor.Located.{Located}
 use Rattle.containers.specs.Tree.{Tree, ids_in, HasSlot}

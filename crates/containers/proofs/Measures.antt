@@ -2,7 +2,7 @@
 use Rattle.std.proofs.Common.{◌≡◌, ◌≢◌, ℕ, ◌+◌, ◌-◌, ◌*◌, ◌<◌, ◌≤◌, inl, inr, List, [], length, get_or, set, sym, ap, ◌∙◌, arith, lit<, length-set, get_or-set_other}
 use Rattle.std.specs.Prelude.{sum_by}
 use Rattle.std.proofs.lemmas.List.Sums.{sum_by-set}
-use Rattle.entry_lists.specs.Lists.{Lists, family_at, cells_at, list_at, StandsAt}
+use Rattle.containers.specs.Lists.{Lists, family_at, cells_at, list_at, StandsAt}
 use Rattle.containers.specs.Cells.{Stands, IsFreed, IsDropped, IsPaired}
 use Rattle.containers.proofs.Moves.{one_head, zero_one}
 

@@ -2,7 +2,7 @@
 use Rattle.std.proofs.Common.{◌≡◌, ◌≢◌, ℕ, ◌+◌, ◌<◌, inl, inr, List, length, sym, ap, ◌∙◌, subst, arith, lit<}
 use Rattle.std.specs.Prelude.{sum_by}
 use Rattle.std.proofs.lemmas.Bool.{cases_eq}
-use Rattle.entry_lists.specs.Lists.{Lists, family_at, cells_at, list_at, StandsAt, IsWellFormed}
+use Rattle.containers.specs.Lists.{Lists, family_at, cells_at, list_at, StandsAt, IsWellFormed}
 use Rattle.containers.specs.Cells.{Stands, IsShifted, IsFreed, IsLast, IsPaired}
 
 pub stands_beside : (old new : List Lists) (f to c : ℕ) → IsShifted old new f to c → (g h x : ℕ) → g ≢ f → Stands new g h x → Stands old g h x

@@ -3,7 +3,7 @@ use Rattle.std.proofs.Common.{◌≡◌, ◌≢◌, ℕ, zero, suc, ◌+◌, ◌
 use Rattle.std.specs.Prelude.{remove}
 use Rattle.std.proofs.lemmas.Bool.{cases_Bool, eqb-true, eq-eqb, both_ways}
 use Rattle.std.proofs.lemmas.List.{get_or-map, length-map}
-use Rattle.entry_lists.specs.Lists.{Lists, family_at, cells_at, list_at, StandsAt}
+use Rattle.containers.specs.Lists.{Lists, family_at, cells_at, list_at, StandsAt}
 use Rattle.containers.specs.Cells.{Stands, IsDropped, IsRecorded}
 use Rattle.base.specs.Live.{has}
 use Rattle.containers.specs.Sweep.{IsCut}

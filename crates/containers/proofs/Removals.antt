@@ -1,8 +1,8 @@
 -- The directory without the objects that went.
 use Rattle.std.proofs.Common.{◌≡◌, ℕ, ◌<◌, inl, inr, List, length, get_or, refl, sym, ap, ◌∙◌, subst}
 use Rattle.std.specs.Prelude.{Contains}
-use Rattle.entry_lists.specs.Lists.{Lists}
-use Rattle.object_arena.specs.Objects.{Objects, IsEntry, IsWithoutAll, object_at}
+use Rattle.containers.specs.Lists.{Lists}
+use Rattle.containers.specs.Objects.{Objects, IsEntry, IsWithoutAll, object_at}
 use Rattle.containers.specs.Cells.{IsRecorded}
 use Rattle.containers.specs.Sweep.{IsCut}
 use Rattle.containers.specs.Directory.{IsDirectory}

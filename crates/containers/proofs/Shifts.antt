@@ -5,8 +5,8 @@ use Rattle.std.proofs.lemmas.Bool.{cases_lt, cases_eq}
 use Rattle.std.proofs.lemmas.List.{get_or_append_left, get_or_push}
 use Rattle.std.proofs.lemmas.List.Edits.{length-remove, get_or-remove_below, get_or-remove_above}
 use Rattle.std.proofs.lemmas.List.Sums.{sum_by-set}
-use Rattle.entry_lists.specs.Lists.{Lists, empty_lists, family_at, cells_at, with_list, with_cells, StandsAt, IsWellFormed}
-use Rattle.entry_lists.proofs.Lookups.{family_at-with_cells, cells_at-with_cells, cells_at-with_cells_other, heads_kept, cells_kept, families_kept}
+use Rattle.containers.specs.Lists.{Lists, empty_lists, family_at, cells_at, with_list, with_cells, StandsAt, IsWellFormed}
+use Rattle.containers.proofs.Lookups.{family_at-with_cells, cells_at-with_cells, cells_at-with_cells_other, heads_kept, cells_kept, families_kept}
 use Rattle.containers.specs.Cells.{Stands, IsShifted}
 
 pub stands_push : (ys : List ℕ) (c k x : ℕ) → StandsAt ys k x → StandsAt (ys ++ c ∷ []) k x

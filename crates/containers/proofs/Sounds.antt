@@ -1,8 +1,8 @@
 -- A link that goes and a slot that goes leave the rest sound.
 use Rattle.std.proofs.Common.{◌≡◌, ◌≢◌, ℕ, ◌+◌, ◌<◌, ◌≤◌, inl, inr, List, [], get_or, sym, ◌∙◌, subst, arith, lit<}
 use Rattle.std.proofs.lemmas.Bool.{cases_eq}
-use Rattle.entry_lists.specs.Lists.{Lists, StandsAt}
-use Rattle.containers.specs.Cells.{Stands, IsFreed, IsLast, IsOneOf, IsDropped, IsPaired, IsLink, IsRecorded, IsSound}
+use Rattle.containers.specs.Lists.{Lists, StandsAt}
+use Rattle.containers.specs.Cells.{Stands, IsFreed, IsLast, IsOneOf, IsDropped, IsLink, IsRecorded, IsSound}
 use Rattle.containers.proofs.Moves.{one_zero, IsChanged, one_head, was_in, last_changed, freed_changed, freed_at1}
 
 -- a link or a slot went, and its cell is spare or among the dying
@@ -11,13 +11,6 @@ pub record IsGone (size root : ℕ) (old new : List Lists) (cell to : ℕ) : Typ
   pub out : size ≤ to
   pub sound : IsSound size root new
   pub recorded_was : (o : ℕ) → IsRecorded size root new o → IsRecorded size root old o
-
--- a cell among the dying names no spare slot
-not_spare : (size : ℕ) (r : List Lists) (c : ℕ) → IsPaired size r → Stands r 0 (size + 1) c → Stands r 1 size c → ⊥
-not_spare size r c paired dying s =
-    let of = paired.object_of (size + 1) c (λ (e : size + 1 ≡ size). omega arith) dying in
-    let same : size ≡ of.0 = one_head r 1 size of.0 c (paired.well 1 (lit< tt)) s of.2 in
-    omega (arith, of.1)
 
 module _ (size root : ℕ) (old new : List Lists) (cell to : ℕ) (sound : IsSound size root old) (ch : IsChanged size old new cell to) where
   pub recorded_back : (o : ℕ) → IsRecorded size root new o → IsRecorded size root old o

@@ -4,8 +4,8 @@ use Rattle.std.specs.List.{range_with_len}
 use Rattle.std.proofs.lemmas.Bool.{cases_eq, cases_lt}
 use Rattle.std.proofs.lemmas.List.{get_or-replicate, get_or_past, length-replicate, set-set}
 use Rattle.std.proofs.lemmas.List.FromFn.{get_or-range_with_len, length-range_with_len}
-use Rattle.entry_lists.proofs.Fresh.{range_push}
-use Rattle.entry_lists.specs.Lists.{Lists, empty_lists, family_at, cells_at, list_at, with_list, with_cells, StandsAt, IsLinked, IsWellFormed}
+use Rattle.containers.proofs.Fresh.{range_push}
+use Rattle.containers.specs.Lists.{Lists, empty_lists, family_at, cells_at, list_at, with_list, with_cells, StandsAt, IsLinked, IsWellFormed}
 use Rattle.containers.specs.Cells.{Stands, IsPaired, IsSound, IsRecorded}
 use Rattle.containers.specs.View.{head_in, lists_of, spare_below, IsKept}
 use Rattle.containers.proofs.Counts.{sum_one}

@@ -4,7 +4,7 @@ use Rattle.std.specs.Prelude.{Contains}
 use Rattle.std.proofs.lemmas.Bool.{cases_eq, cases_lt}
 use Rattle.std.proofs.lemmas.List.{get_or_append_left, get_or_push}
 use Rattle.std.proofs.lemmas.List.Elements.{Contains-push, Contains-push_cases, Contains-append_left, Contains-get_or}
-use Rattle.entry_lists.specs.Lists.{Lists, StandsAt}
+use Rattle.containers.specs.Lists.{Lists, StandsAt}
 use Rattle.containers.specs.Cells.{Stands, IsFreed, IsDropped, IsLink, Lists', IsRecorded, IsDying, IsSound}
 use Rattle.containers.specs.Sweep.{IsOnce, IsPath, IsReached, IsSweeping, IsSwept, IsTree, IsSimple}
 use Rattle.containers.proofs.Moves.{one_head, changed_at, was_in}

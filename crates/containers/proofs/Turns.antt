@@ -1,7 +1,7 @@
 -- What one turn of the sweep reads.
 use Rattle.std.proofs.Common.{◌≡◌, ◌≢◌, ℕ, ◌+◌, ◌<◌, List, Some, sym, ◌∙◌, subst, arith}
 use Rattle.std.specs.Prelude.{slice_get}
-use Rattle.entry_lists.specs.Lists.{Lists, family_at, cells_at, StandsAt, IsLinked}
+use Rattle.containers.specs.Lists.{Lists, family_at, cells_at, StandsAt, IsLinked}
 use Rattle.containers.specs.Cells.{Stands, IsLink, IsPaired}
 use Rattle.containers.proofs.Handed.{first_stands}
 

@@ -5,7 +5,7 @@ use Rattle.std.specs.Prelude.{Contains}
 use Rattle.std.proofs.lemmas.List.{get_or-map, length-map}
 use Rattle.std.proofs.lemmas.List.Elements.{Contains-get_or}
 use Rattle.containers.specs.Visits.{place_of, named, named_one, link_ids, object_ids, IsHanded}
-use Rattle.entry_lists.specs.Lists.{Lists}
+use Rattle.containers.specs.Lists.{Lists}
 use Rattle.base.specs.Live.{has, links, IsLive}
 use Rattle.containers.specs.Tree.{Tree, HasSlot, without, cut_lists, ids_in}
 use Rattle.containers.specs.View.{lists_of, IsKept}

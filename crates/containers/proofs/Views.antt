@@ -3,7 +3,7 @@ use Rattle.std.proofs.Common.{◌≡◌, ℕ, zero, suc, ◌<◌, inl, inr, Bool
 use Rattle.std.proofs.lemmas.Bool.{or_cases, and_parts, and_from, eqb-true, eq-eqb, cases_Bool, both_ways}
 use Rattle.std.proofs.lemmas.List.{get_or-map, length-map}
 use Rattle.std.proofs.lemmas.List.Folds.{list_any_at}
-use Rattle.entry_lists.specs.Lists.{Lists, family_at, cells_at, IsWellFormed}
+use Rattle.containers.specs.Lists.{Lists, family_at, cells_at, IsWellFormed}
 use Rattle.base.specs.Live.{has, links, Leads, IsLive}
 use Rattle.containers.specs.Tree.{ids_in}
 use Rattle.containers.specs.View.{head_in, ids_of, lists_of}

@@ -2,8 +2,8 @@
 use Rattle.std.proofs.Common.{◌≡◌, ℕ, ◌<◌, inl, inr, Bool, true, false, cond, ◌||◌, ◌==◌, List, [], ◌∷◌, length, get_or, refl, sym, ap, ◌∙◌, subst, arith, lit<}
 use Rattle.std.proofs.lemmas.Bool.{cases_Bool, both_ways}
 use Rattle.std.proofs.lemmas.List.{length-map}
-use Rattle.entry_lists.specs.Lists.{Lists, family_at, cells_at}
-use Rattle.object_arena.specs.Objects.{Objects, Rises, Apart, IsWellFormed as IsArenaWellFormed}
+use Rattle.containers.specs.Lists.{Lists, family_at, cells_at}
+use Rattle.containers.specs.Objects.{Objects, Rises, Apart, IsWellFormed as IsArenaWellFormed}
 use Rattle.containers.specs.Cells.{Stands, IsRecorded, IsLink}
 use Rattle.base.specs.Live.{has}
 use Rattle.containers.specs.Tree.{Tree, ids_in, list_of}

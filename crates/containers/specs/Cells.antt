@@ -5,7 +5,7 @@
 -- cells.
 use Rattle.std.specs.Prelude.{◌≡◌, ◌≢◌, ℕ, ◌+◌, ◌<◌, ◌⊎◌, List, [], ◌∷◌, ◌++◌, length, sum_by}
 use Rattle.std.specs.Prelude.{remove}
-use Rattle.entry_lists.specs.Lists.{Lists, family_at, cells_at, StandsAt, IsWellFormed}
+use Rattle.containers.specs.Lists.{Lists, family_at, cells_at, StandsAt, IsWellFormed}
 
 -- the cell stands in this list of this family
 pub record Stands (r : List Lists) (family head cell : ℕ) : Type 0 where

@@ -1,7 +1,7 @@
 -- The directory of ids names the recorded slots.
 use Rattle.std.specs.Prelude.{◌≡◌, ℕ, ◌<◌, List, length, slice_index}
-use Rattle.object_arena.specs.Objects.{Rises}
-use Rattle.entry_lists.specs.Lists.{Lists}
+use Rattle.containers.specs.Objects.{Rises}
+use Rattle.containers.specs.Lists.{Lists}
 use Rattle.containers.specs.Cells.{IsRecorded}
 
 -- at each place an id and its slot, and each recorded slot has a place

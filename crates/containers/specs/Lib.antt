@@ -7,3 +7,11 @@ pub mod Sweep
 pub mod Directory
 pub mod View
 pub use Rattle.base.specs.Live
+pub mod Lists
+pub mod Chain
+pub mod Objects
+pub mod Search
+pub mod Slots
+pub mod Gaps
+pub mod Hints
+pub mod ArenaLends

@@ -1,7 +1,7 @@
 -- What the sweep of an unreference keeps. No public clause cites this module.
 use Rattle.std.specs.Prelude.{◌≡◌, ◌≢◌, ℕ, ◌<◌, ◌⊎◌, List, [], ◌∷◌, length, Contains}
 use Rattle.std.specs.Prelude.{slice_index_or, sum_by}
-use Rattle.entry_lists.specs.Lists.{Lists, family_at, cells_at}
+use Rattle.containers.specs.Lists.{Lists, family_at, cells_at}
 use Rattle.containers.specs.Cells.{IsDropped, IsSound, IsRecorded, IsDying, Lists', IsLink, Stands}
 
 -- no element comes twice

@@ -2,7 +2,7 @@
 use Rattle.std.specs.Prelude.{◌≡◌, ℕ, suc, ◌+◌, ◌<◌, cond, List, [], ◌∷◌, map, length, slice_index}
 use Rattle.std.specs.Prelude.{sum_by}
 use Rattle.std.specs.List.{range_with_len}
-use Rattle.entry_lists.specs.Lists.{Lists, family_at, cells_at, with_list, empty_lists}
+use Rattle.containers.specs.Lists.{Lists, family_at, cells_at, with_list, empty_lists}
 use Rattle.base.specs.Live.{has}
 use Rattle.containers.specs.Cells.{IsSound, IsDying}
 use Rattle.containers.specs.Sweep.{IsSimple}

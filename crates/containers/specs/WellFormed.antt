@@ -1,6 +1,6 @@
 -- What is true of all containers.
 use Rattle.std.specs.Prelude.{◌≡◌, ℕ, ◌<◌, true, length, slice_index, IsSome}
-use Rattle.object_arena.specs.Objects.{Rises, Apart}
+use Rattle.containers.specs.Objects.{Rises, Apart}
 use Rattle.base.specs.Live.{has, links}
 use Rattle.containers.specs.Tree.{Tree, ids_in, list_of, record_at}
 

@@ -1,16 +1,16 @@
 //! The cells of links, by slots.
 ghost use Rattle.std.specs.Prelude.{◌≡◌, ◌≢◌, ℕ, ◌+◌, ◌*◌, ◌<◌, ◌^◌, [], ◌∷◌, length, IfOk};
 ghost use Rattle.std.specs.Prelude.{◌≤◌, IfSome, IfNone, Some, sum_by, slice_get, vec_capacity};
-ghost use Rattle.entry_lists.specs.Lists.{family_at, cells_at};
+ghost use Rattle.containers.specs.Lists.{family_at, cells_at};
 ghost use Rattle.containers.specs.Cells.{Stands, IsShifted, IsFreed, IsDropped, IsPaired};
 ghost use Rattle.containers.specs.Cells.{IsLink, Lists', IsSound, IsDying, IsAdded};
 ghost use Rattle.containers.specs.Sweep.{IsSweeping, IsSwept, IsTree, IsSimple, IsCut};
 ghost use Rattle.containers.specs.View.{spare_below};
 ghost use Rattle.containers.specs.Visits.{IsTold, place_of, named, named_one, object_ids};
 
+use crate::entry_lists::Rings;
 use crate::visitor::{Located, Visitor};
 use base::{Meter, NoMemory, ObjectId, Slot};
-use entry_lists::Rings;
 use std::alloc::Global;
 
 /// The slots that links are between: how many there are, the root's, and of each the id of its object.

@@ -4,10 +4,10 @@ ghost use Rattle.std.specs.Prelude.{length, true, false, Some, None, slice_set, 
 ghost use Rattle.base.specs.Live.{has, links};
 
 use crate::cells::{add_link, spare_rings};
+use crate::entry_lists::Rings;
+use crate::object_arena::Arena;
 use crate::tree::Containers;
 use base::{Meter, NoMemory, ObjectId, Slot};
-use entry_lists::Rings;
-use object_arena::Arena;
 use std::alloc::Global;
 use std::marker::Model;
 

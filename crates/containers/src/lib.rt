@@ -9,6 +9,8 @@
 
 mod cells;
 mod draft;
+pub mod entry_lists;
+pub mod object_arena;
 mod tree;
 mod visitor;
 mod windows;

@@ -5,16 +5,16 @@ ghost use Rattle.std.specs.Prelude.{true, false, Some, None, slice_index, slice_
 ghost use Rattle.std.specs.Prelude.{IfOk, IfSome, IfNone, IsSome};
 ghost use Rattle.std.specs.Borrow.{sem};
 ghost use Rattle.base.specs.Counts.{probed, ProbesAtMost};
-ghost use Rattle.object_arena.specs.Objects.{binary_digits};
+ghost use Rattle.containers.specs.Objects.{binary_digits};
 ghost use Rattle.base.specs.Live.{has, links};
 
 use crate::cells::{Link, Pool, add_link, cut_link, find_link};
 use crate::draft::Draft;
+use crate::entry_lists::Rings;
+use crate::object_arena::Arena;
 use crate::visitor::{Located, Visitor};
 use crate::windows::fill_window;
 use base::{Meter, NoMemory, ObjectId, Slot};
-use entry_lists::Rings;
-use object_arena::Arena;
 use std::alloc::Global;
 use std::marker::Model;
 

@@ -1,13 +1,13 @@
 //! Parts of a slot's entries.
 ghost use Rattle.std.specs.Prelude.{◌≡◌, ℕ, ◌+◌, ◌-◌, ◌<◌, ◌≤◌, length, min, slice_get};
 ghost use Rattle.std.specs.Prelude.{slice_index};
-ghost use Rattle.entry_lists.specs.Lists.{family_at, cells_at};
+ghost use Rattle.containers.specs.Lists.{family_at, cells_at};
 ghost use Rattle.containers.specs.Cells.{IsPaired};
 ghost use Rattle.containers.specs.View.{ids_of};
 
 use crate::cells::Pool;
+use crate::entry_lists::Rings;
 use base::{Meter, ObjectId};
-use entry_lists::Rings;
 
 // The cell at a place of a slot's entries, none past the last.
 fn cell_at(rings: &Rings<2>, slot: usize, from: usize, meter: &mut Meter) -> Option<usize>

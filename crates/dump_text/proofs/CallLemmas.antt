@@ -12,16 +12,16 @@ use Rattle.text_words.specs.Label.{LabelValue}
 use Rattle.text_words.specs.declared.references.Reference.{Reference}
 use Rattle.text_words.specs.declared.references.Reference.TheVariants as references
 use Rattle.text_words.specs.declared.spoken_labels.SpokenPair.{SpokenPair}
-use Rattle.spoken_calls.specs.declared.verbs.Verb.{Verb}
-use Rattle.spoken_calls.specs.declared.verbs.Verb.TheVariants as verbs
-use Rattle.spoken_calls.specs.declared.args.ArgKind.{ArgKind}
-use Rattle.spoken_calls.specs.declared.args.ArgKind.TheVariants as kinds
-use Rattle.spoken_calls.specs.declared.args.Arg.{Arg}
-use Rattle.spoken_calls.specs.declared.args.Arg.TheVariants as args
-use Rattle.spoken_calls.specs.Arg.{kind_of}
-use Rattle.spoken_calls.specs.Verb.{kinds_of}
-use Rattle.spoken_calls.specs.Spoken.{AreArgs, Spoken, IsSpoken, spoken_text}
-use Rattle.spoken_calls.proofs.SpokenLemmas.{spoken_is_one}
+use Rattle.text_words.specs.declared.spoken_calls.verbs.Verb.{Verb}
+use Rattle.text_words.specs.declared.spoken_calls.verbs.Verb.TheVariants as verbs
+use Rattle.text_words.specs.declared.spoken_calls.args.ArgKind.{ArgKind}
+use Rattle.text_words.specs.declared.spoken_calls.args.ArgKind.TheVariants as kinds
+use Rattle.text_words.specs.declared.spoken_calls.args.Arg.{Arg}
+use Rattle.text_words.specs.declared.spoken_calls.args.Arg.TheVariants as args
+use Rattle.text_words.specs.Arg.{kind_of}
+use Rattle.text_words.specs.Verb.{kinds_of}
+use Rattle.text_words.specs.Spoken.{AreArgs, Spoken, IsSpoken, spoken_text}
+use Rattle.text_words.proofs.SpokenLemmas.{spoken_is_one}
 use Rattle.call_text.specs.declared.asking.Asked.{Asked}
 use Rattle.call_text.specs.declared.asking.Asked.TheVariants.{Write, Read}
 use Rattle.call_text.specs.Place.{pair_of, raw_of, category_of, object_in, label_in, number_in, wide_in, signed_in, data_in, types_in, rights_in, object_at, label_at, number_at, wide_at, signed_at, data_at, types_at, rights_at}

@@ -1,5 +1,5 @@
 -- Events: what parts a call from its reply stands in no call.
-use Rattle.std.proofs.Common.{lit<, ◌≡◌, ℕ, ◌+◌, ◌^◌, ◌<◌, true, false, eqb, List, [], ◌∷◌, ◌++◌, map, refl, ap₂, ◌∙◌, sym, subst, arith, append_assoc, decimal, ℤ, pos, negsuc}
+use Rattle.std.proofs.Common.{lit<, ◌≡◌, ℕ, ◌+◌, ◌^◌, ◌<◌, true, false, eqb, List, [], ◌∷◌, ◌++◌, map, refl, ◌∙◌, sym, subst, arith, append_assoc, decimal, ℤ, pos, negsuc}
 use Rattle.std.specs.Prelude.{codes}
 use Rattle.std.specs.List.{AllByRecursion, join_with_byte}
 use Rattle.std.proofs.lemmas.Bool.{ne_eqb}
@@ -26,17 +26,17 @@ use Rattle.text_words.proofs.SignedLemmas.{rights_lack}
 use Rattle.text_words.proofs.OneLemmas.{of_each_set, at_set, first_part}
 use Rattle.text_words.proofs.LabelLemmas.{before_last}
 use Rattle.text_words.proofs.LackLemmas.{lacks-append, decimal_lacks, decimal_lacks_byte, data_lacks, join_lacks, reference_lacks}
-use Rattle.spoken_calls.specs.declared.verbs.Verb.{Verb}
-use Rattle.spoken_calls.specs.declared.verbs.Verb.TheVariants as verbs
-use Rattle.spoken_calls.specs.declared.args.ArgKind.{ArgKind}
-use Rattle.spoken_calls.specs.declared.args.Arg.{Arg}
-use Rattle.spoken_calls.specs.declared.args.Arg.TheVariants as args
-use Rattle.spoken_calls.specs.Verb.{name_of, kinds_of}
-use Rattle.spoken_calls.specs.Arg.{arg_text, IsArg}
-use Rattle.spoken_calls.specs.Spoken.{AreArgs, Spoken, IsSpoken, spoken_text}
-use Rattle.spoken_calls.proofs.SpokenLemmas.{spoken_lacks_end}
+use Rattle.text_words.specs.declared.spoken_calls.verbs.Verb.{Verb}
+use Rattle.text_words.specs.declared.spoken_calls.verbs.Verb.TheVariants as verbs
+use Rattle.text_words.specs.declared.spoken_calls.args.ArgKind.{ArgKind}
+use Rattle.text_words.specs.declared.spoken_calls.args.Arg.{Arg}
+use Rattle.text_words.specs.declared.spoken_calls.args.Arg.TheVariants as args
+use Rattle.text_words.specs.Verb.{name_of, kinds_of}
+use Rattle.text_words.specs.Arg.{arg_text, IsArg}
+use Rattle.text_words.specs.Spoken.{AreArgs, Spoken, IsSpoken, spoken_text}
+use Rattle.text_words.proofs.SpokenLemmas.{spoken_lacks_end}
 use Rattle.text_words.proofs.PartLemmas.{not_in}
-use Rattle.histories.specs.declared.events.Answered.{Answered}
+use Rattle.kernel_rules.specs.declared.histories.events.Answered.{Answered}
 use Rattle.dump_text.specs.declared.events.Single.{Single}
 use Rattle.dump_text.specs.Call.{call_text, IsCall, spoken_of}
 use Rattle.dump_text.specs.Query.{query_text, IsQuery, query_spoken}
@@ -187,9 +187,6 @@ no_answer text call reply l e = not_in 61 (call ++ 32 ∷ []) (62 ∷ 32 ∷ rep
 
 pub answer_first : (text before behind call reply : List ℕ) → text ≡ before ++ 61 ∷ behind → lacks 61 before ≡ true → lacks 61 call ≡ true → text ≡ call ++ codes " => " ++ reply → (before ≡ call ++ 32 ∷ []) × (behind ≡ 62 ∷ 32 ∷ reply)
 answer_first text before behind call reply parts lb lc e = first_part 61 before (call ++ 32 ∷ []) behind (62 ∷ 32 ∷ reply) lb (spaced_lacks call lc) (sym parts ∙ e ∙ answer_shape call reply)
-
-pub answer_is : (text before behind call reply : List ℕ) → text ≡ before ++ 61 ∷ behind → before ≡ call ++ 32 ∷ [] → behind ≡ codes "> " ++ reply → text ≡ call ++ codes " => " ++ reply
-answer_is text before behind call reply parts a b = parts ∙ ap₂ (λ (x y : List ℕ). x ++ 61 ∷ y) a b ∙ sym (answer_shape call reply)
 
 -- what parts them stands where it does
 pub parts_same : (rest first behind call reply : List ℕ) → lacks 61 first ≡ true → lacks 61 call ≡ true → rest ≡ first ++ codes " => " ++ behind → rest ≡ call ++ codes " => " ++ reply → (call ≡ first) × (reply ≡ behind)

@@ -6,9 +6,9 @@ use Rattle.text_words.specs.Lacks.{lacks}
 use Rattle.text_words.specs.Label.{LabelValue}
 use Rattle.text_words.proofs.LackLemmas.{lacks-append, decimal_lacks}
 use Rattle.text_words.proofs.OneLemmas.{first_part}
-use Rattle.spoken_calls.specs.declared.args.ArgKind.{ArgKind}
-use Rattle.spoken_calls.specs.Spoken.{AreArgs}
-use Rattle.spoken_calls.proofs.SpokenLemmas.{arguments_are_one, arguments_lack_end}
+use Rattle.text_words.specs.declared.spoken_calls.args.ArgKind.{ArgKind}
+use Rattle.text_words.specs.Spoken.{AreArgs}
+use Rattle.text_words.proofs.SpokenLemmas.{arguments_are_one, arguments_lack_end}
 use Rattle.call_text.specs.Place.{raw_of}
 use Rattle.label_lattice.specs.declared.raw_labels.RawLabel.{RawLabel}
 use Rattle.checkpoints.specs.declared.checkpoints.Attributes.{Attributes}

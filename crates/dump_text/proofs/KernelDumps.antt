@@ -9,9 +9,9 @@ use Rattle.label_lattice.specs.Raw.{raw_of}
 use Rattle.base.specs.declared.ranges.Limits.{Limits}
 use Rattle.base.specs.declared.levels.Level.{Level}
 use Rattle.base.specs.declared.levels.Level.TheVariants.{Star, L0, L1, L2, L3}
-use Rattle.histories.specs.Events.{Event, calls_in}
-use Rattle.histories.specs.declared.events.Answered.{Answered}
-use Rattle.histories.specs.History.{Start, answered, is_batch, IsLegalFrom, FollowsFrom, state_from}
+use Rattle.kernel_rules.specs.Events.{Event, calls_in}
+use Rattle.kernel_rules.specs.declared.histories.events.Answered.{Answered}
+use Rattle.kernel_rules.specs.History.{Start, answered, is_batch, IsLegalFrom, FollowsFrom, state_from}
 use Rattle.checkpoints.specs.Checkpoint.{Checkpoint}
 use Rattle.dump_text.specs.declared.places.Pending.TheVariants as pendings
 use Rattle.kernel_rules.specs.Scratch.{scratch, stored_labels, compared_from}

@@ -11,7 +11,7 @@ use Rattle.checkpoints.specs.Restorable.{is_restorable}
 use Rattle.checkpoints.specs.Starts.{start_of}
 use Rattle.checkpoints.proofs.SoundLaws.{restorable_whole}
 use Rattle.checkpoints.proofs.BootReached.{boot_reached}
-use Rattle.histories.specs.History.{boot_start}
+use Rattle.kernel_rules.specs.History.{boot_start}
 use Rattle.kernel_rules.proofs.BootLaws.{booted_well_formed}
 use Rattle.text_words.proofs.OneLemmas.{first_part}
 use Rattle.dump_text.specs.declared.lines.Format.TheVariants as formats

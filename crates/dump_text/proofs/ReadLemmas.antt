@@ -7,7 +7,7 @@ use Rattle.text_words.specs.Reading.{Reads}
 use Rattle.text_words.proofs.LackLemmas.{lacks-append, decimal_lacks}
 use Rattle.text_words.proofs.OneLemmas.{first_part}
 use Rattle.text_words.proofs.PartLemmas.{not_in}
-use Rattle.spoken_calls.proofs.SpokenLemmas.{spoken_lacks_end}
+use Rattle.text_words.proofs.SpokenLemmas.{spoken_lacks_end}
 use Rattle.dump_text.specs.declared.reads.Read.{Read}
 use Rattle.dump_text.specs.Query.{query_spoken, query_text, IsQuery}
 use Rattle.dump_text.specs.Read.{asked_text, read_text, IsRead, ReadsAsked}

@@ -2,10 +2,10 @@
 use Rattle.std.proofs.Common.{◌≡◌, ℕ, ◌<◌, List, [], ◌∷◌, ◌++◌, length, Bool, false, Option, Some, None, ap, ◌∙◌, sym, subst}
 use Rattle.std.specs.Global.{Vec}
 use Rattle.text_words.specs.Reading.{Reads}
-use Rattle.spoken_calls.specs.declared.args.ArgKind.{ArgKind}
-use Rattle.spoken_calls.specs.declared.args.Arg.{Arg}
-use Rattle.spoken_calls.specs.Spoken.{AreArgs, ReadsArguments, arguments_text}
-use Rattle.spoken_calls.proofs.SpokenLemmas.{arguments_are_one}
+use Rattle.text_words.specs.declared.spoken_calls.args.ArgKind.{ArgKind}
+use Rattle.text_words.specs.declared.spoken_calls.args.Arg.{Arg}
+use Rattle.text_words.specs.Spoken.{AreArgs, ReadsArguments, arguments_text}
+use Rattle.text_words.proofs.SpokenLemmas.{arguments_are_one}
 use Rattle.dump_text.specs.declared.words.Word.{Word}
 use Rattle.dump_text.specs.Word.{args_of, words_text}
 use Rattle.dump_text.specs.Making.{Makes, Fills}

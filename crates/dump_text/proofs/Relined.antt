@@ -7,8 +7,8 @@ use Rattle.base.specs.declared.ranges.Limits.{Limits}
 use Rattle.checkpoints.specs.Checkpoint.{Checkpoint}
 use Rattle.checkpoints.specs.declared.checkpoints.RawBody.TheVariants as bodies
 use Rattle.checkpoints.specs.declared.slot_lists.FilledSlot.{FilledSlot}
-use Rattle.histories.specs.Events.{Event}
-use Rattle.histories.specs.declared.events.Answered.{Answered}
+use Rattle.kernel_rules.specs.Events.{Event}
+use Rattle.kernel_rules.specs.declared.histories.events.Answered.{Answered}
 use Rattle.dump_text.specs.declared.heads.Head.{Head}
 use Rattle.dump_text.specs.declared.heads.Head.TheVariants as heads
 use Rattle.dump_text.specs.declared.line_words.Batch.{Batch}

@@ -9,12 +9,12 @@ use Rattle.text_words.proofs.ReadLemmas.{read_is, read_not}
 use Rattle.dump_text.specs.Allowed.{AreAllowed}
 use Rattle.text_words.proofs.LackLemmas.{lacks-append}
 use Rattle.text_words.proofs.PartLemmas.{not_in}
-use Rattle.spoken_calls.specs.declared.args.ArgKind.{ArgKind}
-use Rattle.spoken_calls.specs.declared.args.ArgKind.TheVariants as kinds
-use Rattle.spoken_calls.specs.declared.args.Arg.{Arg}
-use Rattle.spoken_calls.specs.Arg.{arg_text, kind_of, FitsArg}
-use Rattle.spoken_calls.specs.Spoken.{AreArgs}
-use Rattle.spoken_calls.proofs.SpokenLemmas.{args_are_one, arguments_split}
+use Rattle.text_words.specs.declared.spoken_calls.args.ArgKind.{ArgKind}
+use Rattle.text_words.specs.declared.spoken_calls.args.ArgKind.TheVariants as kinds
+use Rattle.text_words.specs.declared.spoken_calls.args.Arg.{Arg}
+use Rattle.text_words.specs.Arg.{arg_text, kind_of, FitsArg}
+use Rattle.text_words.specs.Spoken.{AreArgs}
+use Rattle.text_words.proofs.SpokenLemmas.{args_are_one, arguments_split}
 use Rattle.call_text.specs.ReplyWord.{refusal_text}
 use Rattle.kernel_rules.specs.declared.objects.Mapping.{Mapping}
 use Rattle.dump_text.specs.declared.read_replies.OwnReply.{OwnReply}

@@ -8,8 +8,8 @@ use Rattle.checkpoints.specs.Checkpoint.{Checkpoint}
 use Rattle.checkpoints.specs.declared.checkpoints.RawBody.{RawBody}
 use Rattle.checkpoints.specs.declared.checkpoints.RawBody.TheVariants as bodies
 use Rattle.checkpoints.specs.declared.checkpoints.Recorded.{Recorded}
-use Rattle.histories.specs.Events.{Event}
-use Rattle.histories.specs.declared.events.Answered.{Answered}
+use Rattle.kernel_rules.specs.Events.{Event}
+use Rattle.kernel_rules.specs.declared.histories.events.Answered.{Answered}
 use Rattle.dump_text.specs.declared.heads.Common.{Common}
 use Rattle.dump_text.specs.declared.lines.Line.{Line}
 use Rattle.dump_text.specs.declared.lines.Line.TheVariants as lines

@@ -9,8 +9,8 @@ use Rattle.checkpoints.specs.declared.checkpoints.RawBody.TheVariants as bodies
 use Rattle.checkpoints.specs.declared.checkpoints.NextNumber.{NextNumber}
 use Rattle.checkpoints.specs.declared.checkpoints.Recorded.{Recorded}
 use Rattle.checkpoints.specs.declared.slot_lists.FilledSlot.{FilledSlot}
-use Rattle.histories.specs.Events.{Event}
-use Rattle.histories.specs.declared.events.Answered.{Answered}
+use Rattle.kernel_rules.specs.Events.{Event}
+use Rattle.kernel_rules.specs.declared.histories.events.Answered.{Answered}
 use Rattle.kernel_rules.specs.declared.tables.Used.{Used}
 use Rattle.kernel_rules.specs.declared.tables.Shown.{Shown}
 use Rattle.dump_text.specs.declared.tables.PlacedRead.{PlacedRead}

@@ -5,11 +5,11 @@ use Rattle.std.proofs.lemmas.List.{append-nil}
 use Rattle.label_lattice.specs.declared.pairings.Pair.{Pair}
 use Rattle.text_words.specs.declared.references.Reference.TheVariants as references
 use Rattle.text_words.specs.declared.spoken_labels.SpokenPair.{SpokenPair}
-use Rattle.spoken_calls.specs.Arg.{arg_text, kind_of, FitsArg}
-use Rattle.spoken_calls.specs.declared.args.ArgKind.{ArgKind}
-use Rattle.spoken_calls.specs.declared.verbs.Verb.{Verb}
-use Rattle.spoken_calls.specs.Spoken.{AreArgs, IsSpoken, spoken_text}
-use Rattle.spoken_calls.specs.Verb.{name_of, kinds_of}
+use Rattle.text_words.specs.Arg.{arg_text, kind_of, FitsArg}
+use Rattle.text_words.specs.declared.spoken_calls.args.ArgKind.{ArgKind}
+use Rattle.text_words.specs.declared.spoken_calls.verbs.Verb.{Verb}
+use Rattle.text_words.specs.Spoken.{AreArgs, IsSpoken, spoken_text}
+use Rattle.text_words.specs.Verb.{name_of, kinds_of}
 use Rattle.dump_text.specs.declared.words.Word.{Word}
 use Rattle.dump_text.specs.Word.{spoken_pair, arg_of, args_of, words_text}
 use Rattle.text_words.specs.Label.{IsPair}

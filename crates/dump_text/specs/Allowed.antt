@@ -1,7 +1,7 @@
 -- Values that stand in a line by their words.
 use Rattle.std.specs.Prelude.{List}
-use Rattle.spoken_calls.specs.declared.args.ArgKind.{ArgKind}
-use Rattle.spoken_calls.specs.Spoken.{AreArgs}
+use Rattle.text_words.specs.declared.spoken_calls.args.ArgKind.{ArgKind}
+use Rattle.text_words.specs.Spoken.{AreArgs}
 use Rattle.dump_text.specs.declared.words.Word.{Word}
 use Rattle.dump_text.specs.Word.{args_of}
 

@@ -21,8 +21,8 @@ use Rattle.dump_text.specs.Dump.{IsDump, next, ends, start}
 use Rattle.dump_text.specs.Line.{line_text, IsLine, IsBootable}
 use Rattle.dump_text.specs.Lists.{DumpLists}
 use Rattle.dump_text.specs.Whole.{whole_dump}
-use Rattle.histories.specs.Events.{Event}
-use Rattle.histories.specs.History.{IsLegal}
+use Rattle.kernel_rules.specs.Events.{Event}
+use Rattle.kernel_rules.specs.History.{IsLegal}
 
 -- a label of one level
 abbrev pub plain_label : Level → RawLabel

@@ -5,9 +5,9 @@ use Rattle.kernel_rules.specs.declared.calls.Call.{Call}
 use Rattle.kernel_rules.specs.declared.calls.Call.TheVariants as calls
 use Rattle.kernel_rules.specs.declared.calls.Entry.{Entry}
 use Rattle.kernel_rules.specs.declared.objects.Mapping.{Mapping}
-use Rattle.spoken_calls.specs.declared.verbs.Verb.{Verb}
-use Rattle.spoken_calls.specs.declared.verbs.Verb.TheVariants as verbs
-use Rattle.spoken_calls.specs.Spoken.{Spoken, IsSpoken, spoken_text}
+use Rattle.text_words.specs.declared.spoken_calls.verbs.Verb.{Verb}
+use Rattle.text_words.specs.declared.spoken_calls.verbs.Verb.TheVariants as verbs
+use Rattle.text_words.specs.Spoken.{Spoken, IsSpoken, spoken_text}
 use Rattle.call_text.specs.declared.asking.Asked.{Asked}
 use Rattle.call_text.specs.declared.asking.Asked.TheVariants.{Write, Read}
 use Rattle.dump_text.specs.declared.words.Word.{Word}

@@ -2,8 +2,8 @@
 use Rattle.std.specs.Prelude.{◌≡◌, ℕ, List, [], ◌∷◌, ◌++◌, map, Option, Some, None, Bool, false, true}
 use Rattle.std.specs.Prelude.{◌==◌, ◌&&◌, ◌||◌, nat_le, length, ◌-◌, ◌*◌, if◌then◌else◌}
 use Rattle.std.specs.List.{flat_map}
-use Rattle.histories.specs.Events.{Event}
-use Rattle.histories.specs.declared.events.Answered.{Answered}
+use Rattle.kernel_rules.specs.Events.{Event}
+use Rattle.kernel_rules.specs.declared.histories.events.Answered.{Answered}
 use Rattle.call_text.specs.Text.{Spells, FaultsAt, lines_text}
 use Rattle.dump_text.specs.declared.places.Place.{Place}
 use Rattle.dump_text.specs.declared.events.Single.{Single}

@@ -1,6 +1,6 @@
 -- The spelling of events of one call, and of calls with their replies.
 use Rattle.std.specs.Prelude.{ℕ, ◌<◌, ◌^◌, List, ◌∷◌, ◌++◌, codes, decimal}
-use Rattle.histories.specs.declared.events.Answered.{Answered}
+use Rattle.kernel_rules.specs.declared.histories.events.Answered.{Answered}
 use Rattle.dump_text.specs.Call.{call_text, IsCall}
 use Rattle.dump_text.specs.Report.{report_text, IsReport}
 use Rattle.dump_text.specs.declared.events.Single.{Single}

@@ -1,7 +1,7 @@
 -- Dumps whose values fit the words that spell them, whatever the rules say of them.
 use Rattle.std.specs.Prelude.{◌<◌, ◌^◌, length}
 use Rattle.std.specs.List.{AllByRecursion}
-use Rattle.histories.specs.declared.events.Answered.{Answered}
+use Rattle.kernel_rules.specs.declared.histories.events.Answered.{Answered}
 use Rattle.kernel_rules.specs.declared.replies.Reply.{Reply}
 use Rattle.kernel_rules.specs.declared.replies.Reply.TheVariants as replies
 use Rattle.text_words.specs.DataWord.{IsData}

@@ -1,7 +1,7 @@
 -- The lines of objects, by their kinds.
 use Rattle.std.specs.Prelude.{◌≡◌, ℕ, ◌≤◌, ◌<◌, ◌^◌, Bool, true, false, List, [], ◌∷◌, ◌++◌, codes, decimal, length}
-use Rattle.spoken_calls.specs.declared.args.ArgKind.{ArgKind}
-use Rattle.spoken_calls.specs.declared.args.ArgKind.TheVariants as kinds
+use Rattle.text_words.specs.declared.spoken_calls.args.ArgKind.{ArgKind}
+use Rattle.text_words.specs.declared.spoken_calls.args.ArgKind.TheVariants as kinds
 use Rattle.checkpoints.specs.declared.checkpoints.RawGate.{RawGate}
 use Rattle.checkpoints.specs.declared.checkpoints.RawThread.{RawThread}
 use Rattle.kernel_rules.specs.declared.calls.Entry.{Entry}

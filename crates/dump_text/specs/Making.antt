@@ -1,6 +1,6 @@
 -- What is made of arguments, and of texts.
 use Rattle.std.specs.Prelude.{◌≡◌, ℕ, List, Bool, true, false, Option, Some, None}
-use Rattle.spoken_calls.specs.declared.args.Arg.{Arg}
+use Rattle.text_words.specs.declared.spoken_calls.args.Arg.{Arg}
 use Rattle.dump_text.specs.declared.words.Word.{Word}
 use Rattle.dump_text.specs.Word.{args_of}
 

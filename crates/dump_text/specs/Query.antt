@@ -2,8 +2,8 @@
 use Rattle.std.specs.Prelude.{ℕ, List, [], ◌∷◌, ◌++◌, Option, Some, None, Result, Ok, Err}
 use Rattle.kernel_rules.specs.declared.calls.Query.{Query}
 use Rattle.kernel_rules.specs.declared.calls.Query.TheVariants as queries
-use Rattle.spoken_calls.specs.declared.verbs.Verb.TheVariants as verbs
-use Rattle.spoken_calls.specs.Spoken.{Spoken, IsSpoken, spoken_text}
+use Rattle.text_words.specs.declared.spoken_calls.verbs.Verb.TheVariants as verbs
+use Rattle.text_words.specs.Spoken.{Spoken, IsSpoken, spoken_text}
 use Rattle.call_text.specs.declared.asking.Asked.{Asked}
 use Rattle.call_text.specs.declared.asking.Asked.TheVariants.{Write, Read}
 use Rattle.dump_text.specs.declared.words.Word.TheVariants as words

@@ -1,7 +1,7 @@
 -- The replies of queries.
 use Rattle.std.specs.Prelude.{ℕ, ◌≤◌, List, [], ◌∷◌, ◌++◌, length, map, replicate, codes}
-use Rattle.spoken_calls.specs.declared.args.ArgKind.{ArgKind}
-use Rattle.spoken_calls.specs.declared.args.ArgKind.TheVariants as kinds
+use Rattle.text_words.specs.declared.spoken_calls.args.ArgKind.{ArgKind}
+use Rattle.text_words.specs.declared.spoken_calls.args.ArgKind.TheVariants as kinds
 use Rattle.kernel_rules.specs.declared.objects.Mapping.{Mapping}
 use Rattle.call_text.specs.ReplyWord.{refusal_text}
 use Rattle.dump_text.specs.declared.read_replies.OwnReply.{OwnReply}

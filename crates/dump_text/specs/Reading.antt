@@ -2,8 +2,8 @@
 use Rattle.std.specs.Prelude.{◌≡◌, ℕ, List, [], ◌∷◌, ◌++◌, length, Option, Some, None, IsSome, Result, Ok}
 use Rattle.std.specs.Prelude.{Err}
 use Rattle.base.specs.declared.levels.Level.TheVariants.{L1}
-use Rattle.histories.specs.Events.{Event}
-use Rattle.histories.specs.declared.events.Answered.{Answered}
+use Rattle.kernel_rules.specs.Events.{Event}
+use Rattle.kernel_rules.specs.declared.histories.events.Answered.{Answered}
 use Rattle.dump_text.specs.declared.places.Place.{Place}
 use Rattle.dump_text.specs.declared.lines.Line.{Line}
 use Rattle.dump_text.specs.declared.lines.Line.TheVariants as lines

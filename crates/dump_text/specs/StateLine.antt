@@ -1,7 +1,7 @@
 -- The lines that tell a checkpoint.
 use Rattle.std.specs.Prelude.{ℕ, List, [], ◌∷◌, ◌++◌, codes}
-use Rattle.spoken_calls.specs.declared.args.ArgKind.{ArgKind}
-use Rattle.spoken_calls.specs.declared.args.ArgKind.TheVariants as kinds
+use Rattle.text_words.specs.declared.spoken_calls.args.ArgKind.{ArgKind}
+use Rattle.text_words.specs.declared.spoken_calls.args.ArgKind.TheVariants as kinds
 use Rattle.checkpoints.specs.declared.checkpoints.NextNumber.{NextNumber}
 use Rattle.checkpoints.specs.declared.slot_lists.FilledSlot.{FilledSlot}
 use Rattle.dump_text.specs.declared.state_lines.Counters.{Counters}

@@ -11,11 +11,11 @@ use Rattle.kernel_rules.specs.declared.calls.Query.{Query}
 use Rattle.kernel_rules.specs.declared.objects.Mapping.{Mapping}
 use Rattle.kernel_rules.specs.declared.replies.Reply.{Reply}
 use Rattle.kernel_rules.specs.declared.replies.Reply.TheVariants as replies
-use Rattle.histories.specs.Events.{Event}
+use Rattle.kernel_rules.specs.Events.{Event}
 use Rattle.checkpoints.specs.Checkpoint.{Checkpoint}
 use Rattle.checkpoints.specs.Restorable.{is_restorable}
 use Rattle.checkpoints.specs.Starts.{start_of}
-use Rattle.histories.specs.History.{Start, boot_start, IsLegalFrom, state_from}
+use Rattle.kernel_rules.specs.History.{Start, boot_start, IsLegalFrom, state_from}
 use Rattle.kernel_rules.specs.Scratch.{scratch}
 use Rattle.kernel_rules.specs.Tables.{TableLists as Kept}
 use Rattle.dump_text.specs.Dump.{IsDump}

@@ -2,8 +2,8 @@
 ghost use Rattle.std.specs.Prelude.{◌≡◌, ◌++◌, [], IfOk, OnOk};
 ghost use Rattle.std.specs.List.{AllByRecursion};
 ghost use Rattle.text_words.specs.Reading.{Reads};
-ghost use Rattle.spoken_calls.specs.Arg.{FitsArg};
-ghost use Rattle.spoken_calls.specs.Spoken.{spoken_text};
+ghost use Rattle.text_words.specs.Arg.{FitsArg};
+ghost use Rattle.text_words.specs.Spoken.{spoken_text};
 ghost use Rattle.call_text.specs.Resolve.{resolved};
 ghost use Rattle.dump_text.specs.Call.{call_text, IsCall, write_of, spoken_as, creation_words};
 ghost use Rattle.dump_text.specs.Call.{entry_words, mapping_words};
@@ -14,8 +14,8 @@ use base::ObjectId;
 use call_text::{Asked, NameList, resolve};
 use kernel_rules::{Call, Entry, Mapping};
 use label_lattice::RawLabel;
-use spoken_calls::{SpokenCall, Verb, read_spoken};
 use std::alloc::{AllocError, Global};
+use text_words::spoken_calls::{SpokenCall, Verb, read_spoken};
 
 /// The write call that the call asks where no name is known.
 fn write_call(call: &SpokenCall<'_>) -> Option<Call>

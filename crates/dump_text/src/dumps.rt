@@ -15,8 +15,8 @@ use crate::reads::Read;
 use crate::tables::{Dump, DumpTables, PlacedRead};
 use base::{Level, Limits};
 use call_text::parted;
-use histories::{Answered, Event};
 use kernel_rules::Query;
+use kernel_rules::histories::{Answered, Event};
 use std::alloc::{AllocError, Global};
 
 /// Lines of no kind, and limits that nothing told yet.

@@ -11,7 +11,7 @@ use crate::reports::{put_report, read_report};
 use crate::stripping::after;
 use base::{NoMemory, ObjectId};
 use call_text::parted;
-use histories::Answered;
+use kernel_rules::histories::Answered;
 use std::alloc::{AllocError, Global};
 use text_words::{put_number, read_number};
 

@@ -1,7 +1,7 @@
 //! What stands in the lines of objects.
 ghost use Rattle.std.specs.Prelude.{◌≡◌, ◌++◌, [], ℕ, List, Bool, IfSome, IfNone};
 ghost use Rattle.checkpoints.specs.declared.checkpoints.RawGate.{RawGate as GateValue};
-ghost use Rattle.spoken_calls.specs.declared.args.Arg.{Arg as ArgValue};
+ghost use Rattle.text_words.specs.declared.spoken_calls.args.Arg.{Arg as ArgValue};
 ghost use Rattle.dump_text.specs.declared.heads.Common.{Common as CommonValue};
 ghost use Rattle.dump_text.specs.Word.{args_of, spoken_label};
 ghost use Rattle.dump_text.specs.Making.{Makes};
@@ -20,8 +20,8 @@ use crate::line_words::Worded;
 use crate::part_words::{entry_in, is_full};
 use base::Data;
 use checkpoints::{Attributes, RawGate, RawThread};
-use spoken_calls::Arg;
 use text_words::SpokenLabel;
+use text_words::spoken_calls::Arg;
 
 /// What 0 and 1 tell.
 pub fn flag_in(number: u32) -> Option<bool>

@@ -16,8 +16,8 @@ use crate::stripping::after;
 use crate::tables::Stored;
 use base::{Level, Limits, ObjectId};
 use kernel_rules::{Compared, Shown, Used};
-use spoken_calls::{Arg, ArgKind, read_arguments};
 use std::alloc::{AllocError, Global};
+use text_words::spoken_calls::{Arg, ArgKind, read_arguments};
 
 /// The head of a batch of several calls, whose lines come after it.
 #[derive(Clone, Copy)]

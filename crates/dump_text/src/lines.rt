@@ -18,11 +18,11 @@ use crate::stripping::after;
 use crate::tables::{PlacedRead, Stored};
 use base::{Data, Limits, ObjectId};
 use checkpoints::{FilledSlot, NextNumber};
-use histories::Answered;
+use kernel_rules::histories::Answered;
 use kernel_rules::{Call, Compared, Reply, Shown, Used};
-use spoken_calls::ArgKind;
 use std::alloc::{AllocError, Global};
 use text_words::is_same;
+use text_words::spoken_calls::ArgKind;
 
 /// A format of dumps.
 #[derive(Clone, Copy, PartialEq, Eq)]

@@ -4,7 +4,7 @@ ghost use Rattle.base.specs.Limits.{in_range};
 ghost use Rattle.base.specs.declared.ranges.Limits.{Limits as Booted};
 ghost use Rattle.checkpoints.specs.Restorable.{is_restorable};
 ghost use Rattle.checkpoints.specs.Starts.{start_of};
-ghost use Rattle.histories.specs.History.{boot_start};
+ghost use Rattle.kernel_rules.specs.History.{boot_start};
 ghost use Rattle.dump_text.specs.declared.migrating.MigrateFault.TheVariants.{Memory as OutOfMemory};
 ghost use Rattle.dump_text.specs.Boot.{plain_label, boot_object, boot_thread, boot_checkpoint};
 ghost use Rattle.dump_text.specs.Boot.{Migrates, TellsFirst, migrated, no_metadata};

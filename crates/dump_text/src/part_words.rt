@@ -1,7 +1,7 @@
 //! What stands in the lines of checkpoints that are no object's own.
 ghost use Rattle.std.specs.Prelude.{◌≡◌, ◌↔◌, ◌++◌, List, IsTrue, IfSome, IfNone};
 ghost use Rattle.kernel_rules.specs.declared.calls.Entry.{Entry as EntryValue};
-ghost use Rattle.spoken_calls.specs.declared.args.Arg.{Arg as ArgValue};
+ghost use Rattle.text_words.specs.declared.spoken_calls.args.Arg.{Arg as ArgValue};
 ghost use Rattle.dump_text.specs.Word.{args_of};
 ghost use Rattle.dump_text.specs.Making.{Makes};
 ghost use Rattle.dump_text.specs.Allowed.{Anything};
@@ -14,7 +14,7 @@ use crate::state_lines::{Counters, Row};
 use base::{Data, ObjectId};
 use checkpoints::{FilledSlot, NextNumber};
 use kernel_rules::{Entry, Mapping};
-use spoken_calls::Arg;
+use text_words::spoken_calls::Arg;
 
 /// An entry, its ids as plain numbers, and the words after it.
 pub fn entry_in(args: &[Arg]) -> Option<(Entry, &[Arg])>

@@ -8,8 +8,8 @@ use crate::calls::put_on_entry;
 use crate::words::{Word, put_spoken};
 use call_text::{Asked, NameList, resolve};
 use kernel_rules::Query;
-use spoken_calls::{SpokenCall, Verb, read_spoken};
 use std::alloc::{AllocError, Global};
+use text_words::spoken_calls::{SpokenCall, Verb, read_spoken};
 
 /// The query that the call asks where no name is known.
 fn query_of(call: &SpokenCall<'_>) -> Option<Query>

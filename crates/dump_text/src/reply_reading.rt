@@ -13,9 +13,9 @@ use crate::read_replies::{
 use crate::reports::read_refused;
 use base::Data;
 use kernel_rules::Mapping;
-use spoken_calls::ArgKind;
 use std::alloc::{AllocError, Global};
 use text_words::is_same;
+use text_words::spoken_calls::ArgKind;
 
 /// The kinds of the words of a list: its length, and 16 ids.
 const LISTED: [ArgKind; 17] = [

@@ -1,7 +1,7 @@
 //! What stands in the replies of queries, after the first word.
 ghost use Rattle.std.specs.Prelude.{◌≡◌, ◌≤◌, ◌++◌, ℕ, List, length, map, OnOk, IfSome, IfNone};
 ghost use Rattle.kernel_rules.specs.declared.calls.Entry.{Entry as EntryValue};
-ghost use Rattle.spoken_calls.specs.declared.args.Arg.{Arg as ArgValue};
+ghost use Rattle.text_words.specs.declared.spoken_calls.args.Arg.{Arg as ArgValue};
 ghost use Rattle.dump_text.specs.declared.words.Word.TheVariants.{Object as Numbered};
 ghost use Rattle.dump_text.specs.Allowed.{Anything};
 ghost use Rattle.dump_text.specs.Call.{entry_words};
@@ -17,8 +17,8 @@ use crate::read_replies::{LabelReply, ListReply, OwnReply, PagesReply, ParentRep
 use base::ObjectId;
 use checkpoints::RawThread;
 use kernel_rules::{Entry, Ids, Mapping};
-use spoken_calls::Arg;
 use text_words::Reference;
+use text_words::spoken_calls::Arg;
 
 /// An entry, its ids behind a #, and the words after it.
 fn named_entry(args: &[Arg]) -> Option<(Entry, &[Arg])>

@@ -2,7 +2,7 @@
 ghost use Rattle.std.specs.Prelude.{◌≡◌, ◌∷◌, ◌++◌, codes, map, OnOk};
 ghost use Rattle.std.specs.List.{flat_map, AllByRecursion};
 ghost use Rattle.call_text.specs.ReplyWord.{refusal_text};
-ghost use Rattle.spoken_calls.specs.Arg.{arg_text, FitsArg};
+ghost use Rattle.text_words.specs.Arg.{arg_text, FitsArg};
 ghost use Rattle.dump_text.specs.ReadReply.{read_reply_text, FitsReadReply};
 ghost use Rattle.dump_text.specs.Word.{arg_of};
 ghost use Rattle.dump_text.specs.declared.words.Word.TheVariants.{Object as Numbered};

@@ -11,9 +11,9 @@ use crate::stripping::after;
 use base::{Data, ObjectId};
 use call_text::parted;
 use checkpoints::{FilledSlot, NextNumber};
-use spoken_calls::ArgKind;
 use std::alloc::{AllocError, Global};
 use text_words::read_number;
+use text_words::spoken_calls::ArgKind;
 
 /// An object's kind, and what it has beside its id and its parts.
 fn read_head(alloc: Global, text: &[u8]) -> Result<Option<Head>, AllocError>

@@ -3,7 +3,7 @@
 use crate::reads::Read;
 use base::{Limits, ObjectId};
 use checkpoints::Checkpoint;
-use histories::Event;
+use kernel_rules::histories::Event;
 use kernel_rules::{Compared, Shown, Used};
 use label_lattice::RawLabel;
 use std::marker::Model;

@@ -4,15 +4,15 @@ ghost use Rattle.dump_text.specs.Lists.{dump_with};
 ghost use Rattle.dump_text.specs.Dump.{dump_text};
 ghost use Rattle.dump_text.specs.Fits.{FitsWords};
 ghost use Rattle.dump_text.specs.Whole.{placed_from, placed, start_with, whole_dump};
-ghost use Rattle.histories.specs.History.{state_from};
+ghost use Rattle.kernel_rules.specs.History.{state_from};
 ghost use Rattle.kernel_rules.specs.Scratch.{scratch};
 
 use crate::tables::{Dump, DumpTables, PlacedRead, Stored};
 use crate::writing::write_dump;
 use base::{Limits, NoMemory};
 use checkpoints::Checkpoint;
-use histories::Event;
 use kernel_rules::Tables as Kept;
+use kernel_rules::histories::Event;
 use label_lattice::RawLabel;
 use std::alloc::Global;
 

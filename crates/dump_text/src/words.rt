@@ -3,15 +3,15 @@ ghost use Rattle.std.specs.Prelude.{◌≡◌, ◌≤◌, ◌++◌, ◌∷◌, [
 ghost use Rattle.std.specs.List.{flat_map, AllByRecursion};
 ghost use Rattle.text_words.specs.DataWord.{IsData};
 ghost use Rattle.text_words.specs.Label.{pair_text, label_text, IsPair, IsLabel};
-ghost use Rattle.spoken_calls.specs.Arg.{arg_text, FitsArg};
-ghost use Rattle.spoken_calls.specs.Spoken.{spoken_text};
+ghost use Rattle.text_words.specs.Arg.{arg_text, FitsArg};
+ghost use Rattle.text_words.specs.Spoken.{spoken_text};
 ghost use Rattle.dump_text.specs.Call.{spoken_as};
 ghost use Rattle.dump_text.specs.Word.{arg_of, spoken_pair, spoken_label, words_text};
 
 use base::{Data, ObjectId, Rights, TypeSet};
 use label_lattice::{Pair, RawLabel};
-use spoken_calls::Verb;
 use std::alloc::AllocError;
+use text_words::spoken_calls::Verb;
 use text_words::{put_data, put_level, put_number, put_rights, put_signed, put_types};
 
 /// A word of a dump.

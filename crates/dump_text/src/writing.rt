@@ -16,7 +16,7 @@ use crate::parting::part_reads;
 use crate::tables::{Dump, DumpTables, PlacedRead};
 use base::{Limits, NoMemory};
 use checkpoints::Checkpoint;
-use histories::Event;
+use kernel_rules::histories::Event;
 use std::alloc::Global;
 
 /// Adds the lines of the event.

@@ -1,7 +1,7 @@
 -- The comparisons of parts, and where they fail.
 use Rattle.std.proofs.Common.{◌≡◌, ◌∙◌, Bool, refl, Option, Some, None, IfSome}
 use Rattle.label_lattice.specs.Label.{LabelValue}
-use Rattle.label_rules.specs.LabelRules.{both, all_three, below, visible, shown, below_join, below_join_up, above_floor}
+use Rattle.label_lattice.specs.LabelRules.{both, all_three, below, visible, shown, below_join, below_join_up, above_floor}
 use Rattle.explained.specs.Sides.{compares}
 use Rattle.explained.specs.Failing.{failing, failing_rest}
 use Rattle.explained.specs.Laws.{IsExact}

@@ -167,9 +167,6 @@ right-described BelowJoinUp a b c =
     IsDescribed-join (levels b) (up (levels c)) (IsDescribed-levels b) (IsDescribed-up (levels c) (IsDescribed-levels c))
 right-described AboveFloor a b c = IsDescribed-levels c
 
-at_rest : (a : Levels) → IsDescribed a → (c : ℕ) → IsOutside c a.points → a.at c ≡ a.rest
-at_rest a h c out = h.outside c out
-
 rest_of : (l r : Levels) → nat_lt r.rest l.rest ≡ true → failing_rest l r ≡ Some (ranks_of l.rest r.rest)
 rest_of l r h = rw h refl
 

@@ -3,7 +3,7 @@ use Rattle.std.proofs.Common.{◌≡◌, Bool, true, false, not, is_some, refl, 
 use Rattle.label_lattice.specs.Raw.{is_bad, stored_of}
 use Rattle.label_lattice.specs.Label.{LabelValue}
 use Rattle.label_lattice.specs.declared.raw_labels.RawLabel.{RawLabel}
-use Rattle.label_rules.specs.LabelRules.{stored}
+use Rattle.label_lattice.specs.LabelRules.{stored}
 
 not_not : (a b : Bool) → not a ≡ not b → a ≡ b
 not_not true true e = refl

@@ -2,8 +2,8 @@
 use Rattle.std.specs.Prelude.{◌+◌, Bool, not, nat_lt, List, is_some}
 use Rattle.std.specs.List.{list_any}
 use Rattle.base.specs.declared.refusals.Refusal.{Refusal}
-use Rattle.label_rules.specs.LabelRules.{both, all_three, below, visible, shown, below_join}
-use Rattle.label_rules.specs.LabelRules.{below_join_up, above_floor}
+use Rattle.label_lattice.specs.LabelRules.{both, all_three, below, visible, shown, below_join}
+use Rattle.label_lattice.specs.LabelRules.{below_join_up, above_floor}
 use Rattle.kernel_rules.specs.Conditions.{meets}
 use Rattle.explained.specs.declared.parts.Comparison as comparison
 use Rattle.explained.specs.declared.parts.Comparison.TheVariants as compared

@@ -9,9 +9,9 @@ use Rattle.base.specs.declared.kinds.Kind.TheVariants as kinds
 use Rattle.label_lattice.specs.Label.{LabelValue}
 use Rattle.label_lattice.specs.Raw.{is_bad, all_made, raw_has_star}
 use Rattle.label_lattice.specs.declared.raw_labels.RawLabel.{RawLabel}
-use Rattle.label_rules.specs.LabelRules.{stored}
-use Rattle.label_rules.specs.declared.gates.Asked.{Asked}
-use Rattle.label_rules.specs.declared.gates.Bearer.{Bearer}
+use Rattle.label_lattice.specs.LabelRules.{stored}
+use Rattle.label_lattice.specs.declared.label_rules.gates.Asked.{Asked}
+use Rattle.label_lattice.specs.declared.label_rules.gates.Bearer.{Bearer}
 use Rattle.kernel_rules.specs.Sizes.{page_bytes, most_bytes, page_limit, most_pages, last_slot}
 use Rattle.kernel_rules.specs.State.{State, is_live_kind, is_kind_at, label_at, clearance_at}
 use Rattle.kernel_rules.specs.State.{quota_at, use_of, slots_at}

@@ -1,7 +1,7 @@
 //! Where the comparison of a part fails, and which conditions hold.
 ghost use Rattle.std.specs.Prelude.{◌≡◌, ◌+◌, nat_lt, IfOk};
 ghost use Rattle.std.specs.Option.{option_map, option_and_then};
-ghost use Rattle.label_rules.specs.LabelRules.{both, below};
+ghost use Rattle.label_lattice.specs.LabelRules.{both, below};
 ghost use Rattle.kernel_rules.specs.Conditions.{meets};
 ghost use Rattle.explained.specs.Compared.{of_two, of_three, sides, named_of, rest_of};
 ghost use Rattle.explained.specs.Laws.{least};
@@ -13,7 +13,7 @@ use crate::relations::Relation;
 use base::{Meter, NoMemory, Refusal};
 use kernel_rules::{Mapping, least_of};
 use label_lattice::Label;
-use label_rules::{
+use label_lattice::label_rules::{
     is_above_floor, is_below, is_below_join, is_below_join_up, is_shown, is_visible,
 };
 use std::alloc::Global;

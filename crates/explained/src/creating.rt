@@ -3,7 +3,7 @@
 
 ghost use Rattle.std.specs.Prelude.{◌≡◌, ◌+◌, ◌++◌, ◌∷◌, [], OnOk};
 ghost use Rattle.label_lattice.specs.Raw.{is_bad};
-ghost use Rattle.label_rules.specs.LabelRules.{stored};
+ghost use Rattle.label_lattice.specs.LabelRules.{stored};
 ghost use Rattle.plain_state.specs.StateOf.{state_of};
 ghost use Rattle.base.specs.Limits.{spent};
 ghost use Rattle.base.specs.declared.refusals.Refusal.TheVariants as refusals;

@@ -16,7 +16,7 @@ use crate::words::{
 };
 use base::{Kind, Meter, NoMemory, ObjectId};
 use kernel_rules::{Entry, NewContainer};
-use label_rules::stored_of;
+use label_lattice::label_rules::stored_of;
 use plain_state::PlainState;
 
 /// Of a new container.

@@ -15,7 +15,7 @@ use crate::placing::mapped_to_write;
 use crate::words::{in_container, modified, not_immutable, not_of_kind, observed, of_kind};
 use base::{Data, Kind, Meter, NoMemory, ObjectId};
 use kernel_rules::{Entry, Mapping, NewAddressSpace, NewCopy, NewSegment};
-use label_rules::stored_of;
+use label_lattice::label_rules::stored_of;
 use plain_state::PlainState;
 
 /// Of a new segment.

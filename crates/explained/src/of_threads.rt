@@ -13,7 +13,7 @@ use crate::words::{in_container, of_kind};
 use base::{Kind, Meter, NoMemory, ObjectId};
 use kernel_rules::{Entry, NewGate, NewThread};
 use label_lattice::RawLabel;
-use label_rules::{Asked, stored_of};
+use label_lattice::label_rules::{Asked, stored_of};
 use plain_state::PlainState;
 
 /// Of a new category.

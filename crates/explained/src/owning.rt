@@ -4,7 +4,7 @@
 ghost use Rattle.std.specs.Prelude.{◌≡◌, ◌++◌, ◌∷◌, [], OnOk};
 ghost use Rattle.base.specs.Limits.{spent};
 ghost use Rattle.base.specs.declared.refusals.Refusal.TheVariants as refusals;
-ghost use Rattle.label_rules.specs.LabelRules.{stored};
+ghost use Rattle.label_lattice.specs.LabelRules.{stored};
 ghost use Rattle.kernel_rules.specs.Conditions.{own_label, own_clearance, own_bearer, gate_bearer};
 ghost use Rattle.plain_state.specs.StateOf.{state_of};
 ghost use Rattle.kernel_rules.specs.Conditions as condition;
@@ -15,8 +15,8 @@ use crate::parts::{Comparison, Finding, Part, add};
 use crate::placing::add_asked;
 use crate::words::{clearance_of, label_of};
 use base::{Category, Kind, Level, Meter, NoMemory, ObjectId, Refusal};
+use label_lattice::label_rules::{Asked, Bearer, with_category};
 use label_lattice::{Label, RawLabel};
-use label_rules::{Asked, Bearer, with_category};
 use plain_state::PlainState;
 
 /// The thread's label with the next category as its own, where it has room for it.

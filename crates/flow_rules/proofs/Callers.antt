@@ -8,7 +8,7 @@ use Rattle.label_lattice.specs.Label.{LabelValue}
 use Rattle.label_lattice.specs.Placed.{with_level}
 use Rattle.label_lattice.specs.declared.pairings.Pair.{Pair}
 use Rattle.label_lattice.specs.declared.raw_labels.RawLabel.{RawLabel}
-use Rattle.label_rules.specs.LabelRules.{both, below, all_three, above_floor, may_enter, stored, with_category}
+use Rattle.label_lattice.specs.LabelRules.{both, below, all_three, above_floor, may_enter, stored, with_category}
 use Rattle.kernel_rules.specs.State.{State, object_at, of_object, label_at, gate_at, kind_of}
 use Rattle.kernel_rules.specs.Conditions.{own_label, own_clearance, own_bearer, gate_bearer}
 use Rattle.kernel_rules.specs.Table.{halted, refused, row}

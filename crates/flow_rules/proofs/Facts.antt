@@ -5,7 +5,7 @@ use Rattle.std.specs.List.{list_all}
 use Rattle.std.proofs.lemmas.Bool.{and_parts, and_from, not-false, eqb-true, eq-eqb}
 use Rattle.base.specs.Live.{has}
 use Rattle.base.specs.declared.kinds.Kind.TheVariants as kinds
-use Rattle.label_rules.specs.LabelRules.{both, shown}
+use Rattle.label_lattice.specs.LabelRules.{both, shown}
 use Rattle.kernel_rules.specs.State.{State, observes, flows_to, is_accessible, is_live_kind, is_kind_at, label_at}
 use Rattle.kernel_rules.specs.Conditions.{pages_down}
 use Rattle.kernel_rules.specs.Table.{halted, refused, row, query_refused, query_row}

@@ -10,7 +10,7 @@ use Rattle.label_lattice.specs.Order.{levels, up, gate_floor}
 use Rattle.label_lattice.specs.Rule.{up_rank, down_rank}
 use Rattle.label_lattice.proofs.OrderLemmas.{leq_test-Leq, IsDescribed-levels, IsDescribed-up, IsDescribed-down}
 use Rattle.label_lattice.proofs.OrderLemmas.{IsDescribed-join}
-use Rattle.label_rules.specs.LabelRules.{below, visible, shown, above_floor}
+use Rattle.label_lattice.specs.LabelRules.{below, visible, shown, above_floor}
 
 -- the rank of a label's level in category c
 abbrev pub rank : LabelValue → ℕ → ℕ

@@ -9,7 +9,7 @@ use Rattle.kernel_rules.specs.Step.{next}
 use Rattle.kernel_rules.specs.Table.{refused, query_refused}
 use Rattle.kernel_rules.specs.declared.objects.Object.{Object}
 use Rattle.kernel_laws.proofs.Labels.{labels_own}
-use Rattle.label_rules.specs.LabelRules.{below}
+use Rattle.label_lattice.specs.LabelRules.{below}
 use Rattle.flow_rules.specs.Touched.{sees, changes, reads, observed, modified, after}
 use Rattle.flow_rules.specs.declared.steps.Step.{Step}
 use Rattle.flow_rules.specs.declared.steps.Step.TheVariants as step

@@ -8,7 +8,7 @@ use Rattle.base.specs.declared.kinds.Kind.TheVariants as kinds
 use Rattle.base.specs.declared.refusals.Refusal.{Refusal}
 use Rattle.label_lattice.specs.Label.{LabelValue}
 use Rattle.label_lattice.specs.declared.raw_labels.RawLabel.{RawLabel}
-use Rattle.label_rules.specs.LabelRules.{both, below, visible, shown}
+use Rattle.label_lattice.specs.LabelRules.{both, below, visible, shown}
 use Rattle.kernel_rules.specs.State.{State, object_at, is_kind_at, label_at, observes, flows_to}
 use Rattle.kernel_rules.specs.Step.{next}
 use Rattle.kernel_rules.specs.Table.{refused, query_refused}

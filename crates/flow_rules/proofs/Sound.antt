@@ -12,7 +12,7 @@ use Rattle.label_lattice.specs.Raw.{is_bad, stored_of}
 use Rattle.label_lattice.specs.Order.{levels, Leq}
 use Rattle.label_lattice.specs.declared.raw_labels.RawLabel.{RawLabel}
 use Rattle.label_lattice.proofs.OrderLemmas.{leq_test-Leq, IsDescribed-levels, le_means}
-use Rattle.label_rules.specs.LabelRules.{stored}
+use Rattle.label_lattice.specs.LabelRules.{stored}
 use Rattle.kernel_rules.specs.State.{State, object_at, listed}
 use Rattle.kernel_rules.specs.WellFormed.{is_well_formed, is_kept, is_whole}
 use Rattle.kernel_rules.specs.Runs.{booted}

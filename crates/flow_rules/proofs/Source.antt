@@ -7,7 +7,7 @@ use Rattle.std.specs.Map.{lookup}
 use Rattle.std.specs.BTreeMap.{is_at, insert_entry}
 use Rattle.label_lattice.specs.Label.{LabelValue}
 use Rattle.label_lattice.specs.declared.raw_labels.RawLabel.{RawLabel}
-use Rattle.label_rules.specs.LabelRules.{both, below, between, stored}
+use Rattle.label_lattice.specs.LabelRules.{both, below, between, stored}
 use Rattle.kernel_rules.specs.State.{State, object_at, of_object, gate_at, label_at, clearance_at}
 use Rattle.kernel_rules.specs.Conditions.{in_range_of}
 use Rattle.kernel_rules.specs.Table.{halted, refused, row}

@@ -11,7 +11,7 @@ use Rattle.base.specs.Live.{has}
 use Rattle.label_lattice.specs.Label.{LabelValue}
 use Rattle.label_lattice.specs.Listing.{label_cmp}
 use Rattle.label_lattice.proofs.ListingLemmas.{labels_exact}
-use Rattle.label_rules.specs.LabelRules.{both, visible}
+use Rattle.label_lattice.specs.LabelRules.{both, visible}
 use Rattle.call_text.specs.declared.asking.Asked.TheVariants.{Read, Write}
 use Rattle.kernel_rules.specs.State.{State, listed, object_at, of_object}
 use Rattle.kernel_rules.specs.Step.{next}

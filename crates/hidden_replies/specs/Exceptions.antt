@@ -5,7 +5,7 @@ use Rattle.std.specs.Ordering.{is_eq}
 use Rattle.std.specs.Bool.{beq}
 use Rattle.label_lattice.specs.Label.{LabelValue}
 use Rattle.label_lattice.specs.Listing.{label_cmp}
-use Rattle.label_rules.specs.LabelRules.{both, visible}
+use Rattle.label_lattice.specs.LabelRules.{both, visible}
 use Rattle.call_text.specs.declared.asking.Asked.{Asked}
 use Rattle.call_text.specs.declared.asking.Asked.TheVariants.{Read, Write}
 use Rattle.kernel_rules.specs.State.{State, label_at, listed, object_at}

@@ -3,8 +3,8 @@ use Rattle.std.specs.Prelude.{ℕ, ◌+◌, List, [], ◌∷◌, ◌++◌}
 use Rattle.call_text.specs.declared.asking.Asked.TheVariants.{Read, Write}
 use Rattle.dump_text.specs.Reads.{reads_at, reads_past}
 use Rattle.dump_text.specs.declared.tables.PlacedRead.{PlacedRead}
-use Rattle.histories.specs.Events.{Event}
-use Rattle.histories.specs.declared.events.Answered.{Answered}
+use Rattle.kernel_rules.specs.Events.{Event}
+use Rattle.kernel_rules.specs.declared.histories.events.Answered.{Answered}
 use Rattle.hidden_replies.specs.declared.differences.Placed.{Placed}
 
 -- calls of one event, the first of which has this place

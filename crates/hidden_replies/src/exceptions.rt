@@ -15,7 +15,7 @@ use base::{Meter, ObjectId};
 use call_text::Asked;
 use kernel_rules::{Body, Call, Object};
 use label_lattice::Label;
-use label_rules::{is_shown, is_visible};
+use label_lattice::label_rules::{is_shown, is_visible};
 use plain_state::PlainState;
 use std::cmp::Ordering;
 

@@ -10,7 +10,7 @@ mod places;
 mod replies;
 mod runs;
 
-pub use clean_dumps::DumpFault;
+pub use auditor::clean_dumps::DumpFault;
 pub use differences::{Channel, Difference, Placed};
 pub use hidden::hidden_replies;
 pub use replies::{same_are_one, same_reply};

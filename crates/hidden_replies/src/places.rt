@@ -6,7 +6,7 @@ use crate::differences::Placed;
 use base::{NoMemory, ObjectId};
 use call_text::Asked;
 use dump_text::{PlacedRead, part_reads};
-use histories::{Answered, Event};
+use kernel_rules::histories::{Answered, Event};
 use kernel_rules::{Call, Query};
 use std::alloc::Global;
 

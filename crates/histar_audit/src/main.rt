@@ -2,7 +2,7 @@
 //! audits its standard input.
 #![tactic(auto)]
 
-use audit_program::{AuditEnd, NAME, audit_on, read_label};
+use crate::audit_program::{AuditEnd, NAME, audit_on, read_label};
 use label_lattice::Label;
 use program_args::{AuditArgs, read_audit_words, tell_answer, without_marks};
 use program_io::{AUDIT_DEFAULTS, Counted, Fault, beside, open_input, put_file, words_of};
@@ -82,3 +82,5 @@ fn main(rt: HostRuntime) -> ExitCode {
     let ended = audit_on(alloc, &mut dump, &told.options, hidden, &mut out, &mut err);
     ExitCode::from(ended_with(&rt, &told, beside.as_str(), &ended, &mut err))
 }
+
+mod audit_program;

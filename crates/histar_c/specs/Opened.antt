@@ -5,7 +5,7 @@ use Rattle.checkpoints.specs.Checkpoint.{Checkpoint}
 use Rattle.checkpoints.specs.Restored.{restored}
 use Rattle.dump_text.specs.Dump.{DumpFaultsAt, IsDump}
 use Rattle.dump_text.specs.Lists.{DumpLists}
-use Rattle.histories.specs.Events.{Event}
+use Rattle.kernel_rules.specs.Events.{Event}
 use Rattle.logged_kernel.specs.Logged.{Logged}
 use Rattle.syscall_core.specs.Kernel.{kernel_state}
 use Rattle.syscall_core.specs.Restored.{restore_refusal}

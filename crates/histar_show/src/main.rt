@@ -6,18 +6,18 @@
 
 use base::{Category, ObjectId};
 use call_text::Named;
-use dot_text::dot_on;
-use json_text::json_on;
 use page_text::page_on;
 use program_args::{Colours, ShowArgs, View, read_show_words, tell_answer, without_marks};
 use program_io::{Counted, Fault, Sink, beside, open_input, put_file, words_of};
-use show_states::{NAME, names_on};
-use show_text::{Telling, why_on};
+use shown_dumps::dot::dot_on;
+use shown_dumps::json::json_on;
+use shown_dumps::states::{NAME, names_on};
+use shown_dumps::tree::{Look, tree_on};
+use shown_dumps::why::{Telling, why_on};
 use std::env::VarError;
 use std::io::{IsTerminal, Read, Write};
 use std::process::ExitCode;
 use std::{env, io};
-use tree_text::{Look, tree_on};
 
 /// What a page has beside its dump, and where it goes.
 #[derive(Clone, Copy)]

@@ -2,7 +2,7 @@
 use Rattle.std.proofs.Common.{◌≡◌, map, length, Option, Some, None, refl, sym}
 use Rattle.std.specs.Prelude.{Box}
 use Rattle.std.specs.Global.{Global}
-use Rattle.histories.proofs.BatchLaws.{answers_replies}
+use Rattle.kernel_rules.proofs.BatchLaws.{answers_replies}
 use Rattle.kept_events.specs.Batches.{rest_answers, rest_replies, AreAnswered}
 use Rattle.kept_events.specs.declared.batches.Rest.{Rest}
 

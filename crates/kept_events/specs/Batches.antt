@@ -3,8 +3,8 @@ use Rattle.std.specs.Prelude.{◌≡◌, ◌≤◌, List, [], length, Option, So
 use Rattle.std.specs.Global.{Global}
 use Rattle.kernel_rules.specs.declared.calls.Call.{Call}
 use Rattle.kernel_rules.specs.declared.replies.Reply.{Reply}
-use Rattle.histories.specs.Events.{answers}
-use Rattle.histories.specs.declared.events.Answered.{Answered}
+use Rattle.kernel_rules.specs.Events.{answers}
+use Rattle.kernel_rules.specs.declared.histories.events.Answered.{Answered}
 use Rattle.kept_events.specs.declared.batches.Rest.{Rest}
 
 abbrev pub rest_calls : Option (Box Rest Global) → List Call

@@ -1,6 +1,6 @@
 //! The calls of batches.
 ghost use Rattle.std.specs.Prelude.{◌≡◌, ◌+◌, ◌≤◌, ◌∷◌, ◌++◌, [], IfOk, OnOk, length, vec_capacity};
-ghost use Rattle.histories.specs.Events.{answers};
+ghost use Rattle.kernel_rules.specs.Events.{answers};
 ghost use Rattle.kept_events.specs.Batches.{rest_calls, rest_answers, IsOpen, AreAnswered};
 
 use crate::calls::KeptCall;

@@ -1,16 +1,16 @@
 //! Events.
 ghost use Rattle.std.specs.Prelude.{◌≡◌, ◌<◌, ◌≤◌, ◌+◌, ◌++◌, ◌∷◌, [], IfOk, OnOk, IfSome, length};
 ghost use Rattle.std.specs.Prelude.{vec_len, vec_capacity};
-ghost use Rattle.histories.specs.Events.{answers, told};
+ghost use Rattle.kernel_rules.specs.Events.{answers, told};
 ghost use Rattle.kept_events.specs.Batches.{rest_calls, rest_answers, rest_replies, AreAnswered};
-ghost use Rattle.histories.specs.Events.{replies_in};
+ghost use Rattle.kernel_rules.specs.Events.{replies_in};
 
 use crate::batches::Rest;
 use crate::calls::KeptCall;
 use crate::replies::KeptReply;
 use base::{NoMemory, ObjectId};
-use histories::{Answered, Event};
 use kernel_rules::Mapping;
+use kernel_rules::histories::{Answered, Event};
 use std::alloc::Global;
 use std::marker::Model;
 
@@ -26,7 +26,7 @@ pub struct KeptEvent {
 
 impl Model for KeptEvent {
     ghost use Rattle.std.specs.Prelude.{◌∷◌};
-    ghost use Rattle.histories.specs.Events.{Event, told};
+    ghost use Rattle.kernel_rules.specs.Events.{Event, told};
     ghost use Rattle.kept_events.specs.Batches.{rest_answers, AreAnswered};
 
     ghost Value = { Event };

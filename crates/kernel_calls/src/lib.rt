@@ -5,6 +5,7 @@
 //! is left to the store.
 #![tactic(auto)]
 
+pub mod kernel_tables;
 mod queries;
 mod steps;
 

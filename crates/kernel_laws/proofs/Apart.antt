@@ -10,7 +10,7 @@ use Rattle.std.proofs.lemmas.Bool.{and_parts, and_from, or_parts, leb-true, ltb-
 use Rattle.std.proofs.lemmas.List.{get_or-set_other}
 use Rattle.base.specs.declared.ranges.Limits.{Limits}
 use Rattle.label_lattice.specs.Label.{LabelValue}
-use Rattle.label_rules.specs.LabelRules.{stored}
+use Rattle.label_lattice.specs.LabelRules.{stored}
 use Rattle.kernel_rules.specs.State.{State, object_at, of_object, slots_at, slots_of, gate_at, live_part}
 use Rattle.kernel_rules.specs.Translate.{covers, slot_in, slot_at}
 use Rattle.kernel_rules.specs.Runs.{booted, state_after}

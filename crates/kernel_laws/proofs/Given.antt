@@ -8,7 +8,7 @@ use Rattle.std.specs.Ordering.{nat_cmp}
 use Rattle.std.proofs.lemmas.Bool.{and_parts, not-false}
 use Rattle.std.proofs.lemmas.Map.Keys.{IsStrictlyIncreasing-from_sorted}
 use Rattle.label_lattice.specs.Label.{LabelValue}
-use Rattle.label_rules.specs.LabelRules.{both, below, between, stored}
+use Rattle.label_lattice.specs.LabelRules.{both, below, between, stored}
 use Rattle.kernel_rules.specs.State.{State, object_at, of_object, label_at, clearance_at, gate_at, packets_at}
 use Rattle.kernel_rules.specs.Runs.{replies_to}
 use Rattle.kernel_rules.specs.Conditions.{in_range_of, own_label, own_clearance}

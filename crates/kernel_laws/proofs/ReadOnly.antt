@@ -4,7 +4,7 @@ use Rattle.std.proofs.Common.{ap, ◌++◌}
 use Rattle.std.proofs.lemmas.Bool.{and_parts, not-false, both_ways}
 use Rattle.base.specs.declared.kinds.Kind.TheVariants as kinds
 use Rattle.label_lattice.specs.Label.{LabelValue}
-use Rattle.label_rules.specs.LabelRules.{stored}
+use Rattle.label_lattice.specs.LabelRules.{stored}
 use Rattle.kernel_rules.specs.State.{gate_at}
 use Rattle.kernel_rules.specs.State.{State, object_at, of_object, is_kind, is_kind_at, is_immutable}
 use Rattle.kernel_rules.specs.Step.{next, edit, owned, made_of, made_bearer, through_gate, stored_at}

@@ -7,7 +7,7 @@ use Rattle.label_lattice.specs.Label.{LabelValue}
 use Rattle.label_lattice.specs.declared.raw_labels.RawLabel.{RawLabel}
 use Rattle.label_lattice.specs.Order.{levels, Leq}
 use Rattle.label_lattice.proofs.OrderLemmas.{leq_test-Leq, IsDescribed-levels}
-use Rattle.label_rules.specs.LabelRules.{both, below, stored}
+use Rattle.label_lattice.specs.LabelRules.{both, below, stored}
 use Rattle.kernel_rules.specs.State.{State, object_at, of_object, label_at}
 use Rattle.kernel_rules.specs.Step.{next, edit, made_of, made_bearer, stored_at, with_value}
 use Rattle.kernel_rules.specs.Conditions.{in_range_of}

@@ -4,6 +4,7 @@
 #![tactic(auto)]
 
 mod laws;
+pub mod translation_laws;
 
 pub use laws::{
     categories_rise, ids_rise, labels_are_listed, labels_are_own, labels_rise, linked_stays,

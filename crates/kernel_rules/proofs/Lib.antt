@@ -25,3 +25,6 @@ pub mod ThreadLaws
 pub mod UnrefLaws
 pub mod UseLaws
 pub mod WellFormedLaws
+pub mod BatchLaws
+pub mod HistoryLaws
+pub mod LaterLaws

@@ -1,7 +1,6 @@
 -- What an answer is, once it is known what refuses the call.
-use Rattle.std.proofs.Common.{◌≡◌, ℕ, true, false, Option, Some, None, is_none}
+use Rattle.std.proofs.Common.{◌≡◌, ℕ, true, Some, None}
 use Rattle.std.proofs.Common.{◌∙◌, ap}
-use Rattle.std.proofs.lemmas.Bool.{both_ways}
 use Rattle.base.specs.declared.refusals.Refusal.{Refusal}
 use Rattle.kernel_rules.specs.State.{State}
 use Rattle.kernel_rules.specs.Table.{refused}
@@ -29,6 +28,3 @@ pub step_sound : (s : State) (t : ℕ) (c : Call) → refused s t c ≡ None →
     → next s t c ≡ edit s t c
 step_sound s t c h sound =
     (step_done s t c h).1 ∙ restricted_live (edit s t c) (soundness_of (edit s t c) sound).live
-
-pub not_both : {X : Type 0} (v : Option X) → v ≡ None → is_none v ≡ false → ⊥
-not_both v none some = both_ways (is_none v) some (ap is_none none)

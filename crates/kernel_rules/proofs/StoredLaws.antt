@@ -14,7 +14,7 @@ use Rattle.label_lattice.specs.declared.pairings.Pair.{Pair}
 use Rattle.label_lattice.proofs.LabelLemmas.{rank_of-injective}
 use Rattle.label_lattice.specs.Raw.{all_made, is_bad, is_bad_below, stored_of}
 use Rattle.label_lattice.specs.declared.raw_labels.RawLabel.{RawLabel}
-use Rattle.label_rules.specs.LabelRules.{stored}
+use Rattle.label_lattice.specs.LabelRules.{stored}
 use Rattle.kernel_rules.specs.WellFormed.{is_stored, categories_rise}
 
 other_rank : (x y : Level) → x ≢ y → not (rank_of x == rank_of y) ≡ true

@@ -18,10 +18,10 @@ use Rattle.base.specs.declared.sets.Rights.{Rights}
 use Rattle.label_lattice.specs.Label.{LabelValue}
 use Rattle.label_lattice.specs.declared.raw_labels.RawLabel.{RawLabel}
 use Rattle.label_lattice.specs.Raw.{is_bad_below, raw_has_star}
-use Rattle.label_rules.specs.LabelRules.{both, below, shown, between, may_clear, may_enter, stored}
-use Rattle.label_rules.specs.LabelRules.{with_category}
-use Rattle.label_rules.specs.declared.gates.Asked.{Asked}
-use Rattle.label_rules.specs.declared.gates.Bearer.{Bearer}
+use Rattle.label_lattice.specs.LabelRules.{both, below, shown, between, may_clear, may_enter, stored}
+use Rattle.label_lattice.specs.LabelRules.{with_category}
+use Rattle.label_lattice.specs.declared.label_rules.gates.Asked.{Asked}
+use Rattle.label_lattice.specs.declared.label_rules.gates.Bearer.{Bearer}
 use Rattle.kernel_rules.specs.Sizes.{page_bytes, most_bytes, page_limit, most_pages, last_slot}
 use Rattle.kernel_rules.specs.Sizes.{most_packets}
 use Rattle.kernel_rules.specs.State.{State, object_at, of_object, kind_of, is_live_kind, is_kind_at}

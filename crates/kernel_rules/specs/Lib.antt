@@ -12,3 +12,5 @@ pub mod Step
 pub mod Runs
 pub mod Tables
 pub mod Scratch
+pub mod Events
+pub mod History

@@ -12,7 +12,7 @@ use Rattle.base.specs.declared.ranges.Limits.{Limits}
 use Rattle.base.specs.declared.kinds.Kind as kind
 use Rattle.base.specs.declared.kinds.Kind.TheVariants as kinds
 use Rattle.label_lattice.specs.Label.{LabelValue}
-use Rattle.label_rules.specs.LabelRules.{both, below, visible}
+use Rattle.label_lattice.specs.LabelRules.{both, below, visible}
 use Rattle.kernel_rules.specs.Sizes.{page_bytes}
 use Rattle.kernel_rules.specs.declared.calls.Entry.{Entry}
 use Rattle.kernel_rules.specs.declared.objects.Gate.{Gate}
@@ -234,7 +234,3 @@ flows_to s t o = both below (label_at s t) (label_at s o)
 -- thread t may name what container d lists: d is a live container that t observes
 abbrev pub is_accessible : State → ℕ → ℕ → Bool
 is_accessible s t d = is_live_kind s kinds.Container d && observes s t d
-
--- the entry names an object to thread t
-abbrev pub resolves : State → ℕ → Entry → Bool
-resolves s t e = is_accessible s t e.container && holds s e

@@ -7,7 +7,7 @@ use Rattle.base.specs.declared.levels.Level.{Level}
 use Rattle.base.specs.declared.levels.Level.TheVariants.{L3}
 use Rattle.base.specs.declared.refusals.Refusal.{Refusal}
 use Rattle.label_lattice.specs.Label.{LabelValue}
-use Rattle.label_rules.specs.LabelRules.{stored}
+use Rattle.label_lattice.specs.LabelRules.{stored}
 use Rattle.kernel_rules.specs.Sizes.{page_bytes, slot_count, most_told}
 use Rattle.kernel_rules.specs.State.{State, object_at, of_object, live_part, bytes_at, listed}
 use Rattle.kernel_rules.specs.State.{list_at, packets_at, gate_at, use_of, page_count}

@@ -7,6 +7,7 @@
 
 mod calls;
 mod creations;
+pub mod histories;
 mod lists;
 mod metadata;
 mod objects;

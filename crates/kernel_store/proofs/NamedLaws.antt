@@ -1,26 +1,18 @@
 -- What entries name where nothing refuses a call.
-use Rattle.std.proofs.Common.{◌≡◌, ℕ, true, false, not, ◌&&◌, ◌||◌, ◌++◌, None, refl}
+use Rattle.std.proofs.Common.{◌≡◌, ℕ, true, false, not, ◌&&◌, ◌||◌, refl}
 use Rattle.std.proofs.lemmas.Bool.{and_parts, and_from, not-false}
 use Rattle.base.specs.Live.{is_live}
 use Rattle.base.specs.declared.kinds.Kind as kind
 use Rattle.base.specs.declared.kinds.Kind.TheVariants as kinds
-use Rattle.kernel_rules.specs.Table.{halted, refused, row}
 use Rattle.kernel_rules.specs.State.{State, lists_of, is_kind_at, is_live_kind, is_accessible, observes}
 use Rattle.kernel_rules.specs.Translate.{names_none}
-use Rattle.kernel_rules.specs.declared.calls.Call.{Call}
 use Rattle.kernel_rules.specs.declared.calls.Entry.{Entry}
-use Rattle.kernel_rules.proofs.RowLaws.{none_hold}
 use Rattle.kernel_store.specs.Named.{names, names_space}
 
 accessible_kind : (s : State) (t d : ℕ) → is_accessible s t d ≡ true → is_kind_at s kinds.Container d ≡ true
 accessible_kind s t d h =
     (and_parts (is_kind_at s kinds.Container d) (is_live (lists_of s.objects) d)
     (and_parts (is_live_kind s kinds.Container d) (observes s t d) h).0).0
-
--- the caller is a thread
-pub acts : (s : State) (t : ℕ) (c : Call) → refused s t c ≡ None → is_kind_at s kinds.Thread t ≡ true
-unfolding refused
-acts s t c h = (and_parts _ _ (not-false _ (none_hold (halted s t ++ row s t c) h).0)).0
 
 -- an entry that is accessible, with an object of this kind
 pub names_from : (s : State) (t : ℕ) (k : kind.Kind) (e : Entry) → not (is_accessible s t e.container) ≡ false

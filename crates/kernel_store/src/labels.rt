@@ -1,12 +1,12 @@
 //! The labels that a call carries.
 ghost use Rattle.std.specs.Prelude.{◌≡◌, ◌≤◌, ◌+◌, IfSome};
 ghost use Rattle.label_lattice.specs.Label.{IsStored};
-ghost use Rattle.label_rules.specs.LabelRules.{stored};
+ghost use Rattle.label_lattice.specs.LabelRules.{stored};
 
 use crate::stores::Store;
 use base::Meter;
+use label_lattice::label_rules::stored_of;
 use label_lattice::{Label, RawLabel};
-use label_rules::stored_of;
 
 /// A label that a call carries, in its stored form, if it has one. It is built once for a call: the row tests it, and the
 /// change stores it.

@@ -2,7 +2,7 @@
 ghost use Rattle.std.specs.Prelude.{◌≡◌, ◌≤◌, ◌+◌, ◌∷◌, [], ◌||◌, not, is_none, option_copied};
 ghost use Rattle.base.specs.declared.refusals.Refusal.TheVariants as refusal;
 ghost use Rattle.label_lattice.specs.Raw.{all_made, is_bad_below, raw_has_star};
-ghost use Rattle.label_rules.specs.LabelRules.{both, below, between, stored};
+ghost use Rattle.label_lattice.specs.LabelRules.{both, below, between, stored};
 ghost use Rattle.kernel_rules.specs.Conditions.{in_range_of};
 ghost use Rattle.kernel_rules.specs.Rows.{row_of, fitting, new_object, new_bearer};
 ghost use Rattle.kernel_rules.specs.State.{label_at, clearance_at};
@@ -13,8 +13,8 @@ use crate::names::Named;
 use crate::sights::look;
 use crate::stores::Store;
 use base::{Kind, Meter, Refusal};
+use label_lattice::label_rules::{is_below, is_between};
 use label_lattice::{Label, RawLabel};
-use label_rules::{is_below, is_between};
 
 /// A new object, as what refuses one looks at it.
 #[derive(Clone, Copy)]

@@ -139,14 +139,6 @@ module _ (ls : List (Option Held)) (j : ℕ) (h : Held) (at : held_at ls j ≡ S
     pool = length-set ls j (fewer (Some h));
   }
 
--- an owner went, of an index that had one
-pub let_go : (ls : List (Option Held)) (j : ℕ) → IsSome (held_at ls j) → Lets ls (set ls j (fewer (held_at ls j))) (λ i. one_at i j)
-let_go ls j some = of (held_at ls j) refl some
-  where
-    of : (v : Option Held) → held_at ls j ≡ v → IsSome v → Lets ls (set ls j (fewer v)) (λ i. one_at i j)
-    of None is none = absurd (both_ways false refl none)
-    of (Some h) is there = let_one ls j h is
-
 -- and where there was none, none went
 pub release_lets : (ls : List (Option Held)) (j : ℕ) → Lets ls (release_at ls j) (λ i. one_at i j)
 release_lets ls j = of (held_at ls j) refl

@@ -8,6 +8,7 @@
 #![tactic(auto)]
 
 mod exceptions;
+pub mod label_rules;
 mod labels;
 pub mod laws;
 mod listing;

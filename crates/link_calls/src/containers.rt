@@ -3,7 +3,7 @@
 
 ghost use Rattle.std.specs.Prelude.{◌≡◌, ◌≤◌, ◌+◌, OnOk, OnErr};
 ghost use Rattle.std.specs.Prelude.{option_copied};
-ghost use Rattle.label_rules.specs.LabelRules.{stored};
+ghost use Rattle.label_lattice.specs.LabelRules.{stored};
 ghost use Rattle.kernel_rules.specs.Step.{answer, next, query_answer};
 ghost use Rattle.kernel_rules.specs.Table.{refused, query_refused};
 ghost use Rattle.kernel_rules.specs.declared.calls.Call.TheVariants as call;

@@ -15,9 +15,9 @@ use Rattle.checkpoints.specs.declared.checkpoints.NextNumber.{NextNumber}
 use Rattle.kernel_rules.specs.State.{State}
 use Rattle.kernel_rules.specs.Step.{answer, next}
 use Rattle.kernel_rules.specs.declared.calls.Call.{Call}
-use Rattle.histories.specs.Events.{Event, told}
-use Rattle.histories.specs.History.{Start, count, state_from, IsLegalFrom}
-use Rattle.histories.proofs.HistoryLaws.{legal-snoc_from, state_from-snoc, count-append}
+use Rattle.kernel_rules.specs.Events.{Event, told}
+use Rattle.kernel_rules.specs.History.{Start, count, state_from, IsLegalFrom}
+use Rattle.kernel_rules.proofs.HistoryLaws.{legal-snoc_from, state_from-snoc, count-append}
 use Rattle.syscall_core.proofs.CheckpointLaws.{unrefused}
 use Rattle.syscall_core.specs.Kernel.{kernel_state}
 use Rattle.syscall_core.specs.Restored.{restore_refusal}

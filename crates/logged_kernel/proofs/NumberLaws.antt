@@ -7,9 +7,9 @@ use Rattle.std.proofs.lemmas.Bool.{and_parts, and_from, leb-true, ne_eqb, eqb-tr
 use Rattle.std.proofs.lemmas.List.{drop_more, drop_all, take-append-drop, take_more}
 use Rattle.checkpoints.specs.Starts.{number_of}
 use Rattle.checkpoints.specs.declared.checkpoints.NextNumber.{NextNumber}
-use Rattle.histories.specs.Events.{Event}
-use Rattle.histories.specs.History.{count}
-use Rattle.histories.proofs.HistoryLaws.{count-snoc}
+use Rattle.kernel_rules.specs.Events.{Event}
+use Rattle.kernel_rules.specs.History.{count}
+use Rattle.kernel_rules.proofs.HistoryLaws.{count-snoc}
 use Rattle.logged_kernel.specs.Numbers.{is_noted, AreCounted}
 
 -- numbers are from 1

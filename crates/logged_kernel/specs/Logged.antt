@@ -7,8 +7,8 @@ use Rattle.checkpoints.specs.Restorable.{is_restorable}
 use Rattle.checkpoints.specs.Restored.{restored}
 use Rattle.checkpoints.specs.Starts.{number_of, start_of}
 use Rattle.checkpoints.specs.declared.checkpoints.NextNumber.{NextNumber}
-use Rattle.histories.specs.Events.{Event, told}
-use Rattle.histories.specs.History.{Start, count, state_from, IsLegalFrom}
+use Rattle.kernel_rules.specs.Events.{Event, told}
+use Rattle.kernel_rules.specs.History.{Start, count, state_from, IsLegalFrom}
 use Rattle.kernel_rules.specs.State.{State}
 use Rattle.kernel_rules.specs.Step.{answer, next}
 use Rattle.kernel_rules.specs.declared.calls.Call.{Call}

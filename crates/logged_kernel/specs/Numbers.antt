@@ -2,8 +2,8 @@
 use Rattle.std.specs.Prelude.{◌≡◌, ℕ, ◌+◌, ◌&&◌, nat_lt, nat_le, Bool, List, ◌∷◌, ◌++◌}
 use Rattle.checkpoints.specs.Starts.{number_of}
 use Rattle.checkpoints.specs.declared.checkpoints.NextNumber.{NextNumber}
-use Rattle.histories.specs.Events.{Event}
-use Rattle.histories.specs.History.{count}
+use Rattle.kernel_rules.specs.Events.{Event}
+use Rattle.kernel_rules.specs.History.{count}
 
 -- the thread was given, and its number is from 2
 abbrev pub is_noted : ℕ → ℕ × ℕ → Bool

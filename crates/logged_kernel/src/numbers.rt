@@ -6,7 +6,7 @@ ghost use Rattle.std.specs.Option.{unwrap_or};
 ghost use Rattle.std.specs.Ordering.{nat_cmp};
 ghost use Rattle.checkpoints.specs.Restorable.{threads_rise};
 ghost use Rattle.checkpoints.specs.Starts.{number_of};
-ghost use Rattle.histories.specs.History.{count};
+ghost use Rattle.kernel_rules.specs.History.{count};
 ghost use Rattle.logged_kernel.specs.Numbers.{is_noted, AreCounted};
 
 use base::{NoMemory, ObjectId};

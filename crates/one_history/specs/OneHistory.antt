@@ -5,8 +5,8 @@ use Rattle.std.specs.Option.{option_and_then}
 use Rattle.base.specs.declared.ranges.Limits.{Limits}
 use Rattle.label_lattice.specs.Bits.{bits_of}
 use Rattle.label_lattice.specs.Label.{LabelValue}
-use Rattle.histories.specs.Events.{Event}
-use Rattle.histories.specs.History.{IsLegal, state_of}
+use Rattle.kernel_rules.specs.Events.{Event}
+use Rattle.kernel_rules.specs.History.{IsLegal, state_of}
 use Rattle.kernel_rules.specs.Scratch.{ids_of}
 use Rattle.kernel_rules.specs.State.{State, object_at, use_of}
 use Rattle.kernel_rules.specs.Step.{query_answer}

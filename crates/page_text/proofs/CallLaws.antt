@@ -1,8 +1,8 @@
 -- One call more, of those that are told one after another.
 use Rattle.std.proofs.Common.{◌≡◌, ℕ, ◌+◌, ◌<◌, List, [], ◌∷◌, ◌++◌, length, map, drop, slice_index_or, ap, sym, ◌∙◌}
 use Rattle.call_text.specs.declared.known_names.Named.{Named}
-use Rattle.histories.specs.declared.events.Answered.{Answered}
-use Rattle.json_text.proofs.ValueLaws.{one_more}
+use Rattle.kernel_rules.specs.declared.histories.events.Answered.{Answered}
+use Rattle.shown_dumps.proofs.ValueLaws.{one_more}
 use Rattle.kernel_rules.specs.State.{State}
 use Rattle.kernel_rules.specs.Step.{next}
 use Rattle.page_text.specs.Steps.{call_told, calls_told, told_data}
@@ -10,7 +10,7 @@ use Rattle.page_text.specs.Told.{first_of}
 use Rattle.serde_json.specs.Data.{Data}
 use Rattle.serde_json.specs.View.{view}
 use Rattle.serde_json.specs.declared.value.Value.{Value}
-use Rattle.show_states.proofs.CallLaws.{drop_item}
+use Rattle.shown_dumps.proofs.CallLaws.{drop_item}
 
 -- one call more
 pub told_more : (names : List Named) (values new : List Value) (v : Value) (lines more : List (List ℕ)) (s n : State) (t : ℕ)

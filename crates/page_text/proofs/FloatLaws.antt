@@ -9,7 +9,7 @@ use Rattle.page_text.specs.Steps.{Step, told_data, step_data, step_edits}
 use Rattle.serde_json.specs.Data.{Data}
 use Rattle.serde_json.specs.View.{items_of}
 use Rattle.serde_json.specs.Written.{has_float, items_have_float}
-use Rattle.tree_text.specs.Colours.{marks_of}
+use Rattle.shown_dumps.specs.Colours.{marks_of}
 
 no_each : {A : Type 0} (f : A → Data) → ((x : A) → has_float (f x) ≡ false) → (xs : List A)
     → items_have_float (items_of (map f xs)) ≡ false

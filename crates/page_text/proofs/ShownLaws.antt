@@ -6,7 +6,7 @@ use Rattle.call_text.specs.declared.known_names.Named.{Named}
 use Rattle.dump_text.specs.Lists.{DumpLists}
 use Rattle.dump_text.specs.Whole.{start_with}
 use Rattle.dump_text.specs.declared.tables.PlacedRead.{PlacedRead}
-use Rattle.histories.specs.Events.{Event}
+use Rattle.kernel_rules.specs.Events.{Event}
 use Rattle.kernel_rules.specs.State.{State}
 use Rattle.page_text.specs.Page.{page_text, page_data, shown_data}
 use Rattle.page_text.specs.Shown.{PageShows}

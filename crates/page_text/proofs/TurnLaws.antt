@@ -5,14 +5,14 @@ use Rattle.call_text.specs.declared.known_names.Named.{Named}
 use Rattle.dump_text.specs.Reads.{reads_at, reads_past, in_turn}
 use Rattle.dump_text.specs.declared.tables.PlacedRead.{PlacedRead}
 use Rattle.dump_text.proofs.Placing.{next_turn, last_turn}
-use Rattle.histories.specs.Events.{Event}
-use Rattle.json_text.proofs.ValueLaws.{one_more}
+use Rattle.kernel_rules.specs.Events.{Event}
+use Rattle.shown_dumps.proofs.ValueLaws.{one_more}
 use Rattle.kernel_rules.specs.State.{State}
 use Rattle.page_text.specs.Steps.{Turn, Made, Asked, made, Step, line_count, event_after, step_of, steps_from, step_data}
 use Rattle.serde_json.specs.Data.{Data}
 use Rattle.serde_json.specs.View.{view}
 use Rattle.serde_json.specs.declared.value.Value.{Value}
-use Rattle.show_states.proofs.CallLaws.{drop_item}
+use Rattle.shown_dumps.proofs.CallLaws.{drop_item}
 
 -- one read more
 pub asked_more : (names : List Named) (reached : List ℕ) (values new : List Value) (v : Value) (lines more : List (List ℕ)) (s : State)

@@ -6,16 +6,16 @@ use Rattle.base.specs.Live.{has}
 use Rattle.call_text.specs.ReplyWord.{value_text}
 use Rattle.call_text.specs.declared.known_names.Named.{Named}
 use Rattle.call_text.specs.declared.known_names.Value.TheVariants.{Object as OfObject}
-use Rattle.json_text.specs.Json.{word_data}
-use Rattle.json_text.specs.Pieces.{lines_of, words_of}
+use Rattle.shown_dumps.specs.Json.{word_data}
+use Rattle.shown_dumps.specs.Pieces.{lines_of, words_of}
 use Rattle.page_text.specs.Edits.{Edit, has_line}
 use Rattle.page_text.specs.Told.{first_of}
 use Rattle.serde_json.specs.Data.{Data, boolean, number, array, object, unsigned, member, no_members}
 use Rattle.serde_json.specs.View.{items_of}
-use Rattle.tree_text.specs.Colours.{marks_of}
-use Rattle.tree_text.specs.declared.colours.Mark.{Mark}
-use Rattle.tree_text.specs.declared.colours.Style.{Style}
-use Rattle.tree_text.specs.declared.colours.Style.TheVariants as styles
+use Rattle.shown_dumps.specs.Colours.{marks_of}
+use Rattle.shown_dumps.specs.declared.tree.colours.Mark.{Mark}
+use Rattle.shown_dumps.specs.declared.tree.colours.Style.{Style}
+use Rattle.shown_dumps.specs.declared.tree.colours.Style.TheVariants as styles
 
 -- a style by its number: the six colours from 0, and bold
 abbrev pub style_number : Style → ℕ

@@ -4,8 +4,8 @@ use Rattle.std.specs.Prelude.{◌≡◌, ℕ, true, List, Option, Result, Ok, Er
 use Rattle.auditor.specs.Verdict.{begins}
 use Rattle.base.specs.declared.ids.Category.{Category}
 use Rattle.call_text.specs.declared.known_names.Named.{Named}
-use Rattle.dot_text.specs.Shown.{IsRed, IsNoDot}
-use Rattle.dot_text.specs.declared.faults.DotFault.{DotFault}
+use Rattle.shown_dumps.specs.DotShown.{IsRed, IsNoDot}
+use Rattle.shown_dumps.specs.declared.dot.faults.DotFault.{DotFault}
 use Rattle.dump_text.specs.Dump.{IsDump}
 use Rattle.dump_text.specs.Lists.{DumpLists}
 use Rattle.page_text.specs.Page.{page_data, page_text}

@@ -4,22 +4,22 @@ use Rattle.call_text.specs.declared.known_names.Named.{Named}
 use Rattle.dump_text.specs.Reads.{in_turn}
 use Rattle.dump_text.specs.declared.reads.Read.{Read}
 use Rattle.dump_text.specs.declared.tables.PlacedRead.{PlacedRead}
-use Rattle.histories.specs.Events.{Event, by, calls_in}
-use Rattle.histories.specs.declared.events.Answered.{Answered}
-use Rattle.json_text.specs.Json.{word_data}
-use Rattle.json_text.specs.Pieces.{lines_of}
+use Rattle.kernel_rules.specs.Events.{Event, by, calls_in}
+use Rattle.kernel_rules.specs.declared.histories.events.Answered.{Answered}
+use Rattle.shown_dumps.specs.Json.{word_data}
+use Rattle.shown_dumps.specs.Pieces.{lines_of}
 use Rattle.kernel_rules.specs.Runs.{state_after}
 use Rattle.kernel_rules.specs.State.{State}
 use Rattle.kernel_rules.specs.Step.{next}
 use Rattle.kernel_rules.specs.declared.calls.Call.{Call}
-use Rattle.names_text.specs.Lines.{named_line}
+use Rattle.call_text.specs.NameLines.{named_line}
 use Rattle.page_text.specs.Edits.{Edit, edits}
 use Rattle.page_text.specs.Marked.{edit_data}
 use Rattle.page_text.specs.Told.{first_of}
 use Rattle.serde_json.specs.Data.{Data, array, boolean, object, member, no_members}
 use Rattle.serde_json.specs.View.{items_of}
-use Rattle.show_text.specs.Explained.{refusal_explained, read_refusal_explained}
-use Rattle.tree_text.specs.Trees.{named_tree}
+use Rattle.shown_dumps.specs.Explained.{refusal_explained, read_refusal_explained}
+use Rattle.shown_dumps.specs.Trees.{named_tree}
 
 -- a line that tells a call, a batch or a read, by names, and why what it tells is refused, which is empty where it isn't
 pub record Told : Type 0 where

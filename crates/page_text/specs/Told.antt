@@ -1,6 +1,6 @@
 -- The lines of a dump that tell calls and reads.
 use Rattle.std.specs.Prelude.{ℕ, ◌==◌, ◌||◌, ◌&&◌, Bool, true, false, List, [], ◌∷◌, codes, if◌then◌else◌}
-use Rattle.json_text.specs.Pieces.{lines_of}
+use Rattle.shown_dumps.specs.Pieces.{lines_of}
 
 -- a text begins with a word
 abbrev pub begins_with : List ℕ → List ℕ → Bool

@@ -1,6 +1,6 @@
 //! What makes a tree of the one before it, as JSON.
 ghost use Rattle.std.specs.Prelude.{◌≡◌, ◌+◌, ◌<◌, ◌^◌, ◌++◌, ◌∷◌, [], map, drop, IfOk, OnOk};
-ghost use Rattle.json_text.specs.Pieces.{lines_of};
+ghost use Rattle.shown_dumps.specs.Pieces.{lines_of};
 ghost use Rattle.page_text.specs.Edits.{Edit, gone_for, place_in, edits_for, kept_after, old_after, edits};
 ghost use Rattle.page_text.specs.Marked.{edit_data};
 ghost use Rattle.serde_json.specs.View.{view};

@@ -1,6 +1,6 @@
 //! The first line of a text.
 ghost use Rattle.std.specs.Prelude.{◌≡◌, ◌∷◌, ◌<◌, [], length, IfSome, IfNone};
-ghost use Rattle.json_text.specs.Pieces.{lines_of};
+ghost use Rattle.shown_dumps.specs.Pieces.{lines_of};
 
 use text_words::parted;
 

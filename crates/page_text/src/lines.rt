@@ -6,21 +6,21 @@ ghost use Rattle.std.specs.Str.{bytes_eq};
 ghost use Rattle.base.specs.Live.{has};
 ghost use Rattle.call_text.specs.ReplyWord.{value_text};
 ghost use Rattle.call_text.specs.declared.known_names.Value.TheVariants.{Object as OfObject};
-ghost use Rattle.json_text.specs.Pieces.{lines_of};
+ghost use Rattle.shown_dumps.specs.Pieces.{lines_of};
 ghost use Rattle.page_text.specs.Edits.{has_line, place_in};
 ghost use Rattle.page_text.specs.Marked.{style_number, mark_data, after_spaces, first_word, is_of, line_data};
 ghost use Rattle.serde_json.specs.View.{view};
-ghost use Rattle.tree_text.specs.Colours.{marks_of};
+ghost use Rattle.shown_dumps.specs.Colours.{marks_of};
 
 use crate::first_lines::first_line;
 use base::{NoMemory, ObjectId};
 use call_text::Named;
-use json_text::word_value;
 use serde_json::{Value, json, push};
-use show_states::put_value;
+use shown_dumps::json::word_value;
+use shown_dumps::states::put_value;
+use shown_dumps::tree::{Mark, Style, marks_of};
 use std::alloc::{AllocError, Global};
 use text_words::parted;
-use tree_text::{Mark, Style, marks_of};
 
 /// Of which lines a step is made: those of the tree before, of which these objects are reached.
 #[derive(Clone, Copy)]

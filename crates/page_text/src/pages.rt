@@ -13,14 +13,14 @@ ghost use Rattle.serde_json.specs.Written.{has_float, compact_text};
 use crate::escaping::escaped;
 use crate::frame::{HEAD, TAIL};
 use crate::steps::{Source, step_values};
+use auditor::clean_dumps::begin;
 use base::{Category, Meter, NoMemory, ObjectId};
 use call_text::Named;
-use clean_dumps::begin;
-use dot_text::{DotFault, red_in};
 use dump_text::Dump;
 use plain_state::PlainState;
 use serde_json::{Value, json, push};
-use show_states::{ShowFault, dump_in};
+use shown_dumps::dot::{DotFault, red_in};
+use shown_dumps::states::{ShowFault, dump_in};
 use std::alloc::Global;
 
 /// Ids as JSON.

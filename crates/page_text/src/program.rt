@@ -5,9 +5,9 @@ ghost use Rattle.page_text.specs.Shown.{PageShows};
 use crate::pages::page;
 use base::{Category, ObjectId};
 use call_text::Named;
-use dot_text::DotFault;
 use program_io::{Sink, bytes_of};
-use show_states::{NAME, show_on};
+use shown_dumps::dot::DotFault;
+use shown_dumps::states::{NAME, show_on};
 use std::alloc::Global;
 use std::io::{Read, Write};
 

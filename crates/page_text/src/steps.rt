@@ -1,31 +1,31 @@
 //! The steps that a page shows, as JSON.
 ghost use Rattle.std.specs.Prelude.{◌≡◌, true, List, [], ◌∷◌, ◌+◌, ◌++◌, ◌^◌, ◌<◌, map, drop, length, IfOk, OnOk};
-ghost use Rattle.histories.specs.Events.{by, calls_in};
-ghost use Rattle.json_text.specs.Pieces.{lines_of};
+ghost use Rattle.kernel_rules.specs.Events.{by, calls_in};
+ghost use Rattle.shown_dumps.specs.Pieces.{lines_of};
 ghost use Rattle.kernel_rules.specs.Runs.{state_after};
 ghost use Rattle.kernel_rules.specs.Step.{next};
-ghost use Rattle.names_text.specs.Lines.{named_line};
+ghost use Rattle.call_text.specs.NameLines.{named_line};
 ghost use Rattle.page_text.specs.Steps.{Told, call_told, read_told, calls_told, heads, head_told, event_told, event_after, Made, Asked, turns, line_count, step_of, steps_from, first_step, steps_of, told_data, step_data};
 ghost use Rattle.page_text.specs.Told.{told_in};
 ghost use Rattle.plain_state.specs.StateOf.{state_of};
 ghost use Rattle.serde_json.specs.View.{view};
-ghost use Rattle.tree_text.specs.Trees.{named_tree};
+ghost use Rattle.shown_dumps.specs.Trees.{named_tree};
 
 use crate::edits::edit_values;
 use crate::lines::Before;
 use crate::told::{after_told, first_told};
 use base::{Meter, NoMemory, ObjectId};
 use call_text::Named;
+use call_text::names_text::named_line;
 use dump_text::{PlacedRead, Read, part_reads};
-use histories::{Answered, Event};
-use json_text::word_value;
 use kernel_rules::Call;
-use names_text::named_line;
+use kernel_rules::histories::{Answered, Event};
 use plain_state::PlainState;
 use serde_json::{Value, json, push};
-use show_text::{read_refusal_text, refusal_text};
+use shown_dumps::json::word_value;
+use shown_dumps::tree::named_tree;
+use shown_dumps::why::{read_refusal_text, refusal_text};
 use std::alloc::Global;
-use tree_text::named_tree;
 
 /// A line, by names, and why what it tells is refused, as JSON.
 fn told_value(alloc: Global, names: &[Named], line: &[u8], why: &[u8]) -> Result<Value, NoMemory>

@@ -11,11 +11,11 @@ use Rattle.kernel_rules.specs.State.{State}
 use Rattle.kernel_rules.specs.Step.{next}
 use Rattle.kernel_rules.specs.WellFormed.{is_well_formed}
 use Rattle.kernel_rules.specs.declared.calls.Call.{Call}
-use Rattle.histories.specs.Events.{Event, by, calls_in}
-use Rattle.histories.specs.History.{calls_of, state_of}
-use Rattle.histories.specs.declared.events.Answered.{Answered}
-use Rattle.histories.proofs.BatchLaws.{by-snoc, state_after-snoc}
-use Rattle.histories.proofs.HistoryLaws.{state_of-snoc}
+use Rattle.kernel_rules.specs.Events.{Event, by, calls_in}
+use Rattle.kernel_rules.specs.History.{calls_of, state_of}
+use Rattle.kernel_rules.specs.declared.histories.events.Answered.{Answered}
+use Rattle.kernel_rules.proofs.BatchLaws.{by-snoc, state_after-snoc}
+use Rattle.kernel_rules.proofs.HistoryLaws.{state_of-snoc}
 use Rattle.kernel_rules.specs.declared.objects.Object.{Object}
 use Rattle.checkpoints.specs.Reached.{IsSound}
 use Rattle.checkpoints.specs.Restorable.{is_restorable, has_slots, filled_in, threads_rise}

@@ -1,2 +1,13 @@
 pub mod RunLaws
 pub mod CheckpointLaws
+pub mod ClimbLaws
+pub mod CountLaws
+pub mod BuildLaws
+pub mod FormedLaws
+pub mod HoldingLaws
+pub mod NumberLaws
+pub mod FillLaws
+pub mod WriteLaws
+pub mod BodyLaws
+pub mod ContentLaws
+pub mod WalkLaws

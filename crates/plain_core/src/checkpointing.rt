@@ -4,8 +4,8 @@ ghost use Rattle.std.specs.List.{list_all};
 ghost use Rattle.base.specs.Limits.{in_range};
 ghost use Rattle.base.specs.declared.ranges.Limits.{Limits as Booted};
 ghost use Rattle.kernel_rules.specs.Runs.{state_after};
-ghost use Rattle.histories.specs.Events.{by, calls_in};
-ghost use Rattle.histories.specs.History.{state_of};
+ghost use Rattle.kernel_rules.specs.Events.{by, calls_in};
+ghost use Rattle.kernel_rules.specs.History.{state_of};
 ghost use Rattle.checkpoints.specs.Reached.{IsSound};
 ghost use Rattle.checkpoints.specs.Restorable.{is_restorable};
 ghost use Rattle.checkpoints.specs.Starts.{IsCheckpointOf};
@@ -13,10 +13,10 @@ ghost use Rattle.plain_core.specs.Kernel.{kernel_state};
 
 use crate::kernel::PlainKernel;
 use crate::machine::Machine;
+use crate::restoring::next_numbers;
 use base::{Limits, Meter, NoMemory, ObjectId};
 use checkpoints::Checkpoint;
-use histories::{Answered, Event};
-use restoring::next_numbers;
+use kernel_rules::histories::{Answered, Event};
 use std::alloc::Global;
 
 /// Makes the calls of a thread.

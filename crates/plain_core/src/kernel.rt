@@ -11,13 +11,13 @@ ghost use Rattle.kernel_rules.specs.State.{is_live_kind};
 ghost use Rattle.kernel_rules.specs.WellFormed.{is_well_formed};
 
 use crate::machine::Machine;
+use crate::restoring::{RestoreFault, restore, write};
 use base::{Kind, Limits, Meter, NoMemory, ObjectId};
 use checkpoints::{Checkpoint, NextNumber};
+use kernel_calls::kernel_tables::tables;
 use kernel_calls::{ask, step};
 use kernel_rules::{Call, Query, Reply, Tables};
-use kernel_tables::tables;
 use plain_state::{BootRefusal, PlainState};
-use restoring::{RestoreFault, restore, write};
 use std::alloc::Global;
 
 /// A label kernel that keeps nothing but its records, and computes liveness, use and label rules

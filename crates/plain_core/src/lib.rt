@@ -9,18 +9,20 @@
 mod checkpointing;
 mod kernel;
 mod machine;
+pub mod recording;
+pub mod restoring;
 
+pub use crate::restoring::RestoreFault;
 pub use checkpointing::checkpoint;
 pub use checkpoints::{
     Attributes, Checkpoint, FilledSlot, NextNumber, RawBody, RawGate, RawObject, RawThread,
     Recorded, SlotList,
 };
-pub use histories::{Answered, Event};
 pub use kernel::PlainKernel;
+pub use kernel_rules::histories::{Answered, Event};
 pub use kernel_rules::{
     Body, Call, Compared, Entry, Gate, Ids, Mapping, NewAddressSpace, NewContainer, NewCopy,
     NewGate, NewSegment, NewThread, Object, Query, Reply, Shown, Tables, Thread, Used,
 };
 pub use machine::{Machine, run};
 pub use plain_state::BootRefusal;
-pub use restoring::RestoreFault;

@@ -27,7 +27,7 @@ fn of_dumps() {
 fn of_shows() {
     page_text::trees_are_whole();
     page_text::data_stays_in_place();
-    tree_text::colours_are_beside();
+    shown_dumps::tree::colours_are_beside();
 }
 
 /// Calls each.

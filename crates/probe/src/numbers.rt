@@ -1,7 +1,7 @@
 //! The number of each refusal that a library answers.
 use anyhow::Result;
+use auditor::clean_dumps::DumpFault;
 use call_text::ScriptError;
-use clean_dumps::DumpFault;
 use dump_text::{DumpError, MigrateFault};
 use published_copy::{BootRefusal, SeatRefusal, SubmitRefusal, Unread};
 use test_structures::look::{Look, agree};

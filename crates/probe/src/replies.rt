@@ -2,8 +2,8 @@
 use base::{Category, Data, Level, Meter, NoMemory, ObjectId, Refusal, Rights};
 use call_text::{NameList, Named, Value, put_made, write_reply};
 use kernel_rules::{Ids, Mapping, Reply};
+use label_lattice::label_rules::stored_of;
 use label_lattice::{Label, RawLabel};
-use label_rules::stored_of;
 use std::alloc::Global;
 use test_structures::samples::{in_root, no_entry, pair, plain};
 use text_words::Name;

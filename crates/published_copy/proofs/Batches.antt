@@ -6,10 +6,10 @@ use Rattle.kernel_rules.specs.State.{State}
 use Rattle.kernel_rules.specs.Runs.{state_after, replies_to}
 use Rattle.kernel_rules.specs.declared.calls.Call.{Call}
 use Rattle.kernel_rules.specs.declared.replies.Reply.{Reply}
-use Rattle.histories.specs.Events.{Event, answers, by, replies_in}
-use Rattle.histories.specs.History.{answered, count, is_batch, state_of, IsLegal}
-use Rattle.histories.proofs.BatchLaws.{answered_calls, answered_replies, answered_length, answered_answers}
-use Rattle.histories.proofs.HistoryLaws.{answered_follows, legal-snoc, state_of-snoc}
+use Rattle.kernel_rules.specs.Events.{Event, answers, by, replies_in}
+use Rattle.kernel_rules.specs.History.{answered, count, is_batch, state_of, IsLegal}
+use Rattle.kernel_rules.proofs.BatchLaws.{answered_calls, answered_replies, answered_length, answered_answers}
+use Rattle.kernel_rules.proofs.HistoryLaws.{answered_follows, legal-snoc, state_of-snoc}
 use Rattle.published_copy.specs.Shares.{EndsWithReplies}
 use Rattle.published_copy.specs.Tallies.{tallied, IsTallied}
 use Rattle.published_copy.specs.Turns.{Turn, event_at, with_event}

@@ -3,10 +3,10 @@ use Rattle.std.proofs.Common.{◌≡◌, ◌+◌, ℕ, map, List, [], ◌∷◌,
 use Rattle.logbook.specs.Pages.{Book as Log}
 use Rattle.base.specs.declared.ranges.Limits.{Limits}
 use Rattle.kernel_rules.specs.Runs.{booted, state_after, replies_to}
-use Rattle.histories.specs.History.{IsLegal, state_of}
-use Rattle.histories.specs.Events.{Event, by, calls_in, replies_in}
-use Rattle.histories.proofs.HistoryLaws.{legal_none, legal-snoc, state_of-snoc}
-use Rattle.histories.proofs.BatchLaws.{answered_replies}
+use Rattle.kernel_rules.specs.History.{IsLegal, state_of}
+use Rattle.kernel_rules.specs.Events.{Event, by, calls_in, replies_in}
+use Rattle.kernel_rules.proofs.HistoryLaws.{legal_none, legal-snoc, state_of-snoc}
+use Rattle.kernel_rules.proofs.BatchLaws.{answered_replies}
 use Rattle.published_copy.specs.declared.copies.Copied.{Copied}
 use Rattle.published_copy.specs.declared.ops.Op.{Op}
 use Rattle.published_copy.specs.declared.entries.Entry.{Entry}

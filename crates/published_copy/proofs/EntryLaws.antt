@@ -2,7 +2,7 @@
 use Rattle.std.proofs.Common.{◌≡◌, ◌+◌, ◌<◌, List, [], ◌∷◌, ◌++◌, Option, Some, None, refl, ap, sym, ◌∙◌, arith, append_assoc, zero-add}
 use mathlib.Core.List.{IsPrefix}
 use Rattle.std.proofs.lemmas.List.{append-nil}
-use Rattle.histories.specs.Events.{Event}
+use Rattle.kernel_rules.specs.Events.{Event}
 use Rattle.published_copy.specs.declared.entries.Entry.{Entry}
 use Rattle.published_copy.specs.declared.entries.Entry.TheVariants.{Tried, Made}
 use Rattle.published_copy.specs.Entries.{made_after, last_after, made, tried, weight, weight_of}

@@ -2,8 +2,8 @@
 use Rattle.std.proofs.Common.{◌≡◌, true, false, Bool, ◌↔◌, List, ◌∷◌, [], refl, sym, ◌∙◌, Result, Err, IsErrOf}
 use Rattle.base.specs.declared.ranges.Limits.{Limits}
 use Rattle.kernel_rules.specs.declared.calls.Call.{Call}
-use Rattle.histories.specs.Events.{Event}
-use Rattle.histories.specs.History.{is_batch, IsLegal}
+use Rattle.kernel_rules.specs.Events.{Event}
+use Rattle.kernel_rules.specs.History.{is_batch, IsLegal}
 use Rattle.published_copy.specs.Turns.{Turn, is_turn, IsNotSubmitted}
 use Rattle.published_copy.specs.declared.refusals.SubmitRefusal.{SubmitRefusal}
 use Rattle.published_copy.specs.declared.refusals.SubmitRefusal.TheVariants.{Memory, OutOfTurn, BadBatch}

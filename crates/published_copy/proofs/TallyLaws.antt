@@ -1,14 +1,14 @@
 -- Finding a thread among the tallies, and giving it another count.
-use Rattle.std.proofs.Common.{◌≡◌, ℕ, suc, ◌+◌, ◌<◌, ◌≤◌, true, false, ◌==◌, if◌then◌else◌}
+use Rattle.std.proofs.Common.{◌≡◌, ℕ, suc, ◌+◌, ◌<◌, true, false, ◌==◌, if◌then◌else◌}
 use Rattle.std.proofs.Common.{List, [], ◌∷◌, ◌++◌, length, drop, get_or, set, Some, None}
 use Rattle.std.proofs.Common.{refl, sym, ap, ◌∙◌, arith, slice_get}
-use Rattle.std.proofs.lemmas.List.{at_drop_more, at_drop_all}
+use Rattle.std.proofs.lemmas.List.{at_drop_more}
 use Rattle.std.proofs.Common.{add-zero}
 use Rattle.std.proofs.lemmas.Bool.Decides.{nat_tests}
 use Rattle.published_copy.specs.declared.tallies.Tally.{Tally}
-use Rattle.histories.specs.History.{count}
-use Rattle.histories.specs.Events.{Event}
-use Rattle.histories.proofs.HistoryLaws.{count-snoc}
+use Rattle.kernel_rules.specs.History.{count}
+use Rattle.kernel_rules.specs.Events.{Event}
+use Rattle.kernel_rules.proofs.HistoryLaws.{count-snoc}
 use Rattle.published_copy.specs.Tallies.{place_of, tallied, IsTallied}
 
 -- the thread is next
@@ -25,10 +25,6 @@ pub place-miss : (thread : ℕ) (ts : List Tally) (i : ℕ) (d : Tally) → i < 
 place-miss thread ts i d less other =
     at_drop_more (place_of thread) ts i d less
     ∙ ap (λ v. if v then 0 else suc (place_of thread (drop (i + 1) ts))) other
-
--- no tally is left
-pub place-end : (thread : ℕ) (ts : List Tally) (i : ℕ) → length ts ≤ i → place_of thread (drop i ts) ≡ 0
-place-end thread ts i past = at_drop_all (place_of thread) ts i past
 
 -- what stands in the thread's place is its tally
 pub tallied-found : (thread : ℕ) (ts : List Tally) (t : Tally) → slice_get ts (place_of thread ts) ≡ Some t

@@ -2,7 +2,7 @@
 use Rattle.std.specs.Prelude.{Bool, true, false, List, [], ◌∷◌, ◌++◌}
 use Rattle.kernel_rules.specs.Runs.{state_after, replies_to}
 use Rattle.kernel_rules.specs.declared.calls.Call.{Call}
-use Rattle.histories.specs.Events.{Event, by}
+use Rattle.kernel_rules.specs.Events.{Event, by}
 use Rattle.syscall_core.specs.Kernel.{kernel_state}
 use Rattle.published_copy.specs.declared.entries.Entry.{Entry}
 use Rattle.published_copy.specs.declared.entries.Entry.TheVariants.{Made}

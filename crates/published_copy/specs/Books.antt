@@ -1,6 +1,6 @@
 -- What a contract sees of a book.
 use Rattle.std.specs.Prelude.{ℕ, List}
-use Rattle.histories.specs.Events.{Event}
+use Rattle.kernel_rules.specs.Events.{Event}
 
 -- every event since the boot, the oldest first, and the threads that were given seats
 pub record BookView : Type 0 where

@@ -3,7 +3,7 @@ use Rattle.std.specs.Prelude.{◌≡◌, ◌≤◌, ℕ, ◌==◌, ◌||◌, tru
 use Rattle.std.specs.Prelude.{length, Option, Some, None}
 use Rattle.base.specs.Live.{has}
 use Rattle.base.specs.declared.kinds.Kind.TheVariants as kinds
-use Rattle.histories.specs.History.{state_of, count, IsLegal}
+use Rattle.kernel_rules.specs.History.{state_of, count, IsLegal}
 use Rattle.kernel_rules.specs.State.{State, is_live_kind}
 use Rattle.published_copy.specs.Books.{BookView, PlacesView, places_with}
 use Rattle.published_copy.specs.Boots.{Boot}

@@ -4,8 +4,8 @@ use mathlib.Core.Option.{some}
 use lib.ListN.{get_elem?}
 use Rattle.logbook.specs.Pages.{Book as Log}
 use Rattle.base.specs.declared.levels.Level.TheVariants.{L1}
-use Rattle.histories.specs.History.{IsLegal, Follows, state_of}
-use Rattle.histories.specs.Events.{Event, calls_in, replies_in}
+use Rattle.kernel_rules.specs.History.{IsLegal, Follows, state_of}
+use Rattle.kernel_rules.specs.Events.{Event, calls_in, replies_in}
 use Rattle.kernel_rules.specs.declared.replies.Reply.{Reply}
 use Rattle.syscall_core.specs.Kernel.{kernel_state}
 use Rattle.published_copy.specs.Boots.{Boot}

@@ -1,7 +1,7 @@
 -- How many events each thread has, kept beside the journal.
 use Rattle.std.specs.Prelude.{◌≡◌, ℕ, suc, ◌==◌, if◌then◌else◌, List, [], ◌∷◌}
-use Rattle.histories.specs.History.{count}
-use Rattle.histories.specs.Events.{Event}
+use Rattle.kernel_rules.specs.History.{count}
+use Rattle.kernel_rules.specs.Events.{Event}
 use Rattle.published_copy.specs.declared.tallies.Tally.{Tally}
 
 -- where the thread stands, or how many tallies there are where it doesn't

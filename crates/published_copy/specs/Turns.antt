@@ -3,14 +3,14 @@ use mathlib.Core.List.{IsPrefix}
 use Rattle.std.specs.Prelude.{◌≡◌, ℕ, ◌+◌, ◌⊎◌, Bool, true, false, ◌&&◌, ◌==◌, nat_le, List, []}
 use Rattle.std.specs.Prelude.{◌∷◌, ◌++◌, ◌<◌, length, map, MatchBool}
 use Rattle.base.specs.declared.ranges.Limits.{Limits}
-use Rattle.histories.specs.History.{answered, state_of, count, is_batch, IsLegal}
+use Rattle.kernel_rules.specs.History.{answered, state_of, count, is_batch, IsLegal}
 use Rattle.kernel_rules.specs.State.{State}
 use Rattle.kernel_rules.specs.Runs.{replies_to}
 use Rattle.kernel_rules.specs.Step.{answer, query_answer}
 use Rattle.kernel_rules.specs.declared.calls.Call.{Call}
 use Rattle.kernel_rules.specs.declared.calls.Query.{Query}
 use Rattle.kernel_rules.specs.declared.replies.Reply.{Reply}
-use Rattle.histories.specs.Events.{Event, by}
+use Rattle.kernel_rules.specs.Events.{Event, by}
 use Rattle.published_copy.specs.declared.receipts.BatchReceipt.{BatchReceipt}
 use Rattle.published_copy.specs.declared.receipts.Placed.{Placed}
 use Rattle.published_copy.specs.declared.receipts.ReadReceipt.{ReadReceipt}

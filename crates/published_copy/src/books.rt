@@ -3,7 +3,7 @@ ghost use Rattle.std.specs.Prelude.{◌≡◌, ◌≤◌, ◌<◌, ◌+◌, ◌�
 ghost use Rattle.std.specs.Prelude.{IfOk, IfErr, OnOk, OnErr, IsErrOf, Some, None};
 ghost use Rattle.std.specs.Prelude.{◌^◌, IsTrue, IfNone, vec_len, vec_capacity};
 ghost use Rattle.base.specs.declared.kinds.Kind.TheVariants as kinds;
-ghost use Rattle.histories.specs.History.{IsLegal, state_of, count, is_batch};
+ghost use Rattle.kernel_rules.specs.History.{IsLegal, state_of, count, is_batch};
 ghost use Rattle.kernel_rules.specs.Step.{answer};
 ghost use Rattle.kernel_rules.specs.State.{is_live_kind};
 ghost use Rattle.syscall_core.specs.Kernel.{kernel_state};
@@ -46,7 +46,7 @@ pub struct Book<B: Naming> {
 
 impl<B: Naming> Model for Book<B> {
     ghost use Rattle.std.specs.Prelude.{◌≡◌};
-    ghost use Rattle.histories.specs.History.{IsLegal};
+    ghost use Rattle.kernel_rules.specs.History.{IsLegal};
     ghost use Rattle.published_copy.specs.Books.{BookView};
     ghost use Rattle.published_copy.specs.Tallies.{IsTallied};
 

@@ -1,6 +1,6 @@
 //! The copies of the kernel that readers take, and how they take in calls.
 ghost use Rattle.std.specs.Prelude.{◌≡◌, ◌∷◌, ℕ, [], IfOk, true};
-ghost use Rattle.histories.specs.Events.{by};
+ghost use Rattle.kernel_rules.specs.Events.{by};
 ghost use Rattle.kernel_rules.specs.Runs.{booted, replies_to, state_after};
 ghost use Rattle.kernel_rules.specs.declared.replies.Reply.TheVariants as told;
 ghost use Rattle.published_copy.specs.Absorbed.{calls_with};
@@ -12,8 +12,8 @@ use crate::further::Further;
 use crate::logs::{Told, weighed};
 use crate::ops::Op;
 use base::{Limits, Meter, NoMemory};
-use histories::Event;
 use kernel_rules::Reply;
+use kernel_rules::histories::Event;
 use left_right::Absorb;
 use std::alloc::{AllocError, Global};
 use std::marker::Model;

@@ -1,7 +1,7 @@
 //! What stands in the log of a boot, and the rule of the log.
 use base::ObjectId;
-use histories::Event;
 use kernel_rules::Call;
+use kernel_rules::histories::Event;
 use logbook::{Gain, Plain, Play, Rule};
 use syscall_core::Kernel;
 
@@ -81,7 +81,7 @@ pub(crate) struct Trial<'a> {
 
 impl<'a> Plain<Trial<'a>, Entry, u64> for Add {
     ghost use Rattle.std.specs.Prelude.{◌∷◌, None};
-    ghost use Rattle.histories.specs.History.{answered};
+    ghost use Rattle.kernel_rules.specs.History.{answered};
     ghost use Rattle.syscall_core.specs.Kernel.{kernel_state};
     ghost use Rattle.published_copy.specs.Entries.{tried};
 

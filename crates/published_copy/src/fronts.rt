@@ -1,6 +1,6 @@
 //! Beginnings of the boot's one list of events.
 ghost use Rattle.std.specs.Prelude.{◌≡◌, length};
-ghost use Rattle.histories.specs.History.{IsLegal};
+ghost use Rattle.kernel_rules.specs.History.{IsLegal};
 ghost use Rattle.published_copy.specs.Entries.{made};
 ghost use Rattle.published_copy.specs.Turns.{Has};
 
@@ -20,8 +20,8 @@ pub(crate) struct Front<B: Naming> {
 impl<B: Naming> Model for Front<B> {
     ghost use Rattle.std.specs.Prelude.{◌≡◌, List};
     ghost use Rattle.std.specs.Prelude as std;
-    ghost use Rattle.histories.specs.Events.{Event};
-    ghost use Rattle.histories.specs.History.{IsLegal};
+    ghost use Rattle.kernel_rules.specs.Events.{Event};
+    ghost use Rattle.kernel_rules.specs.History.{IsLegal};
     ghost use Rattle.published_copy.specs.Entries.{made};
 
     ghost Value = { List Event };

@@ -1,12 +1,12 @@
 //! What the calls of a batch after its first are answered.
 ghost use Rattle.std.specs.Prelude.{◌≡◌, ◌≤◌, ◌∷◌, [], length, vec_capacity, IfOk};
-ghost use Rattle.histories.specs.Events.{by};
+ghost use Rattle.kernel_rules.specs.Events.{by};
 ghost use Rattle.kernel_rules.specs.Runs.{replies_to, state_after};
 ghost use Rattle.syscall_core.specs.Kernel.{kernel_state};
 
 use base::{Meter, NoMemory, ObjectId};
-use histories::BATCH;
 use kept_events::{KeptReply, call_answers};
+use kernel_rules::histories::BATCH;
 use kernel_rules::{Call, Reply};
 use std::alloc::Global;
 use std::marker::Model;

@@ -1,7 +1,7 @@
 //! A reader of the two copies.
 ghost use Rattle.std.specs.Prelude.{◌≡◌, IfSome};
 ghost use Rattle.left_right.specs.Sides.{view};
-ghost use Rattle.histories.specs.History.{state_of};
+ghost use Rattle.kernel_rules.specs.History.{state_of};
 ghost use Rattle.kernel_rules.specs.Step.{query_answer};
 ghost use Rattle.published_copy.specs.Shares.{Names};
 

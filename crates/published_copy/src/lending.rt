@@ -2,7 +2,7 @@
 ghost use Rattle.std.specs.Prelude.{◌≡◌, ◌↔◌, ◌∷◌, [], true, false, IfOk, OnOk, OnErr, IsErrOf};
 ghost use Rattle.std.specs.Sync.Mutex.{mutex_guard_value};
 ghost use mathlib.Core.List.{IsPrefix};
-ghost use Rattle.histories.specs.History.{IsLegal, is_batch};
+ghost use Rattle.kernel_rules.specs.History.{IsLegal, is_batch};
 ghost use Rattle.published_copy.specs.Turns.{is_turn, with_event, receipt_of, passed_on, TellsBatch};
 
 use crate::books::Book;

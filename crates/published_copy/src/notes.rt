@@ -1,6 +1,6 @@
 //! What one seat tells another.
 ghost use Rattle.std.specs.Prelude.{◌≡◌, length};
-ghost use Rattle.histories.specs.History.{IsLegal};
+ghost use Rattle.kernel_rules.specs.History.{IsLegal};
 ghost use Rattle.published_copy.specs.Turns.{Has};
 
 use crate::fronts::Front;
@@ -16,7 +16,7 @@ pub struct Note<B: Naming> {
 
 impl<B: Naming> Model for Note<B> {
     ghost use Rattle.std.specs.Prelude.{List};
-    ghost use Rattle.histories.specs.Events.{Event};
+    ghost use Rattle.kernel_rules.specs.Events.{Event};
 
     ghost Value = { List Event };
 

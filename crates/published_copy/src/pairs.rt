@@ -3,7 +3,7 @@ ghost use Rattle.core.specs.Mem.{manually_drop_value};
 ghost use Rattle.std.specs.Prelude.{◌≡◌, ◌+◌, ◌≤◌, ◌<◌, ◌^◌, ◌∷◌, [], true, false, drop, length};
 ghost use Rattle.std.specs.Prelude.{OnOk, OnErr, IfOk, IfSome, OnSome};
 ghost use Rattle.std.specs.Arc.{arc_value};
-ghost use Rattle.histories.specs.History.{state_of, count, is_batch};
+ghost use Rattle.kernel_rules.specs.History.{state_of, count, is_batch};
 ghost use Rattle.kernel_rules.specs.Step.{answer};
 ghost use Rattle.syscall_core.specs.Kernel.{kernel_state};
 ghost use Rattle.published_copy.specs.Absorbed.{list_of};
@@ -42,8 +42,8 @@ pub(crate) struct Pair<B: Naming> {
 impl<B: Naming> Model for Pair<B> {
     ghost use Rattle.std.specs.Prelude.{◌≡◌, List, []};
     ghost use Rattle.std.specs.Arc.{arc_value};
-    ghost use Rattle.histories.specs.History.{IsLegal};
-    ghost use Rattle.histories.specs.Events.{Event};
+    ghost use Rattle.kernel_rules.specs.History.{IsLegal};
+    ghost use Rattle.kernel_rules.specs.Events.{Event};
     ghost use Rattle.published_copy.specs.Entries.{made};
     ghost use Rattle.published_copy.specs.Rules.{head_of};
 

@@ -1,6 +1,6 @@
 //! What a thread carries from call to call.
 ghost use Rattle.std.specs.Prelude.{◌≡◌, ◌+◌, ◌<◌, ◌^◌, length};
-ghost use Rattle.histories.specs.History.{IsLegal};
+ghost use Rattle.kernel_rules.specs.History.{IsLegal};
 ghost use Rattle.published_copy.specs.Turns.{turn, Has};
 
 use crate::fronts::Front;

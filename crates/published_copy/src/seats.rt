@@ -1,7 +1,7 @@
 //! A thread's place at a kernel that it shares.
 ghost use Rattle.std.specs.Prelude.{◌≡◌, ◌∷◌, [], IfOk, IfErr, OnOk, OnErr};
 ghost use mathlib.Core.List.{IsPrefix};
-ghost use Rattle.histories.specs.History.{IsLegal};
+ghost use Rattle.kernel_rules.specs.History.{IsLegal};
 ghost use Rattle.published_copy.specs.Turns.{IsSubmitted, IsBatchSubmitted, IsNotSubmitted, IsRead, IsReadAt, IsLearnt};
 ghost use Rattle.published_copy.specs.Turns.{seat_with, receipt_with};
 

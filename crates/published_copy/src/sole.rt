@@ -5,7 +5,7 @@
 ghost use Rattle.std.specs.Prelude.{◌≡◌, ◌↔◌, ◌+◌, ◌++◌, ◌∷◌, [], true, false, length, IfOk, OnOk, OnErr};
 ghost use Rattle.std.specs.Prelude.{IsErrOf, IfErr, Some, None};
 ghost use Rattle.base.specs.Limits.{in_range};
-ghost use Rattle.histories.specs.History.{IsLegal, count, is_batch, state_of};
+ghost use Rattle.kernel_rules.specs.History.{IsLegal, count, is_batch, state_of};
 ghost use Rattle.kernel_rules.specs.Step.{answer, query_answer};
 ghost use Rattle.syscall_core.specs.Kernel.{kernel_state};
 ghost use Rattle.published_copy.specs.Seats.{seat_refused};
@@ -45,7 +45,7 @@ pub struct SoleBook<B: Naming> {
 
 impl<B: Naming> Model for SoleBook<B> {
     ghost use Rattle.std.specs.Prelude.{◌≡◌};
-    ghost use Rattle.histories.specs.History.{IsLegal, state_of};
+    ghost use Rattle.kernel_rules.specs.History.{IsLegal, state_of};
     ghost use Rattle.syscall_core.specs.Kernel.{kernel_state};
     ghost use Rattle.published_copy.specs.Books.{BookView};
     ghost use Rattle.published_copy.specs.Tallies.{IsTallied};

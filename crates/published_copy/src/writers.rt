@@ -2,7 +2,7 @@
 ghost use Rattle.core.specs.Mem.{manually_drop_value};
 ghost use Rattle.std.specs.Prelude.{◌≡◌, ◌<◌, ◌≤◌, ◌∷◌, [], drop, fold, IfOk, OnErr, IsTrue};
 ghost use Rattle.left_right.specs.Sides.{view};
-ghost use Rattle.histories.specs.History.{IsLegal, state_of};
+ghost use Rattle.kernel_rules.specs.History.{IsLegal, state_of};
 ghost use Rattle.kernel_rules.specs.Runs.{booted};
 ghost use Rattle.syscall_core.specs.Kernel.{kernel_state};
 ghost use Rattle.published_copy.specs.Absorbed.{shown_of, absorbed};

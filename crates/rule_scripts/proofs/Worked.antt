@@ -1,8 +1,8 @@
 -- The scripts by computation. Made by scripts/make.py from scripts/worked.txt.
 use Rattle.std.specs.Prelude.{refl}
 use Rattle.base.specs.Live.{is_live}
-use Rattle.label_rules.specs.LabelRules.{stored, with_category, below, visible, shown, below_join}
-use Rattle.label_rules.specs.LabelRules.{below_join_up, above_floor}
+use Rattle.label_lattice.specs.LabelRules.{stored, with_category, below, visible, shown, below_join}
+use Rattle.label_lattice.specs.LabelRules.{below_join_up, above_floor}
 use Rattle.kernel_rules.specs.State.{live_part}
 use Rattle.kernel_rules.specs.Step.{answer, next, query_answer}
 use Rattle.kernel_rules.specs.Table.{refused, query_refused}

@@ -252,7 +252,7 @@ IMPORTS = [
     ('Rattle.base.specs.declared.kinds.Kind.TheVariants', ' '.join(KINDS.values())),
     ('Rattle.base.specs.declared.levels.Level.TheVariants', 'Star L0 L1 L2 L3'),
     ('Rattle.base.specs.declared.refusals.Refusal.TheVariants', ' '.join(REFUSALS)),
-    ('Rattle.label_rules.specs.LabelRules', 'stored with_category below visible shown below_join below_join_up above_floor'),
+    ('Rattle.label_lattice.specs.LabelRules', 'stored with_category below visible shown below_join below_join_up above_floor'),
     ('Rattle.kernel_rules.specs.Runs', 'booted'),
     ('Rattle.kernel_rules.specs.State', 'live_part use_of'),
     ('Rattle.kernel_rules.specs.Step', 'answer next query_answer'),

@@ -3,11 +3,11 @@ use Rattle.std.specs.Prelude.{◌≡◌, ℕ, true, false, List, [], ◌∷◌, 
 use Rattle.base.specs.declared.levels.Level.{Level}
 use Rattle.base.specs.declared.levels.Level.TheVariants.{L1, L2, L3}
 use Rattle.text_words.specs.declared.references.Reference.TheVariants.{Name}
-use Rattle.spoken_calls.specs.Spoken.{call_with}
-use Rattle.spoken_calls.specs.declared.args.Arg.{Arg}
-use Rattle.spoken_calls.specs.declared.args.Arg.TheVariants as args
-use Rattle.spoken_calls.specs.declared.verbs.Verb.{Verb}
-use Rattle.spoken_calls.specs.declared.verbs.Verb.TheVariants as verbs
+use Rattle.text_words.specs.Spoken.{call_with}
+use Rattle.text_words.specs.declared.spoken_calls.args.Arg.{Arg}
+use Rattle.text_words.specs.declared.spoken_calls.args.Arg.TheVariants as args
+use Rattle.text_words.specs.declared.spoken_calls.verbs.Verb.{Verb}
+use Rattle.text_words.specs.declared.spoken_calls.verbs.Verb.TheVariants as verbs
 use Rattle.call_text.specs.declared.phases.Line.{Line}
 use Rattle.script_rules.specs.Run.{run}
 use Rattle.script_rules.specs.Lines.{Told, told}

@@ -3,7 +3,7 @@ use Rattle.std.proofs.Common.{◌≡◌, ℕ, Bool, true, false, if◌then◌els
 use Rattle.base.specs.declared.ranges.Limits.{Limits}
 use Rattle.base.specs.declared.refusals.Refusal.{Refusal}
 use Rattle.base.specs.declared.refusals.Refusal.TheVariants.{BadBatch}
-use Rattle.histories.specs.History.{state_of}
+use Rattle.kernel_rules.specs.History.{state_of}
 use Rattle.kernel_rules.specs.State.{State}
 use Rattle.kernel_rules.specs.declared.replies.Reply.{Reply}
 use Rattle.kernel_rules.specs.declared.replies.Reply.TheVariants as replies

@@ -1,8 +1,8 @@
 -- What the rules answer to what a thread asks.
 use Rattle.std.specs.Prelude.{ℕ, ◌+◌, List, [], ◌∷◌, ◌++◌}
 use Rattle.base.specs.declared.ranges.Limits.{Limits}
-use Rattle.histories.specs.Events.{Event}
-use Rattle.histories.specs.History.{answered, count, state_of}
+use Rattle.kernel_rules.specs.Events.{Event}
+use Rattle.kernel_rules.specs.History.{answered, count, state_of}
 use Rattle.kernel_rules.specs.State.{State}
 use Rattle.kernel_rules.specs.Step.{answer, next, query_answer}
 use Rattle.kernel_rules.specs.declared.calls.Call.{Call}

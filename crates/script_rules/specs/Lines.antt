@@ -5,8 +5,8 @@ use Rattle.std.specs.List.{list_all}
 use Rattle.base.specs.declared.ranges.Limits.{Limits}
 use Rattle.base.specs.declared.refusals.Refusal.{Refusal}
 use Rattle.base.specs.declared.refusals.Refusal.TheVariants.{BadBatch}
-use Rattle.histories.specs.Events.{Event}
-use Rattle.histories.specs.History.{state_of}
+use Rattle.kernel_rules.specs.Events.{Event}
+use Rattle.kernel_rules.specs.History.{state_of}
 use Rattle.kernel_rules.specs.State.{State}
 use Rattle.kernel_rules.specs.declared.calls.Call.{Call}
 use Rattle.kernel_rules.specs.declared.calls.Query.{Query}

@@ -7,8 +7,8 @@ use Rattle.base.specs.declared.kinds.Kind.TheVariants as kinds
 use Rattle.base.specs.declared.ranges.Limits.{Limits}
 use Rattle.base.specs.declared.refusals.Refusal.{Refusal}
 use Rattle.base.specs.declared.refusals.Refusal.TheVariants.{SeatTaken, NoThread, SeatsSpent}
-use Rattle.histories.specs.Events.{Event}
-use Rattle.histories.specs.History.{count, state_of}
+use Rattle.kernel_rules.specs.Events.{Event}
+use Rattle.kernel_rules.specs.History.{count, state_of}
 use Rattle.kernel_rules.specs.State.{is_live_kind}
 use Rattle.call_text.specs.Known.{start_values, value_of}
 use Rattle.call_text.specs.declared.known_names.Named.{Named}

@@ -16,9 +16,9 @@ use Rattle.dump_text.specs.Reads.{have_places}
 use Rattle.dump_text.specs.Whole.{AreRead, CanBegin, IsAnsweredRightly, start_with, whole_dump}
 use Rattle.dump_text.specs.declared.tables.PlacedRead.{PlacedRead}
 use Rattle.std.specs.List.{AllByRecursion}
-use Rattle.histories.proofs.LaterLaws.{state_from-append}
-use Rattle.histories.specs.Events.{Event}
-use Rattle.histories.specs.History.{IsLegal, IsLegalFrom, state_from, state_of}
+use Rattle.kernel_rules.proofs.LaterLaws.{state_from-append}
+use Rattle.kernel_rules.specs.Events.{Event}
+use Rattle.kernel_rules.specs.History.{IsLegal, IsLegalFrom, state_from, state_of}
 use Rattle.kernel_rules.specs.Runs.{booted}
 use Rattle.kernel_rules.specs.Scratch.{scratch}
 use Rattle.kernel_rules.specs.Tables.{TableLists}

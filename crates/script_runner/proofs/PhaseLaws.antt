@@ -9,7 +9,7 @@ use Rattle.std.proofs.lemmas.List.Quantifiers.{position-Some}
 use Rattle.std.proofs.lemmas.Option.{none-some, slice_get-get_or}
 use Rattle.base.specs.declared.ranges.Limits.{Limits}
 use Rattle.base.specs.declared.refusals.Refusal.{Refusal}
-use Rattle.histories.specs.Events.{Event}
+use Rattle.kernel_rules.specs.Events.{Event}
 use Rattle.published_copy.specs.Books.{BookView}
 use Rattle.call_text.specs.Known.{value_of}
 use Rattle.call_text.specs.declared.known_names.Named.{Named}

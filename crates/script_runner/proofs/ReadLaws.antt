@@ -13,9 +13,9 @@ use Rattle.dump_text.specs.Reads.{are_placed, have_places}
 use Rattle.dump_text.specs.Whole.{raw_reply, threads_rise, AreRead, IsAnsweredRightly}
 use Rattle.dump_text.specs.declared.read_replies.ReadReply.{ReadReply}
 use Rattle.dump_text.specs.declared.tables.PlacedRead.{PlacedRead}
-use Rattle.histories.proofs.LaterLaws.{state_from-append}
-use Rattle.histories.specs.Events.{Event}
-use Rattle.histories.specs.History.{state_from, state_of}
+use Rattle.kernel_rules.proofs.LaterLaws.{state_from-append}
+use Rattle.kernel_rules.specs.Events.{Event}
+use Rattle.kernel_rules.specs.History.{state_from, state_of}
 use Rattle.kernel_rules.specs.Runs.{booted}
 use Rattle.kernel_rules.specs.State.{State}
 use Rattle.kernel_rules.specs.Step.{query_answer}

@@ -3,8 +3,8 @@ use Rattle.std.proofs.Common.{◌≡◌, List, ℕ, ◌∙◌, ap, subst, Option
 use Rattle.std.specs.Io.KnownBytes.{Appends}
 use Rattle.call_text.specs.declared.phases.Line.{Line}
 use Rattle.call_text.specs.Script.{IsScript}
-use Rattle.plain_scripts.specs.Numbers.{renumbered}
-use Rattle.plain_scripts.specs.Scripts.{kept_numbers, plain_text}
+use Rattle.call_text.specs.Numbers.{renumbered}
+use Rattle.call_text.specs.Scripts.{kept_numbers, plain_text}
 use Rattle.program_io.specs.declared.options.Options.{Options}
 use Rattle.script_runner.specs.Runs.{IsRunTold, Writes}
 

@@ -8,7 +8,7 @@ use Rattle.base.specs.Live.{has}
 use Rattle.base.specs.declared.kinds.Kind.TheVariants as kinds
 use Rattle.base.specs.declared.refusals.Refusal.{Refusal}
 use Rattle.base.specs.declared.refusals.Refusal.TheVariants.{SeatTaken, NoThread, SeatsSpent}
-use Rattle.histories.specs.History.{count, state_of}
+use Rattle.kernel_rules.specs.History.{count, state_of}
 use Rattle.kernel_rules.specs.State.{is_live_kind}
 use Rattle.published_copy.specs.Books.{BookView}
 use Rattle.published_copy.specs.Boots.{Boot}

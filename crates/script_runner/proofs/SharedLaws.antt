@@ -13,8 +13,8 @@ use Rattle.base.specs.declared.kinds.Kind.TheVariants as kinds
 use Rattle.base.specs.declared.ranges.Limits.{Limits}
 use Rattle.base.specs.declared.refusals.Refusal.{Refusal}
 use Rattle.base.specs.declared.refusals.Refusal.TheVariants.{BadBatch, NoThread, SeatTaken, SeatsSpent}
-use Rattle.histories.specs.Events.{Event, by}
-use Rattle.histories.specs.History.{count, state_of, IsLegal}
+use Rattle.kernel_rules.specs.Events.{Event, by}
+use Rattle.kernel_rules.specs.History.{count, state_of, IsLegal}
 use Rattle.kernel_rules.specs.Runs.{replies_to}
 use Rattle.kernel_rules.specs.State.{is_live_kind}
 use Rattle.kernel_rules.specs.declared.calls.Call.{Call}

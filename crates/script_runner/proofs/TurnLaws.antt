@@ -8,25 +8,22 @@ use Rattle.text_words.proofs.Split.{both_true}
 use Rattle.base.specs.declared.ranges.Limits.{Limits}
 use Rattle.base.specs.declared.refusals.Refusal.{Refusal}
 use Rattle.base.specs.declared.refusals.Refusal.TheVariants.{BadBatch}
-use Rattle.histories.specs.Events.{Event, by}
-use Rattle.histories.specs.History.{state_of}
+use Rattle.kernel_rules.specs.Events.{Event, by}
+use Rattle.kernel_rules.specs.History.{state_of}
 use Rattle.kernel_rules.specs.Runs.{replies_to}
 use Rattle.kernel_rules.specs.State.{State}
-use Rattle.kernel_rules.specs.Step.{answer, next, query_answer}
+use Rattle.kernel_rules.specs.Step.{answer, next}
 use Rattle.kernel_rules.specs.declared.calls.Call.{Call}
-use Rattle.kernel_rules.specs.declared.calls.Query.{Query}
 use Rattle.kernel_rules.specs.declared.replies.Reply.{Reply}
 use Rattle.kernel_rules.specs.declared.replies.Reply.TheVariants.{Refused}
-use Rattle.call_text.specs.Resolve.{resolved}
 use Rattle.call_text.specs.declared.asking.Asked.{Asked}
 use Rattle.call_text.specs.declared.asking.Asked.TheVariants.{Read, Write}
 use Rattle.call_text.specs.declared.known_names.Named.{Named}
 use Rattle.call_text.specs.declared.phases.Line.{Line}
 use Rattle.script_rules.specs.Asking.{with_calls}
-use Rattle.script_rules.specs.Lines.{Told, Seen, Stand, Waiting, told, seen, tell, tell_waiting, tell_all, answer_in, state_in, call_in, calls_of, asked, is_no_read, are_batch, refuse_all, make, wait, unseated, line_by, lines_by}
-use Rattle.script_rules.specs.Names.{made_by, names_after, with_name}
+use Rattle.script_rules.specs.Lines.{Stand, Waiting, tell, tell_waiting, tell_all, answer_in, state_in, call_in, calls_of, asked, is_no_read, are_batch, refuse_all, make, line_by, lines_by}
 use Rattle.script_runner.specs.Answers.{Kept}
-use Rattle.script_runner.specs.Turns.{idle, stand, tell_next, tell_with, waiting_for, waiting_in}
+use Rattle.script_runner.specs.Turns.{idle, stand, tell_next, tell_with, waiting_in}
 use Rattle.script_runner.specs.declared.batches.Gathered.{Gathered}
 
 -- what waits plays no part as lines are told
@@ -135,12 +132,6 @@ many g n more n_is large =
 
     none : nat_le (length g) 16 ≡ false
     none = at (leb_tells (length g) 16)
-
--- one line more waits
-pub waits : (journal : List Event) (names : List Named) (line : Line) (g more : List Gathered) (k : Kept)
-    → map waiting_in more ≡ map waiting_in g ++ waiting_for line names ∷ []
-    → stand journal names more k ≡ wait (stand journal names g k) line
-waits journal names line g more k is = λ i. record (stand journal names g k) { waiting = is i }
 
 -- what is left from a place on
 pub drop_next : {A : Type 0} (xs : List A) (k : ℕ) (x : A) → slice_get xs k ≡ Some x → drop k xs ≡ x ∷ drop (k + 1) xs

@@ -3,8 +3,8 @@ use mathlib.Core.List.{IsPrefix}
 use Rattle.std.specs.Prelude.{◌≡◌, ℕ, List, [], Option, Some, None, Result, Ok, Err}
 use Rattle.base.specs.declared.ranges.Limits.{Limits}
 use Rattle.base.specs.declared.refusals.Refusal.{Refusal}
-use Rattle.histories.specs.Events.{Event}
-use Rattle.histories.specs.History.{state_of, IsLegal}
+use Rattle.kernel_rules.specs.Events.{Event}
+use Rattle.kernel_rules.specs.History.{state_of, IsLegal}
 use Rattle.kernel_rules.specs.State.{State}
 use Rattle.kernel_rules.specs.declared.calls.Call.{Call}
 use Rattle.script_rules.specs.Asking.{with_calls}

@@ -5,10 +5,10 @@ use Rattle.std.specs.List.{list_all}
 use Rattle.base.specs.declared.ranges.Limits.{Limits}
 use Rattle.checkpoints.specs.Checkpoint.{Checkpoint}
 use Rattle.checkpoints.specs.Starts.{IsCheckpointOf}
-use Rattle.histories.specs.History.{IsLegal, state_of}
+use Rattle.kernel_rules.specs.History.{IsLegal, state_of}
 use Rattle.kernel_rules.specs.Scratch.{scratch}
 use Rattle.kernel_rules.specs.Tables.{TableLists}
-use Rattle.histories.specs.Events.{Event}
+use Rattle.kernel_rules.specs.Events.{Event}
 use Rattle.dump_text.specs.Dump.{IsDump}
 use Rattle.dump_text.specs.Line.{IsBootable}
 use Rattle.dump_text.specs.Whole.{IsLegalDump, whole_dump}

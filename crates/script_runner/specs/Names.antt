@@ -4,7 +4,7 @@ use Rattle.call_text.specs.declared.known_names.Named.{Named}
 use Rattle.call_text.specs.declared.known_names.Value.{Value}
 use Rattle.call_text.specs.declared.known_names.Value.TheVariants.{Object, Category}
 use Rattle.call_text.specs.Known.{name_of}
-use Rattle.names_text.specs.Names.{names_text}
+use Rattle.call_text.specs.RunNames.{names_text}
 use Rattle.script_rules.specs.Names.{bound}
 use Rattle.indexmap.specs.IndexMap.{get}
 use Rattle.script_runner.specs.declared.names.FirstNames.{FirstNames}

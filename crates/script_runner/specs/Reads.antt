@@ -3,8 +3,8 @@ use Rattle.std.specs.Prelude.{◌≡◌, ℕ, ◌-◌, ◌≤◌, ◌==◌, ◌|
 use Rattle.std.specs.Prelude.{Bool, if◌then◌else◌, List, [], ◌∷◌, ◌++◌, Option, Some, None}
 use Rattle.std.specs.Str.{bytes_eq}
 use Rattle.base.specs.declared.ranges.Limits.{Limits}
-use Rattle.histories.specs.Events.{Event}
-use Rattle.histories.specs.History.{state_of}
+use Rattle.kernel_rules.specs.Events.{Event}
+use Rattle.kernel_rules.specs.History.{state_of}
 use Rattle.kernel_rules.specs.Step.{query_answer}
 use Rattle.kernel_rules.specs.declared.replies.Reply.{Reply}
 use Rattle.syscall_core.specs.Kernel.{kernel_state}

@@ -2,12 +2,12 @@
 use Rattle.std.specs.Prelude.{◌≡◌, ℕ, true, false, List, Option}
 use Rattle.std.specs.Io.KnownBytes.{Appends}
 use Rattle.base.specs.declared.ranges.Limits.{Limits}
-use Rattle.histories.specs.Events.{Event}
+use Rattle.kernel_rules.specs.Events.{Event}
 use Rattle.call_text.specs.Script.{IsScript}
 use Rattle.call_text.specs.declared.known_names.Named.{Named}
 use Rattle.call_text.specs.declared.phases.Line.{Line}
-use Rattle.plain_scripts.specs.Numbers.{renumbered}
-use Rattle.plain_scripts.specs.Scripts.{kept_numbers, plain_text}
+use Rattle.call_text.specs.Numbers.{renumbered}
+use Rattle.call_text.specs.Scripts.{kept_numbers, plain_text}
 use Rattle.program_io.specs.declared.options.Options.{Options}
 use Rattle.script_runner.specs.Dumps.{IsFileOf}
 use Rattle.script_runner.specs.Names.{IsNamesFileOf}

@@ -5,8 +5,8 @@ use Rattle.std.specs.List.{list_any, AllByRecursion, AllZip}
 use Rattle.std.specs.Str.{bytes_eq}
 use Rattle.base.specs.declared.ranges.Limits.{Limits}
 use Rattle.base.specs.declared.refusals.Refusal.{Refusal}
-use Rattle.histories.specs.Events.{Event}
-use Rattle.histories.specs.History.{IsLegal}
+use Rattle.kernel_rules.specs.Events.{Event}
+use Rattle.kernel_rules.specs.History.{IsLegal}
 use Rattle.call_text.specs.Known.{start_values, value_of}
 use Rattle.call_text.specs.Resolve.{resolved}
 use Rattle.call_text.specs.declared.asking.Asked.{Asked}

@@ -1,7 +1,7 @@
 //! Batches that a worker gathers before it submits them.
 ghost use Rattle.std.specs.Prelude.{◌≡◌, ◌++◌, ◌+◌, ◌≤◌, [], ◌∷◌, List, Ok, true, false, map, length, OnOk};
 ghost use Rattle.std.specs.List.{list_all};
-ghost use Rattle.histories.specs.Events.{Event};
+ghost use Rattle.kernel_rules.specs.Events.{Event};
 ghost use Rattle.call_text.specs.declared.known_names.Named.{Named as NamedValue};
 ghost use Rattle.script_rules.specs.Lines as rules;
 ghost use Rattle.script_rules.specs.Lines.{are_batch, calls_of, refuse_all, told, unseated};

@@ -1,6 +1,6 @@
 //! What stands in the book at the end of a run.
 ghost use Rattle.std.specs.Prelude.{◌≡◌, IfOk};
-ghost use Rattle.histories.specs.History.{state_of};
+ghost use Rattle.kernel_rules.specs.History.{state_of};
 ghost use Rattle.kernel_rules.specs.Scratch.{scratch};
 ghost use Rattle.script_runner.specs.Dumps.{IsClosing};
 

@@ -1,7 +1,7 @@
 //! The kernel of a run whose workers take turns.
 ghost use Rattle.std.specs.Prelude.{◌≡◌, [], ◌∷◌, true, None, length, IfOk, OnOk};
-ghost use Rattle.histories.specs.Events.{by};
-ghost use Rattle.histories.specs.History.{state_of, IsLegal};
+ghost use Rattle.kernel_rules.specs.Events.{by};
+ghost use Rattle.kernel_rules.specs.History.{state_of, IsLegal};
 ghost use Rattle.base.specs.Limits.{in_range};
 ghost use Rattle.kernel_rules.specs.Runs.{replies_to};
 ghost use Rattle.kernel_rules.specs.Scratch.{scratch};

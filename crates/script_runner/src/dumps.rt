@@ -8,7 +8,7 @@ ghost use Rattle.dump_text.specs.Dump.{IsDump};
 ghost use Rattle.dump_text.specs.Line.{IsBootable};
 ghost use Rattle.dump_text.specs.Reads.{have_places};
 ghost use Rattle.dump_text.specs.Whole.{AreRead, whole_dump};
-ghost use Rattle.histories.specs.History.{IsLegalFrom, state_from};
+ghost use Rattle.kernel_rules.specs.History.{IsLegalFrom, state_from};
 ghost use Rattle.kernel_rules.specs.Scratch.{scratch};
 ghost use Rattle.script_runner.specs.Dumps.{are_given, IsPlayed, IsRunDump};
 
@@ -17,9 +17,9 @@ use crate::replays::told_reads;
 use base::{Limits, NoMemory};
 use checkpoints::{Checkpoint, later_are_legal};
 use dump_text::{PlacedRead, legal_is_dump};
-use histories::Event;
 use kept_events::{KeptEvent, events_of};
 use kernel_rules::Tables;
+use kernel_rules::histories::Event;
 use plain_core::checkpoint;
 use std::alloc::Global;
 

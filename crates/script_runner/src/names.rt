@@ -4,14 +4,14 @@ ghost use Rattle.std.specs.Option.{option_or};
 ghost use Rattle.call_text.specs.declared.known_names.Named.{Named as NamedValue};
 ghost use Rattle.call_text.specs.Known.{start_values};
 ghost use Rattle.indexmap.specs.IndexMap.{get, IsUnchanged};
-ghost use Rattle.names_text.specs.Names.{names_text};
+ghost use Rattle.call_text.specs.RunNames.{names_text};
 ghost use Rattle.script_rules.specs.Names.{bound};
 ghost use Rattle.script_runner.specs.Names.{all_bound, first_name, AreFirst};
 
 use base::NoMemory;
+use call_text::names_text::put_named;
 use call_text::{Known, Named, Value, start_names};
 use indexmap::IndexMap;
-use names_text::put_named;
 use std::alloc::{AllocError, Global};
 use std::marker::Model;
 use text_words::Name;

@@ -1,7 +1,7 @@
 //! A kernel, with what its workers need at their turns.
 ghost use Rattle.std.specs.Prelude.{◌≡◌, ◌≤◌, ◌++◌, [], ◌∷◌, true, false, None, Ok, map, length, OnOk};
 ghost use Rattle.std.specs.List.{list_all};
-ghost use Rattle.histories.specs.History.{state_of};
+ghost use Rattle.kernel_rules.specs.History.{state_of};
 ghost use Rattle.kernel_rules.specs.Step.{answer, query_answer};
 ghost use Rattle.script_rules.specs.Asking.{with_calls};
 ghost use Rattle.script_rules.specs.Lines as rules;

@@ -1,7 +1,7 @@
 //! The program, over a reader, a sink and a writer.
 ghost use Rattle.std.specs.Prelude.{◌≡◌, IfErr, IfOk, IfSome};
 ghost use Rattle.call_text.specs.Script.{IsScript};
-ghost use Rattle.plain_scripts.specs.Scripts.{kept_numbers, plain_text};
+ghost use Rattle.call_text.specs.Scripts.{kept_numbers, plain_text};
 ghost use Rattle.script_runner.specs.Faults.{IsFaultOf, IsRefusedFor, run_status};
 ghost use Rattle.script_runner.specs.Dumps.{IsFile, IsFileOf, IsPlayed};
 ghost use Rattle.script_runner.specs.Names.{IsNamesFileOf};
@@ -13,10 +13,10 @@ use crate::play::{Played, play_all};
 use crate::reads::{Reads, seen_reads};
 use base::NoMemory;
 use call_text::Script;
+use call_text::plain_scripts::{Plain, renumbered};
 use check_text::{Checked, Exact, Faults, read_or_tell};
 use kept_events::KeptEvent;
 use kernel_rules::Tables;
-use plain_scripts::{Plain, renumbered};
 use program_io::{Fault, Options, Sink, bytes_of, deliver};
 use std::alloc::Global;
 use std::io::{Read, Write};

@@ -1,8 +1,8 @@
 //! A kernel that workers share, as one of them has it.
 ghost use Rattle.std.specs.Prelude.{◌≡◌, [], ◌∷◌, List, length, Ok, IfOk, IfErr, OnOk};
 ghost use mathlib.Core.List.{IsPrefix};
-ghost use Rattle.histories.specs.Events.{by};
-ghost use Rattle.histories.specs.History.{state_of};
+ghost use Rattle.kernel_rules.specs.Events.{by};
+ghost use Rattle.kernel_rules.specs.History.{state_of};
 ghost use Rattle.kernel_rules.specs.Runs.{replies_to};
 ghost use Rattle.kernel_rules.specs.Step.{answer, query_answer};
 ghost use Rattle.script_runner.specs.Desks.{IsGiven, IsSubmitted, seat_in};

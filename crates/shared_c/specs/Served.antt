@@ -5,7 +5,7 @@ use Rattle.base.specs.Limits.{in_range}
 use Rattle.base.specs.declared.ranges.Limits.{Limits}
 use Rattle.dump_text.specs.Boot.{boot_dump, IsBootDump}
 use Rattle.dump_text.specs.Dump.{dump_text}
-use Rattle.histories.specs.History.{is_batch}
+use Rattle.kernel_rules.specs.History.{is_batch}
 use Rattle.kernel_rules.specs.declared.calls.Call.{Call}
 use Rattle.kernel_rules.specs.declared.calls.Query.{Query}
 use Rattle.kernel_rules.specs.declared.replies.Reply.{Reply}

@@ -5,7 +5,7 @@ ghost use Rattle.shared_c.specs.Served.{IsBatchCalled, IsBegun, IsCallKept, IsRe
 use crate::held::{KeptSeat, refusal_number};
 use base::ObjectId;
 use call_records::{Answer, tell};
-use histories::BATCH;
+use kernel_rules::histories::BATCH;
 
 /// Forgets the calls that were kept.
 pub(crate) fn begin(kept: &mut KeptSeat)

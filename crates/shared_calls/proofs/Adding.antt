@@ -7,7 +7,7 @@ use Rattle.std.specs.Prelude.{slice_set}
 use mathlib.Core.List.{IsPrefix}
 use prog.Atomic.{either}
 use Rattle.logbook.specs.Pages.{Cell, Nib, View, cell, keeps, gives, adds, no_nib, may_write, step, Moves, Goes, Away}
-use Rattle.histories.specs.History.{is_batch}
+use Rattle.kernel_rules.specs.History.{is_batch}
 use Rattle.shared_calls.specs.Lists.{IsKept, IsHome, IsSource, Adds, Draws, Looks, AreHome, AreMarked, Lacks}
 use Rattle.shared_calls.specs.declared.rules.Made.{Made}
 use Rattle.shared_calls.proofs.Marks.{all_snoc, all_prefix, all_last, all_more, home_set, home_there, home_more, first_more, lacks_away, marked_snoc}

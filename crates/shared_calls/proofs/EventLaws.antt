@@ -5,10 +5,10 @@ use Rattle.std.proofs.lemmas.Bool.Decides.{nat_tests}
 use Rattle.base.specs.declared.ranges.Limits.{Limits}
 use Rattle.kernel_rules.specs.Runs.{state_after}
 use Rattle.kernel_rules.specs.State.{State}
-use Rattle.histories.specs.Events.{Event, by}
-use Rattle.histories.specs.History.{answered, count, is_batch, state_of, IsLegal}
-use Rattle.histories.proofs.BatchLaws.{answered_calls}
-use Rattle.histories.proofs.HistoryLaws.{answered_follows, legal-snoc, state_of-snoc, count-append}
+use Rattle.kernel_rules.specs.Events.{Event, by}
+use Rattle.kernel_rules.specs.History.{answered, count, is_batch, state_of, IsLegal}
+use Rattle.kernel_rules.proofs.BatchLaws.{answered_calls}
+use Rattle.kernel_rules.proofs.HistoryLaws.{answered_follows, legal-snoc, state_of-snoc, count-append}
 use Rattle.shared_calls.specs.Events.{event_after, events_after, events_of, AreNumbered}
 use Rattle.shared_calls.specs.declared.rules.Made.{Made}
 
@@ -47,10 +47,6 @@ journal_more limits events grown log longer m e before after is legal state more
       subst (λ (l : List Event). IsLegal limits l) (sym whole) (legal_more limits events m legal size),
       step ∙ (ap (λ s. state_after s (by m.thread m.calls)) state ∙ (sym (state_event limits events m) ∙ ap (state_of limits) (sym whole))),
     )
-
--- the events of a legal list are numbered
-pub numbered : (limits : Limits) (events : List Event) → IsLegal limits events → AreNumbered events
-numbered limits events legal before after e is = (legal before after e is).number
 
 -- an event after which its thread has none has as its number how many the thread has
 last_number : (events : List Event) (i : ℕ) (d : Event) → AreNumbered events → i < length events

@@ -6,10 +6,10 @@ use Rattle.kernel_rules.specs.State.{State}
 use Rattle.kernel_rules.specs.Step.{answer, next}
 use Rattle.kernel_rules.specs.Runs.{state_after}
 use Rattle.kernel_rules.specs.declared.calls.Call.{Call}
-use Rattle.histories.specs.Events.{by, told}
-use Rattle.histories.specs.declared.events.Answered.{Answered}
-use Rattle.histories.specs.History.{answered}
-use Rattle.histories.proofs.BatchLaws.{answered-snoc, by-snoc, state_after-snoc}
+use Rattle.kernel_rules.specs.Events.{by, told}
+use Rattle.kernel_rules.specs.declared.histories.events.Answered.{Answered}
+use Rattle.kernel_rules.specs.History.{answered}
+use Rattle.kernel_rules.proofs.BatchLaws.{answered-snoc, by-snoc, state_after-snoc}
 
 taken : (t : ℕ) (calls : List Call) (i : ℕ) (c : Call) → i < length calls → c ≡ get_or calls i c
     → take (i + 1) calls ≡ take i calls ++ c ∷ []

@@ -3,9 +3,9 @@ use Rattle.std.proofs.Common.{◌≡◌, true, List, [], ◌∷◌, ◌++◌, le
 use Rattle.std.proofs.lemmas.List.{append-nil, append_assoc}
 use mathlib.Core.List.{IsPrefix}
 use Rattle.base.specs.declared.ranges.Limits.{Limits}
-use Rattle.histories.proofs.BatchLaws.{state_after-append}
-use Rattle.histories.specs.Events.{by}
-use Rattle.histories.specs.History.{is_batch}
+use Rattle.kernel_rules.proofs.BatchLaws.{state_after-append}
+use Rattle.kernel_rules.specs.Events.{by}
+use Rattle.kernel_rules.specs.History.{is_batch}
 use Rattle.kernel_rules.specs.Runs.{booted, state_after}
 use Rattle.shared_calls.specs.Lists.{calls_in, AreBatches}
 use Rattle.shared_calls.specs.Seats.{state_of}

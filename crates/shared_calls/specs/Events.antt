@@ -1,8 +1,8 @@
 -- The events of a list, and what a journal of it is.
 use Rattle.std.specs.Prelude.{◌≡◌, ◌+◌, List, [], ◌∷◌, ◌++◌}
 use Rattle.base.specs.declared.ranges.Limits.{Limits}
-use Rattle.histories.specs.Events.{Event}
-use Rattle.histories.specs.History.{answered, count, state_of, IsLegal}
+use Rattle.kernel_rules.specs.Events.{Event}
+use Rattle.kernel_rules.specs.History.{answered, count, state_of, IsLegal}
 use Rattle.syscall_core.specs.Kernel.{kernel_state}
 use Rattle.shared_calls.specs.declared.journals.Journal.{Journal}
 use Rattle.shared_calls.specs.declared.rules.Made.{Made}

@@ -2,8 +2,8 @@
 use Rattle.std.specs.Prelude.{ℕ, ◌≡◌, ◌≢◌, ◌<◌, ◌⊎◌, ◌==◌, true, List, [], ◌∷◌, ◌++◌, length, MatchBool}
 use Rattle.std.specs.List.{AllByRecursion}
 use Rattle.logbook.specs.Pages.{Cell, Step, View, Book, Named, cell, nib, may_make}
-use Rattle.histories.specs.Events.{by}
-use Rattle.histories.specs.History.{is_batch}
+use Rattle.kernel_rules.specs.Events.{by}
+use Rattle.kernel_rules.specs.History.{is_batch}
 use Rattle.kernel_rules.specs.declared.calls.Call.{Call}
 use Rattle.shared_calls.specs.declared.rules.Made.{Made}
 

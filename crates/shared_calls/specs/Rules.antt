@@ -1,6 +1,6 @@
 -- What stands at a place.
 use Rattle.std.specs.Prelude.{ℕ, ◌≡◌, true, List, [], ◌∷◌, ◌++◌, length}
-use Rattle.histories.specs.History.{is_batch}
+use Rattle.kernel_rules.specs.History.{is_batch}
 use Rattle.shared_calls.specs.Names.{name_of}
 use Rattle.shared_calls.specs.Lists.{made}
 use Rattle.shared_calls.specs.declared.rules.Entry.{Entry}

@@ -2,7 +2,7 @@
 use mathlib.Core.List.{IsPrefix}
 use Rattle.std.specs.Prelude.{ℕ, ◌≡◌, ◌<◌, ◌≤◌, Bool, MatchBool, List, [], ◌∷◌, ◌++◌, length}
 use Rattle.logbook.specs.Pages.{Book}
-use Rattle.histories.specs.Events.{by}
+use Rattle.kernel_rules.specs.Events.{by}
 use Rattle.base.specs.declared.ranges.Limits.{Limits}
 use Rattle.kernel_rules.specs.Runs.{booted, replies_to, state_after}
 use Rattle.kernel_rules.specs.State.{State}

@@ -4,7 +4,7 @@ ghost use Rattle.base.specs.Limits.{in_range};
 ghost use Rattle.dump_text.specs.Boot.{boot_dump, IsBootDump};
 ghost use Rattle.dump_text.specs.Dump.{dump_text};
 ghost use Rattle.dump_text.specs.Fits.{FitsWords};
-ghost use Rattle.histories.specs.History.{IsLegal, count, state_of};
+ghost use Rattle.kernel_rules.specs.History.{IsLegal, count, state_of};
 ghost use Rattle.kernel_rules.specs.Scratch.{scratch};
 ghost use Rattle.shared_calls.specs.Events.{AreNumbered, IsJournal, events_of};
 ghost use Rattle.shared_calls.specs.Cursors.{IsPlaced};
@@ -17,8 +17,8 @@ use crate::playing::answer_all;
 use crate::rules::{Entry, Prefix};
 use base::{Limits, Meter, NoMemory, ObjectId};
 use dump_text::{boot_checkpoint, dump_of, legal_boot_is_dump};
-use histories::Event;
 use kernel_rules::Tables;
+use kernel_rules::histories::Event;
 use std::alloc::Global;
 use syscall_core::Kernel;
 

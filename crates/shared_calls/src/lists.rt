@@ -1,7 +1,7 @@
 //! The list of calls.
 ghost use Rattle.std.specs.Prelude.{◌≡◌, ◌+◌, ◌<◌, ◌^◌, ◌++◌, ◌∷◌, [], IfOk, IfSome, IfNone, IsErrOf, IsTrue, OnOk, OnErr, length, true};
 ghost use Rattle.logbook.specs.Pages.{may_write};
-ghost use Rattle.histories.specs.History.{is_batch};
+ghost use Rattle.kernel_rules.specs.History.{is_batch};
 ghost use Rattle.shared_calls.specs.Cursors.{IsPlaced};
 ghost use Rattle.shared_calls.specs.Knowledge.{IsKnown};
 ghost use Rattle.shared_calls.specs.Lists.{AreMarked, IsSource, Lacks, head_of, made, source_of, word_of};

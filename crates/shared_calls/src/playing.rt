@@ -1,15 +1,15 @@
 //! How a kernel makes the calls of batches.
 ghost use Rattle.std.specs.Prelude.{◌≡◌, ◌≤◌, ◌<◌, ◌+◌, ◌∷◌, ◌++◌, [], length, vec_len, vec_capacity, IfOk, OnOk, IfSome, IsSome, ◌↔◌, true};
-ghost use Rattle.histories.specs.Events.{by};
-ghost use Rattle.histories.specs.History.{answered, is_batch};
+ghost use Rattle.kernel_rules.specs.Events.{by};
+ghost use Rattle.kernel_rules.specs.History.{answered, is_batch};
 ghost use Rattle.kernel_rules.specs.Runs.{replies_to, state_after};
 ghost use Rattle.kernel_rules.specs.Step.{answer, next};
 ghost use Rattle.syscall_core.specs.Kernel.{kernel_state};
 
 use crate::rules::Entry;
 use base::{Meter, NoMemory, ObjectId};
-use histories::{Answered, BATCH};
 use kept_events::KeptCall;
+use kernel_rules::histories::{Answered, BATCH};
 use kernel_rules::{Call, Mapping, Reply};
 use std::alloc::Global;
 use syscall_core::Kernel;

@@ -4,7 +4,7 @@ ghost use Rattle.std.specs.Arc.{arc_value};
 ghost use mathlib.Core.List.{IsPrefix};
 ghost use Rattle.dump_text.specs.Boot.{boot_dump, IsBootDump};
 ghost use Rattle.dump_text.specs.Dump.{dump_text};
-ghost use Rattle.histories.specs.History.{is_batch};
+ghost use Rattle.kernel_rules.specs.History.{is_batch};
 ghost use Rattle.kernel_rules.specs.Runs.{booted};
 ghost use Rattle.shared_calls.specs.Cursors.{IsPlaced};
 ghost use Rattle.shared_calls.specs.Events.{events_of};

@@ -17,8 +17,8 @@ use Rattle.kernel_store.specs.Named.{names, names_space}
 use Rattle.kernel_store.specs.NewBodies.{new_body, IsSourced}
 use Rattle.kernel_store.specs.declared.new_bodies.NewBody.{NewBody}
 use Rattle.kernel_store.specs.declared.new_bodies.NewBody.TheVariants as new
-use Rattle.translation_laws.specs.Names.{NamesKind, NamesSpace, NamesRightly, IsNamedRightly}
-use Rattle.translation_laws.proofs.Names.{given_kind, named_value, named_alike, named_thread, old_space, gate_space, nameless, nothing_named, empty_slots}
+use Rattle.kernel_laws.specs.Names.{NamesKind, NamesSpace, NamesRightly, IsNamedRightly}
+use Rattle.kernel_laws.proofs.Names.{given_kind, named_value, named_alike, named_thread, old_space, gate_space, nameless, nothing_named, empty_slots}
 
 -- what a store is handed
 pub kind_named : (s : State) (k : kind.Kind) (e : Entry) → is_well_formed s ≡ true → names s k e ≡ true → NamesKind s k e

@@ -14,14 +14,14 @@ use Rattle.kernel_rules.specs.declared.objects.Mapping.{Mapping}
 use Rattle.kernel_rules.specs.declared.objects.Object.{Object}
 use Rattle.kernel_rules.proofs.RecordLaws.{restricted_live}
 use Rattle.kernel_rules.proofs.WellFormedLaws.{soundness_of}
-use Rattle.translation_laws.specs.Through.{Through, mapped_entry, slot_by}
-use Rattle.translation_laws.proofs.Bodies.{slots-relist, thread-relist, thread-reslot}
-use Rattle.translation_laws.proofs.Depends.{row_reads_lem}
-use Rattle.translation_laws.proofs.Lists.{listing_lem}
-use Rattle.translation_laws.proofs.Made.{none_named_lem}
-use Rattle.translation_laws.proofs.Put.{at_any, at_other, entry_put, found_or_same, label_read, slot_put, space_read}
-use Rattle.translation_laws.proofs.Slots.{slot_lem}
-use Rattle.translation_rows.specs.Rows.{BySlot}
+use Rattle.kernel_laws.specs.Through.{Through, mapped_entry, slot_by}
+use Rattle.kernel_laws.proofs.Bodies.{slots-relist, thread-relist, thread-reslot}
+use Rattle.kernel_laws.proofs.Depends.{row_reads_lem}
+use Rattle.kernel_laws.proofs.Lists.{listing_lem}
+use Rattle.kernel_laws.proofs.Made.{none_named_lem}
+use Rattle.kernel_laws.proofs.Put.{at_any, at_other, entry_put, found_or_same, label_read, slot_put, space_read}
+use Rattle.kernel_laws.proofs.Slots.{slot_lem}
+use Rattle.arena_memory.specs.Rows.{BySlot}
 use Rattle.arena_state.specs.Shown.{AreKept, AreKeptBut, KeepsAllSlots}
 use Rattle.arena_state.specs.States.{state_of}
 use Rattle.arena_state.specs.Touched.{goes_by, is_same, maps, reaches, reaches_by, touches}

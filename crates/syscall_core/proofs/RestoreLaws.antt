@@ -11,7 +11,7 @@ use Rattle.checkpoints.specs.Restorable.{is_restorable, is_root}
 use Rattle.checkpoints.specs.Restored.{restored}
 use Rattle.checkpoints.proofs.NamesLaws.{restored_named}
 use Rattle.checkpoints.proofs.SoundLaws.{restorable_whole}
-use Rattle.translation_laws.specs.Names.{IsNamedRightly}
+use Rattle.kernel_laws.specs.Names.{IsNamedRightly}
 use Rattle.arena_state.specs.Restored.{are_younger, IsHoldable}
 use Rattle.syscall_core.specs.Restored.{IsKeepable}
 

@@ -14,13 +14,13 @@ use Rattle.kernel_rules.specs.Translate.{own_space, translate}
 use Rattle.kernel_rules.specs.WellFormed.{is_well_formed}
 use Rattle.kernel_rules.specs.declared.objects.Body.{Body}
 use Rattle.kernel_rules.specs.declared.objects.Object.{Object}
-use Rattle.translation_laws.specs.Alike.{LooksAlike}
-use Rattle.translation_laws.proofs.Bodies.{alike_cleared}
-use Rattle.translation_laws.proofs.Made.{made_own}
-use Rattle.translation_laws.proofs.Plain.{plain_lem}
-use Rattle.translation_laws.proofs.Put.{alike_lem, at_any, at_other, space_read}
-use Rattle.translation_laws.proofs.Touched.{rows_value}
-use Rattle.translation_rows.specs.Rows.{BySlot, slot_count}
+use Rattle.kernel_laws.specs.Alike.{LooksAlike}
+use Rattle.kernel_laws.proofs.Bodies.{alike_cleared}
+use Rattle.kernel_laws.proofs.Made.{made_own}
+use Rattle.kernel_laws.proofs.Plain.{plain_lem}
+use Rattle.kernel_laws.proofs.Put.{alike_lem, at_any, at_other, space_read}
+use Rattle.kernel_laws.proofs.Touched.{rows_value}
+use Rattle.arena_memory.specs.Rows.{BySlot, slot_count}
 use Rattle.arena_state.specs.Shown.{AreKept, KeepsSlots, SameAt, Tells}
 use Rattle.arena_state.specs.States.{state_of, find_cost}
 use Rattle.arena_state.proofs.LookLaws.{few_find}

@@ -21,13 +21,13 @@ use Rattle.kernel_rules.specs.declared.objects.Object.{Object}
 use Rattle.kernel_rules.proofs.KeptLaws.{rise-put}
 use Rattle.kernel_rules.proofs.LookupLaws.{all_from}
 use Rattle.kernel_rules.proofs.UnrefLaws.{delisted}
-use Rattle.translation_laws.specs.Through.{SameEntry, Through}
-use Rattle.translation_laws.proofs.Bodies.{has-relist, slots-relist, thread-relist}
-use Rattle.translation_laws.proofs.Dead.{at_live, death_keeps_lem, opened_live}
-use Rattle.translation_laws.proofs.Depends.{opens_same, row_reads_lem}
-use Rattle.translation_laws.proofs.Lists.{kind_same}
-use Rattle.translation_laws.proofs.Put.{at_any, at_id, label_read, slot_put, space_read}
-use Rattle.translation_laws.proofs.Shut.{shut_lem}
+use Rattle.kernel_laws.specs.Through.{SameEntry, Through}
+use Rattle.kernel_laws.proofs.Bodies.{has-relist, slots-relist, thread-relist}
+use Rattle.kernel_laws.proofs.Dead.{at_live, death_keeps_lem, opened_live}
+use Rattle.kernel_laws.proofs.Depends.{opens_same, row_reads_lem}
+use Rattle.kernel_laws.proofs.Lists.{kind_same}
+use Rattle.kernel_laws.proofs.Put.{at_any, at_id, label_read, slot_put, space_read}
+use Rattle.kernel_laws.proofs.Shut.{shut_lem}
 use Rattle.arena_state.proofs.LeftLaws.{list_of_objects}
 
 -- what the records link is listed, where each id stands once

@@ -14,11 +14,11 @@ use Rattle.kernel_rules.specs.declared.calls.Entry.{Entry}
 use Rattle.kernel_rules.specs.declared.objects.Mapping.{Mapping}
 use Rattle.kernel_rules.specs.declared.objects.Object.{Object}
 use Rattle.kernel_rules.specs.declared.objects.Thread.{Thread}
-use Rattle.translation_laws.specs.Names.{IsNamedRightly, NamesSpace}
-use Rattle.translation_laws.proofs.Bodies.{slots-relist, thread-relist}
-use Rattle.translation_laws.proofs.Names.{old_space}
-use Rattle.translation_laws.proofs.Put.{space_read}
-use Rattle.translation_rows.specs.Rows.{BySlot}
+use Rattle.kernel_laws.specs.Names.{IsNamedRightly, NamesSpace}
+use Rattle.kernel_laws.proofs.Bodies.{slots-relist, thread-relist}
+use Rattle.kernel_laws.proofs.Names.{old_space}
+use Rattle.kernel_laws.proofs.Put.{space_read}
+use Rattle.arena_memory.specs.Rows.{BySlot}
 use Rattle.arena_state.specs.Shown.{AreKept, AreKeptBut, KeepsAllSlots}
 use Rattle.arena_state.specs.States.{state_of}
 use Rattle.arena_state.specs.Touched.{IsUnmapped, goes_by, is_same, maps, reaches, reaches_by}

@@ -8,7 +8,7 @@ use Rattle.checkpoints.specs.Reached.{IsSound}
 use Rattle.checkpoints.specs.Restorable.{is_restorable, threads_rise}
 use Rattle.checkpoints.specs.Restored.{restored}
 use Rattle.checkpoints.specs.declared.checkpoints.NextNumber.{NextNumber}
-use Rattle.translation_laws.specs.Names.{IsNamedRightly}
+use Rattle.kernel_laws.specs.Names.{IsNamedRightly}
 use Rattle.arena_state.specs.Restored.{are_younger, IsHoldable}
 use Rattle.kernel_rules.specs.State.{State}
 use Rattle.syscall_core.specs.declared.restores.RestoreError.{RestoreError}

@@ -11,9 +11,9 @@ use crate::kept_state::KeptState;
 use crate::restores::laid_out;
 use base::{Limits, Meter, NoMemory};
 use checkpoints::{Checkpoint, NextNumber};
+use plain_core::recording::records_of;
+use plain_core::restoring::write;
 use plain_state::PlainState;
-use recording::records_of;
-use restoring::write;
 use std::alloc::Global;
 
 /// What is kept of the same state, laid out anew. The error is want of memory.

@@ -1,10 +1,10 @@
 //! What the arena kernel keeps.
 ghost use Rattle.arena_state.specs.Shown.{AreKept};
 ghost use Rattle.arena_state.specs.States.{state_of};
-ghost use Rattle.translation_laws.specs.Names.{IsNamedRightly};
+ghost use Rattle.kernel_laws.specs.Names.{IsNamedRightly};
 
+use arena_memory::translation_rows::Rows;
 use arena_state::ArenaState;
-use translation_rows::Rows;
 
 /// The objects, and the rows of what the slots of each thread's address space show. It is private to this crate: who has it
 /// as a store can change a state past every refusal.

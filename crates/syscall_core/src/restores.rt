@@ -10,8 +10,8 @@ use crate::kept_state::KeptState;
 use arena_state::{ArenaState, are_younger};
 use base::{Limits, Meter, NoMemory};
 use checkpoints::Checkpoint;
+use plain_core::restoring::{RestoreFault, restore};
 use plain_state::Records;
-use restoring::{RestoreFault, restore};
 use std::alloc::Global;
 use thiserror::Error;
 

@@ -8,13 +8,13 @@ ghost use Rattle.kernel_store.specs.Sights.{is_of};
 ghost use Rattle.syscall_core.specs.Kernel.{cut_touches, may_be_of_kind};
 
 use crate::kept_state::KeptState;
+use arena_memory::translation_rows::Rows;
 use arena_state::{ArenaState, Change, Location};
 use base::{Data, Kind, Meter, ObjectId, Rights, TypeSet};
 use kernel_rules::{Entry, Gate, Ids, Mapping, Thread};
 use kernel_store::{Named, NewBody, Placed, Seen, Store, ThreadLabels};
 use label_lattice::Label;
 use std::convert::Infallible;
-use translation_rows::Rows;
 
 // What may be touched once an entry is taken out: what goes by it, and all where it names a container.
 fn cut_touches(is_container: bool, entry: &Entry) -> Change

@@ -12,3 +12,6 @@ pub mod NumberLemmas
 pub mod PartLemmas
 pub mod PairLemmas
 pub mod HexLemmas
+pub mod SpokenLemmas
+pub mod FurtherLemmas
+pub mod IntoLemmas

@@ -8,3 +8,6 @@ pub mod Lacks
 pub mod TypeWord
 pub mod SignedWord
 pub mod RightsWord
+pub mod Verb
+pub mod Arg
+pub mod Spoken

@@ -14,6 +14,7 @@ mod parting;
 mod references;
 mod rights_words;
 mod signed_numbers;
+pub mod spoken_calls;
 mod spoken_labels;
 mod type_words;
 

@@ -15,7 +15,7 @@ use base::{Category, Level, Meter, ObjectId, Refusal};
 use kernel_rules::Reply;
 use kernel_store::{Store, halted, refusal_of, refuse};
 use label_lattice::Label;
-use label_rules::with_category;
+use label_lattice::label_rules::with_category;
 
 /// The thread's label with the next category as its own, where it has room for it.
 fn own_label<S: Store>(state: &S, caller: S::Location, meter: &mut Meter) -> Option<Label>

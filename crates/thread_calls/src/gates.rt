@@ -4,7 +4,7 @@
 ghost use Rattle.std.specs.Prelude.{◌≡◌, ◌≤◌, ◌+◌, ℕ, true};
 ghost use Rattle.std.specs.Prelude.{OnOk, OnErr, IfSome, option_copied};
 ghost use Rattle.label_lattice.specs.Label.{IsStored};
-ghost use Rattle.label_rules.specs.LabelRules.{may_enter, stored};
+ghost use Rattle.label_lattice.specs.LabelRules.{may_enter, stored};
 ghost use Rattle.base.specs.declared.kinds.Kind.TheVariants as kinds;
 ghost use Rattle.kernel_rules.specs.State.{gate_at, is_kind_at};
 ghost use Rattle.kernel_rules.specs.Step.{answer, next, through_gate, told_by};
@@ -22,8 +22,8 @@ use kernel_store::{
     halted_at, in_container, look, look_at, new_bearer, of_kind, refusal_of, refuse, space_entry,
     stored_label, tell_done, tell_object,
 };
+use label_lattice::label_rules::{Asked, Bearer, may_enter};
 use label_lattice::{Label, RawLabel};
-use label_rules::{Asked, Bearer, may_enter};
 
 // What refuses to make a gate, whose label and clearance are the stored ones, where there are any.
 fn refused_gate_create<S: Store>(

@@ -2,7 +2,7 @@
 #![tactic(auto, unfolding(kernel_rules::specs::Table::refused, kernel_rules::specs::Table::query_refused), using(kernel_store::proofs::SightLaws::kind_seen, kernel_store::proofs::CallLaws::calls))]
 
 ghost use Rattle.std.specs.Prelude.{◌≡◌, ◌≤◌, ◌+◌, option_copied};
-ghost use Rattle.label_rules.specs.LabelRules.{may_clear, stored};
+ghost use Rattle.label_lattice.specs.LabelRules.{may_clear, stored};
 ghost use Rattle.kernel_rules.specs.State.{label_at, clearance_at};
 ghost use Rattle.kernel_rules.specs.Step.{answer, next};
 ghost use Rattle.kernel_rules.specs.Table.{refused};
@@ -14,8 +14,8 @@ use kernel_rules::Reply;
 use kernel_store::{
     Store, good_label, halted, is_in_range, refusal_of, refuse, stored_label, tell_done,
 };
+use label_lattice::label_rules::may_clear;
 use label_lattice::{Label, RawLabel};
-use label_rules::may_clear;
 
 // What refuses a new own label, which is the stored one, where there is one.
 fn refused_self_set_label<S: Store>(

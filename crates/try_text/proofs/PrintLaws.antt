@@ -4,7 +4,7 @@ use Rattle.std.proofs.KnownBytes.{Appends-trans}
 use Rattle.std.proofs.lemmas.List.{append-nil}
 use Rattle.std.specs.Io.BufRead.{take_through, drop_through, DropsThrough}
 use Rattle.std.specs.Io.KnownBytes.{Appends}
-use Rattle.tried_lines.specs.Dialogues.{Talk}
+use Rattle.try_text.specs.Dialogues.{Talk}
 use Rattle.try_text.specs.Printed.{goes_on, Adds, IsBeforeEnd, Prints}
 use Rattle.try_text.specs.Responds.{Responds}
 use Rattle.try_text.specs.Talks.{prompt, AreLines, HasLine, HasTalked, IsSoFar, Talks, TurnAll, Turns}

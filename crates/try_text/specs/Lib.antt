@@ -4,3 +4,9 @@ pub mod Talks
 pub mod Tells
 pub mod Why
 pub mod Words
+pub mod Dialogues
+pub mod FullLines
+pub mod Saved
+pub mod Standing
+pub mod Stands
+pub mod Takes

@@ -1,7 +1,7 @@
 -- What the program prints for a line.
 use Rattle.std.specs.Prelude.{◌≡◌, ◌⊎◌, ℕ, Bool, true, false, List, [], ◌∷◌, ◌++◌, Option, codes}
 use Rattle.std.specs.Io.KnownBytes.{Appends}
-use Rattle.tried_lines.specs.Dialogues.{Talk}
+use Rattle.try_text.specs.Dialogues.{Talk}
 use Rattle.try_text.specs.Responds.{Responds}
 use Rattle.try_text.specs.Words.{word_of}
 use Rattle.try_text.specs.declared.words.Word.{Word}

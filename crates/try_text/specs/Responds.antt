@@ -1,11 +1,11 @@
 -- What a dialogue answers to a line, and how it goes on.
 use Rattle.std.specs.Prelude.{◌≡◌, ℕ, List, [], ◌∷◌, ◌++◌, Option, Some, None, codes}
-use Rattle.plain_scripts.specs.Lines.{plain_line}
-use Rattle.tree_text.specs.Trees.{named_tree}
-use Rattle.tried_lines.specs.Dialogues.{Talk, last_of, standing, undone}
-use Rattle.tried_lines.specs.FullLines.{full_line}
-use Rattle.tried_lines.specs.Takes.{Takes}
-use Rattle.tried_lines.specs.declared.answers.Answer.{Answer}
+use Rattle.call_text.specs.Lines.{plain_line}
+use Rattle.shown_dumps.specs.Trees.{named_tree}
+use Rattle.try_text.specs.Dialogues.{Talk, last_of, standing, undone}
+use Rattle.try_text.specs.FullLines.{full_line}
+use Rattle.try_text.specs.Takes.{Takes}
+use Rattle.try_text.specs.declared.tried_lines.answers.Answer.{Answer}
 use Rattle.try_text.specs.Tells.{AddsAnswer, undone_text}
 use Rattle.try_text.specs.Why.{why_text}
 use Rattle.try_text.specs.declared.words.Word.{Word}

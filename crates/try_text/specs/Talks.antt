@@ -2,7 +2,7 @@
 use Rattle.std.specs.Prelude.{◌≡◌, ◌≢◌, ◌⊎◌, ℕ, Bool, true, false, List, [], ◌∷◌, ◌++◌, Option, Some, None, codes, if◌then◌else◌}
 use Rattle.std.specs.Io.BufRead.{take_through, drop_through}
 use Rattle.std.specs.Io.KnownBytes.{Appends}
-use Rattle.tried_lines.specs.Dialogues.{Talk}
+use Rattle.try_text.specs.Dialogues.{Talk}
 use Rattle.try_text.specs.Printed.{IsBeforeEnd, goes_on, Answers}
 use Rattle.try_text.specs.Words.{word_of}
 

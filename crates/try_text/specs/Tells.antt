@@ -5,13 +5,13 @@ use Rattle.call_text.specs.declared.phases.Line.{Line}
 use Rattle.check_text.specs.Checks.{AddsWhy}
 use Rattle.kernel_rules.specs.declared.replies.Reply.{Reply}
 use Rattle.call_text.specs.declared.known_names.Named.{Named}
-use Rattle.tried_lines.specs.Dialogues.{Talk, standing}
-use Rattle.tried_lines.specs.Saved.{line_text}
-use Rattle.tried_lines.specs.Standing.{first_line}
-use Rattle.tried_lines.specs.Takes.{ended}
-use Rattle.tried_lines.specs.declared.answers.Answer.{Answer}
-use Rattle.tried_lines.specs.declared.answers.Answer.TheVariants as is
-use Rattle.tried_lines.specs.declared.kept.Kept.{Kept}
+use Rattle.try_text.specs.Dialogues.{Talk, standing}
+use Rattle.try_text.specs.Saved.{line_text}
+use Rattle.try_text.specs.Standing.{first_line}
+use Rattle.try_text.specs.Takes.{ended}
+use Rattle.try_text.specs.declared.tried_lines.answers.Answer.{Answer}
+use Rattle.try_text.specs.declared.tried_lines.answers.Answer.TheVariants as is
+use Rattle.try_text.specs.declared.tried_lines.kept.Kept.{Kept}
 
 -- a line with a name in it
 abbrev pub named_text : List ℕ → List ℕ → List ℕ → List ℕ

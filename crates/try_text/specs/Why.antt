@@ -8,14 +8,14 @@ use Rattle.call_text.specs.declared.phases.Line.{Line}
 use Rattle.explained.specs.Explained.{explained, query_explained}
 use Rattle.explained.specs.declared.parts.Finding.{Finding}
 use Rattle.kernel_rules.specs.State.{State}
-use Rattle.show_text.specs.Explained.{call_head}
-use Rattle.show_text.specs.Parts.{condition_text}
-use Rattle.tried_lines.specs.Dialogues.{Talk, last_of, standing, undone}
-use Rattle.tried_lines.specs.Saved.{line_text}
-use Rattle.tried_lines.specs.Standing.{first_line, question, reply_to}
-use Rattle.tried_lines.specs.Stands.{Stands}
-use Rattle.tried_lines.specs.declared.kept.Kept.{Kept}
-use Rattle.tried_lines.specs.declared.questions.Question.{Question}
+use Rattle.shown_dumps.specs.Explained.{call_head}
+use Rattle.shown_dumps.specs.Parts.{condition_text}
+use Rattle.try_text.specs.Dialogues.{Talk, last_of, standing, undone}
+use Rattle.try_text.specs.Saved.{line_text}
+use Rattle.try_text.specs.Standing.{first_line, question, reply_to}
+use Rattle.try_text.specs.Stands.{Stands}
+use Rattle.try_text.specs.declared.tried_lines.kept.Kept.{Kept}
+use Rattle.try_text.specs.declared.tried_lines.questions.Question.{Question}
 
 -- the conditions of what is asked
 abbrev pub findings_by : State → ℕ → Asked → List Finding

@@ -2,7 +2,7 @@
 use Rattle.std.specs.Prelude.{ℕ, ◌==◌, ◌&&◌, ◌||◌, not, List, [], length, Bool, codes, if◌then◌else◌}
 use Rattle.std.specs.Str.{bytes_eq}
 use Rattle.check_text.specs.Lines.{before_byte, after_byte, is_equals}
-use Rattle.plain_scripts.specs.Lines.{is_silent}
+use Rattle.call_text.specs.Lines.{is_silent}
 use Rattle.try_text.specs.declared.words.Word.{Word}
 use Rattle.try_text.specs.declared.words.Word.TheVariants.{Nothing, Why, Tree, Undo, Help, Quit, Save, Call}
 

@@ -6,6 +6,7 @@
 mod program;
 mod responding;
 mod telling;
+pub mod tried_lines;
 mod why;
 mod words;
 

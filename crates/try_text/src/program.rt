@@ -2,12 +2,13 @@
 ghost use Rattle.std.specs.Io.BufRead.{take_through, DropsThrough};
 ghost use Rattle.std.specs.Io.KnownBytes.{Appends};
 ghost use Rattle.std.specs.Prelude.{◌≡◌, ◌++◌, ℕ, List, Bool, IfOk, IfSome, OnOk};
-ghost use Rattle.tried_lines.specs.Dialogues.{begun, Talk};
+ghost use Rattle.try_text.specs.Dialogues.{begun, Talk};
 ghost use Rattle.try_text.specs.Printed.{IsBeforeEnd, goes_on, saved_text, Adds, Prints};
 ghost use Rattle.try_text.specs.Talks.{prompt, HasLine, Talks};
 ghost use Rattle.try_text.specs.Words.{word_of};
 
 use crate::responding::respond;
+use crate::tried_lines::Dialogue;
 use crate::words::{Word, path_in};
 use base::{Limits, NoMemory};
 use program_io::{Fault, Sink, beside, deliver, input_fault, put_file};
@@ -15,7 +16,6 @@ use std::alloc::Global;
 use std::io::{BufRead, Write};
 use std::rt::Files;
 use std::str;
-use tried_lines::Dialogue;
 
 /// The program's name, with which its lines on standard error begin.
 pub const NAME: &str = "histar-try";

@@ -1,19 +1,19 @@
 //! What a dialogue answers to a line.
 ghost use Rattle.std.specs.Prelude.{◌≡◌, ◌++◌, IfOk, OnOk};
 ghost use Rattle.try_text.specs.Responds.{help_text, Calls, Responds};
-ghost use Rattle.tree_text.specs.Trees as trees;
-ghost use Rattle.tried_lines.specs.Dialogues.{last_of, standing, undone};
+ghost use Rattle.shown_dumps.specs.Trees as trees;
+ghost use Rattle.try_text.specs.Dialogues.{last_of, standing, undone};
 ghost use Rattle.try_text.specs.Tells.{undone_text};
 ghost use Rattle.try_text.specs.Words.{word_of};
 
 use crate::telling::{put_answer, put_undone};
+use crate::tried_lines::{Dialogue, full_line};
 use crate::why::put_last_why;
 use crate::words::{Word, word_of};
 use base::NoMemory;
+use call_text::plain_scripts::put_plain;
 use kernel_rules::{Mapping, Reply};
-use plain_scripts::put_plain;
-use tree_text::named_tree;
-use tried_lines::{Dialogue, full_line};
+use shown_dumps::tree::named_tree;
 
 /// What can be said.
 fn help_text() -> &'static str

@@ -1,15 +1,15 @@
 //! What is told of a line.
 ghost use Rattle.std.specs.Prelude.{◌≡◌, ◌++◌, OnOk};
 ghost use Rattle.std.specs.Option.{option_copied};
-ghost use Rattle.tried_lines.specs.Dialogues.{standing};
+ghost use Rattle.try_text.specs.Dialogues.{standing};
 ghost use Rattle.try_text.specs.Tells.{named_text, told_text, AddsFault, AddsAnswer, undone_text};
 
+use crate::tried_lines::{Answer, Dialogue, Kept, put_line};
 use base::NoMemory;
 use call_text::put_reply;
 use check_text::put_why;
 use kernel_rules::Reply;
 use text_words::{Name, put_name};
-use tried_lines::{Answer, Dialogue, Kept, put_line};
 
 /// Adds a line with a name in it.
 fn put_named(out: &mut Vec<u8>, before: &str, name: &Name, after: &str) -> Result<(), NoMemory>

@@ -2,17 +2,17 @@
 ghost use Rattle.std.specs.Prelude.{◌≡◌, ◌++◌, IfOk, OnOk, false};
 ghost use Rattle.std.specs.List.{flat_map};
 ghost use Rattle.plain_state.specs.StateOf.{state_of};
-ghost use Rattle.show_text.specs.Parts.{condition_text};
+ghost use Rattle.shown_dumps.specs.Parts.{condition_text};
 ghost use Rattle.try_text.specs.Why.{findings_of, why_asked, why_line, why_text};
 
+use crate::tried_lines::{Dialogue, Kept, Question, Standing, put_line};
 use base::{Meter, NoMemory};
 use call_text::{Asked, Named};
 use explained::{Finding, explain, explain_query};
 use kernel_rules::Mapping;
 use label_lattice::Label;
 use plain_state::PlainState;
-use show_text::{put_findings, put_head};
-use tried_lines::{Dialogue, Kept, Question, Standing, put_line};
+use shown_dumps::why::{put_findings, put_head};
 
 /// The conditions of what is asked.
 fn findings(state: &PlainState, question: &Question) -> Result<Vec<Finding>, NoMemory>

@@ -3,8 +3,8 @@ ghost use Rattle.std.specs.Prelude.{◌≡◌};
 ghost use Rattle.std.specs.Str.{bytes_eq};
 ghost use Rattle.try_text.specs.Words.{is_save, word_of, path_in};
 
+use call_text::plain_scripts::is_silent;
 use check_text::{binding, cut};
-use plain_scripts::is_silent;
 
 /// What a line of a dialogue is.
 #[derive(Clone, Copy, PartialEq, Eq)]

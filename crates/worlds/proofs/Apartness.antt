@@ -8,7 +8,7 @@ use Rattle.std.proofs.lemmas.Bool.{and_parts, not-false, both_ways, eq-eqb, eqb-
 use Rattle.base.specs.Live.{has, is_live, are_live}
 use Rattle.base.specs.declared.kinds.Kind.TheVariants as kinds
 use Rattle.label_lattice.specs.Label.{LabelValue}
-use Rattle.label_rules.specs.LabelRules.{both, below, visible, stored}
+use Rattle.label_lattice.specs.LabelRules.{both, below, visible, stored}
 use Rattle.kernel_rules.specs.State.{State, object_at, of_object, listed, lists_of, list_at, is_kind, is_kind_at}
 use Rattle.kernel_rules.specs.State.{is_accessible, gate_at, label_at, kind_of, kind_number}
 use Rattle.kernel_rules.specs.Changes.{changed, made, listing, fresh_object, labelled, cleared, spaced, entered}

@@ -14,7 +14,7 @@ use Rattle.base.specs.declared.refusals.Refusal.TheVariants.{Halted, NoAccess, N
 use Rattle.label_lattice.specs.Label.{LabelValue}
 use Rattle.label_lattice.specs.Raw.{is_bad_below, raw_has_star}
 use Rattle.label_lattice.specs.declared.raw_labels.RawLabel.{RawLabel}
-use Rattle.label_rules.specs.LabelRules.{both, below, between, stored, with_category, may_clear, may_enter}
+use Rattle.label_lattice.specs.LabelRules.{both, below, between, stored, with_category, may_clear, may_enter}
 use Rattle.kernel_rules.specs.State.{State, object_at, of_object, listed, is_kind, is_kind_at, is_accessible}
 use Rattle.kernel_rules.specs.State.{is_live_kind, holds, observes, bytes_of, bytes_at, avoids, clearance_of, gate_of, gate_at, label_at}
 use Rattle.kernel_rules.specs.State.{kind_number, kind_of}

@@ -6,7 +6,7 @@ use Rattle.std.proofs.lemmas.Bool.{and_parts, and_from, ltb-true, lt-ltb, cases_
 use Rattle.std.proofs.lemmas.List.{length-append}
 use Rattle.std.proofs.lemmas.List.Elements.{Contains-append_left, Contains-append_right}
 use Rattle.label_lattice.specs.Label.{LabelValue}
-use Rattle.label_rules.specs.LabelRules.{stored}
+use Rattle.label_lattice.specs.LabelRules.{stored}
 use Rattle.kernel_rules.specs.State.{State, lists_of}
 use Rattle.kernel_rules.specs.Changes.{changed, listing}
 use Rattle.kernel_rules.specs.Conditions.{own_label, own_clearance}

@@ -11,7 +11,7 @@ use Rattle.base.specs.Live.{has, is_live, links, Leads, IsLive}
 use Rattle.base.proofs.LiveLaw.{path_from_live, live_from_path}
 use Rattle.base.specs.declared.kinds.Kind.TheVariants as kinds
 use Rattle.label_lattice.specs.Label.{LabelValue}
-use Rattle.label_rules.specs.LabelRules.{visible}
+use Rattle.label_lattice.specs.LabelRules.{visible}
 use Rattle.kernel_rules.specs.State.{State, object_at, of_object, listed, lists_of, list_at, is_kind, live_part}
 use Rattle.kernel_rules.specs.State.{is_accessible, kind_number}
 use Rattle.kernel_rules.specs.Changes.{put, changed, delisting, without, relist}

@@ -10,7 +10,7 @@ use Rattle.std.proofs.lemmas.Bool.{and_parts, both_ways, eq-eqb, eqb-true}
 use Rattle.base.specs.Live.{has}
 use Rattle.base.specs.declared.kinds.Kind.TheVariants as kinds
 use Rattle.label_lattice.specs.Label.{LabelValue}
-use Rattle.label_rules.specs.LabelRules.{visible}
+use Rattle.label_lattice.specs.LabelRules.{visible}
 use Rattle.kernel_rules.specs.State.{State, object_at, of_object, listed, is_kind}
 use Rattle.kernel_rules.specs.Changes.{put, made, listing}
 use Rattle.kernel_rules.specs.Step.{lister_of}

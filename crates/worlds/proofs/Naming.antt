@@ -9,7 +9,7 @@ use Rattle.base.specs.Live.{has, are_live}
 use Rattle.base.specs.declared.kinds.Kind as kind
 use Rattle.base.specs.declared.kinds.Kind.TheVariants as kinds
 use Rattle.label_lattice.specs.Label.{LabelValue}
-use Rattle.label_rules.specs.LabelRules.{both, below, visible}
+use Rattle.label_lattice.specs.LabelRules.{both, below, visible}
 use Rattle.kernel_rules.specs.State.{State, object_at, of_object, listed, is_kind, is_kind_at, holds}
 use Rattle.kernel_rules.specs.State.{is_accessible, observes, avoids, clearance_of, use_of, kind_of}
 use Rattle.kernel_rules.specs.Changes.{put, changed, listing, requoted}

@@ -7,22 +7,16 @@ use Rattle.base.specs.Live.{has}
 use Rattle.base.specs.Sets.{reading}
 use Rattle.base.specs.declared.sets.Rights.{Rights}
 use Rattle.label_lattice.specs.Label.{LabelValue}
-use Rattle.label_rules.specs.LabelRules.{both, below}
+use Rattle.label_lattice.specs.LabelRules.{both, below}
 use Rattle.kernel_rules.specs.State.{State, object_at, of_object, observes, flows_to, is_accessible, list_at, listed}
 use Rattle.kernel_rules.specs.State.{slots_at, slots_of, page_count, bytes_of, thread_of}
 use Rattle.kernel_rules.specs.Translate.{opens, usable, through, through_space, translate, own_space, slot_at, slot_in}
 use Rattle.kernel_rules.specs.Translate.{names_none, place_by, place_among, place_of, slots_through, covers}
 use Rattle.kernel_rules.specs.declared.calls.Entry.{Entry}
 use Rattle.kernel_rules.specs.declared.objects.Mapping.{Mapping}
-use Rattle.kernel_rules.specs.declared.objects.Object.{Object}
 use Rattle.kernel_rules.specs.declared.places.Place.{Place}
 use Rattle.worlds.proofs.Shared.{Worlds, flip, caller_same, observed_same, container_same, equal_tests}
 use Rattle.worlds.proofs.Shared.{same_observes, same_accessible}
-
--- what is read off an object is the same where the object is
-pub read_same : {X : Type 0} (d : X) (g : Object → X) (s n : State) (o : ℕ) → object_at n o ≡ object_at s o
-    → of_object d g (object_at n o) ≡ of_object d g (object_at s o)
-read_same d g s n o h = ap (of_object d g) h
 
 pub same_flows : (l : LabelValue) (s n : State) (t o : ℕ) → Worlds l s n t → object_at n o ≡ object_at s o
     → flows_to n t o ≡ flows_to s t o

@@ -12,7 +12,7 @@ use Rattle.base.specs.declared.kinds.Kind.TheVariants as kinds
 use Rattle.base.specs.declared.refusals.Refusal.{Refusal}
 use Rattle.base.specs.declared.refusals.Refusal.TheVariants.{Halted, NoAccess, NoEntry}
 use Rattle.label_lattice.specs.Label.{LabelValue}
-use Rattle.label_rules.specs.LabelRules.{visible}
+use Rattle.label_lattice.specs.LabelRules.{visible}
 use Rattle.kernel_rules.specs.State.{State, object_at, of_object, listed, lists_of, is_kind, is_kind_at, is_accessible, holds, is_live_kind}
 use Rattle.kernel_rules.specs.State.{observes, bytes_of, slots_of, packets_of, kind_number}
 use Rattle.kernel_rules.specs.Changes.{put, changed}

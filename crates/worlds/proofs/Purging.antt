@@ -3,10 +3,10 @@ use Rattle.std.proofs.Common.{◌≡◌, ℕ, ◌+◌, true, false, List, [], �
 use Rattle.std.proofs.Common.{cond, refl, sym, ◌∙◌, subst, arith}
 use Rattle.std.proofs.lemmas.List.{append_assoc}
 use Rattle.label_lattice.specs.Label.{LabelValue}
-use Rattle.histories.specs.Events.{Event, by, calls_in}
-use Rattle.histories.specs.History.{Start, IsLegalFrom, answered, calls_of, state_from}
-use Rattle.histories.proofs.HistoryLaws.{state_from-snoc}
-use Rattle.histories.proofs.BatchLaws.{state_after-append}
+use Rattle.kernel_rules.specs.Events.{Event, by, calls_in}
+use Rattle.kernel_rules.specs.History.{Start, IsLegalFrom, answered, calls_of, state_from}
+use Rattle.kernel_rules.proofs.HistoryLaws.{state_from-snoc}
+use Rattle.kernel_rules.proofs.BatchLaws.{state_after-append}
 use Rattle.kernel_rules.specs.State.{State}
 use Rattle.kernel_rules.specs.Runs.{state_after}
 use Rattle.kernel_rules.specs.Step.{next}

@@ -10,7 +10,7 @@ use Rattle.base.specs.Sets.{may_read}
 use Rattle.base.specs.declared.kinds.Kind.TheVariants as kinds
 use Rattle.base.specs.declared.refusals.Refusal.{Refusal}
 use Rattle.label_lattice.specs.Label.{LabelValue}
-use Rattle.label_rules.specs.LabelRules.{both, shown}
+use Rattle.label_lattice.specs.LabelRules.{both, shown}
 use Rattle.kernel_rules.specs.State.{State, object_at, of_object, listed, is_kind, is_kind_at, label_at, list_at, holds}
 use Rattle.kernel_rules.specs.State.{observes, is_accessible, bytes_of, own_cost, use_of, slots_of, kind_number, kind_of}
 use Rattle.kernel_rules.specs.Conditions.{allows}

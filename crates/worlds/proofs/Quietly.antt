@@ -10,7 +10,7 @@ use Rattle.std.proofs.lemmas.Bool.{and_parts, not-false, both_ways, eq-eqb}
 use Rattle.base.specs.Live.{has, is_live, are_live}
 use Rattle.base.specs.declared.kinds.Kind.TheVariants as kinds
 use Rattle.label_lattice.specs.Label.{LabelValue}
-use Rattle.label_rules.specs.LabelRules.{both, below, visible, stored}
+use Rattle.label_lattice.specs.LabelRules.{both, below, visible, stored}
 use Rattle.kernel_rules.specs.State.{State, object_at, of_object, lists_of, listed, is_kind, is_kind_at, label_at}
 use Rattle.kernel_rules.specs.State.{flows_to, is_accessible, is_fixed, list_at, kind_of}
 use Rattle.kernel_rules.specs.State.{kind_number, gate_at}

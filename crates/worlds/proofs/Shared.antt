@@ -10,7 +10,7 @@ use Rattle.label_lattice.specs.Label.{LabelValue}
 use Rattle.label_lattice.specs.Order.{levels, up}
 use Rattle.label_lattice.specs.Rule.{up_rank}
 use Rattle.label_lattice.proofs.OrderLemmas.{leq_test-Leq, IsDescribed-levels, IsDescribed-up}
-use Rattle.label_rules.specs.LabelRules.{both, visible, shown}
+use Rattle.label_lattice.specs.LabelRules.{both, visible, shown}
 use Rattle.kernel_rules.specs.State.{State, object_at, of_object, listed, is_kind, is_kind_at, is_live_kind}
 use Rattle.kernel_rules.specs.State.{list_at, holds, observes, is_accessible, kind_number}
 use Rattle.kernel_rules.specs.WellFormed.{is_well_formed}

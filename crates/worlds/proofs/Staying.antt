@@ -4,7 +4,7 @@ use Rattle.std.proofs.lemmas.Bool.{both_ways}
 use Rattle.label_lattice.specs.Label.{LabelValue}
 use Rattle.label_lattice.specs.Order.{levels, Leq}
 use Rattle.label_lattice.proofs.OrderLemmas.{leq_test-Leq, IsDescribed-levels}
-use Rattle.label_rules.specs.LabelRules.{below, stored}
+use Rattle.label_lattice.specs.LabelRules.{below, stored}
 use Rattle.kernel_rules.specs.State.{State, object_at, of_object, gate_at, listed, is_kind, is_kind_at}
 use Rattle.kernel_rules.specs.Changes.{put, changed}
 use Rattle.kernel_rules.specs.Step.{next, edit, with_value, stored_at}

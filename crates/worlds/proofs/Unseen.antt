@@ -11,7 +11,7 @@ use Rattle.base.specs.declared.kinds.Kind.TheVariants as kinds
 use Rattle.label_lattice.specs.Label.{LabelValue}
 use Rattle.label_lattice.specs.Order.{levels, up}
 use Rattle.label_lattice.proofs.OrderLemmas.{leq_test-Leq, IsDescribed-levels, IsDescribed-up}
-use Rattle.label_rules.specs.LabelRules.{both, below, visible}
+use Rattle.label_lattice.specs.LabelRules.{both, below, visible}
 use Rattle.kernel_rules.specs.State.{State, object_at, of_object, lists_of, listed, is_kind}
 use Rattle.kernel_rules.specs.State.{flows_to}
 use Rattle.kernel_rules.specs.Changes.{put, changed}

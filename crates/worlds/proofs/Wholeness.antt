@@ -15,7 +15,7 @@ use Rattle.label_lattice.specs.declared.pairings.Pair.{Pair}
 use Rattle.label_lattice.specs.declared.raw_labels.RawLabel.{RawLabel}
 use Rattle.label_lattice.proofs.CollectLemmas.{collected-IsRising, collected-DiffersFrom, or_false_left, or_false_right}
 use Rattle.label_lattice.proofs.PlacedLaw.{with-stored}
-use Rattle.label_rules.specs.LabelRules.{stored, with_category}
+use Rattle.label_lattice.specs.LabelRules.{stored, with_category}
 use Rattle.kernel_rules.specs.State.{State, object_at, of_object, bytes_at, bytes_of, clearance_of, gate_at}
 use Rattle.kernel_rules.specs.Fitting.{IsFitting}
 use Rattle.kernel_rules.specs.Conditions.{own_label, own_clearance}

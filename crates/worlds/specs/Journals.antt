@@ -1,8 +1,8 @@
 -- The same over journals: what seats of one boot are told, without the events of hidden threads.
 use Rattle.std.specs.Prelude.{◌≡◌, ℕ, ◌+◌, Bool, true, List, [], ◌∷◌, ◌++◌, map, length, is_none, if◌then◌else◌}
 use Rattle.label_lattice.specs.Label.{LabelValue}
-use Rattle.histories.specs.Events.{Event, by, calls_in}
-use Rattle.histories.specs.History.{Start, IsLegalFrom, answered, state_from}
+use Rattle.kernel_rules.specs.Events.{Event, by, calls_in}
+use Rattle.kernel_rules.specs.History.{Start, IsLegalFrom, answered, state_from}
 use Rattle.kernel_rules.specs.State.{State}
 use Rattle.kernel_rules.specs.Runs.{state_after}
 use Rattle.kernel_rules.specs.WellFormed.{is_well_formed}

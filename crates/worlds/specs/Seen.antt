@@ -6,7 +6,7 @@ use Rattle.base.specs.Live.{has}
 use Rattle.base.specs.declared.kinds.Kind as kind
 use Rattle.base.specs.declared.kinds.Kind.TheVariants as kinds
 use Rattle.label_lattice.specs.Label.{LabelValue}
-use Rattle.label_rules.specs.LabelRules.{visible, shown, both}
+use Rattle.label_lattice.specs.LabelRules.{visible, shown, both}
 use Rattle.kernel_rules.specs.State.{State, object_at, of_object, kind_of, is_kind, listed, list_at, gate_of, label_at}
 use Rattle.kernel_rules.specs.Step.{lister_of}
 use Rattle.kernel_rules.specs.declared.objects.Gate.{Gate}

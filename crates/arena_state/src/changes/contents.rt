@@ -1,7 +1,7 @@
 //! The changes of contents: a segment's bytes, the slots of an address space, a device's packets. None takes memory or
 //! scans a label.
 ghost use Rattle.std.specs.Prelude.{◌≡◌, ◌≤◌, ◌<◌, ◌+◌, ◌*◌, true, ◌++◌, ◌∷◌, [], length, drop, slice_set};
-ghost use Rattle.address_spaces.specs.Mappings.{with_mapping};
+ghost use Rattle.arena_memory.specs.Mappings.{with_mapping};
 ghost use Rattle.kernel_rules.specs.Changes.{changed, with_body, rebyte, requeue, reslot};
 ghost use Rattle.base.specs.declared.kinds.Kind.TheVariants as kinds;
 ghost use Rattle.kernel_rules.specs.State.{bytes_at, is_kind_at, packets_at, quota_at};
@@ -11,7 +11,7 @@ ghost use Rattle.arena_state.specs.States.{state_of, Stands};
 use crate::locations::Location;
 use crate::records::Kept;
 use crate::states::ArenaState;
-use address_spaces::Spaces;
+use arena_memory::address_spaces::Spaces;
 use base::{Data, Meter, Slot};
 use kernel_rules::Mapping;
 

@@ -1,7 +1,7 @@
 //! Tests of the labels of stored objects, by the order bits that are kept. No label is scanned.
 ghost use Rattle.std.specs.Prelude.{◌≡◌, ◌==◌, ◌≤◌, ◌+◌, ◌<◌, IsSome, option_copied};
 ghost use Rattle.std.specs.Int.RustNames.{bit_and};
-ghost use Rattle.label_rules.specs.LabelRules.{both, below, visible, shown};
+ghost use Rattle.label_lattice.specs.LabelRules.{both, below, visible, shown};
 ghost use Rattle.label_intern.specs.Held.{held_at, label_of};
 ghost use Rattle.kernel_rules.specs.State.{label_at, clearance_at, is_live_kind};
 ghost use Rattle.arena_state.specs.States.{state_of, find_cost, label_found, Finds, IsLabelled, Stands};

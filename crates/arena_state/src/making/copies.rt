@@ -5,7 +5,7 @@ ghost use Rattle.kernel_rules.specs.Changes.{made, fresh_object};
 ghost use Rattle.kernel_rules.specs.Fitting.{IsFitting};
 ghost use Rattle.kernel_rules.specs.State.{bytes_at};
 ghost use Rattle.kernel_rules.specs.declared.objects.Body.TheVariants as is;
-ghost use Rattle.segments.specs.Segments.{bytes_in, pages_of, HasRoom};
+ghost use Rattle.arena_memory.specs.Segments.{bytes_in, pages_of, HasRoom};
 ghost use Rattle.arena_state.specs.Contents.{bytes_found};
 ghost use Rattle.kernel_store.specs.Storing.{storing};
 ghost use Rattle.arena_state.specs.Shown.{KeepsSlots};
@@ -15,9 +15,9 @@ use crate::locations::Location;
 use crate::making::placing::place;
 use crate::records::{Kept, fresh_record};
 use crate::states::ArenaState;
+use arena_memory::segments::Segments;
 use base::{Meter, ObjectId, Slot};
 use label_lattice::Label;
-use segments::Segments;
 
 // A slot without a byte gets the bytes of another, if there is one.
 fn copy_bytes(segments: &mut Segments, from: Option<Slot>, to: Slot, meter: &mut Meter)

@@ -1,18 +1,18 @@
 //! What slots hold of a state's objects, laid out anew.
 ghost use Rattle.std.specs.Prelude.{◌≡◌, ◌+◌, ◌*◌, ◌/◌, ◌<◌, ◌≤◌, [], length, true, replicate, slice_set, None};
 ghost use Rattle.label_intern.specs.Held.{owned};
-ghost use Rattle.segments.specs.Segments.{all_pages, bytes_in};
-ghost use Rattle.segments.specs.Queues.{packets_in};
-ghost use Rattle.address_spaces.specs.Mappings.{places_at};
+ghost use Rattle.arena_memory.specs.Segments.{all_pages, bytes_in};
+ghost use Rattle.arena_memory.specs.Queues.{packets_in};
+ghost use Rattle.arena_memory.specs.Mappings.{places_at};
 ghost use Rattle.kernel_rules.specs.WellFormed.{is_whole_body};
 ghost use Rattle.arena_state.specs.Restored.{held_of, uses_own, IsPut};
 
 use crate::holdings::Holdings;
 use crate::restores::kept::record_of;
-use address_spaces::Spaces;
+use arena_memory::address_spaces::Spaces;
+use arena_memory::segments::{Queues, Segments};
 use base::{Data, Meter, Slot};
 use kernel_rules::{Body, Mapping, Object};
-use segments::{Queues, Segments};
 
 // The bytes of a slot that has none yet.
 fn put_bytes(segments: &mut Segments, slot: Slot, bytes: &[u8], meter: &mut Meter)

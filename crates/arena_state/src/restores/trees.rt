@@ -2,7 +2,7 @@
 ghost use Rattle.std.specs.Prelude.{◌≡◌, ℕ, ◌+◌, ◌≤◌, ◌*◌, ◌<◌, ◌^◌, ◌⊎◌, [], ◌∷◌, true, false, length, IfOk};
 ghost use Rattle.std.specs.List.{list_all};
 ghost use Rattle.base.specs.Live.{has, links};
-ghost use Rattle.object_arena.specs.Objects.{Rises};
+ghost use Rattle.containers.specs.Objects.{Rises};
 ghost use Rattle.containers.specs.Tree.{ids_in, link_count, list_of};
 ghost use Rattle.kernel_rules.specs.State.{lists_of};
 ghost use Rattle.kernel_rules.specs.WellFormed.{ids_rise, is_distinct};

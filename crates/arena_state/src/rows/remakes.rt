@@ -6,18 +6,18 @@ ghost use Rattle.containers.specs.Tree.{HasSlot};
 ghost use Rattle.kernel_rules.specs.Translate.{names_none, opens, own_space, slot_in};
 ghost use Rattle.kernel_rules.specs.Translate.{through, through_space};
 ghost use Rattle.kernel_store.specs.Sights.{seen_of};
-ghost use Rattle.translation_rows.specs.Rows.{slot_count, thread_at, with_row};
+ghost use Rattle.arena_memory.specs.Rows.{slot_count, thread_at, with_row};
 ghost use Rattle.arena_state.specs.Shown.{named_space, AreKept, IsRow, SameAt, Tells};
 ghost use Rattle.arena_state.specs.States.{state_of, Finds};
 
 use crate::locations::Location;
 use crate::records::Record;
 use crate::states::ArenaState;
+use arena_memory::translation_rows::Rows;
 use base::{Kind, Meter, NoMemory, ObjectId, Rights, Slot};
 use kernel_rules::{Entry, Mapping};
 use kernel_store::Seen;
 use std::alloc::Global;
-use translation_rows::Rows;
 
 // What a slot of this number maps, where there is such a slot and it is filled.
 fn mapping_in(slots: &[Option<Mapping>], place: usize) -> Option<Mapping>

@@ -13,9 +13,9 @@ ghost use Rattle.arena_state.specs.Touched.{goes_by, is_same, maps, reaches, tou
 
 use crate::rows::remakes::is_named;
 use crate::states::ArenaState;
+use arena_memory::translation_rows::Rows;
 use base::{Meter, ObjectId};
 use kernel_rules::{Entry, Mapping};
-use translation_rows::Rows;
 
 /// A change of the state, as far as it may touch rows of translation.
 #[derive(Clone, Copy)]

@@ -12,11 +12,11 @@ ghost use Rattle.arena_state.specs.States.{state_of, find_cost, Finds, Stands};
 use crate::locations::Location;
 use crate::records::{Kept, Record};
 use crate::states::ArenaState;
+use arena_memory::translation_rows::Rows;
 use base::{Meter, ObjectId, Rights};
 use containers::Located;
 use kernel_rules::{Entry, Mapping};
 use kernel_store::Placed;
-use translation_rows::Rows;
 
 // Whether a mapping covers a virtual page.
 fn covers(mapping: &Option<Mapping>, page: u64) -> bool

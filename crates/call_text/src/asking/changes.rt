@@ -9,8 +9,8 @@ use crate::places::{
     data_at, label_at, make_entry, make_mapping, number_at, object_at, signed_at, wide_at,
 };
 use kernel_rules::Call;
-use spoken_calls::{Arg, Verb};
 use text_words::Name;
+use text_words::spoken_calls::{Arg, Verb};
 
 #[inline(never)]
 pub(super) fn self_set_label<K: Known>(

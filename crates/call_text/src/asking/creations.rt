@@ -7,8 +7,8 @@ use super::Asked;
 use crate::known_names::Known;
 use crate::places::{label_at, make_entry, number_at, object_at, types_at, wide_at};
 use kernel_rules::{Call, NewAddressSpace, NewContainer, NewCopy, NewGate, NewSegment, NewThread};
-use spoken_calls::{Arg, Verb};
 use text_words::Name;
+use text_words::spoken_calls::{Arg, Verb};
 
 #[inline(never)]
 pub(super) fn container_create<K: Known>(

@@ -7,8 +7,8 @@ use super::Asked;
 use crate::known_names::Known;
 use crate::places::{make_entry, number_at, object_at, wide_at};
 use kernel_rules::Query;
-use spoken_calls::{Arg, Verb};
 use text_words::Name;
+use text_words::spoken_calls::{Arg, Verb};
 
 pub(super) fn container_list<K: Known>(args: &[Arg], names: &K, unbound: &mut Option<Name>) -> Query
     ensures asked { Asked.Read result ≡ asked_of Verb.ContainerList args.now (K.names names.now) }

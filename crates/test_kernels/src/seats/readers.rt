@@ -6,9 +6,9 @@ use super::samples::{
 };
 use anyhow::Result;
 use base::{Data, Meter, ObjectId};
-use histories::Event;
 use kept_events::events_of;
 use kernel_rules::Reply;
+use kernel_rules::histories::Event;
 use published_copy::{Naming, Seat, Shared};
 use std::alloc::Global;
 use std::sync::{Mutex, Wait};

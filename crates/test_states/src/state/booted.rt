@@ -1,6 +1,6 @@
 //! What a booted state shows.
 ghost use Rattle.std.specs.Prelude.{◌≡◌, option_copied};
-ghost use Rattle.label_rules.specs.LabelRules as spec;
+ghost use Rattle.label_lattice.specs.LabelRules as spec;
 
 use anyhow::Result;
 use base::{Kind, Level, Meter, ObjectId, Refusal, TypeSet};
@@ -8,8 +8,8 @@ use kernel_store::{
     NewObject, Store, avoids_object, find_all, find_container, find_entry, halted, look_at,
     new_bearer, new_object, refusal_of, space_entry,
 };
+use label_lattice::label_rules::stored_of;
 use label_lattice::{Label, RawLabel};
-use label_rules::stored_of;
 use plain_state::PlainState;
 use std::alloc::Global;
 use test_structures::look::{Look, agree};

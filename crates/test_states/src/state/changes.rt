@@ -6,7 +6,7 @@ use super::samples::{
 use anyhow::Result;
 use base::{Data, Level, Meter, ObjectId, Rights};
 use kernel_rules::Mapping;
-use label_rules::stored_of;
+use label_lattice::label_rules::stored_of;
 use plain_state::PlainState;
 use std::alloc::Global;
 use test_structures::look::{Look, agree};

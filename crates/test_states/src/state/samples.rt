@@ -7,7 +7,7 @@ ghost use Rattle.kernel_rules.specs.WellFormed.{is_whole_body};
 use base::{Data, Kind, Meter, NoMemory, ObjectId, TypeSet};
 use kernel_rules::{Body, Bytes, Entry, Gate, IdList, Slots};
 use label_lattice::Label;
-use label_rules::stored_of;
+use label_lattice::label_rules::stored_of;
 use plain_state::{BootRefusal, PlainState};
 use std::alloc::Global;
 use test_structures::samples::{LIMITS, boot_thread, in_root, plain};

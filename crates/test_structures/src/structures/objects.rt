@@ -1,12 +1,12 @@
 //! Objects under their ids, and without memory.
 ghost use Rattle.std.specs.Prelude.{◌≡◌, IfOk};
-ghost use Rattle.object_arena.specs.Objects.{no_objects};
+ghost use Rattle.containers.specs.Objects.{no_objects};
 
 use crate::look::{Look, agree};
 use crate::samples::meter_again;
 use anyhow::Result;
 use base::{Meter, NoMemory, ObjectId};
-use object_arena::Arena;
+use containers::object_arena::Arena;
 use std::alloc::Global;
 
 // Three slots, booted once more where the first boot had no memory.

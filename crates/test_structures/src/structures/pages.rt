@@ -4,8 +4,8 @@ ghost use Rattle.std.specs.Prelude.{◌≡◌, [], IfOk, replicate};
 use crate::look::{Look, agree};
 use crate::samples::meter_again;
 use anyhow::Result;
+use arena_memory::segments::{Queues, Segments};
 use base::{Data, Meter, NoMemory, Slot};
-use segments::{Queues, Segments};
 use std::alloc::Global;
 
 // Three slots, booted once more where the first boot had no memory.

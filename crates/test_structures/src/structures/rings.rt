@@ -1,12 +1,12 @@
 //! Lists by index, and without memory.
 ghost use Rattle.std.specs.Prelude.{◌≡◌, [], ◌∷◌, map, IfOk};
-ghost use Rattle.entry_lists.specs.Lists.{empty_lists, cells_at, with_cells, StandsAt};
+ghost use Rattle.containers.specs.Lists.{empty_lists, cells_at, with_cells, StandsAt};
 
 use crate::look::{Look, agree};
 use crate::samples::meter_again;
 use anyhow::Result;
 use base::{Meter, NoMemory};
-use entry_lists::Rings;
+use containers::entry_lists::Rings;
 use std::alloc::Global;
 
 // Two families of four cells, made once more where the first making had no memory.

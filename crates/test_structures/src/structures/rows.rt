@@ -1,13 +1,13 @@
 //! Rows of translation by slot, and without memory.
 ghost use Rattle.std.specs.Prelude.{◌≡◌, IfOk};
-ghost use Rattle.translation_rows.specs.Rows.{no_rows};
+ghost use Rattle.arena_memory.specs.Rows.{no_rows};
 
 use crate::look::{Look, agree};
 use crate::samples::meter_again;
 use anyhow::Result;
+use arena_memory::translation_rows::Rows;
 use base::{Meter, NoMemory, ObjectId, Rights, Slot};
 use std::alloc::Global;
-use translation_rows::Rows;
 
 const READING: Rights = Rights {
     read: true,

@@ -3,8 +3,8 @@ ghost use Rattle.std.specs.Prelude.{◌≡◌, None, length, replicate, IfOk};
 
 use crate::look::{Look, agree};
 use crate::samples::meter_again;
-use address_spaces::Spaces;
 use anyhow::Result;
+use arena_memory::address_spaces::Spaces;
 use base::{Meter, NoMemory, ObjectId, Rights, Slot};
 use kernel_rules::{Entry, Mapping};
 use std::alloc::Global;

@@ -4,7 +4,7 @@ use crate::samples::label_with;
 use anyhow::{Result, bail};
 use base::{Category, Level, Meter};
 use label_lattice::Label;
-use label_rules::{
+use label_lattice::label_rules::{
     Asked, Bearer, is_above_floor, is_below, is_below_join, is_below_join_up, is_between, is_shown,
     is_visible, may_clear, may_enter, stored_of, with_category,
 };

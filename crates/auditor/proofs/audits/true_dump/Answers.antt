@@ -1,5 +1,5 @@
 use Rattle.std.proofs.Common.{◌≡◌, [], subst, Option, List, IfSome}
-use Rattle.histories.specs.Events.{Event}
+use Rattle.kernel_rules.specs.Events.{Event}
 use Rattle.dump_text.specs.Lists.{DumpLists}
 use Rattle.dump_text.specs.Whole.{start_with}
 use Rattle.dump_text.specs.declared.tables.PlacedRead.{PlacedRead}

@@ -1,6 +1,6 @@
 use Rattle.std.proofs.Common.{◌≡◌, ◌+◌, ◌++◌, ◌∷◌, [], take, add-one, ap, sym, ◌∙◌, subst, List}
 use Rattle.std.proofs.Math.Seq.{take-suc}
-use Rattle.histories.specs.declared.events.Answered.{Answered}
+use Rattle.kernel_rules.specs.declared.histories.events.Answered.{Answered}
 use Rattle.plain_core.specs.Kernel.{kernel_state}
 use Rattle.auditor.proofs.CountLaws.{IsMade, made_more}
 use Rattle.auditor.proofs.replays.make.Goals as goal

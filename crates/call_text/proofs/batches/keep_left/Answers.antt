@@ -1,5 +1,5 @@
 use Rattle.std.proofs.Common.{◌≡◌, List, Bool, true, false, None, Some, ◌∙◌, inl, vec_len, length, arith, sym, ap, subst}
-use Rattle.spoken_calls.proofs.IntoLemmas.{into_is, into_not}
+use Rattle.text_words.proofs.IntoLemmas.{into_is, into_not}
 use Rattle.std.specs.Global.{Vec}
 use Rattle.call_text.specs.declared.batches.Open.{Open}
 use Rattle.call_text.specs.Batch.{LeavesOpen, Ended, Malformed}

@@ -1,8 +1,8 @@
 use Rattle.std.proofs.Common.{◌≡◌, true, ◌∷◌, List, ℕ, length, take, take_at, subst, ◌∙◌, sym, ap, refl}
 use Rattle.text_words.specs.Lacks.{lacks}
-use Rattle.spoken_calls.proofs.IntoLemmas.{into_is, into_not}
-use Rattle.spoken_calls.specs.declared.args.Arg.{Arg}
-use Rattle.spoken_calls.specs.Verb.{makes}
+use Rattle.text_words.proofs.IntoLemmas.{into_is, into_not}
+use Rattle.text_words.specs.declared.spoken_calls.args.Arg.{Arg}
+use Rattle.text_words.specs.Verb.{makes}
 use Rattle.call_text.specs.Line.{Saying, said_with, said_text, IsSaid}
 use Rattle.text_words.proofs.PartLemmas.{not_in}
 use Rattle.call_text.proofs.LineLemmas.{bound_first, bound_parts, said_is_one, makes_not}

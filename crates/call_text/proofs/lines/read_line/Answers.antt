@@ -1,5 +1,5 @@
 use Rattle.std.proofs.Common.{◌∙◌}
-use Rattle.spoken_calls.proofs.IntoLemmas.{into_not}
+use Rattle.text_words.proofs.IntoLemmas.{into_not}
 use Rattle.call_text.specs.Line.{said_with, said_text, IsSaid, bound_with, bound_text, IsBound}
 use Rattle.call_text.proofs.LineLemmas.{no_line}
 use Rattle.text_words.proofs.WordLemmas.{not_so}

@@ -1,9 +1,9 @@
 use Rattle.std.proofs.Common.{◌≡◌, true, ◌++◌, List, ℕ, length, take, take_at, subst, ◌∙◌, sym, ap, refl}
 use Rattle.text_words.specs.Lacks.{lacks}
-use Rattle.spoken_calls.specs.declared.args.Arg.{Arg}
-use Rattle.spoken_calls.specs.Spoken.{Spoken, spoken_text, IsSpoken, call_with}
-use Rattle.spoken_calls.proofs.IntoLemmas.{into_is, into_not}
-use Rattle.spoken_calls.proofs.SpokenLemmas.{spoken_is_one}
+use Rattle.text_words.specs.declared.spoken_calls.args.Arg.{Arg}
+use Rattle.text_words.specs.Spoken.{Spoken, spoken_text, IsSpoken, call_with}
+use Rattle.text_words.proofs.IntoLemmas.{into_is, into_not}
+use Rattle.text_words.proofs.SpokenLemmas.{spoken_is_one}
 use Rattle.text_words.proofs.PartLemmas.{not_in}
 use Rattle.call_text.specs.Line.{mark, may_go_on}
 use Rattle.call_text.proofs.LineLemmas.{said_parts, mark_same, makes_not}

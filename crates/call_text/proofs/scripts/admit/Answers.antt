@@ -1,7 +1,7 @@
 use Rattle.std.proofs.Common.{true, false, Result, Ok, Err, List, subst, arith}
 use Rattle.std.specs.Prelude.{IfOk}
 use Rattle.std.proofs.Common.{Bool, ◌<◌, ◌+◌, ℕ}
-use Rattle.spoken_calls.specs.declared.args.Arg.{Arg}
+use Rattle.text_words.specs.declared.spoken_calls.args.Arg.{Arg}
 use Rattle.call_text.specs.declared.batches.Open.{Open}
 use Rattle.call_text.specs.declared.lines.Outline.{Outline}
 use Rattle.call_text.specs.Line.{written_with}

@@ -1,5 +1,5 @@
 use Rattle.std.proofs.Common.{◌≡◌, ◌==◌, vec_len, arith, ap, sym, ◌∙◌, true, false, length, map}
-use Rattle.spoken_calls.proofs.IntoLemmas.{into_is, into_not}
+use Rattle.text_words.proofs.IntoLemmas.{into_is, into_not}
 use Rattle.call_text.specs.Line.{written_with, written_text, FitsWritten}
 use Rattle.call_text.specs.Phase.{line_in}
 use Rattle.call_text.proofs.Progress.{progress_start, progress_end, fault_at_end, fault_unread, fault_refused, fault_open, admitted, not_empty, all_read}

@@ -1,5 +1,5 @@
 use Rattle.std.proofs.Common.{◌≡◌, drop}
-use Rattle.line_faults.specs.Verbs.{all_verbs}
+use Rattle.check_text.specs.Verbs.{all_verbs}
 use Rattle.check_text.specs.Hints.{first_within}
 use Rattle.check_text.proofs.hints.first_within.Given as goal
 

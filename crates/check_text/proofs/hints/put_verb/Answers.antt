@@ -1,5 +1,5 @@
 use Rattle.std.proofs.Common.{◌≡◌, ◌∙◌, ◌++◌, [], ◌∷◌, codes, ap, append_assoc}
-use Rattle.spoken_calls.specs.Verb.{name_of}
+use Rattle.text_words.specs.Verb.{name_of}
 use Rattle.check_text.proofs.hints.put_verb.Goals as goal
 
 pub returns : goal.returns

@@ -1,6 +1,6 @@
 use Rattle.std.proofs.Common.{◌≡◌, ◌≢◌, ℕ, inl, inr, List, length, get_or, refl, subst, arith, lit<}
 use Rattle.std.proofs.lemmas.Bool.{cases_eq}
-use Rattle.entry_lists.specs.Lists.{Lists, cells_at, StandsAt}
+use Rattle.containers.specs.Lists.{Lists, cells_at, StandsAt}
 use Rattle.containers.specs.Cells.{Stands, IsOneOf}
 use Rattle.containers.proofs.cells.drop_link.Goals as goal
 

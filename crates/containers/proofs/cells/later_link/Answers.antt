@@ -1,5 +1,5 @@
 use Rattle.std.proofs.Common.{◌≡◌, ◌-◌, ℕ, length, subst, arith}
-use Rattle.entry_lists.specs.Lists.{cells_at, StandsAt}
+use Rattle.containers.specs.Lists.{cells_at, StandsAt}
 use Rattle.containers.proofs.Cuts.{at_some, some_stands}
 use Rattle.containers.proofs.cells.later_link.Goals as goal
 

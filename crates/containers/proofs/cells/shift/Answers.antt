@@ -1,9 +1,9 @@
 use Rattle.std.proofs.Common.{◌≡◌, ◌++◌, ◌∷◌, [], ◌<◌, ◌∙◌, length, set, refl, sym, ap, arith, lit<}
 use Rattle.std.proofs.lemmas.List.{set-set}
 use Rattle.std.specs.Prelude.{remove}
-use Rattle.entry_lists.specs.Lists.{Lists, family_at, cells_at, list_at, with_list, with_cells}
-use Rattle.entry_lists.proofs.Lookups.{family_at-with_cells}
-use Rattle.entry_lists.proofs.Views.{head_below}
+use Rattle.containers.specs.Lists.{Lists, family_at, cells_at, list_at, with_list, with_cells}
+use Rattle.containers.proofs.Lookups.{family_at-with_cells}
+use Rattle.containers.proofs.ListViews.{head_below}
 use Rattle.containers.proofs.Shifts.{shifted}
 use Rattle.containers.proofs.cells.shift.Goals as goal
 

@@ -1,5 +1,5 @@
 use Rattle.std.proofs.Common.{◌≡◌, ◌≤◌, ℕ, List, length, vec_capacity}
-use Rattle.entry_lists.specs.Lists.{cells_at}
+use Rattle.containers.specs.Lists.{cells_at}
 use Rattle.containers.specs.Sweep.{IsSweeping}
 use Rattle.containers.specs.Visits.{IsTold, named, named_one, object_ids}
 use Rattle.containers.proofs.Measures.{work}

@@ -1,5 +1,5 @@
 use Rattle.std.proofs.Common.{◌≡◌, ◌≢◌, ℕ, inl, inr, get_or, refl, sym, ap, ◌∙◌, subst, arith, lit<}
-use Rattle.entry_lists.specs.Lists.{cells_at, StandsAt}
+use Rattle.containers.specs.Lists.{cells_at, StandsAt}
 use Rattle.containers.specs.Cells.{Stands}
 use Rattle.std.proofs.lemmas.Bool.{cases_lt}
 use Rattle.containers.proofs.Handed.{read_scans}

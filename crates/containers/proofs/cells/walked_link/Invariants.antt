@@ -1,6 +1,6 @@
 use Rattle.std.proofs.Common.{◌≡◌, ◌<◌, ℕ}
 use Rattle.std.specs.Prelude.{slice_get}
-use Rattle.entry_lists.specs.Lists.{cells_at, StandsAt}
+use Rattle.containers.specs.Lists.{cells_at, StandsAt}
 use Rattle.containers.specs.Cells.{Stands}
 use Rattle.containers.proofs.cells.walked_link.Given as goal
 

@@ -1,6 +1,6 @@
 use Rattle.std.proofs.Common.{◌≡◌}
 use Rattle.std.specs.Prelude.{slice_get}
-use Rattle.entry_lists.specs.Lists.{cells_at}
+use Rattle.containers.specs.Lists.{cells_at}
 use Rattle.containers.proofs.windows.cell_at.Given as goal
 
 abbrev pub invariant-loop : goal.invariant-loop

@@ -2,7 +2,7 @@ use Rattle.std.proofs.Common.{◌≡◌, ℕ, ◌+◌, inl, inr, get_or, set, sy
 use Rattle.std.proofs.lemmas.Bool.{cases_eq}
 use Rattle.std.specs.Prelude.{slice_get}
 use Rattle.containers.specs.View.{ids_of}
-use Rattle.entry_lists.specs.Lists.{cells_at, StandsAt}
+use Rattle.containers.specs.Lists.{cells_at, StandsAt}
 use Rattle.containers.specs.Cells.{Stands}
 use Rattle.containers.proofs.Turns.{linked_one}
 use Rattle.containers.proofs.Cuts.{some_at, none_at}

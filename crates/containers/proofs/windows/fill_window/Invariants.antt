@@ -1,6 +1,6 @@
 use Rattle.std.proofs.Common.{◌≡◌, ◌+◌, ◌<◌, ◌≤◌, ℕ}
 use Rattle.std.specs.Prelude.{slice_get, slice_index}
-use Rattle.entry_lists.specs.Lists.{cells_at}
+use Rattle.containers.specs.Lists.{cells_at}
 use Rattle.containers.specs.View.{ids_of}
 use Rattle.containers.proofs.windows.fill_window.Given as goal
 

@@ -1,4 +1,4 @@
-use Rattle.spoken_calls.specs.Arg.{FitsArg}
+use Rattle.text_words.specs.Arg.{FitsArg}
 use Rattle.dump_text.specs.Call.{creation_words}
 use Rattle.dump_text.specs.Word.{arg_of}
 use Rattle.dump_text.proofs.LabelPlaces.{all_append}

@@ -1,7 +1,7 @@
 use Rattle.std.proofs.Common.{◌++◌, List, ◌∙◌, ap, subst}
 use Rattle.std.specs.List.{AllByRecursion}
-use Rattle.spoken_calls.specs.Arg.{FitsArg}
-use Rattle.spoken_calls.specs.Spoken.{spoken_text}
+use Rattle.text_words.specs.Arg.{FitsArg}
+use Rattle.text_words.specs.Spoken.{spoken_text}
 use Rattle.dump_text.specs.Call.{spoken_as}
 use Rattle.dump_text.specs.Word.{arg_of}
 use Rattle.dump_text.specs.declared.words.Word.{Word}

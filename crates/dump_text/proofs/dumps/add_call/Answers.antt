@@ -1,5 +1,5 @@
 use Rattle.std.proofs.Common.{◌++◌, ◌∷◌, [], ap, sym, ◌∙◌}
-use Rattle.histories.specs.Events.{Event}
+use Rattle.kernel_rules.specs.Events.{Event}
 use Rattle.dump_text.specs.Reading.{with_call}
 use Rattle.dump_text.proofs.Told.{call_push}
 use Rattle.dump_text.proofs.dumps.add_call.Goals as goal

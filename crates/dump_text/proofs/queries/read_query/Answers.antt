@@ -1,7 +1,7 @@
 use Rattle.std.proofs.Common.{◌≡◌, [], subst, sym, ap, ◌∙◌}
 use Rattle.text_words.specs.Reading.{Reads}
-use Rattle.spoken_calls.specs.Spoken.{Spoken, spoken_text, IsSpoken, call_with}
-use Rattle.spoken_calls.proofs.IntoLemmas.{into_not, reads_one}
+use Rattle.text_words.specs.Spoken.{Spoken, spoken_text, IsSpoken, call_with}
+use Rattle.text_words.proofs.IntoLemmas.{into_not, reads_one}
 use Rattle.call_text.specs.Resolve.{resolved}
 use Rattle.dump_text.specs.Query.{query_text, IsQuery, query_of, query_spoken}
 use Rattle.dump_text.proofs.CallLemmas.{query_reads}

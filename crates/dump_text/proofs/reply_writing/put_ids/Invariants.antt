@@ -1,6 +1,6 @@
 use Rattle.std.proofs.Common.{◌≡◌, ◌++◌, ◌∷◌, map, take}
 use Rattle.std.specs.List.{flat_map, AllByRecursion}
-use Rattle.spoken_calls.specs.Arg.{arg_text, FitsArg}
+use Rattle.text_words.specs.Arg.{arg_text, FitsArg}
 use Rattle.dump_text.specs.Word.{arg_of}
 use Rattle.dump_text.specs.declared.words.Word.TheVariants as words
 use Rattle.dump_text.proofs.reply_writing.put_ids.Given as goal

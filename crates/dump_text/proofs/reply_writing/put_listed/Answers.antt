@@ -1,7 +1,7 @@
 use Rattle.std.proofs.Common.{◌++◌, ◌∷◌, List, ℕ, map, ◌∙◌, ap, subst}
 use Rattle.std.specs.Prelude.{codes}
 use Rattle.std.specs.List.{flat_map, AllByRecursion}
-use Rattle.spoken_calls.specs.Arg.{arg_text, FitsArg}
+use Rattle.text_words.specs.Arg.{arg_text, FitsArg}
 use Rattle.dump_text.specs.Word.{arg_of}
 use Rattle.dump_text.specs.declared.words.Word.TheVariants as words
 use Rattle.dump_text.proofs.ReplyLemmas.{list_fits}

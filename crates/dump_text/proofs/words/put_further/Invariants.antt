@@ -1,6 +1,6 @@
 use Rattle.std.proofs.Common.{◌≡◌, ◌++◌, ◌∷◌, take}
 use Rattle.std.specs.List.{flat_map, AllByRecursion}
-use Rattle.spoken_calls.specs.Arg.{arg_text, FitsArg}
+use Rattle.text_words.specs.Arg.{arg_text, FitsArg}
 use Rattle.dump_text.specs.Word.{arg_of}
 use Rattle.dump_text.proofs.words.put_further.Given as goal
 

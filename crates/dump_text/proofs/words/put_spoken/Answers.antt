@@ -1,5 +1,5 @@
 use Rattle.std.proofs.Common.{◌++◌, List, ℕ, ◌∙◌, ap}
-use Rattle.spoken_calls.specs.Verb.{name_of}
+use Rattle.text_words.specs.Verb.{name_of}
 use Rattle.dump_text.proofs.WordLemmas.{words_after, put_two}
 use Rattle.dump_text.proofs.words.put_spoken.Goals as goal
 

@@ -1,5 +1,5 @@
 use Rattle.std.proofs.Common.{◌++◌, List, ℕ, ◌∙◌, ap}
-use Rattle.spoken_calls.specs.Arg.{arg_text}
+use Rattle.text_words.specs.Arg.{arg_text}
 use Rattle.dump_text.specs.Word.{arg_of}
 use Rattle.dump_text.proofs.WordLemmas.{words_after, put_three}
 use Rattle.dump_text.proofs.words.put_words.Goals as goal

@@ -1,6 +1,6 @@
 use Rattle.std.proofs.Common.{◌++◌, ◌∙◌, ap, List}
-use Rattle.histories.specs.Events.{Event}
-use Rattle.histories.specs.declared.events.Answered.{Answered}
+use Rattle.kernel_rules.specs.Events.{Event}
+use Rattle.kernel_rules.specs.declared.histories.events.Answered.{Answered}
 use Rattle.hidden_replies.specs.Places.{placed_by}
 use Rattle.hidden_replies.proofs.places.place_event.Goals as goal
 

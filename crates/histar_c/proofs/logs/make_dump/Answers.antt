@@ -1,5 +1,5 @@
 use Rattle.std.proofs.Common.{◌≡◌, List, [], Option, Some, None, option_map, refl, inr}
-use Rattle.histories.specs.Events.{Event}
+use Rattle.kernel_rules.specs.Events.{Event}
 use Rattle.dump_text.specs.Dump.{dump_text}
 use Rattle.dump_text.specs.Whole.{whole_dump}
 use Rattle.histar_c.specs.Served.{IsDumpedAs}

@@ -1,6 +1,6 @@
 use Rattle.std.proofs.Common.{◌∙◌, ap, ◌++◌, ◌∷◌, [], take, append_assoc}
-use Rattle.histories.specs.Events.{answers, told}
-use Rattle.histories.proofs.BatchLaws.{answers_more, answers_all}
+use Rattle.kernel_rules.specs.Events.{answers, told}
+use Rattle.kernel_rules.proofs.BatchLaws.{answers_more, answers_all}
 use Rattle.kept_events.proofs.events.tell_answers.Goals as goal
 
 pub loop-place-preserved : goal.loop-place-preserved

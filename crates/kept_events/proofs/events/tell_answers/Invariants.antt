@@ -1,5 +1,5 @@
 use Rattle.std.proofs.Common.{◌≡◌, ◌++◌, take, vec_capacity}
-use Rattle.histories.specs.Events.{answers}
+use Rattle.kernel_rules.specs.Events.{answers}
 use Rattle.kept_events.proofs.events.tell_answers.Given as goal
 
 abbrev pub invariant-loop-place : goal.invariant-loop-place

@@ -5,8 +5,8 @@ use Rattle.dump_text.specs.Fits.{FitsWords}
 use Rattle.dump_text.specs.Lists.{DumpLists}
 use Rattle.dump_text.specs.Whole.{whole_dump}
 use Rattle.dump_text.specs.declared.tables.PlacedRead.{PlacedRead}
-use Rattle.histories.proofs.HistoryLaws.{legal_none_from}
-use Rattle.histories.specs.Events.{Event}
+use Rattle.kernel_rules.proofs.HistoryLaws.{legal_none_from}
+use Rattle.kernel_rules.specs.Events.{Event}
 use Rattle.logged_kernel.specs.Logged.{checkpoint_text}
 use Rattle.logged_kernel.proofs.logging.checkpoint_text_of.Goals as goal
 

@@ -1,7 +1,7 @@
 use Rattle.std.proofs.Common.{◌≡◌, ◌+◌, ap, ◌∙◌, arith}
 use Rattle.std.proofs.lemmas.Bool.Decides.{nat_tests}
 use Rattle.checkpoints.specs.Starts.{number_of}
-use Rattle.histories.specs.History.{count}
+use Rattle.kernel_rules.specs.History.{count}
 use Rattle.logged_kernel.proofs.LogLaws.{number_found, some_by}
 use Rattle.logged_kernel.proofs.logging.next_number.Goals as goal
 

@@ -1,5 +1,5 @@
 use Rattle.std.proofs.Common.{◌≡◌, ◌≤◌, length, drop}
-use Rattle.histories.specs.History.{count}
+use Rattle.kernel_rules.specs.History.{count}
 use Rattle.logged_kernel.proofs.logging.next_number.Given as goal
 
 abbrev pub invariant-loop-place : goal.invariant-loop-place

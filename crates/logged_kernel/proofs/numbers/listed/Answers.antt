@@ -2,7 +2,7 @@ use Rattle.std.proofs.Common.{ℕ, map, sym, subst, nat_cmp, List}
 use Rattle.std.specs.List.Sorted.{IsStrictlySortedBy}
 use Rattle.std.specs.Map.{keys_of}
 use Rattle.checkpoints.specs.declared.checkpoints.NextNumber.{NextNumber}
-use Rattle.restoring.proofs.NumberLaws.{rise_from, all_left}
+use Rattle.plain_core.proofs.NumberLaws.{rise_from, all_left}
 use Rattle.logged_kernel.proofs.numbers.listed.Goals as goal
 
 pub returns-clause-rise : goal.returns-clause-rise

@@ -7,8 +7,8 @@ use Rattle.std.proofs.lemmas.Result.{IfOk-weaker}
 use Rattle.checkpoints.specs.Checkpoint.{Checkpoint}
 use Rattle.checkpoints.specs.Starts.{number_of}
 use Rattle.checkpoints.specs.declared.checkpoints.NextNumber.{NextNumber}
-use Rattle.histories.specs.History.{count}
-use Rattle.restoring.proofs.NumberLaws.{number_is, all_are}
+use Rattle.kernel_rules.specs.History.{count}
+use Rattle.plain_core.proofs.NumberLaws.{number_is, all_are}
 use Rattle.logged_kernel.proofs.NumberLaws.{noted_parts}
 use Rattle.logged_kernel.proofs.numbers.next_numbers.Goals as goal
 

@@ -1,7 +1,7 @@
 use Rattle.std.proofs.Common.{◌<◌, nat_lt, nat_le, ◌∙◌, ap, arith}
 use Rattle.std.specs.List.{list_all}
 use Rattle.std.proofs.lemmas.Bool.{and_parts, and_from, lt-ltb, le-leb}
-use Rattle.restoring.proofs.NumberLaws.{all_inserted}
+use Rattle.plain_core.proofs.NumberLaws.{all_inserted}
 use Rattle.logged_kernel.specs.Numbers.{is_noted}
 use Rattle.logged_kernel.proofs.numbers.note.Goals as goal
 

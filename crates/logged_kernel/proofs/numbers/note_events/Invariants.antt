@@ -4,7 +4,7 @@ use Rattle.std.specs.Option.{unwrap_or}
 use Rattle.std.specs.Ordering.{nat_cmp}
 use Rattle.std.specs.BTreeMap.{get}
 use Rattle.checkpoints.specs.Starts.{number_of}
-use Rattle.histories.specs.History.{count}
+use Rattle.kernel_rules.specs.History.{count}
 use Rattle.logged_kernel.specs.Numbers.{is_noted}
 use Rattle.logged_kernel.proofs.numbers.note_events.Given as goal
 

@@ -1,5 +1,5 @@
 use Rattle.std.proofs.Common.{◌≡◌, ◌∙◌, ap, sym, subst}
-use Rattle.histories.specs.History.{state_of}
+use Rattle.kernel_rules.specs.History.{state_of}
 use Rattle.kernel_rules.specs.Step.{query_answer}
 use Rattle.published_copy.proofs.Prefixes.{prefix_trans}
 use Rattle.one_history.specs.OneHistory.{IsAnswered}

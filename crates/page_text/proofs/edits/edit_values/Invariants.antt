@@ -1,5 +1,5 @@
 use Rattle.std.proofs.Common.{◌≡◌, ◌+◌, ◌≤◌, ◌++◌, map, length}
-use Rattle.json_text.specs.Pieces.{lines_of}
+use Rattle.shown_dumps.specs.Pieces.{lines_of}
 use Rattle.page_text.specs.Edits.{edits}
 use Rattle.page_text.specs.Marked.{edit_data}
 use Rattle.serde_json.specs.View.{view}

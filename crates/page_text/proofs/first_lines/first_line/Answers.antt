@@ -1,4 +1,4 @@
-use Rattle.json_text.proofs.PieceLaws.{next_line, last_line}
+use Rattle.shown_dumps.proofs.PieceLaws.{next_line, last_line}
 use Rattle.page_text.proofs.first_lines.first_line.Goals as goal
 
 pub returns : goal.returns

@@ -1,5 +1,5 @@
 use Rattle.std.proofs.Common.{sym, ◌∙◌, arith}
-use Rattle.json_text.specs.Pieces.{lines_of}
+use Rattle.shown_dumps.specs.Pieces.{lines_of}
 use Rattle.page_text.proofs.LineLaws.{left_after, place_past}
 use Rattle.page_text.proofs.lines.find_line.Goals as goal
 

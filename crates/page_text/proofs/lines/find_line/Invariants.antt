@@ -1,6 +1,6 @@
 use Rattle.std.proofs.Common.{◌≡◌, ◌+◌, ◌≤◌, length, drop}
 use Rattle.std.specs.Option.{option_map}
-use Rattle.json_text.specs.Pieces.{lines_of}
+use Rattle.shown_dumps.specs.Pieces.{lines_of}
 use Rattle.page_text.specs.Edits.{place_in}
 use Rattle.page_text.proofs.lines.find_line.Given as goal
 

@@ -1,6 +1,6 @@
 use Rattle.std.proofs.Common.{ap, sym, ◌∙◌}
-use Rattle.json_text.specs.Pieces.{words_of}
-use Rattle.json_text.proofs.PieceLaws.{next_word, last_word}
+use Rattle.shown_dumps.specs.Pieces.{words_of}
+use Rattle.shown_dumps.proofs.PieceLaws.{next_word, last_word}
 use Rattle.page_text.specs.Told.{first_of}
 use Rattle.page_text.proofs.lines.first_word.Goals as goal
 

@@ -1,5 +1,5 @@
 use Rattle.std.proofs.Common.{◌≡◌, length}
-use Rattle.json_text.specs.Pieces.{lines_of}
+use Rattle.shown_dumps.specs.Pieces.{lines_of}
 use Rattle.page_text.specs.Edits.{has_line}
 use Rattle.page_text.proofs.lines.has_line.Given as goal
 

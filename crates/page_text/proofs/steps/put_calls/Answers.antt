@@ -4,7 +4,7 @@ use Rattle.page_text.specs.Told.{told_in}
 use Rattle.page_text.proofs.CallLaws.{told_more}
 use Rattle.plain_state.specs.StateOf.{state_of}
 use Rattle.serde_json.specs.View.{view}
-use Rattle.show_states.proofs.CallLaws.{made_more}
+use Rattle.shown_dumps.proofs.CallLaws.{made_more}
 use Rattle.page_text.proofs.steps.put_calls.Goals as goal
 
 pub loop-answered-preserved : goal.loop-answered-preserved

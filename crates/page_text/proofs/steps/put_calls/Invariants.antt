@@ -1,5 +1,5 @@
 use Rattle.std.proofs.Common.{◌≡◌, ◌++◌, drop, map}
-use Rattle.histories.specs.Events.{by}
+use Rattle.kernel_rules.specs.Events.{by}
 use Rattle.kernel_rules.specs.Runs.{state_after}
 use Rattle.page_text.specs.Steps.{calls_told, told_data}
 use Rattle.page_text.specs.Told.{told_in}

@@ -3,7 +3,7 @@ use Rattle.page_text.specs.Steps.{read_told, step_data}
 use Rattle.page_text.specs.Told.{told_in}
 use Rattle.page_text.proofs.TurnLaws.{asked_more}
 use Rattle.plain_state.specs.StateOf.{state_of}
-use Rattle.tree_text.specs.Trees.{named_tree}
+use Rattle.shown_dumps.specs.Trees.{named_tree}
 use Rattle.page_text.proofs.steps.put_reads.Goals as goal
 
 pub loop-placed-preserved : goal.loop-placed-preserved

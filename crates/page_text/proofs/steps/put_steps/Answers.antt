@@ -1,5 +1,5 @@
 use Rattle.std.proofs.Common.{ℕ, [], ◌∷◌, ◌++◌, length, drop, map, ap, sym, ◌∙◌, arith}
-use Rattle.histories.specs.Events.{Event}
+use Rattle.kernel_rules.specs.Events.{Event}
 use Rattle.page_text.specs.Steps.{Made, line_count, event_after, step_of, step_data}
 use Rattle.page_text.specs.Told.{told_in}
 use Rattle.page_text.proofs.TurnLaws.{steps_more, steps_end}

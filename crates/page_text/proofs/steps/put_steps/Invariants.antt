@@ -4,7 +4,7 @@ use Rattle.page_text.specs.Steps.{made, Asked, turns, steps_from, step_data}
 use Rattle.page_text.specs.Told.{told_in}
 use Rattle.plain_state.specs.StateOf.{state_of}
 use Rattle.serde_json.specs.View.{view}
-use Rattle.tree_text.specs.Trees.{named_tree}
+use Rattle.shown_dumps.specs.Trees.{named_tree}
 use Rattle.page_text.proofs.steps.put_steps.Given as goal
 
 abbrev pub invariant-loop-place : goal.invariant-loop-place

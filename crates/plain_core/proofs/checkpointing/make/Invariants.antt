@@ -2,7 +2,7 @@ use Rattle.std.proofs.Common.{◌≡◌, true, take, map}
 use Rattle.base.specs.Limits.{in_range}
 use Rattle.base.specs.declared.ranges.Limits.{Limits}
 use Rattle.checkpoints.specs.Reached.{IsSound}
-use Rattle.histories.specs.Events.{by}
+use Rattle.kernel_rules.specs.Events.{by}
 use Rattle.kernel_rules.specs.Runs.{state_after}
 use Rattle.plain_core.specs.Kernel.{kernel_state}
 use Rattle.plain_core.proofs.checkpointing.make.Given as goal

@@ -1,6 +1,6 @@
 use Rattle.std.proofs.Common.{◌≡◌, take}
 use Rattle.checkpoints.specs.Reached.{IsSound}
-use Rattle.histories.specs.History.{state_of}
+use Rattle.kernel_rules.specs.History.{state_of}
 use Rattle.plain_core.specs.Kernel.{kernel_state}
 use Rattle.plain_core.proofs.checkpointing.played.Given as goal
 

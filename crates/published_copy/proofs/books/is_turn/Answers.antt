@@ -1,5 +1,5 @@
 use Rattle.std.proofs.Common.{◌∙◌, length, arith, rules, ◌<◌, ◌+◌, ◌^◌}
-use Rattle.histories.proofs.HistoryLaws.{count_within}
+use Rattle.kernel_rules.proofs.HistoryLaws.{count_within}
 use Rattle.published_copy.proofs.books.is_turn.Goals as goal
 
 pub overflow_add-events_of : goal.overflow_add-events_of

@@ -1,6 +1,6 @@
 use Rattle.std.proofs.Common.{◌∙◌}
 use Rattle.syscall_core.specs.Kernel.{kernel_state}
-use Rattle.histories.proofs.BatchLaws.{made_more}
+use Rattle.kernel_rules.proofs.BatchLaws.{made_more}
 use Rattle.published_copy.proofs.further.make_more.Goals as goal
 
 pub loop-call-preserved : goal.loop-call-preserved

@@ -1,5 +1,5 @@
 use Rattle.std.proofs.Common.{vec_capacity}
-use Rattle.histories.proofs.BatchLaws.{IsMadeSoFar}
+use Rattle.kernel_rules.proofs.BatchLaws.{IsMadeSoFar}
 use Rattle.syscall_core.specs.Kernel.{kernel_state}
 use Rattle.published_copy.proofs.further.make_more.Given as goal
 

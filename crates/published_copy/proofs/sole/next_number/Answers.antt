@@ -1,5 +1,5 @@
 use Rattle.std.proofs.Common.{◌∙◌, length, arith, rules, ◌<◌, ◌+◌, ◌^◌}
-use Rattle.histories.proofs.HistoryLaws.{count_within}
+use Rattle.kernel_rules.proofs.HistoryLaws.{count_within}
 use Rattle.published_copy.proofs.sole.next_number.Goals as goal
 
 pub overflow_add-result : goal.overflow_add-result

@@ -1,6 +1,6 @@
 -- the lines to come are refused
 use Rattle.std.proofs.Common.{◌≡◌, List, [], drop, map}
-use Rattle.histories.specs.Events.{Event}
+use Rattle.kernel_rules.specs.Events.{Event}
 use Rattle.call_text.specs.declared.known_names.Named.{Named}
 use Rattle.script_rules.specs.Lines.{refuse_all}
 use Rattle.script_runner.specs.Turns.{stand, waiting_in}

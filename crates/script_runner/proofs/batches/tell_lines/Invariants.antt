@@ -1,6 +1,6 @@
 -- what the lines to come are told, with the replies that are left
 use Rattle.std.proofs.Common.{◌≡◌, List, [], drop, map}
-use Rattle.histories.specs.Events.{Event}
+use Rattle.kernel_rules.specs.Events.{Event}
 use Rattle.script_runner.specs.Turns.{stand, tell_with, waiting_in}
 use Rattle.script_runner.proofs.batches.tell_lines.Given as goal
 

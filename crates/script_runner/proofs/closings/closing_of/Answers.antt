@@ -1,7 +1,7 @@
 use Rattle.std.proofs.Common.{◌≡◌, ◌∙◌, List, ap, sym, subst, rules}
-use Rattle.histories.specs.History.{IsLegal, state_of}
+use Rattle.kernel_rules.specs.History.{IsLegal, state_of}
 use Rattle.kernel_rules.specs.Scratch.{scratch}
-use Rattle.histories.specs.Events.{Event}
+use Rattle.kernel_rules.specs.Events.{Event}
 use Rattle.script_runner.proofs.closings.closing_of.Goals as goal
 
 pub returns-clause-closing : goal.returns-clause-closing

@@ -7,8 +7,8 @@ use Rattle.dump_text.specs.Dump.{IsDump}
 use Rattle.dump_text.specs.Reads.{have_places}
 use Rattle.dump_text.specs.Whole.{AreRead, whole_dump}
 use Rattle.dump_text.specs.declared.tables.PlacedRead.{PlacedRead}
-use Rattle.histories.specs.Events.{Event}
-use Rattle.histories.specs.History.{IsLegalFrom, state_from}
+use Rattle.kernel_rules.specs.Events.{Event}
+use Rattle.kernel_rules.specs.History.{IsLegalFrom, state_from}
 use Rattle.kernel_rules.specs.Scratch.{scratch}
 use Rattle.script_runner.specs.Dumps.{are_given, IsRunDump}
 use Rattle.script_runner.specs.Reads.{told_reads}

@@ -1,7 +1,7 @@
 use Rattle.std.proofs.Common.{◌≡◌, ◌∙◌, List, sym, subst}
 use Rattle.base.specs.declared.ranges.Limits.{Limits}
-use Rattle.histories.specs.Events.{Event}
-use Rattle.histories.specs.History.{IsLegal, state_of}
+use Rattle.kernel_rules.specs.Events.{Event}
+use Rattle.kernel_rules.specs.History.{IsLegal, state_of}
 use Rattle.kernel_rules.specs.Scratch.{scratch}
 use Rattle.script_rules.specs.Output.{text_of}
 use Rattle.script_rules.specs.Run.{run_from, start}

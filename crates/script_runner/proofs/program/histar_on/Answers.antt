@@ -1,6 +1,6 @@
 use Rattle.std.proofs.Common.{rules, ◌≡◌, List, ℕ, ◌∙◌, ap}
-use Rattle.plain_scripts.specs.Numbers.{renumbered}
-use Rattle.plain_scripts.specs.Scripts.{kept_numbers}
+use Rattle.call_text.specs.Numbers.{renumbered}
+use Rattle.call_text.specs.Scripts.{kept_numbers}
 use Rattle.script_runner.proofs.RunLaws.{run_of}
 use Rattle.script_runner.proofs.program.histar_on.Goals as goal
 

@@ -1,5 +1,5 @@
 use Rattle.std.proofs.Common.{List, subst}
-use Rattle.histories.specs.Events.{Event}
+use Rattle.kernel_rules.specs.Events.{Event}
 use Rattle.script_runner.specs.Dumps.{IsFileOf}
 use Rattle.script_runner.proofs.program.texts_of.Goals as goal
 

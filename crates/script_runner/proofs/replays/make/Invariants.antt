@@ -1,5 +1,5 @@
 use Rattle.std.proofs.Common.{◌≡◌, take, map}
-use Rattle.histories.specs.Events.{by}
+use Rattle.kernel_rules.specs.Events.{by}
 use Rattle.kernel_rules.specs.Runs.{state_after}
 use Rattle.syscall_core.specs.Kernel.{kernel_state}
 use Rattle.script_runner.proofs.replays.make.Given as goal

@@ -1,6 +1,6 @@
 use Rattle.std.proofs.Common.{◌≡◌, take}
 use Rattle.base.specs.declared.ranges.Limits.{Limits}
-use Rattle.histories.specs.History.{state_of}
+use Rattle.kernel_rules.specs.History.{state_of}
 use Rattle.syscall_core.specs.Kernel.{kernel_state}
 use Rattle.script_runner.proofs.replays.make_between.Given as goal
 

@@ -1,6 +1,6 @@
 use Rattle.std.proofs.Common.{◌∙◌, ap, List, map}
-use Rattle.histories.specs.Events.{Event, by, calls_in}
-use Rattle.histories.specs.declared.events.Answered.{Answered}
+use Rattle.kernel_rules.specs.Events.{Event, by, calls_in}
+use Rattle.kernel_rules.specs.declared.histories.events.Answered.{Answered}
 use Rattle.kernel_rules.specs.Runs.{state_after}
 use Rattle.syscall_core.specs.Kernel.{kernel_state}
 use Rattle.script_runner.proofs.replays.make_event.Goals as goal

@@ -1,6 +1,6 @@
 use Rattle.std.proofs.Common.{◌≡◌, ◌+◌, ◌++◌, ◌∷◌, [], refl, rules}
-use Rattle.histories.specs.Events.{Event}
-use Rattle.histories.specs.History.{count}
+use Rattle.kernel_rules.specs.Events.{Event}
+use Rattle.kernel_rules.specs.History.{count}
 use Rattle.syscall_core.specs.Kernel.{kernel_state}
 use Rattle.shared_calls.specs.Lists.{made}
 use Rattle.shared_calls.specs.declared.rules.Made.{Made}

@@ -2,7 +2,7 @@ use Rattle.std.proofs.Common.{ℕ, List, ap, sym, ◌∙◌, subst, rules}
 use Rattle.dump_text.specs.Boot.{boot_dump}
 use Rattle.dump_text.specs.Dump.{dump_text, IsDump}
 use Rattle.dump_text.specs.Line.{IsBootable}
-use Rattle.histories.specs.Events.{Event}
+use Rattle.kernel_rules.specs.Events.{Event}
 use Rattle.shared_calls.proofs.journals.dump_known.Goals as goal
 
 pub returns-clause-text : goal.returns-clause-text

@@ -1,7 +1,7 @@
 use Rattle.std.proofs.Common.{◌≡◌, ◌+◌, ap, ◌∙◌, arith}
 use Rattle.std.proofs.lemmas.Bool.Decides.{nat_tests}
-use Rattle.histories.specs.History.{count}
-use Rattle.histories.proofs.HistoryLaws.{count_within}
+use Rattle.kernel_rules.specs.History.{count}
+use Rattle.kernel_rules.proofs.HistoryLaws.{count_within}
 use Rattle.shared_calls.proofs.EventLaws.{number_found}
 use Rattle.shared_calls.proofs.journals.next_number.Goals as goal
 

@@ -1,5 +1,5 @@
 use Rattle.std.proofs.Common.{◌∙◌, ap, length, length-append, arith, [], ◌∷◌}
-use Rattle.histories.specs.History.{answered}
+use Rattle.kernel_rules.specs.History.{answered}
 use Rattle.syscall_core.specs.Kernel.{kernel_state}
 use Rattle.shared_calls.proofs.Played.{answered_more, played_more}
 use Rattle.shared_calls.proofs.playing.answer_more.Goals as goal

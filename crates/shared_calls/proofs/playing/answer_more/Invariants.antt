@@ -1,6 +1,6 @@
 use Rattle.std.proofs.Common.{◌≡◌, ◌+◌, ◌++◌, length, take, vec_capacity}
-use Rattle.histories.specs.Events.{by}
-use Rattle.histories.specs.History.{answered}
+use Rattle.kernel_rules.specs.Events.{by}
+use Rattle.kernel_rules.specs.History.{answered}
 use Rattle.kernel_rules.specs.Runs.{state_after}
 use Rattle.syscall_core.specs.Kernel.{kernel_state}
 use Rattle.shared_calls.proofs.playing.answer_more.Given as goal

@@ -1,5 +1,5 @@
 use Rattle.syscall_core.specs.Kernel.{kernel_state}
-use Rattle.histories.proofs.BatchLaws.{made_more}
+use Rattle.kernel_rules.proofs.BatchLaws.{made_more}
 use Rattle.shared_calls.proofs.playing.make_all.Goals as goal
 
 pub loop-call-preserved : goal.loop-call-preserved

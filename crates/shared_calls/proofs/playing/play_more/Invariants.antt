@@ -1,5 +1,5 @@
 use Rattle.std.proofs.Common.{◌≡◌, take}
-use Rattle.histories.specs.Events.{by}
+use Rattle.kernel_rules.specs.Events.{by}
 use Rattle.kernel_rules.specs.Runs.{state_after}
 use Rattle.syscall_core.specs.Kernel.{kernel_state}
 use Rattle.shared_calls.proofs.playing.play_more.Given as goal

@@ -1,6 +1,6 @@
 use Rattle.std.proofs.Common.{sym, subst}
 use Rattle.arena_state.specs.Restored.{IsHoldable}
-use Rattle.translation_laws.specs.Names.{IsNamedRightly}
+use Rattle.kernel_laws.specs.Names.{IsNamedRightly}
 use Rattle.syscall_core.proofs.checkpointing.copied.Goals as goal
 
 pub laid_out-requires : goal.laid_out-requires

@@ -1,7 +1,7 @@
 use Rattle.std.proofs.Common.{◌≤◌, sym, subst}
 use Rattle.kernel_rules.specs.State.{State}
-use Rattle.translation_laws.specs.Names.{IsNamedRightly}
-use Rattle.translation_laws.proofs.Boot.{booted_lem}
+use Rattle.kernel_laws.specs.Names.{IsNamedRightly}
+use Rattle.kernel_laws.proofs.Boot.{booted_lem}
 use Rattle.syscall_core.proofs.RowLaws.{few_pages}
 use Rattle.syscall_core.proofs.kernel.booted_state.Goals as goal
 

@@ -1,7 +1,7 @@
 use Rattle.std.proofs.Common.{◌≤◌, sym, subst}
 use Rattle.kernel_rules.specs.State.{State}
 use Rattle.plain_state.specs.Recorded.{records_state}
-use Rattle.translation_laws.specs.Names.{IsNamedRightly}
+use Rattle.kernel_laws.specs.Names.{IsNamedRightly}
 use Rattle.syscall_core.proofs.RowLaws.{few_pages}
 use Rattle.syscall_core.proofs.restores.laid_out.Goals as goal
 

@@ -1,6 +1,6 @@
 use Rattle.std.proofs.Common.{◌≡◌, ℕ, ◌+◌, ◌*◌, ◌/◌, List, [], ◌++◌, length, drop, set, replicate, ap, ◌∙◌, arith, get_or-set_same}
 use Rattle.std.proofs.lemmas.List.{set-set, length-replicate, drop_all, append-nil}
-use Rattle.segments.specs.Segments.{bytes_in}
+use Rattle.arena_memory.specs.Segments.{bytes_in}
 use Rattle.kernel_rules.specs.Written.{written, resized}
 use Rattle.arena_state.proofs.WholeCreateLaws.{from_none}
 use Rattle.arena_state.proofs.restores.contents.put_bytes.Goals as goal

@@ -1,6 +1,6 @@
 use Rattle.std.proofs.Common.{rules, ◌≡◌, ℕ, ◌<◌, List, [], ◌∷◌, ◌++◌, length, get_or, take, set, sym, ap, ◌∙◌, get_or-set_same}
 use Rattle.std.proofs.lemmas.List.{set-set, take_more, get_or_default}
-use Rattle.segments.specs.Queues.{packets_in}
+use Rattle.arena_memory.specs.Queues.{packets_in}
 use Rattle.arena_state.proofs.restores.contents.put_packets.Goals as goal
 
 pub loop-packet-preserved : goal.loop-packet-preserved

@@ -1,7 +1,7 @@
 use Rattle.std.proofs.Common.{rules, ◌≡◌, ◌<◌, List, [], ◌++◌, length, get_or, take, drop, set, replicate, Option, Some, None, sym, ap, ◌∙◌, arith, get_or-set_same}
 use Rattle.std.proofs.lemmas.List.{get_or_default, set-get_or, set-set, get_or-replicate}
 use Rattle.kernel_rules.specs.declared.objects.Mapping.{Mapping}
-use Rattle.address_spaces.specs.Mappings.{places_at}
+use Rattle.arena_memory.specs.Mappings.{places_at}
 use Rattle.arena_state.proofs.PutLaws.{filled_next, kept_next}
 use Rattle.arena_state.proofs.restores.contents.put_slots.Goals as goal
 use Rattle.arena_state.proofs.restores.contents.put_slots.Goals.{in-Some, in_default}

@@ -2,7 +2,7 @@ use Rattle.std.proofs.Common.{rules, ◌≡◌, ℕ, ◌⊎◌, true, List, [], 
 use Rattle.std.specs.List.{list_all}
 use Rattle.std.proofs.lemmas.List.{append_assoc}
 use Rattle.base.specs.Live.{has, links}
-use Rattle.object_arena.specs.Objects.{Rises}
+use Rattle.containers.specs.Objects.{Rises}
 use Rattle.containers.specs.Tree.{ids_in, list_of, link_count}
 use Rattle.kernel_rules.specs.State.{listed, lists_of}
 use Rattle.kernel_rules.specs.WellFormed.{is_distinct}

@@ -1,6 +1,6 @@
 use Rattle.std.proofs.Common.{◌≡◌, ℕ, ◌<◌, option_map, List, Option, None, Some, sym, ◌∙◌, ap, subst, arith, length, replicate}
 use Rattle.containers.specs.Tree.{HasSlot}
-use Rattle.translation_rows.specs.Rows.{BySlot, Shows, slot_count, thread_at, with_row}
+use Rattle.arena_memory.specs.Rows.{BySlot, Shows, slot_count, thread_at, with_row}
 use Rattle.arena_state.specs.Shown.{IsRow, Tells, thread_named}
 use Rattle.arena_state.specs.States.{state_of}
 use Rattle.arena_state.specs.declared.states.ArenaState.{ArenaState}

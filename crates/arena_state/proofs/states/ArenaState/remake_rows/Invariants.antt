@@ -1,5 +1,5 @@
 use Rattle.std.proofs.Common.{◌≡◌}
-use Rattle.translation_rows.specs.Rows.{slot_count}
+use Rattle.arena_memory.specs.Rows.{slot_count}
 use Rattle.arena_state.specs.States.{state_of}
 use Rattle.arena_state.proofs.ShownLaws.{AreMade}
 use Rattle.arena_state.proofs.states.ArenaState.remake_rows.Given as goal

@@ -1,6 +1,6 @@
 use Rattle.std.proofs.Common.{◌≡◌, ◌+◌, sym, ◌∙◌, ap, subst, arith, refl}
 use Rattle.base.specs.Counts.{Counts}
-use Rattle.translation_rows.specs.Rows.{BySlot}
+use Rattle.arena_memory.specs.Rows.{BySlot}
 use Rattle.arena_state.specs.Shown.{AreKeptBut}
 use Rattle.arena_state.specs.States.{state_of}
 use Rattle.arena_state.proofs.RepairedLaws.{all_passed, none_passed, slot_remade, untouched_passed}

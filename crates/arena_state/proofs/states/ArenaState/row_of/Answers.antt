@@ -1,6 +1,6 @@
 use Rattle.std.proofs.Common.{None, Some, sym, ◌∙◌}
 use Rattle.std.proofs.lemmas.List.{get_or-replicate}
-use Rattle.translation_rows.specs.Rows.{Shows}
+use Rattle.arena_memory.specs.Rows.{Shows}
 use Rattle.arena_state.specs.States.{state_of}
 use Rattle.arena_state.proofs.ShownLaws.{by_own_space, shut_shows_none}
 use Rattle.arena_state.proofs.states.ArenaState.row_of.Goals as goal

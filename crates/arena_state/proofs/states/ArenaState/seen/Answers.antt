@@ -1,6 +1,6 @@
 use Rattle.std.proofs.Common.{◌≡◌, false, Option, None, Bor, sym, subst, ◌∙◌, ap, IfSome, IfNone}
 use Rattle.kernel_rules.specs.State.{object_at, of_object}
-use Rattle.label_rules.specs.LabelRules.{both, visible, below}
+use Rattle.label_lattice.specs.LabelRules.{both, visible, below}
 use Rattle.arena_state.specs.declared.records.Record.{Record}
 use Rattle.arena_state.specs.States.{state_of, Shows}
 use Rattle.arena_state.proofs.SightLaws.{found_some, found_none, labelled, label_is, kind_some, kind_none, immutable_some, fixed_some}

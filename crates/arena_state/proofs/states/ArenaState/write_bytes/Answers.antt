@@ -1,6 +1,6 @@
 use Rattle.std.proofs.Common.{◌≤◌, ◌+◌, length, ap, arith, inl, inr}
 use Rattle.kernel_rules.specs.Written.{written}
-use Rattle.segments.specs.Segments.{bytes_in}
+use Rattle.arena_memory.specs.Segments.{bytes_in}
 use Rattle.arena_state.proofs.BodyLaws.{bytes_here}
 use Rattle.arena_state.proofs.RefillLaws.{segments_sound, rebyted, rebyted_stocked, written_long}
 use Rattle.arena_state.proofs.states.ArenaState.write_bytes.Goals as goal

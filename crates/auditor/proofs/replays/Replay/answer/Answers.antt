@@ -1,6 +1,6 @@
 use Rattle.std.proofs.Common.{◌∙◌, ap, take, List}
-use Rattle.histories.specs.Events.{Event}
-use Rattle.histories.specs.History.{state_from}
+use Rattle.kernel_rules.specs.Events.{Event}
+use Rattle.kernel_rules.specs.History.{state_from}
 use Rattle.kernel_rules.specs.State.{State}
 use Rattle.kernel_rules.specs.Step.{query_answer}
 use Rattle.dump_text.specs.Whole.{raw_reply}

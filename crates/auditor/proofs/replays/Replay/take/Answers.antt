@@ -1,7 +1,7 @@
 use Rattle.std.proofs.Common.{◌≡◌, ◌+◌, ap, ◌∙◌, ◌++◌, ◌∷◌, [], List, ℕ, map, subst, arith}
-use Rattle.histories.specs.History.{answered}
-use Rattle.histories.specs.Events.{Event, by}
-use Rattle.histories.specs.declared.events.Answered.{Answered}
+use Rattle.kernel_rules.specs.History.{answered}
+use Rattle.kernel_rules.specs.Events.{Event, by}
+use Rattle.kernel_rules.specs.declared.histories.events.Answered.{Answered}
 use Rattle.kernel_rules.specs.Runs.{state_after}
 use Rattle.plain_core.specs.Kernel.{kernel_state}
 use Rattle.auditor.specs.Replay.{Takes}

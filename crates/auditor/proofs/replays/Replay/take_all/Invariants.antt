@@ -1,5 +1,5 @@
 use Rattle.std.proofs.Common.{◌≡◌, ◌≤◌, ◌++◌, List, [], true, length, take, drop}
-use Rattle.histories.specs.History.{Start}
+use Rattle.kernel_rules.specs.History.{Start}
 use Rattle.dump_text.specs.Reads.{are_placed}
 use Rattle.dump_text.specs.declared.tables.PlacedRead.{PlacedRead}
 use Rattle.auditor.specs.Replay.{IsReplay, TakesAll, true_reads, true_reads_after}

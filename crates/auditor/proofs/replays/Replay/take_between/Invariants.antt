@@ -1,5 +1,5 @@
 use Rattle.std.proofs.Common.{take}
-use Rattle.histories.specs.History.{Start}
+use Rattle.kernel_rules.specs.History.{Start}
 use Rattle.auditor.specs.Replay.{TakesAll}
 use Rattle.auditor.proofs.replays.Replay.take_between.Given as goal
 

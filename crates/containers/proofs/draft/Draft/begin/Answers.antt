@@ -1,7 +1,7 @@
 use Rattle.std.proofs.Common.{rules, ◌≡◌, ℕ, ◌<◌, List, [], ◌∷◌, ◌++◌, length, get_or, set, replicate, Option, Some, None, sym, ap, ◌∙◌, subst, arith, length-set}
 use Rattle.std.proofs.lemmas.List.{length-replicate, get_or-replicate}
-use Rattle.entry_lists.specs.Lists.{Lists}
-use Rattle.object_arena.specs.Objects.{Objects}
+use Rattle.containers.specs.Lists.{Lists}
+use Rattle.containers.specs.Objects.{Objects}
 use Rattle.containers.specs.View.{IsDrafted, lists_of, spare_below}
 use Rattle.containers.proofs.Directories.{drafted_of}
 use Rattle.containers.proofs.Spares.{spare_kept, spare_lists}

@@ -1,7 +1,7 @@
 use Rattle.std.proofs.Common.{◌≡◌, ◌≢◌, ℕ, ◌<◌, ◌⊎◌, inl, inr, List, length, get_or, true, sym, ap, ◌∙◌, subst, arith}
 use Rattle.std.proofs.lemmas.Bool.{both_ways}
 use Rattle.base.specs.Live.{has, links}
-use Rattle.object_arena.specs.Objects.{IsEntry}
+use Rattle.containers.specs.Objects.{IsEntry}
 use Rattle.containers.specs.Tree.{Tree, add_lists, ids_in, link_count}
 use Rattle.containers.specs.View.{lists_of, IsDrafted}
 use Rattle.containers.specs.Cells.{Lists', IsAdded, IsRecorded}

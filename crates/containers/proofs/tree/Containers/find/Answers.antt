@@ -1,5 +1,5 @@
 use Rattle.std.proofs.Common.{◌≡◌, false, subst, IfSome}
-use Rattle.object_arena.specs.Objects.{IsAbsent}
+use Rattle.containers.specs.Objects.{IsAbsent}
 use Rattle.base.specs.Live.{has}
 use Rattle.containers.specs.Tree.{Tree, HasSlot, ids_in}
 use Rattle.containers.proofs.Asked.{entry_found, absent_id, IfNone-weaker}

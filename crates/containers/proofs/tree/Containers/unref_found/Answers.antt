@@ -6,8 +6,8 @@ use Rattle.containers.specs.Sweep.{IsTree}
 use Rattle.containers.specs.Visits.{IsTold, named, named_one, object_ids, IsHanded, IsLost}
 use Rattle.containers.specs.Directory.{IsDirectory}
 use Rattle.containers.specs.Cells.{IsRecorded}
-use Rattle.object_arena.specs.Objects.{IsWithoutAll, Rises, object_at}
-use Rattle.entry_lists.specs.Lists.{Lists}
+use Rattle.containers.specs.Objects.{IsWithoutAll, Rises, object_at}
+use Rattle.containers.specs.Lists.{Lists}
 use Rattle.containers.proofs.Removals.{directory_left, object_left}
 use Rattle.containers.proofs.Lives.{lists_live}
 use Rattle.containers.proofs.Losses.{IsShown, lost}

@@ -1,5 +1,5 @@
 use Rattle.std.proofs.Common.{◌≡◌, ◌∷◌, ap, sym, ◌∙◌, map}
-use Rattle.histories.specs.Events.{replies_in}
+use Rattle.kernel_rules.specs.Events.{replies_in}
 use Rattle.kept_events.proofs.RestLemmas.{rest_told}
 use Rattle.kept_events.proofs.events.KeptEvent.replies.Goals as goal
 

@@ -1,6 +1,6 @@
 use Rattle.std.proofs.Common.{List, ap, subst}
-use Rattle.histories.specs.Events.{Event}
-use Rattle.histories.specs.History.{IsLegal}
+use Rattle.kernel_rules.specs.Events.{Event}
+use Rattle.kernel_rules.specs.History.{IsLegal}
 use Rattle.published_copy.proofs.books.Book.into_events.Goals as goal
 
 pub returns-clause-legal : goal.returns-clause-legal

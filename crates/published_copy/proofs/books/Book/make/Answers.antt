@@ -1,6 +1,6 @@
 use Rattle.std.proofs.Common.{◌≡◌, ◌∷◌, ◌++◌, [], ◌∙◌, sym, ap, subst, List, rules, ◌+◌, ℕ, ◌==◌, if◌then◌else◌}
-use Rattle.histories.specs.Events.{Event}
-use Rattle.histories.specs.History.{count, state_of, IsLegal}
+use Rattle.kernel_rules.specs.Events.{Event}
+use Rattle.kernel_rules.specs.History.{count, state_of, IsLegal}
 use Rattle.kernel_rules.specs.declared.calls.Call.{Call}
 use Rattle.published_copy.specs.Tallies.{tallied, IsTallied}
 use Rattle.published_copy.specs.Turns.{event_at, with_event}

@@ -1,8 +1,8 @@
 use Rattle.std.proofs.Common.{◌≡◌, ◌+◌, ◌∷◌, ◌++◌, [], ◌∙◌, sym, ap, refl, false, length, map, List, rules, arith}
-use Rattle.histories.specs.Events.{Event, by, replies_in}
-use Rattle.histories.specs.History.{answered, state_of}
-use Rattle.histories.proofs.BatchLaws.{answered_calls, answered_replies, answered_length, answered_answers}
-use Rattle.histories.proofs.HistoryLaws.{answered_follows}
+use Rattle.kernel_rules.specs.Events.{Event, by, replies_in}
+use Rattle.kernel_rules.specs.History.{answered, state_of}
+use Rattle.kernel_rules.proofs.BatchLaws.{answered_calls, answered_replies, answered_length, answered_answers}
+use Rattle.kernel_rules.proofs.HistoryLaws.{answered_follows}
 use Rattle.kernel_rules.specs.Step.{answer}
 use Rattle.kernel_rules.specs.Runs.{replies_to}
 use Rattle.kernel_rules.specs.declared.calls.Call.{Call}

@@ -1,6 +1,6 @@
 use Rattle.std.proofs.Common.{◌≡◌, List, refl, ap, sym, subst, inl, inr, rules}
 use mathlib.Core.List.{IsPrefix}
-use Rattle.histories.specs.Events.{Event}
+use Rattle.kernel_rules.specs.Events.{Event}
 use Rattle.published_copy.specs.Turns.{IsLonger}
 use Rattle.published_copy.proofs.Prefixes.{prefix_self, prefix_trans}
 use Rattle.published_copy.proofs.seats.Seat.learn.Goals as goal

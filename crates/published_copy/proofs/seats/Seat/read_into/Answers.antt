@@ -1,6 +1,6 @@
 use Rattle.std.proofs.Common.{◌≡◌, List, refl, sym, subst, rules}
 use mathlib.Core.List.{IsPrefix}
-use Rattle.histories.specs.Events.{Event}
+use Rattle.kernel_rules.specs.Events.{Event}
 use Rattle.published_copy.proofs.Prefixes.{prefix_trans}
 use Rattle.published_copy.proofs.seats.Seat.read_into.Goals as goal
 

@@ -1,7 +1,7 @@
 use Rattle.std.proofs.Common.{rules, ◌≡◌, List, ◌∷◌, [], ap, sym, subst}
 use mathlib.Core.List.{IsPrefix}
-use Rattle.histories.specs.Events.{Event}
-use Rattle.histories.specs.History.{IsLegal}
+use Rattle.kernel_rules.specs.Events.{Event}
+use Rattle.kernel_rules.specs.History.{IsLegal}
 use Rattle.published_copy.specs.Turns.{Turn, IsNotSubmitted}
 use Rattle.published_copy.proofs.Prefixes.{prefix_self}
 use Rattle.published_copy.proofs.Refused.{not_submitted}

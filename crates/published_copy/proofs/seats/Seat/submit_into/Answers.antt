@@ -1,6 +1,6 @@
 use Rattle.std.proofs.Common.{List, ◌∷◌, [], ap, subst}
-use Rattle.histories.specs.Events.{Event}
-use Rattle.histories.specs.History.{IsLegal}
+use Rattle.kernel_rules.specs.Events.{Event}
+use Rattle.kernel_rules.specs.History.{IsLegal}
 use Rattle.published_copy.specs.Turns.{Turn, IsNotSubmitted}
 use Rattle.published_copy.proofs.Refused.{not_submitted_one}
 use Rattle.published_copy.proofs.seats.Seat.submit_into.Goals as goal

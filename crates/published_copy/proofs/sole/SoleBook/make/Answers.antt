@@ -1,6 +1,6 @@
 use Rattle.std.proofs.Common.{◌≡◌, ◌∷◌, ◌++◌, [], ◌∙◌, sym, ap, subst, refl, List, rules, ◌+◌, ℕ, ◌==◌, if◌then◌else◌, length, arith}
-use Rattle.histories.specs.Events.{Event, by}
-use Rattle.histories.specs.History.{answered, count, state_of, IsLegal}
+use Rattle.kernel_rules.specs.Events.{Event, by}
+use Rattle.kernel_rules.specs.History.{answered, count, state_of, IsLegal}
 use Rattle.kernel_rules.specs.State.{State}
 use Rattle.kernel_rules.specs.Runs.{state_after, replies_to}
 use Rattle.kernel_rules.specs.declared.calls.Call.{Call}

@@ -1,6 +1,6 @@
 use Rattle.std.proofs.Common.{◌≡◌, ◌∙◌, ◌++◌, ◌∷◌, [], ap, sym, rules}
-use Rattle.histories.specs.Events.{by}
-use Rattle.histories.specs.History.{state_of}
+use Rattle.kernel_rules.specs.Events.{by}
+use Rattle.kernel_rules.specs.History.{state_of}
 use Rattle.kernel_rules.specs.Runs.{replies_to}
 use Rattle.published_copy.specs.Turns.{event_at, next_turn, with_event}
 use Rattle.published_copy.proofs.Batches.{last_room, last_told}

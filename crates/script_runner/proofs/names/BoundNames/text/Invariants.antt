@@ -1,5 +1,5 @@
 use Rattle.std.proofs.Common.{◌≡◌, ◌++◌}
-use Rattle.names_text.specs.Names.{names_text}
+use Rattle.call_text.specs.RunNames.{names_text}
 use Rattle.script_runner.specs.Names.{named_of}
 use Rattle.script_runner.proofs.names.BoundNames.text.Given as goal
 

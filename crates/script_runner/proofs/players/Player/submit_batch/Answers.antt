@@ -1,7 +1,7 @@
 use Rattle.std.proofs.Common.{◌≡◌, ◌∙◌, List, [], ap, map}
 use Rattle.base.specs.declared.ranges.Limits.{Limits}
-use Rattle.histories.specs.Events.{Event, by}
-use Rattle.histories.specs.History.{state_of}
+use Rattle.kernel_rules.specs.Events.{Event, by}
+use Rattle.kernel_rules.specs.History.{state_of}
 use Rattle.kernel_rules.specs.Runs.{replies_to}
 use Rattle.kernel_rules.specs.declared.calls.Call.{Call}
 use Rattle.kernel_rules.specs.declared.replies.Reply.{Reply}

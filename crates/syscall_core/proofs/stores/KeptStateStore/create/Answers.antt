@@ -7,9 +7,9 @@ use Rattle.arena_state.specs.Shown.{SameAt, Tells}
 use Rattle.arena_state.specs.States.{state_of, Stands}
 use Rattle.arena_state.specs.declared.locations.Location.{Location}
 use Rattle.arena_state.proofs.StockLaws.{whole_formed}
-use Rattle.translation_laws.specs.Names.{IsNamedRightly}
-use Rattle.translation_laws.proofs.Names.{named_created}
-use Rattle.translation_laws.proofs.Touched.{created_row}
+use Rattle.kernel_laws.specs.Names.{IsNamedRightly}
+use Rattle.kernel_laws.proofs.Names.{named_created}
+use Rattle.kernel_laws.proofs.Touched.{created_row}
 use Rattle.syscall_core.proofs.NamedLaws.{new_named}
 use Rattle.syscall_core.proofs.RowLaws.{made_limits, made_space, row_remade}
 use Rattle.syscall_core.proofs.stores.KeptStateStore.create.Goals as goal

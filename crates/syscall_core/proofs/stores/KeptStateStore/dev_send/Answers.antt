@@ -1,9 +1,9 @@
 use Rattle.std.proofs.Common.{sym, subst, ◌++◌, ◌∷◌, []}
 use Rattle.arena_state.specs.States.{state_of}
-use Rattle.translation_laws.specs.Names.{IsNamedRightly}
+use Rattle.kernel_laws.specs.Names.{IsNamedRightly}
 use Rattle.kernel_rules.specs.Changes.{with_body, requeue}
-use Rattle.translation_laws.proofs.Bodies.{alike_packets}
-use Rattle.translation_laws.proofs.Names.{named_packets}
+use Rattle.kernel_laws.proofs.Bodies.{alike_packets}
+use Rattle.kernel_laws.proofs.Names.{named_packets}
 use Rattle.syscall_core.proofs.RowLaws.{alike_rows_stay}
 use Rattle.syscall_core.proofs.stores.KeptStateStore.dev_send.Goals as goal
 

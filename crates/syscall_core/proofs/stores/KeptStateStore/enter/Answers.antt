@@ -1,9 +1,9 @@
 use Rattle.std.proofs.Common.{sym, subst}
 use Rattle.arena_state.specs.States.{state_of}
-use Rattle.translation_laws.specs.Names.{IsNamedRightly}
+use Rattle.kernel_laws.specs.Names.{IsNamedRightly}
 use Rattle.kernel_rules.specs.Changes.{changed, entered}
-use Rattle.translation_laws.proofs.Threads.{entered_own}
-use Rattle.translation_laws.proofs.Touched.{labels_row}
+use Rattle.kernel_laws.proofs.Threads.{entered_own}
+use Rattle.kernel_laws.proofs.Touched.{labels_row}
 use Rattle.syscall_core.proofs.NamedLaws.{entered_named}
 use Rattle.syscall_core.proofs.RowLaws.{changed_limits, changed_space, row_remade, same_slots}
 use Rattle.syscall_core.proofs.stores.KeptStateStore.enter.Goals as goal

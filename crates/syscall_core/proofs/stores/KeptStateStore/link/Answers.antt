@@ -1,7 +1,7 @@
 use Rattle.std.proofs.Common.{sym, subst, ◌∙◌, ◌++◌, ◌∷◌, []}
 use Rattle.arena_state.specs.States.{state_of}
-use Rattle.translation_laws.specs.Names.{IsNamedRightly}
-use Rattle.translation_laws.proofs.Names.{named_lists}
+use Rattle.kernel_laws.specs.Names.{IsNamedRightly}
+use Rattle.kernel_laws.proofs.Names.{named_lists}
 use Rattle.syscall_core.proofs.RepairLaws.{link_left}
 use Rattle.syscall_core.proofs.UntouchedLaws.{entry_off, link_kept}
 use Rattle.syscall_core.proofs.stores.KeptStateStore.link.Goals as goal

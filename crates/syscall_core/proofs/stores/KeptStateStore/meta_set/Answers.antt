@@ -1,9 +1,9 @@
 use Rattle.std.proofs.Common.{refl, sym, subst}
 use Rattle.arena_state.specs.States.{state_of}
-use Rattle.translation_laws.specs.Names.{IsNamedRightly}
+use Rattle.kernel_laws.specs.Names.{IsNamedRightly}
 use Rattle.kernel_rules.specs.Changes.{noted}
-use Rattle.translation_laws.proofs.Bodies.{alike_noted}
-use Rattle.translation_laws.proofs.Names.{named_alike}
+use Rattle.kernel_laws.proofs.Bodies.{alike_noted}
+use Rattle.kernel_laws.proofs.Names.{named_alike}
 use Rattle.syscall_core.proofs.RowLaws.{alike_rows_stay}
 use Rattle.syscall_core.proofs.stores.KeptStateStore.meta_set.Goals as goal
 

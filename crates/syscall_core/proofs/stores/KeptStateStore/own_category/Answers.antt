@@ -1,10 +1,10 @@
 use Rattle.std.proofs.Common.{sym, subst}
 use Rattle.std.specs.Prelude.{option_copied}
 use Rattle.arena_state.specs.States.{state_of}
-use Rattle.translation_laws.specs.Names.{IsNamedRightly}
+use Rattle.kernel_laws.specs.Names.{IsNamedRightly}
 use Rattle.kernel_rules.specs.Step.{owned}
-use Rattle.translation_laws.proofs.Names.{named_owned}
-use Rattle.translation_laws.proofs.Touched.{owned_row}
+use Rattle.kernel_laws.proofs.Names.{named_owned}
+use Rattle.kernel_laws.proofs.Touched.{owned_row}
 use Rattle.syscall_core.proofs.RowLaws.{owned_limits, owned_space, row_remade, same_slots}
 use Rattle.syscall_core.proofs.stores.KeptStateStore.own_category.Goals as goal
 

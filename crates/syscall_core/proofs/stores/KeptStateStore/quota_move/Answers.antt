@@ -1,9 +1,9 @@
 use Rattle.std.proofs.Common.{refl, sym, subst}
 use Rattle.arena_state.specs.States.{state_of}
-use Rattle.translation_laws.specs.Names.{IsNamedRightly}
+use Rattle.kernel_laws.specs.Names.{IsNamedRightly}
 use Rattle.kernel_rules.specs.Changes.{requoted}
-use Rattle.translation_laws.proofs.Bodies.{alike_quota}
-use Rattle.translation_laws.proofs.Names.{named_alike}
+use Rattle.kernel_laws.proofs.Bodies.{alike_quota}
+use Rattle.kernel_laws.proofs.Names.{named_alike}
 use Rattle.syscall_core.proofs.RowLaws.{alike_rows_stay}
 use Rattle.syscall_core.proofs.stores.KeptStateStore.quota_move.Goals as goal
 

@@ -1,10 +1,10 @@
 use Rattle.std.proofs.Common.{sym, subst, ◌*◌}
 use Rattle.arena_state.specs.States.{state_of}
-use Rattle.translation_laws.specs.Names.{IsNamedRightly}
+use Rattle.kernel_laws.specs.Names.{IsNamedRightly}
 use Rattle.kernel_rules.specs.Written.{resized}
 use Rattle.kernel_rules.specs.Changes.{with_body, rebyte}
-use Rattle.translation_laws.proofs.Bodies.{alike_bytes}
-use Rattle.translation_laws.proofs.Names.{named_bytes}
+use Rattle.kernel_laws.proofs.Bodies.{alike_bytes}
+use Rattle.kernel_laws.proofs.Names.{named_bytes}
 use Rattle.syscall_core.proofs.RowLaws.{alike_rows_stay}
 use Rattle.syscall_core.proofs.stores.KeptStateStore.resize.Goals as goal
 

@@ -1,7 +1,7 @@
 use Rattle.std.proofs.Common.{sym, subst}
 use Rattle.std.specs.Prelude.{option_copied}
 use Rattle.arena_state.specs.States.{state_of}
-use Rattle.translation_laws.specs.Names.{IsNamedRightly}
+use Rattle.kernel_laws.specs.Names.{IsNamedRightly}
 use Rattle.syscall_core.proofs.NamedLaws.{cleared_named}
 use Rattle.syscall_core.proofs.RowLaws.{clear_rows_stay}
 use Rattle.syscall_core.proofs.stores.KeptStateStore.set_clearance.Goals as goal

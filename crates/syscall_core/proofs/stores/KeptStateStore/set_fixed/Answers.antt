@@ -1,9 +1,9 @@
 use Rattle.std.proofs.Common.{refl, sym, subst}
 use Rattle.arena_state.specs.States.{state_of}
-use Rattle.translation_laws.specs.Names.{IsNamedRightly}
+use Rattle.kernel_laws.specs.Names.{IsNamedRightly}
 use Rattle.kernel_rules.specs.Changes.{made_fixed}
-use Rattle.translation_laws.proofs.Bodies.{alike_fixed}
-use Rattle.translation_laws.proofs.Names.{named_alike}
+use Rattle.kernel_laws.proofs.Bodies.{alike_fixed}
+use Rattle.kernel_laws.proofs.Names.{named_alike}
 use Rattle.syscall_core.proofs.RowLaws.{alike_rows_stay}
 use Rattle.syscall_core.proofs.stores.KeptStateStore.set_fixed.Goals as goal
 

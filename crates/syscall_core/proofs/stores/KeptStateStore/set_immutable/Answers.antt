@@ -1,8 +1,8 @@
 use Rattle.std.proofs.Common.{refl, sym, subst}
 use Rattle.arena_state.specs.States.{state_of}
-use Rattle.translation_laws.specs.Names.{IsNamedRightly}
+use Rattle.kernel_laws.specs.Names.{IsNamedRightly}
 use Rattle.kernel_rules.specs.Changes.{made_immutable}
-use Rattle.translation_laws.proofs.Names.{named_alike}
+use Rattle.kernel_laws.proofs.Names.{named_alike}
 use Rattle.syscall_core.proofs.RepairLaws.{all_slots, immutable_left}
 use Rattle.syscall_core.proofs.UntouchedLaws.{immutable_kept}
 use Rattle.syscall_core.proofs.stores.KeptStateStore.set_immutable.Goals as goal

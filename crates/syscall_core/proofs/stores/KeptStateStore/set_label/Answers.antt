@@ -1,11 +1,11 @@
 use Rattle.std.proofs.Common.{sym, subst}
 use Rattle.std.specs.Prelude.{option_copied}
 use Rattle.arena_state.specs.States.{state_of}
-use Rattle.translation_laws.specs.Names.{IsNamedRightly}
+use Rattle.kernel_laws.specs.Names.{IsNamedRightly}
 use Rattle.kernel_rules.specs.Changes.{changed, labelled}
 use Rattle.kernel_rules.specs.Step.{with_value}
-use Rattle.translation_laws.proofs.Threads.{label_own}
-use Rattle.translation_laws.proofs.Touched.{labels_row, rows_value}
+use Rattle.kernel_laws.proofs.Threads.{label_own}
+use Rattle.kernel_laws.proofs.Touched.{labels_row, rows_value}
 use Rattle.syscall_core.proofs.NamedLaws.{labelled_named}
 use Rattle.syscall_core.proofs.RowLaws.{valued_limits, valued_space, row_remade, same_slots}
 use Rattle.syscall_core.proofs.stores.KeptStateStore.set_label.Goals as goal

@@ -1,8 +1,8 @@
 use Rattle.std.proofs.Common.{sym, subst}
 use Rattle.arena_state.specs.States.{state_of}
-use Rattle.translation_laws.specs.Names.{IsNamedRightly}
+use Rattle.kernel_laws.specs.Names.{IsNamedRightly}
 use Rattle.arena_state.proofs.StockLaws.{whole_formed}
-use Rattle.translation_laws.proofs.Names.{named_slot}
+use Rattle.kernel_laws.proofs.Names.{named_slot}
 use Rattle.syscall_core.proofs.NamedLaws.{mapping_named}
 use Rattle.syscall_core.proofs.RepairLaws.{all_slots, slot_left}
 use Rattle.syscall_core.proofs.stores.KeptStateStore.set_slot.Goals as goal

@@ -1,9 +1,9 @@
 use Rattle.std.proofs.Common.{sym, subst}
 use Rattle.arena_state.specs.States.{state_of}
-use Rattle.translation_laws.specs.Names.{IsNamedRightly}
+use Rattle.kernel_laws.specs.Names.{IsNamedRightly}
 use Rattle.kernel_rules.specs.Changes.{changed, spaced}
 use Rattle.arena_state.proofs.StockLaws.{whole_formed}
-use Rattle.translation_laws.proofs.Threads.{spaced_lem}
+use Rattle.kernel_laws.proofs.Threads.{spaced_lem}
 use Rattle.syscall_core.proofs.NamedLaws.{space_named, spaced_named}
 use Rattle.syscall_core.proofs.RowLaws.{changed_limits, changed_space, row_remade, same_slots}
 use Rattle.syscall_core.proofs.stores.KeptStateStore.set_space.Goals as goal

@@ -3,10 +3,10 @@ use Rattle.base.specs.declared.kinds.Kind.TheVariants as kinds
 use Rattle.arena_state.specs.Shown.{AreKeptBut}
 use Rattle.arena_state.specs.declared.rows.repairs.Change.{Change}
 use Rattle.arena_state.specs.States.{state_of}
-use Rattle.translation_laws.specs.Names.{IsNamedRightly}
+use Rattle.kernel_laws.specs.Names.{IsNamedRightly}
 use Rattle.kernel_rules.specs.declared.calls.Entry.{Entry}
 use Rattle.kernel_rules.specs.Changes.{changed, delisting, without}
-use Rattle.translation_laws.proofs.Names.{named_lists, named_rest}
+use Rattle.kernel_laws.proofs.Names.{named_lists, named_rest}
 use Rattle.kernel_store.specs.Sights.{is_of}
 use Rattle.kernel_store.proofs.SightLaws.{kind_seen}
 use Rattle.syscall_core.specs.Kernel.{IsUntouched, cut_touches}

@@ -1,2 +1,0 @@
-pub mod Placings
-pub mod Markings

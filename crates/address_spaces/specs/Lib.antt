@@ -1,2 +1,0 @@
-pub mod Mappings
-pub mod Marks

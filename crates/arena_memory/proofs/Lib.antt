@@ -1,0 +1,15 @@
+pub mod Sums
+pub mod Moves
+pub mod Views
+pub mod Keeps
+pub mod Rows
+pub mod Blank
+pub mod Rounds
+pub mod Costs
+pub mod Bytes
+pub mod Seen
+pub mod Resizes
+pub mod Parts
+pub mod Writes
+pub mod Placings
+pub mod Markings

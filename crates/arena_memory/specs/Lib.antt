@@ -1,0 +1,6 @@
+pub mod Segments
+pub mod Queues
+pub mod Pages
+pub mod Mappings
+pub mod Marks
+pub mod Rows

@@ -1,0 +1,10 @@
+//! Clean dumps, for whoever looks into one: `clean_dump` reads the bytes that an audit finds clean, and `begin` makes the state
+//! that a dump's events begin in, of a boot or of a checkpoint. What is then looked for in the events is left to others.
+
+mod faults;
+mod reading;
+mod starts;
+
+pub use faults::DumpFault;
+pub use reading::clean_dump;
+pub use starts::begin;

@@ -1,5 +1,0 @@
-use Rattle.std.proofs.Common.{length}
-use Rattle.dot_text.proofs.nodes.+put_slot_arrows.Given as goal
-
-abbrev pub decreases-put_slot_arrows : goal.decreases-put_slot_arrows
-decreases-put_slot_arrows l = length l.slots.now

@@ -1,9 +1,0 @@
-use Rattle.std.proofs.Common.{ℕ, ◌++◌, decimal, ap, ◌∙◌}
-use Rattle.tree_text.proofs.TextLaws.{four_parts}
-use Rattle.dot_text.proofs.nodes.put_cluster_begin.Goals as goal
-
-pub returns : goal.returns
-returns c =
-    four_parts _ _ _ _ _ _ _ _ _ c.in_ok-put_indent.ensures c.in_ok-extend_from_slice.ensures.items
-    (c.in_ok-put_number.ensures ∙ ap (λ (n : ℕ). c.extend_from_slice.new.self.items ++ decimal n) c.number.ensures)
-    c.in_ok-extend_from_slice-2.ensures.items

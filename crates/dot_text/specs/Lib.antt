@@ -1,3 +1,0 @@
-pub mod Dots
-pub mod Nodes
-pub mod Shown

@@ -1,5 +1,0 @@
-use Rattle.entry_lists.specs.Chain.{lists_from}
-use Rattle.entry_lists.proofs.chains.Chains.unlink.Given as goal
-
-abbrev pub ghost-take_out : goal.ghost-take_out
-ghost-take_out a = lists_from a.next.now a.cells a.lens.now

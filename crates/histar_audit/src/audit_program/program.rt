@@ -1,0 +1,210 @@
+//! The program, over a reader, a sink and a writer.
+ghost use Rattle.std.specs.Prelude.{◌≡◌, ◌<◌, IfOk, IfSome, Some, is_some};
+ghost use Rattle.auditor.specs.Verdict.{IsVerdict};
+ghost use Rattle.histar_audit.specs.Told.{is_asked, verdict_status, IsHiddenIn, IsMigration, IsReachedIn, IsTold};
+ghost use Rattle.histar_audit.specs.Told.{TellsVerdict};
+
+use crate::audit_program::lines::text_of;
+use auditor::clean_dumps::DumpFault;
+use auditor::tracing::trace;
+use auditor::{Verdict, audit};
+use base::{Category, NoMemory, ObjectId};
+use dump_text::{MigrateFault, migrate};
+use hidden_replies::{Difference, hidden_replies};
+use label_lattice::Label;
+use program_io::{AuditOptions, Fault, Sink, bytes_of, deliver};
+use std::alloc::Global;
+use std::io::{Read, Write};
+
+/// The program's name, with which its lines on standard error begin.
+pub const NAME: &str = "histar-audit";
+
+/// How an audit ended.
+#[derive(PartialEq, Eq, Debug, Drop)]
+pub struct AuditEnd {
+    /// 0 where the dump is clean, 1 where a line of it is not true, 2 where it is unreadable, 3 where it can't be read or
+    /// the answer can't be written, 4 where there was no memory. (A fault of usage is 2 too; of that the words tell.)
+    pub status: u8,
+    /// What goes to the migrated dump's file: where that is asked for, and the dump is clean and of format 1, the dump in
+    /// format 2, and else nothing.
+    pub file: Vec<u8>,
+}
+
+/// What an audit tells.
+#[derive(Drop)]
+struct Audited {
+    /// The verdict.
+    verdict: Verdict,
+    /// What goes to the migrated dump's file.
+    file: Vec<u8>,
+}
+
+/// The status that tells a verdict.
+fn status_of(verdict: Verdict) -> u8
+    ensures { result ≡ verdict_status verdict }
+{
+    match verdict {
+        Verdict::Clean => 0,
+        Verdict::False(_) => 1,
+        Verdict::Unreadable(_) => 2,
+    }
+}
+
+/// Whether lines after the verdict are asked for: of a clean dump alone.
+fn is_asked(asked: bool, verdict: Verdict) -> bool
+    ensures { result ≡ is_asked asked verdict }
+{
+    match verdict {
+        Verdict::Clean => asked,
+        Verdict::False(_) => false,
+        Verdict::Unreadable(_) => false,
+    }
+}
+
+/// The dump in format 2, where that is asked for, and the dump is clean and of format 1.
+fn file_of(
+    alloc: Global,
+    options: &AuditOptions,
+    bytes: &[u8],
+    verdict: Verdict,
+) -> Result<Vec<u8>, NoMemory>
+    ensures { IfOk result (λ file. IsMigration options.now.migrate bytes.now verdict file.items) }
+{
+    if !options.migrate || verdict != Verdict::Clean {
+        return Ok(Vec::new(alloc));
+    }
+    match migrate(alloc, bytes) {
+        Ok(text) => Ok(text),
+        Err(MigrateFault::NotFormat1(_)) => Ok(Vec::new(alloc)),
+        Err(MigrateFault::Memory) => Err(NoMemory),
+    }
+}
+
+/// What flows from an object outside a category reach in a clean dump.
+fn traced(
+    alloc: Global,
+    bytes: &[u8],
+    flow: (ObjectId, Category),
+) -> Result<Vec<ObjectId>, NoMemory>
+    requires { IsVerdict bytes.now Verdict.Clean }
+    ensures { IfOk result (λ ids. IsReachedIn (Some flow) bytes.now Verdict.Clean ids.items) }
+{
+    let (start, category) = flow;
+    match trace(alloc, bytes, start, category) {
+        Ok(ids) => Ok(ids),
+        Err(DumpFault::NotClean) => Ok(Vec::new(alloc)),
+        Err(DumpFault::NoMemory) => Err(NoMemory),
+    }
+}
+
+/// What flows reach in the dump, where they are asked for and the dump is clean.
+fn reached_in(
+    alloc: Global,
+    options: &AuditOptions,
+    bytes: &[u8],
+    verdict: Verdict,
+) -> Result<Vec<ObjectId>, NoMemory>
+    requires { IsVerdict bytes.now verdict }
+    ensures { IfOk result (λ ids. IsReachedIn options.now.flow bytes.now verdict ids.items) }
+{
+    let Some(flow) = options.flow else {
+        return Ok(Vec::new(alloc));
+    };
+    match verdict {
+        Verdict::Clean => traced(alloc, bytes, flow),
+        Verdict::False(_) => Ok(Vec::new(alloc)),
+        Verdict::Unreadable(_) => Ok(Vec::new(alloc)),
+    }
+}
+
+/// The replies of a clean dump that differ without the calls of threads which an observer doesn't observe.
+fn changed(alloc: Global, bytes: &[u8], label: &Label) -> Result<Vec<Difference>, NoMemory>
+    requires { IsVerdict bytes.now Verdict.Clean }
+    ensures { IfOk result (λ told. IsHiddenIn (Some label.now) bytes.now Verdict.Clean told.items) }
+{
+    match hidden_replies(alloc, bytes, label) {
+        Ok(told) => Ok(told),
+        Err(DumpFault::NotClean) => Ok(Vec::new(alloc)),
+        Err(DumpFault::NoMemory) => Err(NoMemory),
+    }
+}
+
+/// What hidden threads changed in the dump, where that is asked for and the dump is clean.
+fn hidden_in(
+    alloc: Global,
+    hidden: Option<Label>,
+    bytes: &[u8],
+    verdict: Verdict,
+) -> Result<Vec<Difference>, NoMemory>
+    requires { IsVerdict bytes.now verdict }
+    ensures { IfOk result (λ told. IsHiddenIn hidden bytes.now verdict told.items) }
+{
+    let Some(label) = hidden else {
+        return Ok(Vec::new(alloc));
+    };
+    match verdict {
+        Verdict::Clean => changed(alloc, bytes, &label),
+        Verdict::False(_) => Ok(Vec::new(alloc)),
+        Verdict::Unreadable(_) => Ok(Vec::new(alloc)),
+    }
+}
+
+fn run<I: Read, S: Sink>(
+    alloc: Global,
+    dump: &mut I,
+    options: &AuditOptions,
+    hidden: Option<Label>,
+    out: &mut S,
+) -> Result<Audited, Fault>
+    ensures { IfOk result (λ audited. IfSome (I.remaining dump.old)
+        (IsTold (S.contents out.old) (S.contents out.new) options.now hidden audited.verdict audited.file.items)) }
+{
+    let read = bytes_of(alloc, dump)?;
+    let bytes = read.as_slice();
+    let verdict = audit(alloc, bytes)?;
+    let file = file_of(alloc, options, bytes, verdict)?;
+    let reached = reached_in(alloc, options, bytes, verdict)?;
+    let flows = is_asked(options.flow.is_some(), verdict);
+    let observed = is_asked(hidden.is_some(), verdict);
+    let told = hidden_in(alloc, hidden, bytes, verdict)?;
+    let text = text_of(
+        alloc,
+        verdict,
+        flows,
+        reached.as_slice(),
+        observed,
+        told.as_slice(),
+    )?;
+    deliver(out, text.as_slice())?;
+    Ok(Audited { verdict, file })
+}
+
+/// Audits the dump that a reader gives, and prints `clean`, `false at line N` or `unreadable at line N`. Where flows are asked
+/// for and the dump is clean, a line `reaches ID` follows for each object that they reach, rising. Where an observer's label
+/// is told and the dump is clean, a line follows for each reply that differs without the calls of threads that the observer
+/// doesn't observe, as `differs at event 9, call 1, thread #5: id #8, else id #7, by next id`. Where there is no such line,
+/// `reaches nothing` or `no reply differs` says so. The faults are found in
+/// this order, the first one ending the audit with one line on `err`: reading, want of memory, writing. A status below 3 is
+/// the verdict's, whose lines were printed and handed on then.
+pub fn audit_on<I: Read, S: Sink, E: Write>(
+    alloc: Global,
+    dump: &mut I,
+    options: &AuditOptions,
+    hidden: Option<Label>,
+    out: &mut S,
+    err: &mut E,
+) -> AuditEnd
+    ensures { result.status < 3 → IfSome (I.remaining dump.old)
+        (TellsVerdict (S.contents out.old) (S.contents out.new) options.now hidden result.status result.file.items) }
+{
+    match run(alloc, dump, options, hidden, out) {
+        Ok(Audited { verdict, file }) => AuditEnd {
+            status: status_of(verdict),
+            file,
+        },
+        Err(fault) => AuditEnd {
+            status: fault.tell(NAME, err),
+            file: Vec::new(alloc),
+        },
+    }
+}

@@ -1,3 +1,0 @@
-pub mod BatchLaws
-pub mod HistoryLaws
-pub mod LaterLaws

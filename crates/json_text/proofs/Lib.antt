@@ -1,3 +1,0 @@
-pub mod FloatLaws
-pub mod PieceLaws
-pub mod ValueLaws

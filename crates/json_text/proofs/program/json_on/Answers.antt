@@ -1,9 +1,0 @@
-use Rattle.json_text.specs.Json.{IsJson}
-use Rattle.show_states.proofs.PrintLaws.{printed_if}
-use Rattle.json_text.proofs.program.json_on.Goals as goal
-
-pub returns : goal.returns
-returns g c = λ ended.
-    printed_if (IsJson) (g.I.Read.remaining c.args.dump.now) (g.S.Sink.contents c.args.out.now)
-    (g.S.Sink.contents c.show_on.new.out) c.in-Ok.bytes.items c.as_slice.result.now c.json-shown.result
-    c.in-Ok.ensures.bytes c.as_slice.ensures.value c.json-shown.ensures (c.show_on.ensures ended)

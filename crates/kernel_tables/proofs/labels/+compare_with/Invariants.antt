@@ -1,5 +1,0 @@
-use Rattle.std.proofs.Common.{length}
-use Rattle.kernel_tables.proofs.labels.+compare_with.Given as goal
-
-abbrev pub decreases-compare_with : goal.decreases-compare_with
-decreases-compare_with l = length l.others.now

@@ -1,7 +1,0 @@
-use Rattle.std.proofs.Common.{◌≡◌, take}
-use Rattle.std.specs.List.{flat_map}
-use Rattle.kernel_tables.specs.ById.{shown_at}
-use Rattle.kernel_tables.proofs.recomputing.shown.Given as goal
-
-abbrev pub invariant-loop-id : goal.invariant-loop-id
-invariant-loop-id g l = l.shown.items ≡ flat_map (shown_at (g.S.Store.state l.state)) (take l.id-index l.ids)

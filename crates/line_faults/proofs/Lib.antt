@@ -1,3 +1,0 @@
-mod FaultLemmas
-mod Samples
-mod Parts

@@ -1,5 +1,0 @@
-use Rattle.std.proofs.Common.{length}
-use Rattle.line_faults.proofs.lines.+fault_in_arguments.Given as goal
-
-abbrev pub decreases-fault_in_arguments : goal.decreases-fault_in_arguments
-decreases-fault_in_arguments l = length l.kinds.now

@@ -1,3 +1,0 @@
-pub mod LineLaws
-pub mod NameLines
-pub mod Progress

@@ -1,6 +1,0 @@
-use Rattle.std.proofs.Common.{◌≡◌, ◌++◌, drop}
-use Rattle.names_text.specs.Names.{names_text}
-use Rattle.names_text.proofs.writing.write_names.Given as goal
-
-abbrev pub invariant-loop-named : goal.invariant-loop-named
-invariant-loop-named l = l.out.items ++ names_text (drop l.named-index l.names) ≡ names_text l.names

@@ -1,4 +1,0 @@
-pub mod SearchSteps
-pub mod Kept
-pub mod GapSteps
-pub mod HintSteps

@@ -1,5 +1,0 @@
-use Rattle.std.proofs.Common.{length}
-use Rattle.restoring.proofs.tests_of_names.+name_segments.Given as goal
-
-abbrev pub decreases-name_segments : goal.decreases-name_segments
-decreases-name_segments l = length l.slots.now

@@ -1,5 +1,0 @@
-use Rattle.std.proofs.Common.{length}
-use Rattle.restoring.proofs.tests_of_objects.+lie_apart.Given as goal
-
-abbrev pub decreases-lie_apart : goal.decreases-lie_apart
-decreases-lie_apart l = length l.slots.now

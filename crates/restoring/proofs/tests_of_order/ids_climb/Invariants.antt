@@ -1,9 +1,0 @@
-use Rattle.std.proofs.Common.{◌≡◌, drop}
-use Rattle.checkpoints.specs.declared.checkpoints.Recorded.{Recorded}
-use Rattle.restoring.specs.Climbs.{climbs}
-use Rattle.restoring.proofs.tests_of_order.ids_climb.Given as goal
-
-abbrev pub invariant-loop-recorded : goal.invariant-loop-recorded
-invariant-loop-recorded l =
-    climbs (λ (x : Recorded). x.id) l.fn.after l.objects
-    ≡ climbs (λ (x : Recorded). x.id) l.last (drop l.recorded-index l.objects)

@@ -1,8 +1,0 @@
-use Rattle.std.proofs.Common.{◌∙◌}
-use Rattle.restoring.proofs.WriteLaws.{plain_thread}
-use Rattle.restoring.proofs.writing.written_body.Goals as goal
-
-pub returns-in-Thread-clause-metadata : goal.returns-in-Thread-clause-metadata
-returns-in-Thread-clause-metadata c =
-    c.thread_of.ensures.metadata
-    ∙ (plain_thread c.args.object.now c.in-Thread.thread c.in-Thread.is c.requires.plain c.requires.whole).1

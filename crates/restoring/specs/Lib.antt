@@ -1,6 +1,0 @@
-pub mod Climbs
-pub mod Counted
-pub mod Written
-pub mod Keeping
-pub mod Holding
-pub mod Numbered

@@ -1,3 +1,0 @@
-mod LineLaws
-mod NameLaws
-mod PhaseLaws

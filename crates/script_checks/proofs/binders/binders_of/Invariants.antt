@@ -1,8 +1,0 @@
-use Rattle.std.proofs.Common.{◌≡◌, ℕ, List, take}
-use Rattle.indexmap.specs.IndexMap.{get}
-use Rattle.text_words.specs.contracts.names.NamePartialEq.TheImpl.{eq-value}
-use Rattle.script_checks.specs.Binders.{binder}
-use Rattle.script_checks.proofs.binders.binders_of.Given as goal
-
-abbrev pub invariant-loop-outline : goal.invariant-loop-outline
-invariant-loop-outline l = (name : List ℕ) → get eq-value.it l.binders name ≡ binder name (take l.outline-index l.outlines)

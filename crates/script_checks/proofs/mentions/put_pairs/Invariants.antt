@@ -1,6 +1,0 @@
-use Rattle.std.proofs.Common.{◌≡◌, ◌++◌, drop}
-use Rattle.script_checks.specs.Mentions.{pair_mentions}
-use Rattle.script_checks.proofs.mentions.put_pairs.Given as goal
-
-abbrev pub invariant-loop-pair : goal.invariant-loop-pair
-invariant-loop-pair l = l.out.items ++ pair_mentions (drop l.pair-index l.pairs) ≡ l.fn.out.items ++ pair_mentions l.pairs

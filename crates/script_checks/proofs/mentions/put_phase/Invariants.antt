@@ -1,6 +1,0 @@
-use Rattle.std.proofs.Common.{◌≡◌, ◌++◌, drop}
-use Rattle.script_checks.specs.Mentions.{phase_mentions}
-use Rattle.script_checks.proofs.mentions.put_phase.Given as goal
-
-abbrev pub invariant-loop-place : goal.invariant-loop-place
-invariant-loop-place l = l.out.items ++ phase_mentions (drop l.place l.phase) ≡ l.fn.out.items ++ phase_mentions l.phase

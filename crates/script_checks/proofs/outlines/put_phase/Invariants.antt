@@ -1,6 +1,0 @@
-use Rattle.std.proofs.Common.{◌≡◌, ◌++◌, drop, map}
-use Rattle.script_checks.specs.Outlines.{outline_of}
-use Rattle.script_checks.proofs.outlines.put_phase.Given as goal
-
-abbrev pub invariant-loop-at : goal.invariant-loop-at
-invariant-loop-at l = l.out.items ++ map (outline_of l.place) (drop l.at l.phase) ≡ l.fn.out.items ++ map (outline_of l.place) l.phase

@@ -1,6 +1,0 @@
-use Rattle.std.proofs.Common.{◌≡◌, ◌++◌, drop}
-use Rattle.script_checks.specs.Warnings.{phase_warnings}
-use Rattle.script_checks.proofs.warnings.put_phase.Given as goal
-
-abbrev pub invariant-loop-at : goal.invariant-loop-at
-invariant-loop-at l = l.out.items ++ phase_warnings l.survey l.place (drop l.at l.phase) ≡ l.fn.out.items ++ phase_warnings l.survey l.place l.phase

@@ -1,6 +1,0 @@
-pub mod Mentions
-pub mod Outlines
-pub mod Binders
-pub mod Givers
-pub mod Surveys
-pub mod Warnings

@@ -1,3 +1,0 @@
-pub mod Segments
-pub mod Queues
-pub mod Pages

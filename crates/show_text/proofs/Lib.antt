@@ -1,3 +1,0 @@
-pub mod CallLaws
-pub mod LineLaws
-pub mod PlaceLaws

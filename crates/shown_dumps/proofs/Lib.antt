@@ -1,0 +1,12 @@
+pub mod CallLaws
+pub mod PrintLaws
+pub mod WhyCallLaws
+pub mod LineLaws
+pub mod PlaceLaws
+pub mod ColourLaws
+pub mod TextLaws
+pub mod Whole
+pub mod DotLaws
+pub mod FloatLaws
+pub mod PieceLaws
+pub mod ValueLaws

@@ -1,0 +1,9 @@
+use Rattle.shown_dumps.specs.Json.{IsJson}
+use Rattle.shown_dumps.proofs.PrintLaws.{printed_if}
+use Rattle.shown_dumps.proofs.json.program.json_on.Goals as goal
+
+pub returns : goal.returns
+returns g c = λ ended.
+    printed_if (IsJson) (g.I.Read.remaining c.args.dump.now) (g.S.Sink.contents c.args.out.now)
+    (g.S.Sink.contents c.show_on.new.out) c.in-Ok.bytes.items c.as_slice.result.now c.json-shown.result
+    c.in-Ok.ensures.bytes c.as_slice.ensures.value c.json-shown.ensures (c.show_on.ensures ended)

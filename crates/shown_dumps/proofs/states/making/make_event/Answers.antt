@@ -1,0 +1,13 @@
+use Rattle.std.proofs.Common.{◌∙◌, ap, List, map}
+use Rattle.kernel_rules.specs.Events.{Event, by, calls_in}
+use Rattle.kernel_rules.specs.declared.histories.events.Answered.{Answered}
+use Rattle.kernel_rules.specs.Runs.{state_after}
+use Rattle.plain_state.specs.StateOf.{state_of}
+use Rattle.shown_dumps.proofs.states.making.make_event.Goals as goal
+
+pub returns : goal.returns
+returns c =
+    c.in_ok-make.ensures
+    ∙ ap (λ (l : List Answered). state_after (state_of c.args.state.now) (by c.event.inside.thread (map (λ a. a.call) l)))
+    c.as_slice.ensures.value
+    ∙ ap (λ (e : Event). state_after (state_of c.args.state.now) (by e.thread (calls_in e))) c.event.view_is

@@ -1,0 +1,58 @@
+-- The dump that a text spells, the state that its first events lead to, and what is shown of that.
+use Rattle.std.specs.Global.{Vec}
+use Rattle.std.specs.Prelude.{◌≡◌, ℕ, true, false, List, take, Option, Some, None, Result, Ok, Err}
+use Rattle.std.specs.Io.KnownBytes.{Appends}
+use Rattle.auditor.specs.Verdict.{begins}
+use Rattle.dump_text.specs.Dump.{IsDump, DumpFaultsAt}
+use Rattle.dump_text.specs.Lists.{DumpLists}
+use Rattle.dump_text.specs.Whole.{start_with}
+use Rattle.kernel_rules.specs.Events.{Event}
+use Rattle.kernel_rules.specs.History.{state_from}
+use Rattle.kernel_rules.specs.State.{State}
+use Rattle.plain_state.specs.StateOf.{state_of}
+use Rattle.plain_state.specs.declared.states.PlainState.{PlainState}
+use Rattle.shown_dumps.specs.declared.states.faults.ShowFault.{ShowFault}
+use Rattle.shown_dumps.specs.declared.states.faults.ShowFault.TheVariants as faults
+
+-- the text spells this dump, or line m is the first at which it stops being the beginning of one
+abbrev pub IsDumpIn : List ℕ → Result DumpLists ShowFault → Type 0
+IsDumpIn text (Ok dump) = IsDump text dump
+IsDumpIn text (Err (faults.Unreadable m)) = DumpFaultsAt text m
+IsDumpIn text (Err faults.Memory) = Unit {0}
+IsDumpIn text (Err faults.IllFormed) = ⊥
+IsDumpIn text (Err faults.NoCall) = ⊥
+
+-- the first n of events, all where no count is told
+abbrev pub first_of : Option ℕ → List Event → List Event
+first_of None events = events
+first_of (Some n) events = take n events
+
+-- the state that the first events of a dump lead to, whatever its replies say
+abbrev pub state_after : DumpLists → Option ℕ → State
+state_after d after = state_from (start_with d.limits d.checkpoint).state (first_of after d.events)
+
+-- the text is a dump whose events can begin, and this is the state after so many of them
+abbrev pub LeadsTo : List ℕ → Option ℕ → State → Type 0
+LeadsTo text after s = (d : DumpLists) × IsDump text d × (begins d ≡ true) × (s ≡ state_after d after)
+
+-- why there is no such state. Unreadable: line m is the first at which the text stops being the beginning of a dump.
+-- IllFormed: the checkpoint can't be restored.
+abbrev pub IsWhyNone : List ℕ → ShowFault → Type 0
+IsWhyNone text (faults.Unreadable m) = DumpFaultsAt text m
+IsWhyNone text faults.IllFormed = (d : DumpLists) × IsDump text d × (begins d ≡ false)
+IsWhyNone text faults.Memory = Unit {0}
+IsWhyNone text faults.NoCall = ⊥
+
+abbrev pub IsStateAfter : List ℕ → Option ℕ → Result PlainState ShowFault → Type 0
+IsStateAfter text after (Ok p) = LeadsTo text after (state_of p)
+IsStateAfter text after (Err fault) = IsWhyNone text fault
+
+-- what is shown of that state
+abbrev pub ShowsAfter : (State → List ℕ) → List ℕ → Option ℕ → Result (Vec ℕ) ShowFault → Type 0
+ShowsAfter shown text after (Ok told) = (s : State) × LeadsTo text after s × (told.items ≡ shown s)
+ShowsAfter shown text after (Err fault) = IsWhyNone text fault
+
+-- the same of a dump that was read, added to what was printed
+abbrev pub PrintsAfter : (State → List ℕ) → Option ℕ → Option (List ℕ) → Option (List ℕ) → List ℕ → Type 0
+PrintsAfter shown after old new text =
+    (told : Vec ℕ) × ShowsAfter shown text after (Ok told) × Appends old new told.items

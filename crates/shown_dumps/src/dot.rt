@@ -1,0 +1,14 @@
+//! The objects that a dump leads to, as a graph for Graphviz: containers as clusters, arrows for mappings and address spaces. Red
+//! is what flows from one object reach, where they are asked for. `dot` promises exactly this text, a definition over the state
+//! that the dump leads to, the names that are known and what `tracing` tells. Drawing it, and the words of the command line, are
+//! left to others.
+
+mod dots;
+mod faults;
+mod looks;
+mod nodes;
+mod program;
+
+pub use dots::{dot, red_in};
+pub use faults::DotFault;
+pub use program::dot_on;

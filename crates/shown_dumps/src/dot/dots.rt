@@ -1,0 +1,157 @@
+//! The graph.
+ghost use Rattle.std.specs.Prelude.{◌≡◌, ◌++◌, ◌+◌, ◌^◌, ◌<◌, IfErr, IfOk, OnOk};
+ghost use Rattle.shown_dumps.specs.Dots.{opened_at, closed_at, dot_from, arrows_at, arrows_from, dot_text};
+ghost use Rattle.shown_dumps.specs.DotShown.{IsRed, IsDot, IsNoDot};
+ghost use Rattle.plain_state.specs.StateOf.{state_of};
+
+use crate::dot::faults::DotFault;
+use crate::dot::looks::Look;
+use crate::dot::nodes::{put_arrows, put_closed, put_opened};
+use crate::states::{ShowFault, state_after};
+use crate::tree::Place;
+use auditor::clean_dumps::DumpFault;
+use auditor::tracing::trace;
+use base::{Category, Meter, NoMemory, ObjectId};
+use call_text::Named;
+use plain_state::PlainState;
+use std::alloc::Global;
+
+/// Adds what stands at a place before what the object there lists.
+fn put_before(
+    out: &mut Vec<u8>,
+    state: &PlainState,
+    look: &Look<'_>,
+    place: &Place,
+    meter: &mut Meter,
+) -> Result<(), NoMemory>
+    ensures { OnOk result (out.new.items
+        ≡ out.old.items ++ opened_at look.now.names.now (state_of state.now) look.now.reached.now place.now) }
+{
+    match state.object(place.id) {
+        None => Ok(()),
+        Some(object) => put_opened(out, state, look, place, object, meter),
+    }
+}
+
+/// Adds what stands at a place after what the object there lists.
+fn put_after(out: &mut Vec<u8>, state: &PlainState, place: &Place) -> Result<(), NoMemory>
+    ensures { OnOk result (out.new.items ≡ out.old.items ++ closed_at (state_of state.now) place.now) }
+{
+    match state.object(place.id) {
+        None => Ok(()),
+        Some(object) => put_closed(out, place, object),
+    }
+}
+
+/// Adds so many levels of the graph from a place on.
+fn put_dot(
+    out: &mut Vec<u8>,
+    state: &PlainState,
+    look: &Look<'_>,
+    levels: u32,
+    place: &Place,
+    meter: &mut Meter,
+) -> Result<(), NoMemory>
+    requires { place.now.depth + levels < 2 ^ 62 }
+    ensures { OnOk result (out.new.items
+        ≡ out.old.items ++ dot_from look.now.names.now (state_of state.now) look.now.reached.now levels place.now) }
+{
+    if levels == 0 {
+        return Ok(());
+    }
+    put_before(out, state, look, place, meter)?;
+    for id in state.list(place.id) {
+        put_dot(out, state, look, levels - 1, &place.below(*id), meter)?;
+    }
+    put_after(out, state, place)?;
+    Ok(())
+}
+
+/// Adds the arrows from what stands at a place.
+fn put_arrows_at(out: &mut Vec<u8>, state: &PlainState, place: &Place) -> Result<(), NoMemory>
+    ensures { OnOk result (out.new.items ≡ out.old.items ++ arrows_at (state_of state.now) place.now) }
+{
+    match state.object(place.id) {
+        None => Ok(()),
+        Some(object) => put_arrows(out, place, &object.body),
+    }
+}
+
+/// Adds the arrows of so many levels of the graph from a place on.
+fn put_all_arrows(
+    out: &mut Vec<u8>,
+    state: &PlainState,
+    levels: u32,
+    place: &Place,
+) -> Result<(), NoMemory>
+    requires { place.now.depth + levels < 2 ^ 62 }
+    ensures { OnOk result (out.new.items
+        ≡ out.old.items ++ arrows_from (state_of state.now) levels place.now) }
+{
+    if levels == 0 {
+        return Ok(());
+    }
+    put_arrows_at(out, state, place)?;
+    for id in state.list(place.id) {
+        put_all_arrows(out, state, levels - 1, &place.below(*id))?;
+    }
+    Ok(())
+}
+
+/// The graph of a state.
+fn dot_of(state: &PlainState, look: &Look<'_>) -> Result<Vec<u8>, NoMemory>
+    ensures { IfOk result (λ text. text.items
+        ≡ dot_text look.now.names.now (state_of state.now) look.now.reached.now) }
+{
+    let mut meter = Meter::new(state.alloc())?;
+    let mut text = Vec::new(state.alloc());
+    let levels = state.quota(ObjectId::root());
+    text.extend_from_slice(b"digraph dump {\nnode [shape=box];\n")?;
+    put_dot(&mut text, state, look, levels, &Place::root(), &mut meter)?;
+    put_all_arrows(&mut text, state, levels, &Place::root())?;
+    text.extend_from_slice(b"}\n")?;
+    Ok(text)
+}
+
+/// Which objects are red: what flows from an object outside a category reach, where they are asked for. The errors come in this
+/// order: an audit does not find the dump clean; or there is no memory.
+pub fn red_in(
+    alloc: Global,
+    text: &[u8],
+    flow: Option<(ObjectId, Category)>,
+) -> Result<Vec<ObjectId>, DotFault>
+    ensures red { IfOk result (λ ids. IsRed flow text.now ids.items) }
+    ensures fault { IfErr result (IsNoDot flow text.now) }
+{
+    let Some(asked) = flow else {
+        return Ok(Vec::new(alloc));
+    };
+    match trace(alloc, text, asked.0, asked.1) {
+        Ok(ids) => Ok(ids),
+        Err(DumpFault::NotClean) => Err(DotFault::NotClean),
+        Err(DumpFault::NoMemory) => Err(DotFault::Unshown(ShowFault::Memory)),
+    }
+}
+
+/// The objects that a dump leads to as a graph, with the names that are known. Where flows are asked for, of an object outside a
+/// category, each object that they reach is red. The errors come in this order: the text is no dump, its checkpoint can't be
+/// restored, an audit does not find it clean; or there is no memory.
+pub fn dot(
+    alloc: Global,
+    text: &[u8],
+    flow: Option<(ObjectId, Category)>,
+    names: &[Named],
+) -> Result<Vec<u8>, DotFault>
+    ensures { IsDot names.now flow text.now result }
+{
+    let state = match state_after(alloc, text, None) {
+        Ok(state) => state,
+        Err(fault) => return Err(DotFault::Unshown(fault)),
+    };
+    let red = red_in(alloc, text, flow)?;
+    let look = Look {
+        names,
+        reached: red.as_slice(),
+    };
+    Ok(dot_of(&state, &look)?)
+}

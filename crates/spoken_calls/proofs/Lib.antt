@@ -1,3 +1,0 @@
-pub mod SpokenLemmas
-pub mod FurtherLemmas
-pub mod IntoLemmas

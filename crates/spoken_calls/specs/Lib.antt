@@ -1,3 +1,0 @@
-pub mod Verb
-pub mod Arg
-pub mod Spoken

@@ -1,8 +1,0 @@
-use Rattle.std.proofs.Common.{◌≡◌, ◌++◌, drop}
-use Rattle.tracing.specs.Steps.{steps_by}
-use Rattle.tracing.proofs.steps.add_calls.Given as goal
-
-abbrev pub invariant-loop-answered : goal.invariant-loop-answered
-invariant-loop-answered l =
-    l.steps.items ++ steps_by l.thread (drop l.answered-index l.calls)
-    ≡ l.fn.steps.items ++ steps_by l.thread l.calls

@@ -1,3 +1,0 @@
-pub mod ColourLaws
-pub mod TextLaws
-pub mod Whole

@@ -1,2 +1,0 @@
-pub mod DialogueLaws
-pub mod LineLaws
