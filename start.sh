@@ -78,7 +78,7 @@ ends() {
 writes_no_file() {
     for word; do
         case $word in --dump | --dump=* | --out | --out=* | --migrate | --migrate=*) ends 78 "${word%%=*} needs the proved program, which ./prove builds" ;; esac
-        case "$name $word" in 'histar --names' | 'histar --names='*) ends 78 '--names needs the proved program, which ./prove builds' ;; esac
+        case "$1 $word" in 'run --names' | 'run --names='*) ends 78 '--names needs the proved program, which ./prove builds' ;; esac
     done
     ! grep -q '^save [^=]' "$said.lines" || ends 78 'save needs the proved program, which ./prove builds'
 }

@@ -18,7 +18,7 @@ REFUSED, AGAIN = "each request refused", "each request refused, made again"
 ESCAPE = re.compile(rb"\\x([0-9a-f]{2})")
 GONE = re.compile(r"(\d+) gone")
 # The programs that the words of a case may begin with, each with what starts it.
-PROGRAMS = {"histar": "./histar", "histar-audit": "./histar-audit", "histar-show": "./histar-show", "probe": "crates/probe/out/probe"}
+PROGRAMS = {"histar": "./histar", "histar-audit": "./histar-audit", "probe": "crates/probe/out/probe"}
 USAGE = re.compile(rb"error: .*For more information, try '--help'\.\n", re.S)
 
 

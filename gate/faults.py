@@ -118,7 +118,7 @@ def cut_off(room):
     return limit
 
 
-def try_short_outputs(report, command):
+def try_short_outputs(report, command, name):
     """Each output that is cut off, after each number of bytes: what was written is its beginning, and the status is 3."""
 
     def written(room=resource.RLIM_INFINITY):
@@ -127,7 +127,7 @@ def try_short_outputs(report, command):
 
     with tempfile.TemporaryDirectory(prefix="fault-") as folder:
         lay(folder)
-        name, (_, whole, _) = command.partition(" ")[0], written()
+        _, whole, _ = written()
         wrong = [it for it in range(len(whole)) if written(it) != (3, whole[:it], f"{name}: output fault\n")]
         is_well = bool(whole) and not wrong and written(len(whole))[1] == whole
         report.counts(is_well, f"{command} >FILE: each of {len(whole)} outputs that are cut off is an output fault {wrong[:3]}".rstrip(" []"))
@@ -142,5 +142,5 @@ def fail(report):
         try_help(report, command, arguments)
     try_left_over(report)
     try_migrations(report)
-    for command in ("histar run script", "histar-audit clean", "histar-show tree clean"):
-        try_short_outputs(report, command)
+    for command, name in (("histar run script", "histar"), ("histar-audit clean", "histar-audit"), ("histar show tree clean", "histar-show")):
+        try_short_outputs(report, command, name)

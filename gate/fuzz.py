@@ -184,7 +184,7 @@ class Trial:
         )
 
 
-def fuzz(report, count, histar=("./histar",), auditor=("./histar-audit",), show=("./histar-show",)):
+def fuzz(report, count, histar=("./histar",), auditor=("./histar-audit",), show=("./histar", "show")):
     """Tries so many changed texts, keeps the first that ended otherwise than it may in out/, and says how many ended how."""
     with tempfile.TemporaryDirectory(prefix="fuzz-") as room, ThreadPoolExecutor(os.cpu_count()) as pool:
         corpus = Corpus(histar, room)

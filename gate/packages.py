@@ -15,7 +15,7 @@ from gate import manuals, roots, starts, versions
 from gate.plays import text
 from gate.report import Report
 
-PROGRAMS = {"histar": "crates/histar/out/histar", "histar-audit": "crates/histar_audit/out/histar_audit", "histar-show": "crates/histar_show/out/histar_show"}
+PROGRAMS = {"histar": "crates/histar/out/histar", "histar-audit": "crates/histar_audit/out/histar_audit"}
 CONFINE, LIBRARY, OUT = "out/confine", "out/lib/libhistar.a", "out/packages"
 NO_COMMAND, NO_ROOM, NOT_BUILT = 69, 73, 78
 SONAME = "libhistar.so.0"
@@ -366,7 +366,7 @@ def ran(*words, **how):
 
 
 # What asks for help, and the words that end it.
-HELPS = ((("histar", "--help"), "Print version"), (("histar-audit", "-h"), "Print version"), (("histar-show", "page", "--help"), "Print help"))
+HELPS = ((("histar", "--help"), "Print version"), (("histar-audit", "-h"), "Print version"), (("histar", "show", "page", "--help"), "Print help"))
 
 
 def try_programs(report, top):
@@ -378,8 +378,8 @@ def try_programs(report, top):
     report.counts(ended == (0, wanted), f"packages: histar run: status {ended[0]}")
     ended = ran(f"{top}/usr/bin/histar-audit", f"{top}/dump", env=env)
     report.counts(ended == (0, "clean\n"), f"packages: histar-audit: {ended}")
-    ended = ran(f"{top}/usr/bin/histar-show", "page", f"{top}/dump", "--out", f"{top}/page.html", env=env)
-    report.counts(ended == (0, "") and os.path.getsize(f"{top}/page.html") > 1000, f"packages: histar-show page: {ended}")
+    ended = ran(f"{top}/usr/bin/histar", "show", "page", f"{top}/dump", "--out", f"{top}/page.html", env=env)
+    report.counts(ended == (0, "") and os.path.getsize(f"{top}/page.html") > 1000, f"packages: histar show page: {ended}")
     for name in PROGRAMS:
         told = {int(it) for it in re.findall(rf"^\| `{name} [^|]*\| (\d+) \|", text("docs/PROGRAMS.md"), re.M)}
         report.counts(bool(told) and told <= set(manuals.STATUSES[name]), f"packages: man {name} has the statuses that PROGRAMS.md has: {sorted(told)}")

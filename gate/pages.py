@@ -1,4 +1,4 @@
-"""Pages and colours: what `./histar-show page` writes, against what `tree` and `why` print and the auditor traces of the same dump; its
+"""Pages and colours: what `./histar show page` writes, against what `tree` and `why` print and the auditor traces of the same dump; its
 script in headless Chromium, where that is there; and `tree` in colours, on a terminal too.
 
 python3 -m gate.pages    draws the pictures of a page anew"""
@@ -37,7 +37,7 @@ PICTURES = {"docs/page.png": "1280,560", "docs/page_narrow.png": "390,844"}
 
 def page_of(dump, file, *words):
     """The page of a dump, None where there is none."""
-    status, _ = ran("./histar-show", "page", dump, "--out", file, *words)
+    status, _ = ran("./histar", "show", "page", dump, "--out", file, *words)
     return text(file) if status == 0 else None
 
 
@@ -92,7 +92,7 @@ def why_of(dump, number, line):
     """What `why` prints of a call or a read that the rules refuse, and nothing of any other."""
     if line.startswith("batch "):
         return ""
-    _, why = ran("./histar-show", "why", dump, str(number))
+    _, why = ran("./histar", "show", "why", dump, str(number))
     return why if why.split("\n")[1].startswith("the rules answer: refused ") else ""
 
 
@@ -101,7 +101,7 @@ def compare(report, dump, name, data, some):
     trees, is_marked = trees_of(data)
     places = places_of(dump)
     is_placed = [it["read"] for it in data["steps"]] == [reads > 0 for _, reads in places]
-    wrong = [at for at in some(range(len(places))) if at >= len(trees) or trees[at] != ran("./histar-show", "tree", dump, "--after", str(places[at][0]))[1]]
+    wrong = [at for at in some(range(len(places))) if at >= len(trees) or trees[at] != ran("./histar", "show", "tree", dump, "--after", str(places[at][0]))[1]]
     reads = sum(it["read"] for it in data["steps"])
     report.counts(is_placed and not wrong and is_marked, f"{name}: {len(trees)} trees as `tree` prints them, {reads} of reads, changed lines marked {wrong[:3]}")
     told = [it for step in data["steps"] for it in step["told"]]
@@ -114,7 +114,7 @@ def compare(report, dump, name, data, some):
 
 def compare_stored(report, room):
     for dump in sorted(glob.glob("examples/dumps/*.dump")):
-        if ran("./histar-show", "tree", dump)[0] != 0:
+        if ran("./histar", "show", "tree", dump)[0] != 0:
             continue
         page = page_of(dump, f"{room}/page.html")
         data = page and data_of(page)
@@ -197,7 +197,7 @@ def browse_dump(report, room, dump, *words):
     cases += [("refused", "", first_refused(dump) or (0, 0)), *(("page", f"#{number_of(it)}", it) for it in places if it[1] or it == (3, 0))]
     for file, fragment, place in cases:
         document = dom(f"{room}/{file}.html", fragment)
-        is_shown = tree_in(document) == ran("./histar-show", "tree", dump, "--after", str(place[0]))[1]
+        is_shown = tree_in(document) == ran("./histar", "show", "tree", dump, "--after", str(place[0]))[1]
         is_named = f'aria-current="true">{number_of(place)} ' in document or place == (0, 0)
         report.counts(is_shown and is_named, f"{dump}, {file}.html{fragment} in Chromium: {'the' if is_shown and is_named else 'not the'} step {number_of(place)}")
 
@@ -231,7 +231,7 @@ def on_terminal(*words, **environment):
 
 def colour(report):
     """`tree` in colours is the plain tree beside its escape sequences. `auto` asks the terminal and NO_COLOR."""
-    words = ("./histar-show", "tree", FLOWS[0])
+    words = ("./histar", "show", "tree", FLOWS[0])
     plain = ran(*words)[1]
     coloured = ran(*words, "--color", "always")[1]
     report.counts(coloured != plain == ESCAPE.sub("", coloured) and "\x1b" not in plain, "tree --color always is the plain tree, with colours")

@@ -1,4 +1,4 @@
-"""The pictures of docs/, which `./histar-show dot` and Graphviz draw. Where Graphviz is there, `./test` draws each anew, and compares what
+"""The pictures of docs/, which `./histar show dot` and Graphviz draw. Where Graphviz is there, `./test` draws each anew, and compares what
 stands in it: each node, cluster and arrow with its text and colour. Where these lie on the picture is Graphviz's own, and differs from
 version to version.
 
@@ -18,8 +18,8 @@ PART = re.compile(r'<g id="[^"]*" class="(node|edge|cluster)">\s*<title>(.*?)</t
 
 
 def drawn(words):
-    """The picture of what `./histar-show dot` prints with these words. None where it prints no graph."""
-    status, graph = ran("./histar-show", "dot", *words)
+    """The picture of what `./histar show dot` prints with these words. None where it prints no graph."""
+    status, graph = ran("./histar", "show", "dot", *words)
     if status != 0:
         return None
     return subprocess.run(["dot", "-Tsvg"], input=graph, capture_output=True, text=True, check=True).stdout
@@ -43,14 +43,14 @@ def compare(report):
         report.counts(bool(stored), f"{file} has {len(stored)} parts")
         picture = drawn(words)
         is_same = picture is not None and parts(picture) == stored
-        report.counts(is_same, f"{file}: {'as' if is_same else 'not as'} ./histar-show dot {' '.join(words)} draws it")
+        report.counts(is_same, f"{file}: {'as' if is_same else 'not as'} ./histar show dot {' '.join(words)} draws it")
 
 
 def main():
     for file, words in PICTURES.items():
         picture = drawn(words)
         if picture is None:
-            sys.exit(f"pictures: ./histar-show dot {' '.join(words)} prints no graph")
+            sys.exit(f"pictures: ./histar show dot {' '.join(words)} prints no graph")
         with open(file, "w", encoding="utf-8") as it:
             it.write(picture)
 

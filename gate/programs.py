@@ -16,7 +16,7 @@ from gate import stages, times
 from gate.report import minutes
 from gate.toolchain import SECONDS, toolchain
 
-PROGRAMS = ("histar", "histar_audit", "histar_show")
+PROGRAMS = ("histar", "histar_audit")
 LOG = "out/prove.log"
 LOCK = "out/prove.lock"
 TO_RUN = "all programs are proved and built: ./histar run examples/first.histar"

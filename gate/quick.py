@@ -80,7 +80,7 @@ def stored():
                 yield Case(words[0].replace("-", "_"), f"{file} {number}", placed, given, run.status, out)
 
 
-PROGRAM_OF = {"./histar run": "histar", "./histar check": "histar", "./histar-audit": "histar_audit", "./histar-show": "histar_show"}
+PROGRAM_OF = {"./histar run": "histar", "./histar check": "histar", "./histar show": "histar", "./histar-audit": "histar_audit"}
 
 
 def shown():

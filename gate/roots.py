@@ -32,7 +32,7 @@ ROWS = (
     ("histar --version --long", "histar --version --long | sed -n 's/ .*//; 2,$p'", "commit\nkit\nsources\ngate\n"),
     ("histar run", f"histar run {EXAMPLES}/first.histar --dump /srv/dump | cmp - {EXAMPLES}/first.out && echo same", "same\n"),
     ("histar-audit", "histar-audit /srv/dump", "clean\n"),
-    ("histar-show page", "histar-show page /srv/dump --out /srv/page.html && grep -c '</html>' /srv/page.html", "1\n"),
+    ("histar show page", "histar show page /srv/dump --out /srv/page.html && grep -c '</html>' /srv/page.html", "1\n"),
     ("confine", "confine --secret /srv/secret --report /srv/report -- sh -c 'cat /srv/secret/key; cp /srv/secret/key /srv/report' 2> /srv/told; cat /srv/report", "key\n"),
     ("cc by pkg-config", "cc /srv/try.c $(pkg-config --cflags --libs histar) -o /srv/try && /srv/try", "open\n"),
     ("cc, the archive", "cc /srv/try.c -l:libhistar.a -o /srv/try && /srv/try", "open\n"),

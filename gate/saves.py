@@ -36,7 +36,7 @@ SAVES = [
     Save("histar", ["run", "script", "--names", "file"]),
     Save("histar", ["try"], DIALOGUE),
     Save("histar_audit", ["dump", "--migrate", "file"]),
-    Save("histar_show", ["page", "dump", "--out", "file"]),
+    Save("histar", ["show", "page", "dump", "--out", "file"]),
 ]
 
 

@@ -130,18 +130,18 @@ def try_unproved(report, tree):
     expect(report, "./histar unproved, no such script", tree.start("./histar", "run", "none"), (1, "try -- run none\n", UNPROVED))
     write(f"{tree.top}/names", "")
     for words in (("tree", "script", "--names", "names"), ("tree", "script", "--names=names")):
-        handed = f"{given.removesuffix(' --')} --data names={os.path.realpath(tree.top)}/names -- tree script --names names\n"
-        expect(report, f"./histar-show {' '.join(words)} unproved", tree.start("./histar-show", *words), (1, handed, unproved_of("histar-show")))
+        handed = f"{given.removesuffix(' --')} --data names={os.path.realpath(tree.top)}/names -- show tree script --names names\n"
+        expect(report, f"./histar-show {' '.join(words)} unproved", tree.start("./histar-show", *words), (1, handed, UNPROVED))
     no_rt = (69, "", "histar: rt (the Rattle toolchain) is not on the path\n")
     expect(report, "./histar without rt", tree.start("./histar", "run", "script", has_rt=False), no_rt)
     expect(report, "./histar try unproved", tree.start("./histar", "try"), (1, "try -- try\n", UNPROVED))
     save = (78, "", f"{UNPROVED}histar: save {NEEDS}")
     expect(report, "./histar try unproved, with save", tree.start("./histar", "try", given="save c\n"), save)
-    for program, words in (("histar", ("run", "script", "--dump", "d")), ("histar", ("run", "script", "--names=n")), ("histar-audit", ("script", "--migrate=d")), ("histar-show", ("page", "script", "--out", "d"))):
+    for program, words in (("histar", ("run", "script", "--dump", "d")), ("histar", ("run", "script", "--names=n")), ("histar-audit", ("script", "--migrate=d")), ("histar", ("show", "page", "script", "--out", "d"))):
         option = next(it for it in words if it.startswith("--")).partition("=")[0]
         wanted = (78, "", f"{unproved_of(program)}{program}: {option} {NEEDS}")
         expect(report, f"./{program} {' '.join(words)} unproved", tree.start(f"./{program}", *words), wanted)
-        read = (1, f"{given} {words[0] if words[0] != 'script' else ''} script\n".replace("  ", " "), unproved_of(program))
+        read = (1, f"{given} {' '.join(words[: words.index('script') + 1])}\n", unproved_of(program))
         expect(report, f"./{program} unproved, nothing written", tree.start(f"./{program}", *words[: words.index("script") + 1]), read)
     tree.stand_in("run=none proved=no")
     no_answer = f"{UNPROVED}histar: the unproved run gave no answer: run=none proved=no\n"
@@ -153,7 +153,7 @@ def try_help(report, tree):
     """Help proves nothing, whole and on a narrow terminal."""
     stored = {it: plays.text(f"cases/words/{it}.case") for it in ("run_help", "audit_help", "show")}
     typed = (("./histar --help", "run_help"), ("./histar help check", "run_help"), ("./histar run --help", "run_help"))
-    for command, case in (*typed, ("./histar-audit -h", "audit_help"), ("./histar-show page --help", "show")):
+    for command, case in (*typed, ("./histar-audit -h", "audit_help"), ("./histar show page --help", "show"), ("./histar help show", "show")):
         status, said, beside = tree.start(*command.split(), has_rt=False)
         report.counts((status, beside) == (0, "") and "Usage: " in said and said in stored[case], f"{command} unproved: status {status}, as stored")
     for command, last in (("./histar --help", "Print version"), ("./histar-audit --help", "Print version"), ("./prove --help", "interrupted.")):
@@ -175,7 +175,7 @@ def try_proved(report, tree):
     """The programs where what ./prove builds stands, and is older than a source."""
     for it in PROGRAMS:
         tree.prove_by_hand(it)
-    for command in ("./histar run script --dump d", "./histar check script", "./histar try --pages 8", "./histar-audit d", "./histar-show why d"):
+    for command in ("./histar run script --dump d", "./histar check script", "./histar try --pages 8", "./histar-audit d", "./histar show why d"):
         program, *words = command.split()
         expect(report, f"{command} proved", tree.start(program, *words), (0, f"proved {' '.join(words)}\n", ""))
     proved, unproved = (0, "proved run none\n", ""), (1, "try -- run none\n", UNPROVED)

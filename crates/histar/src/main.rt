@@ -1,13 +1,14 @@
 //! `histar run SCRIPT` plays a script, with a dump of the run and its names where they are asked for; `check SCRIPT` says what is
-//! wrong or doubtful in it; `try` is a dialogue with a newly booted kernel, over the standard input. Without words it plays its
-//! standard input with the default options.
+//! wrong or doubtful in it; `try` is a dialogue with a newly booted kernel, over the standard input; `show` tells what a dump shows.
+//! Without words it plays its standard input with the default options.
 #![tactic(auto)]
 
 mod dialogue;
 mod run;
+mod show;
 
 use check_text::{check_on, plain_on};
-use program_args::{CheckArgs, Verb, read_words, tell_answer, without_marks};
+use program_args::{CheckArgs, Verb, read_words, tell_answer, without_marks, words_of_show};
 use program_io::{Counted, DEFAULTS, Fault, Sink, open_input, words_of};
 use script_runner::{NAME, histar_on};
 use std::io;
@@ -53,6 +54,12 @@ fn main(rt: HostRuntime) -> ExitCode {
             Ok(_) => ExitCode::from(0),
             Err(fault) => ExitCode::from(fault.tell(&mut err)),
         };
+    }
+    let Ok(of_show) = words_of_show(alloc, typed.as_slice()) else {
+        return ExitCode::from(Fault::Memory.tell(NAME, &mut err));
+    };
+    if let Some(words) = of_show {
+        return ExitCode::from(show::show(&rt, words.as_slice(), &mut out, &mut err));
     }
     let status = match read_words(alloc, typed.as_slice()) {
         Ok(Verb::Run(args)) => run::run(&rt, alloc, &args, &mut out, &mut err),

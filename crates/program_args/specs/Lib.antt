@@ -3,3 +3,4 @@ pub mod Asked
 pub mod Commands
 pub mod Ids
 pub mod Path
+pub mod Showing

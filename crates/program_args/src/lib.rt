@@ -1,5 +1,5 @@
-//! The arguments of the programs: of `histar` what is asked for and of which file, of `histar-audit` and `histar-show` the path of a
-//! dump, and what is told, shown or written of it.
+//! The arguments of the programs: of `histar` what is asked for and of which file, of `histar show` and `histar-audit` the path of a
+//! dump, and what is shown, told or written of it.
 //!
 //! `clap` reads them and writes what it has to say of them. Words that are taken name a file. Which words are taken, and which
 //! texts are written, is shown by tests.
@@ -21,5 +21,5 @@ pub use audit::{AuditArgs, read_audit_words};
 pub use check::CheckArgs;
 pub use ids::without_marks;
 pub use run::RunArgs;
-pub use show::{Colours, ShowArgs, View, read_show_words};
+pub use show::{Colours, ShowArgs, View, read_show_words, words_of_show};
 pub use words::{Verb, read_words};

@@ -77,7 +77,7 @@ pub fn run<'a>(alloc: Global) -> Result<Command<'a>, AllocError> {
         .arg(checkpoint(alloc))?
         .arg(names(
             alloc,
-            "Where to write the names of the run, for histar-show to show",
+            "Where to write the names of the run, for histar show",
         ))
 }
 

@@ -1,4 +1,7 @@
-//! The command line of `histar-show`.
+//! The command line of `histar show`.
+ghost use Rattle.std.specs.Prelude.{◌≡◌, ◌++◌, IfOk, map, option_map};
+ghost use Rattle.program_args.specs.Showing.{help_of, words_of_show};
+
 use crate::args::names;
 use crate::versions::VERSION;
 use base::{Category, ObjectId};
@@ -42,7 +45,7 @@ pub enum View {
     Page(Option<(ObjectId, Category)>),
 }
 
-/// What the words of `histar-show` ask for.
+/// What the words of `histar show` ask for.
 #[derive(Clone, Copy, Debug, PartialEq, Eq)]
 pub struct ShowArgs<'a> {
     /// The path of the dump.
@@ -225,11 +228,67 @@ fn with_verb<'a>(
     all.subcommand(verb?)
 }
 
+/// What `show` does.
+const ABOUT: &str = "Shows what a dump tells";
+
+/// The command `show` as a line of the help of `histar`. Its own words are read apart.
+pub fn show<'a>(alloc: Global) -> Command<'a> {
+    Command::new(alloc, "show").about(ABOUT)
+}
+
+/// The first words, and after them more.
+fn joined<'a>(
+    alloc: Global,
+    first: &[&'a str],
+    more: &[&'a str],
+) -> Result<Vec<&'a str>, AllocError>
+    ensures { IfOk result (λ all. map (λ w. w.now) all.items ≡ map (λ w. w.now) first.now ++ map (λ w. w.now) more.now) }
+{
+    let mut all = Vec::with_capacity(alloc, first.len() + more.len())?;
+    all.extend_from_slice(first)?;
+    all.extend_from_slice(more)?;
+    Ok(all)
+}
+
+/// The words that call for the help of `show`, where those after `help` do.
+fn words_of_help<'a>(alloc: Global, words: &[&'a str]) -> Result<Option<Vec<&'a str>>, AllocError>
+    ensures { IfOk result (λ of. option_map (λ ws. map (λ w. w.now) ws.items) of ≡ help_of (map (λ w. w.now) words.now)) }
+{
+    let [verb, more @ ..] = words else {
+        return Ok(None);
+    };
+    if *verb == "show" {
+        let all = joined(alloc, &["show", "help"], more)?;
+        return Ok(Some(all));
+    }
+    Ok(None)
+}
+
+/// The words of `histar show`, the first of them being `show`, where these words ask for it; `help show WORDS` is `show help WORDS`.
+pub fn words_of_show<'a>(
+    alloc: Global,
+    words: &[&'a str],
+) -> Result<Option<Vec<&'a str>>, AllocError>
+    ensures { IfOk result (λ of. option_map (λ ws. map (λ w. w.now) ws.items) of ≡ words_of_show (map (λ w. w.now) words.now)) }
+{
+    let [_, verb, more @ ..] = words else {
+        return Ok(None);
+    };
+    if *verb == "show" {
+        let all = joined(alloc, &["show"], more)?;
+        return Ok(Some(all));
+    }
+    if *verb == "help" {
+        return words_of_help(alloc, more);
+    }
+    Ok(None)
+}
+
 /// The whole command.
 fn command<'a>(alloc: Global) -> Result<Command<'a>, AllocError> {
     let all = Command::new(alloc, "histar-show")
-        .bin_name("histar-show")?
-        .about("Shows what a dump tells")
+        .bin_name("histar show")?
+        .about(ABOUT)
         .version(VERSION)
         .subcommand_required(true);
     let all = with_verb(all, why(alloc))?;
@@ -272,7 +331,7 @@ fn view_of(name: &str, words: &ArgMatches<'_>) -> View {
     }
 }
 
-/// What the words ask for, the first of them being the program's name, or what `clap` answers to them: help, a fault of
+/// What the words ask for, the first of them being `show`, or what `clap` answers to them: help, a fault of
 /// usage, or want of memory.
 pub fn read_show_words<'a, S: AsStr>(alloc: Global, words: &'a [S]) -> Result<ShowArgs<'a>, Error> {
     let matches = command(alloc)?.try_get_matches_from(words)?;

@@ -5,6 +5,7 @@ ghost use Rattle.program_args.specs.Asked.{HasFiles};
 use crate::check::{CheckArgs, check, check_of};
 use crate::dialogue::{dialogue, limits_of};
 use crate::run::{RunArgs, run, run_of};
+use crate::show::show;
 use crate::versions::VERSION;
 use base::Limits;
 use clap::{Command, Error};
@@ -31,7 +32,8 @@ fn command<'a>(alloc: Global) -> Result<Command<'a>, AllocError> {
         .subcommand_required(true);
     let all = all.subcommand(run(alloc)?)?;
     let all = all.subcommand(check(alloc)?)?;
-    all.subcommand(dialogue(alloc)?)
+    let all = all.subcommand(dialogue(alloc)?)?;
+    all.subcommand(show(alloc))
 }
 
 /// What the words ask for, the first of them being the program's name, or what `clap` answers to them: help, a fault of

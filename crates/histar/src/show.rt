@@ -1,23 +1,18 @@
-//! `histar-show why DUMP LINE`: why a call or a read of a dump is answered as it is. `histar-show tree DUMP`: the objects that it leads
-//! to; `dot` the same as a graph. `histar-show json DUMP`: the dump as JSON. `histar-show page DUMP --out FILE`: the dump as a page.
-//! With `--names FILE` what has a name is shown by it.
-//! Without words it looks at the dump on its standard input, for the first false line.
-#![tactic(auto)]
-
+//! `histar show`: why a call or a read of a dump is answered as it is, the objects that the dump leads to, as a tree or a graph, its lines as
+//! JSON, and all of it as a page. What has a name is shown by it.
 use base::{Category, ObjectId};
 use call_text::Named;
 use page_text::page_on;
-use program_args::{Colours, ShowArgs, View, read_show_words, tell_answer, without_marks};
-use program_io::{Counted, Fault, Sink, beside, open_input, put_file, words_of};
+use program_args::{Colours, ShowArgs, View, read_show_words, tell_answer};
+use program_io::{Fault, Sink, beside, open_input, put_file};
 use shown_dumps::dot::dot_on;
 use shown_dumps::json::json_on;
 use shown_dumps::states::{NAME, names_on};
 use shown_dumps::tree::{Look, tree_on};
 use shown_dumps::why::{Telling, why_on};
+use std::env;
 use std::env::VarError;
 use std::io::{IsTerminal, Read, Write};
-use std::process::ExitCode;
-use std::{env, io};
 
 /// What a page has beside its dump, and where it goes.
 #[derive(Clone, Copy)]
@@ -79,7 +74,7 @@ fn put_page<I: Read, S: Sink, E: Write>(
 }
 
 /// Shows what is asked for of a dump, by the names that are known. The answer is the status.
-fn show<I: Read, S: Sink, E: Write>(
+fn show_dump<I: Read, S: Sink, E: Write>(
     rt: &HostRuntime,
     told: &ShowArgs<'_>,
     names: &[Named],
@@ -108,36 +103,32 @@ fn show<I: Read, S: Sink, E: Write>(
     }
 }
 
-fn main(rt: HostRuntime) -> ExitCode {
-    let alloc = rt.alloc();
-    let mut out = Counted::new(io::writer(&rt));
-    let mut err = rt.stderr();
-    let words = match words_of(&rt) {
-        Ok(words) => words,
-        Err(fault) => return ExitCode::from(fault.tell(NAME, &mut err)),
+/// Tells of the dump on the standard input what is wrong at its first false line. The answer is the status.
+fn show_input<S: Sink, E: Write>(rt: &HostRuntime, out: &mut S, err: &mut E) -> u8 {
+    let mut dump = rt.reader();
+    let telling = Telling {
+        names: &[],
+        is_whole: false,
     };
-    let Ok(typed) = without_marks(alloc, words.as_slice()) else {
-        return ExitCode::from(Fault::Memory.tell(NAME, &mut err));
-    };
+    why_on(rt.alloc(), &mut dump, None, &telling, out, err)
+}
+
+/// Shows what the words ask for, the first of them being `show`. The answer is the status.
+pub fn show<S: Sink, E: Write>(rt: &HostRuntime, words: &[&str], out: &mut S, err: &mut E) -> u8 {
     if words.len() <= 1 {
-        let mut dump = rt.reader();
-        let telling = Telling {
-            names: &[],
-            is_whole: false,
-        };
-        return ExitCode::from(why_on(alloc, &mut dump, None, &telling, &mut out, &mut err));
+        return show_input(rt, out, err);
     }
-    let told = match read_show_words(alloc, typed.as_slice()) {
+    let told = match read_show_words(rt.alloc(), words) {
         Ok(told) => told,
-        Err(answer) => return ExitCode::from(tell_answer(alloc, NAME, &answer, &mut out, &mut err)),
+        Err(answer) => return tell_answer(rt.alloc(), NAME, &answer, out, err),
     };
-    let mut dump = match open_input(&rt, NAME, told.dump, &mut err) {
+    let mut dump = match open_input(rt, NAME, told.dump, err) {
         Ok(dump) => dump,
-        Err(status) => return ExitCode::from(status),
+        Err(status) => return status,
     };
-    let names = match names_at(&rt, told.names, &mut err) {
+    let names = match names_at(rt, told.names, err) {
         Ok(names) => names,
-        Err(status) => return ExitCode::from(status),
+        Err(status) => return status,
     };
-    ExitCode::from(show(&rt, &told, names.as_slice(), &mut dump, &mut out, &mut err))
+    show_dump(rt, &told, names.as_slice(), &mut dump, out, err)
 }
