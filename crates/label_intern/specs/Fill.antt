@@ -1,5 +1,5 @@
 -- What is written for a label that is stored first. No public clause cites this module.
-use Rattle.std.specs.Prelude.{◌≡◌, ◌≢◌, ℕ, ◌<◌, List, Option, Some}
+use Rattle.std.specs.Prelude.{◌≡◌, ◌≢◌, ℕ, List, Option, Some}
 use Rattle.label_lattice.specs.Label.{LabelValue}
 use Rattle.label_intern.specs.declared.held.Held.{Held}
 use Rattle.label_intern.specs.declared.table.Table.{Table}
@@ -14,4 +14,4 @@ pub record IsFilled (slots : List (Option Held)) (at : ℕ) (l : LabelValue) (ol
   pub own : cell new at at ≡ bits_of l l
   pub forth : (j : ℕ) (h : Held) → held_at slots j ≡ Some h → cell new at j ≡ bits_of l h.label
   pub back : (j : ℕ) (h : Held) → held_at slots j ≡ Some h → cell new j at ≡ bits_of h.label l
-  pub others : (i j : ℕ) → i ≢ at → j ≢ at → j < old.width → cell new i j ≡ cell old i j
+  pub others : (i j : ℕ) → i ≢ at → j ≢ at → cell new i j ≡ cell old i j

@@ -2,6 +2,8 @@ pub mod Held
 pub mod Halves
 pub mod Listed
 pub mod Owners
+pub mod Pairs
+pub mod Ways
 pub mod Table
 pub mod Fill
 pub mod Kept

@@ -12,6 +12,7 @@ mod places;
 mod pool;
 mod search;
 mod table;
+mod ways;
 
 pub use order::OrderBits;
 pub use pool::{LabelIx, Labels};

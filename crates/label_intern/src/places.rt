@@ -59,11 +59,11 @@ pub fn fill(
     ensures filled { IsFilled slots.now at label.now table.old table.new }
 {
     let own = label.order_bits(label, meter);
-    table.put(at, at, own);
+    table.put(at, at, own, own);
     for i in 0..listed.len() {
         let other = usize::from(listed[i]);
         let ways = label.order_bits_both_ways(label_at(slots, other), meter);
-        table.put_both(at, other, ways.forth, ways.back);
+        table.put(at, other, ways.forth, ways.back);
     }
 }
 
