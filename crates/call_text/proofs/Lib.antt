@@ -12,3 +12,4 @@ mod ExactLaws
 pub mod NameLineLaws
 pub mod NameLines
 pub mod NameProgress
+mod NameWriting

@@ -1,9 +1,11 @@
 -- The names of a run, as text: a line for each name, with what it is bound to.
-use Rattle.std.specs.Prelude.{ℕ, ◌<◌, ◌^◌, Bool, true, List, [], ◌++◌, codes, decimal, Option, Some}
+use Rattle.std.specs.Prelude.{ℕ, ◌<◌, ◌^◌, Bool, true, List, [], ◌++◌, map, codes, decimal, Option, Some}
+use Rattle.std.specs.List.{IsDistinct}
+use Rattle.std.specs.Str.{bytes_eq}
 use Rattle.text_words.specs.Name.{IsName, name_text}
 use Rattle.call_text.specs.ReplyWord.{number_of}
 use Rattle.call_text.specs.Script.{bind}
-use Rattle.call_text.specs.Text.{Spells, FaultsAt, lines_text}
+use Rattle.call_text.specs.Text.{Spells, FaultsAt}
 use Rattle.call_text.specs.declared.known_names.Named.{Named}
 use Rattle.call_text.specs.declared.known_names.Value.{Value}
 use Rattle.call_text.specs.declared.known_names.Value.TheVariants.{Object, Category}
@@ -17,10 +19,6 @@ made_text (Category c) = codes "cat #" ++ decimal c.0
 abbrev pub named_text : Named → List ℕ
 named_text n = name_text n.name ++ (codes " = " ++ made_text n.value)
 
--- the lines of names, in their order
-abbrev pub names_text : List Named → List ℕ
-names_text names = lines_text named_text names
-
 -- the number is of 64 bits
 abbrev pub IsMade : Value → Type 0
 IsMade value = number_of value < 2 ^ 64
@@ -28,6 +26,10 @@ IsMade value = number_of value < 2 ^ 64
 -- the line has a spelling
 abbrev pub IsNamed : Named → Type 0
 IsNamed n = IsName n.name × IsMade n.value
+
+-- no name stands twice
+abbrev pub StandOnce : List Named → Type 0
+StandOnce names = IsDistinct bytes_eq (map (λ n. n.name) names)
 
 -- the names after one more, none where it stands there already
 abbrev pub next : List (List ℕ) → Named → Option (List (List ℕ))
@@ -37,7 +39,7 @@ next bound n = bind bound (Some n.name)
 abbrev pub ends : List (List ℕ) → Bool
 ends bound = true
 
--- the bytes spell these names: they are their text, and no name stands twice
+-- the bytes spell these names: they are their lines, in their order, and no name stands twice
 abbrev pub AreNames : List ℕ → List Named → Type 0
 AreNames bytes names = Spells named_text IsNamed next ends [] bytes names
 

@@ -10,5 +10,5 @@ mod writing;
 
 pub use errors::NamesError;
 pub use lines::{lines_stay_without_names, named_line};
-pub use reading::{one_reading, read_names};
-pub use writing::{put_named, write_names};
+pub use reading::{one_reading, read_names, written_is_read};
+pub use writing::write_names;

@@ -1,6 +1,7 @@
 -- The entries of a map as a list of names with their values.
-use Rattle.std.proofs.Common.{◌≡◌, ℕ, true, false, cond, List, [], ◌∷◌, ◌++◌, nat_eq, Option, Some, None, is_some, refl, sym, ap, ◌∙◌}
-use Rattle.std.specs.Map.{lookup}
+use Rattle.std.proofs.Common.{◌≡◌, ℕ, true, false, cond, List, [], ◌∷◌, ◌++◌, map, nat_eq, Option, Some, None, is_some, refl, sym, ap, subst, ◌∙◌}
+use Rattle.std.specs.List.{IsDistinct}
+use Rattle.std.specs.Map.{lookup, keys_of}
 use Rattle.std.specs.Option.{option_or}
 use Rattle.std.specs.Str.{bytes_eq}
 use Rattle.std.proofs.lemmas.List.{map_push}
@@ -13,14 +14,26 @@ use Rattle.call_text.specs.declared.known_names.Named.{Named}
 use Rattle.call_text.specs.declared.known_names.Value.{Value}
 use Rattle.call_text.specs.declared.known_names.Value.TheVariants.{Object, Category}
 use Rattle.call_text.specs.Known.{value_of, name_of, is_value}
+use Rattle.call_text.specs.RunNames.{StandOnce}
 use Rattle.script_runner.specs.declared.names.FirstNames.{FirstNames}
 use Rattle.script_rules.specs.Names.{unless_bound, bound}
 use Rattle.script_runner.specs.Names.{named, named_of, first_name, AreFirst}
+use Rattle.script_runner.proofs.NumberLaws.{distinct_as_bytes}
 
 -- a look-up finds the value of the first entry with the name
 pub lookup_is : (name : List ℕ) (entries : List (List ℕ × Value)) → lookup (eq-value.it name) entries ≡ value_of name (named_of entries)
 lookup_is name [] = refl
 lookup_is name (e ∷ es) = (λ i. cond (same_other name e.0 i) (Some e.1) (lookup_is name es i))
+
+names_are_keys : (entries : List (List ℕ × Value)) → map (λ n. n.name) (named_of entries) ≡ keys_of entries
+names_are_keys [] = refl
+names_are_keys (e ∷ es) = ap (λ (keys : List (List ℕ)). e.0 ∷ keys) (names_are_keys es)
+
+-- no name of a map stands twice
+pub entries_stand_once : (entries : List (List ℕ × Value)) (names : List Named) → names ≡ named_of entries → IsDistinct eq-value.it (keys_of entries) → StandOnce names
+entries_stand_once entries names are distinct =
+    subst (λ (keys : List (List ℕ)). IsDistinct bytes_eq keys) (sym (ap (λ (ns : List Named). map (λ n. n.name) ns) are ∙ names_are_keys entries))
+    (distinct_as_bytes (keys_of entries) distinct)
 
 none_of : (v : Option Value) → is_some v ≡ false → v ≡ None
 none_of None e = refl

@@ -4,7 +4,7 @@ use Rattle.call_text.specs.declared.known_names.Named.{Named}
 use Rattle.call_text.specs.declared.known_names.Value.{Value}
 use Rattle.call_text.specs.declared.known_names.Value.TheVariants.{Object, Category}
 use Rattle.call_text.specs.Known.{name_of}
-use Rattle.call_text.specs.RunNames.{names_text}
+use Rattle.call_text.specs.RunNames.{AreNames}
 use Rattle.script_rules.specs.Names.{bound}
 use Rattle.indexmap.specs.IndexMap.{get}
 use Rattle.script_runner.specs.declared.names.FirstNames.{FirstNames}
@@ -31,7 +31,7 @@ first_name first (Category category) = get nat_eq first.categories category.0
 abbrev pub AreFirst : FirstNames → List Named → Type 0
 AreFirst first names = (value : Value) → first_name first value ≡ name_of value names
 
--- the bytes of the file that names go to: their text where it is asked for, and else none
+-- the bytes of the file that names go to: these spell them where it is asked for, and else there are none
 abbrev pub IsNamesFileOf : Bool → List Named → List ℕ → Type 0
-IsNamesFileOf true names bytes = bytes ≡ names_text names
+IsNamesFileOf true names bytes = AreNames bytes names
 IsNamesFileOf false names bytes = bytes ≡ []

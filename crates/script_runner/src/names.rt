@@ -4,12 +4,12 @@ ghost use Rattle.std.specs.Option.{option_or};
 ghost use Rattle.call_text.specs.declared.known_names.Named.{Named as NamedValue};
 ghost use Rattle.call_text.specs.Known.{start_values};
 ghost use Rattle.indexmap.specs.IndexMap.{get, IsUnchanged};
-ghost use Rattle.call_text.specs.RunNames.{names_text};
+ghost use Rattle.call_text.specs.RunNames.{AreNames};
 ghost use Rattle.script_rules.specs.Names.{bound};
 ghost use Rattle.script_runner.specs.Names.{all_bound, first_name, AreFirst};
 
 use base::NoMemory;
-use call_text::names_text::put_named;
+use call_text::names_text::write_names;
 use call_text::{Known, Named, Value, start_names};
 use indexmap::IndexMap;
 use std::alloc::{AllocError, Global};
@@ -87,19 +87,18 @@ impl BoundNames {
         Ok(())
     }
 
-    /// Their text, in their order. Want of memory is the only error.
+    /// Their text, in their order, of which they are read again. Want of memory is the only error.
     pub fn text(&self, alloc: Global) -> Result<Vec<u8>, NoMemory>
-        ensures { IfOk result (λ text. text.items ≡ names_text self.now) }
+        ensures { IfOk result (λ text. AreNames text.items self.now) }
     {
-        let mut text = Vec::new(alloc);
-        for (name, bound) in &self.values {
-            let named = Named {
+        let mut names = Vec::new(alloc);
+        for (name, bound) in self.values.iter() {
+            names.push(Named {
                 name: *name,
                 value: *bound,
-            };
-            put_named(&mut text, &named)?;
+            })?;
         }
-        Ok(text)
+        write_names(alloc, names.as_slice())
     }
 }
 

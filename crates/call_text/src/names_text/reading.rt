@@ -1,10 +1,12 @@
 //! Reading names.
-ghost use Rattle.std.specs.Prelude.{◌≡◌, ◌∷◌, ℕ, List, IfOk, IfSome, IfNone, Some};
+ghost use Rattle.std.specs.Global.{Vec as VecValue};
+ghost use Rattle.std.specs.Prelude.{◌≡◌, ◌∷◌, ℕ, List, Result as ResultValue, IfOk, IfSome, IfNone, Some};
 ghost use Rattle.text_words.specs.Reading.{Reads};
 ghost use Rattle.call_text.specs.declared.known_names.Named.{Named as NamedValue};
 ghost use Rattle.call_text.specs.Names.{Binds};
 ghost use Rattle.call_text.specs.RunNames.{made_text, named_text, IsMade, IsNamed, AreNames, NamesFaultAt};
-ghost use Rattle.call_text.specs.NameReading.{ReadsNames};
+ghost use Rattle.call_text.specs.declared.names_text.errors.NamesError.{NamesError as ErrorValue};
+ghost use Rattle.call_text.specs.NameReading.{ReadsNames, AreRead};
 
 use crate::names_text::errors::NamesError;
 use crate::{Named, Value};
@@ -100,4 +102,10 @@ pub fn one_reading()
     ensures value { (bytes : List ℕ) (a b : List NamedValue) → AreNames bytes a → AreNames bytes b → a ≡ b }
     ensures fault { (bytes : List ℕ) (n : ℕ) (a : List NamedValue) → NamesFaultAt bytes n → AreNames bytes a → ⊥ }
     ensures line { (bytes : List ℕ) (n m : ℕ) → NamesFaultAt bytes n → NamesFaultAt bytes m → n ≡ m }
+{}
+
+/// A law, which does nothing when it is called: what is written as names is read as these names, unless memory runs out.
+pub fn written_is_read()
+    ensures { (bytes : List ℕ) (names : List NamedValue) (read : ResultValue (VecValue NamedValue) ErrorValue)
+        → AreNames bytes names → ReadsNames bytes read → AreRead names read }
 {}
