@@ -2,6 +2,7 @@ pub mod Sums
 pub mod Moves
 pub mod Views
 pub mod Keeps
+pub mod RowLemmas
 pub mod Rows
 pub mod Blank
 pub mod Rounds

@@ -6,6 +6,7 @@
 //! `boot` takes memory, and each read is a probe. What a slot has to say, and when it is remade, is
 //! left to the crates above.
 
+mod row;
 mod rows;
 
 pub use rows::{Rows, ThreadSlot};

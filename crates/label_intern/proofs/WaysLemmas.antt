@@ -8,7 +8,6 @@ use Rattle.base.specs.Level.{rank_of}
 use Rattle.label_lattice.specs.Label.{LabelValue, level}
 use Rattle.label_lattice.specs.Rule.{up_rank}
 use Rattle.label_lattice.specs.Order.{levels, leq_test, up, IsDescribed}
-use Rattle.label_lattice.specs.Bits.{bits_of}
 use Rattle.label_lattice.proofs.OrderLemmas.{leq_test-Leq, IsDescribed-levels, IsDescribed-up}
 use Rattle.label_intern.specs.Ways.{told_by, AreWays}
 
@@ -137,7 +136,3 @@ sum_few false false false = omega arith
 
 pub ways_few : (forth back : ℕ) → AreWays forth back → (forth < 8) × (back < 8)
 ways_few forth back ways = (rw ways.is_forth (sum_few _ _ _), rw ways.is_back (sum_few _ _ _))
-
--- the other way round
-pub ways_back : (forth back : ℕ) → AreWays forth back → AreWays back forth
-ways_back forth back ways = record { one = ways.other; other = ways.one; is_forth = ways.is_back; is_back = ways.is_forth }

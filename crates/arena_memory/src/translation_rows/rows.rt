@@ -3,6 +3,7 @@ ghost use Rattle.std.specs.Prelude.{◌≡◌, ◌<◌, ◌≤◌, ℕ, Some, No
 ghost use Rattle.std.specs.Prelude.{length, replicate, slice_index_or};
 ghost use Rattle.base.specs.Counts.{probed};
 
+use crate::translation_rows::row::Row;
 use base::{Meter, NoMemory, ObjectId, Rights, Slot};
 use std::alloc::Global;
 use std::marker::Model;
@@ -43,7 +44,7 @@ fn next_filled(threads: &[Option<ObjectId>], from: usize) -> Option<ThreadSlot>
 #[derive(Drop)]
 pub struct Rows {
     threads: Vec<Option<ObjectId>>,
-    rows: Vec<[Option<(ObjectId, Rights)>; 16]>,
+    rows: Vec<Row>,
     // No slot before this one is a thread's.
     first: usize,
 }
@@ -78,8 +79,10 @@ impl Rows {
     {
         let mut threads = Vec::new(alloc);
         threads.resize(slots, None)?;
-        let mut rows = Vec::new(alloc);
-        rows.resize(slots, [None; 16])?;
+        let mut rows = Vec::with_capacity(alloc, slots)?;
+        for _slot in 0..slots {
+            rows.push_reserved(Row::blank());
+        }
         Ok(Rows {
             threads,
             rows,
@@ -128,7 +131,7 @@ impl Rows {
         ensures counted { meter.new ≡ probed 1 meter.old }
     {
         meter.probe();
-        self.rows[slot.0][place]
+        self.rows[slot.0].at(place)
     }
 
     /// A slot is this thread's, and has this row. All other slots stay.
@@ -139,7 +142,8 @@ impl Rows {
     {
         self.first = self.first.min(slot.0);
         self.threads[slot.0] = Some(thread);
-        self.rows[slot.0] = row;
+        let kept = &mut self.rows[slot.0];
+        kept.set(&row);
     }
 
     /// A slot is no thread's, and shows nothing. All other slots stay. Nothing is written where it is
@@ -153,7 +157,8 @@ impl Rows {
         meter.probe();
         if self.threads[slot.0].is_some() {
             self.threads[slot.0] = None;
-            self.rows[slot.0] = [None; 16];
+            let kept = &mut self.rows[slot.0];
+            kept.clear();
         }
     }
 }
