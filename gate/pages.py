@@ -154,12 +154,11 @@ def compare_flows(report, room):
     """What flows reach is as the auditor tells it, and marked on the lines of these objects alone."""
     dump, start, category = FLOWS
     data = data_of(page_of(dump, f"{room}/page.html", "--from", start, "--category", category) or "")
-    traced = [int(it) for it in re.findall(r"^reaches (\d+)$", ran("./histar-audit", dump, "--from", start, "--category", category)[1], re.M)]
-    is_well = bool(traced) and data is not None and data["flow"] == {"from": int(start), "category": int(category), "reached": traced}
+    reached = [f"#{it}" for it in re.findall(r"^reaches (\d+)$", ran("./histar-audit", dump, "--from", start, "--category", category)[1], re.M)]
+    is_well = bool(reached) and data is not None and data["flow"] == {"from": f"#{start}", "category": f"#{category}", "reached": reached}
     lines = [it for step in data["steps"] for edit in step["edits"] for it in edit[2:]] if is_well else []
-    names = {f"#{it}" for it in traced}
-    is_well = is_well and all(it["reached"] == (it["text"].split()[0] in names) for it in lines)
-    report.counts(is_well, f"flows from {start} outside category {category} on a page: {traced}, {sum(it['reached'] for it in lines)} lines marked")
+    is_well = is_well and all(it["reached"] == (it["text"].split()[0] in reached) for it in lines)
+    report.counts(is_well, f"flows from {start} outside category {category} on a page: {reached}, {sum(it['reached'] for it in lines)} lines marked")
 
 
 def dom(file, fragment=""):

@@ -3,8 +3,8 @@ use Rattle.std.proofs.Common.{◌≡◌, ℕ, false, ◌||◌, List, [], ◌∷�
 use Rattle.base.specs.declared.ids.Category.{Category}
 use Rattle.call_text.specs.declared.known_names.Named.{Named}
 use Rattle.page_text.specs.Edits.{Edit}
-use Rattle.page_text.specs.Marked.{number_data, mark_data, line_data, edit_data}
-use Rattle.page_text.specs.Page.{flow_data, shown_data}
+use Rattle.page_text.specs.Marked.{mark_data, line_data, edit_data}
+use Rattle.page_text.specs.Page.{object_data, flow_data, shown_data}
 use Rattle.page_text.specs.Steps.{Step, told_data, step_data, step_edits}
 use Rattle.serde_json.specs.Data.{Data}
 use Rattle.serde_json.specs.View.{items_of}
@@ -28,12 +28,12 @@ no_step names reached p =
     (no_each (edit_data names reached p.before) (no_edit names reached p.before) (step_edits p))
     ∙ ap (λ b. b || false) (no_each told_data (λ t. refl) p.told)
 
-no_flow : (flow : Option (ℕ × Category)) (reached : List ℕ) → has_float (flow_data flow reached) ≡ false
-no_flow None reached = refl
-no_flow (Some flow) reached = ap (λ b. b || false) (no_each number_data (λ n. refl) reached)
+no_flow : (names : List Named) (flow : Option (ℕ × Category)) (reached : List ℕ) → has_float (flow_data names flow reached) ≡ false
+no_flow names None reached = refl
+no_flow names (Some flow) reached = ap (λ b. b || false) (no_each (object_data names) (λ id. refl) reached)
 
 pub no_float : (names : List Named) (flow : Option (ℕ × Category)) (reached : List ℕ) (steps : List Step)
     → has_float (shown_data names flow reached steps) ≡ false
 no_float names flow reached steps =
-    ap (λ b. b || (items_have_float (items_of (map (step_data names reached) steps)) || false)) (no_flow flow reached)
+    ap (λ b. b || (items_have_float (items_of (map (step_data names reached) steps)) || false)) (no_flow names flow reached)
     ∙ ap (λ b. b || false) (no_each (step_data names reached) (no_step names reached) steps)

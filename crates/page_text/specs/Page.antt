@@ -1,29 +1,44 @@
 -- The page of a dump: a fixed head, its data as JSON, and a fixed tail.
 use Rattle.std.specs.Prelude.{ℕ, ◌==◌, List, [], ◌∷◌, ◌++◌, map, codes, Option, Some, None, if◌then◌else◌}
 use Rattle.base.specs.declared.ids.Category.{Category}
+use Rattle.call_text.specs.ReplyWord.{value_text}
 use Rattle.call_text.specs.declared.known_names.Named.{Named}
+use Rattle.call_text.specs.declared.known_names.Value.{Value}
+use Rattle.call_text.specs.declared.known_names.Value.TheVariants.{Object as OfObject, Category as OfCategory}
 use Rattle.dump_text.specs.Lists.{DumpLists}
 use Rattle.dump_text.specs.Whole.{start_with}
-use Rattle.page_text.specs.Marked.{number_data}
 use Rattle.page_text.specs.Steps.{Step, turns, steps_of, step_data}
 use Rattle.page_text.specs.Told.{told_in}
 use Rattle.page_text.specs.declared.frame.TheConstants.{HEAD, TAIL}
 use Rattle.serde_json.specs.Data.{Data, null, array, object, member, no_members}
 use Rattle.serde_json.specs.View.{items_of}
 use Rattle.serde_json.specs.Written.{compact_text}
+use Rattle.shown_dumps.specs.Json.{word_data}
+
+-- an object or a category by its name, or by its number where it has none
+abbrev pub value_data : List Named → Value → Data
+value_data names value = word_data (value_text names value)
+
+abbrev pub object_data : List Named → ℕ → Data
+object_data names id = value_data names (OfObject id)
+
+-- the category and the object of a question, and what it reaches
+abbrev pub question_data : Data → Data → List Data → Data
+question_data category from reached =
+    object (member (codes "category") category
+    (member (codes "from") from
+    (member (codes "reached") (array (items_of reached)) no_members)))
 
 -- the flows that are asked for, and the objects that they reach
-abbrev pub flow_data : Option (ℕ × Category) → List ℕ → Data
-flow_data None reached = null
-flow_data (Some flow) reached =
-    object (member (codes "category") (number_data flow.1.0)
-    (member (codes "from") (number_data flow.0)
-    (member (codes "reached") (array (items_of (map number_data reached))) no_members)))
+abbrev pub flow_data : List Named → Option (ℕ × Category) → List ℕ → Data
+flow_data names None reached = null
+flow_data names (Some flow) reached =
+    question_data (value_data names (OfCategory flow.1)) (object_data names flow.0) (map (object_data names) reached)
 
 -- what a page shows
 abbrev pub shown_data : List Named → Option (ℕ × Category) → List ℕ → List Step → Data
 shown_data names flow reached steps =
-    object (member (codes "flow") (flow_data flow reached)
+    object (member (codes "flow") (flow_data names flow reached)
     (member (codes "steps") (array (items_of (map (step_data names reached) steps))) no_members))
 
 -- of a dump, its steps from the state that its events begin in

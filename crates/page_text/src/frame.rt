@@ -115,8 +115,8 @@ function shown(line, isNew) {
 
 function showFlow() {
   if (!page.flow) return;
-  const ids = page.flow.reached.map((id) => ' #' + id).join('');
-  byId('flow').textContent = `Flows from #${page.flow.from} outside category #${page.flow.category} reach${ids || ' nothing'}.`;
+  const reached = page.flow.reached.join(' ') || 'nothing';
+  byId('flow').textContent = `Flows from ${page.flow.from} outside category ${page.flow.category} reach ${reached}.`;
 }
 
 function listEvents() {

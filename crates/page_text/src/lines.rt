@@ -118,12 +118,16 @@ fn first_word(line: &[u8]) -> &[u8]
     }
 }
 
-/// The name or the number of an object, as a line has it.
-fn object_word(alloc: Global, names: &[Named], id: ObjectId) -> Result<Vec<u8>, NoMemory>
-    ensures { IfOk result (λ word. word.items ≡ value_text names.now (OfObject id)) }
+/// The name of an object or a category, or its number, as a line has it.
+pub fn named_word(
+    alloc: Global,
+    names: &[Named],
+    value: &call_text::Value,
+) -> Result<Vec<u8>, NoMemory>
+    ensures { IfOk result (λ word. word.items ≡ value_text names.now value.now) }
 {
     let mut word = Vec::new(alloc);
-    put_value(&mut word, &call_text::Value::Object(id), names)?;
+    put_value(&mut word, value, names)?;
     Ok(word)
 }
 
@@ -139,7 +143,8 @@ fn begins_with_one(
 {
     let word = first_word(line);
     for id in ids {
-        if object_word(alloc, names, *id)?.as_slice() == word {
+        let own = named_word(alloc, names, &call_text::Value::Object(*id))?;
+        if own.as_slice() == word {
             return Ok(true);
         }
     }

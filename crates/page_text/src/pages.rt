@@ -1,8 +1,6 @@
 //! The page of a dump.
 ghost use Rattle.std.specs.Prelude.{◌≡◌, false, List, map, IfOk};
-ghost use Rattle.call_text.specs.declared.known_names.Named.{Named as NamedValue};
-ghost use Rattle.page_text.specs.Marked.{number_data};
-ghost use Rattle.page_text.specs.Page.{flow_data, shown_data, framed, page_text};
+ghost use Rattle.page_text.specs.Page.{value_data, object_data, question_data, flow_data, shown_data, framed, page_text};
 ghost use Rattle.page_text.specs.Shown.{IsPage};
 ghost use Rattle.page_text.specs.Steps.{Step, turns, steps_of, step_data};
 ghost use Rattle.page_text.specs.Told.{told_in};
@@ -12,6 +10,7 @@ ghost use Rattle.serde_json.specs.Written.{has_float, compact_text};
 
 use crate::escaping::escaped;
 use crate::frame::{HEAD, TAIL};
+use crate::lines::named_word;
 use crate::steps::{Source, step_values};
 use auditor::clean_dumps::begin;
 use base::{Category, Meter, NoMemory, ObjectId};
@@ -20,48 +19,73 @@ use dump_text::Dump;
 use plain_state::PlainState;
 use serde_json::{Value, json, push};
 use shown_dumps::dot::{DotFault, red_in};
+use shown_dumps::json::word_value;
 use shown_dumps::states::{ShowFault, dump_in};
-use std::alloc::Global;
+use std::alloc::{AllocError, Global};
 
-/// Ids as JSON.
-fn id_values(alloc: Global, ids: &[ObjectId]) -> Result<Vec<Value>, NoMemory>
-    ensures { IfOk result (λ values. map view values.items ≡ map number_data ids.now) }
+/// An object or a category as JSON: its name, or its number.
+fn named_value(alloc: Global, names: &[Named], value: &call_text::Value) -> Result<Value, NoMemory>
+    ensures { IfOk result (λ told. view told ≡ value_data names.now value.now) }
+{
+    let word = named_word(alloc, names, value)?;
+    Ok(word_value(alloc, word.as_slice())?)
+}
+
+/// Objects as JSON.
+fn object_values(alloc: Global, names: &[Named], ids: &[ObjectId]) -> Result<Vec<Value>, NoMemory>
+    ensures { IfOk result (λ values. map view values.items ≡ map (object_data names.now) ids.now) }
 {
     let mut values = Vec::new(alloc);
     for id in ids {
-        push(&mut values, json!(in alloc; id.number())?)?;
+        let value = named_value(alloc, names, &call_text::Value::Object(*id))?;
+        push(&mut values, value)?;
     }
     Ok(values)
+}
+
+/// A question and what it reaches, as JSON.
+fn question_value(
+    alloc: Global,
+    category: Value,
+    from: Value,
+    objects: Vec<Value>,
+) -> Result<Value, AllocError>
+    ensures { IfOk result (λ value. view value ≡ question_data (view category) (view from) (map view objects.items)) }
+{
+    let reached = Value::Array(objects);
+    json!(in alloc; {"category": category, "from": from, "reached": reached})
 }
 
 /// The flows that are asked for and what they reach, as JSON.
 fn flow_value(
     alloc: Global,
+    names: &[Named],
     flow: Option<(ObjectId, Category)>,
     reached: &[ObjectId],
 ) -> Result<Value, NoMemory>
-    ensures { IfOk result (λ value. view value ≡ flow_data flow reached.now) }
+    ensures { IfOk result (λ value. view value ≡ flow_data names.now flow reached.now) }
 {
     let Some(asked) = flow else {
         return Ok(Value::Null);
     };
-    let ids = Value::Array(id_values(alloc, reached)?);
-    let from = asked.0.number();
-    let category = asked.1.0;
-    Ok(json!(in alloc; {"category": category, "from": from, "reached": ids})?)
+    let objects = object_values(alloc, names, reached)?;
+    let from = named_value(alloc, names, &call_text::Value::Object(asked.0))?;
+    let category = named_value(alloc, names, &call_text::Value::Category(asked.1))?;
+    Ok(question_value(alloc, category, from, objects)?)
 }
 
 /// What the page shows, as JSON.
 fn shown_value(
     alloc: Global,
+    names: &[Named],
     flow: Option<(ObjectId, Category)>,
     reached: &[ObjectId],
     steps: Vec<Value>,
 ) -> Result<Value, NoMemory>
-    ensures { (names : List NamedValue) (list : List Step) → map view steps.items ≡ map (step_data names reached.now) list
-        → IfOk result (λ value. view value ≡ shown_data names flow reached.now list) }
+    ensures { (list : List Step) → map view steps.items ≡ map (step_data names.now reached.now) list
+        → IfOk result (λ value. view value ≡ shown_data names.now flow reached.now list) }
 {
-    let flow = flow_value(alloc, flow, reached)?;
+    let flow = flow_value(alloc, names, flow, reached)?;
     let steps = Value::Array(steps);
     Ok(json!(in alloc; {"flow": flow, "steps": steps})?)
 }
@@ -97,7 +121,7 @@ fn page_of(
     let alloc = state.alloc();
     let mut meter = Meter::new(alloc)?;
     let steps = step_values(source, state, &mut meter)?;
-    let shown = shown_value(alloc, flow, source.reached, steps)?;
+    let shown = shown_value(alloc, source.names, flow, source.reached, steps)?;
     let told = value_text(alloc, &shown)?;
     framed(alloc, told.as_slice())
 }

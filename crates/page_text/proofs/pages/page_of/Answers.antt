@@ -14,7 +14,7 @@ returns c =
     let steps : List Step =
     steps_of c.args.source.now.names.now (told_in c.args.source.now.text.now) (state_of c.args.state) (turns c.args.source.now.events.now c.args.source.now.reads.now) in
     let is : view c.in_ok-shown.shown ≡ shown_data c.args.source.now.names.now c.args.flow c.args.source.now.reached.now steps =
-    c.in_ok-shown.ensures c.args.source.now.names.now steps c.in_ok-steps.ensures in
+    c.in_ok-shown.ensures steps c.in_ok-steps.ensures in
     subst (λ (l : List ℕ). IfOk c.framed.result (λ told. told.items ≡ framed l))
     (c.as_slice.ensures.value
     ∙ (c.in_ok-told.ensures
