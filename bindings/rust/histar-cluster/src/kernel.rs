@@ -1,11 +1,16 @@
 //! The proved kernel as the machine of a cluster.
 use crate::spelling::{put_number, take_number};
-use crate::Machine;
+use crate::{Machine, Unrestored, Written};
 use histar::trusted::{session_of, Record, Thread};
 use histar::{Kernel, Level, Limits, Refusal, Reply};
 
 /// The levels that a device may have, by their numbers.
 const LEVELS: [Level; 4] = [Level::L0, Level::L1, Level::L2, Level::L3];
+
+/// The number of a device's level. No kernel boots with one that has none.
+fn number_of(device: Level) -> u64 {
+    LEVELS.iter().position(|level| *level == device).unwrap_or(LEVELS.len()) as u64
+}
 
 /// The bytes of limits, as each node of a cluster boots with them.
 ///
@@ -14,9 +19,8 @@ const LEVELS: [Level; 4] = [Level::L0, Level::L1, Level::L2, Level::L3];
 /// assert_eq!(limits(&histar::Limits::pages(64)), [64, 1, 4, 1]);
 /// ```
 pub fn limits(limits: &Limits) -> Vec<u8> {
-    let level = LEVELS.iter().position(|level| *level == limits.device).unwrap_or(LEVELS.len());
     let mut out = Vec::new();
-    for number in [u64::from(limits.pages), level as u64, limits.next_id, limits.next_category] {
+    for number in [u64::from(limits.pages), number_of(limits.device), limits.next_id, limits.next_category] {
         put_number(&mut out, number);
     }
     out
@@ -29,13 +33,26 @@ fn limits_of(mut bytes: &[u8]) -> Option<Limits> {
     bytes.is_empty().then_some(Limits { pages, device, next_id, next_category })
 }
 
+/// How the text of a checkpoint begins whose kernel has these limits.
+fn head_of(limits: &Limits) -> String {
+    let Limits { pages, device, next_id, next_category } = limits;
+    format!("histar-dump 2\nlimits {pages} {} {next_id} {next_category}\n", number_of(*device))
+}
+
+/// Why no kernel was opened at a text.
+fn unopened(why: Refusal) -> Unrestored {
+    match why {
+        Refusal::TextFault | Refusal::HasEvents | Refusal::IllFormed | Refusal::BadLimits => Unrestored::NoState,
+        _ => Unrestored::NoMemory,
+    }
+}
+
 fn put_numbers(out: &mut Vec<u8>, numbers: [u64; 3]) {
     numbers.iter().for_each(|number| put_number(out, *number));
 }
 
 /// A kernel keeps no log of its own here: a call may be refused for want of memory to keep it, which is no rule of the kernel.
-///
-/// It gives no checkpoint, so a cluster of kernels keeps its whole log: one that lacks memory for the text would seem to be in another state.
+/// So its text has the limits and the state alone, and is the same on each node.
 impl Machine for Kernel {
     type Call = Record;
     type Reply = Result<Reply, Refusal>;
@@ -59,12 +76,23 @@ impl Machine for Kernel {
         session_of(self, Thread(thread)).self_get() != Err(Refusal::Halted)
     }
 
-    fn checkpoint(&self) -> Option<Vec<u8>> {
-        None
+    fn checkpoint(&self) -> Written {
+        Kernel::checkpoint(self).map_or(Written::NoMemory, |text| Written::State(text.into_bytes()))
     }
 
-    fn restore(_limits: &[u8], _state: &[u8]) -> Option<Kernel> {
-        None
+    /// An open looks at a part of the text, so what it opens is written down again: another text of the same kernel is no checkpoint.
+    fn restore(limits: &[u8], state: &[u8]) -> Result<Kernel, Unrestored> {
+        let head = limits_of(limits).map(|limits| head_of(&limits)).ok_or(Unrestored::NoState)?;
+        if !state.starts_with(head.as_bytes()) {
+            return Err(Unrestored::NoState);
+        }
+        let kernel = Kernel::open_at(state).map_err(unopened)?;
+        let text = kernel.checkpoint().map_err(unopened)?;
+        if text.as_bytes() == state {
+            Ok(kernel)
+        } else {
+            Err(Unrestored::NoState)
+        }
     }
 
     fn thread(call: &Record) -> u64 {

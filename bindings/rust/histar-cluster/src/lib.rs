@@ -25,7 +25,7 @@ mod survey;
 pub use entry::Item;
 pub use kernel::limits;
 pub use keys::{Incarnation, Key, Lane, Name};
-pub use machine::Machine;
+pub use machine::{Machine, Unrestored, Written};
 pub use node::{Node, Options, Output, Status, LOOK};
 pub use receipt::{Fault, Note, Receipt, Told};
 pub use running::{Called, Running, Uncalled, Waiting};

@@ -1,5 +1,25 @@
 //! The replicated machine: a kernel, as a cluster needs it.
 
+/// A machine's state as bytes.
+#[derive(Clone, PartialEq, Eq, Debug)]
+pub enum Written {
+    /// The state. Each machine that is in it has these bytes.
+    State(Vec<u8>),
+    /// A machine of this kind is never begun at a state, on no node.
+    Never,
+    /// This node lacks memory for the bytes now. Other nodes may have them.
+    NoMemory,
+}
+
+/// Why there is no machine in a state.
+#[derive(Clone, PartialEq, Eq, Debug)]
+pub enum Unrestored {
+    /// The bytes are no state of a machine with these limits.
+    NoState,
+    /// They may be one, and this node lacks memory for the machine now.
+    NoMemory,
+}
+
 /// What each node plays the log on. Two machines that were booted alike and played alike give the same replies: nothing else, as a
 /// clock, the memory that is left or the order of a hash map, has a part in a reply.
 pub trait Machine: Sized {
@@ -26,11 +46,14 @@ pub trait Machine: Sized {
     /// Whether a thread is there.
     fn is_live(&self, thread: u64) -> bool;
 
-    /// The whole state, or none where the machine can't be begun at one.
-    fn checkpoint(&self) -> Option<Vec<u8>>;
+    /// The whole state.
+    fn checkpoint(&self) -> Written;
 
-    /// A machine in the state of a checkpoint. None where the bytes are no checkpoint.
-    fn restore(limits: &[u8], state: &[u8]) -> Option<Self>;
+    /// A machine in a state that [`checkpoint`](Machine::checkpoint) gave, booted with these limits.
+    ///
+    /// # Errors
+    /// Why there is none.
+    fn restore(limits: &[u8], state: &[u8]) -> Result<Self, Unrestored>;
 
     /// The thread that makes a call.
     fn thread(call: &Self::Call) -> u64;

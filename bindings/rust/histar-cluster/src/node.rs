@@ -96,6 +96,8 @@ pub struct Status {
     pub incarnation: Option<u64>,
     /// How many submissions wait for their receipt.
     pub waiting: usize,
+    /// The last place for whose checkpoint the node lacked memory. It keeps its own keys up to the next one for which it does not.
+    pub unwritten: Option<u64>,
     /// Why the engine does not do what the node asks, as that it has no space. What waits goes on once it does.
     pub trouble: Option<String>,
 }
@@ -110,6 +112,7 @@ pub struct Node<M: Machine> {
     reached: u64,
     // The last marks that the node came by.
     marks: BTreeMap<u64, Mark>,
+    unwritten: Option<u64>,
     agreements: Agreements,
     dropped: u64,
     drops: VecDeque<Request>,
@@ -143,6 +146,7 @@ impl<M: Machine> Node<M> {
             boot: None,
             reached: 0,
             marks: BTreeMap::new(),
+            unwritten: None,
             agreements: Agreements::default(),
             dropped: 0,
             drops: VecDeque::new(),
@@ -194,6 +198,7 @@ impl<M: Machine> Node<M> {
             digest: state.digest(),
             incarnation,
             waiting: self.queue.len() + self.writer.waiting(),
+            unwritten: self.unwritten,
             trouble: self.trouble.clone(),
         })
     }

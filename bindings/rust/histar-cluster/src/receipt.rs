@@ -54,8 +54,11 @@ pub enum Fault {
     UnknownRules(u64),
     /// Another node has another state at this place: one of both played another log, or does not keep the rules.
     Differs(u64),
-    /// The log was dropped, and no checkpoint is there that two nodes agree on and that can be restored.
+    /// No checkpoint is there that is one of this cluster and that two nodes agree on, and what is left of the log does not lead to the state
+    /// that they agree on.
     NoCheckpoint,
+    /// The node lacks memory for a checkpoint that it can't do without: to begin at it, or to see that it is in the state that others agree on.
+    NoMemory,
 }
 
 impl fmt::Display for Fault {
@@ -68,6 +71,7 @@ impl fmt::Display for Fault {
             Fault::UnknownRules(rules) => write!(f, "the log changes to rules {rules}, which this node does not know"),
             Fault::Differs(place) => write!(f, "another node has another state at place {place}"),
             Fault::NoCheckpoint => f.write_str("the log was dropped, and no checkpoint can be restored"),
+            Fault::NoMemory => f.write_str("there is no memory for a checkpoint"),
         }
     }
 }

@@ -4,7 +4,7 @@ use crate::keys::{Keys, Lane, LogKey};
 use crate::order::{Order, Turn};
 use crate::sha256::{sha256, Digest};
 use crate::spelling::{put_bytes, put_number, take, take_bytes, take_number};
-use crate::{Fault, Machine, Name, Told};
+use crate::{Fault, Machine, Name, Told, Unrestored, Written};
 use std::collections::BTreeMap;
 
 /// The thread that a machine boots with.
@@ -12,6 +12,9 @@ const BOOT_THREAD: u64 = 2;
 
 /// The first byte of each checkpoint.
 const FORMAT: u8 = 1;
+
+/// A checkpoint of more bytes is not put: an engine takes no such value. etcd takes 1.5 MiB with a key, if it isn't told otherwise.
+pub(crate) const MOST_BYTES: usize = 1 << 20;
 
 /// What each node of a cluster boots with, as the key `boot` has it.
 #[derive(Clone, PartialEq, Eq, Debug)]
@@ -50,14 +53,19 @@ pub(crate) struct Mark {
     pub writer: Name,
     /// The digest of the checkpoint, with which other nodes compare theirs.
     pub digest: Digest,
-    /// The checkpoint, where the machine can be begun at one.
+    /// The checkpoint, where the machine can be begun at one and an engine takes it.
     pub checkpoint: Option<Vec<u8>>,
 }
+
+/// The node lacks memory for a checkpoint, so it has no mark of the place. A digest of anything less would be that of another state, and without
+/// one the node is in nobody's way: others agree at the place, and it does at the next one.
+#[derive(Debug)]
+pub(crate) struct NoMemory;
 
 /// What came of a key of the log.
 pub(crate) enum Step<R> {
     /// An entry counted, and its items were answered.
-    Entry { lane: Lane, number: u64, told: Vec<Told<R>>, mark: Option<Mark> },
+    Entry { lane: Lane, number: u64, told: Vec<Told<R>>, mark: Option<Result<Mark, NoMemory>> },
     /// An incarnation was closed.
     Closed,
     /// A node has a digest of a place.
@@ -191,7 +199,7 @@ impl<M: Machine> State<M> {
     }
 
     /// The mark at the place of the last entry, if one stands there. What nobody needs any more is forgotten at it, on each node alike.
-    fn mark(&mut self, writer: &Name) -> Option<Mark> {
+    fn mark(&mut self, writer: &Name) -> Option<Result<Mark, NoMemory>> {
         if self.entries % self.boot.interval != 0 {
             return None;
         }
@@ -199,14 +207,19 @@ impl<M: Machine> State<M> {
         self.owners.retain(|thread, _| machine.is_live(*thread));
         self.order.forget(self.marked);
         self.marked = self.place;
-        let checkpoint = self.machine.checkpoint();
-        let bytes = self.bytes(checkpoint.as_deref().unwrap_or_default());
-        Some(Mark {
-            place: self.place,
-            writer: writer.clone(),
-            digest: sha256(&bytes),
-            checkpoint: checkpoint.map(|_| bytes),
-        })
+        Some(self.written(writer.clone()))
+    }
+
+    /// The digest is of all bytes, whether a node puts them or not.
+    fn written(&self, writer: Name) -> Result<Mark, NoMemory> {
+        let (bytes, is_begun_at) = match self.machine.checkpoint() {
+            Written::State(state) => (self.bytes(&state), true),
+            Written::Never => (self.bytes(&[]), false),
+            Written::NoMemory => return Err(NoMemory),
+        };
+        let digest = sha256(&bytes);
+        let checkpoint = Some(bytes).filter(|bytes| is_begun_at && bytes.len() <= MOST_BYTES);
+        Ok(Mark { place: self.place, writer, digest, checkpoint })
     }
 
     /// The bytes of a checkpoint, with those of the machine.
@@ -224,8 +237,18 @@ impl<M: Machine> State<M> {
         out
     }
 
-    /// The state of a checkpoint. None where the bytes are no checkpoint of this cluster.
-    pub fn restore(keys: Keys, boot: Boot, bytes: &[u8]) -> Option<State<M>> {
+    /// The state of a checkpoint of this place.
+    pub fn restore(keys: Keys, boot: Boot, place: u64, bytes: &[u8]) -> Result<State<M>, Fault> {
+        let state = State::take(keys, boot, bytes).unwrap_or(Err(Fault::NoCheckpoint))?;
+        if state.place == place {
+            Ok(state)
+        } else {
+            Err(Fault::NoCheckpoint)
+        }
+    }
+
+    /// The state of a checkpoint. None where the bytes are none.
+    fn take(keys: Keys, boot: Boot, bytes: &[u8]) -> Option<Result<State<M>, Fault>> {
         let rest = &mut bytes.strip_prefix(&[FORMAT])?;
         let (place, marked, entries, rules) =
             (take_number(rest)?, take_number(rest)?, take_number(rest)?, take_number(rest)?);
@@ -236,8 +259,8 @@ impl<M: Machine> State<M> {
             let thread = take_number(rest)?;
             owners.insert(thread, Name::new(std::str::from_utf8(take_bytes(rest)?).ok()?)?);
         }
-        let mut machine = M::restore(&boot.limits, rest)?;
-        machine.set_rules(rules).then_some(State {
+        let restored = restored(&boot.limits, rules, rest);
+        Some(restored.map(|machine| State {
             keys,
             boot,
             machine,
@@ -248,6 +271,19 @@ impl<M: Machine> State<M> {
             place,
             marked,
             digest,
-        })
+        }))
+    }
+}
+
+/// A machine in a state, under these rules.
+fn restored<M: Machine>(limits: &[u8], rules: u64, state: &[u8]) -> Result<M, Fault> {
+    let mut machine = M::restore(limits, state).map_err(|why| match why {
+        Unrestored::NoState => Fault::NoCheckpoint,
+        Unrestored::NoMemory => Fault::NoMemory,
+    })?;
+    if machine.set_rules(rules) {
+        Ok(machine)
+    } else {
+        Err(Fault::UnknownRules(rules))
     }
 }

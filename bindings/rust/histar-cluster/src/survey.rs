@@ -1,11 +1,13 @@
 //! What an operator and an auditor read of a cluster's keys.
+use crate::agreements::Agreements;
 use crate::engine::Pair;
 use crate::keys::{Keys, LogKey};
 use crate::receipt::Fault;
+use crate::sha256::{sha256, Digest};
 use crate::spelling::take_number;
-use crate::state::{Boot, State};
+use crate::state::{Boot, State, Step};
 use crate::Name;
-use histar::Kernel;
+use histar::{Kernel, Refusal};
 use std::collections::BTreeMap;
 use std::fmt;
 
@@ -130,19 +132,99 @@ pub fn range(cluster: &Name) -> (Vec<u8>, Vec<u8>) {
     (format!("/{cluster}/").into_bytes(), format!("/{cluster}0").into_bytes())
 }
 
-/// The dump of a kernel that plays the whole log, for `histar-audit`. The pairs are all keys of the cluster at one revision.
+/// The keys of a cluster, as they are played again.
+struct Log<'p> {
+    keys: Keys,
+    boot: Boot,
+    // By rising place.
+    pairs: Vec<&'p Pair>,
+    // The places that two nodes agree on, by rising place.
+    agreed: Vec<(u64, Digest, Name)>,
+}
+
+/// The place and the bytes of a checkpoint; none for the boot.
+type Start<'p> = Option<(u64, &'p [u8])>;
+
+impl<'p> Log<'p> {
+    fn new(cluster: &Name, pairs: &'p [Pair]) -> Result<Log<'p>, Fault> {
+        let keys = Keys::new(cluster.clone());
+        let boot = pairs.iter().find(|pair| pair.key == keys.boot()).and_then(|pair| Boot::read(&pair.value));
+        let mut agreements = Agreements::default();
+        for pair in pairs {
+            if let (Some(LogKey::Agree(node, place)), Ok(digest)) = (keys.read(&pair.key), pair.value[..].try_into()) {
+                agreements.add(node, place, digest);
+            }
+        }
+        let mut pairs: Vec<&Pair> = pairs.iter().collect();
+        pairs.sort_by_key(|pair| pair.created);
+        Ok(Log { keys, boot: boot.ok_or(Fault::OtherBoot)?, pairs, agreed: agreements.above(0) })
+    }
+
+    /// Where a replay may begin, the first place first.
+    fn starts(&self) -> Vec<Start<'p>> {
+        let checkpoints = self.agreed.iter().filter_map(|(place, digest, node)| {
+            let key = self.keys.state(node, *place);
+            let found = self.pairs.iter().find(|pair| pair.key == key && sha256(&pair.value) == *digest)?;
+            Some((*place, &found.value[..]))
+        });
+        std::iter::once(None).chain(checkpoints.map(Some)).collect()
+    }
+
+    fn state(&self, start: Start<'_>) -> Result<State<Kernel>, Fault> {
+        let (keys, boot) = (self.keys.clone(), self.boot.clone());
+        match start {
+            None => State::new(keys, boot),
+            Some((place, bytes)) => State::restore(keys, boot, place, bytes),
+        }
+    }
+
+    /// Plays what comes after a state. The digests of the marks.
+    fn play(&self, state: &mut State<Kernel>) -> Result<Vec<(u64, Digest)>, Fault> {
+        let place = state.place;
+        let mut marks = Vec::new();
+        for pair in self.pairs.iter().filter(|pair| pair.created > place) {
+            if let Step::Entry { mark: Some(Ok(mark)), .. } = state.play(pair.created, &pair.key, &pair.value)? {
+                marks.push((mark.place, mark.digest));
+            }
+        }
+        Ok(marks)
+    }
+
+    /// Whether what is left of the log after a start leads to the last state that two nodes agree on.
+    fn check(&self, start: Start<'_>) -> Result<(), Fault> {
+        let marks = self.play(&mut self.state(start)?)?;
+        let begins_at = |place| start.is_some_and(|(start, _)| start == place);
+        match self.agreed.last() {
+            Some((place, digest, _)) if !begins_at(*place) && !marks.contains(&(*place, *digest)) => {
+                Err(Fault::NoCheckpoint)
+            }
+            _ => Ok(()),
+        }
+    }
+
+    /// The dump of a kernel that plays what comes after a start.
+    fn dump(&self, start: Start<'_>) -> Result<String, Fault> {
+        let no_machine = |why: Refusal| Fault::NoMachine(why.to_string());
+        let mut state = self.state(start)?;
+        state.machine.log_on().map_err(no_machine)?;
+        self.play(&mut state)?; // (a kernel with a log writes another text, so its marks tell nothing)
+        state.machine.dump().map_err(no_machine)
+    }
+}
+
+/// The dump of a kernel that plays the log, for `histar-audit`: the whole of it, or what comes after the first checkpoint from which on it is
+/// whole. The pairs are all keys of the cluster at one revision.
 ///
 /// # Errors
 /// Why the log can't be played.
 pub fn audit(cluster: &Name, pairs: &[Pair]) -> Result<String, Fault> {
-    let keys = Keys::new(cluster.clone());
-    let boot = pairs.iter().find(|pair| pair.key == keys.boot()).and_then(|pair| Boot::read(&pair.value));
-    let mut state = State::<Kernel>::new(keys, boot.ok_or(Fault::OtherBoot)?)?;
-    state.machine.log_on().map_err(|why| Fault::NoMachine(why.to_string()))?;
-    let mut log: Vec<&Pair> = pairs.iter().collect();
-    log.sort_by_key(|pair| pair.created);
-    for pair in log {
-        state.play(pair.created, &pair.key, &pair.value)?;
+    let log = Log::new(cluster, pairs)?;
+    let mut why = Fault::NoCheckpoint;
+    for start in log.starts() {
+        match log.check(start) {
+            Ok(()) => return log.dump(start),
+            Err(fault) => why = fault,
+        }
     }
-    state.machine.dump().map_err(|why| Fault::NoMachine(why.to_string()))
+    Err(why)
 }

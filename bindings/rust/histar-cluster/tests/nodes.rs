@@ -16,6 +16,11 @@ fn options(node: &str) -> Options {
     Options { cluster: name("c"), node: name(node), limits: b"limits".to_vec(), lanes: 2, interval: 4, any: 1 }
 }
 
+/// A node of a cluster whose checkpoints are too long for an engine.
+fn open_long(store: &Memory, node: &str) -> Running<Model> {
+    Running::open(store.clone(), Options { limits: model::LONG.to_vec(), ..options(node) })
+}
+
 fn open(store: &Memory, node: &str) -> Running<Model> {
     Running::open(store.clone(), options(node))
 }
@@ -151,6 +156,28 @@ fn a_checkpoint_that_nobody_can_restore_stops_a_new_node() {
         store.put(b"/c/state/west/2100", b"nothing", None);
     });
     assert_eq!(stops(&open(&store, "south")), Fault::NoCheckpoint);
+}
+
+#[test]
+fn a_checkpoint_that_is_too_long_is_agreed_on_and_not_put() {
+    let store = Memory::new();
+    let north = open_long(&store, "north");
+    let south = open_long(&store, "south");
+    south.latest().expect("a note");
+    for number in 1..30 {
+        told(&north, &[call(2, number, 0)]);
+    }
+    let found = |of: &str| store.store().range(of.as_bytes(), format!("{of}~").as_bytes(), u64::MAX);
+    while found("/c/log/a/north/").len() < 7 || found("/c/log/a/south/").len() < 7 {
+        std::thread::yield_now();
+    }
+    std::thread::sleep(Duration::from_millis(2500)); // (a node looks each second how far the others are)
+    assert_eq!((found("/c/state/").len(), found("/c/log/e/north/").len() >= 30), (0, true));
+    // (a new node plays the whole log, and comes by what the others agree on)
+    let east = open_long(&store, "east");
+    let note = east.latest().expect("a note");
+    assert_eq!((north.reaches(note), south.reaches(note)), (Ok(()), Ok(())));
+    assert_eq!(north.status().map(|it| it.digest), east.status().map(|it| it.digest));
 }
 
 #[path = "../src/sha256.rs"]

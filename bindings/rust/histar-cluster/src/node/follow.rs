@@ -1,11 +1,11 @@
 //! Booting, loading the log by pages, and following it by a watch.
-use super::pages::Then;
+use super::pages::{Agreed, Then};
 use super::{Asked, Node, Phase, Purpose};
 use crate::engine::{Answer, Event, Pair, Request};
 use crate::keys::{after, end_of, Key, LogKey};
 use crate::receipt::Fault;
 use crate::sha256::{sha256, Digest};
-use crate::state::{Boot, State, Step};
+use crate::state::{Boot, NoMemory, State, Step};
 use crate::Machine;
 
 /// A watch that is farther behind is slower than pages.
@@ -48,43 +48,37 @@ impl<M: Machine> Node<M> {
             }
         }
         let agreed = self.agreements.above(self.reached).into_iter();
-        let others = agreed.map(|(place, digest, node)| (place, digest, self.keys.state(&node, place))).collect();
-        self.try_checkpoint(at, others);
+        let all: Vec<_> = agreed.map(|(place, digest, node)| (place, digest, self.keys.state(&node, place))).collect();
+        let newest = all.last().map(|(place, digest, _)| (*place, *digest));
+        self.try_checkpoint(at, Agreed { newest, others: all });
     }
 
-    fn try_checkpoint(&mut self, at: u64, mut others: Vec<(u64, Digest, Key)>) {
-        match others.pop() {
-            Some((place, digest, key)) => self.read_key(key, at, Then::Checkpoint { place, digest, others }),
-            None => self.load_log(at),
+    fn try_checkpoint(&mut self, at: u64, mut agreed: Agreed) {
+        match agreed.others.pop() {
+            Some((place, digest, key)) => self.read_key(key, at, Then::Checkpoint { place, digest, agreed }),
+            None => self.load_log(at, agreed.newest),
         }
     }
 
     /// Begins at a checkpoint, if it was put and is the one that nodes agree on.
-    pub(super) fn begin_at(
-        &mut self,
-        at: u64,
-        place: u64,
-        digest: Digest,
-        found: Vec<Pair>,
-        others: Vec<(u64, Digest, Key)>,
-    ) {
+    pub(super) fn begin_at(&mut self, at: u64, place: u64, digest: Digest, found: Vec<Pair>, agreed: Agreed) {
         let Some(pair) = found.first().filter(|pair| sha256(&pair.value) == digest) else {
-            return self.try_checkpoint(at, others);
+            return self.try_checkpoint(at, agreed);
         };
         let Some(boot) = self.boot.clone() else { return };
-        match State::restore(self.keys.clone(), boot, &pair.value).filter(|state| state.place == place) {
-            None => self.stop(Fault::NoCheckpoint),
-            Some(state) => {
+        match State::restore(self.keys.clone(), boot, place, &pair.value) {
+            Err(fault) => self.stop(fault),
+            Ok(state) => {
                 self.phase = Phase::Plays { state: Box::new(state), is_loading: true, is_watching: false };
                 self.reached = place;
                 self.jumped();
-                self.load_log(at);
+                self.load_log(at, agreed.newest.filter(|(newest, _)| *newest > place));
             }
         }
     }
 
-    /// Reads the keys of the log but those of the numbers that were played.
-    fn load_log(&mut self, at: u64) {
+    /// Reads the keys of the log but those of the numbers that were played. They have to lead to what nodes agree on.
+    fn load_log(&mut self, at: u64, wanted: Option<(u64, Digest)>) {
         let Some(state) = self.state() else { return };
         let lanes = state.order.lanes();
         let mut played: Vec<(Key, Key)> =
@@ -97,14 +91,19 @@ impl<M: Machine> Node<M> {
             from = last;
         }
         ranges.push((from, end));
-        self.read_ranges(ranges, at, Then::Log);
+        self.read_ranges(ranges, at, Then::Log { wanted });
     }
 
-    pub(super) fn play_pages(&mut self, at: u64, mut found: Vec<Pair>) {
+    /// Plays what is left of the log. Of a log that was dropped a part may be left that has no gap, where the checkpoint is not what it was.
+    pub(super) fn play_pages(&mut self, at: u64, mut found: Vec<Pair>, mut wanted: Option<(u64, Digest)>) {
         found.sort_by_key(|pair| pair.created);
         found.retain(|pair| pair.created > self.reached);
         for pair in found {
             self.play(pair.created, &pair.key, &pair.value);
+            wanted = wanted.filter(|(place, digest)| !self.has_mark(*place, digest));
+        }
+        if let Some((place, _)) = wanted {
+            return self.misses(place);
         }
         self.reached = self.reached.max(at);
         if let Phase::Plays { is_loading, .. } = &mut self.phase {
@@ -112,6 +111,15 @@ impl<M: Machine> Node<M> {
         }
         self.watch_unless_watching();
         self.register_unless_registered();
+    }
+
+    /// Stops: the node did not come by the state that nodes agree on at a place.
+    fn misses(&mut self, place: u64) {
+        match self.fault() {
+            None if self.unwritten >= Some(place) => self.stop(Fault::NoMemory),
+            None | Some(Fault::Gap | Fault::Differs(_)) => self.stop(Fault::NoCheckpoint),
+            Some(_) => {}
+        }
     }
 
     pub(super) fn watch_unless_watching(&mut self) {
@@ -157,8 +165,10 @@ impl<M: Machine> Node<M> {
             Err(fault) => return self.stop(fault),
             Ok(Step::Entry { lane, number, told, mark }) => {
                 self.is_played(&lane, number, place, told);
-                if let Some(mark) = mark {
-                    self.marked(mark);
+                match mark {
+                    Some(Ok(mark)) => self.marked(mark),
+                    Some(Err(NoMemory)) => self.unwritten = Some(place),
+                    None => {}
                 }
             }
             Ok(Step::Agreed { node, place, digest }) => self.agrees(node, place, digest),

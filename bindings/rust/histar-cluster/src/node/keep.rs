@@ -62,6 +62,11 @@ impl<M: Machine> Node<M> {
         self.compare(place);
     }
 
+    /// Whether the node came by a mark of this digest.
+    pub(super) fn has_mark(&self, place: u64, digest: &Digest) -> bool {
+        self.marks.get(&place).is_some_and(|mark| mark.digest == *digest)
+    }
+
     /// Stops where another node has another state at a place.
     fn compare(&mut self, place: u64) {
         if self.marks.get(&place).is_some_and(|mark| self.agreements.is_disputed(place, &mark.digest)) {

@@ -6,6 +6,12 @@ use crate::sha256::Digest;
 use crate::Machine;
 use std::collections::{BTreeSet, VecDeque};
 
+/// The places that nodes agree on: the newest one, and those whose checkpoints were not tried yet, by rising place.
+pub(super) struct Agreed {
+    pub newest: Option<(u64, Digest)>,
+    pub others: Vec<(u64, Digest, Key)>,
+}
+
 /// What is done with keys once all of them are read.
 pub(super) enum Then {
     /// What the cluster boots with.
@@ -13,9 +19,9 @@ pub(super) enum Then {
     /// On which states nodes agree.
     Agreements,
     /// A checkpoint of this place and digest. The others are tried where it is none.
-    Checkpoint { place: u64, digest: Digest, others: Vec<(u64, Digest, Key)> },
-    /// What is left of the log.
-    Log,
+    Checkpoint { place: u64, digest: Digest, agreed: Agreed },
+    /// What is left of the log, which has to lead to this digest of a place.
+    Log { wanted: Option<(u64, Digest)> },
     /// The fences, which are looked at after these incarnations were known.
     Fences(BTreeSet<u64>),
     /// A checkpoint that was put, before the log is dropped up to it.
@@ -79,8 +85,8 @@ impl<M: Machine> Node<M> {
         match then {
             Then::Boot => self.boots(found),
             Then::Agreements => self.find_checkpoint(at, found),
-            Then::Checkpoint { place, digest, others } => self.begin_at(at, place, digest, found, others),
-            Then::Log => self.play_pages(at, found),
+            Then::Checkpoint { place, digest, agreed } => self.begin_at(at, place, digest, found, agreed),
+            Then::Log { wanted } => self.play_pages(at, found, wanted),
             Then::Fences(open) => self.fences_seen(&open, &found),
             Then::Stored(place) => self.is_stored(place, &found),
             Then::Own(place) => self.drop_own(place, &found),
@@ -89,7 +95,7 @@ impl<M: Machine> Node<M> {
 
     /// What was to be read is forgotten at that revision: the log is loaded anew.
     pub(super) fn forgotten(&mut self, pages: &Pages) {
-        if matches!(pages.then, Then::Agreements | Then::Checkpoint { .. } | Then::Log) {
+        if matches!(pages.then, Then::Agreements | Then::Checkpoint { .. } | Then::Log { .. }) {
             self.load();
         }
     }

@@ -1,9 +1,8 @@
 //! The protocol against a simulated engine, played from seeds: requests are late, lost, done twice or done after they were given up; answers
 //! and watches are lost; nodes are killed and paused; leases end at any time, as by a moved clock; the log is dropped; a node lies; the engine
-//! loses its disks. No promise to a caller may be broken.
+//! loses its disks; a node lacks memory for its checkpoints. No promise to a caller may be broken.
 //!
-//! `simulation [RUNS [STEPS [SEED]]]`: so many runs of so many steps of a model, from a seed on, and a tenth of them with the proved kernel,
-//! which gives no checkpoint.
+//! `simulation [RUNS [STEPS [SEED]]]`: so many runs of so many steps of a model, from a seed on, and a tenth of them with the proved kernel.
 mod model;
 mod player;
 #[path = "../../src/sha256.rs"]

@@ -1,5 +1,5 @@
 //! A machine that shows each difference between two replicas: each reply is a digest of all calls so far.
-use histar_cluster::Machine;
+use histar_cluster::{Machine, Unrestored, Written};
 use std::collections::{BTreeMap, BTreeSet};
 
 /// What a thread does. Each call has a number of its own.
@@ -25,7 +25,13 @@ pub struct Model {
     pub replies: BTreeMap<u64, Reply>,
     /// The calls that were played since the last look.
     pub played: Vec<(u64, Reply)>,
+    /// It lacks memory for a checkpoint.
+    pub lacks_memory: bool,
+    is_long: bool,
 }
+
+/// With these limits a checkpoint has more bytes than an engine takes.
+pub const LONG: &[u8] = b"long";
 
 fn put(out: &mut Vec<u8>, number: u64) {
     out.extend_from_slice(&number.to_be_bytes());
@@ -35,6 +41,25 @@ fn take(bytes: &mut &[u8]) -> Option<u64> {
     let number = bytes.get(..8)?.try_into().ok()?;
     *bytes = &bytes[8..];
     Some(u64::from_be_bytes(number))
+}
+
+impl Model {
+    /// Takes the state of a checkpoint.
+    fn take(&mut self, mut state: &[u8]) -> Option<()> {
+        let bytes = &mut state;
+        self.next = take(bytes)?;
+        self.threads.clear();
+        for _ in 0..take(bytes)? {
+            self.threads.insert(take(bytes)?);
+        }
+        while bytes.len() > 8 {
+            let number = take(bytes)?;
+            let reply = Reply { digest: take(bytes)?, made: Some(take(bytes)?).filter(|made| *made > 0) };
+            self.replies.insert(number, reply);
+        }
+        self.digest = take(bytes)?;
+        Some(())
+    }
 }
 
 impl Machine for Model {
@@ -48,7 +73,8 @@ impl Machine for Model {
             return Err("no such limits".into());
         }
         let threads = BTreeSet::from([2]);
-        Ok(Model { digest: 0, next: 4, threads, replies: BTreeMap::new(), played: Vec::new() })
+        let (replies, played) = (BTreeMap::new(), Vec::new());
+        Ok(Model { digest: 0, next: 4, threads, replies, played, lacks_memory: false, is_long: limits == LONG })
     }
 
     fn set_rules(&mut self, rules: u64) -> bool {
@@ -82,7 +108,10 @@ impl Machine for Model {
         self.threads.contains(&thread)
     }
 
-    fn checkpoint(&self) -> Option<Vec<u8>> {
+    fn checkpoint(&self) -> Written {
+        if self.lacks_memory {
+            return Written::NoMemory;
+        }
         let mut out = Vec::new();
         put(&mut out, self.next);
         put(&mut out, self.threads.len() as u64);
@@ -93,24 +122,16 @@ impl Machine for Model {
             put(&mut out, reply.made.unwrap_or(0));
         }
         put(&mut out, self.digest);
-        Some(out)
+        if self.is_long {
+            out.resize(1 << 20, 0);
+        }
+        Written::State(out)
     }
 
-    fn restore(_limits: &[u8], mut state: &[u8]) -> Option<Model> {
-        let bytes = &mut state;
-        let mut model = Model::boot(&[]).ok()?;
-        model.next = take(bytes)?;
-        model.threads.clear();
-        for _ in 0..take(bytes)? {
-            model.threads.insert(take(bytes)?);
-        }
-        while bytes.len() > 8 {
-            let number = take(bytes)?;
-            let reply = Reply { digest: take(bytes)?, made: Some(take(bytes)?).filter(|made| *made > 0) };
-            model.replies.insert(number, reply);
-        }
-        model.digest = take(bytes)?;
-        Some(model)
+    fn restore(limits: &[u8], state: &[u8]) -> Result<Model, Unrestored> {
+        let mut model = Model::boot(limits).map_err(|_| Unrestored::NoState)?;
+        model.take(state).ok_or(Unrestored::NoState)?;
+        Ok(model)
     }
 
     fn thread(call: &Call) -> u64 {

@@ -2,7 +2,7 @@
 use crate::model::{Call, Model, Reply};
 use histar::trusted::{Record, Thread};
 use histar::{label, Entry, Kernel, Limits, Object, Refusal};
-use histar_cluster::{limits, Machine};
+use histar_cluster::{limits, Machine, Unrestored, Written};
 use std::collections::BTreeMap;
 
 /// A machine whose calls have numbers.
@@ -14,8 +14,10 @@ pub trait Player: Machine<Reply: PartialEq> {
     fn made_by(reply: &Self::Reply) -> Option<u64>;
     /// The calls that were played since the last look.
     fn take_played(&mut self) -> Vec<(u64, Self::Reply)>;
-    /// What a call was answered.
-    fn reply(&self, number: u64) -> Option<&Self::Reply>;
+    /// Whether a call was answered so.
+    fn has_answered(&self, number: u64, reply: &Self::Reply) -> bool;
+    /// From here on it lacks memory for a checkpoint, or has some.
+    fn lack_memory(&mut self, lacks: bool);
 }
 
 impl Player for Model {
@@ -31,16 +33,43 @@ impl Player for Model {
     fn take_played(&mut self) -> Vec<(u64, Reply)> {
         std::mem::take(&mut self.played)
     }
-    fn reply(&self, number: u64) -> Option<&Reply> {
-        self.replies.get(&number)
+    fn has_answered(&self, number: u64, reply: &Reply) -> bool {
+        self.replies.get(&number) == Some(reply)
+    }
+    fn lack_memory(&mut self, lacks: bool) {
+        self.lacks_memory = lacks;
     }
 }
 
-/// The kernel, with what each call was answered. It gives no checkpoint.
+/// The kernel, with the bytes of what each call was answered, which its checkpoints have too.
 pub struct Real {
-    kernel: Kernel,
-    replies: BTreeMap<u64, Result<histar::Reply, Refusal>>,
+    pub kernel: Kernel,
+    answers: BTreeMap<u64, Vec<u8>>,
     played: Vec<(u64, Result<histar::Reply, Refusal>)>,
+    lacks_memory: bool,
+}
+
+/// The bytes of a reply.
+fn bytes_of(reply: &Result<histar::Reply, Refusal>) -> Vec<u8> {
+    let mut out = Vec::new();
+    Kernel::put_reply(reply, &mut out);
+    out
+}
+
+/// Takes what was answered from the front of a checkpoint.
+fn take_answers(bytes: &mut &[u8]) -> Option<BTreeMap<u64, Vec<u8>>> {
+    let mut take = |count: usize| {
+        let taken = bytes.get(..count)?;
+        *bytes = &bytes[count..];
+        Some(taken)
+    };
+    let mut answers = BTreeMap::new();
+    for _ in 0..u64::from_be_bytes(take(8)?.try_into().ok()?) {
+        let number = u64::from_be_bytes(take(8)?.try_into().ok()?);
+        let len = usize::from(take(1)?[0]);
+        answers.insert(number, take(len)?.to_vec());
+    }
+    Some(answers)
 }
 
 impl Machine for Real {
@@ -50,25 +79,38 @@ impl Machine for Real {
 
     fn boot(limits: &[u8]) -> Result<Real, String> {
         let kernel = <Kernel as Machine>::boot(limits)?;
-        Ok(Real { kernel, replies: BTreeMap::new(), played: Vec::new() })
+        Ok(Real { kernel, answers: BTreeMap::new(), played: Vec::new(), lacks_memory: false })
     }
     fn set_rules(&mut self, rules: u64) -> bool {
         self.kernel.set_rules(rules)
     }
     fn play(&mut self, (number, record): &(u64, Record)) -> Self::Reply {
         let reply = self.kernel.play(record);
-        self.replies.insert(*number, reply.clone());
+        self.answers.insert(*number, bytes_of(&reply));
         self.played.push((*number, reply.clone()));
         reply
     }
     fn is_live(&self, thread: u64) -> bool {
         Machine::is_live(&self.kernel, thread)
     }
-    fn checkpoint(&self) -> Option<Vec<u8>> {
-        Machine::checkpoint(&self.kernel)
+    fn checkpoint(&self) -> Written {
+        let Written::State(text) = Machine::checkpoint(&self.kernel) else { return Written::NoMemory };
+        if self.lacks_memory {
+            return Written::NoMemory;
+        }
+        let mut out = (self.answers.len() as u64).to_be_bytes().to_vec();
+        for (number, answer) in &self.answers {
+            out.extend_from_slice(&number.to_be_bytes());
+            out.push(answer.len() as u8);
+            out.extend_from_slice(answer);
+        }
+        out.extend_from_slice(&text);
+        Written::State(out)
     }
-    fn restore(_limits: &[u8], _state: &[u8]) -> Option<Real> {
-        None
+    fn restore(limits: &[u8], mut state: &[u8]) -> Result<Real, Unrestored> {
+        let answers = take_answers(&mut state).ok_or(Unrestored::NoState)?;
+        let kernel = <Kernel as Machine>::restore(limits, state)?;
+        Ok(Real { kernel, answers, played: Vec::new(), lacks_memory: false })
     }
     fn thread((_, record): &(u64, Record)) -> u64 {
         Kernel::thread(record)
@@ -117,7 +159,10 @@ impl Player for Real {
     fn take_played(&mut self) -> Vec<(u64, Self::Reply)> {
         std::mem::take(&mut self.played)
     }
-    fn reply(&self, number: u64) -> Option<&Self::Reply> {
-        self.replies.get(&number)
+    fn has_answered(&self, number: u64, reply: &Self::Reply) -> bool {
+        self.answers.get(&number) == Some(&bytes_of(reply))
+    }
+    fn lack_memory(&mut self, lacks: bool) {
+        self.lacks_memory = lacks;
     }
 }

@@ -82,6 +82,7 @@ pub struct World<P: Player> {
     never: BTreeSet<u64>,
     unseen: BTreeSet<u64>,
     is_healed: bool,
+    lacks_checkpoints: bool,
     pub counts: Counts,
     pub broken: Option<String>,
 }
@@ -107,6 +108,7 @@ impl<P: Player> World<P> {
             never: BTreeSet::new(),
             unseen: BTreeSet::new(),
             is_healed: false,
+            lacks_checkpoints: false,
             counts: Counts::default(),
             broken: None,
         };
@@ -295,12 +297,16 @@ impl<P: Player> World<P> {
         }
     }
 
-    /// A node takes what came in, and time passes for it.
+    /// A node takes what came in, and time passes for it. It may lack memory for its checkpoints for some time.
     fn turn(&mut self, process: usize) {
+        let lacks = !self.is_healed && self.random.hits(100);
         let it = &mut self.processes[process];
         if it.paused > 0 {
             it.paused -= 1;
             return;
+        }
+        if let Some(machine) = it.node.machine() {
+            machine.lack_memory(lacks);
         }
         let reached = it.node.seen();
         for (number, engine, answer) in std::mem::take(&mut it.inbox) {
@@ -332,7 +338,15 @@ impl<P: Player> World<P> {
             self.breaks("a node went back");
         }
         if let Some(fault) = self.processes[process].node.fault() {
-            if self.store.id == 1 || *fault != Fault::OtherEngine {
+            if *fault == Fault::NoMemory && !self.is_healed {
+                return self.restart(process); // (as its operator does)
+            }
+            let is_right = match fault {
+                Fault::OtherEngine => self.store.id != 1,
+                Fault::NoCheckpoint => self.lacks_checkpoints,
+                _ => false,
+            };
+            if !is_right {
                 let what = format!("a node stopped: {fault}");
                 self.breaks(what);
             }
@@ -407,7 +421,7 @@ impl<P: Player> World<P> {
     /// A node sees the last of the first so many answered calls.
     fn sees(&mut self, process: usize, count: usize) {
         let Some((number, reply)) = count.checked_sub(1).map(|last| self.answered[last].clone()) else { return };
-        let seen = self.processes[process].node.machine().map(|it| it.reply(number) == Some(&reply));
+        let seen = self.processes[process].node.machine().map(|it| it.has_answered(number, &reply));
         if seen == Some(false) {
             self.breaks("a read is behind what its caller has seen");
         }
@@ -459,8 +473,13 @@ impl<P: Player> World<P> {
             }
         }
         self.heal();
-        if self.broken.is_none() && self.random.below(3) == 0 {
-            self.lose_disks();
+        if self.broken.is_some() {
+            return;
+        }
+        match self.random.below(3) {
+            0 => self.lose_disks(),
+            1 => self.break_checkpoints(),
+            _ => {}
         }
     }
 
@@ -469,25 +488,14 @@ impl<P: Player> World<P> {
         self.is_healed = true;
         let new = self.process("d");
         self.processes.push(new);
-        let is_waiting = |process: &Process<P>| !process.waiting.is_empty();
-        for _ in 0..200 {
-            for process in 0..self.processes.len() {
-                self.processes[process].paused = 0;
-                for _ in 0..20 {
-                    self.deliver();
-                    self.report(process);
-                }
-                self.turn(process);
-            }
-            if self.broken.is_some() {
-                return;
-            }
+        self.settle();
+        if self.broken.is_some() {
+            return;
         }
-        if self.processes.iter().any(is_waiting) {
+        if self.processes.iter().any(|process| !process.waiting.is_empty()) {
             self.breaks("a caller is told nothing");
         }
-        let states: Vec<_> =
-            self.processes.iter().map(|it| it.node.status().map(|it| (it.entries, it.digest))).collect();
+        let states = self.states();
         if states.iter().any(|state| *state != states[0]) {
             self.breaks("nodes differ at the end");
         }
@@ -501,6 +509,46 @@ impl<P: Player> World<P> {
             .any(|number| !self.played.contains_key(number) && !self.store.has_put(&number.to_be_bytes()))
         {
             self.breaks("a call is lost that was told to be made");
+        }
+    }
+
+    /// All processes go on until nothing is left to be done.
+    fn settle(&mut self) {
+        for _ in 0..200 {
+            for process in 0..self.processes.len() {
+                self.processes[process].paused = 0;
+                for _ in 0..20 {
+                    self.deliver();
+                    self.report(process);
+                }
+                self.turn(process);
+            }
+            if self.broken.is_some() {
+                return;
+            }
+        }
+    }
+
+    /// How many entries each node has counted, and their digest; none of one that has stopped.
+    fn states(&self) -> Vec<Option<(u64, [u8; 32])>> {
+        self.processes.iter().map(|it| it.node.status().map(|it| (it.entries, it.digest))).collect()
+    }
+
+    /// Each checkpoint is changed in a byte. A new node stops, or finds the whole log.
+    fn break_checkpoints(&mut self) {
+        self.counts.faults += 1;
+        for mut pair in self.store.range(b"/sim/state/", b"/sim/state0", self.store.revision) {
+            let at = self.random.below(pair.value.len() as u64) as usize;
+            pair.value[at] ^= 1;
+            self.store.put(&pair.key, &pair.value, None);
+        }
+        self.lacks_checkpoints = true;
+        let new = self.process("e");
+        self.processes.push(new);
+        self.settle();
+        let states = self.states();
+        if states.iter().flatten().any(|state| Some(*state) != states[0]) {
+            self.breaks("a new node plays what is left of the log without its checkpoint");
         }
     }
 
