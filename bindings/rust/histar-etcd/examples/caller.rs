@@ -5,7 +5,7 @@
 //! `caller check CLUSTER MEMBERS FILE..` plays the log, and says what of the files it does not have.
 use histar::trusted::{Record, Thread};
 use histar::{label, Call, Entry, Kernel, Limits, Object, Refusal, Reply};
-use histar_cluster::{limits, Item, Machine, Name, Options, Receipt, Running, Told, Uncalled};
+use histar_cluster::{limits, Item, Machine, Name, Options, Receipt, Running, Told, Unrestored, Written};
 use histar_etcd::Etcd;
 use std::collections::HashMap;
 use std::fs::File;
@@ -14,7 +14,7 @@ use std::sync::atomic::{AtomicU64, Ordering};
 use std::sync::Arc;
 use std::time::{Duration, Instant, SystemTime, UNIX_EPOCH};
 
-/// A kernel that knows what each record was answered.
+/// A kernel that knows what each record was answered. It gives no checkpoint, so the whole log is there for the check.
 struct Probe {
     kernel: Kernel,
     answered: HashMap<Vec<u8>, Vec<Result<Reply, Refusal>>>,
@@ -41,11 +41,11 @@ impl Machine for Probe {
     fn is_live(&self, thread: u64) -> bool {
         Machine::is_live(&self.kernel, thread)
     }
-    fn checkpoint(&self) -> Option<Vec<u8>> {
-        None
+    fn checkpoint(&self) -> Written {
+        Written::Never
     }
-    fn restore(_limits: &[u8], _state: &[u8]) -> Option<Probe> {
-        None
+    fn restore(_limits: &[u8], _state: &[u8]) -> Result<Probe, Unrestored> {
+        Err(Unrestored::NoState)
     }
     fn thread(call: &Record) -> u64 {
         Kernel::thread(call)
@@ -64,10 +64,7 @@ impl Machine for Probe {
     }
 }
 
-fn open<M: Machine + Send + 'static>(cluster: &str, members: &str, node: &str) -> Running<M>
-where
-    M::Reply: Send,
-{
+fn open(cluster: &str, members: &str, node: &str) -> Running<Probe> {
     let members = members.split(',').map(String::from).collect();
     let now = SystemTime::now().duration_since(UNIX_EPOCH).expect("a time after 1970");
     let name = |text| Name::new(text).expect("a name");
@@ -95,7 +92,7 @@ fn making(thread: u64, number: u64) -> Record {
 }
 
 fn prepare(cluster: &str, members: &str, nodes: &[String]) {
-    let first: Running<Kernel> = open(cluster, members, &nodes[0]);
+    let first = open(cluster, members, &nodes[0]);
     for node in nodes {
         let to = Name::new(node).expect("a name");
         let made = first.submit(&[Item::Call(making(2, 0))]).expect("a node").wait();
@@ -126,7 +123,7 @@ fn run(words: &[String]) {
     let [cluster, members, node, thread, file, callers, seconds] = words else { panic!("other words") };
     let number = |text: &String| text.parse::<u64>().expect("a number");
     let (thread, callers) = (number(thread), number(callers));
-    let running: Arc<Running<Kernel>> = Arc::new(open(cluster, members, node));
+    let running = Arc::new(open(cluster, members, node));
     let out = Arc::new(File::options().create(true).append(true).open(file).expect("a file"));
     let end = Instant::now() + Duration::from_secs(number(seconds));
     let start = SystemTime::now().duration_since(UNIX_EPOCH).expect("a time after 1970").as_millis() as u64;
@@ -146,8 +143,11 @@ fn run(words: &[String]) {
                     let (line, made) = told_of(waiting.wait(), number);
                     writes(&out, &line);
                     if let Some(made) = made {
-                        let gone = running.call(Thread(thread), &Call::Unref { entry: Entry::in_root(made) });
-                        assert!(!matches!(gone, Err(Uncalled::OtherNode | Uncalled::NoCall)), "{gone:?}");
+                        let cut = Call::Unref { entry: Entry::in_root(made) };
+                        let cut = Record::new(Thread(thread), &cut).expect("a call");
+                        let Ok(waiting) = running.submit(&[Item::Call(cut)]) else { return };
+                        let gone = waiting.wait();
+                        assert!(!matches!(&gone, Some(Receipt::Told { told, .. }) if told[..] == [Told::OtherNode]));
                     }
                 }
             })
@@ -160,7 +160,7 @@ fn run(words: &[String]) {
 fn check(words: &[String]) {
     let [cluster, members, threads, files @ ..] = words else { panic!("other words") };
     let threads: Vec<u64> = threads.split(',').map(|text| text.parse().expect("a thread")).collect();
-    let running: Running<Probe> = open(cluster, members, "check");
+    let running = open(cluster, members, "check");
     running.latest().expect("the log is played");
     let answered = running.read(|probe| std::mem::take(&mut probe.answered)).expect("a kernel");
     let entries = running.status().map_or(0, |status| status.entries);
