@@ -107,6 +107,16 @@ fn dropped(store: &Memory) -> (Running<Kernel>, Running<Kernel>, Deeds) {
     (north, south, deeds)
 }
 
+/// All nodes see all that any of them has put: also the first entry of each.
+fn see_all<M: Machine + Send + 'static>(nodes: &[&Running<M>])
+where
+    M::Reply: Send,
+{
+    let notes: Vec<_> = nodes.iter().map(|node| node.latest().expect("a note")).collect();
+    let last = notes.into_iter().max().expect("a note");
+    nodes.iter().for_each(|node| node.reaches(last).expect("a node that runs"));
+}
+
 /// How many entries have counted, the digest of all and their replies, and the text of the kernel.
 fn state(node: &Running<Kernel>) -> (u64, Digest, String) {
     let text = node.read(|kernel| kernel.checkpoint()).expect("a machine").expect("a text");
@@ -114,13 +124,10 @@ fn state(node: &Running<Kernel>) -> (u64, Digest, String) {
     (status.entries, status.digest, text)
 }
 
-/// All nodes see all that the first does, and are in one state.
+/// All nodes are in one state.
 fn are_alike(nodes: &[&Running<Kernel>]) {
-    let note = nodes[0].latest().expect("a note");
-    for node in nodes {
-        node.reaches(note).expect("a node that runs");
-        assert_eq!(state(node), state(nodes[0]));
-    }
+    see_all(nodes);
+    nodes.iter().for_each(|node| assert_eq!(state(node), state(nodes[0])));
 }
 
 #[test]
@@ -131,7 +138,6 @@ fn a_new_node_begins_at_a_checkpoint_of_kernels() {
         .iter()
         .all(|pair| !pair.key.starts_with(b"/c/log/e/north") || !pair.key.ends_with(b"/01")));
     let east = open(&store, "east");
-    east.latest().expect("a note");
     are_alike(&[&north, &south, &east]);
     deeds.go_on(&north);
     are_alike(&[&north, &south, &east]);
@@ -239,12 +245,9 @@ fn a_node_without_memory_for_a_text_does_no_harm() {
             calls += 1;
             assert!(matches!(told(&north, Item::Call(Real::call(2, calls, 0))), Told::Reply(Ok(_))));
         }
-        let note = north.latest().expect("a note");
-        let state = |node: &Running<Real>| {
-            node.reaches(note).expect("a node that runs");
-            node.status().map(|it| (it.entries, it.digest))
-        };
-        assert_eq!([state(south), state(west)], [state(&north), state(&north)]);
+        see_all(&[&north, south, west]);
+        let states = [&north, south, west].map(|node| node.status().map(|it| (it.entries, it.digest)));
+        assert!(states.iter().all(|state| *state == states[0]), "{states:?}");
     };
     play(1);
     west.read(|real| real.lack_memory(true)).expect("a machine");
