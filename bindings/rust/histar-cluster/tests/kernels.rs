@@ -14,7 +14,7 @@ use histar_cluster::{
     audit, limits, Digest, Fault, Item, Machine, Name, Options, Receipt, Running, Told, Unrestored, Written,
 };
 use player::{Player, Real};
-use std::time::Duration;
+use std::time::{Duration, Instant};
 
 /// So many entries stand between two places at which states are compared.
 const INTERVAL: u64 = 8;
@@ -39,7 +39,8 @@ fn keys(store: &Memory, prefix: &str) -> Vec<Pair> {
 
 /// Waits for something, for a minute at most.
 fn until<T>(mut find: impl FnMut() -> Option<T>) -> T {
-    for _ in 0..6000 {
+    let end = Instant::now() + Duration::from_secs(60);
+    while Instant::now() < end {
         if let Some(found) = find() {
             return found;
         }
@@ -165,8 +166,11 @@ fn a_log_that_was_dropped_is_audited_from_a_checkpoint() {
     // (its calls lead to the state of the nodes)
     let tables = |text: &str| text.split_once("\nlive ").map(|(_, tables)| tables.to_string());
     assert_eq!(tables(&dump), tables(&state(&north).2));
-    let left: Vec<Pair> = pairs.into_iter().filter(|pair| !pair.key.starts_with(b"/c/state/")).collect();
+    let mut left = pairs;
+    left.retain(|pair| !pair.key.starts_with(b"/c/state/"));
     assert!(matches!(audit(&name("c"), &left), Err(Fault::Gap | Fault::NoCheckpoint)));
+    left.retain(|pair| !pair.key.starts_with(b"/c/log/e/"));
+    assert_eq!(audit(&name("c"), &left), Err(Fault::NoCheckpoint));
 }
 
 #[test]
