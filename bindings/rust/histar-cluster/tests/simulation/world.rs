@@ -67,6 +67,8 @@ pub struct Counts {
 
 pub struct World<P: Player> {
     random: Random,
+    /// Whether a node has memory is chosen apart, so that all else of a seed is the same with it and without.
+    memory: Random,
     store: Store,
     sent: Vec<Sent>,
     processes: Vec<Process<P>>,
@@ -95,6 +97,7 @@ impl<P: Player> World<P> {
     pub fn new(seed: u64) -> World<P> {
         let mut world = World {
             random: Random(seed),
+            memory: Random(!seed),
             store: Store::new(),
             sent: Vec::new(),
             processes: Vec::new(),
@@ -299,7 +302,7 @@ impl<P: Player> World<P> {
 
     /// A node takes what came in, and time passes for it. It may lack memory for its checkpoints for some time.
     fn turn(&mut self, process: usize) {
-        let lacks = !self.is_healed && self.random.hits(100);
+        let lacks = !self.is_healed && self.memory.hits(30);
         let it = &mut self.processes[process];
         if it.paused > 0 {
             it.paused -= 1;
