@@ -78,7 +78,7 @@ impl Deeds {
         Deeds { segment: Entry::in_root(segment), writes: 0 }
     }
 
-    /// Writes, makes a category, and makes a thread and cuts it off, by an entry each.
+    /// Writes, makes a category or writes again, and makes a thread and cuts it off, by an entry each.
     fn go_on(&mut self, node: &Running<Kernel>) {
         self.writes += 1;
         let (entry, offset) = (self.segment, 8 * (self.writes % 32) as u32);
@@ -90,7 +90,9 @@ impl Deeds {
             clearance: label! { L2 }.into(),
             entry_point: self.writes,
         };
-        let made = [write, Call::CatCreate, thread].map(|call| node.call(Thread::BOOT, &call).expect("a call").reply);
+        // (the thread's label takes 16 categories)
+        let other = if self.writes % 2 == 0 { Call::CatCreate } else { write.clone() };
+        let made = [write, other, thread].map(|call| node.call(Thread::BOOT, &call).expect("a call").reply);
         let [Ok(_), Ok(_), Ok(Reply::Object(made))] = made else { panic!("{made:?}") };
         node.call(Thread::BOOT, &Call::Unref { entry: Entry::in_root(made) }).expect("a call");
     }
@@ -247,7 +249,7 @@ fn a_node_without_memory_for_a_text_does_no_harm() {
     let mut play = |count: u64| {
         for _ in 0..count {
             calls += 1;
-            assert!(matches!(told(&north, Item::Call(Real::call(2, calls, 0))), Told::Reply(Ok(_))));
+            assert!(matches!(told(&north, Item::Call(Real::call(2, calls, 1))), Told::Reply(Ok(_))));
         }
         see_all(&[&north, south, west]);
         let states = [&north, south, west].map(|node| node.status().map(|it| (it.entries, it.digest)));
