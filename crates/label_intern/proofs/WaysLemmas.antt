@@ -1,5 +1,5 @@
 -- What the order bits of two labels each way tell of each other, and the half byte that has both.
-use Rattle.std.proofs.Common.{◌≡◌, ◌≢◌, ℕ, ◌+◌, ◌*◌, ◌<◌, ◌≤◌, Bool, true, false, IsTrue, cond, refl, arith}
+use Rattle.std.proofs.Common.{◌≡◌, ◌≢◌, ℕ, ◌+◌, ◌*◌, ◌<◌, ◌≤◌, Bool, true, false, IsTrue, List, Option, Some, None, IfSome, cond, refl, subst, arith}
 use Rattle.std.proofs.lemmas.Bool.{false≢true}
 use Rattle.std.proofs.lemmas.Bool.Decides.{nat_tests, same_from_decides}
 use Rattle.base.specs.declared.levels.Level.{Level}
@@ -7,8 +7,11 @@ use Rattle.base.specs.declared.levels.Level.TheVariants.{Star, L0, L1, L2, L3}
 use Rattle.base.specs.Level.{rank_of}
 use Rattle.label_lattice.specs.Label.{LabelValue, level}
 use Rattle.label_lattice.specs.Rule.{up_rank}
+use Rattle.label_lattice.specs.Bits.{bits_of}
 use Rattle.label_lattice.specs.Order.{levels, leq_test, up, IsDescribed}
 use Rattle.label_lattice.proofs.OrderLemmas.{leq_test-Leq, IsDescribed-levels, IsDescribed-up}
+use Rattle.label_intern.specs.declared.held.Held.{Held}
+use Rattle.label_intern.specs.Held.{held_at}
 use Rattle.label_intern.specs.Ways.{told_by, AreWays}
 
 -- what two ranks tell of each other
@@ -136,3 +139,21 @@ sum_few false false false = omega arith
 
 pub ways_few : (forth back : ℕ) → AreWays forth back → (forth < 8) × (back < 8)
 ways_few forth back ways = (rw ways.is_forth (sum_few _ _ _), rw ways.is_back (sum_few _ _ _))
+
+-- a label is at most itself, raised or not
+pub own_ways : (l : LabelValue) → 7 ≡ bits_of l l
+own_ways l =
+    let is_below : IsTrue (below l l) = (leq_test-Leq _ _ (in_a l l) (in_a l l)).1 (λ c. omega arith) in
+    let is_shown : IsTrue (shown l l) = (leq_test-Leq _ _ (up_a l l) (up_a l l)).1 (λ c. omega arith) in
+    rw (is_below, below_seen l l is_below, is_shown) refl
+
+-- and so where two places are one
+same_order : (held : Option Held) → IfSome held (λ one. IfSome held (λ two. 7 ≡ bits_of one.label two.label))
+same_order None = tt
+same_order (Some held) = own_ways held.label
+
+pub own_order : (slots : List (Option Held)) (a b : ℕ) → a ≡ b
+    → IfSome (held_at slots a) (λ one. IfSome (held_at slots b) (λ two. 7 ≡ bits_of one.label two.label))
+own_order slots a b e =
+    subst (λ j. IfSome (held_at slots a) (λ one. IfSome (held_at slots j) (λ two. 7 ≡ bits_of one.label two.label))) e
+    (same_order (held_at slots a))

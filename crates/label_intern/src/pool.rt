@@ -108,6 +108,10 @@ impl Labels {
         ensures { IfSome (held_at self.now a.0) (λ one. IfSome (held_at self.now b.0) (λ two.
             result.0 ≡ bits_of one.label two.label)) }
     {
+        if a.0 == b.0 {
+            // A label is at most itself, raised or not.
+            return OrderBits(7);
+        }
         OrderBits(self.table.at(usize::from(a.0), usize::from(b.0)))
     }
 
