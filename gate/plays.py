@@ -64,18 +64,9 @@ def audit(report, auditor, file, wanted, name):
     report.counts(is_well, f"audit of {name}: {said.strip()}" + ("" if is_well else f", status {ended}, wanted {wanted}, {status}"))
 
 
-def compare(report):
-    """Compares what is made of the scripts of the rules with what stands."""
-    status, said = ran("crates/rule_scripts/scripts/make.py", "--check")
-    if said:
-        report.say(said.rstrip())
-    report.counts(status == 0, "the scripts of the rules: what is made of them stands")
-
-
 def play(report, histar=("./histar",), auditor=("./histar-audit",)):
     """Plays every script and audits every dump, by the commands given. An unproved run says so on standard error, and fails."""
     scripts = [Script(it) for it in sorted(glob.glob("examples/*.histar"))]
-    compare(report)
     for script in scripts:
         script.play(report, histar)
     for script in scripts:

@@ -4,6 +4,7 @@
 is interrupted loses the crates alone that it was at, and ./test proves none of them again. What was built is laid beside the
 sources. A library for C is proved there by `rt lib`, which makes its archive."""
 import fcntl
+import glob
 import os
 import re
 import shutil
@@ -24,7 +25,7 @@ WRONG_WORDS, NO_RT, NOT_PROVED, NO_ROOM, AT_WORK = 2, 69, 70, 73, 75
 # What the disks have to have left, in MB, and what a build that fails for want of it leaves.
 WANTED, FULL = 3000, 200
 # What rt ci reads of a crate.
-PARTS = ("src", "specs", "proofs", "data", "stdin", "stdout", "args", "status")
+PARTS = ("src", "specs", "proofs", "scripts", "data", "stdin", "stdout", "args", "status")
 # What it says last of a crate.
 SAID = re.compile(r"rt: (\w+) (proved|NOT PROVED|is kept)\b")
 
@@ -113,6 +114,12 @@ class Run:
         return f"it wrote something else than {self.folder}/stdout has" if wrote != self.stored("stdout") else None
 
 
+def make_in(tree):
+    """Makes what the crates of a tree have to be made of other files: each by its scripts/make.py."""
+    for it in sorted(glob.glob(f"{tree}/crates/*/scripts/make.py")):
+        subprocess.run([sys.executable, "-B", it], check=True)
+
+
 def lay_program(name, tree):
     """Lays the program that stands in a copy of the tree beside its sources here."""
     made, to = f"{tree}/crates/{name}/out/{name}", f"crates/{name}/out/{name}"
@@ -132,6 +139,7 @@ class Copy:
         os.makedirs(f"{top}/.git")
         for it in crates:
             self.lay(it.name)
+        make_in(top)
         self.lay_list()
 
     def lay(self, name):

@@ -5,6 +5,7 @@ import re
 import shutil
 import subprocess
 
+from gate.programs import make_in
 from gate.times import Times
 
 LOG = "out/test.log"
@@ -22,6 +23,7 @@ def copy_tree(to):
         if "/must-fail/" not in file:
             os.makedirs(os.path.dirname(f"{to}/{file}"), exist_ok=True)
             shutil.copy2(file, f"{to}/{file}")
+    make_in(to)
     # (rt ci holds its lock there)
     subprocess.run(["git", "init", "-q", to], check=True)
 

@@ -9,7 +9,7 @@ plays so: a machine boots with no such limits, a worker is no thread, or a word 
 '--' parts phases and says nothing here. A line '! ids A B ..', '! uses ID PAGES ..' or '! next ID' tells the end: the recorded ids,
 the uses of some, the next id.
 
-scripts/make.py writes these files; scripts/make.py --check names those that aren't as it would write them, and ends with 1 where there are any.
+The repository doesn't have these files: ./test and ./prove make them, and before rt itself is called there, scripts/make.py has to be.
 """
 import re
 import sys
@@ -319,19 +319,10 @@ def output_of(lines):
     return ''.join(line for lines in said.values() for line in lines)
 
 
-class Files:
-    """The files that are made: written, or compared with what stands."""
-
-    def __init__(self, is_check):
-        self.is_check = is_check
-        self.other = []
-
-    def put(self, path, text):
-        stands = path.read_text() if path.is_file() else None
-        if text != stands:
-            self.other.append(path)
-            if not self.is_check:
-                path.write_text(text)
+def put(path, text):
+    """Writes a file, where it doesn't stand so."""
+    if not path.is_file() or path.read_text() != text:
+        path.write_text(text)
 
 
 def module(told, body, *more):
@@ -364,7 +355,6 @@ def all_scripts():
 
 
 def main():
-    files = Files(sys.argv[1:] == ['--check'])
     crate = CRATE
     modules = []
     for path, read in all_scripts().items():
@@ -374,19 +364,16 @@ def main():
         claims = [claim for script in read for claim in script.claims()]
         every = defined(f'{name}Answer', 'Type 0', [' × '.join(map(stated, claims))])
         body = '\n'.join([*(script.statements() for script in read), f'-- all of these\n{every}'])
-        files.put(crate / f'specs/{name}.antt', module(f'-- Scripts, and what each line answers. {told}', body))
+        put(crate / f'specs/{name}.antt', module(f'-- Scripts, and what each line answers. {told}', body))
         body = '\n'.join(script.theorems() for script in read)
         proofs = '(\n' + ''.join(f'  {claim},\n' for claim in claims) + ')' if claims[1:] else claims[0]
         body += f'\npub every : {name}Answer\nevery = {proofs}\n'
         stands = (f'Rattle.rule_scripts.specs.{name}', f"{name}Answer {' '.join(map(stated, claims))}")
-        files.put(crate / f'proofs/{name}.antt', module(f'-- The scripts by computation. {told}', body, stands))
+        put(crate / f'proofs/{name}.antt', module(f'-- The scripts by computation. {told}', body, stands))
     for folder, first in (('specs', ['Play', 'Runs']), ('proofs', ['Runs'])):
         names = sorted(first + modules)
-        files.put(crate / folder / 'Lib.antt', ''.join(f'pub mod {name}\n' for name in names))
-    for path in files.other if files.is_check else []:
-        print(f'{path.relative_to(crate.parent.parent)} is not what scripts/make.py makes')
-    return 1 if files.is_check and files.other else 0
+        put(crate / folder / 'Lib.antt', ''.join(f'pub mod {name}\n' for name in names))
 
 
 if __name__ == '__main__':
-    sys.exit(main())
+    main()
