@@ -7,6 +7,7 @@ use Rattle.base.specs.Sets.{may_read, may_write}
 use Rattle.kernel_rules.specs.State.{State}
 use Rattle.kernel_rules.specs.Conditions.{Condition, is_shape, is_mapping, is_without_room, meets, pages_up, pages_down}
 use Rattle.kernel_rules.specs.Conditions as rules
+use Rattle.kernel_rules.specs.Rows.{Conditions}
 use Rattle.kernel_rules.specs.Rows as rows
 use Rattle.kernel_rules.specs.Step as step
 use Rattle.kernel_rules.specs.Table as table
@@ -20,7 +21,6 @@ use Rattle.explained.specs.Laws as laws
 use Rattle.explained.specs.Explained as explained
 use Rattle.explained.specs.declared.parts.Part as part
 use Rattle.explained.specs.declared.parts.Finding.{Finding}
-use Rattle.explained.proofs.Chain.{told_both}
 
 or_false : (a : Bool) → (a || false) ≡ a
 or_false true = refl
@@ -171,21 +171,19 @@ none_holds_where_found s t c =
       λ holds. sym e ∙ (none_holds (explained.query_explained s t c)).1 holds,
     )
 
--- what was found first, and then
-pub made : (s : State) (t : ℕ) (c : Call) (f0 f1 f2 : List Finding) → f0 ≡ [] → f1 ≡ f0 ++ told s t rows.running
-    → f2 ≡ f1 ++ told s t (table.conditions s c) → f2 ≡ explained.explained s t c
+-- of the first condition and those of a call
+pub made : (s : State) (t : ℕ) (c : Call) (r0 r1 r2 : Conditions) (fs : List Finding) → r0 ≡ [] → r1 ≡ r0 ++ rows.running
+    → r2 ≡ r1 ++ table.conditions s c → fs ≡ told s t r2 → fs ≡ explained.explained s t c
 unfolding explained.explained
-made s t c f0 f1 f2 e0 e1 e2 =
-    e2 ∙ ap (λ fs. fs ++ told s t (table.conditions s c)) (e1 ∙ ap (λ fs. fs ++ told s t rows.running) e0)
-    ∙ sym (told_both s t rows.running (table.conditions s c))
+made s t c r0 r1 r2 fs e0 e1 e2 e =
+    e ∙ ap (told s t) (e2 ∙ ap (λ r. r ++ table.conditions s c) (e1 ∙ ap (λ r. r ++ rows.running) e0))
 
-pub query_made : (s : State) (t : ℕ) (c : Query) (f0 f1 f2 : List Finding) → f0 ≡ []
-    → f1 ≡ f0 ++ told s t rows.running → f2 ≡ f1 ++ told s t (table.query_conditions s c)
-    → f2 ≡ explained.query_explained s t c
+pub query_made : (s : State) (t : ℕ) (c : Query) (r0 r1 r2 : Conditions) (fs : List Finding) → r0 ≡ []
+    → r1 ≡ r0 ++ rows.running → r2 ≡ r1 ++ table.query_conditions s c → fs ≡ told s t r2
+    → fs ≡ explained.query_explained s t c
 unfolding explained.query_explained
-query_made s t c f0 f1 f2 e0 e1 e2 =
-    e2 ∙ ap (λ fs. fs ++ told s t (table.query_conditions s c)) (e1 ∙ ap (λ fs. fs ++ told s t rows.running) e0)
-    ∙ sym (told_both s t rows.running (table.query_conditions s c))
+query_made s t c r0 r1 r2 fs e0 e1 e2 e =
+    e ∙ ap (told s t) (e2 ∙ ap (λ r. r ++ table.query_conditions s c) (e1 ∙ ap (λ r. r ++ rows.running) e0))
 
 pub reply_told : (s : State) (t : ℕ) (c : Call) (fs : List Finding) → fs ≡ explained.explained s t c
     → step.answer s t c ≡ step.or_refused (laws.least fs) (step.accepted s t c)

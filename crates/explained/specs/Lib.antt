@@ -6,3 +6,4 @@ pub mod Told
 pub mod Explained
 pub mod Laws
 pub mod Compared
+pub mod Ruled

@@ -6,22 +6,15 @@
 #![tactic(auto)]
 
 mod comparing;
-mod creating;
+mod conditions;
+mod deciding;
 mod explaining;
 mod facts;
 mod failing;
 mod laws;
-mod linking;
-mod numbers;
-mod of_links;
-mod of_memory;
-mod of_queries;
-mod of_threads;
-mod owning;
 mod parts;
-mod placing;
 mod relations;
-mod words;
+mod rows;
 
 pub use comparing::refusal_among;
 pub use explaining::{explain, explain_query};

@@ -104,26 +104,3 @@ pub struct Finding {
     /// What it is made of.
     pub parts: Parts,
 }
-
-/// One more condition. The error is want of memory.
-pub fn add(
-    alloc: Global,
-    found: &mut Vec<Finding>,
-    refusal: Refusal,
-    parts: &[Part],
-) -> Result<(), NoMemory>
-    ensures { OnOk result (found.new.items
-        ≡ found.old.items ++ record { refusal = refusal; parts = parts.now } ∷ []) }
-{
-    let parts = Parts::of(alloc, parts)?;
-    add_parts(found, refusal, parts)
-}
-
-/// One more condition, of these parts. The error is want of memory.
-pub fn add_parts(found: &mut Vec<Finding>, refusal: Refusal, parts: Parts) -> Result<(), NoMemory>
-    ensures { OnOk result (found.new.items
-        ≡ found.old.items ++ record { refusal = refusal; parts = parts } ∷ []) }
-{
-    found.push(Finding { refusal, parts })?;
-    Ok(())
-}

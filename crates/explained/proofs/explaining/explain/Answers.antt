@@ -10,21 +10,21 @@ use Rattle.explained.proofs.explaining.explain.Goals as goal
 
 pub returns-clause-findings : goal.returns-clause-findings
 returns-clause-findings c =
-    made (state_of c.args.state.now) c.args.thread c.args.call.now _ _ _ c.new-found.ensures.items
-    c.in_ok-halted.ensures c.in_ok-findings.ensures
+    made (state_of c.args.state.now) c.args.thread c.args.call.now _ _ _ _ c.new-row.ensures
+    c.in_ok-put.ensures c.in_ok-put_call.ensures c.in_ok-found.ensures
 
 pub returns-clause-row : goal.returns-clause-row
 returns-clause-row c =
     ap (map condition)
-    (made (state_of c.args.state.now) c.args.thread c.args.call.now _ _ _ c.new-found.ensures.items
-    c.in_ok-halted.ensures c.in_ok-findings.ensures)
+    (made (state_of c.args.state.now) c.args.thread c.args.call.now _ _ _ _ c.new-row.ensures
+    c.in_ok-put.ensures c.in_ok-put_call.ensures c.in_ok-found.ensures)
     ∙ findings_are_the_row (state_of c.args.state.now) c.args.thread c.args.call.now
 
 pub returns-clause-refusal : goal.returns-clause-refusal
 returns-clause-refusal c =
     ap least
-    (made (state_of c.args.state.now) c.args.thread c.args.call.now _ _ _ c.new-found.ensures.items
-    c.in_ok-halted.ensures c.in_ok-findings.ensures)
+    (made (state_of c.args.state.now) c.args.thread c.args.call.now _ _ _ _ c.new-row.ensures
+    c.in_ok-put.ensures c.in_ok-put_call.ensures c.in_ok-found.ensures)
     ∙ least_is_the_refusal (state_of c.args.state.now) c.args.thread c.args.call.now
 
 pub returns-clause-accepted : goal.returns-clause-accepted
@@ -32,12 +32,12 @@ returns-clause-accepted c =
     let P : List Finding → Type 0 =
     λ fs. (refused (state_of c.args.state.now) c.args.thread c.args.call.now ≡ None) ↔ IsTrue (none_holds fs) in
     subst P
-    (sym (made (state_of c.args.state.now) c.args.thread c.args.call.now _ _ _ c.new-found.ensures.items
-    c.in_ok-halted.ensures c.in_ok-findings.ensures))
+    (sym (made (state_of c.args.state.now) c.args.thread c.args.call.now _ _ _ _ c.new-row.ensures
+    c.in_ok-put.ensures c.in_ok-put_call.ensures c.in_ok-found.ensures))
     (none_holds_where_accepted (state_of c.args.state.now) c.args.thread c.args.call.now)
 
 pub returns-clause-reply : goal.returns-clause-reply
 returns-clause-reply c =
     reply_told (state_of c.args.state.now) c.args.thread c.args.call.now _
-    (made (state_of c.args.state.now) c.args.thread c.args.call.now _ _ _ c.new-found.ensures.items
-    c.in_ok-halted.ensures c.in_ok-findings.ensures)
+    (made (state_of c.args.state.now) c.args.thread c.args.call.now _ _ _ _ c.new-row.ensures
+    c.in_ok-put.ensures c.in_ok-put_call.ensures c.in_ok-found.ensures)

@@ -10,21 +10,21 @@ use Rattle.explained.proofs.explaining.explain_query.Goals as goal
 
 pub returns-clause-findings : goal.returns-clause-findings
 returns-clause-findings c =
-    query_made (state_of c.args.state.now) c.args.thread c.args.query.now _ _ _ c.new-found.ensures.items
-    c.in_ok-halted.ensures c.in_ok-query_findings.ensures
+    query_made (state_of c.args.state.now) c.args.thread c.args.query.now _ _ _ _ c.new-row.ensures
+    c.in_ok-put.ensures c.in_ok-put_query.ensures c.in_ok-found.ensures
 
 pub returns-clause-row : goal.returns-clause-row
 returns-clause-row c =
     ap (map condition)
-    (query_made (state_of c.args.state.now) c.args.thread c.args.query.now _ _ _ c.new-found.ensures.items
-    c.in_ok-halted.ensures c.in_ok-query_findings.ensures)
+    (query_made (state_of c.args.state.now) c.args.thread c.args.query.now _ _ _ _ c.new-row.ensures
+    c.in_ok-put.ensures c.in_ok-put_query.ensures c.in_ok-found.ensures)
     ∙ query_findings_are_the_row (state_of c.args.state.now) c.args.thread c.args.query.now
 
 pub returns-clause-refusal : goal.returns-clause-refusal
 returns-clause-refusal c =
     ap least
-    (query_made (state_of c.args.state.now) c.args.thread c.args.query.now _ _ _ c.new-found.ensures.items
-    c.in_ok-halted.ensures c.in_ok-query_findings.ensures)
+    (query_made (state_of c.args.state.now) c.args.thread c.args.query.now _ _ _ _ c.new-row.ensures
+    c.in_ok-put.ensures c.in_ok-put_query.ensures c.in_ok-found.ensures)
     ∙ least_is_the_query_refusal (state_of c.args.state.now) c.args.thread c.args.query.now
 
 pub returns-clause-accepted : goal.returns-clause-accepted
@@ -32,12 +32,12 @@ returns-clause-accepted c =
     let P : List Finding → Type 0 =
     λ fs. (query_refused (state_of c.args.state.now) c.args.thread c.args.query.now ≡ None) ↔ IsTrue (none_holds fs) in
     subst P
-    (sym (query_made (state_of c.args.state.now) c.args.thread c.args.query.now _ _ _ c.new-found.ensures.items
-    c.in_ok-halted.ensures c.in_ok-query_findings.ensures))
+    (sym (query_made (state_of c.args.state.now) c.args.thread c.args.query.now _ _ _ _ c.new-row.ensures
+    c.in_ok-put.ensures c.in_ok-put_query.ensures c.in_ok-found.ensures))
     (none_holds_where_found (state_of c.args.state.now) c.args.thread c.args.query.now)
 
 pub returns-clause-reply : goal.returns-clause-reply
 returns-clause-reply c =
     query_reply_told (state_of c.args.state.now) c.args.thread c.args.query.now _
-    (query_made (state_of c.args.state.now) c.args.thread c.args.query.now _ _ _ c.new-found.ensures.items
-    c.in_ok-halted.ensures c.in_ok-query_findings.ensures)
+    (query_made (state_of c.args.state.now) c.args.thread c.args.query.now _ _ _ _ c.new-row.ensures
+    c.in_ok-put.ensures c.in_ok-put_query.ensures c.in_ok-found.ensures)

@@ -1,6 +1,0 @@
-use Rattle.explained.proofs.Chain.{then}
-use Rattle.explained.proofs.of_queries.load.Goals as goal
-
-pub returns : goal.returns
-returns c =
-    then _ _ _ _ _ _ _ c.in_ok-shaped.ensures c.in_ok-mapped_to_read.ensures

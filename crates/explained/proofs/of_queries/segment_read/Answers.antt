@@ -1,6 +1,0 @@
-use Rattle.explained.proofs.Chain.{then}
-use Rattle.explained.proofs.of_queries.segment_read.Goals as goal
-
-pub returns : goal.returns
-returns c =
-    then _ _ _ _ _ _ _ (then _ _ _ _ _ _ _ (then _ _ _ _ _ _ _ (then _ _ _ _ _ _ _ c.in_ok-in_container.ensures c.in_ok-of_kind.ensures) c.in_ok-observed.ensures) c.in_ok-shaped_range.ensures) c.in_ok-within.ensures
