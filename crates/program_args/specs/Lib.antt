@@ -4,3 +4,4 @@ pub mod Commands
 pub mod Ids
 pub mod Path
 pub mod Showing
+pub mod Told

@@ -1,14 +1,15 @@
 //! The command line of `histar-audit`.
-ghost use Rattle.std.specs.Prelude.{◌≡◌, List, ℕ, Some, None, codes, false, is_some, map, option_map, IfErr, IfOk};
-ghost use Rattle.clap.specs.Matches.{first_value, found_of};
+ghost use Rattle.std.specs.Prelude.{◌≡◌, List, ℕ, Some, None, codes, false, is_some, map, IfErr, IfOk};
+ghost use Rattle.clap.specs.Matches.{found_of};
 ghost use Rattle.clap.specs.Simple.{app_of};
-ghost use Rattle.clap.specs.Walk.{rule_of};
+ghost use Rattle.clap.specs.Walk.{rows_of, rule_of};
 ghost use Rattle.clap.specs.Words.{kind_of};
-ghost use Rattle.program_args.specs.Commands.{audit_command, file_rule, hidden_rule, migrate_rule, number_rule};
+ghost use Rattle.program_args.specs.Commands.{audit_command, file_rule, number_rule, option_rule};
 ghost use Rattle.program_args.specs.Path.{path_of};
+ghost use Rattle.program_args.specs.Told.{IsAuditOf, audit_rows};
 
+use crate::args::{flow_of, needed_text_of, text_of};
 use crate::versions::VERSION;
-use base::{Category, ObjectId};
 use clap::error::ErrorKind;
 use clap::{Arg, ArgAction, ArgMatches, Command, Error, value_parser};
 use program_io::AuditOptions;
@@ -30,7 +31,7 @@ pub struct AuditArgs<'a> {
 
 /// The path of the dump.
 fn file<'a>(alloc: Global) -> Arg<'a>
-    ensures rule { rule_of result ≡ file_rule }
+    ensures rule { rule_of result ≡ file_rule (codes "FILE") }
     ensures local { result.global ≡ false }
 {
     Arg::new(alloc, "FILE")
@@ -41,7 +42,7 @@ fn file<'a>(alloc: Global) -> Arg<'a>
 
 /// The path of the migrated dump.
 fn migrated<'a>(alloc: Global) -> Arg<'a>
-    ensures rule { rule_of result ≡ migrate_rule }
+    ensures rule { rule_of result ≡ option_rule (codes "migrate") }
     ensures local { result.global ≡ false }
 {
     Arg::new(alloc, "migrate")
@@ -101,7 +102,7 @@ fn category<'a>(alloc: Global, is_needed: bool) -> Arg<'a>
 
 /// The label of the observer from whom threads are hidden.
 fn hidden<'a>(alloc: Global) -> Arg<'a>
-    ensures rule { rule_of result ≡ hidden_rule }
+    ensures rule { rule_of result ≡ option_rule (codes "hidden") }
     ensures local { result.global ≡ false }
 {
     Arg::new(alloc, "hidden")
@@ -130,44 +131,27 @@ fn command<'a>(alloc: Global, asks_flows: bool) -> Result<Command<'a>, Error>
     Ok(five)
 }
 
-/// The object and the category of the flows that are asked for.
-fn flow_of(matches: &ArgMatches<'_>) -> Option<(ObjectId, Category)>
-    ensures { first_value (found_of matches.now) (codes "from") ≡ None → result ≡ None }
-{
-    let _from = matches.get_str("from")?;
-    let from = matches.get_one::<u64>("from")?;
-    let category = matches.get_one::<u64>("category")?;
-    Some((ObjectId::new(from), Category(category)))
-}
-
 /// What the words say, by what `clap` finds in them.
 fn told_of<'a>(matches: &ArgMatches<'a>) -> AuditArgs<'a>
-    ensures path { (path : List ℕ)
-        → first_value (found_of matches.now) (codes "FILE") ≡ Some path → result.dump.now ≡ path }
-    ensures flow { first_value (found_of matches.now) (codes "from") ≡ None
-        → result.options.flow ≡ None }
-    ensures alone { first_value (found_of matches.now) (codes "migrate") ≡ None
-        → is_some result.migrate ≡ false }
+    ensures told { IsAuditOf (rows_of (found_of matches.now)) result }
     ensures migrate { result.options.migrate ≡ is_some result.migrate }
-    ensures hidden { option_map (λ s. s.now) result.hidden
-        ≡ first_value (found_of matches.now) (codes "hidden") }
 {
-    let dump = matches.get_str("FILE").unwrap_or("");
-    let migrate = matches.get_str("migrate");
+    let migrate = text_of(matches, "migrate");
     AuditArgs {
         options: AuditOptions {
             migrate: migrate.is_some(),
             flow: flow_of(matches),
         },
-        dump,
+        dump: needed_text_of(matches, "FILE"),
         migrate,
-        hidden: matches.get_str("hidden"),
+        hidden: text_of(matches, "hidden"),
     }
 }
 
 /// What the words say, the first of them being the program's name, or what `clap` answers to them: help, a fault of
 /// usage, or want of memory. An object without a category is a fault of usage, and so is a category without an object.
 pub fn read_audit_words<'a, S: AsStr>(alloc: Global, words: &'a [S]) -> Result<AuditArgs<'a>, Error>
+    ensures told { IfOk result (λ told. IsAuditOf (audit_rows (map S.text words.entry.now)) told) }
     ensures path { (path : List ℕ) → path_of (map S.text words.entry.now) ≡ Some path
         → IfOk result (λ told. told.dump.now ≡ path) }
     ensures alone { (path : List ℕ) → path_of (map S.text words.entry.now) ≡ Some path
@@ -180,7 +164,7 @@ pub fn read_audit_words<'a, S: AsStr>(alloc: Global, words: &'a [S]) -> Result<A
 {
     let either = command(alloc, false)?;
     let found = either.try_get_matches_from(words)?;
-    if found.get_str("from").is_some() == found.get_str("category").is_some() {
+    if text_of(&found, "from").is_some() == text_of(&found, "category").is_some() {
         return Ok(told_of(&found));
     }
     let both = command(alloc, true)?;

@@ -1,5 +1,11 @@
 //! The command line of `histar check`.
-use crate::args::script;
+ghost use Rattle.std.specs.Prelude.{◌≡◌, IfOk, false, codes};
+ghost use Rattle.clap.specs.Matches.{found_of};
+ghost use Rattle.clap.specs.Walk.{rows_of, rule_of};
+ghost use Rattle.program_args.specs.Commands.{IsCommand, check_command, flag_rule};
+ghost use Rattle.program_args.specs.Told.{IsCheckOf};
+
+use crate::args::{flag_of, needed_text_of, script};
 use clap::{Arg, ArgAction, ArgMatches, Command};
 use std::alloc::{AllocError, Global};
 
@@ -13,7 +19,10 @@ pub struct CheckArgs<'a> {
 }
 
 /// Whether the exact form is printed.
-fn plain<'a>(alloc: Global) -> Arg<'a> {
+fn plain<'a>(alloc: Global) -> Arg<'a>
+    ensures rule { rule_of result ≡ flag_rule (codes "plain") }
+    ensures local { result.global ≡ false }
+{
     Arg::new(alloc, "plain")
         .long("plain")
         .action(ArgAction::SetTrue)
@@ -23,7 +32,9 @@ fn plain<'a>(alloc: Global) -> Arg<'a> {
 }
 
 /// The command `check`.
-pub fn check<'a>(alloc: Global) -> Result<Command<'a>, AllocError> {
+pub fn check<'a>(alloc: Global) -> Result<Command<'a>, AllocError>
+    ensures { IfOk result (IsCommand check_command) }
+{
     Command::new(alloc, "check")
         .about("Tells what is wrong or doubtful in a script, and plays nothing")
         .arg(script(alloc, "The script to check"))?
@@ -31,9 +42,11 @@ pub fn check<'a>(alloc: Global) -> Result<Command<'a>, AllocError> {
 }
 
 /// What the arguments of `check` ask for.
-pub fn check_of<'a>(check: &ArgMatches<'a>) -> CheckArgs<'a> {
+pub fn check_of<'a>(check: &ArgMatches<'a>) -> CheckArgs<'a>
+    ensures { IsCheckOf (rows_of (found_of check.now)) result }
+{
     CheckArgs {
-        script: check.get_str("SCRIPT").unwrap_or(""),
-        is_plain: check.get_flag("plain"),
+        script: needed_text_of(check, "SCRIPT"),
+        is_plain: flag_of(check, "plain"),
     }
 }

@@ -1,8 +1,8 @@
 //! The arguments of the programs: of `histar` what is asked for and of which file, of `histar show` and `histar-audit` the path of a
 //! dump, and what is shown, told or written of it.
 //!
-//! `clap` reads them and writes what it has to say of them. Words that are taken name a file. Which words are taken, and which
-//! texts are written, is shown by tests.
+//! `clap` reads them and writes what it has to say of them. What they ask for is what `clap` finds in them, each number the one
+//! that its word spells. Which words are taken, and which texts are written, is shown by tests.
 #![tactic(auto)]
 
 mod answers;

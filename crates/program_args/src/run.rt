@@ -1,9 +1,16 @@
 //! The command line of `histar run`.
-ghost use Rattle.std.specs.Prelude.{◌≡◌, is_some};
+ghost use Rattle.std.specs.Prelude.{◌≡◌, IfOk, false, codes, is_some};
+ghost use Rattle.clap.specs.Matches.{found_of};
+ghost use Rattle.clap.specs.Walk.{rows_of, rule_of};
+ghost use Rattle.program_args.specs.Commands.{IsCommand, option_rule, ranged_rule, run_command};
+ghost use Rattle.program_args.specs.Told.{IsRunOf, level_of, limits_in};
 
-use crate::args::{names, number, pages, pages_of, script};
+use crate::args::{
+    names, needed_text_of, number, number_of, option, pages, pages_of, script, short_number_of,
+    text_of,
+};
 use base::{Level, Limits};
-use clap::{Arg, ArgAction, ArgMatches, Command, value_parser};
+use clap::{Arg, ArgMatches, Command, value_parser};
 use program_io::Options;
 use std::alloc::{AllocError, Global};
 
@@ -20,15 +27,19 @@ pub struct RunArgs<'a> {
     pub names: Option<&'a str>,
 }
 
-fn dump<'a>(alloc: Global) -> Arg<'a> {
-    Arg::new(alloc, "dump")
-        .long("dump")
-        .value_name("FILE")
-        .action(ArgAction::Set)
-        .help("Where to write the write calls of the run and the tables of what is left")
+fn dump<'a>(alloc: Global) -> Arg<'a>
+    ensures rule { rule_of result ≡ option_rule (codes "dump") }
+    ensures local { result.global ≡ false }
+{
+    option(alloc, "dump", "FILE").help(
+        "Where to write the write calls of the run and the tables of what is left",
+    )
 }
 
-fn checkpoint<'a>(alloc: Global) -> Arg<'a> {
+fn checkpoint<'a>(alloc: Global) -> Arg<'a>
+    ensures rule { rule_of result ≡ ranged_rule (codes "checkpoint") (codes "0") 0 4294967295 }
+    ensures local { result.global ≡ false }
+{
     number(
         alloc,
         "checkpoint",
@@ -38,13 +49,19 @@ fn checkpoint<'a>(alloc: Global) -> Arg<'a> {
     .value_parser(value_parser!(u64).range(0..4294967296))
 }
 
-fn device<'a>(alloc: Global) -> Arg<'a> {
+fn device<'a>(alloc: Global) -> Arg<'a>
+    ensures rule { rule_of result ≡ ranged_rule (codes "device") (codes "1") 0 3 }
+    ensures local { result.global ≡ false }
+{
     number(alloc, "device", "1", "The level of the device's label")
         .value_name("L")
         .value_parser(value_parser!(u64).range(0..4))
 }
 
-fn next_id<'a>(alloc: Global) -> Arg<'a> {
+fn next_id<'a>(alloc: Global) -> Arg<'a>
+    ensures rule { rule_of result ≡ ranged_rule (codes "next-id") (codes "4") 4 2305843009213693952 }
+    ensures local { result.global ≡ false }
+{
     number(
         alloc,
         "next-id",
@@ -54,7 +71,10 @@ fn next_id<'a>(alloc: Global) -> Arg<'a> {
     .value_parser(value_parser!(u64).range(4..2305843009213693953))
 }
 
-fn next_category<'a>(alloc: Global) -> Arg<'a> {
+fn next_category<'a>(alloc: Global) -> Arg<'a>
+    ensures rule { rule_of result ≡ ranged_rule (codes "next-category") (codes "1") 1 2305843009213693952 }
+    ensures local { result.global ≡ false }
+{
     number(
         alloc,
         "next-category",
@@ -65,7 +85,9 @@ fn next_category<'a>(alloc: Global) -> Arg<'a> {
 }
 
 /// The command `run`.
-pub fn run<'a>(alloc: Global) -> Result<Command<'a>, AllocError> {
+pub fn run<'a>(alloc: Global) -> Result<Command<'a>, AllocError>
+    ensures { IfOk result (IsCommand run_command) }
+{
     Command::new(alloc, "run")
         .about("Plays a script on a newly booted kernel, and prints its replies")
         .arg(script(alloc, "The script to play"))?
@@ -81,7 +103,9 @@ pub fn run<'a>(alloc: Global) -> Result<Command<'a>, AllocError> {
         ))
 }
 
-fn level_of(number: u64) -> Level {
+fn level_of(number: u64) -> Level
+    ensures { result ≡ level_of number }
+{
     match number {
         0 => Level::L0,
         1 => Level::L1,
@@ -90,35 +114,33 @@ fn level_of(number: u64) -> Level {
     }
 }
 
-fn limits_of(run: &ArgMatches<'_>) -> Limits {
+fn limits_of(run: &ArgMatches<'_>) -> Limits
+    ensures { result ≡ limits_in (rows_of (found_of run.now)) }
+{
     Limits {
         pages: pages_of(run),
-        device: level_of(run.get_one::<u64>("device").unwrap_or(1)),
-        next_id: run.get_one::<u64>("next-id").unwrap_or(4),
-        next_category: run.get_one::<u64>("next-category").unwrap_or(1),
+        device: level_of(number_of(run, "device").unwrap_or(1)),
+        next_id: number_of(run, "next-id").unwrap_or(4),
+        next_category: number_of(run, "next-category").unwrap_or(1),
     }
-}
-
-fn checkpoint_of(run: &ArgMatches<'_>) -> u32 {
-    let events = run.get_one::<u64>("checkpoint").unwrap_or(0);
-    u32::try_from(events).unwrap_or(0)
 }
 
 /// What the arguments of `run` ask for.
 pub fn run_of<'a>(run: &ArgMatches<'a>) -> RunArgs<'a>
+    ensures told { IsRunOf (rows_of (found_of run.now)) result }
     ensures dump { result.options.dump ≡ is_some result.dump }
     ensures names { result.options.names ≡ is_some result.names }
 {
-    let dump = run.get_str("dump");
-    let names = run.get_str("names");
+    let dump = text_of(run, "dump");
+    let names = text_of(run, "names");
     RunArgs {
         options: Options {
             limits: limits_of(run),
             dump: dump.is_some(),
-            checkpoint: checkpoint_of(run),
+            checkpoint: short_number_of(run, "checkpoint").unwrap_or(0),
             names: names.is_some(),
         },
-        script: run.get_str("SCRIPT").unwrap_or(""),
+        script: needed_text_of(run, "SCRIPT"),
         dump,
         names,
     }

@@ -1,8 +1,15 @@
 //! The command line of `histar show`.
-ghost use Rattle.std.specs.Prelude.{◌≡◌, ◌++◌, IfOk, map, option_map};
+ghost use Rattle.std.specs.Prelude.{◌≡◌, ◌++◌, IfOk, IsSomeAnd, true, false, codes, map, option_map};
+ghost use Rattle.clap.specs.Matches.{found_of};
+ghost use Rattle.clap.specs.Simple.{App, new_app, subcommand_of};
+ghost use Rattle.clap.specs.Walk.{rows_of, rule_of};
+ghost use Rattle.program_args.specs.Commands.{IsCommand, TakesColours, any_number, beside_rule, dot_command, file_rule};
+ghost use Rattle.program_args.specs.Commands.{flag_rule, line_rule, option_rule, page_command, parsed_rule};
+ghost use Rattle.program_args.specs.Commands.{show_command, tree_command, view_command, why_command, with_flows};
 ghost use Rattle.program_args.specs.Showing.{help_of, words_of_show};
+ghost use Rattle.program_args.specs.Told.{IsShownOf, colours_of, names_of, out_of, view_in};
 
-use crate::args::names;
+use crate::args::{flag_of, flow_of, names, needed_text_of, number_of, option, text_of};
 use crate::versions::VERSION;
 use base::{Category, ObjectId};
 use clap::{Arg, ArgAction, ArgMatches, Command, Error, value_parser};
@@ -67,7 +74,10 @@ const OUTSIDE: &str =
     "The category, 1 or #1, outside of which these flows are: none goes on by an owner of it";
 
 /// The path of the dump.
-fn dump<'a>(alloc: Global) -> Arg<'a> {
+fn dump<'a>(alloc: Global) -> Arg<'a>
+    ensures rule { rule_of result ≡ file_rule (codes "DUMP") }
+    ensures local { result.global ≡ false }
+{
     Arg::new(alloc, "DUMP")
         .required(true)
         .action(ArgAction::Set)
@@ -75,7 +85,10 @@ fn dump<'a>(alloc: Global) -> Arg<'a> {
 }
 
 /// The line that is asked about.
-fn line<'a>(alloc: Global) -> Arg<'a> {
+fn line<'a>(alloc: Global) -> Arg<'a>
+    ensures rule { rule_of result ≡ line_rule }
+    ensures local { result.global ≡ false }
+{
     Arg::new(alloc, "LINE")
         .action(ArgAction::Set)
         .help(
@@ -85,21 +98,21 @@ fn line<'a>(alloc: Global) -> Arg<'a> {
 }
 
 /// After how many events a tree is.
-fn after<'a>(alloc: Global) -> Arg<'a> {
-    Arg::new(alloc, "after")
-        .long("after")
-        .value_name("N")
-        .action(ArgAction::Set)
-        .value_parser(value_parser!(u64))
-        .help("After how many events of the dump; after all where no count is told")
+fn after<'a>(alloc: Global) -> Arg<'a>
+    ensures rule { rule_of result ≡ parsed_rule (codes "after") any_number }
+    ensures local { result.global ≡ false }
+{
+    number(alloc, "after", "N").help(
+        "After how many events of the dump; after all where no count is told",
+    )
 }
 
 /// Whether a tree is in colours.
-fn color<'a>(alloc: Global) -> Arg<'a> {
-    Arg::new(alloc, "color")
-        .long("color")
-        .value_name("WHEN")
-        .action(ArgAction::Set)
+fn color<'a>(alloc: Global) -> Arg<'a>
+    ensures rule { (parser : _) × TakesColours parser × (rule_of result ≡ parsed_rule (codes "color") parser) }
+    ensures local { result.global ≡ false }
+{
+    option(alloc, "color", "WHEN")
         .value_parser(["auto", "always", "never"].as_slice())
         .help(
             "Whether in colours; auto, which is the default, asks whether the output is a terminal and NO_COLOR is empty",
@@ -107,13 +120,21 @@ fn color<'a>(alloc: Global) -> Arg<'a> {
 }
 
 /// The file of a page.
-fn out<'a>(alloc: Global) -> Arg<'a> {
-    Arg::new(alloc, "out")
-        .long("out")
-        .value_name("FILE")
+fn out<'a>(alloc: Global) -> Arg<'a>
+    ensures rule { rule_of result ≡ record (option_rule (codes "out")) { required = true } }
+    ensures local { result.global ≡ false }
+{
+    option(alloc, "out", "FILE")
         .required(true)
-        .action(ArgAction::Set)
         .help("The file that the page is written to")
+}
+
+/// A number of 64 bits, behind its name.
+fn number<'a>(alloc: Global, name: &'a str, value: &'a str) -> Arg<'a>
+    ensures rule { rule_of result ≡ parsed_rule name.entry.now any_number }
+    ensures local { result.global ≡ false }
+{
+    option(alloc, name, value).value_parser(value_parser!(u64))
 }
 
 /// A number that another one has to stand beside.
@@ -122,13 +143,11 @@ fn number_beside<'a>(
     name: &'a str,
     value: &'a str,
     other: &'a str,
-) -> Result<Arg<'a>, AllocError> {
-    Arg::new(alloc, name)
-        .long(name)
-        .value_name(value)
-        .action(ArgAction::Set)
-        .value_parser(value_parser!(u64))
-        .requires_arg(other)
+) -> Result<Arg<'a>, AllocError>
+    ensures rule { IfOk result (λ arg. rule_of arg ≡ beside_rule name.entry.now) }
+    ensures local { IfOk result (λ arg. arg.global ≡ false) }
+{
+    number(alloc, name, value).requires_arg(other)
 }
 
 /// The object that flows are from, and the category outside of which they are.
@@ -136,14 +155,19 @@ fn with_flows<'a>(
     alloc: Global,
     command: Command<'a>,
     help: &'a str,
-) -> Result<Command<'a>, AllocError> {
+) -> Result<Command<'a>, AllocError>
+    ensures { (app : App) → IsCommand app command.entry → IfOk result (IsCommand (with_flows app)) }
+{
     let object = number_beside(alloc, "from", "ID", "category")?.help(help);
     let category = number_beside(alloc, "category", "N", "from")?.help(OUTSIDE);
     command.arg(object)?.arg(category)
 }
 
 /// Whether all conditions are told.
-fn all<'a>(alloc: Global) -> Arg<'a> {
+fn all<'a>(alloc: Global) -> Arg<'a>
+    ensures rule { rule_of result ≡ flag_rule (codes "all") }
+    ensures local { result.global ≡ false }
+{
     Arg::new(alloc, "all")
         .long("all")
         .action(ArgAction::SetTrue)
@@ -151,7 +175,9 @@ fn all<'a>(alloc: Global) -> Arg<'a> {
 }
 
 /// The words of `why`.
-fn why<'a>(alloc: Global) -> Result<Command<'a>, AllocError> {
+fn why<'a>(alloc: Global) -> Result<Command<'a>, AllocError>
+    ensures { IfOk result (IsCommand why_command) }
+{
     Command::new(alloc, "why")
         .about("Tells why a call or a read of a dump is refused")
         .arg(dump(alloc))?
@@ -161,7 +187,9 @@ fn why<'a>(alloc: Global) -> Result<Command<'a>, AllocError> {
 }
 
 /// The words of `tree`.
-fn tree<'a>(alloc: Global) -> Result<Command<'a>, AllocError> {
+fn tree<'a>(alloc: Global) -> Result<Command<'a>, AllocError>
+    ensures { IfOk result (λ c. (parser : _) × TakesColours parser × IsCommand (tree_command parser) c) }
+{
     Command::new(alloc, "tree")
         .about("Shows the objects that a dump leads to as a tree")
         .arg(dump(alloc))?
@@ -171,14 +199,18 @@ fn tree<'a>(alloc: Global) -> Result<Command<'a>, AllocError> {
 }
 
 /// The words of `json`.
-fn json<'a>(alloc: Global) -> Result<Command<'a>, AllocError> {
+fn json<'a>(alloc: Global) -> Result<Command<'a>, AllocError>
+    ensures { IfOk result (IsCommand (view_command (codes "json"))) }
+{
     Command::new(alloc, "json")
         .about("Shows a dump as JSON, an object for each line")
         .arg(dump(alloc))
 }
 
 /// The words of `dot`.
-fn dot<'a>(alloc: Global) -> Result<Command<'a>, AllocError> {
+fn dot<'a>(alloc: Global) -> Result<Command<'a>, AllocError>
+    ensures { IfOk result (IsCommand dot_command) }
+{
     let dot = Command::new(alloc, "dot")
         .about("Shows the objects that a dump leads to as a graph for Graphviz")
         .arg(dump(alloc))?
@@ -191,7 +223,9 @@ fn dot<'a>(alloc: Global) -> Result<Command<'a>, AllocError> {
 }
 
 /// The words of `page`.
-fn page<'a>(alloc: Global) -> Result<Command<'a>, AllocError> {
+fn page<'a>(alloc: Global) -> Result<Command<'a>, AllocError>
+    ensures { IfOk result (IsCommand page_command) }
+{
     let page = Command::new(alloc, "page")
         .about("Writes a dump as a page of HTML, with the tree after each event")
         .arg(dump(alloc))?
@@ -204,35 +238,24 @@ fn page<'a>(alloc: Global) -> Result<Command<'a>, AllocError> {
     )
 }
 
-/// The flows that are asked for.
-fn flow_of(words: &ArgMatches<'_>) -> Option<(ObjectId, Category)> {
-    let id = words.get_one::<u64>("from")?;
-    let category = words.get_one::<u64>("category")?;
-    Some((ObjectId::new(id), Category(category)))
-}
-
-/// Whether colours are asked for.
-fn colours_of(words: &ArgMatches<'_>) -> Colours {
-    match words.get_str("color").unwrap_or("") {
+/// The colours that a word asks for.
+fn colours_of(when: &str) -> Colours
+    ensures { result ≡ colours_of when.now }
+{
+    match when {
         "always" => Colours::Always,
         "never" => Colours::Never,
         _ => Colours::Auto,
     }
 }
 
-/// The words with those of a verb.
-fn with_verb<'a>(
-    all: Command<'a>,
-    verb: Result<Command<'a>, AllocError>,
-) -> Result<Command<'a>, AllocError> {
-    all.subcommand(verb?)
-}
-
 /// What `show` does.
 const ABOUT: &str = "Shows what a dump tells";
 
 /// The command `show` as a line of the help of `histar`. Its own words are read apart.
-pub fn show<'a>(alloc: Global) -> Command<'a> {
+pub fn show<'a>(alloc: Global) -> Command<'a>
+    ensures { IsCommand (new_app (codes "show")) result }
+{
     Command::new(alloc, "show").about(ABOUT)
 }
 
@@ -285,72 +308,87 @@ pub fn words_of_show<'a>(
 }
 
 /// The whole command.
-fn command<'a>(alloc: Global) -> Result<Command<'a>, AllocError> {
+fn command<'a>(alloc: Global) -> Result<Command<'a>, AllocError>
+    ensures { IfOk result (λ c. (parser : _) × TakesColours parser × IsCommand (show_command parser) c) }
+{
     let all = Command::new(alloc, "histar-show")
         .bin_name("histar show")?
         .about(ABOUT)
         .version(VERSION)
         .subcommand_required(true);
-    let all = with_verb(all, why(alloc))?;
-    let all = with_verb(all, tree(alloc))?;
-    let all = with_verb(all, json(alloc))?;
-    let all = with_verb(all, dot(alloc))?;
-    with_verb(all, page(alloc))
+    let one = all.subcommand(why(alloc)?)?;
+    let two = one.subcommand(tree(alloc)?)?;
+    let three = two.subcommand(json(alloc)?)?;
+    let four = three.subcommand(dot(alloc)?)?;
+    four.subcommand(page(alloc)?)
 }
 
 /// The path of the page, where one is written.
-fn out_of<'a>(view: View, words: &ArgMatches<'a>) -> Option<&'a str> {
+fn out_of<'a>(view: &View, words: &ArgMatches<'a>) -> Option<&'a str>
+    ensures { option_map (λ path. path.now) result ≡ out_of view.now (rows_of (found_of words.now)) }
+{
     match view {
-        View::Page(_) => words.get_str("out"),
+        View::Page(_) => text_of(words, "out"),
         _ => None,
     }
 }
 
 /// The path of the names, where the view shows them.
-fn names_of<'a>(view: View, words: &ArgMatches<'a>) -> Option<&'a str> {
+fn names_of<'a>(view: &View, words: &ArgMatches<'a>) -> Option<&'a str>
+    ensures { option_map (λ path. path.now) result ≡ names_of view.now (rows_of (found_of words.now)) }
+{
     match view {
         View::Json => None,
-        _ => words.get_str("names"),
+        _ => text_of(words, "names"),
     }
 }
 
 /// What is shown, by the name of the view.
-fn view_of(name: &str, words: &ArgMatches<'_>) -> View {
+fn view_of(name: &str, words: &ArgMatches<'_>) -> View
+    ensures { result ≡ view_in name.now (rows_of (found_of words.now)) }
+{
     match name {
         "tree" => View::Tree {
-            after: words.get_one::<u64>("after"),
-            colours: colours_of(words),
+            after: number_of(words, "after"),
+            colours: colours_of(needed_text_of(words, "color")),
         },
         "json" => View::Json,
         "dot" => View::Dot(flow_of(words)),
         "page" => View::Page(flow_of(words)),
         _ => View::Why {
-            line: words.get_one::<u64>("LINE"),
-            is_whole: words.get_flag("all"),
+            line: number_of(words, "LINE"),
+            is_whole: flag_of(words, "all"),
         },
+    }
+}
+
+/// What the words of a view ask for.
+fn shown_of<'a>(name: &str, words: &ArgMatches<'a>) -> ShowArgs<'a>
+    ensures { IsShownOf (name.now, rows_of (found_of words.now)) result }
+{
+    let view = view_of(name, words);
+    ShowArgs {
+        dump: needed_text_of(words, "DUMP"),
+        view,
+        out: out_of(&view, words),
+        names: names_of(&view, words),
     }
 }
 
 /// What the words ask for, the first of them being `show`, or what `clap` answers to them: help, a fault of
 /// usage, or want of memory.
-pub fn read_show_words<'a, S: AsStr>(alloc: Global, words: &'a [S]) -> Result<ShowArgs<'a>, Error> {
+pub fn read_show_words<'a, S: AsStr>(alloc: Global, words: &'a [S]) -> Result<ShowArgs<'a>, Error>
+    ensures { IfOk result (λ told. (parser : _) × TakesColours parser
+        × IsSomeAnd (subcommand_of (show_command parser) (map S.text words.entry.now)) (λ found. IsShownOf found told)) }
+{
     let matches = command(alloc)?.try_get_matches_from(words)?;
     let Some((name, args)) = matches.subcommand() else {
         return Ok(ShowArgs {
             dump: "",
-            view: View::Why {
-                line: None,
-                is_whole: false,
-            },
+            view: View::Json,
             out: None,
             names: None,
         });
     };
-    let view = view_of(name, args);
-    Ok(ShowArgs {
-        dump: args.get_str("DUMP").unwrap_or(""),
-        view,
-        out: out_of(view, args),
-        names: names_of(view, args),
-    })
+    Ok(shown_of(name, args))
 }

@@ -1,15 +1,22 @@
-use Rattle.std.proofs.Common.{◌≡◌, ◌∙◌, ℕ, Bool, true, false, ◌&&◌, List, [], ◌∷◌, Option, Some, None, ap, ap₂, arith, is_some, refl, map, codes, option_map, ◌==◌}
+use Rattle.std.proofs.Common.{◌≡◌, ◌∙◌, ℕ, Bool, cond, true, false, true≢false, ◌&&◌, List, [], ◌∷◌, Option, Some, None, ap, ap₂, arith, is_some, refl, subst, sym, map, codes, option_map, ◌==◌}
+use Rattle.std.specs.Prelude.{unwrap_or}
+use Rattle.std.specs.Borrow.{Bor}
+use Rattle.base.specs.declared.ids.Category.{Category}
+use Rattle.program_args.proofs.Found.{is_told, no_number}
+use Rattle.program_args.specs.Told.{IsAuditOf, audit_rows, flow_in, number_in, text_in}
+use Rattle.program_args.specs.declared.audit.AuditArgs.{AuditArgs}
 use Rattle.std.specs.List.{list_all}
 use Rattle.program_args.specs.Commands.{audit_command}
 use Rattle.program_args.specs.Path.{path_of}
 use Rattle.clap.proofs.OnLiterals.{clap_on_literals}
 use Rattle.clap.proofs.TakesLemmas.{leaf_takes}
-use Rattle.clap.proofs.WalkLemmas.{first_value-rows}
-use Rattle.clap.specs.Simple.{built, App, Shape, is_simple, matches_of}
+use Rattle.clap.specs.Simple.{built, App, HasMatchesOf, Shape, app_of, is_simple, matches_of}
 use Rattle.clap.specs.Takes.{takes, default_passes, is_valid, settle_passes, step_passes, word_passes}
-use Rattle.clap.specs.Matches.{first_value, found_of}
+use Rattle.clap.specs.Matches.{found_of}
 use Rattle.clap.specs.Values.{kind_of}
 use Rattle.clap.specs.Walk.{Held, Row, Rule, Step, Text, after_step, finished, first_of, idle, nothing_held, rows_of, value, walk_from, word_met}
+use Rattle.clap.specs.declared.builder.Command.{Command}
+use Rattle.clap.specs.declared.parser.ArgMatches.{ArgMatches}
 use Rattle.clap.specs.declared.error.ErrorKind.TheVariants.{OutOfMemory}
 use mathlib.Core.Bool.{beq}
 use Rattle.program_args.proofs.audit.read_audit_words.Goals as goal
@@ -115,15 +122,72 @@ taken (name ∷ (x ∷ rest) ∷ []) path e = go (x == 45) refl
     go false h = other_taken name x rest h
 taken (name ∷ word ∷ other ∷ more) path e = cc
 
-none_of : {X Y : Type 0} (f : X → Y) (o : Option X) → option_map f o ≡ None → is_some o ≡ false
-none_of f None h = refl
-none_of f (Some x) h = cc
+-- what is found in words that name a path is what `clap` finds in them at first
+named_rows : (words : List Text) (path : Text) → path_of words ≡ Some path → audit_rows words ≡ matches_of audit words
+named_rows words path e =
+    let values = found words path e in
+    ap (λ test. cond test (matches_of audit words) (matches_of (audit_command true) words))
+    (ap₂ (λ x y. beq (is_some x) (is_some y)) (ap (λ (v : Values). v.«from») values) (ap (λ (v : Values). v.category) values))
 
--- two that are both false are the same
-alike : (a b : Bool) → a ≡ false → b ≡ false → beq a b ≡ false → ⊥
-alike true b h k e = cc
-alike false true h k e = cc
-alike false false h k e = cc
+-- what such words tell
+path_told : (words : List Text) (told : AuditArgs) (path : Text) → IsAuditOf (audit_rows words) told → path_of words ≡ Some path → told.dump.now ≡ path
+path_told words told path is e =
+    is.0 ∙ ap (text_in (codes "FILE")) (named_rows words path e) ∙ ap (λ (v : Values). unwrap_or v.file []) (found words path e)
+
+no_flow : (rows : List Row) → number_in 64 (codes "from") rows ≡ None → flow_in rows ≡ None
+no_flow rows e = rw e refl
+
+options_told : (words : List Text) (told : AuditArgs) (path : Text) → IsAuditOf (audit_rows words) told → path_of words ≡ Some path
+    → told.options ≡ record { migrate = false; flow = None }
+options_told words told path is e =
+    let values = found words path e in
+    is.1 ∙ ap₂ (λ (m : Bool) (f : Option (ℕ × Category)). record { migrate = m; flow = f })
+    (ap (λ rows. is_some (first_of (codes "migrate") rows)) (named_rows words path e) ∙ ap (λ (v : Values). is_some v.migrate) values)
+    (ap flow_in (named_rows words path e)
+    ∙ no_flow (matches_of audit words) (no_number 64 (codes "from") (matches_of audit words) (ap (λ (v : Values). v.«from») values)))
+
+hidden_told : (words : List Text) (told : AuditArgs) (path : Text) → IsAuditOf (audit_rows words) told → path_of words ≡ Some path
+    → is_some told.hidden ≡ false
+hidden_told words told path is e =
+    is_told (λ label. label.now) told.hidden (first_of (codes "hidden") (audit_rows words)) is.3
+    ∙ ap (λ rows. is_some (first_of (codes "hidden") rows)) (named_rows words path e) ∙ ap (λ (v : Values). is_some v.hidden) (found words path e)
+
+-- what the parses of a command are
+rows_are : (flows : Bool) (words : List Text) (command : Command) (matches : ArgMatches) → app_of command ≡ audit_command flows
+    → is_simple (audit_command flows) ≡ true → HasMatchesOf (app_of command) words matches
+    → rows_of (found_of matches) ≡ matches_of (audit_command flows) words
+rows_are flows words command matches is simple has = (has (ap is_simple is ∙ simple)).0 ∙ ap (λ a. matches_of a words) is
+
+both_simple : is_simple (audit_command true) ≡ true
+unfolding clap_on_literals
+both_simple = refl
+
+-- whether an object and a category are both there, or neither
+test_is : (rows : List Row) (words : List Text) (from category : Option (Bor Text)) (x y : Bool) → rows ≡ matches_of audit words
+    → x ≡ is_some from → option_map (λ t. t.now) from ≡ first_of (codes "from") rows
+    → y ≡ is_some category → option_map (λ t. t.now) category ≡ first_of (codes "category") rows
+    → beq x y ≡ beq (is_some (first_of (codes "from") (matches_of audit words))) (is_some (first_of (codes "category") (matches_of audit words)))
+test_is rows words from category x y is fx ft cx ct =
+    ap₂ beq (fx ∙ is_told (λ t. t.now) from _ ft) (cx ∙ is_told (λ t. t.now) category _ ct)
+    ∙ ap (λ r. beq (is_some (first_of (codes "from") r)) (is_some (first_of (codes "category") r))) is
+
+-- one parse is enough where both are there, or neither
+one_told : (words : List Text) (rows : List Row) (told : AuditArgs) → rows ≡ matches_of audit words
+    → beq (is_some (first_of (codes "from") (matches_of audit words))) (is_some (first_of (codes "category") (matches_of audit words))) ≡ true
+    → IsAuditOf rows told → IsAuditOf (audit_rows words) told
+one_told words rows told is test = subst (λ r. IsAuditOf r told) (is ∙ sym (ap (λ t. cond t (matches_of audit words) (matches_of (audit_command true) words)) test))
+
+two_told : (words : List Text) (rows : List Row) (told : AuditArgs) → rows ≡ matches_of (audit_command true) words
+    → beq (is_some (first_of (codes "from") (matches_of audit words))) (is_some (first_of (codes "category") (matches_of audit words))) ≡ false
+    → IsAuditOf rows told → IsAuditOf (audit_rows words) told
+two_told words rows told is test = subst (λ r. IsAuditOf r told) (is ∙ sym (ap (λ t. cond t (matches_of audit words) (matches_of (audit_command true) words)) test))
+
+-- words that name a path alone need no second parse
+no_second : (words : List Text) (path : Text) → path_of words ≡ Some path
+    → beq (is_some (first_of (codes "from") (matches_of audit words))) (is_some (first_of (codes "category") (matches_of audit words))) ≡ false → ⊥
+no_second words path e test =
+    let values = found words path e in
+    true≢false (sym (ap₂ (λ x y. beq (is_some x) (is_some y)) (ap (λ (v : Values). v.«from») values) (ap (λ (v : Values). v.category) values)) ∙ test)
 
 pub returns-in_err-found-clause-memory : goal.returns-in_err-found-clause-memory
 returns-in_err-found-clause-memory g c = λ path named.
@@ -132,79 +196,52 @@ returns-in_err-found-clause-memory g c = λ path named.
     c.in_err-found.ensures.passes (ap (λ a. takes a words) c.in_ok-either.ensures.app ∙ taken words path named) in
     grind (arith, kind)
 
-pub returns-then-is_some-clause-path : goal.returns-then-is_some-clause-path
-returns-then-is_some-clause-path g c = λ path named.
-    let words = map g.S.AsStr.text c.args.words.now in
-    let rows : rows_of (found_of c.in_ok-found.found) ≡ matches_of audit words =
-    (c.in_ok-found.ensures.matches (ap is_simple c.in_ok-either.ensures.app ∙ is_plain)).0 ∙ ap (λ a. matches_of a words) c.in_ok-either.ensures.app in
-    c.told_of.ensures.path path
-    (first_value-rows (found_of c.in_ok-found.found) (codes "FILE") ∙ ap (first_of (codes "FILE")) rows ∙ ap (λ (v : Values). v.file) (found words path named))
-
-pub returns-then-is_some-clause-alone : goal.returns-then-is_some-clause-alone
-returns-then-is_some-clause-alone g c = λ path named.
-    let words = map g.S.AsStr.text c.args.words.now in
-    let rows : rows_of (found_of c.in_ok-found.found) ≡ matches_of audit words =
-    (c.in_ok-found.ensures.matches (ap is_simple c.in_ok-either.ensures.app ∙ is_plain)).0 ∙ ap (λ a. matches_of a words) c.in_ok-either.ensures.app in
-    let unmigrated : first_value (found_of c.in_ok-found.found) (codes "migrate") ≡ None =
-    first_value-rows (found_of c.in_ok-found.found) (codes "migrate") ∙ ap (first_of (codes "migrate")) rows ∙ ap (λ (v : Values). v.migrate) (found words path named) in
-    let untraced : first_value (found_of c.in_ok-found.found) (codes "from") ≡ None =
-    first_value-rows (found_of c.in_ok-found.found) (codes "from") ∙ ap (first_of (codes "from")) rows ∙ ap (λ (v : Values). v.«from») (found words path named) in
-    ap₂ (λ m f. record { migrate = m; flow = f }) (c.told_of.ensures.migrate ∙ c.told_of.ensures.alone unmigrated)
-    (c.told_of.ensures.flow untraced)
-
-pub returns-then-is_some-clause-hidden : goal.returns-then-is_some-clause-hidden
-returns-then-is_some-clause-hidden g c = λ path named.
-    let words = map g.S.AsStr.text c.args.words.now in
-    let rows : rows_of (found_of c.in_ok-found.found) ≡ matches_of audit words =
-    (c.in_ok-found.ensures.matches (ap is_simple c.in_ok-either.ensures.app ∙ is_plain)).0 ∙ ap (λ a. matches_of a words) c.in_ok-either.ensures.app in
-    none_of (λ s. s.now) c.told_of.result.hidden
-    (c.told_of.ensures.hidden ∙ first_value-rows (found_of c.in_ok-found.found) (codes "hidden") ∙ ap (first_of (codes "hidden")) rows
-    ∙ ap (λ (v : Values). v.hidden) (found words path named))
-
 pub returns-in_err-complete-clause-memory : goal.returns-in_err-complete-clause-memory
 returns-in_err-complete-clause-memory g c = λ path named.
     let words = map g.S.AsStr.text c.args.words.now in
-    let rows : rows_of (found_of c.in_ok-found.found) ≡ matches_of audit words =
-    (c.in_ok-found.ensures.matches (ap is_simple c.in_ok-either.ensures.app ∙ is_plain)).0 ∙ ap (λ a. matches_of a words) c.in_ok-either.ensures.app in
-    let untraced : option_map (λ s. s.now) c.get_str.result ≡ None =
-    c.get_str.ensures ∙ first_value-rows (found_of c.in_ok-found.found) (codes "from") ∙ ap (first_of (codes "from")) rows ∙ ap (λ (v : Values). v.«from») (found words path named) in
-    let uncategorized : option_map (λ s. s.now) c.get_str-2.result ≡ None =
-    c.get_str-2.ensures ∙ first_value-rows (found_of c.in_ok-found.found) (codes "category") ∙ ap (first_of (codes "category")) rows ∙ ap (λ (v : Values). v.category) (found words path named) in
-    absurd (alike c.is_some.result c.is_some-2.result (c.is_some.ensures ∙ none_of (λ s. s.now) c.get_str.result untraced)
-    (c.is_some-2.ensures ∙ none_of (λ s. s.now) c.get_str-2.result uncategorized) c.if-is_some.false)
+    let rows = rows_are false words _ _ c.in_ok-either.ensures.app is_plain c.in_ok-found.ensures.matches in
+    absurd (no_second words path named
+    (sym (test_is _ words c.text_of.result c.text_of-2.result c.is_some.result c.is_some-2.result rows c.is_some.ensures c.text_of.ensures c.is_some-2.ensures c.text_of-2.ensures)
+    ∙ c.if-is_some.false))
+
+pub returns-then-is_some-clause-told : goal.returns-then-is_some-clause-told
+returns-then-is_some-clause-told g c =
+    let words = map g.S.AsStr.text c.args.words.now in
+    let rows = rows_are false words _ _ c.in_ok-either.ensures.app is_plain c.in_ok-found.ensures.matches in
+    one_told words _ c.told_of.result rows
+    (sym (test_is _ words c.text_of.result c.text_of-2.result c.is_some.result c.is_some-2.result rows c.is_some.ensures c.text_of.ensures c.is_some-2.ensures c.text_of-2.ensures)
+    ∙ c.if-is_some.true)
+    c.told_of.ensures.told
+
+pub returns-then-is_some-clause-path : goal.returns-then-is_some-clause-path
+returns-then-is_some-clause-path g c = λ path named.
+    path_told (map g.S.AsStr.text c.args.words.now) c.told_of.result path (returns-then-is_some-clause-told g c) named
+
+pub returns-then-is_some-clause-alone : goal.returns-then-is_some-clause-alone
+returns-then-is_some-clause-alone g c = λ path named.
+    options_told (map g.S.AsStr.text c.args.words.now) c.told_of.result path (returns-then-is_some-clause-told g c) named
+
+pub returns-then-is_some-clause-hidden : goal.returns-then-is_some-clause-hidden
+returns-then-is_some-clause-hidden g c = λ path named.
+    hidden_told (map g.S.AsStr.text c.args.words.now) c.told_of.result path (returns-then-is_some-clause-told g c) named
+
+pub returns-clause-told : goal.returns-clause-told
+returns-clause-told g c =
+    let words = map g.S.AsStr.text c.args.words.now in
+    let rows = rows_are false words _ _ c.in_ok-either.ensures.app is_plain c.in_ok-found.ensures.matches in
+    two_told words _ c.told_of-2.result (rows_are true words _ _ c.in_ok-both.ensures.app both_simple c.in_ok-complete.ensures.matches)
+    (sym (test_is _ words c.text_of.result c.text_of-2.result c.is_some.result c.is_some-2.result rows c.is_some.ensures c.text_of.ensures c.is_some-2.ensures c.text_of-2.ensures)
+    ∙ c.if-is_some.false)
+    c.told_of-2.ensures.told
 
 pub returns-clause-path : goal.returns-clause-path
 returns-clause-path g c = λ path named.
-    let words = map g.S.AsStr.text c.args.words.now in
-    let rows : rows_of (found_of c.in_ok-found.found) ≡ matches_of audit words =
-    (c.in_ok-found.ensures.matches (ap is_simple c.in_ok-either.ensures.app ∙ is_plain)).0 ∙ ap (λ a. matches_of a words) c.in_ok-either.ensures.app in
-    let untraced : option_map (λ s. s.now) c.get_str.result ≡ None =
-    c.get_str.ensures ∙ first_value-rows (found_of c.in_ok-found.found) (codes "from") ∙ ap (first_of (codes "from")) rows ∙ ap (λ (v : Values). v.«from») (found words path named) in
-    let uncategorized : option_map (λ s. s.now) c.get_str-2.result ≡ None =
-    c.get_str-2.ensures ∙ first_value-rows (found_of c.in_ok-found.found) (codes "category") ∙ ap (first_of (codes "category")) rows ∙ ap (λ (v : Values). v.category) (found words path named) in
-    absurd (alike c.is_some.result c.is_some-2.result (c.is_some.ensures ∙ none_of (λ s. s.now) c.get_str.result untraced)
-    (c.is_some-2.ensures ∙ none_of (λ s. s.now) c.get_str-2.result uncategorized) c.if-is_some.false)
+    path_told (map g.S.AsStr.text c.args.words.now) c.told_of-2.result path (returns-clause-told g c) named
 
 pub returns-clause-alone : goal.returns-clause-alone
 returns-clause-alone g c = λ path named.
-    let words = map g.S.AsStr.text c.args.words.now in
-    let rows : rows_of (found_of c.in_ok-found.found) ≡ matches_of audit words =
-    (c.in_ok-found.ensures.matches (ap is_simple c.in_ok-either.ensures.app ∙ is_plain)).0 ∙ ap (λ a. matches_of a words) c.in_ok-either.ensures.app in
-    let untraced : option_map (λ s. s.now) c.get_str.result ≡ None =
-    c.get_str.ensures ∙ first_value-rows (found_of c.in_ok-found.found) (codes "from") ∙ ap (first_of (codes "from")) rows ∙ ap (λ (v : Values). v.«from») (found words path named) in
-    let uncategorized : option_map (λ s. s.now) c.get_str-2.result ≡ None =
-    c.get_str-2.ensures ∙ first_value-rows (found_of c.in_ok-found.found) (codes "category") ∙ ap (first_of (codes "category")) rows ∙ ap (λ (v : Values). v.category) (found words path named) in
-    absurd (alike c.is_some.result c.is_some-2.result (c.is_some.ensures ∙ none_of (λ s. s.now) c.get_str.result untraced)
-    (c.is_some-2.ensures ∙ none_of (λ s. s.now) c.get_str-2.result uncategorized) c.if-is_some.false)
+    options_told (map g.S.AsStr.text c.args.words.now) c.told_of-2.result path (returns-clause-told g c) named
 
 pub returns-clause-hidden : goal.returns-clause-hidden
 returns-clause-hidden g c = λ path named.
-    let words = map g.S.AsStr.text c.args.words.now in
-    let rows : rows_of (found_of c.in_ok-found.found) ≡ matches_of audit words =
-    (c.in_ok-found.ensures.matches (ap is_simple c.in_ok-either.ensures.app ∙ is_plain)).0 ∙ ap (λ a. matches_of a words) c.in_ok-either.ensures.app in
-    let untraced : option_map (λ s. s.now) c.get_str.result ≡ None =
-    c.get_str.ensures ∙ first_value-rows (found_of c.in_ok-found.found) (codes "from") ∙ ap (first_of (codes "from")) rows ∙ ap (λ (v : Values). v.«from») (found words path named) in
-    let uncategorized : option_map (λ s. s.now) c.get_str-2.result ≡ None =
-    c.get_str-2.ensures ∙ first_value-rows (found_of c.in_ok-found.found) (codes "category") ∙ ap (first_of (codes "category")) rows ∙ ap (λ (v : Values). v.category) (found words path named) in
-    absurd (alike c.is_some.result c.is_some-2.result (c.is_some.ensures ∙ none_of (λ s. s.now) c.get_str.result untraced)
-    (c.is_some-2.ensures ∙ none_of (λ s. s.now) c.get_str-2.result uncategorized) c.if-is_some.false)
+    hidden_told (map g.S.AsStr.text c.args.words.now) c.told_of-2.result path (returns-clause-told g c) named
