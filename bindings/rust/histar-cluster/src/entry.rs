@@ -67,3 +67,8 @@ pub(crate) fn read<M: Machine>(bytes: &[u8]) -> Option<Vec<Item<M::Call>>> {
     }
     Some(items)
 }
+
+/// Items that were added one after another.
+pub(crate) fn items<M: Machine>(mut bytes: &[u8]) -> impl Iterator<Item = Item<M::Call>> + '_ {
+    std::iter::from_fn(move || next::<M>(&mut bytes))
+}

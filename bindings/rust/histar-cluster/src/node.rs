@@ -4,6 +4,7 @@ use crate::agreements::Agreements;
 use crate::engine::{Answer, Request};
 use crate::keys::{Key, Keys};
 use crate::receipt::{Fault, Note, Receipt};
+use crate::replica::Start;
 use crate::sha256::Digest;
 use crate::state::{Boot, Mark, State};
 use crate::{Machine, Name};
@@ -180,6 +181,14 @@ impl<M: Machine> Node<M> {
     /// The machine, for calls that change nothing; none before it is booted and once the node has stopped.
     pub fn machine(&mut self) -> Option<&mut M> {
         self.state_mut().map(|state| &mut state.machine)
+    }
+
+    /// Where a replica of the machine begins; nothing before it is booted and once the node has stopped.
+    ///
+    /// # Errors
+    /// [`Fault::NoMemory`], and where no machine of this kind begins at a state.
+    pub fn start(&self) -> Option<Result<Start<M>, Fault>> {
+        self.state().map(State::start)
     }
 
     /// What the node has seen: all of the log up to a place.

@@ -2,7 +2,7 @@
 use crate::engine::{Answer, Answers, Engine, Request, TakesAnswers};
 use crate::node::{Node, Options, Output, Status};
 use crate::receipt::{Fault, Note, Receipt, Told};
-use crate::{Item, Machine};
+use crate::{Item, Machine, Replica};
 use histar::trusted::{Record, Thread};
 use histar::{Call, Kernel, Refusal, Reply};
 use std::collections::HashMap;
@@ -72,11 +72,24 @@ impl<M: Machine> TakesAnswers for Shared<M> {
     }
 }
 
-/// A node, as threads of a program use it. It runs until it is dropped; its incarnation is closed by another node then, or by its next start.
+/// A node, as threads of a program use it. It runs until it and its readers are dropped; its incarnation is closed by another node then, or by
+/// its next start.
 pub struct Running<M: Machine> {
     shared: Arc<Shared<M>>,
-    // The thread in which time passes ends with it.
-    _time: Sender<()>,
+    // The thread in which time passes ends with the last of these.
+    time: Sender<()>,
+}
+
+/// A seat at a node for one thread that reads, by a machine of its own: it waits for no other reader, nor for what the node does. What it has
+/// not played yet it keeps, 8 MiB at most, until it reads.
+///
+/// ```
+/// fn can_be_sent<T: Send + 'static>() {}
+/// can_be_sent::<histar_cluster::Reader<histar::Kernel>>();
+/// ```
+pub struct Reader<M: Machine> {
+    node: Running<M>,
+    replica: Replica<M>,
 }
 
 /// The receipt that a caller waits for.
@@ -114,7 +127,7 @@ where
                 shared.with(|core| core.node.tick());
             }
         });
-        Running { shared, _time: time }
+        Running { shared, time }
     }
 
     /// Submits up to 16 items, which are played together.
@@ -144,6 +157,23 @@ where
         let mut core = self.booted()?;
         let machine = core.node.machine().unwrap_or_else(|| unreachable!("the node has booted"));
         Ok(read(machine))
+    }
+
+    /// A seat for a thread that reads.
+    ///
+    /// # Errors
+    /// Why the node has stopped; [`Fault::NoMemory`] where there is none for another machine.
+    pub fn reader(&self) -> Result<Reader<M>, Fault> {
+        let node = Running { shared: self.shared.clone(), time: self.time.clone() };
+        let replica = node.replica()?;
+        Ok(Reader { node, replica })
+    }
+
+    fn replica(&self) -> Result<Replica<M>, Fault> {
+        let core = self.booted()?;
+        let start = core.node.start().unwrap_or_else(|| unreachable!("the node has booted"));
+        drop(core); // (what takes the longest, others need not wait for)
+        start?.open()
     }
 
     /// Waits until the node has a machine.
@@ -205,6 +235,25 @@ where
     /// How the node is, unless it has not booted yet or has stopped.
     pub fn status(&self) -> Option<Status> {
         self.shared.core().node.status()
+    }
+}
+
+impl<M: Machine + Send + 'static> Reader<M>
+where
+    M::Reply: Send,
+{
+    /// Reads of the machine, which has all that the node has played: what the node has told, and what it has [reached](Running::reaches). A read
+    /// that no thread of the cluster could make is the caller's fault.
+    ///
+    /// # Errors
+    /// As [`Running::reader`].
+    pub fn read<T>(&mut self, read: impl FnOnce(&mut M) -> T) -> Result<T, Fault> {
+        loop {
+            if let Some(machine) = self.replica.machine() {
+                return Ok(read(machine));
+            }
+            self.replica = self.node.replica()?;
+        }
     }
 }
 

@@ -2,6 +2,7 @@
 use crate::entry::{self, Item};
 use crate::keys::{Keys, Lane, LogKey};
 use crate::order::{Order, Turn};
+use crate::replica::{Played, Start};
 use crate::sha256::{sha256, Digest};
 use crate::spelling::{put_bytes, put_number, take, take_bytes, take_number};
 use crate::{Fault, Machine, Name, Told, Unrestored, Written};
@@ -89,6 +90,7 @@ pub(crate) struct State<M> {
     marked: u64,
     // Of all entries and replies so far.
     digest: Digest,
+    played: Played,
 }
 
 impl<M: Machine> State<M> {
@@ -100,7 +102,20 @@ impl<M: Machine> State<M> {
         }
         let owners = BTreeMap::from([(BOOT_THREAD, boot.first.clone())]);
         let (order, rules) = (Order::default(), boot.rules);
-        Ok(State { keys, boot, machine, order, owners, rules, entries: 0, place: 0, marked: 0, digest: [0; 32] })
+        let played = Played::default();
+        Ok(State {
+            keys,
+            boot,
+            machine,
+            order,
+            owners,
+            rules,
+            entries: 0,
+            place: 0,
+            marked: 0,
+            digest: [0; 32],
+            played,
+        })
     }
 
     /// How many entries have counted.
@@ -148,9 +163,12 @@ impl<M: Machine> State<M> {
         put_number(&mut trace, place);
         put_bytes(&mut trace, key);
         put_bytes(&mut trace, value);
-        let mut told = Vec::new();
+        let (mut told, mut played) = (Vec::new(), Vec::new());
         for item in entry::read::<M>(value).unwrap_or_default() {
             let answer = self.play_item(&lane.of.node, &item)?;
+            if self.played.is_read() && !matches!(answer, Told::OtherNode) {
+                entry::add::<M>(&mut played, &item);
+            }
             match &answer {
                 Told::Reply(reply) => M::put_reply(reply, &mut trace),
                 Told::Done => trace.push(1),
@@ -158,6 +176,7 @@ impl<M: Machine> State<M> {
             }
             told.push(answer);
         }
+        self.played.add(played);
         self.digest = sha256(&trace);
         self.entries += 1;
         self.place = place;
@@ -190,6 +209,15 @@ impl<M: Machine> State<M> {
                 self.rules = *rules;
                 Ok(Told::Done)
             }
+        }
+    }
+
+    /// Where a replica of the machine begins.
+    pub fn start(&self) -> Result<Start<M>, Fault> {
+        match self.machine.checkpoint() {
+            Written::State(state) => Ok(self.played.start(&self.boot.limits, self.rules, state)),
+            Written::Never => Err(Fault::NoMachine("it is begun at no state".into())),
+            Written::NoMemory => Err(Fault::NoMemory),
         }
     }
 
@@ -271,12 +299,13 @@ impl<M: Machine> State<M> {
             place,
             marked,
             digest,
+            played: Played::default(),
         }))
     }
 }
 
 /// A machine in a state, under these rules.
-fn restored<M: Machine>(limits: &[u8], rules: u64, state: &[u8]) -> Result<M, Fault> {
+pub(crate) fn restored<M: Machine>(limits: &[u8], rules: u64, state: &[u8]) -> Result<M, Fault> {
     let mut machine = M::restore(limits, state).map_err(|why| match why {
         Unrestored::NoState => Fault::NoCheckpoint,
         Unrestored::NoMemory => Fault::NoMemory,

@@ -127,10 +127,16 @@ fn state(node: &Running<Kernel>) -> (u64, Digest, String) {
     (status.entries, status.digest, text)
 }
 
+/// The text of a reader's kernel.
+fn read(node: &Running<Kernel>) -> String {
+    node.reader().expect("a reader").read(|kernel| kernel.checkpoint()).expect("a machine").expect("a text")
+}
+
 /// All nodes are in one state.
 fn are_alike(nodes: &[&Running<Kernel>]) {
     see_all(nodes);
     nodes.iter().for_each(|node| assert_eq!(state(node), state(nodes[0])));
+    nodes.iter().for_each(|node| assert_eq!(read(node), state(node).2));
 }
 
 #[test]

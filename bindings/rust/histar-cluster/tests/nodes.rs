@@ -6,6 +6,8 @@ use histar_cluster::engine::Request;
 use histar_cluster::memory::{Memory, Store};
 use histar_cluster::{Fault, Item, Name, Options, Receipt, Running, Told, Uncalled};
 use model::{Call, Model, Reply};
+use std::collections::BTreeSet;
+use std::sync::atomic::{AtomicBool, AtomicU64, Ordering};
 use std::time::Duration;
 
 fn name(text: &str) -> Name {
@@ -72,6 +74,55 @@ fn a_read_sees_what_its_note_tells() {
 }
 
 #[test]
+fn readers_see_what_their_nodes_are_told() {
+    let store = Memory::new();
+    let (north, south) = north_and_south(&store);
+    let (last, is_over) = (AtomicU64::new(0), AtomicBool::new(false));
+    std::thread::scope(|scope| {
+        let readers: Vec<_> = [&north, &south, &south, &south]
+            .map(|node| node.reader().expect("a reader"))
+            .into_iter()
+            .map(|mut reader| {
+                let (last, is_over) = (&last, &is_over);
+                scope.spawn(move || {
+                    let mut seen = BTreeSet::new();
+                    while !is_over.load(Ordering::Acquire) {
+                        let number = last.load(Ordering::Acquire);
+                        let has = |model: &mut Model| number == 0 || model.replies.contains_key(&number);
+                        assert!(reader.read(has).expect("a machine"));
+                        seen.insert(number);
+                    }
+                    (seen.len(), reader.read(|model| model.replies.clone()).expect("a machine"))
+                })
+            })
+            .collect();
+        for number in 1..300 {
+            assert!(matches!(told(&north, &[call(2, number, 0)])[0], Told::Reply(_)));
+            assert_eq!(told(&south, &[call(2, 1000 + number, 0)]), [Told::OtherNode]);
+            last.store(number, Ordering::Release);
+        }
+        is_over.store(true, Ordering::Release);
+        let replies = north.read(|model| model.replies.clone()).expect("a machine");
+        for it in readers {
+            let (seen, read) = it.join().expect("no reader panics");
+            assert!(seen > 1 && read == replies, "{seen}");
+        }
+    });
+}
+
+#[test]
+fn a_node_runs_while_it_is_read() {
+    let store = Memory::new();
+    let (north, south) = north_and_south(&store);
+    let mut reader = south.reader().expect("a reader");
+    drop(south);
+    told(&north, &[call(2, 1, 0)]);
+    while !reader.read(|model| model.replies.contains_key(&1)).expect("a machine") {
+        std::thread::yield_now();
+    }
+}
+
+#[test]
 fn a_thread_calls_by_its_node_alone() {
     let store = Memory::new();
     let north = open(&store, "north");
@@ -100,9 +151,12 @@ fn unknown_rules_stop_each_node_at_their_place() {
     let store = Memory::new();
     let (north, south) = north_and_south(&store);
     assert_eq!(told(&north, &[Item::Rules(2)]), [Told::Done]);
+    let mut reader = north.reader().expect("a reader");
+    assert_eq!(reader.read(|model| model.replies.len()), Ok(0));
     let waiting = north.submit(&[call(2, 1, 0), Item::Rules(3)]).expect("a node that runs");
     assert_eq!((waiting.wait(), stops(&north), stops(&south)), (None, Fault::UnknownRules(3), Fault::UnknownRules(3)));
     assert_eq!(north.latest(), Err(Uncalled::Stopped(Fault::UnknownRules(3))));
+    assert_eq!(reader.read(|model| model.replies.len()), Err(Fault::UnknownRules(3)));
 }
 
 #[test]
