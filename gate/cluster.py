@@ -1,5 +1,5 @@
 """The crates for many machines. The protocol is played against a simulated engine from seeds, and each wrong rule of
-bindings/rust/histar-cluster/wrong has to be caught by one; a wrong rule that doesn't compile is not caught. Over etcd, where its
+bindings/rust/histar-cluster/wrong has to be caught by several; a wrong rule that doesn't compile is not caught. Over etcd, where its
 client's packages are: a member is killed and paused, roles hold a node to its keys, and faults are done to three members and nodes."""
 import glob
 import os
@@ -16,7 +16,9 @@ PACKAGES = "/usr/share/cargo/registry"
 SECONDS, SEED = int(os.environ.get("CLUSTER_SECONDS", "60")), 1
 CRATE = "bindings/rust/histar-cluster"
 # So many runs, and so many steps each: over 10,000 faults are done in a minute.
-RUNS, STEPS = "600", "3000"
+RUNS, STEPS = "600", "6000"
+# So many of these seeds have to catch a wrong rule.
+SEEDS = 5
 # A wrong rule is mostly caught by one of the first seeds, so that it is compiled quickly tells most.
 QUICKLY = {"CARGO_PROFILE_DEV_OPT_LEVEL": "1", "CARGO_PROFILE_DEV_DEBUG": "0"}
 EDIT = re.compile(r"file: (\S+)\nold: (.*?)\nnew: (.*)\n", re.S)
@@ -45,7 +47,7 @@ class Cluster:
         self.env = {**os.environ, "HISTAR_LIB": os.path.realpath(library), "CARGO_TARGET_DIR": f"{room}/cluster-target", **QUICKLY}
         cargo = ["cargo", "test", "--offline", "--quiet", "--manifest-path", f"{self.tree}/Cargo.toml", "--package", "histar-cluster"]
         self.build = [*cargo, "--test", "simulation", "--no-run"]
-        self.play = [*cargo, "--test", "simulation", "--", RUNS, STEPS]
+        self.play = [*cargo, "--test", "simulation", "--", RUNS, STEPS, "1"]
 
     def try_protocol(self):
         status, said = told(self.play, self.env)
@@ -55,7 +57,7 @@ class Cluster:
         self.report.counts(status == 0, f"the cluster's protocol: {summary}")
 
     def is_caught(self, edit):
-        """Whether a seed catches a wrong rule. What it said stands in its place where not."""
+        """Whether so many seeds catch a wrong rule, and what was said."""
         change = edited(edit)
         if not change:
             return False, "what it replaces stands there not once"
@@ -67,8 +69,8 @@ class Cluster:
                 it.write(written)
             if told(self.build, self.env)[0] != 0:
                 return False, "it does not compile"
-            status, said = told(self.play, self.env)
-            return status != 0 and "seed " in said, said
+            status, said = told([*self.play, str(SEEDS)], self.env)
+            return status != 0 and len(re.findall(r"^seed \d+ of ", said, re.M)) >= SEEDS, said
         finally:
             with open(place, "w", encoding="utf-8") as it:
                 it.write(right)
@@ -81,7 +83,7 @@ class Cluster:
             if not is_caught:
                 self.report.say(f"{edit}: {said[-300:]}")
                 missed.append(os.path.basename(edit))
-        self.report.counts(bool(edits) and not missed, f"seeds catch {len(edits)} wrong rules of the cluster" + "".join(f", but not {it}" for it in missed))
+        self.report.counts(bool(edits) and not missed, f"{SEEDS} of {RUNS} seeds or more catch each of {len(edits)} wrong rules of the cluster" + "".join(f", but not {it}" for it in missed))
 
 
 def try_engine(report, library, room, auditor):

@@ -123,7 +123,18 @@ impl Store {
 
     /// The lease at a place ends, and its keys with it.
     pub fn end_lease(&mut self, place: usize) {
-        let Some(lease) = self.leases.iter().nth(place % self.leases.len().max(1)).copied() else { return };
+        let lease = self.leases.iter().nth(place % self.leases.len().max(1)).copied();
+        lease.into_iter().for_each(|lease| self.end(lease));
+    }
+
+    /// The leases of the keys of a range end, and their keys with them.
+    pub fn end_leases_of(&mut self, from: &[u8], to: &[u8]) {
+        let keys = self.keys.range(from.to_vec()..to.to_vec());
+        let leases: Vec<u64> = keys.filter_map(|(_, versions)| versions.last()?.lease).collect();
+        leases.into_iter().for_each(|lease| self.end(lease));
+    }
+
+    fn end(&mut self, lease: u64) {
         self.leases.remove(&lease);
         let is_of = |versions: &[Version]| {
             versions.last().is_some_and(|last| last.value.is_some() && last.lease == Some(lease))

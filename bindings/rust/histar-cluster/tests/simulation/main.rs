@@ -2,7 +2,8 @@
 //! and watches are lost; nodes are killed and paused; leases end at any time, as by a moved clock; the log is dropped; a node lies; the engine
 //! loses its disks; a node lacks memory for its checkpoints. No promise to a caller may be broken.
 //!
-//! `simulation [RUNS [STEPS [SEED]]]`: so many runs of so many steps of a model, from a seed on, and a tenth of them with the proved kernel.
+//! `simulation [RUNS [STEPS [SEED [SEEDS]]]]`: so many runs of so many steps of a model, from a seed on, and a tenth of them with the proved
+//! kernel; until so many seeds have broken a promise.
 mod model;
 mod player;
 #[path = "../../src/sha256.rs"]
@@ -17,16 +18,36 @@ fn digest(bytes: &[u8]) -> sha256::Digest {
     sha256::sha256(bytes)
 }
 
-/// Plays so many runs. The first promise that is broken, with its seed.
-fn play<P: Player>(what: &str, runs: u64, steps: u64, first: u64) -> Result<(), String> {
-    let mut all = Counts::default();
-    for seed in first..first + runs {
+/// Plays a run. A promise that is broken; a panic breaks each.
+fn run<P: Player>(seed: u64, steps: u64) -> Result<Counts, String> {
+    let played = std::panic::catch_unwind(|| {
         let mut world = World::<P>::new(seed);
         world.run(steps);
-        if let Some(broken) = world.broken {
-            return Err(format!("seed {seed} of {what}: {broken}"));
-        }
-        let Counts { faults, answered, never, unseen, unknown, refused } = world.counts;
+        (world.broken, world.counts)
+    });
+    match played {
+        Err(_) => Err("a panic".into()),
+        Ok((Some(broken), _)) => Err(broken),
+        Ok((None, counts)) => Ok(counts),
+    }
+}
+
+/// Plays so many runs, until so many seeds have broken a promise. Whether none has.
+fn play<P: Player>(what: &str, runs: u64, steps: u64, first: u64, seeds: u64) -> bool {
+    let mut all = Counts::default();
+    let mut left = seeds;
+    for seed in first..first + runs {
+        let Counts { faults, answered, never, unseen, unknown, refused } = match run::<P>(seed, steps) {
+            Ok(counts) => counts,
+            Err(broken) => {
+                println!("seed {seed} of {what}: {broken}");
+                left -= 1;
+                if left == 0 {
+                    return false;
+                }
+                continue;
+            }
+        };
         all.faults += faults;
         all.answered += answered;
         all.never += never;
@@ -36,20 +57,23 @@ fn play<P: Player>(what: &str, runs: u64, steps: u64, first: u64) -> Result<(), 
     }
     println!(
         "{runs} runs of {what}: {} faults; {} submissions answered, {} never made, {} made unseen, {} unknown, {} calls of other nodes' \
-         threads refused; no promise broken",
-        all.faults, all.answered, all.never, all.unseen, all.unknown, all.refused
+         threads refused; {} promises broken",
+        all.faults,
+        all.answered,
+        all.never,
+        all.unseen,
+        all.unknown,
+        all.refused,
+        seeds - left
     );
-    Ok(())
+    left == seeds
 }
 
 fn main() {
     let words: Vec<u64> = std::env::args().skip(1).filter_map(|word| word.parse().ok()).collect();
     let word = |place: usize, default: u64| words.get(place).copied().unwrap_or(default);
-    let (runs, steps, first) = (word(0, 60), word(1, 3000), word(2, 1));
-    let played = play::<model::Model>("a model", runs, steps, first)
-        .and_then(|()| play::<Real>("the kernel", runs / 10, steps, first));
-    if let Err(broken) = played {
-        println!("{broken}");
-        std::process::exit(1);
-    }
+    let (runs, steps, first, seeds) = (word(0, 60), word(1, 6000), word(2, 1), word(3, 1).max(1));
+    let is_well = play::<model::Model>("a model", runs, steps, first, seeds)
+        && play::<Real>("the kernel", runs / 10, steps, first, seeds);
+    std::process::exit(i32::from(!is_well));
 }

@@ -2,8 +2,26 @@
 use crate::player::Player;
 use histar_cluster::engine::{Answer, Request};
 use histar_cluster::memory::Store;
-use histar_cluster::{Fault, Item, Name, Node, Options, Output, Receipt, Told, LOOK};
+use histar_cluster::{Fault, Item, Name, Node, Options, Output, Receipt, Replica, Start, Told, LOOK};
 use std::collections::{BTreeMap, BTreeSet};
+
+/// The nodes that call.
+const NODES: [&str; 3] = ["a", "b", "c"];
+
+/// Where nothing changes in so many turns, a call that was submitted is answered.
+const SHORT: usize = 8;
+
+/// Where nothing changes in so many turns, nothing is left to be done.
+const LONG: usize = 20;
+
+/// After so many turns a node that gets nowhere never will.
+const MOST: usize = 300;
+
+/// In so many of 1,000 cases where nothing else befalls a node, it is away for long.
+const AWAY: u64 = 20;
+
+/// The same of a node that has just begun an incarnation.
+const NEW: u64 = 250;
 
 /// Calls with such numbers are made by a node that lies, as threads of others.
 const LIES: u64 = 1 << 40;
@@ -37,12 +55,26 @@ type Submitted = (Vec<u64>, usize, Option<(u64, usize)>);
 /// A process that runs a node.
 struct Process<P: Player> {
     node: Node<P>,
+    /// The machine of a reader.
+    replica: Option<Replica<P>>,
     start: u64,
     paused: u64,
+    /// It is away until the others have gone on past this place.
+    left: Option<u64>,
     inbox: Vec<(u64, u64, Answer)>,
     watch: Option<Watch>,
     /// What was submitted under a ticket.
     waiting: BTreeMap<u64, Submitted>,
+}
+
+impl<P: Player> Process<P> {
+    /// The machine of a reader; none where the node has none, or lacks memory.
+    fn reads(&mut self) -> Option<&mut P> {
+        if self.replica.as_mut().and_then(Replica::machine).is_none() {
+            self.replica = self.node.start()?.and_then(Start::open).ok();
+        }
+        self.replica.as_mut().and_then(Replica::machine)
+    }
 }
 
 /// A request on its way.
@@ -71,8 +103,11 @@ pub struct World<P: Player> {
     memory: Random,
     store: Store,
     sent: Vec<Sent>,
+    /// Requests that arrive once so many steps were done.
+    held: BTreeMap<u64, Sent>,
+    steps: u64,
     processes: Vec<Process<P>>,
-    /// The threads by which each node calls: its own, as far as it knows.
+    /// The threads by which each node calls: its own, as far as it knows. The first is its own for good.
     threads: [Vec<u64>; 3],
     starts: u64,
     calls: u64,
@@ -83,7 +118,9 @@ pub struct World<P: Player> {
     answered: Vec<(u64, P::Reply)>,
     never: BTreeSet<u64>,
     unseen: BTreeSet<u64>,
-    is_healed: bool,
+    is_quiet: bool,
+    /// Faults are rarer by this factor.
+    calm: u64,
     lacks_checkpoints: bool,
     pub counts: Counts,
     pub broken: Option<String>,
@@ -100,8 +137,10 @@ impl<P: Player> World<P> {
             memory: Random(!seed),
             store: Store::new(),
             sent: Vec::new(),
+            held: BTreeMap::new(),
+            steps: 0,
             processes: Vec::new(),
-            threads: [vec![2], vec![2], vec![2]],
+            threads: Default::default(),
             starts: 0,
             calls: 0,
             tickets: 0,
@@ -110,16 +149,34 @@ impl<P: Player> World<P> {
             answered: Vec::new(),
             never: BTreeSet::new(),
             unseen: BTreeSet::new(),
-            is_healed: false,
+            is_quiet: false,
+            calm: [1, 2, 6][seed as usize % 3],
             lacks_checkpoints: false,
             counts: Counts::default(),
             broken: None,
         };
-        for node in ["a", "b", "c"] {
-            let process = world.process(node);
-            world.processes.push(process);
+        if seed % 4 > 0 {
+            world.begin();
+        } else {
+            world.threads = [(); 3].map(|()| vec![2; 2]);
+            NODES.iter().for_each(|node| world.start(node));
         }
         world
+    }
+
+    /// The first node boots, makes a thread for each, and hands them over. Then the others start. (Else all start at once.)
+    fn begin(&mut self) {
+        self.is_quiet = true;
+        self.start(NODES[0]);
+        self.submits(0, &[(2, 1); 3], None);
+        self.settle(SHORT);
+        for (to, thread) in std::mem::take(&mut self.threads[0]).into_iter().enumerate() {
+            self.submits(0, &[], Some((thread, to)));
+            self.settle(SHORT);
+        }
+        self.threads.iter_mut().for_each(|threads| threads.push(2));
+        NODES[1..].iter().for_each(|node| self.start(node));
+        self.is_quiet = false;
     }
 
     fn process(&mut self, node: &str) -> Process<P> {
@@ -134,31 +191,47 @@ impl<P: Player> World<P> {
         };
         Process {
             node: Node::new(options),
+            replica: None,
             start: self.starts,
             paused: 0,
+            left: None,
             inbox: Vec::new(),
             watch: None,
             waiting: BTreeMap::new(),
         }
     }
 
+    fn start(&mut self, node: &str) {
+        let process = self.process(node);
+        self.processes.push(process);
+    }
+
     fn breaks(&mut self, what: impl Into<String>) {
         self.broken.get_or_insert(what.into());
     }
 
+    /// Whether a fault is done that befalls so many of a thousand in the roughest of worlds.
     fn fault(&mut self, thousandths: u64) -> bool {
-        let hits = !self.is_healed && self.random.hits(thousandths);
+        self.aimed(thousandths / self.calm)
+    }
+
+    /// The same of a fault that is aimed at some rule.
+    fn aimed(&mut self, thousandths: u64) -> bool {
+        let hits = !self.is_quiet && self.random.hits(thousandths);
         self.counts.faults += u64::from(hits);
         hits
     }
 
     /// One thing happens.
     pub fn step(&mut self) {
+        self.steps += 1;
+        self.sent.extend(self.held.remove(&self.steps));
         let process = self.random.below(self.processes.len() as u64) as usize;
         match self.random.below(100) {
             0..=39 => self.deliver(),
             40..=59 => self.report(process),
-            60..=84 => self.turn(process),
+            60..=79 => self.turn(process),
+            80..=84 => self.look_around(process),
             85..=93 => self.submit(process),
             _ => self.hurt(process),
         }
@@ -170,6 +243,8 @@ impl<P: Player> World<P> {
             self.restart(process);
         } else if self.fault(80) {
             self.pause(process);
+        } else if self.aimed(AWAY) {
+            self.leave(process);
         } else if self.fault(150) {
             let place = self.random.below(8) as usize;
             self.store.end_lease(place);
@@ -182,19 +257,42 @@ impl<P: Player> World<P> {
 
     /// A node stands still, for a short time or for one in which its watch ends.
     fn pause(&mut self, process: usize) {
-        self.submit(process);
         let is_long = self.random.below(3) == 0;
-        let most = if is_long { 400 } else { 60 };
+        let time = self.random.below(if is_long { 400 } else { 60 });
+        self.stop(process, time, is_long);
+    }
+
+    /// A node stands still for so many turns after it submitted something.
+    fn stop(&mut self, process: usize, time: u64, ends_watch: bool) {
+        self.submit(process);
         let it = &mut self.processes[process];
-        it.paused = self.random.below(most);
-        if let Some(watch) = if is_long { it.watch.take() } else { None } {
+        it.paused = time;
+        if let Some(watch) = if ends_watch { it.watch.take() } else { None } {
             it.inbox.push((watch.number, self.store.id, Answer::Ended));
         }
     }
 
+    /// A node is away until the others have gone on without it, and the engine has forgotten what was before.
+    fn leave(&mut self, process: usize) {
+        if self.processes.iter().any(|it| it.left.is_some()) {
+            return; // (so that two are there to agree)
+        }
+        self.stop(process, 400, true);
+        self.processes[process].left = Some(self.store.revision);
+        self.end_leases(process);
+    }
+
+    /// Mostly the leases of a node end.
+    fn end_leases(&mut self, process: usize) {
+        if self.random.below(4) > 0 {
+            let fences = |end: &str| format!("/sim/fence/{}{end}", NODES[process]).into_bytes();
+            self.store.end_leases_of(&fences("/"), &fences("0"));
+        }
+    }
+
     fn restart(&mut self, process: usize) {
-        let node = ["a", "b", "c"][process];
-        self.processes[process] = self.process(node);
+        self.processes[process] = self.process(NODES[process]);
+        self.end_leases(process);
     }
 
     /// A node that lies puts an entry of other nodes' threads, bytes that are no entry, or a checkpoint that no other agrees on.
@@ -238,18 +336,17 @@ impl<P: Player> World<P> {
         if self.sent.is_empty() {
             return;
         }
-        let is_first = self.is_healed || self.random.hits(500);
+        let is_first = self.is_quiet || self.random.hits(500);
         let at = if is_first { 0 } else { self.random.below(self.sent.len() as u64) as usize };
         let sent = self.sent.remove(at);
         if self.fault(80) {
             return self.told(&sent, Answer::Lost);
         }
-        let is_of_a_mark = |key: &[u8]| key.starts_with(b"/sim/state/") || key.starts_with(b"/sim/log/a/");
-        let is_of_a_mark = matches!(&sent.request, Request::Put { key, .. } if is_of_a_mark(key));
-        if is_of_a_mark && sent.process < 3 && self.fault(100) {
+        if let Some(place) = place_of_mark(&sent.request).filter(|_| sent.process < 3 && self.aimed(100)) {
             // (it dies before its checkpoint or its agreement is put, and is started anew after some time)
             self.restart(sent.process);
-            self.processes[sent.process].paused = self.random.below(400);
+            self.processes[sent.process].left = Some(place);
+            self.processes[sent.process].paused = 100 + self.random.below(300);
             return;
         }
         let page = 1 + self.random.below(6) as usize;
@@ -263,8 +360,12 @@ impl<P: Player> World<P> {
         }
         let answer = if self.fault(100) { Answer::Lost } else { answer };
         self.told(&sent, answer);
+        let process = sent.process;
         if self.fault(50) {
             self.sent.push(Sent { is_given_up: true, ..sent }); // (it is done twice)
+        }
+        if self.random.below(2) == 0 {
+            self.turn(process);
         }
     }
 
@@ -302,12 +403,19 @@ impl<P: Player> World<P> {
 
     /// A node takes what came in, and time passes for it. It may lack memory for its checkpoints for some time.
     fn turn(&mut self, process: usize) {
-        let lacks = !self.is_healed && self.memory.hits(30);
+        let lacks = !self.is_quiet && self.memory.hits(30);
         let it = &mut self.processes[process];
+        if it.left.is_some_and(|place| has_gone_on(&self.store, NODES[process], place)) {
+            it.paused = 0;
+        }
         if it.paused > 0 {
             it.paused -= 1;
             return;
         }
+        if it.left.take().is_some() {
+            self.store.forget();
+        }
+        let incarnation = it.node.status().and_then(|status| status.incarnation);
         if let Some(machine) = it.node.machine() {
             machine.lack_memory(lacks);
         }
@@ -316,11 +424,20 @@ impl<P: Player> World<P> {
             it.node.answer(number, engine, answer);
         }
         it.node.tick();
-        if self.random.below(4) == 0 {
-            (0..LOOK).for_each(|_| self.processes[process].node.tick());
-        }
         let before = reached.map_or(0, |note| note.place);
         self.look(process, before);
+        let registered = self.processes[process].node.status().and_then(|status| status.incarnation);
+        if registered.is_some() && registered != incarnation && self.aimed(NEW) {
+            self.leave(process);
+        }
+    }
+
+    /// So much time passes for a node that it looks around.
+    fn look_around(&mut self, process: usize) {
+        if self.processes[process].paused == 0 {
+            (0..LOOK).for_each(|_| self.processes[process].node.tick());
+            self.turn(process);
+        }
     }
 
     /// Looks at what a node has played, sends and tells.
@@ -341,7 +458,7 @@ impl<P: Player> World<P> {
             self.breaks("a node went back");
         }
         if let Some(fault) = self.processes[process].node.fault() {
-            if *fault == Fault::NoMemory && !self.is_healed {
+            if *fault == Fault::NoMemory && !self.is_quiet {
                 return self.restart(process); // (as its operator does)
             }
             let is_right = match fault {
@@ -362,6 +479,10 @@ impl<P: Player> World<P> {
                     if self.fault(60) {
                         self.told(&sent, Answer::Lost); // (and it may arrive later)
                         sent.is_given_up = true;
+                        if self.random.below(3) == 0 {
+                            self.held.insert(self.steps + 200 + self.random.below(1000), sent);
+                            continue;
+                        }
                     }
                     self.sent.push(sent);
                 }
@@ -424,8 +545,9 @@ impl<P: Player> World<P> {
     /// A node sees the last of the first so many answered calls.
     fn sees(&mut self, process: usize, count: usize) {
         let Some((number, reply)) = count.checked_sub(1).map(|last| self.answered[last].clone()) else { return };
-        let seen = self.processes[process].node.machine().map(|it| it.has_answered(number, &reply));
-        if seen == Some(false) {
+        let it = &mut self.processes[process];
+        let seen = it.node.machine().map(|it| it.has_answered(number, &reply));
+        if seen == Some(false) || (process == 0 && it.reads().is_some_and(|it| !it.has_answered(number, &reply))) {
             self.breaks("a read is behind what its caller has seen");
         }
     }
@@ -433,34 +555,42 @@ impl<P: Player> World<P> {
     /// A caller submits some calls, or asks for the latest state.
     fn submit(&mut self, process: usize) {
         let count = self.random.below(4);
-        let mut numbers = Vec::new();
-        let mut items = Vec::new();
-        for _ in 0..count {
-            self.calls += 1;
-            let thread = self.thread_of(process);
-            let deed = if thread == 2 { self.random.below(2) } else { self.random.below(3) };
-            numbers.push(self.calls);
-            items.push(Item::Call(P::call(thread, self.calls, deed)));
-        }
-        let mut handed = None;
-        if self.random.below(12) == 0 {
-            let (thread, to) = (self.thread_of(process), self.random.below(3) as usize);
-            items.push(Item::HandOver { thread, to: name(["a", "b", "c"][to]) });
-            handed = Some((thread, to));
-        }
+        let calls: Vec<(u64, u64)> = (0..count).map(|_| self.call_of(process)).collect();
+        let is_handed = self.random.below(12) == 0;
+        let handed = is_handed.then(|| (self.thread_of(process), self.random.below(3) as usize));
+        self.submits(process, &calls, handed);
+    }
+
+    /// Submits calls of threads, each with its deed, and a thread that is handed over to a process.
+    fn submits(&mut self, process: usize, calls: &[(u64, u64)], handed: Option<(u64, usize)>) {
+        let first = self.calls + 1;
+        self.calls += calls.len() as u64;
         self.tickets += 1;
-        let (ticket, before) = (self.tickets, self.answered.len());
+        let numbers: Vec<u64> = (first..=self.calls).collect();
+        let call = |(number, (thread, deed)): (&u64, &(u64, u64))| Item::Call(P::call(*thread, *number, *deed));
+        let mut items: Vec<_> = numbers.iter().zip(calls).map(call).collect();
+        items.extend(handed.map(|(thread, to)| Item::HandOver { thread, to: name(NODES[to]) }));
+        let (ticket, answered) = (self.tickets, self.answered.len());
         let it = &mut self.processes[process];
         if it.node.fault().is_none() {
-            it.waiting.insert(ticket, (numbers, before, handed));
+            it.waiting.insert(ticket, (numbers, answered, handed));
             assert!(it.node.submit(ticket, &items));
             let before = it.node.seen().map_or(0, |note| note.place);
             self.look(process, before);
         }
     }
 
+    /// A thread by which a node calls, and what it does: the node's own one does not end, nor does the one that the machine boots with.
+    fn call_of(&mut self, process: usize) -> (u64, u64) {
+        let own = self.threads[process % 3][0];
+        let thread = if self.random.below(2) == 0 { own } else { self.thread_of(process) };
+        let deeds = if thread == own || thread == 2 { 2 } else { 3 };
+        (thread, self.random.below(deeds))
+    }
+
+    /// A thread that a node has or had, but its own one.
     fn thread_of(&mut self, process: usize) -> u64 {
-        let threads = &self.threads[process % 3];
+        let threads = &self.threads[process % 3][1..];
         let others = self.random.below(5); // (mostly one of the last, which it surely had)
         let back =
             if others > 0 { self.random.below(others.min(threads.len() as u64)) + 1 } else { threads.len() as u64 };
@@ -488,10 +618,10 @@ impl<P: Player> World<P> {
 
     /// No fault is done any more. Each caller has to be told, a new node has to come to the same state, and what was promised has to hold.
     fn heal(&mut self) {
-        self.is_healed = true;
-        let new = self.process("d");
-        self.processes.push(new);
-        self.settle();
+        self.is_quiet = true;
+        self.sent.extend(std::mem::take(&mut self.held).into_values());
+        self.start("d");
+        self.settle(LONG);
         if self.broken.is_some() {
             return;
         }
@@ -515,21 +645,35 @@ impl<P: Player> World<P> {
         }
     }
 
-    /// All processes go on until nothing is left to be done.
-    fn settle(&mut self) {
-        for _ in 0..200 {
+    /// All processes go on until each has seen all and nothing changes in so many turns, or for very many.
+    fn settle(&mut self, turns: usize) {
+        let (mut last, mut same) = (Vec::new(), 0);
+        for _ in 0..MOST {
             for process in 0..self.processes.len() {
                 self.processes[process].paused = 0;
                 for _ in 0..20 {
                     self.deliver();
                     self.report(process);
                 }
+                if self.random.below(4) == 0 {
+                    self.look_around(process);
+                }
                 self.turn(process);
             }
-            if self.broken.is_some() {
+            let now: Vec<_> = self.processes.iter().map(|it| (it.node.seen(), it.waiting.len())).collect();
+            same = if now == last && self.processes.iter().all(|it| self.has_seen_all(it)) { same + 1 } else { 0 };
+            if same == turns || self.broken.is_some() {
                 return;
             }
+            last = now;
         }
+    }
+
+    /// Whether a node has seen the whole log, or has stopped.
+    fn has_seen_all(&self, process: &Process<P>) -> bool {
+        let place = process.node.seen().map_or(0, |note| note.place);
+        let is_none = |events: Vec<_>| events.is_empty();
+        process.node.fault().is_some() || self.store.changes(b"/sim/log/", b"/sim/log0", place, 1).is_some_and(is_none)
     }
 
     /// How many entries each node has counted, and their digest; none of one that has stopped.
@@ -546,11 +690,10 @@ impl<P: Player> World<P> {
             self.store.put(&pair.key, &pair.value, None);
         }
         self.lacks_checkpoints = true;
-        let new = self.process("e");
-        self.processes.push(new);
-        self.settle();
-        let states = self.states();
-        if states.iter().flatten().any(|state| Some(*state) != states[0]) {
+        self.start("e");
+        self.settle(LONG);
+        let states: Vec<_> = self.states().into_iter().flatten().collect();
+        if states.iter().any(|state| *state != states[0]) {
             self.breaks("a new node plays what is left of the log without its checkpoint");
         }
     }
@@ -565,13 +708,38 @@ impl<P: Player> World<P> {
                 self.submit(process);
                 self.deliver();
                 self.report(process);
-                self.turn(process);
+                self.look_around(process);
             }
         }
         if self.processes.iter().any(|it| it.node.fault() != Some(&Fault::OtherEngine)) {
             self.breaks("a node goes on with another engine");
         }
     }
+}
+
+/// The place of a mark whose checkpoint or agreement is put.
+fn place_of_mark(request: &Request) -> Option<u64> {
+    match request {
+        Request::Put { key, .. } if key.starts_with(b"/sim/state/") || key.starts_with(b"/sim/log/a/") => place_in(key),
+        _ => None,
+    }
+}
+
+/// The place that a key ends with.
+fn place_in(key: &[u8]) -> Option<u64> {
+    let (_, text) = std::str::from_utf8(key).ok()?.rsplit_once('/')?;
+    u64::from_str_radix(text.get(1..)?, 16).ok()
+}
+
+/// Whether two nodes agree on a checkpoint of a later place, or nodes but this one have dropped their entries up to it.
+fn has_gone_on(store: &Store, node: &str, place: u64) -> bool {
+    let range = |from: &[u8], to: &[u8]| store.range(from, to, store.revision).into_iter();
+    let places = |from, to| range(from, to).filter_map(|pair| place_in(&pair.key)).filter(|it| *it > place);
+    let agreed: Vec<u64> = places(b"/sim/log/a/", b"/sim/log/a0").collect();
+    let is_agreed = |place: u64| agreed.iter().filter(|it| **it == place).count() >= 2;
+    let entries = |of: &str| range(format!("/sim/log/e/{of}/").as_bytes(), format!("/sim/log/e/{of}0").as_bytes());
+    let has_dropped = |of: &&str| *of == node || entries(of).all(|pair| pair.created > place);
+    places(b"/sim/state/", b"/sim/state0").any(is_agreed) || NODES.iter().all(has_dropped)
 }
 
 /// A number as keys spell it.
