@@ -20,6 +20,9 @@ mod write;
 /// After so many ticks a node looks around: it keeps its lease, and looks at the others' fences.
 pub const LOOK: u64 = 25;
 
+/// An engine that answers nothing for so many ticks is told of.
+const SILENT: u64 = 4 * LOOK;
+
 /// How a node is started.
 #[derive(Clone, Debug)]
 pub struct Options {
@@ -121,6 +124,8 @@ pub struct Node<M: Machine> {
     queue: VecDeque<Queued>,
     trouble: Option<String>,
     ticks: u64,
+    // The tick of the last answer.
+    last_answer: u64,
     registrations: u64,
     number: u64,
     asked: BTreeMap<u64, Asked>,
@@ -155,6 +160,7 @@ impl<M: Machine> Node<M> {
             queue: VecDeque::new(),
             trouble: None,
             ticks: 0,
+            last_answer: 0,
             registrations: 0,
             number: 0,
             asked: BTreeMap::new(),
@@ -208,8 +214,14 @@ impl<M: Machine> Node<M> {
             incarnation,
             waiting: self.queue.len() + self.writer.waiting(),
             unwritten: self.unwritten,
-            trouble: self.trouble.clone(),
+            trouble: self.trouble(),
         })
+    }
+
+    /// Why the engine does not do what the node asks, also before it has booted. What waits goes on once it does.
+    pub fn trouble(&self) -> Option<String> {
+        let is_silent = self.fault().is_none() && self.ticks >= self.last_answer + SILENT;
+        self.trouble.clone().or_else(|| is_silent.then(|| "no member of the engine answers".into()))
     }
 
     fn state(&self) -> Option<&State<M>> {
@@ -262,6 +274,7 @@ impl<M: Machine> Node<M> {
         if answer == Answer::Lost {
             return self.lost(asked);
         }
+        self.last_answer = self.ticks;
         if let Answer::Refused(why) = answer {
             self.trouble = Some(why);
             return self.lost(asked);

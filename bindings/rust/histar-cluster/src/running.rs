@@ -232,6 +232,11 @@ where
         self.shared.core().node.fault().cloned()
     }
 
+    /// Why the engine does not do what the node asks, also before it has booted.
+    pub fn trouble(&self) -> Option<String> {
+        self.shared.core().node.trouble()
+    }
+
     /// How the node is, unless it has not booted yet or has stopped.
     pub fn status(&self) -> Option<Status> {
         self.shared.core().node.status()

@@ -2,7 +2,7 @@
 #[path = "simulation/model.rs"]
 mod model;
 
-use histar_cluster::engine::Request;
+use histar_cluster::engine::{Answers, Engine, Request};
 use histar_cluster::memory::{Memory, Store};
 use histar_cluster::{Fault, Item, Name, Options, Receipt, Running, Told, Uncalled};
 use model::{Call, Model, Reply};
@@ -134,6 +134,29 @@ fn a_thread_calls_by_its_node_alone() {
     assert_eq!(told(&north, &[Item::HandOver { thread, to: name("south") }]), [Told::Done]);
     assert!(matches!(told(&south, &[call(thread, 3, 0)])[0], Told::Reply(_)));
     assert_eq!(told(&north, &[call(thread, 4, 0)]), [Told::OtherNode]);
+}
+
+/// An engine that is not there.
+struct Silent;
+
+impl Engine for Silent {
+    fn start(self, _: Answers) -> Box<dyn Fn(u64, Request) + Send> {
+        Box::new(|_, _| {})
+    }
+}
+
+#[test]
+fn an_engine_that_is_not_there_is_told_of() {
+    let north: Running<Model> = Running::open(Silent, options("north"));
+    let _waiting = north.submit(&[call(2, 1, 0)]).expect("a node that runs");
+    let trouble = loop {
+        if let Some(trouble) = north.trouble() {
+            break trouble;
+        }
+        std::thread::yield_now();
+    };
+    assert_eq!((trouble.as_str(), north.fault()), ("no member of the engine answers", None));
+    assert_eq!(open(&Memory::new(), "south").trouble(), None);
 }
 
 #[test]
