@@ -90,14 +90,24 @@ pub struct Replica<M> {
 impl<M: Machine> Replica<M> {
     /// The machine, once it has played all that the node's has. None where the node's is another one by now or is no more, or has played too
     /// much since: then a replica has to begin anew.
+    #[inline]
     pub fn machine(&mut self) -> Option<&mut M> {
+        if self.place.0.get().is_some() && !self.catch_up() {
+            return None;
+        }
+        Some(&mut self.machine)
+    }
+
+    /// Plays all that the node's machine has. False where it can't.
+    #[cold]
+    fn catch_up(&mut self) -> bool {
         while let Some(next) = self.place.0.get() {
-            let (items, place) = next.as_ref()?;
+            let Some((items, place)) = next else { return false };
             let place = place.clone();
             entry::items::<M>(items).for_each(|item| play(&mut self.machine, item));
             self.place = place;
         }
-        Some(&mut self.machine)
+        true
     }
 }
 

@@ -154,6 +154,9 @@ where
     /// # Errors
     /// Why the node has stopped.
     pub fn read<T>(&self, read: impl FnOnce(&mut M) -> T) -> Result<T, Fault> {
+        if let Some(machine) = self.shared.core().node.machine() {
+            return Ok(read(machine));
+        }
         let mut core = self.booted()?;
         let machine = core.node.machine().unwrap_or_else(|| unreachable!("the node has booted"));
         Ok(read(machine))
@@ -252,13 +255,20 @@ where
     ///
     /// # Errors
     /// As [`Running::reader`].
+    #[inline]
     pub fn read<T>(&mut self, read: impl FnOnce(&mut M) -> T) -> Result<T, Fault> {
         loop {
             if let Some(machine) = self.replica.machine() {
                 return Ok(read(machine));
             }
-            self.replica = self.node.replica()?;
+            self.begin_anew()?;
         }
+    }
+
+    #[cold]
+    fn begin_anew(&mut self) -> Result<(), Fault> {
+        self.replica = self.node.replica()?;
+        Ok(())
     }
 }
 
