@@ -11,8 +11,8 @@ import sys
 from gate.plays import ran, text
 
 PICTURES = {
-    "docs/objects.svg": ("examples/dumps/objects.dump",),
-    "docs/flows.svg": ("examples/dumps/scanner.dump", "--from", "4", "--category", "1"),
+    "docs/objects.svg": ("examples/dumps/objects.dump", "--names", "examples/dumps/objects.names"),
+    "docs/flows.svg": ("examples/dumps/scanner.dump", "--from", "4", "--category", "1", "--names", "examples/dumps/scanner.names"),
 }
 PART = re.compile(r'<g id="[^"]*" class="(node|edge|cluster)">\s*<title>(.*?)</title>(.*?)</g>', re.S)
 
