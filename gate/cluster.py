@@ -7,7 +7,7 @@ import re
 import shutil
 import subprocess
 
-from gate.cluster_faults import Faults
+from gate.cluster_faults import DROPPED, LOGS, Faults
 from gate.plays import ran, text
 
 ETCD = "bindings/rust/histar-etcd"
@@ -105,8 +105,10 @@ def try_engine(report, library, room, auditor):
     faults = Faults(f"{room}/faults", SEED, f"{room}/cluster-target/release")
     is_well, said = faults.play(SECONDS)
     report.counts(is_well, f"faults on etcd: {said}")
+    report.counts(faults.counts[DROPPED] > 0, "the log was dropped beneath a node that slept")
     if auditor:
-        report.counts(ran(auditor, f"{room}/faults/audit") == (0, "clean\n"), "./histar-audit finds the log of the faults clean")
+        are_clean = all(ran(auditor, f"{room}/faults/{it}") == (0, "clean\n") for it in LOGS)
+        report.counts(are_clean, "./histar-audit finds clean the log of the faults, and what is left of it")
 
 
 def try_all(report, library, room, auditor):

@@ -1,7 +1,8 @@
 """Faults from a seed on the real engine: three members of etcd and three nodes, each on a host of its own (gate/hosts.py), which are
-killed, paused or cut off; a member is replaced by one that has nothing. After that the log is played: each call that was answered is there once with that answer, and none that was told never to be made; and
-histar-audit finds the log clean. Alone: python3 -m gate.cluster_faults FOLDER SECONDS SEED [AUDITOR]"""
+killed, paused or cut off; a member is replaced by one that has nothing; the log is dropped beneath a node that sleeps. The log is kept as it is put: each call that was answered is there
+once with that answer, and none that was told never to be made; and histar-audit finds clean the whole log, and what is left of it. Alone: python3 -m gate.cluster_faults FOLDER SECONDS SEED [AUDITOR]"""
 import glob
+import json
 import os
 import random
 import shutil
@@ -16,8 +17,13 @@ CRATE = "bindings/rust/histar-etcd"
 BASE = 23790
 CALLERS = "12"
 # What is done to one thing, or to two at once.
-FAULTS = ("kill node", "kill member", "pause member", "pause node", "kill both", "pause two members", "replace member")
+FAULTS = ("kill node", "kill member", "pause member", "pause node", "kill both", "pause two members", "replace member", "node sleeps")
 CUTS = ("cut off node", "cut off member", "cut off both")
+# A node that sleeps has lost its lease for so many seconds, in which the others drop what it had not played.
+ASLEEP = 12
+DROPPED = "log dropped beneath a sleeping node"
+# The dumps of what is left of the log, and of the whole of it.
+LOGS = ("audit", "whole")
 
 
 class Faults:
@@ -31,7 +37,7 @@ class Faults:
         self.members = [f"{self.hosts.address(f'm{it}')}:{BASE + 10 * it}" for it in range(3)]
         self.peers = [f"http://{self.hosts.address(f'm{it}')}:{BASE + 10 * it + 1}" for it in range(3)]
         self.starts = [0] * 3
-        self.counts = {}
+        self.counts = {DROPPED: 0}
         shutil.rmtree(folder, ignore_errors=True)
         os.makedirs(folder)
 
@@ -58,13 +64,31 @@ class Faults:
         with self.log(f"n{it}") as out:
             return subprocess.Popen(words, stdout=out, stderr=out)
 
-    def hurt(self, nodes, members):
+    def following(self):
+        """Who keeps the log, once it does."""
+        words = [*self.hosts.on("hub"), f"{self.programs}/examples/caller", "check", "faults", ",".join(self.members), ",".join(self.threads), f"{self.folder}/whole"]
+        started = subprocess.Popen(words, stdin=subprocess.PIPE, stdout=subprocess.PIPE, stderr=subprocess.STDOUT, text=True)
+        started.stdout.readline()
+        return started
+
+    def revision(self):
+        """The engine's revision; 0 where no member says it."""
+        status, said = self.call("etcdctl", "--endpoints", ",".join(self.members), "get", "/faults/boot", "-w", "json")
+        return json.loads(said)["header"]["revision"] if status == 0 else 0
+
+    def sleeps(self):
+        """The time passes in which a node sleeps. What was there before is forgotten, if the log was dropped."""
+        before = self.revision()
+        time.sleep(ASLEEP)
+        said = self.call("etcdctl", "--endpoints", ",".join(self.members), "get", "/faults/boot", "--keys-only", "--rev", str(before))[1]
+        self.counts[DROPPED] += before > 0 and "compacted" in said
+
+    def hurt(self, nodes, members, what):
         """One thing is killed or replaced, or some are paused or cut off for a while. What has to be started anew."""
-        what = self.random.choice(self.faults)
         self.counts[what] = self.counts.get(what, 0) + 1
         first, second = self.random.sample(range(3), 2)
         killed = [nodes[first]] * (what in ("kill node", "kill both")) + [members[second]] * (what in ("kill member", "kill both", "replace member"))
-        paused = {"pause member": [members[first]], "pause node": [nodes[first]], "pause two members": [members[first], members[second]]}.get(what, [])
+        paused = {"pause member": [members[first]], "pause node": [nodes[first]], "node sleeps": [nodes[first]], "pause two members": [members[first], members[second]]}.get(what, [])
         cut = {"cut off node": [f"n{first}"], "cut off member": [f"m{second}"], "cut off both": [f"n{first}", f"m{second}"]}.get(what, [])
         for it in killed:
             it.kill()
@@ -73,7 +97,10 @@ class Faults:
             it.send_signal(signal.SIGSTOP)
         for it in cut:
             self.hosts.cut(it, True)
-        time.sleep(self.random.uniform(0.1, 5))
+        if what == "node sleeps":
+            self.sleeps()
+        else:
+            time.sleep(self.random.uniform(0.1, 5))
         for it in paused:
             it.send_signal(signal.SIGCONT)
         for it in cut:
@@ -102,36 +129,42 @@ class Faults:
     def play(self, seconds):
         """Plays for so many seconds. Whether all that was told holds, and what was said."""
         members = [self.member(it, "new") for it in range(3)]
-        nodes = []
+        nodes, following = [], []
         try:
             time.sleep(3)
             status, said = self.call(f"{self.programs}/examples/caller", "prepare", "faults", ",".join(self.members), "n0", "n1", "n2")
             if status != 0:
                 return False, said
             self.threads = [line.split()[1] for line in said.splitlines()]
+            following = [self.following()]
             end = time.time() + seconds
             left = lambda: int(end - time.time())
             nodes = [self.node(it, left()) for it in range(3)]
             time.sleep(1)
-            while left() > 10:
-                node, member = self.hurt(nodes, members)
+            while left() > ASLEEP + 3:
+                node, member = self.hurt(nodes, members, self.next_fault())
                 if node is not None:
                     nodes[node] = self.node(node, left())
                 if member is not None:
                     members[member] = self.member(member, "existing")
                 time.sleep(self.random.uniform(0.2, 1.5))
-            for it in nodes:
-                it.wait()
-            return self.check()
+            stopped = [it.wait() for it in nodes]
+            is_well, said = self.check(following[0])
+            return is_well and not any(stopped), said
         finally:
-            for it in nodes + members:
+            for it in nodes + members + following:
                 it.kill()
                 it.wait()
             self.hosts.end()
 
-    def check(self):
-        files = sorted(glob.glob(f"{self.folder}/calls-*"))
-        status, said = self.call(f"{self.programs}/examples/caller", "check", "faults", ",".join(self.members), ",".join(self.threads), *files)
+    def next_fault(self):
+        """Each fault once, the longest first, and then any."""
+        undone = [it for it in reversed(self.faults) if it not in self.counts]
+        return "node sleeps" if "node sleeps" in undone else undone[0] if undone else self.random.choice(self.faults)
+
+    def check(self, following):
+        said = following.communicate("".join(f"{it}\n" for it in sorted(glob.glob(f"{self.folder}/calls-*"))))[0]
+        status = following.returncode
         for what in ("status", "audit"):
             done, told = self.call(f"{self.programs}/histar-cluster", what, "faults", ",".join(self.members))
             with open(f"{self.folder}/{what}", "w", encoding="utf-8") as it:
@@ -145,6 +178,6 @@ if __name__ == "__main__":
     is_well, told = faults.play(int(sys.argv[2]))
     print("well" if is_well else "NOT WELL", told)
     print(open(f"{sys.argv[1]}/status", encoding="utf-8").read() if os.path.exists(f"{sys.argv[1]}/status") else "")
-    if len(sys.argv) > 4 and is_well:
-        print(subprocess.run([sys.argv[4], f"{sys.argv[1]}/audit"], stdout=subprocess.PIPE, text=True).stdout)
+    for dump in LOGS if len(sys.argv) > 4 and is_well else ():
+        print(dump, subprocess.run([sys.argv[4], f"{sys.argv[1]}/{dump}"], stdout=subprocess.PIPE, text=True).stdout)
     sys.exit(not is_well)

@@ -2,19 +2,32 @@
 //!
 //! `caller prepare CLUSTER MEMBERS NODE..` begins the cluster as the first node, and prints a thread for each, which belongs to it.
 //! `caller run CLUSTER MEMBERS NODE THREAD FILE CALLERS SECONDS` writes a line into FILE before each call and one after it.
-//! `caller check CLUSTER MEMBERS FILE..` plays the log, and says what of the files it does not have.
+//! `caller check CLUSTER MEMBERS THREADS DUMP` keeps what is put into the log, of which the nodes drop nothing before. Once it is told the names
+//! of the files, a line each, it plays the whole log, says what of the files it does not have, and writes it into DUMP.
+#[path = "../src/grpc.rs"]
+#[allow(dead_code)]
+mod grpc;
+#[path = "../src/wire.rs"]
+#[allow(dead_code)]
+mod wire;
+
+use grpc::{Channel, Fault};
 use histar::trusted::{Record, Thread};
 use histar::{label, Call, Entry, Kernel, Limits, Object, Refusal, Reply};
-use histar_cluster::{limits, Item, Machine, Name, Options, Receipt, Running, Told, Unrestored, Written};
+use histar_cluster::engine::{Engine, Pair};
+use histar_cluster::memory::Memory;
+use histar_cluster::{audit, limits, range, Item, Machine, Name, Options, Receipt, Running, Told, Unrestored, Written};
 use histar_etcd::Etcd;
-use std::collections::HashMap;
+use std::collections::{BTreeMap, HashMap};
 use std::fs::File;
 use std::io::Write;
 use std::sync::atomic::{AtomicU64, Ordering};
+use std::sync::mpsc::{channel, RecvTimeoutError};
 use std::sync::Arc;
 use std::time::{Duration, Instant, SystemTime, UNIX_EPOCH};
+use wire::{Done, PutRequest};
 
-/// A kernel that knows what each record was answered. It gives no checkpoint, so the whole log is there for the check.
+/// A kernel that knows what each record was answered.
 struct Probe {
     kernel: Kernel,
     answered: HashMap<Vec<u8>, Vec<Result<Reply, Refusal>>>,
@@ -64,19 +77,28 @@ impl Machine for Probe {
     }
 }
 
-fn open(cluster: &str, members: &str, node: &str) -> Running<Probe> {
-    let members = members.split(',').map(String::from).collect();
+fn name(text: &str) -> Name {
+    Name::new(text).expect("a name")
+}
+
+fn etcd(members: &str) -> Etcd {
+    Etcd { members: members.split(',').map(String::from).collect(), tls: None, lease: 3 }
+}
+
+fn open<M: Machine + Send + 'static>(engine: impl Engine, cluster: &str, node: &str) -> Running<M>
+where
+    M::Reply: Send,
+{
     let now = SystemTime::now().duration_since(UNIX_EPOCH).expect("a time after 1970");
-    let name = |text| Name::new(text).expect("a name");
     let options = Options {
         cluster: name(cluster),
         node: name(node),
         limits: limits(&Limits::pages(1024)),
         lanes: 4,
-        interval: 1000,
+        interval: 200,
         any: now.as_nanos() as u64,
     };
-    Running::open(Etcd { members, tls: None, lease: 3 }, options)
+    Running::open(engine, options)
 }
 
 /// Making a thread whose entry point is the number of the call.
@@ -92,7 +114,7 @@ fn making(thread: u64, number: u64) -> Record {
 }
 
 fn prepare(cluster: &str, members: &str, nodes: &[String]) {
-    let first = open(cluster, members, &nodes[0]);
+    let first = open::<Kernel>(etcd(members), cluster, &nodes[0]);
     for node in nodes {
         let to = Name::new(node).expect("a name");
         let made = first.submit(&[Item::Call(making(2, 0))]).expect("a node").wait();
@@ -123,7 +145,7 @@ fn run(words: &[String]) {
     let [cluster, members, node, thread, file, callers, seconds] = words else { panic!("other words") };
     let number = |text: &String| text.parse::<u64>().expect("a number");
     let (thread, callers) = (number(thread), number(callers));
-    let running = Arc::new(open(cluster, members, node));
+    let running = Arc::new(open::<Kernel>(etcd(members), cluster, node));
     let out = Arc::new(File::options().create(true).append(true).open(file).expect("a file"));
     let end = Instant::now() + Duration::from_secs(number(seconds));
     let start = SystemTime::now().duration_since(UNIX_EPOCH).expect("a time after 1970").as_millis() as u64;
@@ -155,12 +177,84 @@ fn run(words: &[String]) {
         .collect();
     all.into_iter().for_each(|caller| caller.join().expect("no caller panics"));
     println!("{node}: {:?} {:?}", running.status().map(|it| (it.reached, it.entries, it.incarnation)), running.fault());
+    std::process::exit(i32::from(running.fault().is_some()));
+}
+
+/// The keys of a log, by their places, also those that were dropped meanwhile.
+struct Kept {
+    cluster: String,
+    etcd: Etcd,
+    pairs: BTreeMap<u64, Pair>,
+}
+
+impl Kept {
+    /// Keeps what was put, and tells the nodes so, as a node tells how far it has played: they drop nothing else.
+    fn look(&mut self) -> bool {
+        let (from, to) = range(&name(&self.cluster));
+        let Ok(pairs) = self.etcd.keys(&from, &to) else { return false };
+        let is_of_log = |pair: &Pair| {
+            ["boot", "log/e/", "log/c/"].iter().any(|it| pair.key[from.len()..].starts_with(it.as_bytes()))
+        };
+        self.pairs.extend(pairs.into_iter().filter(is_of_log).map(|pair| (pair.created, pair)));
+        let place = self.pairs.last_key_value().map_or(0, |(place, _)| *place);
+        self.etcd.members.iter().any(|member| put_fence(member, &self.cluster, place).is_ok())
+    }
+
+    /// An engine with these keys alone.
+    fn engine(&self) -> Memory {
+        let memory = Memory::new();
+        for (place, pair) in &self.pairs {
+            let mut store = memory.store();
+            store.revision = place - 1;
+            store.put(&pair.key, &pair.value, None);
+        }
+        memory
+    }
+}
+
+fn put_fence(member: &str, cluster: &str, mut place: u64) -> Result<(), Fault> {
+    let runtime = tokio::runtime::Builder::new_current_thread().enable_all().build().expect("a runtime");
+    let mut value = Vec::new();
+    while place >= 128 {
+        value.push(place as u8 | 128);
+        place >>= 7;
+    }
+    value.push(place as u8);
+    let put =
+        PutRequest { key: format!("/{cluster}/fence/check/0").into_bytes().into(), value: value.into(), lease: 0 };
+    runtime.block_on(async {
+        let asked = async { Channel::connect(member, None).await?.call("/etcdserverpb.KV/Put", &put).await };
+        let _: Done = tokio::time::timeout(Duration::from_secs(1), asked).await??;
+        Ok(())
+    })
+}
+
+/// Keeps the log until the names of files are told.
+fn keep(cluster: &str, members: &str) -> (Kept, Vec<String>) {
+    let mut kept = Kept { cluster: cluster.into(), etcd: etcd(members), pairs: BTreeMap::new() };
+    while !kept.look() {}
+    println!("follows");
+    let (sender, told) = channel();
+    std::thread::spawn(move || std::io::stdin().lines().map_while(Result::ok).for_each(|line| drop(sender.send(line))));
+    let mut files = Vec::new();
+    loop {
+        match told.recv_timeout(Duration::from_secs(1)) {
+            Ok(file) => files.push(file),
+            Err(RecvTimeoutError::Timeout) => drop(kept.look()),
+            Err(RecvTimeoutError::Disconnected) => break,
+        }
+    }
+    while !kept.look() {}
+    (kept, files)
 }
 
 fn check(words: &[String]) {
-    let [cluster, members, threads, files @ ..] = words else { panic!("other words") };
+    let [cluster, members, threads, dump] = words else { panic!("other words") };
     let threads: Vec<u64> = threads.split(',').map(|text| text.parse().expect("a thread")).collect();
-    let running = open(cluster, members, "check");
+    let (kept, files) = keep(cluster, members);
+    let pairs: Vec<Pair> = kept.pairs.values().cloned().collect();
+    std::fs::write(dump, audit(&name(cluster), &pairs).expect("a dump")).expect("a file that can be written");
+    let running = open::<Probe>(kept.engine(), cluster, "check");
     running.latest().expect("the log is played");
     let answered = running.read(|probe| std::mem::take(&mut probe.answered)).expect("a kernel");
     let entries = running.status().map_or(0, |status| status.entries);

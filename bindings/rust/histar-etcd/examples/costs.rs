@@ -1,9 +1,12 @@
 //! For benches/cluster.py: what a cluster of kernels does in some seconds, and what bare puts do.
 //!
 //! `costs puts MEMBERS WATCHERS CALLERS SECONDS`: callers put 72 bytes under keys of their own, which so many watchers read.
-//! `costs calls MEMBERS NODES CALLERS CALLS SECONDS`: callers of the first of so many nodes submit so many writes of 64 bytes together.
+//! `costs calls MEMBERS NODES LANES CALLERS CALLS SECONDS`: callers of the first of so many nodes submit so many writes of 64 bytes together.
+//! `costs reads KIND THREADS SECONDS`: threads read 64 bytes of a `kernel` of their own, by a `node`, or each by a `reader`.
+//! `costs behind MEMBERS CALLS`: a node begins that lacks so many calls of an entry each, until it has seen all.
 //!
-//! Each prints how many puts or calls were answered, and the milliseconds that it took.
+//! Each prints how many puts, calls or reads were done, and the milliseconds that it took. With 0 seconds a thread reads 100,000 times, by
+//! `read_many`, for a count of instructions.
 #[path = "../src/grpc.rs"]
 #[allow(dead_code)]
 mod grpc;
@@ -13,8 +16,9 @@ mod wire;
 
 use bytes::Bytes;
 use grpc::Channel;
-use histar::trusted::{Record, Thread};
+use histar::trusted::{session_of, Record, Thread};
 use histar::{label, Call, Entry, Kernel, Limits, Object, Reply};
+use histar_cluster::memory::Memory;
 use histar_cluster::{limits, Item, Name, Options, Receipt, Running, Told};
 use histar_etcd::Etcd;
 use std::borrow::Cow;
@@ -82,34 +86,58 @@ fn puts(members: &[String], watchers: u64, callers: u64, time: Duration) {
     });
 }
 
-fn open(members: &[String], cluster: &str, node: u64) -> Running<Kernel> {
-    let options = Options {
+fn options(cluster: &str, node: u64, lanes: usize, interval: u64) -> Options {
+    Options {
         cluster: Name::new(cluster).expect("a name"),
         node: Name::new(&format!("n{node}")).expect("a name"),
         limits: limits(&Limits::pages(1024)),
-        lanes: 4,
-        interval: 1 << 40,
+        lanes,
+        interval,
         any: any(),
-    };
+    }
+}
+
+/// A node, which asks another member first than the node before it.
+fn open(members: &[String], node: u64, of: impl Fn(u64) -> Options) -> Running<Kernel> {
     let mut members = members.to_vec();
     let first = node as usize % members.len();
     members.rotate_left(first);
-    Running::open(Etcd { members, tls: None, lease: 10 }, options)
+    Running::open(Etcd { members, tls: None, lease: 10 }, of(node))
 }
 
-fn calls(members: &[String], nodes: u64, callers: u64, calls: u64, time: Duration) {
-    let cluster = format!("costs-{}", any() % 1_000_000_000);
-    let running = Arc::new(open(members, &cluster, 0));
-    let made = Call::SegmentCreate { container: Object::ROOT, label: label! { L1 }.into(), quota: 2, pages: 1 };
-    let Ok(Reply::Object(segment)) = running.call(Thread(2), &made).expect("a segment").reply else {
-        panic!("no segment")
-    };
-    let followers: Vec<Running<Kernel>> = (1..nodes).map(|it| open(members, &cluster, it)).collect();
+/// The first of so many nodes, the others, which follow, and a segment.
+fn begin(
+    members: &[String],
+    nodes: u64,
+    of: impl Fn(u64) -> Options,
+) -> (Arc<Running<Kernel>>, Vec<Running<Kernel>>, Entry) {
+    let running = Arc::new(open(members, 0, &of));
+    let segment = segment(&running);
+    let followers: Vec<Running<Kernel>> = (1..nodes).map(|it| open(members, it, &of)).collect();
     for it in &followers {
         it.latest().expect("a follower");
     }
-    let write = Call::SegmentWrite { entry: Entry::in_root(segment), offset: 0, bytes: Cow::Borrowed(&[7; 64]) };
-    let record = Record::new(Thread(2), &write).expect("a call");
+    (running, followers, segment)
+}
+
+fn segment(node: &Running<Kernel>) -> Entry {
+    let made = Call::SegmentCreate { container: Object::ROOT, label: label! { L1 }.into(), quota: 2, pages: 1 };
+    match node.call(Thread(2), &made).expect("a segment").reply {
+        Ok(Reply::Object(segment)) => Entry::in_root(segment),
+        other => panic!("no segment: {other:?}"),
+    }
+}
+
+fn write_of(entry: Entry) -> Record {
+    let write = Call::SegmentWrite { entry, offset: 0, bytes: Cow::Borrowed(&[7; 64]) };
+    Record::new(Thread(2), &write).expect("a call")
+}
+
+fn calls(members: &[String], nodes: u64, lanes: u64, callers: u64, calls: u64, time: Duration) {
+    let cluster = format!("costs-{}", any() % 1_000_000_000);
+    let of = |node| options(&cluster, node, lanes as usize, 1 << 40);
+    let (running, _followers, segment) = begin(members, nodes, of);
+    let record = write_of(segment);
     let done = Arc::new(AtomicU64::new(0));
     let began = Instant::now();
     let all: Vec<_> = (0..callers)
@@ -133,6 +161,84 @@ fn calls(members: &[String], nodes: u64, callers: u64, calls: u64, time: Duratio
     println!("{} {}", done.load(Ordering::Relaxed), began.elapsed().as_millis());
 }
 
+/// A node begins once two others have made so many calls.
+fn behind(members: &[String], calls: u64) {
+    let cluster = format!("behind-{}", any() % 1_000_000_000);
+    let of = |node| options(&cluster, node, 64, 10_000);
+    let (running, _followers, segment) = begin(members, 2, of);
+    let record = write_of(segment);
+    std::thread::scope(|scope| {
+        for _ in 0..64 {
+            scope.spawn(|| {
+                for _ in 0..calls.div_ceil(64) {
+                    let waiting = running.submit(&[Item::Call(record.clone())]).expect("a node");
+                    assert!(matches!(waiting.wait(), Some(Receipt::Told { .. })), "{:?}", running.fault());
+                }
+            });
+        }
+    });
+    std::thread::sleep(Duration::from_secs(3)); // (they look around each second)
+    let began = Instant::now();
+    let late = open(members, 2, of);
+    late.latest().expect("a note");
+    let taken = began.elapsed().as_millis();
+    println!("{} {taken}", late.status().map_or(0, |status| status.entries));
+}
+
+/// How a thread reads 64 bytes.
+type Read<'r> = Box<dyn FnMut() + Send + 'r>;
+
+fn reading(kind: &str, node: &Arc<Running<Kernel>>, entry: Entry) -> Read<'static> {
+    let read = move |kernel: &Kernel| {
+        assert!(session_of(kernel, Thread::BOOT).segment_read(entry, 0, 64).is_ok());
+    };
+    match kind {
+        "kernel" => {
+            let alone = node.read(|kernel| Kernel::open_at(kernel.checkpoint().expect("a text"))).expect("a machine");
+            let alone = alone.expect("a kernel");
+            Box::new(move || read(&alone))
+        }
+        "node" => {
+            let node = node.clone();
+            Box::new(move || node.read(|kernel| read(kernel)).expect("a machine"))
+        }
+        "reader" => {
+            let mut reader = node.reader().expect("a reader");
+            Box::new(move || reader.read(|kernel| read(kernel)).expect("a machine"))
+        }
+        _ => panic!("other words"),
+    }
+}
+
+/// The instructions of this function are counted.
+#[inline(never)]
+fn read_many(mut read: Read<'_>) -> u64 {
+    (0..100_000).for_each(|_| read());
+    100_000
+}
+
+fn read_for(mut read: Read<'_>, time: Duration) -> u64 {
+    let (began, mut count) = (Instant::now(), 0);
+    while began.elapsed() < time {
+        (0..1000).for_each(|_| read());
+        count += 1000;
+    }
+    count
+}
+
+fn reads(kind: &str, threads: u64, time: Duration) {
+    let node: Arc<Running<Kernel>> = Arc::new(Running::open(Memory::new(), options("reads", 0, 1, 1 << 40)));
+    let entry = segment(&node);
+    let began = Instant::now();
+    let count: u64 = std::thread::scope(|scope| {
+        let each = |read| if time.is_zero() { read_many(read) } else { read_for(read, time) };
+        let all: Vec<_> =
+            (0..threads).map(|_| reading(kind, &node, entry)).map(|it| scope.spawn(move || each(it))).collect();
+        all.into_iter().map(|it| it.join().expect("no reader panics")).sum()
+    });
+    println!("{count} {}", began.elapsed().as_millis());
+}
+
 fn main() {
     let words: Vec<String> = std::env::args().skip(1).collect();
     let words: Vec<&str> = words.iter().map(String::as_str).collect();
@@ -141,10 +247,12 @@ fn main() {
         ["puts", of, watchers, callers, seconds] => {
             puts(&members(of), number(watchers), number(callers), Duration::from_secs(number(seconds)))
         }
-        ["calls", of, nodes, callers, together, seconds] => {
+        ["calls", of, nodes, lanes, callers, together, seconds] => {
             let time = Duration::from_secs(number(seconds));
-            calls(&members(of), number(nodes), number(callers), number(together), time)
+            calls(&members(of), number(nodes), number(lanes), number(callers), number(together), time)
         }
+        ["behind", of, calls] => behind(&members(of), number(calls)),
+        ["reads", kind, threads, seconds] => reads(kind, number(threads), Duration::from_secs(number(seconds))),
         _ => panic!("other words"),
     }
 }
