@@ -41,10 +41,10 @@ def built():
 
 
 def bytes_of_entries(member):
-    """Of each entry the bytes of its key and its value."""
+    """Of each entry of one write the bytes of its key and its value. (One of two is longer.)"""
     said = subprocess.run(["etcdctl", "--endpoints", member, "get", "/", "--prefix", "--limit", "20000", "-w", "json"], stdout=subprocess.PIPE, check=True).stdout
-    pairs = [(base64.b64decode(it["key"]), base64.b64decode(it.get("value", ""))) for it in json.loads(said)["kvs"]]
-    return sorted(len(key) + len(value) for key, value in pairs if b"/log/e/" in key)
+    pairs = [(base64.b64decode(it["key"]), base64.b64decode(it.get("value", ""))) for it in json.loads(said).get("kvs", [])]
+    return [len(key) + len(value) for key, value in pairs if b"/log/e/" in key and 64 < len(value) < 128]
 
 
 def told(*words):
@@ -110,9 +110,9 @@ def main(members, rounds, seconds):
     try:
         rates(costs, engine, rounds, seconds)
         sizes = bytes_of_entries(engine.addresses[0])
-        print(f"bytes of key and value of an entry: {sizes[0]} at least" if sizes else "no entry was found")
+        print(f"bytes of key and value of an entry of one write: {max(sizes)} at most" if sizes else "no entry was found", flush=True)
         entries, taken = told(costs, "behind", ",".join(engine.addresses), str(BEHIND))
-        print(f"a node that lacks {entries} entries has seen all after {taken / 1000:.2f} s")
+        print(f"a node that lacks {entries} entries has seen all after {taken / 1000:.2f} s", flush=True)
         reads(costs, seconds)
     finally:
         engine.end()
