@@ -21,3 +21,4 @@ pub mod RestorableLines
 pub mod KernelDumps
 pub mod Batches
 pub mod Migration
+pub mod PieceLemmas

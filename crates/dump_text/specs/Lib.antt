@@ -19,3 +19,4 @@ pub mod Boot
 pub mod Fits
 pub mod Reading
 pub mod Refused
+pub mod Pieces

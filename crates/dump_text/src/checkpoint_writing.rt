@@ -100,7 +100,7 @@ fn put_lists(out: &mut Vec<u8>, objects: &[Recorded], next: &[NextNumber]) -> Re
 }
 
 /// Adds the lines of the checkpoint.
-fn put_checkpoint(out: &mut Vec<u8>, checkpoint: &Checkpoint) -> Result<(), NoMemory>
+pub(crate) fn put_checkpoint(out: &mut Vec<u8>, checkpoint: &Checkpoint) -> Result<(), NoMemory>
     ensures text { OnOk result (out.new.items
         ≡ out.old.items ++ lines_text line_text (checkpoint_lines checkpoint.now)) }
     ensures fits { OnOk result (AllByRecursion FitsLine (checkpoint_lines checkpoint.now)) }

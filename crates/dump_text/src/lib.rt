@@ -23,6 +23,7 @@ mod lines;
 mod migrating;
 mod part_words;
 mod parting;
+mod pieces;
 mod places;
 mod queries;
 mod read_replies;
@@ -45,6 +46,7 @@ pub use errors::DumpError;
 pub use laws::{legal_boot_is_dump, legal_is_dump};
 pub use migrating::{MigrateFault, boot_checkpoint, boots_can_begin, migrate};
 pub use parting::part_reads;
+pub use pieces::{Piece, events_text, head_text, piece_at, pieces_are_the_dump, tables_text};
 pub use read_replies::{
     LabelReply, ListReply, OwnReply, PagesReply, ParentReply, QuotaReply, ReadReply, raw_reply,
 };

@@ -33,6 +33,21 @@ fn place(out: &mut Vec<Stored>, first: usize, labels: &[RawLabel]) -> Result<(),
     }
 }
 
+/// The tables of a kernel, each label with its place. Want of memory is the only error.
+pub(crate) fn placed_tables(alloc: Global, tables: Kept) -> Result<DumpTables, NoMemory>
+    ensures { IfOk result (λ out. out ≡ placed tables) }
+{
+    let mut labels = Vec::new(alloc);
+    place(&mut labels, 0, tables.labels.as_slice())?;
+    Ok(DumpTables {
+        live: tables.live,
+        uses: tables.uses,
+        maps: tables.shown,
+        labels,
+        orders: tables.orders,
+    })
+}
+
 /// A dump with these limits, this checkpoint, these events, these reads among them, and the tables of a kernel, each label with
 /// its place. Want of memory is the only error.
 pub fn dump_with(
@@ -46,20 +61,13 @@ pub fn dump_with(
     ensures { IfOk result (λ dump. dump
         ≡ dump_with limits.now checkpoint events.items reads.items (placed tables)) }
 {
-    let mut labels = Vec::new(alloc);
-    place(&mut labels, 0, tables.labels.as_slice())?;
+    let tables = placed_tables(alloc, tables)?;
     Ok(Dump {
         limits: *limits,
         checkpoint,
         events,
         reads,
-        tables: DumpTables {
-            live: tables.live,
-            uses: tables.uses,
-            maps: tables.shown,
-            labels,
-            orders: tables.orders,
-        },
+        tables,
     })
 }
 

@@ -43,7 +43,11 @@ fn put_event(out: &mut Vec<u8>, event: &Event) -> Result<(), NoMemory>
 }
 
 /// Adds the lines of the events and of the reads among them.
-fn put_history(out: &mut Vec<u8>, events: &[Event], reads: &[PlacedRead]) -> Result<(), NoMemory>
+pub(crate) fn put_history(
+    out: &mut Vec<u8>,
+    events: &[Event],
+    reads: &[PlacedRead],
+) -> Result<(), NoMemory>
     ensures text { OnOk result (out.new.items
         ≡ out.old.items ++ lines_text line_text (history_lines events.now reads.now)) }
     ensures fits { OnOk result (AllByRecursion FitsLine (history_lines events.now reads.now)) }
@@ -71,7 +75,7 @@ fn format_of(checkpoint: &Option<Checkpoint>) -> Format
 }
 
 /// Adds the lines of the tables.
-fn put_tables(out: &mut Vec<u8>, tables: &DumpTables) -> Result<(), NoMemory>
+pub(crate) fn put_tables(out: &mut Vec<u8>, tables: &DumpTables) -> Result<(), NoMemory>
     ensures text { OnOk result (out.new.items
         ≡ out.old.items ++ lines_text line_text (table_lines tables.now)) }
     ensures fits { OnOk result (FitTables tables.now) }
