@@ -13,15 +13,21 @@ use base::Data;
 pub enum LogRequest {
     /// That it begins.
     Begin,
-    /// That its dump is made, and how many bytes the text has.
-    Dump,
+    /// That a piece of its dump is made, and how many bytes the text has.
+    Dump {
+        /// The number of the piece, from 0.
+        piece: u64,
+    },
     /// Up to 64 bytes of the text that was made last.
     Text {
         /// The place of the first, from 0.
         from: u64,
     },
-    /// That the text of a checkpoint is made, and how many bytes it has.
-    Checkpoint,
+    /// That a piece of the text of a checkpoint is made, and how many bytes it has.
+    Checkpoint {
+        /// The number of the piece, from 0.
+        piece: u64,
+    },
     /// That it begins anew.
     Cut,
 }
@@ -32,11 +38,15 @@ pub fn log_request_of(request: &Request) -> Option<LogRequest>
 {
     Some(match request.call {
         40 => LogRequest::Begin,
-        41 => LogRequest::Dump,
+        41 => LogRequest::Dump {
+            piece: request.numbers[0],
+        },
         42 => LogRequest::Text {
             from: request.numbers[0],
         },
-        48 => LogRequest::Checkpoint,
+        48 => LogRequest::Checkpoint {
+            piece: request.numbers[0],
+        },
         49 => LogRequest::Cut,
         _ => return None,
     })

@@ -1,17 +1,17 @@
 -- What the exports do to the kernel that C's memory holds, and what C is told.
-use Rattle.std.specs.Prelude.{◌≡◌, ◌⊎◌, ℕ, List, take, drop, true, Option, Some, None, option_map, Result, Ok, Err}
+use Rattle.std.specs.Prelude.{◌≡◌, ◌⊎◌, ◌==◌, ℕ, List, [], take, drop, true, Option, Some, None, option_map, Result, Ok, Err}
 use Rattle.std.specs.Bool.{MatchBool}
 use Rattle.base.specs.Limits.{in_range}
 use Rattle.base.specs.declared.ranges.Limits.{Limits}
+use Rattle.kernel_rules.specs.Events.{Event}
 use Rattle.kernel_rules.specs.declared.replies.Reply.{Reply}
 use Rattle.kernel_rules.specs.Runs.{booted}
 use Rattle.kernel_rules.specs.Step.{answer, query_answer}
 use Rattle.kernel_rules.specs.declared.calls.Call.{Call}
 use Rattle.kernel_rules.specs.declared.replies.Reply.TheVariants as replies
-use Rattle.checkpoints.specs.Checkpoint.{Checkpoint}
 use Rattle.dump_text.specs.Boot.{boot_checkpoint}
-use Rattle.dump_text.specs.Whole.{IsLegalDump}
-use Rattle.logged_kernel.specs.Logged.{Logged, IsCut, IsMade, IsWritten, begun, dump_of}
+use Rattle.dump_text.specs.Pieces.{AreLegal, IsPiece}
+use Rattle.logged_kernel.specs.Logged.{Logged, IsCut, IsMade, IsWritten, begun}
 use Rattle.call_records.specs.Asked.{Asked, Write, Read, Look, Log, Nothing, asked}
 use Rattle.call_records.specs.Logs.{TellsLength}
 use Rattle.call_records.specs.declared.logs.LogRequest.TheVariants as logs
@@ -70,7 +70,7 @@ abbrev pub IsFoundTold : Kernel → Lookup → ℕ → Answer → Type 0
 IsFoundTold kernel lookup number told =
     (number ≡ 0) × ((found : Found) × IsFound kernel lookup found × TellsFound found told)
 
--- the kernel, its log and the text of the last dump are as they were
+-- the kernel, its log and the piece of a text that was made last are as they were
 abbrev pub IsSame : Kept → Kept → Type 0
 IsSame before after = (after.logged ≡ before.logged) × (after.text.items ≡ before.text.items)
 
@@ -94,29 +94,33 @@ IsBegun before after number old told =
     × IsTold replies.Done number told)
     (IsRefused 45 before after number old told)
 
--- this text is made, which is the dump of a legal list of events, and its length is told
-abbrev pub IsText : Limits → Checkpoint → List ℕ → Kept → ℕ → Answer → Type 0
-IsText limits origin text after number told =
-    (after.text.items ≡ text) × IsLegalDump limits (Some origin) text × (number ≡ 0) × TellsLength text told
-
--- the text of the log's dump is made, or there is no memory for it, and the number is 51; where no log
--- is kept, the number is 45
-abbrev pub IsDumpedAs : Option (List ℕ) → Kept → Kept → ℕ → Answer → Answer → Type 0
-IsDumpedAs None before after number old told = IsRefused 45 before after number old told
-IsDumpedAs (Some text) before after number old told =
-    ((after.logged ≡ before.logged) × IsText before.logged.limits before.logged.origin text after number told)
+-- a piece of the dump of the events that are kept is made, which is legal, and its length is told; or there is no memory for it, and the number is
+-- 51. Where no events are kept, the number is 45
+abbrev pub IsDumpedIn : Option (List Event) → ℕ → Kept → Kept → ℕ → Answer → Answer → Type 0
+IsDumpedIn None piece before after number old told = IsRefused 45 before after number old told
+IsDumpedIn (Some events) piece before after number old told =
+    ((after.logged ≡ before.logged)
+    × IsPiece before.logged.limits (Some before.logged.origin) events piece after.text.items
+    × AreLegal before.logged.limits (Some before.logged.origin) events
+    × (number ≡ 0) × TellsLength after.text.items told)
     ⊎ IsRefused 51 before after number old told
 
-abbrev pub IsDumped : Kept → Kept → ℕ → Answer → Answer → Type 0
-IsDumped before after number old told = IsDumpedAs (dump_of before.logged) before after number old told
+abbrev pub IsDumped : ℕ → Kept → Kept → ℕ → Answer → Answer → Type 0
+IsDumped piece before after number old told = IsDumpedIn before.logged.log piece before after number old told
 
 -- the text of a checkpoint that writes down the kernel is made, and its length is told; or there is no memory for it, and
 -- the number is 51
-abbrev pub IsSaved : Kept → Kept → ℕ → Answer → Answer → Type 0
-IsSaved before after number old told =
+abbrev pub IsSavedWhole : Kept → Kept → ℕ → Answer → Answer → Type 0
+IsSavedWhole before after number old told =
     ((after.logged ≡ before.logged) × IsWritten before.logged after.text.items
     × (number ≡ 0) × TellsLength after.text.items told)
     ⊎ IsRefused 51 before after number old told
+
+-- the same as its one piece; the others are empty
+abbrev pub IsSaved : ℕ → Kept → Kept → ℕ → Answer → Answer → Type 0
+IsSaved piece before after number old told =
+    MatchBool (piece == 0) (IsSavedWhole before after number old told)
+    ((after.logged ≡ before.logged) × (after.text.items ≡ []) × (number ≡ 0) × TellsLength [] told)
 
 -- the log begins anew at the kernel as it stands; or there is no memory for that, and the number is 40
 abbrev pub IsLogCut : Kept → Kept → ℕ → Answer → Answer → Type 0
@@ -135,10 +139,10 @@ IsDone (Read query) thread before after number old told =
 IsDone (Look lookup) thread before after number old told =
     IsSame before after × IsFoundTold before.logged.kernel lookup number told
 IsDone (Log logs.Begin) thread before after number old told = IsBegun before after number old told
-IsDone (Log logs.Dump) thread before after number old told = IsDumped before after number old told
+IsDone (Log (logs.Dump piece)) thread before after number old told = IsDumped piece before after number old told
 IsDone (Log (logs.Text from)) thread before after number old told =
     IsSame before after × IsTold (replies.Bytes (take 64 (drop from before.text.items))) number told
-IsDone (Log logs.Checkpoint) thread before after number old told = IsSaved before after number old told
+IsDone (Log (logs.Checkpoint piece)) thread before after number old told = IsSaved piece before after number old told
 IsDone (Log logs.Cut) thread before after number old told = IsLogCut before after number old told
 IsDone Nothing thread before after number old told = IsRefused 45 before after number old told
 

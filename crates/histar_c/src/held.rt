@@ -23,13 +23,15 @@ use syscall_core::BootRefusal;
 pub struct Kept {
     /// The kernel, and the log of its calls where one is kept.
     pub logged: LoggedKernel,
+    /// Where texts take memory.
+    pub alloc: Global,
     /// What its calls count on.
     pub meter: Meter,
     /// The last call. A call is large, so none is made anew.
     pub call: Call,
     /// The last reply. A reply is large, so none is made anew.
     pub reply: Reply,
-    /// The text of the dump or the checkpoint that was made last.
+    /// The piece of a dump or of a checkpoint that was made last.
     pub text: Vec<u8>,
 }
 
@@ -48,6 +50,7 @@ pub(crate) fn kept_kernel(alloc: Global, logged: LoggedKernel) -> Result<Kept, u
     match Meter::new(alloc) {
         Ok(meter) => Ok(Kept {
             logged,
+            alloc,
             meter,
             call: Call::CatCreate,
             reply: Reply::Done,

@@ -28,21 +28,25 @@ fn keep_text(kept: &mut Kept, text: Vec<u8>, answer: &mut Answer) -> u32
     0
 }
 
-/// Makes the text of the log's dump, and gives 0; 45 where no log is kept, and 51 for want of memory, and nothing changes.
-fn make_dump(kept: &mut Kept, answer: &mut Answer) -> u32
-    ensures { IsDumped kept.old kept.new result answer.old answer.new }
+/// Makes a piece of the text of the log's dump, and gives 0; 45 where no log is kept, and 51 for want of memory, and nothing changes.
+fn make_piece(kept: &mut Kept, piece: u64, answer: &mut Answer) -> u32
+    ensures { IsDumped piece kept.old kept.new result answer.old answer.new }
 {
-    match kept.logged.dump(&mut kept.meter) {
+    match kept.logged.dump_piece(piece, &mut kept.meter) {
         Ok(Some(text)) => keep_text(kept, text, answer),
         Ok(None) => 45,
         Err(_) => 51,
     }
 }
 
-/// Makes the text of the kernel's checkpoint, and gives 0; 51 for want of memory, and nothing changes.
-fn make_checkpoint(kept: &mut Kept, answer: &mut Answer) -> u32
-    ensures { IsSaved kept.old kept.new result answer.old answer.new }
+/// Makes the text of the kernel's checkpoint, which has one piece, and gives 0; 51 for want of memory, and nothing changes.
+fn make_checkpoint(kept: &mut Kept, piece: u64, answer: &mut Answer) -> u32
+    ensures { IsSaved piece kept.old kept.new result answer.old answer.new }
 {
+    if piece > 0 {
+        let none = Vec::new(kept.alloc);
+        return keep_text(kept, none, answer);
+    }
     match kept.logged.checkpoint_text(&mut kept.meter) {
         Ok(text) => keep_text(kept, text, answer),
         Err(_) => 51,
@@ -65,12 +69,12 @@ pub(crate) fn answer_log(kept: &mut Kept, request: LogRequest, answer: &mut Answ
 {
     match request {
         LogRequest::Begin => begin(kept, answer),
-        LogRequest::Dump => make_dump(kept, answer),
+        LogRequest::Dump { piece } => make_piece(kept, piece, answer),
         LogRequest::Text { from } => {
             tell_text(kept.text.as_slice(), from, answer);
             0
         }
-        LogRequest::Checkpoint => make_checkpoint(kept, answer),
+        LogRequest::Checkpoint { piece } => make_checkpoint(kept, piece, answer),
         LogRequest::Cut => cut(kept, answer),
     }
 }

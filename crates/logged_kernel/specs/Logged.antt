@@ -13,6 +13,7 @@ use Rattle.kernel_rules.specs.State.{State}
 use Rattle.kernel_rules.specs.Step.{answer, next}
 use Rattle.kernel_rules.specs.declared.calls.Call.{Call}
 use Rattle.dump_text.specs.Dump.{dump_text}
+use Rattle.dump_text.specs.Pieces.{AreLegal, IsPiece}
 use Rattle.dump_text.specs.Whole.{whole_dump, IsLegalDump}
 use Rattle.syscall_core.specs.Kernel.{kernel_state}
 use Rattle.syscall_core.specs.declared.kernel.Kernel.{Kernel}
@@ -108,6 +109,9 @@ pub record IsCut (before after : Logged) : Type 0 where
   pub origin : Writes before after.origin
   pub log : after.log ≡ Some []
 
--- the text of the dump of the events that are kept
-abbrev pub dump_of : Logged → Option (List ℕ)
-dump_of k = option_map (λ (events : List Event). dump_text (whole_dump k.limits (Some k.origin) events [])) k.log
+-- a piece of the dump of the events that are kept, which is legal; there is none where none are kept
+abbrev pub IsPieceOf : Logged → ℕ → Option (List ℕ) → Type 0
+IsPieceOf k number None = k.log ≡ None
+IsPieceOf k number (Some bytes) =
+    (events : List Event) × (k.log ≡ Some events) × IsPiece k.limits (Some k.origin) events number bytes
+    × AreLegal k.limits (Some k.origin) events

@@ -1,20 +1,19 @@
 //! A kernel with its log.
-ghost use Rattle.std.specs.Prelude.{◌≡◌, ◌≢◌, ◌↔◌, false, true, IfErr, IfOk, OnOk, OnErr, IfSome, IsErrOf, None, Some, option_map};
+ghost use Rattle.std.specs.Prelude.{◌≡◌, ◌≢◌, ◌↔◌, false, true, IfErr, IfOk, OnOk, OnErr, IsErrOf, None, Some, option_map};
 ghost use Rattle.base.specs.Limits.{in_range};
 ghost use Rattle.checkpoints.specs.Restored.{restored};
 ghost use Rattle.kernel_rules.specs.Runs.{booted};
 ghost use Rattle.kernel_rules.specs.Step.{answer};
 ghost use Rattle.dump_text.specs.Boot.{boot_checkpoint};
-ghost use Rattle.dump_text.specs.Whole.{IsLegalDump};
 ghost use Rattle.syscall_core.specs.Kernel.{kernel_state};
 ghost use Rattle.syscall_core.specs.Restored.{AreNext, restore_refusal};
-ghost use Rattle.logged_kernel.specs.Logged.{AreNumbered, IsCut, IsMade, IsWritten, Writes, begun, dump_of};
+ghost use Rattle.logged_kernel.specs.Logged.{AreNumbered, IsCut, IsMade, IsPieceOf, IsWritten, Writes, begun};
 
-use crate::logging::{EventLog, checkpoint_text_of, make_kept, text_of};
+use crate::logging::{EventLog, checkpoint_text_of, make_kept, piece_of};
 use crate::numbers::next_numbers;
 use base::{Limits, Meter, NoMemory, ObjectId};
 use checkpoints::{Checkpoint, NextNumber};
-use dump_text::{boot_checkpoint, boots_can_begin, legal_is_dump};
+use dump_text::{boot_checkpoint, boots_can_begin};
 use kernel_rules::{Call, Reply};
 use std::alloc::Global;
 use std::marker::Model;
@@ -156,21 +155,19 @@ impl LoggedKernel {
         Ok(())
     }
 
-    /// The dump of the log, as text; none where no log is kept. It is the dump of events that are legal from the checkpoint
-    /// at which they begin, so an audit finds it clean. The error is want of memory for the text of a log that is kept.
-    pub fn dump(&self, meter: &mut Meter) -> Result<Option<Vec<u8>>, NoMemory>
-        ensures text { IfOk result
-            (λ text. option_map (λ t. t.items) text ≡ dump_of self.now) }
-        ensures legal { IfOk result
-            (λ text. IfSome text (λ t. IsLegalDump self.now.limits (Some self.now.origin) t.items)) }
+    /// A piece of the text of the log's dump, by its number; none where no log is kept. Number 0 has what stands before the
+    /// events, each next one up to 64 events, and the last one the tables; past it a piece is empty. One after another they
+    /// are the dump of events that are legal from the checkpoint at which they begin, so an audit finds it clean. The error
+    /// is want of memory for the piece of a log that is kept.
+    pub fn dump_piece(&self, number: u64, meter: &mut Meter) -> Result<Option<Vec<u8>>, NoMemory>
+        ensures piece { IfOk result
+            (λ text. IsPieceOf self.now number (option_map (λ t. t.items) text)) }
         ensures sure { self.now.log ≡ None → OnErr result ⊥ }
     {
-        legal_is_dump();
         let Some(log) = &self.log else {
             return Ok(None);
         };
-        let tables = self.kernel.tables(meter)?;
-        let text = text_of(log, &self.limits, &self.origin, tables)?;
+        let text = piece_of(log, &self.limits, &self.origin, &self.kernel, number, meter)?;
         Ok(Some(text))
     }
 

@@ -1,11 +1,15 @@
 //! Keeping the events of calls.
-ghost use Rattle.std.specs.Prelude.{◌≡◌, ◌+◌, ◌<◌, ◌++◌, ◌∷◌, [], true, Some, IfOk, IfSome, OnOk, OnErr, vec_len, vec_capacity};
+ghost use Rattle.std.specs.Prelude.{◌≡◌, ◌+◌, ◌<◌, ◌≤◌, ◌++◌, ◌∷◌, [], true, Some, IfOk, IfSome, OnOk, OnErr, length, take, drop, vec_len, vec_capacity};
+ghost use Rattle.std.specs.List.{AllByRecursion, flat_map};
 ghost use Rattle.base.specs.Limits.{in_range};
 ghost use Rattle.checkpoints.specs.Restorable.{is_restorable};
 ghost use Rattle.checkpoints.specs.Restored.{restored};
 ghost use Rattle.checkpoints.specs.Starts.{number_of};
-ghost use Rattle.dump_text.specs.Dump.{dump_text};
-ghost use Rattle.dump_text.specs.Fits.{FitsWords};
+ghost use Rattle.call_text.specs.Text.{lines_text};
+ghost use Rattle.dump_text.specs.Dump.{event_lines};
+ghost use Rattle.dump_text.specs.Fits.{FitsLine};
+ghost use Rattle.dump_text.specs.Line.{line_text};
+ghost use Rattle.dump_text.specs.Pieces.{FitsPiece, piece_at, piece_text};
 ghost use Rattle.dump_text.specs.Whole.{whole_dump};
 ghost use Rattle.kernel_rules.specs.Events.{told};
 ghost use Rattle.kernel_rules.specs.History.{count, state_from};
@@ -15,11 +19,10 @@ ghost use Rattle.syscall_core.specs.Kernel.{kernel_state};
 ghost use Rattle.logged_kernel.specs.Logged.{IsTextOf};
 ghost use Rattle.logged_kernel.specs.Numbers.{AreCounted};
 
-use crate::copies::copied;
 use crate::numbers::{later, number_of};
 use base::{Limits, Meter, NoMemory, ObjectId};
 use checkpoints::Checkpoint;
-use dump_text::{dump_of, legal_is_dump};
+use dump_text::{Piece, dump_of, events_text, head_text, legal_is_dump, piece_at, tables_text};
 use kept_events::{KeptCalls, KeptEvent, KeptReply, call_answers, events_of};
 use kernel_rules::{Call, Reply, Tables};
 use std::alloc::Global;
@@ -113,27 +116,51 @@ pub(crate) fn checkpoint_text_of(
     Ok(text)
 }
 
-/// The dump of the events after a checkpoint, as text, with the tables of the state that they lead to. Want of memory is the
-/// only error.
-pub(crate) fn text_of(
+/// Up to 64 events from a place on.
+fn events_from(events: &[KeptEvent], from: usize) -> &[KeptEvent]
+    requires { from ≤ length events.now }
+    ensures { result.now ≡ take 64 (drop from events.now) }
+{
+    let rest = &events[from..];
+    if rest.len() <= 64 {
+        return rest;
+    }
+    &events[from..from + 64]
+}
+
+/// The text of up to 64 events of a log, from a place on. Want of memory is the only error.
+fn some_events(log: &EventLog, from: usize) -> Result<Vec<u8>, NoMemory>
+    requires { from ≤ length log.now.events.items }
+    ensures text { IfOk result (λ text. text.items
+        ≡ lines_text line_text (flat_map event_lines (take 64 (drop from log.now.events.items)))) }
+    ensures fits { OnOk result
+        (AllByRecursion FitsLine (flat_map event_lines (take 64 (drop from log.now.events.items)))) }
+{
+    let events = events_of(log.alloc, events_from(log.events.as_slice(), from))?;
+    let text = events_text(log.alloc, events.as_slice())?;
+    Ok(text)
+}
+
+/// A piece of the dump of the events after a checkpoint, which have led a kernel to its state. Want of memory is the only
+/// error.
+pub(crate) fn piece_of(
     log: &EventLog,
     limits: &Limits,
     origin: &Checkpoint,
-    tables: Tables,
+    kernel: &Kernel,
+    number: u64,
+    meter: &mut Meter,
 ) -> Result<Vec<u8>, NoMemory>
-    requires { tables ≡ scratch (state_from (restored limits.now origin.now) log.now.events.items) }
+    requires { kernel_state kernel.now ≡ state_from (restored limits.now origin.now) log.now.events.items }
     ensures text { IfOk result (λ text. text.items
-        ≡ dump_text (whole_dump limits.now (Some origin.now) log.now.events.items [])) }
-    ensures fits { OnOk result (FitsWords (whole_dump limits.now (Some origin.now) log.now.events.items [])) }
+        ≡ piece_text (whole_dump limits.now (Some origin.now) log.now.events.items []) number) }
+    ensures fits { OnOk result (FitsPiece (whole_dump limits.now (Some origin.now) log.now.events.items [])
+        (piece_at (length log.now.events.items) number)) }
 {
-    let events = events_of(log.alloc, log.events.as_slice())?;
-    let checkpoint = copied(log.alloc, origin)?;
-    dump_of(
-        log.alloc,
-        limits,
-        Some(checkpoint),
-        events,
-        Vec::new(log.alloc),
-        tables,
-    )
+    match piece_at(log.events.len(), number) {
+        Piece::Head => head_text(log.alloc, limits, origin),
+        Piece::Events { from } => some_events(log, from),
+        Piece::Tables => tables_text(log.alloc, kernel.tables(meter)?),
+        Piece::Nothing => Ok(Vec::new(log.alloc)),
+    }
 }

@@ -1,5 +1,5 @@
 -- What the exports do to what C's memory holds, and what C is told.
-use Rattle.std.specs.Prelude.{◌≡◌, ◌≢◌, ◌⊎◌, ◌↔◌, ℕ, List, [], ◌∷◌, ◌++◌, Bool, false, length, take, drop, not, nat_eq, nat_lt, slice_get, if◌then◌else◌, Option, Some, None, option_map, Result, Ok, Err}
+use Rattle.std.specs.Prelude.{◌≡◌, ◌≢◌, ◌⊎◌, ◌↔◌, ◌==◌, ℕ, List, [], ◌∷◌, ◌++◌, Bool, false, length, take, drop, not, nat_eq, nat_lt, slice_get, if◌then◌else◌, Option, Some, None, option_map, Result, Ok, Err}
 use Rattle.std.specs.Bool.{MatchBool}
 use Rattle.base.specs.Limits.{in_range}
 use Rattle.base.specs.declared.ranges.Limits.{Limits}
@@ -169,27 +169,35 @@ IsAsked seats.Begin thread before after number old told = IsBegun before after �
 IsAsked seats.Make thread before after number old told = IsBatchCalled thread before after number × (told ≡ old)
 IsAsked (seats.Told at) thread before after number old told = IsReplyTold at before after number old told
 
--- the text is the dump of what the seat has seen, a legal list of events, and its length is told
-abbrev pub IsText : SeatView → List ℕ → ℕ → Answer → Type 0
-IsText seat text number told =
-    (text ≡ dump_text (boot_dump seat.limits (events_of seat.limits seat.seen)))
-    × IsBootDump seat.limits text × (number ≡ 0) × TellsLength text told
+-- the text is kept in place of the last one, and its length is told
+abbrev pub IsTextKept : List ℕ → KeptSeat → KeptSeat → ℕ → Answer → Type 0
+IsTextKept text before after number told =
+    (after.seat ≡ before.seat) × SameCalls before after × SameReplies before after × (after.text.items ≡ text)
+    × (number ≡ 0) × TellsLength text told
+
+-- the text is the dump of what the seat has seen, a legal list of events
+abbrev pub IsDumpText : SeatView → List ℕ → Type 0
+IsDumpText seat text = (text ≡ dump_text (boot_dump seat.limits (events_of seat.limits seat.seen))) × IsBootDump seat.limits text
 
 -- that text is made; or there is no memory for it, and the number is 51; 45 where the list has no log
-abbrev pub IsDumped : KeptSeat → KeptSeat → ℕ → Answer → Answer → Type 0
-IsDumped before after number old told =
+abbrev pub IsDumpedWhole : KeptSeat → KeptSeat → ℕ → Answer → Answer → Type 0
+IsDumpedWhole before after number old told =
     MatchBool before.seat.is_logged
-    (((after.seat ≡ before.seat) × SameCalls before after × SameReplies before after
-    × IsText before.seat after.text.items number told)
+    ((IsTextKept after.text.items before after number told × IsDumpText before.seat after.text.items)
     ⊎ IsRefused 51 before after number old told)
     (IsRefused 45 before after number old told)
+
+-- the same as its one piece; the others are empty
+abbrev pub IsDumped : ℕ → KeptSeat → KeptSeat → ℕ → Answer → Answer → Type 0
+IsDumped piece before after number old told =
+    MatchBool (piece == 0) (IsDumpedWhole before after number old told) (IsTextKept [] before after number told)
 
 -- what is asked of the log is done; it does not begin, is not cut, and has no checkpoint
 abbrev pub IsLogAsked : LogRequest → KeptSeat → KeptSeat → ℕ → Answer → Answer → Type 0
 IsLogAsked logs.Begin before after number old told = IsRefused 45 before after number old told
-IsLogAsked logs.Checkpoint before after number old told = IsRefused 45 before after number old told
+IsLogAsked (logs.Checkpoint piece) before after number old told = IsRefused 45 before after number old told
 IsLogAsked logs.Cut before after number old told = IsRefused 45 before after number old told
-IsLogAsked logs.Dump before after number old told = IsDumped before after number old told
+IsLogAsked (logs.Dump piece) before after number old told = IsDumped piece before after number old told
 IsLogAsked (logs.Text from) before after number old told =
     (after.seat ≡ before.seat) × SameBeside before after
     × IsTold (replies.Bytes (take 64 (drop from before.text.items))) number told

@@ -33,15 +33,37 @@ fn refusal_of(kernel: &mut LoggedKernel, call: &Call, meter: &mut Meter) -> u8 {
     }
 }
 
-/// The dump of the log, made again where there was no memory.
-fn text_of(kernel: &LoggedKernel, meter: &mut Meter) -> Option<Vec<u8>> {
-    match kernel.dump(meter) {
+/// A piece of the dump of the log, made again where there was no memory.
+fn piece_of(kernel: &LoggedKernel, number: u64, meter: &mut Meter) -> Option<Vec<u8>> {
+    match kernel.dump_piece(number, meter) {
         Ok(text) => text,
-        Err(_) => match kernel.dump(meter) {
+        Err(_) => match kernel.dump_piece(number, meter) {
             Ok(text) => text,
             Err(_) => None,
         },
     }
+}
+
+/// Adds bytes, again where there was no memory, and tells whether they were added.
+fn adds(text: &mut Vec<u8>, bytes: &[u8]) -> bool {
+    text.extend_from_slice(bytes).is_ok() || text.extend_from_slice(bytes).is_ok()
+}
+
+/// The dump of the log, piece by piece.
+fn text_of(alloc: Global, kernel: &LoggedKernel, meter: &mut Meter) -> Option<Vec<u8>> {
+    let mut text = Vec::new(alloc);
+    for number in 0..u64::MAX {
+        let Some(piece) = piece_of(kernel, number, meter) else {
+            return None;
+        };
+        if piece.is_empty() {
+            return Some(text);
+        }
+        if !adds(&mut text, piece.as_slice()) {
+            return None;
+        }
+    }
+    None
 }
 
 /// Whether a dump is clean, asked again where there was no memory.
@@ -72,13 +94,13 @@ fn is_dump(alloc: Global, text: &Option<Vec<u8>>) -> bool {
 
 /// Whether the kernel's dump is clean.
 fn is_dumped(alloc: Global, kernel: &LoggedKernel, meter: &mut Meter) -> bool {
-    let text = text_of(kernel, meter);
+    let text = text_of(alloc, kernel, meter);
     is_dump(alloc, &text)
 }
 
 /// Whether no log is kept.
 fn has_no_log(kernel: &LoggedKernel, meter: &mut Meter) -> bool {
-    text_of(kernel, meter).is_none()
+    piece_of(kernel, 0, meter).is_none()
 }
 
 // A call that is done and one that is refused are kept, once each.
