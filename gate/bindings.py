@@ -22,6 +22,7 @@ SEEDS = range(1, 41)
 RECORDS = 10_000_000
 SESSIONS = 100_000
 SHARED_CALLS = 10_000_000
+LOGGED_CALLS = 1_000_000
 FUZZ_SECONDS = int(os.environ.get("FUZZ_SECONDS", "60"))
 THREAD_SECONDS = int(os.environ.get("THREAD_SECONDS", "60"))
 WARNINGS = ["-Wall", "-Wextra", "-Wpedantic", "-Werror"]
@@ -280,6 +281,10 @@ class Bindings:
         soak = self.compile([compiler, "-std=gnu11"], "soak.c", "soak", *WARNINGS)
         if soak:
             self.counts(f"{SESSIONS:,} sessions of 100 writes take no memory", soak, str(SESSIONS), "100")
+        wrapped = "-Wl,--wrap=malloc,--wrap=realloc,--wrap=free"
+        long_log = self.compile([compiler, "-std=gnu11"], "long_log.c", "long_log", *WARNINGS, wrapped)
+        if long_log:
+            self.counts(f"the dump of {LOGGED_CALLS:,} calls takes no more memory than that of 1,000", long_log, str(LOGGED_CALLS))
         self.compile([compiler, "-std=gnu11"], "bench.c", "bench", *WARNINGS)
         self.try_refused(compiler)
         if not shutil.which("valgrind"):

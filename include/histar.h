@@ -14,8 +14,8 @@
  * - HISTAR_UNAVAILABLE comes where the kernel is not open: it was closed, was never opened, or is a copy of another's
  *   bytes. HISTAR_BUSY comes where another call uses it: by another thread, or by the code that a signal interrupted.
  *   Nothing is done then, and the call may be made again.
- * - It takes no memory, prints nothing and never waits. Only the opens take memory, histar_checkpoint, and what the log needs: a
- *   write call after histar_log_on, which is refused HISTAR_MEMORY where there is none, histar_log_cut and histar_dump. Of a kernel that
+ * - It takes no memory, prints nothing and never waits. Only the opens take memory, checkpoints, and what the log needs: a
+ *   write call after histar_log_on, which is refused HISTAR_MEMORY where there is none, histar_log_cut and dumps. Of a kernel that
  *   threads share, the opens and each write call take memory, and a write call may sleep where another's is not ended.
  * - The bytes and labels that it gave or took stand in no record of the kernel once it returns. The library keeps the last
  *   call and the last reply inside the room, and histar_close wipes all of it.
@@ -471,9 +471,9 @@ static inline uint32_t histar_seat_booted(histar *seat, histar_note shared)
  * batch counts as one: 4,194,304 at most, and rounded up to a multiple of 256, and 256 more. Where a seat lacks more, write calls by
  * others are refused HISTAR_LIST_FULL until it makes a call or is closed.
  *
- * With `logs` the list has a log, and gives nothing back: histar_dump is of all that the seat has seen since the open, and `most` is how
- * many write calls there may be, rounded up as before. Without it histar_dump is refused HISTAR_BAD_BATCH. histar_log_on is always
- * refused so, as are histar_log_cut, histar_checkpoint and a look-up of histar_debug.h. Refused as histar_open_with. */
+ * With `logs` the list has a log, and gives nothing back: a dump is of all that the seat has seen since the open, and `most` is how
+ * many write calls there may be, rounded up as before. Without it dumps are refused HISTAR_BAD_BATCH. histar_log_on is always
+ * refused so, as are histar_log_cut, checkpoints and a look-up of histar_debug.h. Refused as histar_open_with. */
 HISTAR_LOOKED_AT(1)
 static inline uint32_t histar_share_with(histar *seat, uint64_t pages, uint64_t device_level, uint64_t next_id,
                                          uint64_t next_category, uint64_t most, int logs)
@@ -1137,37 +1137,125 @@ static inline uint32_t histar_log_cut(histar *k)
     return histar_done(k);
 }
 
-/* Has the library make a text, and writes it. */
-static inline uint32_t histar_writes(histar *k, uint32_t call, void *text, size_t size, size_t *needed)
+/* Where a text goes: a function of the caller's, which is given the text in parts of 1 to 4,096 bytes, one after another, each of them for
+ * the length of the call. It answers 0 to go on. Any other answer ends the text. */
+typedef uint32_t (*histar_put)(void *context, const void *part, size_t len);
+
+/* Has the library make the piece of a text that has this number, and tells how long it is: 0 past the last piece. */
+static inline uint32_t histar_cuts(histar *k, uint32_t call, uint64_t at, size_t *len)
 {
-    size_t at, len = 0;
-    uint32_t refusal = histar_asks(k, call, HISTAR_NOTHING, HISTAR_NOWHERE);
-    if (refusal) return refusal;
+    uint32_t refusal;
+    k->request.call = call;
+    k->request.numbers[0] = at;
     refusal = histar_serves(k);
-    if (!refusal) *needed = len = (size_t)k->answer.numbers[0];
-    if (!refusal && size < len) refusal = HISTAR_BOUNDS;
+    *len = refusal ? 0 : (size_t)k->answer.numbers[0];
+    return refusal;
+}
+
+/* Gives the piece that the library made last, in parts. */
+static inline uint32_t histar_puts(histar *k, size_t len, histar_put put, void *context)
+{
+    unsigned char part[4096];
+    size_t at, some, filled = 0;
+    uint32_t refusal = HISTAR_DONE;
     k->request.call = HISTAR_CALL_DUMP_TEXT;
-    for (at = 0; !refusal && at < len; at += 64) {
+    for (at = 0; !refusal && at < len; at += some) {
+        some = len - at < 64 ? len - at : 64;
         k->request.numbers[0] = at;
         refusal = histar_serves(k);
-        if (!refusal) memcpy((unsigned char *)text + at, k->answer.bytes, len - at < 64 ? len - at : 64);
+        memcpy(part + filled, k->answer.bytes, some);
+        filled += some;
+        if (refusal || (filled < sizeof part && at + some < len)) continue;
+        refusal = put(context, part, filled);
+        filled = 0;
     }
+    histar_wipes(part, sizeof part);
+    return refusal;
+}
+
+/* Gives all pieces of a text, where `put` is one, and tells how long it is. A text that ends early leaves nothing in the library. */
+static inline uint32_t histar_streams(histar *k, uint32_t call, histar_put put, void *context, size_t *len)
+{
+    uint64_t at = 0;
+    size_t some = 1, none;
+    uint32_t refusal = HISTAR_DONE;
+    for (*len = 0; !refusal && some; *len += some) {
+        refusal = histar_cuts(k, call, at++, &some);
+        if (!refusal && put) refusal = histar_puts(k, some, put, context);
+    }
+    if (refusal) (void)histar_cuts(k, call, UINT64_MAX, &none);
+    return refusal;
+}
+static inline uint32_t histar_streamed(histar *k, uint32_t call, histar_put put, void *context)
+{
+    size_t len;
+    uint32_t refusal = histar_asks(k, call, HISTAR_NOTHING, HISTAR_NOWHERE);
+    if (refusal) return refusal;
+    return histar_told(k, histar_streams(k, call, put, context, &len));
+}
+
+/* Gives the text of the log's dump to `put`, so that it stands nowhere whole: beside the log the library takes memory for up to 64 events
+ * of it, or for the kernel's state. No zero byte ends it. What `put` answers, where that is not 0, ends the dump and is returned. The kernel
+ * is busy until the dump is over: no call comes between its parts, not by `put` either. Of a seat it is the dump of what the seat has seen,
+ * with all calls that it was told of by a note, and stands whole in the library while it is given. HISTAR_BAD_BATCH where no log was begun,
+ * HISTAR_TEXT_MEMORY where there is no memory for a part, and the text has ended before it. The log stays as it is, so it may be dumped
+ * again, and calls may follow. */
+HISTAR_LOOKED_AT(1, 2)
+static inline uint32_t histar_dump_to(histar *k, histar_put put, void *context)
+{
+    return histar_streamed(k, HISTAR_CALL_DUMP, put, context);
+}
+
+/* Gives the text of a checkpoint to `put`, as histar_dump_to gives a dump's: the kernel's limits and state, with all that segments hold, so
+ * keep it as you would the kernel. Where a log is kept it has the number of each thread's next call too. It is a dump without calls:
+ * histar-audit finds it clean, and histar_open_at opens it. HISTAR_TEXT_MEMORY as of a dump, HISTAR_BAD_BATCH of a seat. */
+HISTAR_LOOKED_AT(1, 2)
+static inline uint32_t histar_checkpoint_to(histar *k, histar_put put, void *context)
+{
+    return histar_streamed(k, HISTAR_CALL_CHECKPOINT, put, context);
+}
+
+/* Room that a text is written into, and how much of it is left. */
+typedef struct {
+    unsigned char *at;
+    size_t left;
+} histar_space;
+static inline uint32_t histar_fills(void *space, const void *part, size_t len)
+{
+    histar_space *it = (histar_space *)space;
+    if (len > it->left) return HISTAR_BOUNDS;
+    memcpy(it->at, part, len);
+    it->at += len;
+    it->left -= len;
+    return HISTAR_DONE;
+}
+
+/* Writes a text into room of the caller's: first it is asked how long it is. */
+static inline uint32_t histar_writes(histar *k, uint32_t call, void *text, size_t size, size_t *needed)
+{
+    histar_space space;
+    size_t len;
+    uint32_t refusal = histar_asks(k, call, HISTAR_NOTHING, HISTAR_NOWHERE);
+    if (refusal) return refusal;
+    space.at = (unsigned char *)text;
+    space.left = size;
+    refusal = histar_streams(k, call, NULL, NULL, &len);
+    if (!refusal) *needed = len;
+    if (!refusal && size < len) refusal = HISTAR_BOUNDS;
+    if (!refusal) refusal = histar_streams(k, call, histar_fills, &space, &len);
     return histar_told(k, refusal);
 }
 
-/* Writes the text of the log's dump, and its length in bytes to *needed; no zero byte ends it. Of a seat it is the dump of what the seat
- * has seen, with all calls that it was told of by a note. HISTAR_BOUNDS where it is
- * longer than `size`: nothing but *needed is written then. HISTAR_BAD_BATCH where no log was begun, HISTAR_TEXT_MEMORY
- * where there is no memory for the text. The log stays as it is, so it may be dumped again, and calls may follow. */
+/* Writes the text that histar_dump_to gives, and its length in bytes to *needed. HISTAR_BOUNDS where it is
+ * longer than `size`: nothing but *needed is written then. Else refused as histar_dump_to; where that is HISTAR_TEXT_MEMORY, what stands
+ * in the first `size` bytes is no text. */
 HISTAR_LOOKED_AT(1, 4)
 static inline uint32_t histar_dump(histar *k, void *text, size_t size, size_t *needed)
 {
     return histar_writes(k, HISTAR_CALL_DUMP, text, size, needed);
 }
 
-/* Writes the text of a checkpoint, as histar_dump writes a dump's: the kernel's limits and state, with all that segments hold, so keep it
- * as you would the kernel. Where a log is kept it has the number of each thread's next call too. It is a dump without calls: histar-audit finds it
- * clean, and histar_open_at opens it. HISTAR_BOUNDS and HISTAR_TEXT_MEMORY as of a dump, HISTAR_BAD_BATCH of a seat. */
+/* Writes the text that histar_checkpoint_to gives, as histar_dump writes a dump's. */
 HISTAR_LOOKED_AT(1, 4)
 static inline uint32_t histar_checkpoint(histar *k, void *text, size_t size, size_t *needed)
 {

@@ -38,18 +38,17 @@ static int opens(const char *path)
     return 1;
 }
 
+/* Adds a part of a text to a file. */
+static uint32_t adds(void *file, const void *part, size_t len) { return fwrite(part, 1, len, file) != len; }
+
 /* Writes a text of the kernel to a file, in place of the old one once it is whole. */
-static void saves(uint32_t (*writes)(histar *, void *, size_t, size_t *), const char *path)
+static void saves(uint32_t (*writes)(histar *, histar_put, void *), const char *path)
 {
-    char *text, made[4096];
-    size_t len = 0;
+    char made[4096];
     FILE *file;
-    if (writes(&k, NULL, 0, &len) != HISTAR_BOUNDS || !(text = malloc(len))) fails("no memory");
-    must(writes(&k, text, len, &len));
     if (snprintf(made, sizeof made, "%s.new", path) >= (int)sizeof made) fails(path);
     file = fopen(made, "wb");
-    if (!file || fwrite(text, 1, len, file) != len || fflush(file) || fsync(fileno(file)) || fclose(file) || rename(made, path)) fails(made);
-    free(text);
+    if (!file || writes(&k, adds, file) || fflush(file) || fsync(fileno(file)) || fclose(file) || rename(made, path)) fails(made);
 }
 
 int main(int count, char **given)
@@ -65,8 +64,8 @@ int main(int count, char **given)
     must(histar_segment_read(&k, HISTAR_BOOT, histar_in(HISTAR_ROOT, made), 0, &starts, 1));
     starts++;
     must(histar_segment_write(&k, HISTAR_BOOT, histar_in(HISTAR_ROOT, made), 0, &starts, 1));
-    if (count > 2) saves(histar_dump, given[2]);
-    saves(histar_checkpoint, given[1]);
+    if (count > 2) saves(histar_dump_to, given[2]);
+    saves(histar_checkpoint_to, given[1]);
     printf("start %d\n", starts);
     must(histar_close(&k));
     return 0;

@@ -155,6 +155,100 @@ static uint32_t dump_in_63(void)
     uint32_t refusal = histar_dump(&k, place, 63, &needed);
     return needed > 63 && !place[0] ? refusal : 0;
 }
+/* Nothing is written into room that lacks a byte. */
+static uint32_t text_in_a_byte_less(uint32_t (*writes)(histar *, void *, size_t, size_t *))
+{
+    static char text[1 << 16];
+    size_t needed, len;
+    uint32_t refusal;
+    must(writes(&k, text, sizeof text, &needed));
+    memset(text, 0, sizeof text);
+    refusal = writes(&k, text, needed - 1, &len);
+    for (size_t i = 0; i < sizeof text; i++)
+        if (text[i]) return HISTAR_DONE;
+    return len == needed ? refusal : HISTAR_DONE;
+}
+static uint32_t dump_in_a_byte_less(void) { return text_in_a_byte_less(histar_dump); }
+static uint32_t checkpoint_in_a_byte_less(void) { return text_in_a_byte_less(histar_checkpoint); }
+
+/* What a dump or a checkpoint goes to: it keeps what it is given, and answers so at the part with this number. */
+static struct taker {
+    char text[1 << 16];
+    size_t len, parts;
+    uint32_t at, answer;
+} taker;
+static uint32_t takes(void *context, const void *part, size_t len)
+{
+    struct taker *it = context;
+    if (it->len + len > sizeof it->text) exit(2);
+    memcpy(it->text + it->len, part, len);
+    it->len += len;
+    return ++it->parts == it->at ? it->answer : 0;
+}
+static struct taker *empties(uint32_t at, uint32_t answer)
+{
+    memset(&taker, 0, sizeof taker);
+    taker.at = at;
+    taker.answer = answer;
+    return &taker;
+}
+static uint32_t calls_the_kernel(void *context, const void *part, size_t len)
+{
+    (void)part, (void)len;
+    *(uint32_t *)context = histar_cat_create(&k, HISTAR_BOOT, NULL);
+    return 0;
+}
+static uint32_t dump_given_closed(void) { return histar_dump_to(&closed, takes, empties(0, 0)); }
+static uint32_t checkpoint_given_closed(void) { return histar_checkpoint_to(&closed, takes, empties(0, 0)); }
+static uint32_t checkpoint_given_of_a_seat(void) { return histar_checkpoint_to(&seat, takes, empties(0, 0)); }
+static uint32_t dump_given_without_a_log(void)
+{
+    histar its = HISTAR_INIT;
+    uint32_t refusal;
+    must(histar_open(&its, 8));
+    refusal = histar_dump_to(&its, takes, empties(0, 0));
+    must(histar_close(&its));
+    return taker.parts ? 0 : refusal;
+}
+/* The dump that is written into room, and the same given part by part. */
+static uint32_t dump_given(void)
+{
+    static char text[1 << 16];
+    size_t len;
+    must(histar_dump(&k, text, sizeof text, &len));
+    must(histar_dump_to(&k, takes, empties(0, 0)));
+    return taker.parts < 2 || taker.len != len || memcmp(taker.text, text, len);
+}
+static uint32_t dump_of_a_seat_given(void)
+{
+    static char text[1 << 16];
+    size_t len;
+    must(histar_dump(&seat, text, sizeof text, &len));
+    must(histar_dump_to(&seat, takes, empties(0, 0)));
+    return taker.len != len || memcmp(taker.text, text, len);
+}
+static uint32_t checkpoint_given(void)
+{
+    static char text[1 << 16];
+    size_t len;
+    must(histar_checkpoint(&k, text, sizeof text, &len));
+    must(histar_checkpoint_to(&k, takes, empties(0, 0)));
+    return taker.len != len || memcmp(taker.text, text, len);
+}
+static uint32_t dump_ended_by_its_taker(void) { return histar_dump_to(&k, takes, empties(2, 7)) == 7 && taker.parts == 2 ? 7 : 0; }
+static uint32_t checkpoint_ended_by_its_taker(void) { return histar_checkpoint_to(&k, takes, empties(1, 7)) == 7 && taker.parts == 1 ? 7 : 0; }
+static uint32_t call_by_what_takes_a_dump(void)
+{
+    uint32_t refusal = 0;
+    must(histar_dump_to(&k, calls_the_kernel, &refusal));
+    return refusal;
+}
+static uint32_t call_by_what_takes_a_checkpoint(void)
+{
+    uint32_t refusal = 0;
+    must(histar_checkpoint_to(&k, calls_the_kernel, &refusal));
+    return refusal;
+}
 static uint32_t log_begun_late(void) { return histar_log_on(&k); }
 
 /* ---- Two calls at once ---- */
@@ -565,6 +659,19 @@ static const struct row {
     {"a packet received in room for 63 bytes", HISTAR_BAD_BATCH, packet_in_63},
     {"metadata read in room for 63 bytes", HISTAR_BAD_BATCH, metadata_in_63},
     {"a dump in room for 63 bytes", HISTAR_BOUNDS, dump_in_63},
+    {"a dump in room that lacks a byte", HISTAR_BOUNDS, dump_in_a_byte_less},
+    {"a checkpoint in room that lacks a byte", HISTAR_BOUNDS, checkpoint_in_a_byte_less},
+    {"a dump given to a function", HISTAR_DONE, dump_given},
+    {"a dump of a seat given to a function", HISTAR_DONE, dump_of_a_seat_given},
+    {"a checkpoint given to a function", HISTAR_DONE, checkpoint_given},
+    {"a dump given to a function after the close", HISTAR_UNAVAILABLE, dump_given_closed},
+    {"a checkpoint given to a function after the close", HISTAR_UNAVAILABLE, checkpoint_given_closed},
+    {"a dump given to a function without a log", HISTAR_BAD_BATCH, dump_given_without_a_log},
+    {"a checkpoint of a seat given to a function", HISTAR_BAD_BATCH, checkpoint_given_of_a_seat},
+    {"a dump that its function ends", 7, dump_ended_by_its_taker},
+    {"a checkpoint that its function ends", 7, checkpoint_ended_by_its_taker},
+    {"a call by the function that a dump goes to", HISTAR_BUSY, call_by_what_takes_a_dump},
+    {"a call by the function that a checkpoint goes to", HISTAR_BUSY, call_by_what_takes_a_checkpoint},
     {"a log begun after a call", HISTAR_BAD_BATCH, log_begun_late},
     {"a call by the handler of a signal", HISTAR_BUSY, called_by_a_handler},
     {"a close by the handler of a signal", HISTAR_BUSY, closed_by_a_handler},

@@ -91,6 +91,34 @@ static uint32_t creates_segment(void)
 }
 static uint32_t keeps_root(void) { return histar_unref(&k, HISTAR_BOOT, histar_in(HISTAR_ROOT, HISTAR_ROOT)); }
 
+/* What a dump goes to: its text so far. */
+struct taken {
+    char text[4096];
+    size_t len;
+};
+static uint32_t takes(void *context, const void *part, size_t len)
+{
+    struct taken *it = context;
+    if (len > sizeof it->text - it->len) return HISTAR_BOUNDS;
+    memcpy(it->text + it->len, part, len);
+    it->len += len;
+    return 0;
+}
+
+/* Whether a dump that goes to a function is this text: where memory lacks for a part, that is told, what was given is its beginning, and no
+ * memory is kept. */
+static int is_given(const char *text, size_t len)
+{
+    struct taken it = {{0}, 0};
+    long before = out;
+    uint32_t refusal = histar_dump_to(&k, takes, &it);
+    if (refusal == HISTAR_TEXT_MEMORY) {
+        if (it.len >= len || memcmp(it.text, text, it.len) || out > before) return 0;
+        again++, it.len = 0, refusal = histar_dump_to(&k, takes, &it);
+    }
+    return !refusal && it.len == len && !memcmp(it.text, text, len) && out <= before;
+}
+
 /* Whether logged calls are done, each once, and their dump is the one before where there was one. */
 static int is_logged(void)
 {
@@ -102,7 +130,8 @@ static int is_logged(void)
     if (once_more(creates_segment) || made.id != 4 || once_more(keeps_root) != HISTAR_ROOT_KEPT) return 0;
     refusal = histar_dump(&k, text[n], sizeof text[n], &len[n]);
     if (refusal == HISTAR_TEXT_MEMORY) again++, refusal = histar_dump(&k, text[n], sizeof text[n], &len[n]);
-    return !refusal && len[n] && (!n || (len[0] == len[1] && !memcmp(text[0], text[1], len[0])));
+    if (refusal || !is_given(text[n], len[n])) return 0;
+    return len[n] && (!n || (len[0] == len[1] && !memcmp(text[0], text[1], len[0])));
 }
 
 /* Whether a log is kept and dumped with each request for memory after the open refused in turn. */

@@ -1,7 +1,8 @@
 //! The log of a kernel's calls, and its checkpoints.
 use crate::kernel::refusal;
-use crate::raw::{Answer, Raw};
+use crate::raw::{Raw, Taken};
 use crate::{Entry, Kernel, Refusal};
+use std::io;
 
 #[cfg(doc)]
 use crate::Refusal::*;
@@ -17,14 +18,9 @@ use crate::Refusal::*;
 /// # Ok::<(), histar::Refusal>(())
 /// ```
 impl Kernel {
-    /// Asks for a part of the log or for a checkpoint.
-    fn ask_log<const N: usize, R>(
-        &self,
-        part: u32,
-        numbers: [u64; N],
-        read: impl FnOnce(&Answer) -> R,
-    ) -> Result<R, Refusal> {
-        self.raw.ask(|request| request.put(part, &Entry::NONE, numbers), read).map_err(refusal)
+    /// Asks for what is answered by nothing.
+    fn ask_log(&self, part: u32) -> Result<(), Refusal> {
+        self.raw.ask(|request| request.put(part, &Entry::NONE, []), |_| ()).map_err(refusal)
     }
 
     /// Begins the log, before the first write call. From here on each write call takes memory.
@@ -41,7 +37,7 @@ impl Kernel {
     /// # Errors
     /// [`BadBatch`] where a write call was made already.
     pub fn log_on(&self) -> Result<(), Refusal> {
-        self.ask_log(40, [], |_| ())
+        self.ask_log(40)
     }
 
     /// Begins the log anew at the kernel as it stands, so that the memory of its calls is given back: its dump has the checkpoint of this
@@ -61,7 +57,7 @@ impl Kernel {
     /// # Errors
     /// [`Memory`] where there is none for that, and the log is as before.
     pub fn cut_log(&self) -> Result<(), Refusal> {
-        self.ask_log(49, [], |_| ())
+        self.ask_log(49)
     }
 
     /// The text of a checkpoint: the kernel's limits and state, with all that segments hold, so keep it as you would the kernel. Where a log
@@ -78,7 +74,23 @@ impl Kernel {
     /// # Errors
     /// [`TextMemory`] where the library has no memory for the text.
     pub fn checkpoint(&self) -> Result<String, Refusal> {
-        self.text(48)
+        self.text(CHECKPOINT)
+    }
+
+    /// Writes the text of a [`checkpoint`](Kernel::checkpoint), as [`dump_to`](Kernel::dump_to) writes a dump's.
+    ///
+    /// ```
+    /// let kernel = histar::Kernel::boot(64)?;
+    /// let mut text = Vec::new();
+    /// kernel.checkpoint_to(&mut text)?;
+    /// assert_eq!(text, kernel.checkpoint()?.as_bytes());
+    /// # Ok::<(), std::io::Error>(())
+    /// ```
+    ///
+    /// # Errors
+    /// As [`checkpoint`](Kernel::checkpoint), and what `out` gives.
+    pub fn checkpoint_to(&self, out: &mut impl io::Write) -> io::Result<()> {
+        self.pieces(CHECKPOINT, |piece| out.write_all(piece))
     }
 
     /// A kernel at a text that [`checkpoint`](Kernel::checkpoint) gave, on this machine or another: it has the limits of the kernel that was
@@ -124,17 +136,71 @@ impl Kernel {
     /// # Errors
     /// [`BadBatch`] where no log was begun, and [`TextMemory`] where the library has no memory for the text.
     pub fn dump(&self) -> Result<String, Refusal> {
-        self.text(41)
+        self.text(DUMP)
+    }
+
+    /// Writes the [`dump`](Kernel::dump) of the log piece by piece, so that it stands nowhere whole: beside the log memory is taken for up
+    /// to 64 events of it, or for the kernel's state. It is that of the log as it stands: a call that `out` makes is refused [`Busy`].
+    ///
+    /// ```
+    /// let kernel = histar::Kernel::boot(64)?;
+    /// kernel.log_on()?;
+    /// kernel.session().cat_create()?;
+    /// let mut text = Vec::new();
+    /// kernel.dump_to(&mut text)?;
+    /// assert_eq!(text, kernel.dump()?.as_bytes());
+    /// # Ok::<(), std::io::Error>(())
+    /// ```
+    ///
+    /// # Errors
+    /// As [`dump`](Kernel::dump), and what `out` gives; what was written before stays.
+    pub fn dump_to(&self, out: &mut impl io::Write) -> io::Result<()> {
+        self.pieces(DUMP, |piece| out.write_all(piece))
+    }
+
+    /// Has the library make a text, and gives each piece of it, of which the one past the last is empty. No call comes between them.
+    fn pieces<E: From<Refusal>>(&self, part: u32, mut put: impl FnMut(&[u8]) -> Result<(), E>) -> Result<(), E> {
+        let mut taken = self.raw.take().map_err(refusal)?;
+        let mut text = Vec::new();
+        for number in 0.. {
+            let put = match piece(&mut taken, part, number, &mut text) {
+                Ok(()) if text.is_empty() => break,
+                Ok(()) => put(&text),
+                Err(number) => Err(refusal(number).into()),
+            };
+            if put.is_err() {
+                // (past the last piece, so that the library keeps none)
+                let _ = piece(&mut taken, part, u64::MAX, &mut text);
+                return put;
+            }
+        }
+        Ok(())
     }
 
     /// A text that the library makes.
     fn text(&self, part: u32) -> Result<String, Refusal> {
-        let len = self.ask_log(part, [], |answer| answer.numbers[0])? as usize;
-        let mut text = Vec::with_capacity(len);
-        while text.len() < len {
-            let from = text.len() as u64;
-            self.ask_log(42, [from], |answer| text.extend_from_slice(answer.data()))?;
-        }
+        let mut text = Vec::new();
+        self.pieces(part, |piece| {
+            text.extend_from_slice(piece);
+            Ok::<(), Refusal>(())
+        })?;
         Ok(String::from_utf8(text).unwrap_or_else(|_| unreachable!("the library's texts have no letter beyond ASCII")))
     }
+}
+
+/// What is asked for a piece of a dump, for one of a checkpoint, and for some bytes of the piece that was made last.
+const DUMP: u32 = 41;
+const CHECKPOINT: u32 = 48;
+const BYTES: u32 = 42;
+
+/// A piece of a text that the library makes.
+fn piece(taken: &mut Taken<'_>, part: u32, number: u64, text: &mut Vec<u8>) -> Result<(), u32> {
+    text.clear();
+    let len = taken.ask(|request| request.put(part, &Entry::NONE, [number]), |answer| answer.numbers[0])? as usize;
+    while text.len() < len {
+        let from = text.len() as u64;
+        taken
+            .ask(|request| request.put(BYTES, &Entry::NONE, [from]), |answer| text.extend_from_slice(answer.data()))?;
+    }
+    Ok(())
 }

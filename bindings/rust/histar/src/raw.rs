@@ -1,7 +1,7 @@
 //! The library's functions and records, as `include/histar.h` has them, and a safe kernel over them. All unsafe code of
 //! the crate stands here.
 use crate::Limits;
-use std::cell::{RefCell, UnsafeCell};
+use std::cell::{RefCell, RefMut, UnsafeCell};
 use std::marker::PhantomData;
 use std::mem::{align_of, size_of};
 use std::time::Duration;
@@ -144,7 +144,7 @@ const VERSION: u32 = 10_000 * number(env!("CARGO_PKG_VERSION_MAJOR"))
     + 100 * number(env!("CARGO_PKG_VERSION_MINOR"))
     + number(env!("CARGO_PKG_VERSION_PATCH"));
 
-/// The number that a seat's call is told while another seat adds its own.
+/// The number that a seat's call is told while another seat adds its own, and a call while another uses the kernel.
 const BUSY: u32 = 46;
 
 /// A seat that is told so asks again: at once, then after others had a turn, then after a millisecond each. After a fifth of a second it is
@@ -196,6 +196,24 @@ impl Records {
             4 => wipe_bytes(&mut self.answer.bytes),
             _ => self.answer = Answer::ZEROS,
         }
+    }
+}
+
+/// A kernel or a seat that is taken for calls: others are refused meanwhile.
+pub(crate) struct Taken<'a> {
+    raw: &'a Raw,
+    records: RefMut<'a, Box<Records>>,
+}
+
+impl Taken<'_> {
+    /// Does what is asked for, and reads the answer; or gives the number of the refusal. Nothing of either stays in the records.
+    pub fn ask<R>(&mut self, fill: impl FnOnce(&mut Request), read: impl FnOnce(&Answer) -> R) -> Result<R, u32> {
+        let records = &mut **self.records;
+        fill(&mut records.request);
+        let number = self.raw.serve(records);
+        let told = if number == 0 { Ok(read(&records.answer)) } else { Err(number) };
+        records.wipe();
+        told
     }
 }
 
@@ -286,9 +304,10 @@ impl Raw {
         if self.holds != Holds::Seat {
             return Err(BAD_BATCH);
         }
+        let _taken = self.take()?;
         let mut room = Room::new();
-        // SAFETY: this room holds a seat, and keeps it. A `Raw` is not `Sync` and no call is under way, for a call borrows the records
-        // for its length and calls nothing of this crate: so nobody else is at this room. The other room is as for a kernel.
+        // SAFETY: this room holds a seat, and keeps it. A `Raw` is not `Sync` and its records are taken, so nobody else is at this
+        // room. The other room is as for a kernel.
         unsafe {
             let from: *mut Room = &mut **self.room.get();
             histar_seat_beside(from, &mut *room);
@@ -298,9 +317,9 @@ impl Raw {
 
     /// Does what the records ask for. Gives the number of the refusal, 0 for none. A seat asks again while another adds its call.
     fn serve(&self, records: &mut Records) -> u32 {
-        // SAFETY: a boot made the room hold what the call requires, and each call keeps that. The records are borrowed for the
-        // length of the call, so no other call is made meanwhile: a `Raw` is not `Sync`. They are whole and have the layout of the
-        // library's.
+        // SAFETY: a boot made the room hold what the call requires, and each call keeps that. The records are taken, and the library
+        // calls nothing of this crate, so no other call is made meanwhile: a `Raw` is not `Sync`. They are whole and have the layout
+        // of the library's.
         unsafe {
             let room: *mut Room = &mut **self.room.get();
             if self.holds == Holds::Kernel {
@@ -318,15 +337,15 @@ impl Raw {
         }
     }
 
-    /// Does what is asked for, and reads the answer; or gives the number of the refusal. Nothing of either stays in the records.
+    /// Takes the kernel for calls, so that none of another comes between them. The error is the number that tells that it is taken.
+    pub fn take(&self) -> Result<Taken<'_>, u32> {
+        let records = self.records.try_borrow_mut().map_err(|_| BUSY)?;
+        Ok(Taken { raw: self, records })
+    }
+
+    /// One call.
     pub fn ask<R>(&self, fill: impl FnOnce(&mut Request), read: impl FnOnce(&Answer) -> R) -> Result<R, u32> {
-        let mut records = self.records.borrow_mut();
-        let records = &mut **records;
-        fill(&mut records.request);
-        let number = self.serve(records);
-        let told = if number == 0 { Ok(read(&records.answer)) } else { Err(number) };
-        records.wipe();
-        told
+        self.take()?.ask(fill, read)
     }
 }
 

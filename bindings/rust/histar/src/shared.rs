@@ -204,7 +204,25 @@ impl Seat {
         self.kernel.dump()
     }
 
-    /// A note of what the seat has seen.
+    /// Writes the [`dump`](Seat::dump) of what the seat has seen, as [`Kernel::dump_to`] writes a kernel's.
+    ///
+    /// ```
+    /// use histar::{Limits, Log, Seat};
+    /// let seat = Seat::share_with(&Limits::pages(64), 10, Log::Whole)?;
+    /// seat.session().cat_create()?;
+    /// let mut text = Vec::new();
+    /// seat.dump_to(&mut text)?;
+    /// assert_eq!(text, seat.dump()?.as_bytes());
+    /// # Ok::<(), std::io::Error>(())
+    /// ```
+    ///
+    /// # Errors
+    /// As [`dump`](Seat::dump), and what `out` gives.
+    pub fn dump_to(&self, out: &mut impl std::io::Write) -> std::io::Result<()> {
+        self.kernel.dump_to(out)
+    }
+
+    /// A note of what the seat has seen. It panics where it is asked for by what a dump of the seat is written to.
     ///
     /// ```
     /// let first = histar::Seat::share(64, 10)?;
@@ -216,10 +234,7 @@ impl Seat {
     /// ```
     pub fn seen(&self) -> Note {
         let calls = self.kernel.raw.ask(|request| request.put(43, &Entry::NONE, []), |answer| answer.numbers[0]);
-        Note {
-            shared: self.shared,
-            calls: calls.unwrap_or_else(|_| unreachable!("a seat has seen something or nothing")),
-        }
+        Note { shared: self.shared, calls: calls.unwrap_or_else(|_| panic!("the seat is at its dump")) }
     }
 
     /// The seat sees all that the note tells, so its reads from here on do.

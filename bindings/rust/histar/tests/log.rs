@@ -1,5 +1,6 @@
 //! The log of the calls, and its dump.
-use histar::{label, Entry, Kernel, Object, Refusal};
+use histar::{label, Entry, Kernel, Limits, Log, Object, Refusal, Seat};
+use std::io::{self, ErrorKind, Write};
 
 const ROOT: Object = Object::ROOT;
 
@@ -58,4 +59,118 @@ fn a_log_begins_with_the_first_call() {
     late.session().cat_create().unwrap();
     assert_eq!(late.log_on(), Err(Refusal::BadBatch));
     assert_eq!(late.dump(), Err(Refusal::BadBatch));
+}
+
+/// Takes so many bytes, and then no more.
+struct Small {
+    left: usize,
+    taken: Vec<u8>,
+}
+
+impl Write for Small {
+    fn write(&mut self, bytes: &[u8]) -> io::Result<usize> {
+        let some = bytes.len().min(self.left);
+        self.left -= some;
+        self.taken.extend_from_slice(&bytes[..some]);
+        Ok(some)
+    }
+
+    fn flush(&mut self) -> io::Result<()> {
+        Ok(())
+    }
+}
+
+/// Calls the kernel, and keeps why it may not.
+struct Calling<'k> {
+    kernel: &'k Kernel,
+    told: Vec<Refusal>,
+}
+
+impl Write for Calling<'_> {
+    fn write(&mut self, bytes: &[u8]) -> io::Result<usize> {
+        let boot = self.kernel.session();
+        self.told.extend(boot.cat_create().err());
+        self.told.extend(boot.self_get().err());
+        self.told.extend(self.kernel.dump().err());
+        self.told.extend(self.kernel.cut_log().err());
+        Ok(bytes.len())
+    }
+
+    fn flush(&mut self) -> io::Result<()> {
+        Ok(())
+    }
+}
+
+/// A kernel with a log of so many calls.
+fn logged(calls: usize) -> Kernel {
+    let kernel = Kernel::boot(64).unwrap();
+    kernel.log_on().unwrap();
+    for _ in 0..calls {
+        assert_eq!(kernel.session().unref(Entry::in_root(ROOT)), Err(Refusal::RootKept));
+    }
+    kernel
+}
+
+#[test]
+fn a_dump_is_written_piece_by_piece() {
+    for calls in [0, 1, 63, 64, 65, 128, 200] {
+        let kernel = logged(calls);
+        let (dump, checkpoint) = (kernel.dump().unwrap(), kernel.checkpoint().unwrap());
+        assert_eq!(events(&dump).len(), calls);
+        let mut text = Vec::new();
+        kernel.dump_to(&mut text).unwrap();
+        assert_eq!(text, dump.as_bytes());
+        text.clear();
+        kernel.checkpoint_to(&mut text).unwrap();
+        assert_eq!(text, checkpoint.as_bytes());
+    }
+}
+
+#[test]
+fn a_dump_ends_where_nothing_takes_it() {
+    let kernel = logged(200);
+    let dump = kernel.dump().unwrap();
+    for left in [0, 1, 63, 64, 1000, 5000, dump.len() - 1] {
+        let mut small = Small { left, taken: Vec::new() };
+        assert_eq!(kernel.dump_to(&mut small).unwrap_err().kind(), ErrorKind::WriteZero);
+        assert_eq!(small.taken, &dump.as_bytes()[..left]);
+        assert_eq!(
+            kernel.checkpoint_to(&mut Small { left: 1, taken: Vec::new() }).unwrap_err().kind(),
+            ErrorKind::WriteZero
+        );
+        assert_eq!(kernel.dump().unwrap(), dump);
+    }
+}
+
+#[test]
+fn no_call_comes_between_the_pieces_of_a_dump() {
+    let kernel = logged(100);
+    let dump = kernel.dump().unwrap();
+    let mut calling = Calling { kernel: &kernel, told: Vec::new() };
+    kernel.dump_to(&mut calling).unwrap();
+    assert!(calling.told.len() >= 4 * 4);
+    assert!(calling.told.iter().all(|refusal| *refusal == Refusal::Busy));
+    assert_eq!(kernel.dump().unwrap(), dump);
+}
+
+#[test]
+fn what_has_no_log_writes_nothing() {
+    let (kernel, seat) = (Kernel::boot(64).unwrap(), Seat::share(64, 1).unwrap());
+    let mut text = Vec::new();
+    let refused = |error: io::Error| *error.get_ref().unwrap().downcast_ref::<Refusal>().unwrap();
+    assert_eq!(refused(kernel.dump_to(&mut text).unwrap_err()), Refusal::BadBatch);
+    assert_eq!(refused(seat.dump_to(&mut text).unwrap_err()), Refusal::BadBatch);
+    assert!(text.is_empty());
+}
+
+#[test]
+fn a_seat_writes_its_dump() {
+    let seat = Seat::share_with(&Limits::pages(8), 300, Log::Whole).unwrap();
+    for _ in 0..200 {
+        assert_eq!(seat.session().unref(Entry::in_root(ROOT)), Err(Refusal::RootKept));
+    }
+    let mut text = Vec::new();
+    seat.dump_to(&mut text).unwrap();
+    assert_eq!(text, seat.dump().unwrap().as_bytes());
+    assert_eq!(events(&String::from_utf8(text).unwrap()).len(), 200);
 }
