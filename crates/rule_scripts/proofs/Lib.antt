@@ -1,5 +1,0 @@
-pub mod Corners
-pub mod Hostile
-pub mod Large
-pub mod Runs
-pub mod Worked

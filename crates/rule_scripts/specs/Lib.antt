@@ -1,6 +1,0 @@
-pub mod Corners
-pub mod Hostile
-pub mod Large
-pub mod Play
-pub mod Runs
-pub mod Worked
