@@ -9,6 +9,7 @@
 #include <signal.h>
 #include <stdio.h>
 #include <stdlib.h>
+#include <sys/mman.h>
 #include <sys/time.h>
 #include <sys/wait.h>
 #include <unistd.h>
@@ -579,10 +580,17 @@ static uint32_t text_with_another_byte(void) { return opened_with("segment", "se
 static uint32_t text_of_version_3(void) { return opened_with("dump 2", "dump 3", 0); }
 static uint32_t text_with_the_first_id_3(void) { return opened_with("limits 64 1 4 1", "limits 64 1 3 1", 0); }
 static uint32_t text_without_a_root(void) { return opened_with("object 1 ", "object 9 ", 0); }
+/* No byte past the text can be read. */
 static uint32_t text_of_far_more(void)
 {
+    char *room = mmap(NULL, sizeof written + 4096, PROT_READ | PROT_WRITE, MAP_PRIVATE | MAP_ANONYMOUS, -1, 0);
+    uint32_t refusal;
+    must(room == MAP_FAILED || mprotect(room + sizeof written, 4096, PROT_NONE));
     must(histar_checkpoint(&k, written, sizeof written, &written_len));
-    return histar_open_at(&closed, written, (size_t)PTRDIFF_MAX + 1);
+    memcpy(room + sizeof written - written_len, written, written_len);
+    refusal = histar_open_at(&closed, room + sizeof written - written_len, (size_t)PTRDIFF_MAX + 1);
+    munmap(room, sizeof written + 4096);
+    return refusal;
 }
 static uint32_t text_with_events(void)
 {
