@@ -212,22 +212,17 @@ static uint32_t dump_given_without_a_log(void)
     return taker.parts ? 0 : refusal;
 }
 /* The dump that is written into room, and the same given part by part. */
-static uint32_t dump_given(void)
+/* Whether what is given part by part is another text than the one that is written into room. */
+static uint32_t is_given_otherwise(histar *it)
 {
     static char text[1 << 16];
     size_t len;
-    must(histar_dump(&k, text, sizeof text, &len));
-    must(histar_dump_to(&k, takes, empties(0, 0)));
-    return taker.parts < 2 || taker.len != len || memcmp(taker.text, text, len);
-}
-static uint32_t dump_of_a_seat_given(void)
-{
-    static char text[1 << 16];
-    size_t len;
-    must(histar_dump(&seat, text, sizeof text, &len));
-    must(histar_dump_to(&seat, takes, empties(0, 0)));
+    must(histar_dump(it, text, sizeof text, &len));
+    must(histar_dump_to(it, takes, empties(0, 0)));
     return taker.len != len || memcmp(taker.text, text, len);
 }
+static uint32_t dump_given(void) { return is_given_otherwise(&k) || taker.parts < 2; }
+static uint32_t dump_of_a_seat_given(void) { return is_given_otherwise(&seat); }
 static uint32_t checkpoint_given(void)
 {
     static char text[1 << 16];
