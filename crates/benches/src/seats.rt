@@ -18,7 +18,7 @@ use anyhow::Result;
 use desks::{Desk, Others, add_desks, time_all, time_beside};
 use locked::Locked;
 use pauses::{ON_AND_ON, SELDOM};
-use published_copy::{Blank, BootRefusal, Naming, Shared};
+use published_copy::{Boot, BootRefusal, Naming, Shared};
 pub use samples::LIMITS;
 use std::alloc::Global;
 use std::fs::File;
@@ -56,10 +56,10 @@ impl Seats {
         }
     }
 
-    fn boot(self, alloc: Global) -> Result<Blank, BootRefusal> {
+    fn boot(self, alloc: Global) -> Result<Boot, BootRefusal> {
         match self {
-            Seats::Few => Blank::boot_for(alloc, &LIMITS, 5),
-            Seats::All => Blank::boot(alloc, &LIMITS),
+            Seats::Few => Boot::with_seats(alloc, &LIMITS, 5),
+            Seats::All => Boot::new(alloc, &LIMITS),
         }
     }
 }
@@ -277,13 +277,13 @@ fn compare_shared<B: Naming + Send, R: Threads + Wait + Clock + Print + Sync>(
 fn compare_opened<B: Naming + Send, R: Threads + Wait + Clock + Print + Sync>(
     rt: &R,
     alloc: Global,
-    blank: Blank,
+    boot: Boot,
     file: &File,
     asked: (Seats, u64),
 ) -> Result<()>
-    requires { blank ≡ B.boot }
+    requires { boot ≡ B.boot }
 {
-    let shared = blank.open::<B>();
+    let shared = boot.open::<B>();
     compare_shared(rt, alloc, &shared, file, asked)
 }
 
@@ -295,8 +295,8 @@ fn compare_boot<R: Threads + Wait + Clock + Print + Sync>(
     rounds: u64,
 ) -> Result<()> {
     println!(rt; "a boot for {} seats", seats.others().saturating_add(1))?;
-    let blank = seats.boot(alloc)?;
-    compare_opened::<Brand, R>(rt, alloc, blank, file, (seats, rounds))
+    let boot = seats.boot(alloc)?;
+    compare_opened::<Brand, R>(rt, alloc, boot, file, (seats, rounds))
 }
 
 /// Runs what the words after `seats` ask for. False where they ask for nothing.

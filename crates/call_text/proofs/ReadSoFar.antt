@@ -12,7 +12,7 @@ use Rattle.call_text.specs.declared.phases.Line.{Line}
 use Rattle.call_text.specs.Line.{Break, Said, written_with, written_text, IsWritten, FitsWritten}
 use Rattle.call_text.specs.Names.{Admits}
 use Rattle.call_text.specs.Phase.{line_in, IsKept}
-use Rattle.call_text.specs.Reading.{AddsLine}
+use Rattle.call_text.specs.Reading.{AddsLine, kept_as}
 use Rattle.call_text.proofs.KeptLines.{still_lines, still_all, new_line, new_kept}
 use Rattle.call_text.proofs.Progress.{Progress, progress_more}
 use Rattle.call_text.proofs.TextLemmas.{fit_more}
@@ -32,7 +32,7 @@ spoken_in (Some name) worker goes_on call is = is.1.1
 -- one more line was read
 pub read_more : (bytes : List ℕ) (names later : List (List ℕ)) (batches afters : List Open) (phases more : List (List Line)) (args found new left : List Arg) (lines last : List KeptLine) (count first : ℕ) (rest l after : List ℕ) (outline : Outline)
     → ReadSoFar bytes names batches phases args lines count rest → rest ≡ l ++ 10 ∷ after → new ≡ args ++ found → FitsWritten (written_with outline found) → l ≡ written_text (written_with outline found)
-    → Admits count (written_with outline found) names later batches afters true → first ≡ length args → AddsLine (count + 1) first outline phases new lines more left last → ReadSoFar bytes later afters more left last (count + 1) after
+    → Admits count (written_with outline found) names later batches afters true → first ≡ length args → AddsLine (kept_as outline (count + 1) first) phases new lines more left last → ReadSoFar bytes later afters more left last (count + 1) after
 read_more bytes names later batches afters phases more args found new left lines last count first rest l after outlines.Break at h grown fits is admits here adds =
     let same : map (line_in new) lines ≡ map (line_in args) lines = rw grown (still_lines args found lines at.all_kept) in
     let p : more ≡ phases ++ map (line_in args) lines ∷ [] = adds.0 ∙ ap (λ (ls : List Line). phases ++ ls ∷ []) same in

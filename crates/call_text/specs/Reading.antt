@@ -1,5 +1,5 @@
 -- What is read of a script.
-use Rattle.std.specs.Prelude.{◌≡◌, ℕ, List, [], ◌∷◌, ◌++◌, Some, None, map, Result, Ok, Err, Bool, true, false}
+use Rattle.std.specs.Prelude.{◌≡◌, ℕ, List, [], ◌∷◌, ◌++◌, Option, Some, None, map, Result, Ok, Err, Bool, true, false}
 use Rattle.text_words.specs.declared.spoken_calls.args.Arg.{Arg}
 use Rattle.call_text.specs.declared.lines.Outline.{Outline}
 use Rattle.call_text.specs.declared.lines.Outline.TheVariants as outlines
@@ -14,21 +14,26 @@ use Rattle.call_text.specs.Line.{Written}
 use Rattle.call_text.specs.Phase.{line_in}
 use Rattle.call_text.specs.Script.{IsScript, ScriptFaultsAt}
 
+-- The line as it is kept: its place in the text, and the number of arguments that stand before its call's.
+abbrev pub kept_as : Outline → ℕ → ℕ → Option KeptLine
+kept_as outlines.Break number first = None
+kept_as (outlines.Said binds worker goes_on verb) number first = Some record {
+  number = number;
+  binds = binds;
+  worker = worker;
+  more = goes_on;
+  verb = verb;
+  first = first;
+}
+
 -- The new phases are the old ones with one more line, and so are the lines of the last one, whose
 -- arguments are in the list: after -- it has neither lines nor arguments yet.
-abbrev pub AddsLine : ℕ → ℕ → Outline → List (List Line) → List Arg → List KeptLine
+abbrev pub AddsLine : Option KeptLine → List (List Line) → List Arg → List KeptLine
     → List (List Line) → List Arg → List KeptLine → Type 0
-AddsLine number first outlines.Break phases args lines more left last =
+AddsLine None phases args lines more left last =
     (more ≡ phases ++ map (line_in args) lines ∷ []) × (left ≡ []) × (last ≡ [])
-AddsLine number first (outlines.Said binds worker goes_on verb) phases args lines more left last =
-    (more ≡ phases) × (left ≡ args) × (last ≡ lines ++ record {
-      number = number;
-      binds = binds;
-      worker = worker;
-      more = goes_on;
-      verb = verb;
-      first = first;
-    } ∷ [])
+AddsLine (Some line) phases args lines more left last =
+    (more ≡ phases) × (left ≡ args) × (last ≡ lines ++ line ∷ [])
 
 -- The script that the bytes spell, or the first faulty line. Where memory ran out nothing is told.
 abbrev pub ReadsScript : List ℕ → Result Script ScriptError → Type 0

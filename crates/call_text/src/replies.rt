@@ -57,23 +57,18 @@ fn put_bytes<K: Known>(out: &mut Vec<u8>, bytes: &Data, names: &K) -> Result<(),
     put_words(out, Head::Data, &[Word::Data(*bytes)], names)
 }
 
-/// Adds what a thread is.
-#[inline(never)]
-fn put_own<K: Known>(
-    out: &mut Vec<u8>,
+/// The words of what a thread is.
+fn own_words(
     label: &Label,
     clearance: &Label,
     verify: &Label,
     space: &Entry,
     entry_point: u64,
     closure: u64,
-    names: &K,
-) -> Result<(), NoMemory>
-    ensures { OnOk result (out.new.items ≡ out.old.items
-        ++ words_text (K.names names.now) Head.Own
-        (own_words label.now clearance.now verify.now space.now entry_point closure)) }
+) -> [Word; 7]
+    ensures { result.items ≡ own_words label.now clearance.now verify.now space.now entry_point closure }
 {
-    let words = [
+    [
         Word::Label(*label),
         Word::Label(*clearance),
         Word::Label(*verify),
@@ -81,8 +76,15 @@ fn put_own<K: Known>(
         Word::Object(space.object),
         Word::Number(entry_point),
         Word::Number(closure),
-    ];
-    put_words(out, Head::Own, &words, names)
+    ]
+}
+
+/// Adds what a thread is, in these words.
+#[inline(never)]
+fn put_own<K: Known>(out: &mut Vec<u8>, words: &[Word; 7], names: &K) -> Result<(), NoMemory>
+    ensures { OnOk result (out.new.items ≡ out.old.items ++ words_text (K.names names.now) Head.Own words.now.items) }
+{
+    put_words(out, Head::Own, words, names)
 }
 
 /// Adds the label of an object.
@@ -198,16 +200,10 @@ pub fn put_reply<K: Known>(out: &mut Vec<u8>, reply: &Reply, names: &K) -> Resul
             space,
             entry_point,
             closure,
-        } => put_own(
-            out,
-            label,
-            clearance,
-            verify,
-            space,
-            *entry_point,
-            *closure,
-            names,
-        ),
+        } => {
+            let words = own_words(label, clearance, verify, space, *entry_point, *closure);
+            put_own(out, &words, names)
+        }
         Reply::Label(label) => put_label(out, label, names),
         Reply::Quota {
             quota,

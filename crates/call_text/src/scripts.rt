@@ -7,7 +7,7 @@ ghost use Rattle.call_text.specs.Script.{IsScript, ScriptFaultsAt, known_names, 
 ghost use Rattle.call_text.specs.Line.{written_with};
 ghost use Rattle.call_text.specs.Names.{Binds, Admits};
 ghost use Rattle.call_text.specs.Phase.{line_in, IsKept};
-ghost use Rattle.call_text.specs.Reading.{ReadsScript, AddsLine};
+ghost use Rattle.call_text.specs.Reading.{ReadsScript, AddsLine, kept_as};
 
 use crate::batches::{Open, fault_at, join};
 use crate::errors::ScriptError;
@@ -105,38 +105,44 @@ fn close(
     Ok(())
 }
 
-/// Adds the line to the phases, and to the lines of the last, whose arguments the list holds: those of its call stand after
-/// so many others.
-fn add(
-    alloc: Global,
-    phases: &mut Vec<Phase>,
-    args: &mut Vec<Arg>,
-    lines: &mut Vec<KeptLine>,
-    number: u32,
-    first: usize,
-    outline: Outline,
-) -> Result<(), AllocError>
-    requires { AllByRecursion (IsKept args.old.items) lines.old.items }
-    ensures { OnOk result (AddsLine number first outline phases.old.items args.old.items lines.old.items
-        phases.new.items args.new.items lines.new.items) }
+/// The line as it is kept: with its place in the text, and the number of arguments that stand before its call's.
+fn kept_as(outline: Outline, number: u32, first: usize) -> Option<KeptLine>
+    ensures { result ≡ kept_as outline number first }
 {
     match outline {
-        Outline::Break => close(alloc, phases, args, lines)?,
+        Outline::Break => None,
         Outline::Said {
             binds,
             worker,
             more,
             verb,
-        } => lines.push(KeptLine {
+        } => Some(KeptLine {
             number,
             binds,
             worker,
             more,
             verb,
             first,
-        })?,
+        }),
     }
-    Ok(())
+}
+
+/// Adds the line to those of the last phase, whose arguments the list holds, or closes that phase where there is none.
+fn add(
+    alloc: Global,
+    phases: &mut Vec<Phase>,
+    args: &mut Vec<Arg>,
+    lines: &mut Vec<KeptLine>,
+    line: Option<KeptLine>,
+) -> Result<(), AllocError>
+    requires { AllByRecursion (IsKept args.old.items) lines.old.items }
+    ensures { OnOk result (AddsLine line phases.old.items args.old.items lines.old.items
+        phases.new.items args.new.items lines.new.items) }
+{
+    match line {
+        None => close(alloc, phases, args, lines),
+        Some(line) => Ok(lines.push(line)?),
+    }
 }
 
 /// The one script that the bytes spell. `Line` tells the first faulty line: the first at which they stop being the beginning
@@ -165,15 +171,8 @@ pub fn read_script(alloc: Global, bytes: &[u8]) -> Result<Script, ScriptError>
             return Err(fault_at(alloc, rest, &mut batches, count + 1));
         }
         count += 1;
-        add(
-            alloc,
-            &mut phases,
-            &mut args,
-            &mut lines,
-            count,
-            first,
-            outline,
-        )?;
+        let kept = kept_as(outline, count, first);
+        add(alloc, &mut phases, &mut args, &mut lines, kept)?;
         rest = after;
     }
     if !batches.is_empty() {

@@ -15,6 +15,7 @@ mod laws;
 mod parts;
 mod relations;
 mod rows;
+mod tables;
 
 pub use comparing::refusal_among;
 pub use explaining::{explain, explain_query};

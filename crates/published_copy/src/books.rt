@@ -14,12 +14,12 @@ ghost use Rattle.published_copy.specs.Turns.{turn, is_turn, with_event, receipt_
 ghost use Rattle.published_copy.specs.Turns.{passed_on, Has, TellsBatch};
 ghost use mathlib.Core.List.{IsPrefix};
 
-use crate::lanes::Lane;
 use crate::naming::Naming;
 use crate::notes::Note;
 use crate::pairs::Pair;
 use crate::passes::Pass;
 use crate::places::Places;
+use crate::read_handles::ReadHandle;
 use crate::receipts::{BatchReceipt, Placed, batch_of, replies_room, tell_last};
 use crate::refusals::{SeatRefusal, SubmitRefusal};
 use crate::seating::seat_refusal;
@@ -134,7 +134,9 @@ impl<B: Naming> Book<B> {
     pub fn has(&self, note: &Note<B>) -> bool
         ensures { Has result self.now.journal note.now }
     {
-        self.pair.front(self.journal.len() as u64).has(note.front())
+        self.pair
+            .position(self.journal.len() as u64)
+            .has(note.position())
     }
 
     /// Whether the journal has no fewer events than a pass has seen, which it has in every run. Then what the pass has seen
@@ -142,7 +144,9 @@ impl<B: Naming> Book<B> {
     pub fn has_seen(&self, pass: &Pass<B>) -> bool
         ensures { Has result self.now.journal pass.now.seen }
     {
-        self.pair.front(self.journal.len() as u64).has(pass.front())
+        self.pair
+            .position(self.journal.len() as u64)
+            .has(pass.position())
     }
 
     /// The kernel, in the state that the journal leads to.
@@ -198,16 +202,16 @@ impl<B: Naming> Book<B> {
         ensures legal { IsLegal B.boot.limits self.new.journal }
     {
         let events = self.journal.len() as u64;
-        let _begins = self.pair.front(events).has(pass.front());
+        let _begins = self.pair.position(events).has(pass.position());
         make_room(&mut self.journal, &mut self.tallies)?;
         let event = self.pair.commit(rt, pass, call, more, events + 1, reply)?;
         self.journal.push_reserved(event);
         count_events(&mut self.tallies, pass.thread(), pass.number());
-        let front = self.pair.front(events + 1);
-        Ok(pass.pass_on(self.journal.len(), front))
+        let position = self.pair.position(events + 1);
+        Ok(pass.pass_on(self.journal.len(), position))
     }
 
-    /// Makes a call as the pass's thread, as `Lent::commit` says. The reply becomes the event's.
+    /// Makes a call as the pass's thread, as `BookGuard::commit` says. The reply becomes the event's.
     /// Which threads were given seats stays as it is.
     pub(crate) fn commit<R: Wait>(
         &mut self,
@@ -237,7 +241,7 @@ impl<B: Naming> Book<B> {
         Ok(self.make(rt, pass, call, &[], reply)?)
     }
 
-    /// Makes a batch as the pass's thread, as `Lent::commit_batch` says. Which threads were given seats stays as it is.
+    /// Makes a batch as the pass's thread, as `BookGuard::commit_batch` says. Which threads were given seats stays as it is.
     pub(crate) fn commit_batch<R: Wait>(
         &mut self,
         rt: &R,
@@ -294,7 +298,7 @@ impl<B: Naming> Book<B> {
         &mut self,
         rt: &R,
         thread: ObjectId,
-    ) -> Result<(Pass<B>, Lane<B>, Meter), SeatRefusal>
+    ) -> Result<(Pass<B>, ReadHandle<B>, Meter), SeatRefusal>
         ensures pass { IfOk result (λ seat. seat.0 ≡ turn thread 1 self.old.journal) }
         ensures free { OnOk result (seat_refused B.boot self.old thread ≡ None) }
         ensures row { IfErr result
@@ -311,9 +315,9 @@ impl<B: Naming> Book<B> {
         if let Some(refusal) = self.seat_refused(thread) {
             return Err(refusal);
         }
-        let lane = self.pair.lane(rt);
+        let handle = self.pair.handle(rt);
         let meter = self.places.give(thread);
-        let front = self.pair.front(self.journal.len() as u64);
-        Ok((Pass::new(thread, 1, front), lane, meter))
+        let position = self.pair.position(self.journal.len() as u64);
+        Ok((Pass::new(thread, 1, position), handle, meter))
     }
 }

@@ -9,9 +9,9 @@ ghost use Rattle.kernel_rules.specs.Runs.{booted};
 ghost use Rattle.syscall_core.specs.Kernel.{kernel_state};
 ghost use Rattle.published_copy.specs.Seats.{IsOpened, IsNotOpened};
 
+use crate::book_guards::BookGuard;
 use crate::books::Book;
-use crate::lending::Lent;
-use crate::logs::{Head, Told, empty_log};
+use crate::logs::{Head, SeenLog, empty_log};
 use crate::naming::Naming;
 use crate::pairs::Pair;
 use crate::places::{Places, SEATS};
@@ -30,19 +30,19 @@ use syscall_core::{BootRefusal, Kernel};
 /// A boot that has no name yet. A contract sees it as the log of its events, by its name, its
 /// limits and its seats. One that is dropped keeps the copies' memory.
 #[derive(Drop)]
-pub struct Blank {
+pub struct Boot {
     alloc: Global,
     limits: Limits,
     meter: Meter,
     journal: Vec<KeptEvent>,
     tallies: Vec<Tally>,
     places: Places,
-    seen: Told,
+    seen: SeenLog,
     head: Arc<Head>,
     writer: ManuallyDrop<Writer>,
 }
 
-impl Model for Blank {
+impl Model for Boot {
     ghost use Rattle.core.specs.Mem.{manually_drop_value};
     ghost use Rattle.std.specs.Prelude.{◌≡◌, [], drop};
     ghost use Rattle.std.specs.Arc.{arc_value};
@@ -64,22 +64,17 @@ impl Model for Blank {
 }
 
 /// A boot over a newly booted kernel, with its two copies and all that seats need.
-fn blank_over(
-    alloc: Global,
-    limits: &Limits,
-    seats: usize,
-    kernel: Kernel,
-) -> Result<Blank, NoMemory>
+fn boot_over(alloc: Global, limits: &Limits, seats: usize, kernel: Kernel) -> Result<Boot, NoMemory>
     requires booted { kernel_state kernel ≡ booted limits.now }
     requires seats { (0 < seats) × (seats ≤ 64) }
-    ensures limits { IfOk result (λ blank. blank.limits ≡ limits.now) }
-    ensures seats { IfOk result (λ blank. blank.seats ≡ seats) }
+    ensures limits { IfOk result (λ boot. boot.limits ≡ limits.now) }
+    ensures seats { IfOk result (λ boot. boot.seats ≡ seats) }
 {
     let meter = Meter::new(alloc)?;
     let places = Places::new(alloc, seats)?;
     let (head, seen) = empty_log(alloc)?;
     let writer = first_copies(alloc, limits, kernel, &seen, seats)?;
-    Ok(Blank {
+    Ok(Boot {
         alloc,
         limits: *limits,
         meter,
@@ -92,29 +87,29 @@ fn blank_over(
     })
 }
 
-impl Blank {
+impl Boot {
     /// Boots a kernel and its two copies, with an empty journal and all that 64 seats need, which are
     /// the most that a boot has. The error is `BadLimits` exactly where a limit is out of its range,
     /// and else, for want of memory, `Unavailable`.
-    pub fn boot(alloc: Global, limits: &Limits) -> Result<Blank, BootRefusal>
-        ensures blank { IfOk result (λ blank. blank.limits ≡ limits.now) }
-        ensures seats { IfOk result (λ blank. blank.seats ≡ 64) }
+    pub fn new(alloc: Global, limits: &Limits) -> Result<Boot, BootRefusal>
+        ensures boot { IfOk result (λ boot. boot.limits ≡ limits.now) }
+        ensures seats { IfOk result (λ boot. boot.seats ≡ 64) }
         ensures limits { IsErrOf result BootRefusal.BadLimits ↔ (in_range limits.now ≡ false) }
     {
-        Blank::boot_for(alloc, limits, SEATS)
+        Boot::with_seats(alloc, limits, SEATS)
     }
 
-    /// A boot as `boot` makes it, for 1 to 64 seats: each call looks at the place of each, so a boot
+    /// A boot as `new` makes it, for 1 to 64 seats: each call looks at the place of each, so a boot
     /// for few makes calls faster.
-    pub fn boot_for(alloc: Global, limits: &Limits, seats: usize) -> Result<Blank, BootRefusal>
+    pub fn with_seats(alloc: Global, limits: &Limits, seats: usize) -> Result<Boot, BootRefusal>
         requires { (0 < seats) × (seats ≤ 64) }
-        ensures blank { IfOk result (λ blank. blank.limits ≡ limits.now) }
-        ensures seats { IfOk result (λ blank. blank.seats ≡ seats) }
+        ensures boot { IfOk result (λ boot. boot.limits ≡ limits.now) }
+        ensures seats { IfOk result (λ boot. boot.seats ≡ seats) }
         ensures limits { IsErrOf result BootRefusal.BadLimits ↔ (in_range limits.now ≡ false) }
     {
         let kernel = Kernel::boot(alloc, limits)?;
-        match blank_over(alloc, limits, seats, kernel) {
-            Ok(blank) => Ok(blank),
+        match boot_over(alloc, limits, seats, kernel) {
+            Ok(boot) => Ok(boot),
             Err(_) => Err(BootRefusal::Unavailable),
         }
     }
@@ -123,7 +118,7 @@ impl Blank {
     pub fn open<B: Naming>(self) -> Shared<B>
         requires { self ≡ B.boot }
     {
-        let Blank {
+        let Boot {
             alloc,
             limits,
             meter,
@@ -149,8 +144,8 @@ pub struct Shared<B: Naming> {
 
 impl<B: Naming> Shared<B> {
     /// The book, for as long as it is kept. It waits for the lock.
-    pub fn book<R: Wait>(&self, rt: &R) -> Lent<'_, B> {
-        Lent::new(self.book.lock(rt))
+    pub fn book<R: Wait>(&self, rt: &R) -> BookGuard<'_, B> {
+        BookGuard::new(self.book.lock(rt))
     }
 
     /// A seat for a live thread that has had none: its first event will be number 1. It waits for
@@ -162,8 +157,8 @@ impl<B: Naming> Shared<B> {
         ensures done { IfOk result (λ seat. IsOpened B.boot thread seat) }
         ensures refused { IfErr result (λ refusal. IsNotOpened B.boot thread refusal) }
     {
-        let (pass, lane, meter) = self.book.lock(rt).seat(rt, thread)?;
-        Ok(Seat::new(&self.book, pass, lane, meter))
+        let (pass, handle, meter) = self.book.lock(rt).seat(rt, thread)?;
+        Ok(Seat::new(&self.book, pass, handle, meter))
     }
 
     /// The book at the end: no seat is left then and it is not lent, so nothing more comes to its

@@ -9,7 +9,7 @@ ghost use Rattle.published_copy.specs.Shares.{IsShown};
 ghost use Rattle.syscall_core.specs.Kernel.{kernel_state};
 
 use crate::further::Further;
-use crate::logs::{Told, weighed};
+use crate::logs::{SeenLog, weighed};
 use crate::ops::Op;
 use base::{Limits, Meter, NoMemory};
 use kernel_rules::Reply;
@@ -29,7 +29,7 @@ pub(crate) struct Copied {
     /// Whether the log that was seen has made the list's last event. It has whenever a copy is
     /// published: the event is made before.
     pub(crate) sealed: bool,
-    pub(crate) seen: Told,
+    pub(crate) seen: SeenLog,
     /// What the first call of the list's last event was answered; `Done` where there is none.
     pub(crate) reply: Reply,
     /// What the calls after it were answered.
@@ -129,7 +129,7 @@ pub(crate) fn first_copy(
     alloc: Global,
     limits: &Limits,
     kernel: Kernel,
-    seen: &Told,
+    seen: &SeenLog,
 ) -> Result<Copied, NoMemory>
     requires booted { kernel_state kernel ≡ booted limits.now }
     requires empty { seen.now.log ≡ [] }

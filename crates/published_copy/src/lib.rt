@@ -7,14 +7,13 @@
 //! there is a book with one kernel and no copies.
 #![tactic(auto)]
 
+mod book_guards;
 mod books;
 mod boots;
 mod copies;
 mod entries;
-mod fronts;
 mod further;
-mod lanes;
-mod lending;
+mod log_positions;
 mod logs;
 mod naming;
 mod notes;
@@ -22,6 +21,7 @@ mod ops;
 mod pairs;
 mod passes;
 mod places;
+mod read_handles;
 mod receipts;
 mod refusals;
 mod rules;
@@ -29,13 +29,13 @@ mod seating;
 mod seats;
 mod sole;
 mod tallies;
-mod tips;
+mod whole_logs;
 mod writers;
 
+pub use book_guards::BookGuard;
 pub use books::Book;
-pub use boots::{Blank, Shared};
+pub use boots::{Boot, Shared};
 pub use kept_events::{KeptEvent, KeptReply};
-pub use lending::Lent;
 pub use naming::Naming;
 pub use notes::Note;
 pub use passes::Pass;

@@ -15,10 +15,10 @@ use std::sync::Arc;
 pub(crate) type Head = Word<Entry, u64, Law>;
 
 /// A beginning of the log that was seen.
-pub(crate) type Told = Seen<Entry, u64, Law>;
+pub(crate) type SeenLog = Seen<Entry, u64, Law>;
 
 /// What the log weighs, and what was seen with it, which begins with what was seen before.
-pub(crate) fn weighed(head: &Head, told: &Told) -> (u64, Told)
+pub(crate) fn weighed(head: &Head, told: &SeenLog) -> (u64, SeenLog)
     requires { head.now ≡ head_of told.now.book }
     ensures book { result.1.book ≡ told.now.book }
     ensures begins { IsPrefix told.now.log result.1.log }
@@ -31,7 +31,7 @@ pub(crate) fn weighed(head: &Head, told: &Told) -> (u64, Told)
 }
 
 /// A log with no entry, and its head.
-pub(crate) fn empty_log(alloc: Global) -> Result<(Arc<Head>, Told), NoMemory>
+pub(crate) fn empty_log(alloc: Global) -> Result<(Arc<Head>, SeenLog), NoMemory>
     ensures { IfOk result (λ log. (log.1.log ≡ []) × (arc_value log.0 ≡ head_of log.1.book)) }
 {
     let (seen, mut first, _second) = Seen::open(Start::alone(), 0, 0);

@@ -3,7 +3,7 @@ ghost use Rattle.std.specs.Prelude.{◌≡◌, length};
 ghost use Rattle.kernel_rules.specs.History.{IsLegal};
 ghost use Rattle.published_copy.specs.Turns.{Has};
 
-use crate::fronts::Front;
+use crate::log_positions::LogPosition;
 use crate::naming::Naming;
 use std::marker::Model;
 
@@ -11,7 +11,7 @@ use std::marker::Model;
 /// which has then seen as much. Contracts see the list of events.
 #[derive(Drop)]
 pub struct Note<B: Naming> {
-    front: Front<B>,
+    position: LogPosition<B>,
 }
 
 impl<B: Naming> Model for Note<B> {
@@ -20,15 +20,15 @@ impl<B: Naming> Model for Note<B> {
 
     ghost Value = { List Event };
 
-    ghost view = { λ n. n.front };
+    ghost view = { λ n. n.position };
 }
 
 impl<B: Naming> Note<B> {
     /// A note of these events.
-    pub(crate) fn new(front: Front<B>) -> Note<B>
-        ensures { result ≡ front }
+    pub(crate) fn new(position: LogPosition<B>) -> Note<B>
+        ensures { result ≡ position }
     {
-        Note { front }
+        Note { position }
     }
 
     /// How many events they are. They are a legal list.
@@ -36,20 +36,20 @@ impl<B: Naming> Note<B> {
         ensures length { result ≡ length self.now }
         ensures legal { IsLegal B.boot.limits self.now }
     {
-        self.front.len()
+        self.position.len()
     }
 
     /// Whether the note has no fewer events than another. Of the lists of one boot the shorter begins the longer.
     pub fn has(&self, other: &Note<B>) -> bool
         ensures { Has result self.now other.now }
     {
-        self.front.has(&other.front)
+        self.position.has(&other.position)
     }
 
     /// The events.
-    pub(crate) fn front(&self) -> &Front<B>
+    pub(crate) fn position(&self) -> &LogPosition<B>
         ensures { result.now ≡ self.now }
     {
-        &self.front
+        &self.position
     }
 }

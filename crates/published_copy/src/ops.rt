@@ -5,7 +5,7 @@ ghost use Rattle.std.specs.Arc.{arc_value};
 ghost use Rattle.published_copy.specs.Entries.{weight as weight_of_log};
 ghost use Rattle.published_copy.specs.Rules.{head_of};
 
-use crate::logs::{Head, Told};
+use crate::logs::{Head, SeenLog};
 use base::ObjectId;
 use kernel_rules::Call;
 use std::sync::Arc;
@@ -24,7 +24,7 @@ pub(crate) struct Op {
     /// What the log weighs in which it was tried last.
     pub(crate) weight: u64,
     /// That log.
-    pub(crate) seen: Told,
+    pub(crate) seen: SeenLog,
     /// What the log weighs at any time.
     pub(crate) head: Arc<Head>,
     pub(crate) ghost few: { std.length more.items ≤ 15 },

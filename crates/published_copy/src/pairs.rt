@@ -12,13 +12,13 @@ ghost use Rattle.published_copy.specs.Rules.{head_of};
 ghost use Rattle.published_copy.specs.Shares.{IsShown};
 ghost use Rattle.published_copy.specs.Turns.{event_at, with_event};
 
-use crate::fronts::Front;
-use crate::lanes::Lane;
-use crate::logs::{Head, Told};
+use crate::log_positions::LogPosition;
+use crate::logs::{Head, SeenLog};
 use crate::naming::Naming;
 use crate::ops::Op;
 use crate::passes::Pass;
-use crate::tips::Tip;
+use crate::read_handles::ReadHandle;
+use crate::whole_logs::WholeLog;
 use crate::writers::{Copies, Writer};
 use base::NoMemory;
 use kept_events::{KeptCalls, KeptEvent, KeptReply, call_answers};
@@ -34,7 +34,7 @@ use syscall_core::Kernel;
 #[derive(Drop)]
 pub(crate) struct Pair<B: Naming> {
     alloc: Global,
-    tip: Tip<B>,
+    whole: WholeLog<B>,
     head: Arc<Head>,
     copies: Copies<B>,
 }
@@ -49,11 +49,11 @@ impl<B: Naming> Model for Pair<B> {
 
     ghost Value = { List Event };
 
-    ghost view = { λ p. made p.tip };
+    ghost view = { λ p. made p.whole };
 
     ghost invariant = { λ p. (arc_value p.head ≡ head_of B.boot.log)
-        × (p.copies.list ≡ made p.tip) × (p.copies.pending ≡ [])
-        × IsLegal B.boot.limits (made p.tip) };
+        × (p.copies.list ≡ made p.whole) × (p.copies.pending ≡ [])
+        × IsLegal B.boot.limits (made p.whole) };
 }
 
 /// The batch is tried in the log, and has an owner of the head for the copies' operation. What the log
@@ -61,7 +61,7 @@ impl<B: Naming> Model for Pair<B> {
 /// changes.
 fn attempt<B: Naming, R: Wait>(
     rt: &R,
-    tip: &mut Tip<B>,
+    whole: &mut WholeLog<B>,
     head: &Arc<Head>,
     kernel: &Kernel,
     pass: &Pass<B>,
@@ -69,25 +69,25 @@ fn attempt<B: Naming, R: Wait>(
     more: &[Call],
 ) -> Option<Arc<Head>>
     requires head { arc_value head.now ≡ head_of B.boot.log }
-    requires state { kernel_state kernel.now ≡ state_of B.boot.limits (made tip.old) }
-    ensures same { made tip.new ≡ made tip.old }
+    requires state { kernel_state kernel.now ≡ state_of B.boot.limits (made whole.old) }
+    ensures same { made whole.new ≡ made whole.old }
     ensures head { IfSome result (λ owner. arc_value owner ≡ head_of B.boot.log) }
-    ensures list { OnSome result (list_of false tip.new
-        ≡ with_event B.boot.limits (made tip.old) pass.now (call.now ∷ more.now)) }
-    ensures room { OnSome result (weight tip.new + 1 < 2 ^ 64) }
+    ensures list { OnSome result (list_of false whole.new
+        ≡ with_event B.boot.limits (made whole.old) pass.now (call.now ∷ more.now)) }
+    ensures room { OnSome result (weight whole.new + 1 < 2 ^ 64) }
 {
-    if tip.weight() >= u64::MAX - 3 {
+    if whole.weight() >= u64::MAX - 3 {
         return None;
     }
     let owner = Arc::try_clone(head).ok()?;
-    tip.attempt(rt, head, kernel, pass, call, more);
+    whole.attempt(rt, head, kernel, pass, call, more);
     Some(owner)
 }
 
 /// The batch as an operation for the copies, which makes so many events: the log was last tried with
 /// it.
 fn operation<B: Naming>(
-    tip: &Tip<B>,
+    whole: &WholeLog<B>,
     head: Arc<Head>,
     pass: &Pass<B>,
     call: Box<Call>,
@@ -101,15 +101,15 @@ fn operation<B: Naming>(
     ensures more { result.more.items ≡ more.items }
     ensures length { result.length ≡ events }
     ensures book { result.seen.book ≡ B.boot.log }
-    ensures log { result.seen.log ≡ tip.now }
+    ensures log { result.seen.log ≡ whole.now }
 {
     Op {
         thread: pass.thread(),
         call,
         more,
         length: events,
-        weight: tip.weight(),
-        seen: tip.seen(),
+        weight: whole.weight(),
+        seen: whole.seen(),
         head,
     }
 }
@@ -135,7 +135,7 @@ impl<B: Naming> Pair<B> {
     /// The log and the copies of a boot, with no event.
     pub(crate) fn new(
         alloc: Global,
-        seen: Told,
+        seen: SeenLog,
         head: Arc<Head>,
         writer: ManuallyDrop<Writer>,
     ) -> Pair<B>
@@ -149,18 +149,18 @@ impl<B: Naming> Pair<B> {
     {
         Pair {
             alloc,
-            tip: Tip::new(seen),
+            whole: WholeLog::new(seen),
             head,
             copies: Copies::new(writer),
         }
     }
 
     /// All events, which are so many, as they were seen.
-    pub(crate) fn front(&self, events: u64) -> Front<B>
+    pub(crate) fn position(&self, events: u64) -> LogPosition<B>
         requires { events ≡ length self.now }
         ensures { result ≡ self.now }
     {
-        Front::of(events, self.tip.seen())
+        LogPosition::of(events, self.whole.seen())
     }
 
     /// The kernel of the published copy, in the state of the events.
@@ -198,14 +198,14 @@ impl<B: Naming> Pair<B> {
         let others = copied(self.alloc, more)?;
         let kept = KeptCalls::new(self.alloc, call, more)?;
         let kernel = self.copies.kernel();
-        let tried = attempt(rt, &mut self.tip, &self.head, kernel, pass, call, more);
+        let tried = attempt(rt, &mut self.whole, &self.head, kernel, pass, call, more);
         let Some(head) = tried else {
             return Err(NoMemory);
         };
-        let op = operation(&self.tip, head, pass, first, others, events);
+        let op = operation(&self.whole, head, pass, first, others, events);
         self.copies.queue(op)?;
-        self.tip.settle(rt, &self.head);
-        self.copies.publish(rt, &self.tip, reply);
+        self.whole.settle(rt, &self.head);
+        self.copies.publish(rt, &self.whole, reply);
         call_answers();
         let further = self.copies.further();
         let (thread, number) = (pass.thread(), pass.number());
@@ -213,17 +213,17 @@ impl<B: Naming> Pair<B> {
     }
 
     /// A reader of the copies, which knows their boot.
-    pub(crate) fn lane<R: Wait>(&mut self, rt: &R) -> Lane<B>
+    pub(crate) fn handle<R: Wait>(&mut self, rt: &R) -> ReadHandle<B>
         ensures { self.new ≡ self.old }
     {
-        self.copies.lane(rt)
+        self.copies.handle(rt)
     }
 
     /// Gives back the copies' memory, once no reader has one.
     pub(crate) fn close<R: Wait>(self, rt: &R) {
         let Pair {
             alloc: _,
-            tip: _,
+            whole: _,
             head: _,
             copies,
         } = self;

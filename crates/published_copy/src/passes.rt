@@ -3,7 +3,7 @@ ghost use Rattle.std.specs.Prelude.{◌≡◌, ◌+◌, ◌<◌, ◌^◌, length
 ghost use Rattle.kernel_rules.specs.History.{IsLegal};
 ghost use Rattle.published_copy.specs.Turns.{turn, Has};
 
-use crate::fronts::Front;
+use crate::log_positions::LogPosition;
 use crate::naming::Naming;
 use crate::notes::Note;
 use crate::receipts::Placed;
@@ -16,7 +16,7 @@ use std::marker::Model;
 pub struct Pass<B: Naming> {
     thread: ObjectId,
     number: u64,
-    front: Front<B>,
+    position: LogPosition<B>,
 }
 
 impl<B: Naming> Model for Pass<B> {
@@ -24,18 +24,18 @@ impl<B: Naming> Model for Pass<B> {
 
     ghost Value = { Turn };
 
-    ghost view = { λ p. turn p.thread p.number p.front };
+    ghost view = { λ p. turn p.thread p.number p.position };
 }
 
 impl<B: Naming> Pass<B> {
     /// The pass of a thread whose next event has this number, and which has seen these events.
-    pub(crate) fn new(thread: ObjectId, number: u64, front: Front<B>) -> Pass<B>
-        ensures { result ≡ turn thread number front }
+    pub(crate) fn new(thread: ObjectId, number: u64, position: LogPosition<B>) -> Pass<B>
+        ensures { result ≡ turn thread number position }
     {
         Pass {
             thread,
             number,
-            front,
+            position,
         }
     }
 
@@ -58,41 +58,41 @@ impl<B: Naming> Pass<B> {
         ensures length { result ≡ length self.now.seen }
         ensures legal { IsLegal B.boot.limits self.now.seen }
     {
-        self.front.len()
+        self.position.len()
     }
 
     /// Whether it has seen no fewer events than a note has. Of the lists of one boot the shorter begins the longer.
     pub fn has(&self, note: &Note<B>) -> bool
         ensures { Has result self.now.seen note.now }
     {
-        self.front.has(note.front())
+        self.position.has(note.position())
     }
 
     /// The events that it has seen.
-    pub(crate) fn front(&self) -> &Front<B>
+    pub(crate) fn position(&self) -> &LogPosition<B>
         ensures { result.now ≡ self.now.seen }
     {
-        &self.front
+        &self.position
     }
 
     /// It has seen these events.
-    pub(crate) fn see(&mut self, front: Front<B>)
-        ensures { self.new ≡ turn self.old.thread self.old.number front }
+    pub(crate) fn see(&mut self, position: LogPosition<B>)
+        ensures { self.new ≡ turn self.old.thread self.old.number position }
     {
-        self.front = front;
+        self.position = position;
     }
 
     /// Its event was committed, and it has seen these events, which are so many: the next number is
     /// one more.
-    pub(crate) fn pass_on(&mut self, length: usize, front: Front<B>) -> Placed
+    pub(crate) fn pass_on(&mut self, length: usize, position: LogPosition<B>) -> Placed
         requires { self.old.number + 1 < 2 ^ 64 }
         ensures number { result.number ≡ self.old.number }
         ensures length { result.length ≡ length }
-        ensures pass { self.new ≡ turn self.old.thread (self.old.number + 1) front }
+        ensures pass { self.new ≡ turn self.old.thread (self.old.number + 1) position }
     {
         let number = self.number;
         self.number = number + 1;
-        self.front = front;
+        self.position = position;
         Placed { number, length }
     }
 }

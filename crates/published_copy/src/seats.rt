@@ -6,11 +6,11 @@ ghost use Rattle.published_copy.specs.Turns.{IsSubmitted, IsBatchSubmitted, IsNo
 ghost use Rattle.published_copy.specs.Turns.{seat_with, receipt_with};
 
 use crate::books::Book;
-use crate::fronts::Front;
-use crate::lanes::Lane;
+use crate::log_positions::LogPosition;
 use crate::naming::Naming;
 use crate::notes::Note;
 use crate::passes::Pass;
+use crate::read_handles::ReadHandle;
 use crate::receipts::{BatchReceipt, Placed, ReadReceipt, Receipt};
 use crate::refusals::{SubmitRefusal, Unread};
 use base::Meter;
@@ -25,8 +25,8 @@ use std::sync::{Mutex, Wait};
 pub struct Seat<'a, B: Naming> {
     lock: &'a Mutex<Book<B>>,
     pass: Pass<B>,
-    told: Front<B>,
-    lane: Option<Lane<B>>,
+    told: LogPosition<B>,
+    handle: Option<ReadHandle<B>>,
     meter: Meter,
 }
 
@@ -39,7 +39,7 @@ impl<'a, B: Naming> Model for Seat<'a, B> {
 
     ghost view = { λ s. seat_with s.pass s.told };
 
-    ghost invariant = { λ s. IsPrefix s.told s.pass.seen × IsSome s.lane };
+    ghost invariant = { λ s. IsPrefix s.told s.pass.seen × IsSome s.handle };
 }
 
 impl<'a, B: Naming> Seat<'a, B> {
@@ -48,17 +48,17 @@ impl<'a, B: Naming> Seat<'a, B> {
     pub(crate) fn new(
         lock: &'a Mutex<Book<B>>,
         pass: Pass<B>,
-        lane: Lane<B>,
+        handle: ReadHandle<B>,
         meter: Meter,
     ) -> Seat<'a, B>
         ensures { result ≡ seat_with pass pass.seen }
     {
-        let told = pass.front().again();
+        let told = pass.position().again();
         Seat {
             lock,
             pass,
             told,
-            lane: Some(lane),
+            handle: Some(handle),
             meter,
         }
     }
@@ -67,7 +67,7 @@ impl<'a, B: Naming> Seat<'a, B> {
 impl<B: Naming> Seat<'_, B> {
     /// Makes a call, which waits for the lock and is then one event of the journal: the seat's next
     /// number's, after all that the seat had seen. An error changes nothing; `Memory` is want of
-    /// memory, and `OutOfTurn` comes where `Lent::commit` says.
+    /// memory, and `OutOfTurn` comes where `BookGuard::commit` says.
     pub fn submit<R: Wait>(&mut self, rt: &R, call: &Call) -> Result<Receipt, SubmitRefusal>
         ensures done { IfOk result
             (λ receipt. IsSubmitted B.boot.limits self.old call.now receipt self.new) }
@@ -98,14 +98,14 @@ impl<B: Naming> Seat<'_, B> {
         let made = self.lock.lock(rt).commit(rt, &mut self.pass, call, reply);
         match made {
             Ok(placed) => {
-                self.told = self.pass.front().again();
+                self.told = self.pass.position().again();
                 Ok(placed)
             }
             Err(refusal) => Err(refusal),
         }
     }
 
-    /// Makes 1 to 16 calls, which waits for the lock; they are then one event of the journal, as `Lent::commit_batch` says.
+    /// Makes 1 to 16 calls, which waits for the lock; they are then one event of the journal, as `BookGuard::commit_batch` says.
     /// An error changes nothing; `BadBatch` comes exactly where there are other numbers of calls.
     #[tactic(auto, using(crate::proofs::Prefixes::prefix_self))]
     pub fn submit_batch<R: Wait>(
@@ -122,7 +122,7 @@ impl<B: Naming> Seat<'_, B> {
         let made = self.lock.lock(rt).commit_batch(rt, &mut self.pass, calls);
         match made {
             Ok(receipt) => {
-                self.told = self.pass.front().again();
+                self.told = self.pass.position().again();
                 Ok(receipt)
             }
             Err(refusal) => Err(refusal),
@@ -160,19 +160,19 @@ impl<B: Naming> Seat<'_, B> {
             (IsRead B.boot.limits self.old query.now reply.new self.new) }
         ensures kept { OnErr result (self.new ≡ self.old) }
     {
-        let Some(lane) = self.lane.take() else {
+        let Some(handle) = self.handle.take() else {
             return Err(Unread);
         };
-        let (lane, front) = lane.read(self.pass.thread(), query, reply, &mut self.meter);
-        self.lane = Some(lane);
-        let Some(front) = front else {
+        let (handle, position) = handle.read(self.pass.thread(), query, reply, &mut self.meter);
+        self.handle = Some(handle);
+        let Some(position) = position else {
             return Err(Unread);
         };
-        if !front.has(self.pass.front()) {
+        if !position.has(self.pass.position()) {
             return Err(Unread);
         }
-        let _length = front.len();
-        self.pass.see(front);
+        let _length = position.len();
+        self.pass.see(position);
         Ok(())
     }
 
@@ -197,18 +197,18 @@ impl<B: Naming> Seat<'_, B> {
     pub fn learn(&mut self, note: &Note<B>)
         ensures { IsLearnt self.old note.now self.new }
     {
-        let front = note.front();
-        if front.has(self.pass.front()) {
-            self.told = front.again();
-            self.pass.see(front.again());
+        let position = note.position();
+        if position.has(self.pass.position()) {
+            self.told = position.again();
+            self.pass.see(position.again());
             return;
         }
-        if front.has(&self.told) {
-            self.told = front.again();
+        if position.has(&self.told) {
+            self.told = position.again();
         }
     }
 
-    /// The seat's pass, for a caller that commits to a book that it was lent.
+    /// The seat's pass, for a caller that commits to a book that it was guard.
     pub fn into_pass(self) -> Pass<B>
         ensures { result ≡ self.entry.pass }
     {
@@ -216,7 +216,7 @@ impl<B: Naming> Seat<'_, B> {
             lock: _,
             pass,
             told: _,
-            lane: _,
+            handle: _,
             meter: _,
         } = self;
         pass

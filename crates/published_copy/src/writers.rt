@@ -13,12 +13,12 @@ ghost use Rattle.published_copy.specs.Shares.{EndsWithReplies, tag_of};
 ghost use Rattle.published_copy.specs.declared.copies.Copied.{Copied};
 
 use crate::copies::{Copied, copy_reply, first_copy};
-use crate::lanes::Lane;
-use crate::logs::Told;
+use crate::logs::SeenLog;
 use crate::naming::Naming;
 use crate::ops::Op;
+use crate::read_handles::ReadHandle;
 use crate::rules::{Mark, Published, Tag, Tell};
-use crate::tips::Tip;
+use crate::whole_logs::WholeLog;
 use base::{Limits, NoMemory};
 use core::mem::replace_with;
 use kept_events::KeptReply;
@@ -72,7 +72,7 @@ pub(crate) fn first_copies(
     alloc: Global,
     limits: &Limits,
     kernel: Kernel,
-    seen: &Told,
+    seen: &SeenLog,
     seats: usize,
 ) -> Result<Writer, NoMemory>
     requires booted { kernel_state kernel ≡ booted limits.now }
@@ -190,12 +190,12 @@ impl<B: Naming> Copies<B> {
 
     /// Readers are shown what the operation makes: the events that the log has made, with all calls of the
     /// last. The reply becomes that of its first call.
-    pub(crate) fn publish<R: Wait>(&mut self, rt: &R, tip: &Tip<B>, reply: &mut Reply)
-        requires { IsAwaited B.boot self.old (made tip.now) }
-        ensures list { self.new.list ≡ made tip.now }
+    pub(crate) fn publish<R: Wait>(&mut self, rt: &R, whole: &WholeLog<B>, reply: &mut Reply)
+        requires { IsAwaited B.boot self.old (made whole.now) }
+        ensures list { self.new.list ≡ made whole.now }
         ensures pending { self.new.pending ≡ [] }
-        ensures legal { IsLegal B.boot.limits (made tip.now) }
-        ensures replies { EndsWithReplies (made tip.now) (self.new.reply ∷ self.new.further) }
+        ensures legal { IsLegal B.boot.limits (made whole.now) }
+        ensures replies { EndsWithReplies (made whole.now) (self.new.reply ∷ self.new.further) }
         ensures reply { reply.new ≡ self.new.reply }
     {
         let writer: &mut Writer = &mut self.writer;
@@ -213,7 +213,7 @@ impl<B: Naming> Copies<B> {
     }
 
     /// A reader of the copies, which knows their boot.
-    pub(crate) fn lane<R: Wait>(&mut self, rt: &R) -> Lane<B>
+    pub(crate) fn handle<R: Wait>(&mut self, rt: &R) -> ReadHandle<B>
         requires { self.old.pending ≡ [] }
         ensures { self.new ≡ self.old }
     {
@@ -222,7 +222,7 @@ impl<B: Naming> Copies<B> {
         self.marked = true;
         let mut reader = claim(writer, rt);
         reader.learn::<Tell>(writer.tell::<Tell>());
-        Lane::new(reader)
+        ReadHandle::new(reader)
     }
 
     /// Gives back the copies' memory, once no reader has one.

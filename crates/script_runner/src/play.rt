@@ -18,7 +18,7 @@ use call_text::Script;
 use indexmap::IndexSet;
 use kept_events::KeptEvent;
 use kernel_rules::Tables;
-use published_copy::Blank;
+use published_copy::Boot;
 use std::alloc::Global;
 use std::marker::Brand;
 use std::sync::Wait;
@@ -61,8 +61,8 @@ fn play_seated<R: Threads + Wait + Sync>(
     ensures shared { IfOk result (λ played. IsShared limits.now script.now played.output.items played.events.items played.names) }
     ensures played { IfOk result (λ played. IsPlayed limits.now played.events.items played.tables) }
 {
-    match Blank::boot_for(alloc, limits, seats_for(workers.len())) {
-        Ok(blank) => play_shared::<Brand, R>(rt, alloc, blank, script, workers),
+    match Boot::with_seats(alloc, limits, seats_for(workers.len())) {
+        Ok(boot) => play_shared::<Brand, R>(rt, alloc, boot, script, workers),
         Err(refusal) => Err(PlayFault::Boot(refusal)),
     }
 }

@@ -17,7 +17,7 @@ use crate::printing::{Told, told_of};
 use crate::workers::Worker;
 use call_text::{Phase, Script};
 use indexmap::IndexSet;
-use published_copy::{Blank, Book, Naming, Note, Pass, Shared};
+use published_copy::{Book, Boot, Naming, Note, Pass, Shared};
 use std::alloc::{AllocError, Global};
 use std::sync::Wait;
 use std::thread;
@@ -279,16 +279,16 @@ fn all_seen<B: Naming>(book: &Book<B>, answered: &Result<Answered<B>, PlayFault>
 pub fn play_shared<B: Naming + Send, R: Threads + Wait + Sync>(
     rt: &R,
     alloc: Global,
-    blank: Blank,
+    boot: Boot,
     script: &Script,
     workers: &IndexSet<Name>,
 ) -> Result<Played, PlayFault>
-    requires { blank ≡ B.boot }
+    requires { boot ≡ B.boot }
     ensures closing { IfOk result (λ played. IsClosing B.boot.limits played.events.items played.tables) }
     ensures shared { IfOk result (λ played. rules.IsSharedBy B.boot.limits B.boot.seats script.now workers.now.keys
         played.output.items played.events.items played.names) }
 {
-    let shared = blank.open::<B>();
+    let shared = boot.open::<B>();
     let answered = play_workers(rt, alloc, &shared, script, workers);
     let book = shared.close();
     let seen = all_seen(&book, &answered);

@@ -6,7 +6,7 @@ ghost use Rattle.std.specs.Prelude.{◌≡◌};
 
 use base::{Level, Limits, ObjectId};
 use label_lattice::RawLabel;
-use published_copy::{Blank, KeptEvent, Naming, Seat, SeatRefusal, Shared, SubmitRefusal};
+use published_copy::{Boot, KeptEvent, Naming, Seat, SeatRefusal, Shared, SubmitRefusal};
 use std::io;
 use std::marker::Brand;
 use std::sync::Wait;
@@ -98,10 +98,10 @@ fn share_at<B: Naming + Send, R: Threads + Wait + Sync>(
     })
 }
 
-fn share<B: Naming + Send, R: Threads + Wait + Sync>(rt: &R, blank: Blank) -> Result<Counts, Fault>
-    requires { blank ≡ B.boot }
+fn share<B: Naming + Send, R: Threads + Wait + Sync>(rt: &R, boot: Boot) -> Result<Counts, Fault>
+    requires { boot ≡ B.boot }
 {
-    let shared: Shared<B> = blank.open::<B>();
+    let shared: Shared<B> = boot.open::<B>();
     share_at(rt, &shared)
 }
 
@@ -112,10 +112,10 @@ fn main(rt: HostRuntime) -> io::Result<()> {
         next_id: 4,
         next_category: 1,
     };
-    let Ok(blank) = Blank::boot(rt.alloc(), &limits) else {
+    let Ok(boot) = Boot::new(rt.alloc(), &limits) else {
         return println!(rt; "no boot");
     };
-    match share::<Brand, HostRuntime>(&rt, blank) {
+    match share::<Brand, HostRuntime>(&rt, boot) {
         Ok(counts) => println!(rt; "boot: {}, other: {}", counts.boot, counts.other),
         Err(fault) => println!(rt; "{fault}"),
     }

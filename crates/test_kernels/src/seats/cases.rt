@@ -5,7 +5,7 @@ ghost use Rattle.std.specs.Prelude.{◌≡◌};
 use super::samples::event_count;
 use super::{batches, few_seats, memory, notes, readers, seats, threads, told};
 use anyhow::Result;
-use published_copy::{Blank, BootRefusal, Naming, Shared};
+use published_copy::{Boot, BootRefusal, Naming, Shared};
 use std::alloc::Global;
 use std::marker::Brand;
 use std::sync::Wait;
@@ -34,16 +34,16 @@ pub enum Case {
     WantedReaders,
 }
 
-fn boot_once(alloc: Global, case: Case) -> Result<Blank, BootRefusal> {
+fn boot_once(alloc: Global, case: Case) -> Result<Boot, BootRefusal> {
     match case {
-        Case::FewSeats => Blank::boot_for(alloc, &MOST_PAGES, 2),
-        Case::Threads => Blank::boot(alloc, &threads::LIMITS),
-        _ => Blank::boot(alloc, &MOST_PAGES),
+        Case::FewSeats => Boot::with_seats(alloc, &MOST_PAGES, 2),
+        Case::Threads => Boot::new(alloc, &threads::LIMITS),
+        _ => Boot::new(alloc, &MOST_PAGES),
     }
 }
 
 /// A boot, made once more where there was no memory for it.
-fn boot_again(alloc: Global, case: Case) -> Result<Blank, BootRefusal> {
+fn boot_again(alloc: Global, case: Case) -> Result<Boot, BootRefusal> {
     match boot_once(alloc, case) {
         Err(BootRefusal::Unavailable) => boot_once(alloc, case),
         booted => booted,
@@ -82,12 +82,12 @@ fn play_on<B: Naming + Send + Sync, R: Threads + Wait + Sync>(
     rt: &R,
     look: &mut Look,
     alloc: Global,
-    blank: Blank,
+    boot: Boot,
     case: Case,
 ) -> Result<()>
-    requires { blank ≡ B.boot }
+    requires { boot ≡ B.boot }
 {
-    let shared = blank.open::<B>();
+    let shared = boot.open::<B>();
     let outcome = play_at(rt, look, alloc, &shared, case);
     let count = event_count(rt, &shared);
     look.sees(shared.close().into_events(rt).len() == count);
@@ -101,6 +101,6 @@ pub fn play_case<R: Threads + Wait + Sync>(
     alloc: Global,
     case: Case,
 ) -> Result<()> {
-    let blank = boot_again(alloc, case)?;
-    play_on::<Brand, R>(rt, look, alloc, blank, case)
+    let boot = boot_again(alloc, case)?;
+    play_on::<Brand, R>(rt, look, alloc, boot, case)
 }

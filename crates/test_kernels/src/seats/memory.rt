@@ -7,7 +7,7 @@ use super::samples::{
 use anyhow::Result;
 use base::ObjectId;
 use kernel_rules::{Call, Query, Reply};
-use published_copy::{BatchReceipt, Lent, Naming, Pass, Receipt, Seat, Shared, SubmitRefusal};
+use published_copy::{BatchReceipt, BookGuard, Naming, Pass, Receipt, Seat, Shared, SubmitRefusal};
 use std::sync::Wait;
 use std::thread::Threads;
 use test_structures::look::Look;
@@ -50,7 +50,7 @@ fn is_submitted<B: Naming, R: Wait>(
 /// A call under a lent book, made again where there was no memory.
 fn commit_again<B: Naming, R: Wait>(
     rt: &R,
-    book: &mut Lent<'_, B>,
+    book: &mut BookGuard<'_, B>,
     pass: &mut Pass<B>,
     call: &Call,
 ) -> Option<Receipt> {
@@ -67,7 +67,7 @@ fn commit_again<B: Naming, R: Wait>(
 /// Whether that call made this object as this event.
 fn is_committed<B: Naming, R: Wait>(
     rt: &R,
-    book: &mut Lent<'_, B>,
+    book: &mut BookGuard<'_, B>,
     pass: &mut Pass<B>,
     id: u64,
     number: u64,

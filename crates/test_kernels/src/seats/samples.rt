@@ -4,7 +4,7 @@ use anyhow::Result;
 use base::{Data, Level, ObjectId};
 use kernel_rules::{Call, Query, Reply};
 use published_copy::{
-    Lent, Naming, Pass, Receipt, Seat, SeatRefusal, Shared, SubmitRefusal, Unread,
+    BookGuard, Naming, Pass, Receipt, Seat, SeatRefusal, Shared, SubmitRefusal, Unread,
 };
 use std::sync::Wait;
 use test_structures::look::Look;
@@ -61,7 +61,7 @@ pub fn make_two<B: Naming, R: Wait>(rt: &R, boot: &mut Seat<'_, B>) -> Result<()
 /// What a call under a lent book answers.
 pub fn committed<B: Naming, R: Wait>(
     rt: &R,
-    book: &mut Lent<'_, B>,
+    book: &mut BookGuard<'_, B>,
     pass: &mut Pass<B>,
     call: &Call,
 ) -> Result<Receipt, SubmitRefusal> {

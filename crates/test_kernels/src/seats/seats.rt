@@ -10,7 +10,7 @@ use anyhow::Result;
 use base::{Data, Meter, ObjectId, Refusal};
 use kernel_rules::{Call, Reply};
 use published_copy::{
-    Blank, BootRefusal, KeptEvent, Naming, Pass, Receipt, Seat, SeatRefusal, Shared, SubmitRefusal,
+    Boot, BootRefusal, KeptEvent, Naming, Pass, Receipt, Seat, SeatRefusal, Shared, SubmitRefusal,
     Unread,
 };
 use std::alloc::Global;
@@ -140,12 +140,12 @@ fn close_at<B: Naming, R: Wait>(
 fn close_boot<B: Naming, R: Wait>(
     rt: &R,
     look: &mut Look,
-    blank: Blank,
+    boot: Boot,
     meter: &mut Meter,
 ) -> Result<()>
-    requires { blank ≡ B.boot }
+    requires { boot ≡ B.boot }
 {
-    close_at(rt, look, blank.open::<B>(), meter)
+    close_at(rt, look, boot.open::<B>(), meter)
 }
 
 fn what_is_closed_has_every_call<R: Threads + Wait + Sync + AllocGlobal>(
@@ -154,8 +154,8 @@ fn what_is_closed_has_every_call<R: Threads + Wait + Sync + AllocGlobal>(
 ) -> Result<()> {
     look.part("what_is_closed_has_every_call");
     let mut meter = Meter::new(rt.alloc())?;
-    let blank = Blank::boot(rt.alloc(), &MOST_PAGES)?;
-    close_boot::<Brand, R>(rt, look, blank, &mut meter)
+    let boot = Boot::new(rt.alloc(), &MOST_PAGES)?;
+    close_boot::<Brand, R>(rt, look, boot, &mut meter)
 }
 
 fn a_call_is_an_event<R: Threads + Wait + Sync + AllocGlobal>(
@@ -173,7 +173,7 @@ fn limits_are_tested<R: Threads + Wait + Sync + AllocGlobal>(
     look.part("limits_are_tested");
     let mut limits = MOST_PAGES;
     limits.pages = 1025;
-    match Blank::boot(rt.alloc(), &limits) {
+    match Boot::new(rt.alloc(), &limits) {
         Ok(_) => look.sees(false),
         Err(refusal) => look.sees(agree(refusal.refusal().number(), 31)),
     }

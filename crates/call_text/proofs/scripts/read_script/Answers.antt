@@ -1,7 +1,8 @@
-use Rattle.std.proofs.Common.{◌≡◌, ◌==◌, vec_len, arith, ap, sym, ◌∙◌, true, false, length, map}
+use Rattle.std.proofs.Common.{◌≡◌, ◌==◌, vec_len, arith, ap, sym, ◌∙◌, true, false, length, map, subst}
 use Rattle.text_words.proofs.IntoLemmas.{into_is, into_not}
 use Rattle.call_text.specs.Line.{written_with, written_text, FitsWritten}
 use Rattle.call_text.specs.Phase.{line_in}
+use Rattle.call_text.specs.Reading.{AddsLine}
 use Rattle.call_text.proofs.Progress.{progress_start, progress_end, fault_at_end, fault_unread, fault_refused, fault_open, admitted, not_empty, all_read}
 use Rattle.call_text.proofs.ReadSoFar.{read_more, kept_still}
 use Rattle.call_text.proofs.scripts.read_script.Goals as goal
@@ -40,7 +41,9 @@ loop-bound-preserved c =
     let is = into_is written_with written_text FitsWritten c.in-Some.line.now c.loop-bound.args.items c.read_line.new.args.items c.in_ok-outline.field-0 c.in-Some-2.outline c.in-Some-2.is c.in_ok-outline.ensures in
     let yes = admitted c.loop-bound.count (written_with c.in-Some-2.outline is.0) c.loop-bound.bound.keys c.admit.new.bound.keys c.loop-bound.batches.items c.admit.new.batches.items c.in_ok-admit.field-0 true c.if-not-branch.false (c.in_ok-admit.ensures is.0) in
     read_more c.args.bytes.now c.loop-bound.bound.keys c.admit.new.bound.keys c.loop-bound.batches.items c.admit.new.batches.items c.loop-bound.phases.items c.add.new.phases.items c.loop-bound.args.items is.0 c.read_line.new.args.items c.add.new.args.items c.loop-bound.lines.items c.add.new.lines.items c.loop-bound.count (length c.as_slice-first.result.now) c.loop-bound.rest.now
-    c.in-Some.line.now c.in-Some.after.now c.in-Some-2.outline c.loop-bound.invariant c.in-Some.ensures.parts is.1 is.2 is.3 yes (ap length c.as_slice-first.ensures.value) c.in_ok-add.ensures
+    c.in-Some.line.now c.in-Some.after.now c.in-Some-2.outline c.loop-bound.invariant c.in-Some.ensures.parts is.1 is.2 is.3 yes (ap length c.as_slice-first.ensures.value)
+    (subst (λ k. AddsLine k c.loop-bound.phases.items c.read_line.new.args.items c.loop-bound.lines.items c.add.new.phases.items c.add.new.args.items c.add.new.lines.items)
+    c.kept_as-kept.ensures c.in_ok-add.ensures)
 
 pub returns : goal.returns
 returns c =

@@ -20,16 +20,16 @@ use Rattle.published_copy.proofs.pairs.Pair.commit.Goals as goal
 pub publish-requires : goal.publish-requires
 publish-requires g c =
     let boot = g.B.Naming.boot in
-    let list = made c.self.inside.tip in
-    let tip = c.attempt-tried.new.tip in
+    let list = made c.self.inside.whole in
+    let whole = c.attempt-tried.new.whole in
     let pass = c.args.pass.now in
     let calls : List Call = c.args.call.now ∷ c.args.more.now in
     let event : Event = event_at (state_of boot.limits list) pass calls in
     let op = c.operation-op.result in
     let lists : c.queue.new.self.list ≡ list = search rules in
     let pending : c.queue.new.self.pending ≡ op ∷ [] = search rules in
-    let saw : c.operation-op.result.seen.log ≡ tip = search rules in
-    let tried : list_of false tip ≡ list ++ event ∷ [] = search rules in
+    let saw : c.operation-op.result.seen.log ≡ whole = search rules in
+    let tried : list_of false whole ≡ list ++ event ∷ [] = search rules in
     let first : op.call.value ≡ c.args.call.now = search rules in
     let others : op.more.items ≡ c.args.more.now = search rules in
     let nx : IsNext boot list op =
@@ -43,13 +43,13 @@ publish-requires g c =
       may = answered_follows boot.limits list pass.thread pass.number calls c.requires.size (search rules);
     }
     in
-    let settled : c.settle.new.self ≡ tip ++ Made ∷ [] = search rules in
-    awaits boot c.queue.new.self list op tip c.settle.new.self lists pending nx saw settled
+    let settled : c.settle.new.self ≡ whole ++ Made ∷ [] = search rules in
+    awaits boot c.queue.new.self list op whole c.settle.new.self lists pending nx saw settled
 
 pub event-requires : goal.event-requires
 event-requires g c =
     let limits = g.B.Naming.boot.limits in
-    let list = made c.self.inside.tip in
+    let list = made c.self.inside.whole in
     let pass = c.args.pass.now in
     let calls : List Call = c.args.call.now ∷ c.args.more.now in
     let journal : made c.settle.new.self ≡ list ++ event_at (state_of limits list) pass calls ∷ [] = search rules in
@@ -61,7 +61,7 @@ event-requires g c =
 pub returns-clause-event : goal.returns-clause-event
 returns-clause-event g c =
     let limits = g.B.Naming.boot.limits in
-    let list = made c.self.inside.tip in
+    let list = made c.self.inside.whole in
     let pass = c.args.pass.now in
     let calls : List Call = c.args.call.now ∷ c.args.more.now in
     let journal : made c.settle.new.self ≡ list ++ event_at (state_of limits list) pass calls ∷ [] = search rules in
@@ -77,7 +77,7 @@ returns-clause-event g c =
 pub returns-clause-reply : goal.returns-clause-reply
 returns-clause-reply g c =
     let limits = g.B.Naming.boot.limits in
-    let list = made c.self.inside.tip in
+    let list = made c.self.inside.whole in
     let pass = c.args.pass.now in
     let calls : List Call = c.args.call.now ∷ c.args.more.now in
     let journal : made c.settle.new.self ≡ list ++ event_at (state_of limits list) pass calls ∷ [] = search rules in

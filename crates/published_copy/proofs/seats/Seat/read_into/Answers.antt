@@ -8,8 +8,8 @@ pub invariant_of-self-2 : goal.invariant_of-self-2
 invariant_of-self-2 g c =
     let told : List Event = c.self.inside.told in
     let seen : List Event = c.self.inside.pass.seen in
-    let front : List Event = c.in-Some-front.front in
+    let position : List Event = c.in-Some-position.position in
     let begins : IsPrefix told seen = c.self.invariant.0 in
-    let later : IsPrefix seen front = search rules in
-    let now : c.see.new.self.seen ≡ front = search rules in
-    (subst (λ (l : List Event). IsPrefix told l) (sym now) (prefix_trans told seen front begins later), refl)
+    let later : IsPrefix seen position = search rules in
+    let now : c.see.new.self.seen ≡ position = search rules in
+    (subst (λ (l : List Event). IsPrefix told l) (sym now) (prefix_trans told seen position begins later), refl)

@@ -10,7 +10,7 @@ use Rattle.published_copy.proofs.writers.Copies.publish.Goals as goal
 pub publish-requires : goal.publish-requires
 publish-requires g c y is =
     let boot = g.B.Naming.boot in
-    let list = made c.args.tip.now in
+    let list = made c.args.whole.now in
     let same : c.deref_mut-writer.result.now ≡ manually_drop_value c.self.inside.writer = search rules in
     let x : Copied = (manually_drop_value c.self.inside.writer).desk.shown.value in
     let now : IsShown boot y list × EndsWithReplies list (y.reply ∷ y.further) = shows_awaited boot c.args.self.now x y _ list c.self.view_is c.self.invariant.0 c.requires (is ∙ (λ i. fold absorbed (shown_of (same i).desk.shown.value) (drop (same i).behind (same i).log.items))) in
@@ -20,7 +20,7 @@ publish-requires g c y is =
 pub invariant_of-self : goal.invariant_of-self
 invariant_of-self g c =
     let boot = g.B.Naming.boot in
-    let list = made c.args.tip.now in
+    let list = made c.args.whole.now in
     let same : c.deref_mut-writer.result.now ≡ manually_drop_value c.self.inside.writer = search rules in
     let x : Copied = (manually_drop_value c.self.inside.writer).desk.shown.value in
     let y : Copied = c.publish.new.writer.desk.shown.value in
@@ -31,7 +31,7 @@ invariant_of-self g c =
 pub returns-clause-list : goal.returns-clause-list
 returns-clause-list g c =
     let boot = g.B.Naming.boot in
-    let list = made c.args.tip.now in
+    let list = made c.args.whole.now in
     let same : c.deref_mut-writer.result.now ≡ manually_drop_value c.self.inside.writer = search rules in
     let x : Copied = (manually_drop_value c.self.inside.writer).desk.shown.value in
     let y : Copied = c.publish.new.writer.desk.shown.value in
@@ -42,7 +42,7 @@ returns-clause-list g c =
 pub returns-clause-legal : goal.returns-clause-legal
 returns-clause-legal g c =
     let boot = g.B.Naming.boot in
-    let list = made c.args.tip.now in
+    let list = made c.args.whole.now in
     let same : c.deref_mut-writer.result.now ≡ manually_drop_value c.self.inside.writer = search rules in
     let x : Copied = (manually_drop_value c.self.inside.writer).desk.shown.value in
     let y : Copied = c.publish.new.writer.desk.shown.value in
@@ -52,7 +52,7 @@ returns-clause-legal g c =
 pub returns-clause-replies : goal.returns-clause-replies
 returns-clause-replies g c =
     let boot = g.B.Naming.boot in
-    let list = made c.args.tip.now in
+    let list = made c.args.whole.now in
     let same : c.deref_mut-writer.result.now ≡ manually_drop_value c.self.inside.writer = search rules in
     let x : Copied = (manually_drop_value c.self.inside.writer).desk.shown.value in
     let y : Copied = c.publish.new.writer.desk.shown.value in

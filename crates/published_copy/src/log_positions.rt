@@ -4,20 +4,20 @@ ghost use Rattle.kernel_rules.specs.History.{IsLegal};
 ghost use Rattle.published_copy.specs.Entries.{made};
 ghost use Rattle.published_copy.specs.Turns.{Has};
 
-use crate::logs::Told;
+use crate::logs::SeenLog;
 use crate::naming::Naming;
 use std::marker::{Model, PhantomData};
 
 /// A beginning of the boot's one list of events that was seen. Contracts see the list, which is
 /// legal; at run time it is its length.
 #[derive(Drop)]
-pub(crate) struct Front<B: Naming> {
+pub(crate) struct LogPosition<B: Naming> {
     length: u64,
-    seen: Told,
+    seen: SeenLog,
     of: PhantomData<B>,
 }
 
-impl<B: Naming> Model for Front<B> {
+impl<B: Naming> Model for LogPosition<B> {
     ghost use Rattle.std.specs.Prelude.{◌≡◌, List};
     ghost use Rattle.std.specs.Prelude as std;
     ghost use Rattle.kernel_rules.specs.Events.{Event};
@@ -32,15 +32,15 @@ impl<B: Naming> Model for Front<B> {
         × (f.seen.book ≡ B.boot.log) × IsLegal B.boot.limits (made f.seen.log) };
 }
 
-impl<B: Naming> Front<B> {
+impl<B: Naming> LogPosition<B> {
     /// The events of a log that was seen, which are so many.
-    pub(crate) fn of(events: u64, seen: Told) -> Front<B>
+    pub(crate) fn of(events: u64, seen: SeenLog) -> LogPosition<B>
         requires length { events ≡ length (made seen.log) }
         requires log { seen.book ≡ B.boot.log }
         requires legal { IsLegal B.boot.limits (made seen.log) }
         ensures { result ≡ made seen.log }
     {
-        Front {
+        LogPosition {
             length: events,
             seen,
             of: PhantomData,
@@ -56,10 +56,10 @@ impl<B: Naming> Front<B> {
     }
 
     /// The same events.
-    pub(crate) fn again(&self) -> Front<B>
+    pub(crate) fn again(&self) -> LogPosition<B>
         ensures { result ≡ self.now }
     {
-        Front {
+        LogPosition {
             length: self.length,
             seen: self.seen.again(),
             of: PhantomData,
@@ -68,7 +68,7 @@ impl<B: Naming> Front<B> {
 
     /// Whether these are no fewer events than the other's. Of two beginnings of one list the
     /// shorter begins the longer.
-    pub(crate) fn has(&self, other: &Front<B>) -> bool
+    pub(crate) fn has(&self, other: &LogPosition<B>) -> bool
         ensures { Has result self.now other.now }
     {
         let mut both = self.seen.again();

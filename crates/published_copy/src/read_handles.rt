@@ -6,7 +6,7 @@ ghost use Rattle.kernel_rules.specs.Step.{query_answer};
 ghost use Rattle.published_copy.specs.Shares.{Names};
 
 use crate::copies::Copied;
-use crate::fronts::Front;
+use crate::log_positions::LogPosition;
 use crate::naming::Naming;
 use crate::rules::{Published, See, Tag};
 use base::{Meter, ObjectId};
@@ -16,18 +16,18 @@ use std::marker::PhantomData;
 
 /// A reader of the two copies, which knows their boot.
 #[derive(Drop)]
-pub(crate) struct Lane<B: Naming> {
+pub(crate) struct ReadHandle<B: Naming> {
     reader: Reader<Copied, Tag, Published>,
     of: PhantomData<B>,
     ghost named: { Names (view reader.place) B.boot },
 }
 
-impl<B: Naming> Lane<B> {
-    /// The lane of a reader.
-    pub(crate) fn new(reader: Reader<Copied, Tag, Published>) -> Lane<B>
+impl<B: Naming> ReadHandle<B> {
+    /// The handle of a reader.
+    pub(crate) fn new(reader: Reader<Copied, Tag, Published>) -> ReadHandle<B>
         requires { Names (view reader.place) B.boot }
     {
-        Lane {
+        ReadHandle {
             reader,
             of: PhantomData,
         }
@@ -41,23 +41,23 @@ impl<B: Naming> Lane<B> {
         query: &Query,
         reply: &mut Reply,
         meter: &mut Meter,
-    ) -> (Lane<B>, Option<Front<B>>)
+    ) -> (ReadHandle<B>, Option<LogPosition<B>>)
         ensures { IfSome result.1
             (λ list. reply.new ≡ query_answer (state_of B.boot.limits list) thread query.now) }
     {
-        let Lane { reader, of } = self;
+        let ReadHandle { reader, of } = self;
         match reader.enter_as::<See>() {
-            Err(reader) => (Lane { reader, of }, None),
+            Err(reader) => (ReadHandle { reader, of }, None),
             Ok(reading) => {
                 let copy = reading.get();
                 if !copy.sealed {
                     let reader = reading.leave();
-                    return (Lane { reader, of }, None);
+                    return (ReadHandle { reader, of }, None);
                 }
                 copy.kernel.ask_into(thread, query, reply, meter);
-                let front = Front::of(copy.length, copy.seen.again());
+                let position = LogPosition::of(copy.length, copy.seen.again());
                 let reader = reading.leave();
-                (Lane { reader, of }, Some(front))
+                (ReadHandle { reader, of }, Some(position))
             }
         }
     }

@@ -1,4 +1,4 @@
-//! A book that is lent.
+//! The lock's holder has the book.
 ghost use Rattle.std.specs.Prelude.{◌≡◌, ◌↔◌, ◌∷◌, [], true, false, IfOk, OnOk, OnErr, IsErrOf};
 ghost use Rattle.std.specs.Sync.Mutex.{mutex_guard_value};
 ghost use mathlib.Core.List.{IsPrefix};
@@ -19,11 +19,11 @@ use std::sync::{MutexGuard, Wait};
 /// is, and changes by `commit` alone: no one who has it has a `&mut Book`, so it stays the book of
 /// its kernel.
 #[derive(Drop)]
-pub struct Lent<'a, B: Naming> {
+pub struct BookGuard<'a, B: Naming> {
     guard: MutexGuard<'a, Book<B>>,
 }
 
-impl<'a, B: Naming> Model for Lent<'a, B> {
+impl<'a, B: Naming> Model for BookGuard<'a, B> {
     ghost use Rattle.std.specs.Sync.Mutex.{mutex_guard_value};
     ghost use Rattle.published_copy.specs.Books.{BookView};
 
@@ -32,16 +32,16 @@ impl<'a, B: Naming> Model for Lent<'a, B> {
     ghost view = { λ l. mutex_guard_value l.guard };
 }
 
-impl<'a, B: Naming> Lent<'a, B> {
+impl<'a, B: Naming> BookGuard<'a, B> {
     /// The book that a guard has.
-    pub(crate) fn new(guard: MutexGuard<'a, Book<B>>) -> Lent<'a, B>
+    pub(crate) fn new(guard: MutexGuard<'a, Book<B>>) -> BookGuard<'a, B>
         ensures { result ≡ mutex_guard_value guard.entry }
     {
-        Lent { guard }
+        BookGuard { guard }
     }
 }
 
-impl<B: Naming> Lent<'_, B> {
+impl<B: Naming> BookGuard<'_, B> {
     /// Makes a call as the pass's thread, which is one event more at the journal's end, and waits
     /// for those who still read the copy that takes it in. The error is `OutOfTurn` exactly where
     /// the pass's number is not its thread's next in the journal, or the pass has seen more events
@@ -102,10 +102,10 @@ impl<B: Naming> Lent<'_, B> {
     }
 }
 
-impl<B: Naming> Deref for Lent<'_, B> {
+impl<B: Naming> Deref for BookGuard<'_, B> {
     type Target = Book<B>;
 
-    ghost deref_gives = { λ lent book. book ≡ lent };
+    ghost deref_gives = { λ guard book. book ≡ guard };
 
     fn deref(&self) -> &Book<B> {
         &self.guard

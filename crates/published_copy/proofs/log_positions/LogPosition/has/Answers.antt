@@ -4,7 +4,7 @@ use Rattle.published_copy.specs.declared.entries.Entry.{Entry}
 use Rattle.published_copy.specs.Entries.{made}
 use Rattle.published_copy.proofs.EntryLaws.{made-prefix}
 use Rattle.published_copy.proofs.Prefixes.{compared}
-use Rattle.published_copy.proofs.fronts.Front.has.Goals as goal
+use Rattle.published_copy.proofs.log_positions.LogPosition.has.Goals as goal
 
 pub returns : goal.returns
 returns g c =

@@ -5,7 +5,7 @@ use Rattle.published_copy.specs.Absorbed.{list_of, shown_of}
 use Rattle.published_copy.specs.Shares.{IsShown}
 use Rattle.published_copy.proofs.Commits.{shows_own, shows_same}
 use Rattle.published_copy.proofs.Shares.{forks, merges}
-use Rattle.published_copy.proofs.writers.Copies.lane.Goals as goal
+use Rattle.published_copy.proofs.writers.Copies.handle.Goals as goal
 
 pub tell-requires : goal.tell-requires
 tell-requires g c = forks _ _

@@ -7,7 +7,7 @@ ghost use Rattle.published_copy.specs.declared.entries.Entry.TheVariants.{Made};
 ghost use Rattle.syscall_core.specs.Kernel.{kernel_state};
 
 use crate::entries::{Add, Entry, Law, Nothing, Sealing, Trial};
-use crate::logs::{Head, Told};
+use crate::logs::{Head, SeenLog};
 use crate::naming::Naming;
 use crate::passes::Pass;
 use kernel_rules::Call;
@@ -18,13 +18,13 @@ use syscall_core::Kernel;
 
 /// The whole log, as the lock's holder knows it. Contracts see its entries.
 #[derive(Drop)]
-pub(crate) struct Tip<B: Naming> {
+pub(crate) struct WholeLog<B: Naming> {
     weight: u64,
-    seen: Told,
+    seen: SeenLog,
     of: PhantomData<B>,
 }
 
-impl<B: Naming> Model for Tip<B> {
+impl<B: Naming> Model for WholeLog<B> {
     ghost use Rattle.std.specs.Prelude.{◌≡◌, List};
     ghost use Rattle.published_copy.specs.declared.entries.Entry.{Entry};
     ghost use Rattle.published_copy.specs.Entries.{weight as weight_of_log};
@@ -45,14 +45,14 @@ fn never<R: Wait>(rt: &R)
     unreachable!()
 }
 
-impl<B: Naming> Tip<B> {
+impl<B: Naming> WholeLog<B> {
     /// The log of a boot, which has no entry.
-    pub(crate) fn new(seen: Told) -> Tip<B>
+    pub(crate) fn new(seen: SeenLog) -> WholeLog<B>
         requires empty { seen.log ≡ [] }
         requires log { seen.book ≡ B.boot.log }
         ensures { result ≡ [] }
     {
-        Tip {
+        WholeLog {
             weight: 0,
             seen,
             of: PhantomData,
@@ -67,7 +67,7 @@ impl<B: Naming> Tip<B> {
     }
 
     /// The log, as what was seen.
-    pub(crate) fn seen(&self) -> Told
+    pub(crate) fn seen(&self) -> SeenLog
         ensures book { result.book ≡ B.boot.log }
         ensures log { result.log ≡ self.now }
     {

@@ -2,7 +2,7 @@ use Rattle.std.proofs.Common.{◌+◌, [], ◌∷◌, sym, ◌∙◌, ap, arith}
 use Rattle.published_copy.specs.Entries.{weight}
 use Rattle.published_copy.proofs.EntryLaws.{weight-append}
 use Rattle.published_copy.proofs.Adding.{adds_moves, added}
-use Rattle.published_copy.proofs.tips.Tip.add.Goals as goal
+use Rattle.published_copy.proofs.whole_logs.WholeLog.add.Goals as goal
 
 pub compare_exchange-found-requires : goal.compare_exchange-found-requires
 compare_exchange-found-requires g c =
