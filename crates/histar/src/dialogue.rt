@@ -8,5 +8,5 @@ use try_text::try_on;
 pub fn ask<S: Sink, E: Write>(rt: &HostRuntime, limits: &Limits, out: &mut S, err: &mut E) -> u8 {
     let mut input = rt.reader();
     let is_asked = input.is_terminal();
-    try_on(rt, rt.alloc(), limits, is_asked, &mut input, out, err)
+    try_on(rt, limits, is_asked, &mut input, out, err)
 }

@@ -12,7 +12,6 @@ use crate::tried_lines::Dialogue;
 use crate::words::{Word, path_in};
 use base::{Limits, NoMemory};
 use program_io::{Fault, Sink, beside, deliver, input_fault, put_file};
-use std::alloc::Global;
 use std::io::{BufRead, Write};
 use std::rt::Files;
 use std::str;
@@ -151,9 +150,8 @@ fn talk_on<R: Files, I: BufRead, S: Sink>(
 /// they end or one of them is `quit`. Where `is_asked`, `> ` asks for each line. The answer is the status: 0 where the
 /// dialogue ended so. Else one line on `err` tells why it ended, with status 3 where a line can't be read or an answer can't
 /// be written, 4 where there was no memory.
-pub fn try_on<R: Files, I: BufRead, S: Sink, E: Write>(
+pub fn try_on<R: Files + AllocGlobal, I: BufRead, S: Sink, E: Write>(
     rt: &R,
-    alloc: Global,
     limits: &Limits,
     is_asked: bool,
     input: &mut I,
@@ -163,7 +161,7 @@ pub fn try_on<R: Files, I: BufRead, S: Sink, E: Write>(
     ensures { result ≡ 0 → IfSome (I.remaining input.old) (λ bytes. (last : Talk)
         × Talks is_asked bytes (begun limits.now) last (S.contents out.old) (S.contents out.new)) }
 {
-    let mut talk = match Dialogue::begin(alloc, limits) {
+    let mut talk = match Dialogue::begin(rt.alloc(), limits) {
         Ok(talk) => talk,
         Err(fault) => return Fault::from(fault).tell(NAME, err),
     };
