@@ -10,7 +10,7 @@ TURNS = (
     (r"k->request\.(?:label|clearance|verify) = \*(\w+);", lambda it: f"(void){it[1]};"),
     (r"(k->request\.other_\w+) = (\w+)\.container\.id;", lambda it: f"{it[1]} = {it[2]}.object.id;"),
     (r"(k->request\.other_\w+) = (\w+)\.object\.id;", lambda it: f"{it[1]} = {it[2]}.container.id;"),
-    (r"k->answer\.numbers\[(\d)\]", lambda it: f"k->answer.numbers[{int(it[1]) + 1}]"),
+    (r"(answer(?:\.|->))numbers\[(\d)\]", lambda it: f"{it[1]}numbers[{int(it[2]) + 1}]"),
     (r"\(n\[(\d)\]", lambda it: f"(n[{int(it[1]) + 1}]"),
 )
 

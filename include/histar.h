@@ -231,6 +231,7 @@ static inline histar_label histar_with(histar_label label, histar_category categ
 /* What a record asks for. 1 to 24 are write calls, 25 to 34 read calls, 35 to 39 look-ups, 40 to 42 of the log, 43 to 47 of a seat, 48 and 49
  * of checkpoints. With HISTAR_CALL_IN_BATCH more than its own, a write call is kept for a batch. */
 enum histar_call_number {
+    /* Made from bindings/calls.toml: */
     HISTAR_CALL_CAT_CREATE = 1,
     HISTAR_CALL_SELF_SET_LABEL = 2,
     HISTAR_CALL_SELF_SET_CLEARANCE = 3,
@@ -265,6 +266,7 @@ enum histar_call_number {
     HISTAR_CALL_META_GET = 32,
     HISTAR_CALL_AS_GET = 33,
     HISTAR_CALL_LOAD = 34,
+    /* (the end of what is made) */
     HISTAR_CALL_KEPT_LIVE = 35,
     HISTAR_CALL_KEPT_USE = 36,
     HISTAR_CALL_KEPT_TRANSLATION = 37,
@@ -583,8 +585,82 @@ static inline uint32_t histar_takes(histar *k, void *bytes, uint64_t size, size_
     return histar_released(k, refusal);
 }
 
-/* ---- Write calls. A result goes where its pointer says; for `made` and `category`, NULL is allowed. ---- */
+/* ---- What calls answer ---- */
 
+/* What a thread is. `space` is (0, 0) where it has no address space. */
+typedef struct {
+    histar_label label, clearance, verify;
+    histar_entry space;
+    uint64_t entry_point, closure;
+} histar_self;
+static inline histar_self histar_self_of(const histar_answer *answer)
+{
+    histar_self self;
+    self.label = answer->label;
+    self.clearance = answer->clearance;
+    self.verify = answer->verify;
+    self.space = histar_in(histar_object_of(answer->numbers[0]), histar_object_of(answer->numbers[1]));
+    self.entry_point = answer->numbers[2];
+    self.closure = answer->numbers[3];
+    return self;
+}
+
+/* What an object may use and uses, in pages of 256 bytes; 1 where its quota is fixed, and where it is read-only. */
+typedef struct {
+    uint32_t quota, used, fixed, immutable;
+} histar_quota;
+static inline histar_quota histar_quota_of(const histar_answer *answer)
+{
+    histar_quota quota;
+    quota.quota = (uint32_t)answer->numbers[0];
+    quota.used = (uint32_t)answer->numbers[1];
+    quota.fixed = (uint32_t)answer->numbers[2];
+    quota.immutable = (uint32_t)answer->numbers[3];
+    return quota;
+}
+
+/* What a container lists: its whole length, and up to 16 objects. */
+typedef struct {
+    uint64_t length;
+    uint32_t count;
+    histar_object objects[16];
+} histar_list;
+static inline histar_list histar_list_of(const histar_answer *answer)
+{
+    histar_list list;
+    list.length = answer->numbers[0];
+    list.count = answer->len;
+    memcpy(list.objects, answer->numbers + 1, sizeof list.objects);
+    return list;
+}
+
+/* What a slot maps, as histar_as_map has it; nothing, and zeros, where is_mapped is 0. */
+typedef struct {
+    int is_mapped;
+    uint32_t page, first, count, rights;
+    histar_entry segment;
+} histar_mapping;
+static inline histar_mapping histar_mapping_of(const histar_answer *answer)
+{
+    const uint64_t *n = answer->numbers;
+    histar_mapping mapping;
+    memset(&mapping, 0, sizeof mapping);
+    if (answer->len) {
+        mapping.is_mapped = 1;
+        mapping.page = (uint32_t)n[0];
+        mapping.segment = histar_in(histar_object_of(n[1]), histar_object_of(n[2]));
+        mapping.first = (uint32_t)n[3];
+        mapping.count = (uint32_t)n[4];
+        mapping.rights = (uint32_t)(n[5] * HISTAR_READ + n[6] * HISTAR_WRITE);
+    }
+    return mapping;
+}
+
+/* ---- Write calls. A result goes where its pointer says; for `made` and `category`, NULL is allowed. Each new object may be refused
+ * HISTAR_NO_ACCESS, HISTAR_CANNOT_OBSERVE, HISTAR_CANNOT_MODIFY, HISTAR_BAD_LABEL, HISTAR_LABEL_RANGE, HISTAR_AVOID_TYPE,
+ * HISTAR_NO_QUOTA, HISTAR_IMMUTABLE, HISTAR_SPENT. ---- */
+
+/* Made from bindings/calls.toml: */
 /* A new category, which the thread owns: star in its label, 3 in its clearance. HISTAR_LABEL_FULL, HISTAR_SPENT. */
 HISTAR_LOOKED_AT(1)
 static inline uint32_t histar_cat_create(histar *k, histar_object thread, histar_category *category)
@@ -604,8 +680,8 @@ static inline uint32_t histar_self_set_label(histar *k, histar_object thread, co
     return histar_done(k);
 }
 
-/* The thread's clearance: at least its label, and at most the maximum of the old clearance and of the label with star
- * raised. HISTAR_BAD_LABEL, HISTAR_CLEARANCE_RANGE. */
+/* The thread's clearance changes: at least its label, and at most the maximum of the old clearance and of the label
+ * with star raised. HISTAR_BAD_LABEL, HISTAR_CLEARANCE_RANGE. */
 HISTAR_LOOKED_AT(1, 3)
 static inline uint32_t histar_self_set_clearance(histar *k, histar_object thread, const histar_label *clearance)
 {
@@ -615,7 +691,7 @@ static inline uint32_t histar_self_set_clearance(histar *k, histar_object thread
     return histar_done(k);
 }
 
-/* The thread's address space, or none for the entry (0, 0). HISTAR_WRONG_TYPE. */
+/* The thread's address space changes. HISTAR_NOWHERE for none. HISTAR_WRONG_TYPE. */
 HISTAR_LOOKED_AT(1)
 static inline uint32_t histar_self_set_as(histar *k, histar_object thread, histar_entry space)
 {
@@ -624,9 +700,8 @@ static inline uint32_t histar_self_set_as(histar *k, histar_object thread, hista
     return histar_done(k);
 }
 
-/* A new container, last in `container`'s list, with a quota in pages and the kinds that it will not hold.
- * HISTAR_NO_ACCESS, HISTAR_CANNOT_OBSERVE, HISTAR_CANNOT_MODIFY, HISTAR_BAD_LABEL, HISTAR_LABEL_RANGE,
- * HISTAR_AVOID_TYPE, HISTAR_NO_QUOTA, HISTAR_IMMUTABLE, HISTAR_SPENT: these refuse each new object. */
+/* A new container, last in a container's list, with a quota in pages of 256 bytes and the kinds that it will not
+ * hold. What refuses each new object. */
 HISTAR_LOOKED_AT(1, 4)
 static inline uint32_t histar_container_create(histar *k, histar_object thread, histar_object container,
                                                const histar_label *label, uint64_t quota, uint64_t avoid,
@@ -640,7 +715,7 @@ static inline uint32_t histar_container_create(histar *k, histar_object thread, 
     return histar_made(k, made);
 }
 
-/* A new segment of `pages` pages of zeros, 0 to 16, last in `container`'s list; its quota is at least one page more.
+/* A new segment of `pages` pages of zeros, 0 to 16, last in a container's list; its quota is at least one page more.
  * What refuses each new object, and HISTAR_BOUNDS. */
 HISTAR_LOOKED_AT(1, 4)
 static inline uint32_t histar_segment_create(histar *k, histar_object thread, histar_object container,
@@ -655,25 +730,26 @@ static inline uint32_t histar_segment_create(histar *k, histar_object thread, hi
     return histar_made(k, made);
 }
 
-/* A new segment with the bytes of `source`, last in `container`'s list. What refuses each new object, and
+/* A new segment with the bytes of another, last in a container's list. What refuses each new object, and
  * HISTAR_WRONG_TYPE. */
 HISTAR_LOOKED_AT(1, 4)
-static inline uint32_t histar_segment_copy(histar *k, histar_object thread, histar_object container, const histar_label *label,
-                                           uint64_t quota, histar_entry source, histar_object *made)
+static inline uint32_t histar_segment_copy(histar *k, histar_object thread, histar_object container,
+                                           const histar_label *label, uint64_t quota, histar_entry source,
+                                           histar_object *made)
 {
     uint32_t refusal = histar_asks(k, HISTAR_CALL_SEGMENT_COPY, thread, histar_in(container, HISTAR_NOTHING));
     if (refusal) return refusal;
     k->request.label = *label;
-    k->request.numbers[0] = quota;
     k->request.other_container = source.container.id;
     k->request.other_object = source.object.id;
+    k->request.numbers[0] = quota;
     return histar_made(k, made);
 }
 
-/* A new address space of 16 empty slots, last in `container`'s list. What refuses each new object. */
+/* A new address space of 16 empty slots, last in a container's list. What refuses each new object. */
 HISTAR_LOOKED_AT(1, 4)
-static inline uint32_t histar_as_create(histar *k, histar_object thread, histar_object container, const histar_label *label,
-                                        uint64_t quota, histar_object *made)
+static inline uint32_t histar_as_create(histar *k, histar_object thread, histar_object container,
+                                        const histar_label *label, uint64_t quota, histar_object *made)
 {
     uint32_t refusal = histar_asks(k, HISTAR_CALL_AS_CREATE, thread, histar_in(container, HISTAR_NOTHING));
     if (refusal) return refusal;
@@ -682,12 +758,12 @@ static inline uint32_t histar_as_create(histar *k, histar_object thread, histar_
     return histar_made(k, made);
 }
 
-/* A new thread, last in `container`'s list, with the verify label {3}, no address space and closure 0. What refuses
+/* A new thread, last in a container's list, with the verify label {3}, no address space and closure 0. What refuses
  * each new object, and HISTAR_CLEARANCE_RANGE. */
 HISTAR_LOOKED_AT(1, 4, 6)
 static inline uint32_t histar_thread_create(histar *k, histar_object thread, histar_object container,
-                                            const histar_label *label, uint64_t quota,
-                                            const histar_label *clearance, uint64_t entry_point, histar_object *made)
+                                            const histar_label *label, uint64_t quota, const histar_label *clearance,
+                                            uint64_t entry_point, histar_object *made)
 {
     uint32_t refusal = histar_asks(k, HISTAR_CALL_THREAD_CREATE, thread, histar_in(container, HISTAR_NOTHING));
     if (refusal) return refusal;
@@ -698,12 +774,13 @@ static inline uint32_t histar_thread_create(histar *k, histar_object thread, his
     return histar_made(k, made);
 }
 
-/* A new gate, last in `container`'s list, to an address space, or to none for (0, 0). What refuses a new thread, and
- * HISTAR_WRONG_TYPE. */
+/* A new gate, last in a container's list. HISTAR_NOWHERE for no address space. What refuses each new object, and
+ * HISTAR_CLEARANCE_RANGE, HISTAR_WRONG_TYPE. */
 HISTAR_LOOKED_AT(1, 4, 6)
-static inline uint32_t histar_gate_create(histar *k, histar_object thread, histar_object container, const histar_label *label,
-                                          uint64_t quota, const histar_label *clearance, histar_entry space,
-                                          uint64_t entry_point, uint64_t closure, histar_object *made)
+static inline uint32_t histar_gate_create(histar *k, histar_object thread, histar_object container,
+                                          const histar_label *label, uint64_t quota, const histar_label *clearance,
+                                          histar_entry space, uint64_t entry_point, uint64_t closure,
+                                          histar_object *made)
 {
     uint32_t refusal = histar_asks(k, HISTAR_CALL_GATE_CREATE, thread, histar_in(container, HISTAR_NOTHING));
     if (refusal) return refusal;
@@ -717,7 +794,7 @@ static inline uint32_t histar_gate_create(histar *k, histar_object thread, hista
     return histar_made(k, made);
 }
 
-/* A second link to an object whose quota is fixed, last in `target`'s list, which is charged its whole quota.
+/* A second link to an object whose quota is fixed, last in the list of `target`, which is charged its whole quota.
  * HISTAR_WRONG_TYPE for a container, HISTAR_CANNOT_OBSERVE, HISTAR_CANNOT_MODIFY, HISTAR_LABEL_RANGE,
  * HISTAR_AVOID_TYPE, HISTAR_NO_QUOTA, HISTAR_NOT_FIXED, HISTAR_ALREADY_LINKED, HISTAR_IMMUTABLE. */
 HISTAR_LOOKED_AT(1)
@@ -739,7 +816,7 @@ static inline uint32_t histar_unref(histar *k, histar_object thread, histar_entr
     return histar_done(k);
 }
 
-/* The object's quota grows or shrinks by `change` pages. HISTAR_CANNOT_OBSERVE, HISTAR_CANNOT_MODIFY,
+/* The object's quota grows or shrinks by so many pages of 256 bytes. HISTAR_CANNOT_OBSERVE, HISTAR_CANNOT_MODIFY,
  * HISTAR_LABEL_RANGE, HISTAR_NO_QUOTA, HISTAR_FIXED_QUOTA, HISTAR_IMMUTABLE. */
 HISTAR_LOOKED_AT(1)
 static inline uint32_t histar_quota_move(histar *k, histar_object thread, histar_entry entry, int64_t change)
@@ -773,7 +850,8 @@ static inline uint32_t histar_set_immutable(histar *k, histar_object thread, his
 /* The object's metadata are these 0 to 64 bytes, and then zeros. HISTAR_WRONG_TYPE for a thread,
  * HISTAR_CANNOT_OBSERVE, HISTAR_CANNOT_MODIFY, HISTAR_IMMUTABLE. */
 HISTAR_LOOKED_AT(1)
-static inline uint32_t histar_meta_set(histar *k, histar_object thread, histar_entry entry, const void *bytes, uint64_t len)
+static inline uint32_t histar_meta_set(histar *k, histar_object thread, histar_entry entry, const void *bytes,
+                                       uint64_t len)
 {
     uint32_t refusal = histar_asks(k, HISTAR_CALL_META_SET, thread, entry);
     if (refusal) return refusal;
@@ -803,9 +881,9 @@ static inline uint32_t histar_segment_write(histar *k, histar_object thread, his
     return histar_gives(k, bytes, len);
 }
 
-/* An empty slot, 0 to 15, of the address space shows `count` pages of a segment, from its page `first` on, at the
- * virtual page `page`; `rights` are HISTAR_READ, HISTAR_WRITE or both. HISTAR_WRONG_TYPE, HISTAR_CANNOT_OBSERVE,
- * HISTAR_CANNOT_MODIFY, HISTAR_IMMUTABLE, HISTAR_BOUNDS, HISTAR_OVERLAP. */
+/* An empty slot, 0 to 15, of the address space shows pages of a segment. `count` pages, from the segment's page
+ * `first` on, are seen at the virtual page `page`; `rights` are HISTAR_READ, HISTAR_WRITE or both.
+ * HISTAR_WRONG_TYPE, HISTAR_CANNOT_OBSERVE, HISTAR_CANNOT_MODIFY, HISTAR_IMMUTABLE, HISTAR_BOUNDS, HISTAR_OVERLAP. */
 HISTAR_LOOKED_AT(1)
 static inline uint32_t histar_as_map(histar *k, histar_object thread, histar_entry space, uint64_t slot, uint64_t page,
                                      histar_entry segment, uint64_t first, uint64_t count, uint64_t rights)
@@ -844,8 +922,8 @@ static inline uint32_t histar_store(histar *k, histar_object thread, uint64_t ad
     return histar_gives(k, bytes, len);
 }
 
-/* The thread enters the gate: it has these labels, and the gate's address space, entry point and closure. NULL is
- * allowed for the two results. HISTAR_WRONG_TYPE, HISTAR_BAD_LABEL, HISTAR_GATE_DENIED. */
+/* The thread enters the gate: it has these labels from then on, and the gate's address space, entry point and
+ * closure. NULL is allowed for the two results. HISTAR_WRONG_TYPE, HISTAR_BAD_LABEL, HISTAR_GATE_DENIED. */
 HISTAR_LOOKED_AT(1, 4, 5, 6)
 static inline uint32_t histar_gate_enter(histar *k, histar_object thread, histar_entry gate, const histar_label *label,
                                          const histar_label *clearance, const histar_label *verify,
@@ -865,14 +943,15 @@ static inline uint32_t histar_gate_enter(histar *k, histar_object thread, histar
 /* A packet of 1 to 64 bytes is last in the device's queue. HISTAR_WRONG_TYPE, HISTAR_CANNOT_OBSERVE,
  * HISTAR_CANNOT_MODIFY, HISTAR_BOUNDS, HISTAR_DEVICE_FULL. */
 HISTAR_LOOKED_AT(1, 4)
-static inline uint32_t histar_dev_send(histar *k, histar_object thread, histar_entry device, const void *bytes, uint64_t len)
+static inline uint32_t histar_dev_send(histar *k, histar_object thread, histar_entry device, const void *bytes,
+                                       uint64_t len)
 {
     uint32_t refusal = histar_asks(k, HISTAR_CALL_DEV_SEND, thread, device);
     if (refusal) return refusal;
     return histar_gives(k, bytes, len);
 }
 
-/* The first packet of the device's queue is taken out into `bytes`, which has room for `size`: 64 or more, whatever the
+/* The first packet of the device's queue is taken out. `bytes` has room for `size`: 64 or more, whatever the
  * packet's length, which is told in *len. HISTAR_WRONG_TYPE, HISTAR_CANNOT_OBSERVE, HISTAR_CANNOT_MODIFY,
  * HISTAR_DEVICE_EMPTY. */
 HISTAR_LOOKED_AT(1, 4, 6)
@@ -883,16 +962,11 @@ static inline uint32_t histar_dev_recv(histar *k, histar_object thread, histar_e
     if (refusal) return refusal;
     return histar_takes(k, bytes, size, len);
 }
+/* (the end of what is made) */
 
 /* ---- Read calls. They change nothing. ---- */
 
-/* What a thread is. `space` is (0, 0) where it has no address space. */
-typedef struct {
-    histar_label label, clearance, verify;
-    histar_entry space;
-    uint64_t entry_point, closure;
-} histar_self;
-
+/* Made from bindings/calls.toml: */
 /* What the thread is. */
 HISTAR_LOOKED_AT(1, 3)
 static inline uint32_t histar_self_get(histar *k, histar_object thread, histar_self *self)
@@ -900,14 +974,7 @@ static inline uint32_t histar_self_get(histar *k, histar_object thread, histar_s
     uint32_t refusal = histar_asks(k, HISTAR_CALL_SELF_GET, thread, HISTAR_NOWHERE);
     if (refusal) return refusal;
     refusal = histar_serves(k);
-    if (!refusal) {
-        self->label = k->answer.label;
-        self->clearance = k->answer.clearance;
-        self->verify = k->answer.verify;
-        self->space = histar_in(histar_object_of(k->answer.numbers[0]), histar_object_of(k->answer.numbers[1]));
-        self->entry_point = k->answer.numbers[2];
-        self->closure = k->answer.numbers[3];
-    }
+    if (!refusal) *self = histar_self_of(&k->answer);
     return histar_told(k, refusal);
 }
 
@@ -922,35 +989,18 @@ static inline uint32_t histar_obj_label(histar *k, histar_object thread, histar_
     return histar_told(k, refusal);
 }
 
-/* What an object may use and uses, in pages of 256 bytes; 1 where its quota is fixed, and where it is read-only. */
-typedef struct {
-    uint32_t quota, used, fixed, immutable;
-} histar_quota;
-
-/* The object's quota and use. HISTAR_CANNOT_OBSERVE. */
+/* What the object may use and uses. HISTAR_CANNOT_OBSERVE. */
 HISTAR_LOOKED_AT(1, 4)
 static inline uint32_t histar_obj_quota(histar *k, histar_object thread, histar_entry entry, histar_quota *quota)
 {
     uint32_t refusal = histar_asks(k, HISTAR_CALL_OBJ_QUOTA, thread, entry);
     if (refusal) return refusal;
     refusal = histar_serves(k);
-    if (!refusal) {
-        quota->quota = (uint32_t)k->answer.numbers[0];
-        quota->used = (uint32_t)k->answer.numbers[1];
-        quota->fixed = (uint32_t)k->answer.numbers[2];
-        quota->immutable = (uint32_t)k->answer.numbers[3];
-    }
+    if (!refusal) *quota = histar_quota_of(&k->answer);
     return histar_told(k, refusal);
 }
 
-/* What a container lists: its whole length, and up to 16 objects. */
-typedef struct {
-    uint64_t length;
-    uint32_t count;
-    histar_object objects[16];
-} histar_list;
-
-/* Up to 16 objects of a container's list, from the place `from` on, counted from 0. HISTAR_NO_ACCESS, HISTAR_BOUNDS. */
+/* The length of a container's list, and up to 16 of its ids, from the place `from` on. HISTAR_BOUNDS. */
 HISTAR_LOOKED_AT(1, 5)
 static inline uint32_t histar_container_list(histar *k, histar_object thread, histar_object container, uint64_t from,
                                              histar_list *list)
@@ -959,17 +1009,14 @@ static inline uint32_t histar_container_list(histar *k, histar_object thread, hi
     if (refusal) return refusal;
     k->request.numbers[0] = from;
     refusal = histar_serves(k);
-    if (!refusal) {
-        list->length = k->answer.numbers[0];
-        list->count = k->answer.len;
-        memcpy(list->objects, k->answer.numbers + 1, sizeof list->objects);
-    }
+    if (!refusal) *list = histar_list_of(&k->answer);
     return histar_told(k, refusal);
 }
 
-/* The container that lists a container; the root's is the root. HISTAR_NO_ACCESS. */
+/* The container that lists a container; the root's is the root. */
 HISTAR_LOOKED_AT(1, 4)
-static inline uint32_t histar_container_parent(histar *k, histar_object thread, histar_object container, histar_object *parent)
+static inline uint32_t histar_container_parent(histar *k, histar_object thread, histar_object container,
+                                               histar_object *parent)
 {
     uint32_t refusal = histar_asks(k, HISTAR_CALL_CONTAINER_PARENT, thread, histar_in(container, HISTAR_NOTHING));
     if (refusal) return refusal;
@@ -998,43 +1045,26 @@ static inline uint32_t histar_segment_read(histar *k, histar_object thread, hist
     return histar_takes(k, bytes, 64, NULL);
 }
 
-/* The 64 bytes of the object's metadata, into `bytes`, which has room for `size`: 64 or more. HISTAR_WRONG_TYPE for a
- * thread, HISTAR_CANNOT_OBSERVE. */
+/* The 64 bytes of the object's metadata. `bytes` has room for `size`: 64 or more. HISTAR_WRONG_TYPE for a thread,
+ * HISTAR_CANNOT_OBSERVE. */
 HISTAR_LOOKED_AT(1, 4)
-static inline uint32_t histar_meta_get(histar *k, histar_object thread, histar_entry entry, void *bytes,
-                                       uint64_t size)
+static inline uint32_t histar_meta_get(histar *k, histar_object thread, histar_entry entry, void *bytes, uint64_t size)
 {
     uint32_t refusal = histar_asks(k, HISTAR_CALL_META_GET, thread, entry);
     if (refusal) return refusal;
     return histar_takes(k, bytes, size, NULL);
 }
 
-/* What a slot maps, as histar_as_map has it; nothing, and zeros, where is_mapped is 0. */
-typedef struct {
-    int is_mapped;
-    uint32_t page, first, count, rights;
-    histar_entry segment;
-} histar_mapping;
-
 /* What a slot, 0 to 15, of the address space maps. HISTAR_WRONG_TYPE, HISTAR_CANNOT_OBSERVE, HISTAR_BOUNDS. */
 HISTAR_LOOKED_AT(1, 5)
 static inline uint32_t histar_as_get(histar *k, histar_object thread, histar_entry space, uint64_t slot,
                                      histar_mapping *mapping)
 {
-    const uint64_t *n = k->answer.numbers;
     uint32_t refusal = histar_asks(k, HISTAR_CALL_AS_GET, thread, space);
     if (refusal) return refusal;
     k->request.numbers[0] = slot;
     refusal = histar_serves(k);
-    if (!refusal) memset(mapping, 0, sizeof *mapping);
-    if (!refusal && k->answer.len) {
-        mapping->is_mapped = 1;
-        mapping->page = (uint32_t)n[0];
-        mapping->segment = histar_in(histar_object_of(n[1]), histar_object_of(n[2]));
-        mapping->first = (uint32_t)n[3];
-        mapping->count = (uint32_t)n[4];
-        mapping->rights = (uint32_t)(n[5] * HISTAR_READ + n[6] * HISTAR_WRITE);
-    }
+    if (!refusal) *mapping = histar_mapping_of(&k->answer);
     return histar_told(k, refusal);
 }
 
@@ -1049,6 +1079,7 @@ static inline uint32_t histar_load(histar *k, histar_object thread, uint64_t add
     k->request.numbers[1] = len;
     return histar_takes(k, bytes, 64, NULL);
 }
+/* (the end of what is made) */
 
 /* ---- Notes between seats of a shared kernel ---- */
 

@@ -98,10 +98,10 @@ fn share_at<B: Naming + Send, R: Threads + Wait + Sync>(
     })
 }
 
-fn share<B: Naming + Send, R: Threads + Wait + Sync>(rt: &R, boot: Boot) -> Result<Counts, Fault>
-    requires { boot ≡ B.boot }
+fn share<B: Naming + Send, R: Threads + Wait + Sync>(rt: &R, booted: Boot) -> Result<Counts, Fault>
+    requires { booted ≡ B.boot }
 {
-    let shared: Shared<B> = boot.open::<B>();
+    let shared: Shared<B> = booted.open::<B>();
     share_at(rt, &shared)
 }
 
@@ -112,10 +112,10 @@ fn main(rt: HostRuntime) -> io::Result<()> {
         next_id: 4,
         next_category: 1,
     };
-    let Ok(boot) = Boot::new(rt.alloc(), &limits) else {
+    let Ok(booted) = Boot::new(rt.alloc(), &limits) else {
         return println!(rt; "no boot");
     };
-    match share::<Brand, HostRuntime>(&rt, boot) {
+    match share::<Brand, HostRuntime>(&rt, booted) {
         Ok(counts) => println!(rt; "boot: {}, other: {}", counts.boot, counts.other),
         Err(fault) => println!(rt; "{fault}"),
     }

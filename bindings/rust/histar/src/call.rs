@@ -5,14 +5,16 @@ use std::borrow::Cow;
 /// A call. docs/CALLS.md has the rule and the refusals of each. Labels and bytes are the caller's, or its own.
 #[derive(Clone, PartialEq, Eq, Debug)]
 pub enum Call<'a> {
-    /// A new category, which the thread owns.
+    // Made from bindings/calls.toml:
+    /// A new category, which the thread owns: star in its label, 3 in its clearance.
     CatCreate,
-    /// The thread's label rises.
+    /// The thread's label rises, to its clearance at most.
     SelfSetLabel {
         /// The new label: at least the old one, at most the clearance.
         label: Cow<'a, Label>,
     },
-    /// The thread's clearance changes.
+    /// The thread's clearance changes: at least its label, and at most the maximum of the old clearance and of the
+    /// label with star raised.
     SelfSetClearance {
         /// The new clearance: at least the label.
         clearance: Cow<'a, Label>,
@@ -22,7 +24,8 @@ pub enum Call<'a> {
         /// The address space, `Entry::NONE` for none.
         space: Entry,
     },
-    /// A new container, last in a container's list.
+    /// A new container, last in a container's list, with a quota in pages of 256 bytes and the kinds that it will not
+    /// hold.
     ContainerCreate {
         /// Where it is listed.
         container: Object,
@@ -33,7 +36,8 @@ pub enum Call<'a> {
         /// The kinds that it will not hold.
         avoid: Kinds,
     },
-    /// A new segment of zero bytes, last in a container's list.
+    /// A new segment of `pages` pages of zeros, 0 to 16, last in a container's list; its quota is at least one page
+    /// more.
     SegmentCreate {
         /// Where it is listed.
         container: Object,
@@ -44,7 +48,7 @@ pub enum Call<'a> {
         /// Its length in pages: 0 to 16.
         pages: u32,
     },
-    /// A new segment with the bytes of another.
+    /// A new segment with the bytes of another, last in a container's list.
     SegmentCopy {
         /// Where it is listed.
         container: Object,
@@ -55,7 +59,7 @@ pub enum Call<'a> {
         /// The segment that is copied.
         source: Entry,
     },
-    /// A new address space of sixteen empty slots.
+    /// A new address space of 16 empty slots, last in a container's list.
     AsCreate {
         /// Where it is listed.
         container: Object,
@@ -64,7 +68,7 @@ pub enum Call<'a> {
         /// What it may use, in pages of 256 bytes: at least 1.
         quota: u32,
     },
-    /// A new thread, with the verify label `{3}` and no address space.
+    /// A new thread, last in a container's list, with the verify label `{3}`, no address space and closure 0.
     ThreadCreate {
         /// Where it is listed.
         container: Object,
@@ -77,9 +81,9 @@ pub enum Call<'a> {
         /// Where it runs: any number.
         entry_point: u64,
     },
-    /// A new gate.
+    /// A new gate, last in a container's list.
     GateCreate(NewGate<'a>),
-    /// A second link to an object.
+    /// A second link to an object whose quota is fixed, last in the list of `target`, which is charged its whole quota.
     Link {
         /// Where the object comes last.
         target: Object,
@@ -91,7 +95,7 @@ pub enum Call<'a> {
         /// The object.
         entry: Entry,
     },
-    /// The object's quota grows or shrinks.
+    /// The object's quota grows or shrinks by so many pages of 256 bytes.
     QuotaMove {
         /// The object.
         entry: Entry,
@@ -108,21 +112,21 @@ pub enum Call<'a> {
         /// The object.
         entry: Entry,
     },
-    /// The object's metadata are these bytes and then zeros.
+    /// The object's metadata are these 0 to 64 bytes, and then zeros.
     MetaSet {
         /// The object.
         entry: Entry,
         /// 0 to 64 bytes.
         bytes: Cow<'a, [u8]>,
     },
-    /// The segment gets another length: what is cut off is gone, what is new is 0.
+    /// The segment has so many pages, 0 to 16: what is cut off is gone, what is new is 0.
     SegmentResize {
         /// The segment.
         entry: Entry,
         /// Its length in pages of 256 bytes: 0 to 16.
         pages: u32,
     },
-    /// Bytes of the segment are written over.
+    /// These 1 to 64 bytes, in one page of 256, are written from `offset` on.
     SegmentWrite {
         /// The segment.
         entry: Entry,
@@ -131,7 +135,7 @@ pub enum Call<'a> {
         /// 1 to 64 bytes that lie in one page of 256.
         bytes: Cow<'a, [u8]>,
     },
-    /// An empty slot shows pages of a segment.
+    /// An empty slot, 0 to 15, of the address space shows pages of a segment.
     AsMap {
         /// The address space.
         space: Entry,
@@ -140,21 +144,22 @@ pub enum Call<'a> {
         /// What it maps.
         mapping: Mapping,
     },
-    /// A filled slot is emptied.
+    /// A filled slot, 0 to 15, is emptied.
     AsUnmap {
         /// The address space.
         space: Entry,
         /// The slot: 0 to 15.
         slot: u32,
     },
-    /// Bytes are written through the thread's address space.
+    /// These 1 to 64 bytes, in one page of 256, are written through the thread's address space.
     Store {
         /// The address of the first byte.
         address: u64,
         /// 1 to 64 bytes that lie in one page of 256.
         bytes: Cow<'a, [u8]>,
     },
-    /// The thread enters a gate.
+    /// The thread enters the gate: it has these labels from then on, and the gate's address space, entry point and
+    /// closure.
     GateEnter {
         /// The gate.
         gate: Entry,
@@ -165,7 +170,7 @@ pub enum Call<'a> {
         /// The label that it proves to the gate's owner.
         verify: Cow<'a, Label>,
     },
-    /// A packet is last in the device's queue.
+    /// A packet of 1 to 64 bytes is last in the device's queue.
     DevSend {
         /// The device.
         entry: Entry,
@@ -179,17 +184,17 @@ pub enum Call<'a> {
     },
     /// What the thread is.
     SelfGet,
-    /// The label of an object.
+    /// The object's label.
     ObjLabel {
         /// The object.
         entry: Entry,
     },
-    /// The quota and the use of an object.
+    /// What the object may use and uses.
     ObjQuota {
         /// The object.
         entry: Entry,
     },
-    /// The length of a container's list, and up to 16 of its ids.
+    /// The length of a container's list, and up to 16 of its ids, from the place `from` on.
     ContainerList {
         /// The container.
         container: Object,
@@ -201,12 +206,12 @@ pub enum Call<'a> {
         /// The container.
         container: Object,
     },
-    /// The length of a segment in pages of 256 bytes.
+    /// The segment's length in pages of 256 bytes.
     SegmentLen {
         /// The segment.
         entry: Entry,
     },
-    /// Bytes of a segment.
+    /// 1 to 64 bytes of the segment, in one page of 256, from `offset` on.
     SegmentRead {
         /// The segment.
         entry: Entry,
@@ -215,25 +220,26 @@ pub enum Call<'a> {
         /// How many: 1 to 64 bytes that lie in one page of 256.
         count: u32,
     },
-    /// The 64 bytes of an object's metadata.
+    /// The 64 bytes of the object's metadata.
     MetaGet {
         /// The object.
         entry: Entry,
     },
-    /// What a slot of an address space maps.
+    /// What a slot, 0 to 15, of the address space maps.
     AsGet {
         /// The address space.
         space: Entry,
         /// The slot: 0 to 15.
         slot: u32,
     },
-    /// Bytes read through the thread's address space.
+    /// 1 to 64 bytes, in one page of 256, read through the thread's address space.
     Load {
         /// The address of the first byte.
         address: u64,
         /// How many: 1 to 64 bytes that lie in one page of 256.
         count: u32,
     },
+    // (the end of what is made)
 }
 
 /// A gate that is to be made.
@@ -294,8 +300,11 @@ impl Call<'_> {
     /// ```
     pub fn into_owned(self) -> Call<'static> {
         match self {
+            // Made from bindings/calls.toml:
+            Call::CatCreate => Call::CatCreate,
             Call::SelfSetLabel { label } => Call::SelfSetLabel { label: owned(label) },
             Call::SelfSetClearance { clearance } => Call::SelfSetClearance { clearance: owned(clearance) },
+            Call::SelfSetAs { space } => Call::SelfSetAs { space },
             Call::ContainerCreate { container, label, quota, avoid } => {
                 Call::ContainerCreate { container, label: owned(label), quota, avoid }
             }
@@ -314,23 +323,22 @@ impl Call<'_> {
                 let (label, clearance) = (owned(label), owned(clearance));
                 Call::GateCreate(NewGate { container, label, quota, clearance, space, entry_point, closure })
             }
-            Call::MetaSet { entry, bytes } => Call::MetaSet { entry, bytes: owned(bytes) },
-            Call::SegmentWrite { entry, offset, bytes } => Call::SegmentWrite { entry, offset, bytes: owned(bytes) },
-            Call::Store { address, bytes } => Call::Store { address, bytes: owned(bytes) },
-            Call::GateEnter { gate, label, clearance, verify } => {
-                Call::GateEnter { gate, label: owned(label), clearance: owned(clearance), verify: owned(verify) }
-            }
-            Call::DevSend { entry, bytes } => Call::DevSend { entry, bytes: owned(bytes) },
-            Call::CatCreate => Call::CatCreate,
-            Call::SelfSetAs { space } => Call::SelfSetAs { space },
             Call::Link { target, entry } => Call::Link { target, entry },
             Call::Unref { entry } => Call::Unref { entry },
             Call::QuotaMove { entry, change } => Call::QuotaMove { entry, change },
             Call::SetFixed { entry } => Call::SetFixed { entry },
             Call::SetImmutable { entry } => Call::SetImmutable { entry },
+            Call::MetaSet { entry, bytes } => Call::MetaSet { entry, bytes: owned(bytes) },
             Call::SegmentResize { entry, pages } => Call::SegmentResize { entry, pages },
+            Call::SegmentWrite { entry, offset, bytes } => Call::SegmentWrite { entry, offset, bytes: owned(bytes) },
             Call::AsMap { space, slot, mapping } => Call::AsMap { space, slot, mapping },
             Call::AsUnmap { space, slot } => Call::AsUnmap { space, slot },
+            Call::Store { address, bytes } => Call::Store { address, bytes: owned(bytes) },
+            Call::GateEnter { gate, label, clearance, verify } => {
+                let (label, clearance, verify) = (owned(label), owned(clearance), owned(verify));
+                Call::GateEnter { gate, label, clearance, verify }
+            }
+            Call::DevSend { entry, bytes } => Call::DevSend { entry, bytes: owned(bytes) },
             Call::DevRecv { entry } => Call::DevRecv { entry },
             Call::SelfGet => Call::SelfGet,
             Call::ObjLabel { entry } => Call::ObjLabel { entry },
@@ -342,6 +350,7 @@ impl Call<'_> {
             Call::MetaGet { entry } => Call::MetaGet { entry },
             Call::AsGet { space, slot } => Call::AsGet { space, slot },
             Call::Load { address, count } => Call::Load { address, count },
+            // (the end of what is made)
         }
     }
 
@@ -352,6 +361,7 @@ impl Call<'_> {
     /// assert!(Call::SelfGet.is_read() && !Call::CatCreate.is_read());
     /// ```
     pub fn is_read(&self) -> bool {
+        // Made from bindings/calls.toml:
         matches!(
             self,
             Call::SelfGet
@@ -365,5 +375,6 @@ impl Call<'_> {
                 | Call::AsGet { .. }
                 | Call::Load { .. }
         )
+        // (the end of what is made)
     }
 }

@@ -55,52 +55,54 @@ impl Request {
         self.other_object = entry.object.0;
     }
 
-    /// Writes a new object of a container, with its quota and further numbers.
-    fn put_new<const N: usize>(&mut self, call: u32, container: &Object, label: &Label, numbers: [u64; N]) {
-        self.label.put(label);
-        self.put(call, &Entry::new(*container, Object::NONE), numbers);
-    }
-
     /// Writes a call.
     pub fn put_call(&mut self, call: &Call<'_>) {
         match call {
+            // Made from bindings/calls.toml:
             Call::CatCreate => self.call = 1,
             Call::SelfSetLabel { label } => {
                 self.label.put(label);
-                self.call = 2;
+                self.put(2, &Entry::NONE, []);
             }
             Call::SelfSetClearance { clearance } => {
                 self.clearance.put(clearance);
-                self.call = 3;
+                self.put(3, &Entry::NONE, []);
             }
             Call::SelfSetAs { space } => self.put(4, space, []),
             Call::ContainerCreate { container, label, quota, avoid } => {
-                self.put_new(5, container, label, [u64::from(*quota), kinds_number(avoid)]);
+                self.label.put(label);
+                self.put(5, &Entry::new(*container, Object::NONE), [u64::from(*quota), kinds_number(avoid)]);
             }
             Call::SegmentCreate { container, label, quota, pages } => {
-                self.put_new(6, container, label, [u64::from(*quota), u64::from(*pages)]);
+                self.label.put(label);
+                self.put(6, &Entry::new(*container, Object::NONE), [u64::from(*quota), u64::from(*pages)]);
             }
             Call::SegmentCopy { container, label, quota, source } => {
+                self.label.put(label);
                 self.put_other(source);
-                self.put_new(7, container, label, [u64::from(*quota)]);
+                self.put(7, &Entry::new(*container, Object::NONE), [u64::from(*quota)]);
             }
-            Call::AsCreate { container, label, quota } => self.put_new(8, container, label, [u64::from(*quota)]),
+            Call::AsCreate { container, label, quota } => {
+                self.label.put(label);
+                self.put(8, &Entry::new(*container, Object::NONE), [u64::from(*quota)]);
+            }
             Call::ThreadCreate { container, label, quota, clearance, entry_point } => {
+                self.label.put(label);
                 self.clearance.put(clearance);
-                self.put_new(9, container, label, [u64::from(*quota), *entry_point]);
+                self.put(9, &Entry::new(*container, Object::NONE), [u64::from(*quota), *entry_point]);
             }
             Call::GateCreate(gate) => {
+                self.label.put(&gate.label);
                 self.clearance.put(&gate.clearance);
                 self.put_other(&gate.space);
                 let numbers = [u64::from(gate.quota), gate.entry_point, gate.closure];
-                self.put_new(10, &gate.container, &gate.label, numbers);
+                self.put(10, &Entry::new(gate.container, Object::NONE), numbers);
             }
             Call::Link { target, entry } => {
                 self.other_container = target.0;
                 self.put(11, entry, []);
             }
             Call::Unref { entry } => self.put(12, entry, []),
-            // (32 bits in two's complement)
             Call::QuotaMove { entry, change } => self.put(13, entry, [u64::from(*change as u32)]),
             Call::SetFixed { entry } => self.put(14, entry, []),
             Call::SetImmutable { entry } => self.put(15, entry, []),
@@ -115,8 +117,14 @@ impl Request {
             }
             Call::AsMap { space, slot, mapping } => {
                 self.put_other(&mapping.segment);
-                let [slot, page, first, count] = [*slot, mapping.page, mapping.first, mapping.count].map(u64::from);
-                self.put(19, space, [slot, page, first, count, rights_number(&mapping.rights)]);
+                let numbers = [
+                    u64::from(*slot),
+                    u64::from(mapping.page),
+                    u64::from(mapping.first),
+                    u64::from(mapping.count),
+                    rights_number(&mapping.rights),
+                ];
+                self.put(19, space, numbers);
             }
             Call::AsUnmap { space, slot } => self.put(20, space, [u64::from(*slot)]),
             Call::Store { address, bytes } => {
@@ -142,12 +150,11 @@ impl Request {
             }
             Call::ContainerParent { container } => self.put(29, &Entry::new(*container, Object::NONE), []),
             Call::SegmentLen { entry } => self.put(30, entry, []),
-            Call::SegmentRead { entry, offset, count } => {
-                self.put(31, entry, [u64::from(*offset), u64::from(*count)]);
-            }
+            Call::SegmentRead { entry, offset, count } => self.put(31, entry, [u64::from(*offset), u64::from(*count)]),
             Call::MetaGet { entry } => self.put(32, entry, []),
             Call::AsGet { space, slot } => self.put(33, space, [u64::from(*slot)]),
             Call::Load { address, count } => self.put(34, &Entry::NONE, [*address, u64::from(*count)]),
+            // (the end of what is made)
         }
     }
 }

@@ -1,4 +1,4 @@
 use Rattle.two_threads.proofs.main.Given as goal
 
 abbrev pub ghosts-share : goal.ghosts-share
-ghosts-share g a = record { boot = a.boot }
+ghosts-share g a = record { boot = a.booted }

@@ -90,6 +90,7 @@ impl<'a> Words<'a, '_> {
     /// The call that the words spell.
     pub fn call(&mut self) -> Result<Call<'static>, Unbound<'a>> {
         Ok(match self.word() {
+            // Made from bindings/calls.toml:
             "cat_create" => Call::CatCreate,
             "self_set_label" => Call::SelfSetLabel { label: self.label()? },
             "self_set_clearance" => Call::SelfSetClearance { clearance: self.label()? },
@@ -162,6 +163,7 @@ impl<'a> Words<'a, '_> {
             "meta_get" => Call::MetaGet { entry: self.entry()? },
             "as_get" => Call::AsGet { space: self.entry()?, slot: self.number() },
             "load" => Call::Load { address: self.number(), count: self.number() },
+            // (the end of what is made)
             word => panic!("no call: {word}"),
         })
     }

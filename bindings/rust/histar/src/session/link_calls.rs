@@ -1,4 +1,4 @@
-//! Calls about containers, links and quotas.
+//! Calls about containers, links and quotas. Made from bindings/calls.toml by bindings/make.py.
 use super::Session;
 use crate::{Call, Entry, Kinds, Label, Listed, Object, Quota, Refusal, Reply};
 
@@ -53,8 +53,8 @@ impl Session<'_> {
     /// ```
     ///
     /// # Errors
-    /// [`WrongType`], [`CannotObserve`], [`CannotModify`], [`LabelRange`], [`AvoidType`], [`NoQuota`], [`NotFixed`],
-    /// [`AlreadyLinked`], [`Immutable`].
+    /// [`WrongType`] for a container, [`CannotObserve`], [`CannotModify`], [`LabelRange`], [`AvoidType`], [`NoQuota`],
+    /// [`NotFixed`], [`AlreadyLinked`], [`Immutable`].
     pub fn link(&self, target: Object, entry: Entry) -> Result<(), Refusal> {
         self.done(&Call::Link { target, entry })
     }
@@ -130,7 +130,7 @@ impl Session<'_> {
     /// ```
     ///
     /// # Errors
-    /// [`WrongType`], [`CannotObserve`], [`CannotModify`].
+    /// [`WrongType`] for a thread or a device, [`CannotObserve`], [`CannotModify`].
     pub fn set_immutable(&self, entry: Entry) -> Result<(), Refusal> {
         self.done(&Call::SetImmutable { entry })
     }
@@ -151,7 +151,7 @@ impl Session<'_> {
     /// ```
     ///
     /// # Errors
-    /// [`CannotObserve`].
+    /// [`CannotObserve`] for a thread whose label the caller may not see.
     pub fn obj_label(&self, entry: Entry) -> Result<Label, Refusal> {
         expect_reply!(self.call(&Call::ObjLabel { entry })?, Reply::Label)
     }

@@ -1,4 +1,4 @@
-//! Calls about segments, metadata, address spaces and devices.
+//! Calls about segments, metadata, address spaces and devices. Made from bindings/calls.toml by bindings/make.py.
 use super::Session;
 use crate::{Bytes, Call, Entry, Label, Mapping, Object, Refusal, Reply};
 
@@ -49,6 +49,45 @@ impl Session<'_> {
         expect_reply!(self.call(&Call::SegmentCopy { container, label: label.into(), quota, source })?, Reply::Object)
     }
 
+    /// A new address space of 16 empty slots, last in a container's list.
+    ///
+    /// ```
+    /// use histar::{label, Entry, Object, Refusal};
+    /// # let kernel = histar::Kernel::boot(64)?;
+    /// # let boot = kernel.session();
+    /// let space = Entry::in_root(boot.as_create(Object::ROOT, &label! { L1 }, 1)?);
+    /// assert_eq!(boot.as_get(space, 15), Ok(None));
+    /// assert_eq!(boot.as_create(Object::ROOT, &label! { L1 }, 0), Err(Refusal::NoQuota));
+    /// # Ok::<(), histar::Refusal>(())
+    /// ```
+    ///
+    /// # Errors
+    /// [`CannotObserve`], [`CannotModify`], [`BadLabel`], [`LabelRange`], [`AvoidType`], [`NoQuota`], [`Immutable`],
+    /// [`Spent`].
+    pub fn as_create(&self, container: Object, label: &Label, quota: u32) -> Result<Object, Refusal> {
+        expect_reply!(self.call(&Call::AsCreate { container, label: label.into(), quota })?, Reply::Object)
+    }
+
+    /// The object's metadata are these 0 to 64 bytes, and then zeros.
+    ///
+    /// ```
+    /// use histar::{label, Entry, Object, Refusal};
+    /// # let kernel = histar::Kernel::boot(64)?;
+    /// # let boot = kernel.session();
+    /// let note = Entry::in_root(boot.segment_create(Object::ROOT, &label! { L1 }, 2, 1)?);
+    /// boot.meta_set(note, b"name")?;
+    /// boot.meta_set(note, b"no")?;
+    /// assert_eq!(boot.meta_get(note)?[..4], *b"no\0\0");
+    /// assert_eq!(boot.meta_set(Entry::in_root(boot), b"name"), Err(Refusal::WrongType));
+    /// # Ok::<(), histar::Refusal>(())
+    /// ```
+    ///
+    /// # Errors
+    /// [`WrongType`] for a thread, [`CannotObserve`], [`CannotModify`], [`Immutable`].
+    pub fn meta_set(&self, entry: Entry, bytes: &[u8]) -> Result<(), Refusal> {
+        self.done(&Call::MetaSet { entry, bytes: bytes.into() })
+    }
+
     /// The segment has so many pages, 0 to 16: what is cut off is gone, what is new is 0.
     ///
     /// ```
@@ -85,100 +124,6 @@ impl Session<'_> {
     /// [`WrongType`], [`CannotObserve`], [`CannotModify`], [`Immutable`], [`Bounds`].
     pub fn segment_write(&self, entry: Entry, offset: u32, bytes: &[u8]) -> Result<(), Refusal> {
         self.done(&Call::SegmentWrite { entry, offset, bytes: bytes.into() })
-    }
-
-    /// 1 to 64 bytes of the segment, in one page of 256, from `offset` on.
-    ///
-    /// ```
-    /// use histar::{label, Entry, Object, Refusal};
-    /// # let kernel = histar::Kernel::boot(64)?;
-    /// # let boot = kernel.session();
-    /// let note = Entry::in_root(boot.segment_create(Object::ROOT, &label! { L1 }, 2, 1)?);
-    /// boot.segment_write(note, 0, b"note")?;
-    /// assert_eq!(boot.segment_read(note, 1, 3)?, b"ote");
-    /// assert_eq!(boot.segment_read(note, 256, 1), Err(Refusal::Bounds));
-    /// # Ok::<(), histar::Refusal>(())
-    /// ```
-    ///
-    /// # Errors
-    /// [`WrongType`], [`CannotObserve`], [`Bounds`].
-    pub fn segment_read(&self, entry: Entry, offset: u32, count: u32) -> Result<Bytes, Refusal> {
-        expect_reply!(self.call(&Call::SegmentRead { entry, offset, count })?, Reply::Bytes)
-    }
-
-    /// The segment's length in pages of 256 bytes.
-    ///
-    /// ```
-    /// use histar::{label, Entry, Object, Refusal};
-    /// # let kernel = histar::Kernel::boot(64)?;
-    /// # let boot = kernel.session();
-    /// let note = Entry::in_root(boot.segment_create(Object::ROOT, &label! { L1 }, 4, 3)?);
-    /// assert_eq!(boot.segment_len(note), Ok(3));
-    /// assert_eq!(boot.segment_len(Entry::in_root(Object::DEVICE)), Err(Refusal::WrongType));
-    /// # Ok::<(), histar::Refusal>(())
-    /// ```
-    ///
-    /// # Errors
-    /// [`WrongType`], [`CannotObserve`].
-    pub fn segment_len(&self, entry: Entry) -> Result<u32, Refusal> {
-        expect_reply!(self.call(&Call::SegmentLen { entry })?, Reply::Pages)
-    }
-
-    /// The object's metadata are these 0 to 64 bytes, and then zeros.
-    ///
-    /// ```
-    /// use histar::{label, Entry, Object, Refusal};
-    /// # let kernel = histar::Kernel::boot(64)?;
-    /// # let boot = kernel.session();
-    /// let note = Entry::in_root(boot.segment_create(Object::ROOT, &label! { L1 }, 2, 1)?);
-    /// boot.meta_set(note, b"name")?;
-    /// boot.meta_set(note, b"no")?;
-    /// assert_eq!(boot.meta_get(note)?[..4], *b"no\0\0");
-    /// assert_eq!(boot.meta_set(Entry::in_root(boot), b"name"), Err(Refusal::WrongType));
-    /// # Ok::<(), histar::Refusal>(())
-    /// ```
-    ///
-    /// # Errors
-    /// [`WrongType`], [`CannotObserve`], [`CannotModify`], [`Immutable`].
-    pub fn meta_set(&self, entry: Entry, bytes: &[u8]) -> Result<(), Refusal> {
-        self.done(&Call::MetaSet { entry, bytes: bytes.into() })
-    }
-
-    /// The 64 bytes of the object's metadata.
-    ///
-    /// ```
-    /// use histar::{label, Entry, Object, Refusal};
-    /// # let kernel = histar::Kernel::boot(64)?;
-    /// # let boot = kernel.session();
-    /// let note = Entry::in_root(boot.segment_create(Object::ROOT, &label! { L1 }, 2, 1)?);
-    /// assert_eq!(boot.meta_get(note)?, [0; 64]);
-    /// assert_eq!(boot.meta_get(Entry::in_root(boot)), Err(Refusal::WrongType));
-    /// # Ok::<(), histar::Refusal>(())
-    /// ```
-    ///
-    /// # Errors
-    /// [`WrongType`], [`CannotObserve`].
-    pub fn meta_get(&self, entry: Entry) -> Result<Bytes, Refusal> {
-        expect_reply!(self.call(&Call::MetaGet { entry })?, Reply::Bytes)
-    }
-
-    /// A new address space of 16 empty slots, last in a container's list.
-    ///
-    /// ```
-    /// use histar::{label, Entry, Object, Refusal};
-    /// # let kernel = histar::Kernel::boot(64)?;
-    /// # let boot = kernel.session();
-    /// let space = Entry::in_root(boot.as_create(Object::ROOT, &label! { L1 }, 1)?);
-    /// assert_eq!(boot.as_get(space, 15), Ok(None));
-    /// assert_eq!(boot.as_create(Object::ROOT, &label! { L1 }, 0), Err(Refusal::NoQuota));
-    /// # Ok::<(), histar::Refusal>(())
-    /// ```
-    ///
-    /// # Errors
-    /// [`CannotObserve`], [`CannotModify`], [`BadLabel`], [`LabelRange`], [`AvoidType`], [`NoQuota`], [`Immutable`],
-    /// [`Spent`].
-    pub fn as_create(&self, container: Object, label: &Label, quota: u32) -> Result<Object, Refusal> {
-        expect_reply!(self.call(&Call::AsCreate { container, label: label.into(), quota })?, Reply::Object)
     }
 
     /// An empty slot, 0 to 15, of the address space shows pages of a segment.
@@ -226,27 +171,6 @@ impl Session<'_> {
         self.done(&Call::AsUnmap { space, slot })
     }
 
-    /// What a slot, 0 to 15, of the address space maps.
-    ///
-    /// ```
-    /// use histar::{label, Entry, Mapping, Object, Refusal, Rights};
-    /// # let kernel = histar::Kernel::boot(64)?;
-    /// # let boot = kernel.session();
-    /// let note = Entry::in_root(boot.segment_create(Object::ROOT, &label! { L1 }, 2, 1)?);
-    /// let space = Entry::in_root(boot.as_create(Object::ROOT, &label! { L1 }, 1)?);
-    /// let mapping = Mapping { page: 4, segment: note, first: 0, count: 1, rights: Rights::READ };
-    /// boot.as_map(space, 0, mapping)?;
-    /// assert_eq!(boot.as_get(space, 0), Ok(Some(mapping)));
-    /// assert_eq!(boot.as_get(space, 16), Err(Refusal::Bounds));
-    /// # Ok::<(), histar::Refusal>(())
-    /// ```
-    ///
-    /// # Errors
-    /// [`WrongType`], [`CannotObserve`], [`Bounds`].
-    pub fn as_get(&self, space: Entry, slot: u32) -> Result<Option<Mapping>, Refusal> {
-        expect_reply!(self.call(&Call::AsGet { space, slot })?, Reply::Mapping)
-    }
-
     /// These 1 to 64 bytes, in one page of 256, are written through the thread's address space.
     ///
     /// ```
@@ -269,29 +193,6 @@ impl Session<'_> {
     /// [`Bounds`], [`NotMapped`], [`RightsDenied`].
     pub fn store(&self, address: u64, bytes: &[u8]) -> Result<(), Refusal> {
         self.done(&Call::Store { address, bytes: bytes.into() })
-    }
-
-    /// 1 to 64 bytes, in one page of 256, read through the thread's address space.
-    ///
-    /// ```
-    /// use histar::{label, Entry, Mapping, Object, Refusal, Rights};
-    /// # let kernel = histar::Kernel::boot(64)?;
-    /// # let boot = kernel.session();
-    /// let note = Entry::in_root(boot.segment_create(Object::ROOT, &label! { L1 }, 2, 1)?);
-    /// boot.segment_write(note, 9, b"note")?;
-    /// let space = Entry::in_root(boot.as_create(Object::ROOT, &label! { L1 }, 1)?);
-    /// let mapping = Mapping { page: 4, segment: note, first: 0, count: 1, rights: Rights::READ };
-    /// boot.as_map(space, 0, mapping)?;
-    /// boot.self_set_as(space)?;
-    /// assert_eq!(boot.load(4 * 256 + 9, 4)?, b"note");
-    /// assert_eq!(boot.load(5 * 256, 1), Err(Refusal::NotMapped));
-    /// # Ok::<(), histar::Refusal>(())
-    /// ```
-    ///
-    /// # Errors
-    /// [`Bounds`], [`NotMapped`], [`RightsDenied`].
-    pub fn load(&self, address: u64, count: u32) -> Result<Bytes, Refusal> {
-        expect_reply!(self.call(&Call::Load { address, count })?, Reply::Bytes)
     }
 
     /// A packet of 1 to 64 bytes is last in the device's queue.
@@ -333,5 +234,104 @@ impl Session<'_> {
     /// [`WrongType`], [`CannotObserve`], [`CannotModify`], [`DeviceEmpty`].
     pub fn dev_recv(&self, device: Entry) -> Result<Bytes, Refusal> {
         expect_reply!(self.call(&Call::DevRecv { entry: device })?, Reply::Bytes)
+    }
+
+    /// The segment's length in pages of 256 bytes.
+    ///
+    /// ```
+    /// use histar::{label, Entry, Object, Refusal};
+    /// # let kernel = histar::Kernel::boot(64)?;
+    /// # let boot = kernel.session();
+    /// let note = Entry::in_root(boot.segment_create(Object::ROOT, &label! { L1 }, 4, 3)?);
+    /// assert_eq!(boot.segment_len(note), Ok(3));
+    /// assert_eq!(boot.segment_len(Entry::in_root(Object::DEVICE)), Err(Refusal::WrongType));
+    /// # Ok::<(), histar::Refusal>(())
+    /// ```
+    ///
+    /// # Errors
+    /// [`WrongType`], [`CannotObserve`].
+    pub fn segment_len(&self, entry: Entry) -> Result<u32, Refusal> {
+        expect_reply!(self.call(&Call::SegmentLen { entry })?, Reply::Pages)
+    }
+
+    /// 1 to 64 bytes of the segment, in one page of 256, from `offset` on.
+    ///
+    /// ```
+    /// use histar::{label, Entry, Object, Refusal};
+    /// # let kernel = histar::Kernel::boot(64)?;
+    /// # let boot = kernel.session();
+    /// let note = Entry::in_root(boot.segment_create(Object::ROOT, &label! { L1 }, 2, 1)?);
+    /// boot.segment_write(note, 0, b"note")?;
+    /// assert_eq!(boot.segment_read(note, 1, 3)?, b"ote");
+    /// assert_eq!(boot.segment_read(note, 256, 1), Err(Refusal::Bounds));
+    /// # Ok::<(), histar::Refusal>(())
+    /// ```
+    ///
+    /// # Errors
+    /// [`WrongType`], [`CannotObserve`], [`Bounds`].
+    pub fn segment_read(&self, entry: Entry, offset: u32, count: u32) -> Result<Bytes, Refusal> {
+        expect_reply!(self.call(&Call::SegmentRead { entry, offset, count })?, Reply::Bytes)
+    }
+
+    /// The 64 bytes of the object's metadata.
+    ///
+    /// ```
+    /// use histar::{label, Entry, Object, Refusal};
+    /// # let kernel = histar::Kernel::boot(64)?;
+    /// # let boot = kernel.session();
+    /// let note = Entry::in_root(boot.segment_create(Object::ROOT, &label! { L1 }, 2, 1)?);
+    /// assert_eq!(boot.meta_get(note)?, [0; 64]);
+    /// assert_eq!(boot.meta_get(Entry::in_root(boot)), Err(Refusal::WrongType));
+    /// # Ok::<(), histar::Refusal>(())
+    /// ```
+    ///
+    /// # Errors
+    /// [`WrongType`] for a thread, [`CannotObserve`].
+    pub fn meta_get(&self, entry: Entry) -> Result<Bytes, Refusal> {
+        expect_reply!(self.call(&Call::MetaGet { entry })?, Reply::Bytes)
+    }
+
+    /// What a slot, 0 to 15, of the address space maps.
+    ///
+    /// ```
+    /// use histar::{label, Entry, Mapping, Object, Refusal, Rights};
+    /// # let kernel = histar::Kernel::boot(64)?;
+    /// # let boot = kernel.session();
+    /// let note = Entry::in_root(boot.segment_create(Object::ROOT, &label! { L1 }, 2, 1)?);
+    /// let space = Entry::in_root(boot.as_create(Object::ROOT, &label! { L1 }, 1)?);
+    /// let mapping = Mapping { page: 4, segment: note, first: 0, count: 1, rights: Rights::READ };
+    /// boot.as_map(space, 0, mapping)?;
+    /// assert_eq!(boot.as_get(space, 0), Ok(Some(mapping)));
+    /// assert_eq!(boot.as_get(space, 16), Err(Refusal::Bounds));
+    /// # Ok::<(), histar::Refusal>(())
+    /// ```
+    ///
+    /// # Errors
+    /// [`WrongType`], [`CannotObserve`], [`Bounds`].
+    pub fn as_get(&self, space: Entry, slot: u32) -> Result<Option<Mapping>, Refusal> {
+        expect_reply!(self.call(&Call::AsGet { space, slot })?, Reply::Mapping)
+    }
+
+    /// 1 to 64 bytes, in one page of 256, read through the thread's address space.
+    ///
+    /// ```
+    /// use histar::{label, Entry, Mapping, Object, Refusal, Rights};
+    /// # let kernel = histar::Kernel::boot(64)?;
+    /// # let boot = kernel.session();
+    /// let note = Entry::in_root(boot.segment_create(Object::ROOT, &label! { L1 }, 2, 1)?);
+    /// boot.segment_write(note, 9, b"note")?;
+    /// let space = Entry::in_root(boot.as_create(Object::ROOT, &label! { L1 }, 1)?);
+    /// let mapping = Mapping { page: 4, segment: note, first: 0, count: 1, rights: Rights::READ };
+    /// boot.as_map(space, 0, mapping)?;
+    /// boot.self_set_as(space)?;
+    /// assert_eq!(boot.load(4 * 256 + 9, 4)?, b"note");
+    /// assert_eq!(boot.load(5 * 256, 1), Err(Refusal::NotMapped));
+    /// # Ok::<(), histar::Refusal>(())
+    /// ```
+    ///
+    /// # Errors
+    /// [`Bounds`], [`NotMapped`], [`RightsDenied`].
+    pub fn load(&self, address: u64, count: u32) -> Result<Bytes, Refusal> {
+        expect_reply!(self.call(&Call::Load { address, count })?, Reply::Bytes)
     }
 }

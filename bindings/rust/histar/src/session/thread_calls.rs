@@ -1,4 +1,4 @@
-//! Calls about categories, labels, threads and gates.
+//! Calls about categories, labels, threads and gates. Made from bindings/calls.toml by bindings/make.py.
 use super::Session;
 use crate::{Call, Category, Entered, Entry, Label, NewGate, Object, Own, Refusal, Reply};
 
@@ -66,7 +66,7 @@ impl<'k> Session<'k> {
         self.done(&Call::SelfSetClearance { clearance: clearance.into() })
     }
 
-    /// The thread's address space changes; `Entry::NONE` for none.
+    /// The thread's address space changes. `Entry::NONE` for none.
     ///
     /// ```
     /// use histar::{label, Entry, Object, Refusal};
@@ -85,7 +85,8 @@ impl<'k> Session<'k> {
         self.done(&Call::SelfSetAs { space })
     }
 
-    /// A new thread, last in a container's list, with the verify label `{3}`, no address space and closure 0: its session.
+    /// A new thread, last in a container's list, with the verify label `{3}`, no address space and closure 0. The
+    /// answer is its session.
     ///
     /// ```
     /// use histar::{label, Entry, Object, Refusal};
@@ -110,8 +111,8 @@ impl<'k> Session<'k> {
         clearance: &Label,
         entry_point: u64,
     ) -> Result<Session<'k>, Refusal> {
-        let (label, clearance) = (label.into(), clearance.into());
-        let call = Call::ThreadCreate { container, label, quota, clearance, entry_point };
+        let call =
+            Call::ThreadCreate { container, label: label.into(), quota, clearance: clearance.into(), entry_point };
         let made: Result<Object, Refusal> = expect_reply!(self.call(&call)?, Reply::Object);
         made.map(|thread| Session::new(self.kernel, thread.into()))
     }
@@ -165,15 +166,8 @@ impl<'k> Session<'k> {
         clearance: &Label,
         verify: &Label,
     ) -> Result<Entered, Refusal> {
-        expect_reply!(
-            self.call(&Call::GateEnter {
-                gate,
-                label: label.into(),
-                clearance: clearance.into(),
-                verify: verify.into()
-            })?,
-            Reply::Entered
-        )
+        let call = Call::GateEnter { gate, label: label.into(), clearance: clearance.into(), verify: verify.into() };
+        expect_reply!(self.call(&call)?, Reply::Entered)
     }
 
     /// What the thread is.
