@@ -1,12 +1,14 @@
 //! The calls of batches.
-ghost use Rattle.std.specs.Prelude.{◌≡◌, ◌+◌, ◌≤◌, ◌∷◌, ◌++◌, [], IfOk, OnOk, length, vec_capacity};
+ghost use Rattle.std.specs.Prelude.{◌≡◌, ◌+◌, ◌≤◌, ◌↔◌, ◌∷◌, ◌++◌, [], true, IfOk, IfSome, IsSome, OnOk, length, vec_capacity};
 ghost use Rattle.kernel_rules.specs.Events.{answers};
+ghost use Rattle.kernel_rules.specs.History.{is_batch};
 ghost use Rattle.kept_events.specs.Batches.{rest_calls, rest_answers, IsOpen, AreAnswered};
 
 use crate::calls::KeptCall;
 use crate::events::KeptEvent;
 use crate::replies::KeptReply;
 use base::{NoMemory, ObjectId};
+use kernel_rules::histories::BATCH;
 use kernel_rules::{Call, Reply};
 use std::alloc::Global;
 use std::marker::Model;
@@ -18,8 +20,27 @@ pub(crate) struct Rest {
     pub(crate) replies: Vec<KeptReply>,
 }
 
-/// Calls that are kept.
-fn kept_calls(alloc: Global, calls: &[Call]) -> Result<Vec<KeptCall>, NoMemory>
+/// The first call of a batch, and those after it: there are 1 to 16.
+pub fn split_batch(calls: &[Call]) -> Option<(&Call, &[Call])>
+    ensures some { IfSome result (λ batch. batch.0.now ∷ batch.1.now ≡ calls.now) }
+    ensures size { IsSome result ↔ (is_batch calls.now ≡ true) }
+{
+    if calls.len() > BATCH {
+        return None;
+    }
+    calls.split_first()
+}
+
+/// Room for the replies of a batch. The error is want of memory.
+pub fn replies_room(alloc: Global, calls: &[Call]) -> Result<Vec<Reply>, NoMemory>
+    ensures empty { IfOk result (λ room. room.items ≡ []) }
+    ensures room { IfOk result (λ room. length calls.now ≤ vec_capacity room) }
+{
+    Ok(Vec::with_capacity(alloc, calls.len())?)
+}
+
+/// Calls that are kept. The error is want of memory.
+pub fn kept_calls(alloc: Global, calls: &[Call]) -> Result<Vec<KeptCall>, NoMemory>
     ensures { IfOk result (λ kept. kept.items ≡ calls.now) }
 {
     let mut kept = Vec::with_capacity(alloc, calls.len())?;

@@ -11,7 +11,7 @@ mod events;
 mod labels;
 mod replies;
 
-pub use batches::KeptCalls;
+pub use batches::{KeptCalls, kept_calls, replies_room, split_batch};
 pub use calls::KeptCall;
 pub use events::{KeptEvent, events_of};
 pub use replies::{KeptReply, call_answers};

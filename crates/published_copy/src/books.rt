@@ -21,12 +21,12 @@ use crate::pairs::Pair;
 use crate::passes::Pass;
 use crate::places::Places;
 use crate::read_handles::ReadHandle;
-use crate::receipts::{BatchReceipt, Placed, batch_of, replies_room, tell_last};
+use crate::receipts::{BatchReceipt, Placed, tell_last};
 use crate::refusals::{SeatRefusal, SubmitRefusal};
 use crate::seating::seat_refusal;
 use crate::tallies::{Tally, count_events, events_of};
 use base::{Limits, Meter, NoMemory, ObjectId};
-use kept_events::KeptEvent;
+use kept_events::{KeptEvent, replies_room, split_batch};
 use kernel_rules::{Call, Reply};
 use std::marker::Model;
 use std::sync::Wait;
@@ -266,7 +266,7 @@ impl<B: Naming> Book<B> {
         ensures legal { IsLegal B.boot.limits self.new.journal }
     {
         let _events = self.journal.len();
-        let Some((call, more)) = batch_of(calls) else {
+        let Some((call, more)) = split_batch(calls) else {
             return Err(SubmitRefusal::BadBatch);
         };
         if !is_turn(&self.journal, &self.tallies, pass) {

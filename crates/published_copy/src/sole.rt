@@ -17,12 +17,12 @@ use crate::books::make_room;
 use crate::further::Further;
 use crate::naming::Naming;
 use crate::places::Places;
-use crate::receipts::{BatchReceipt, Placed, batch_of, replies_room, tell_last};
+use crate::receipts::{BatchReceipt, Placed, tell_last};
 use crate::refusals::{SeatRefusal, SubmitRefusal};
 use crate::seating::seat_refusal;
 use crate::tallies::{Tally, count_events, events_of};
 use base::{Limits, Meter, NoMemory, ObjectId};
-use kept_events::{KeptCalls, KeptEvent, KeptReply, call_answers};
+use kept_events::{KeptCalls, KeptEvent, KeptReply, call_answers, replies_room, split_batch};
 use kernel_rules::{Call, Query, Reply};
 use std::alloc::Global;
 use std::marker::{Model, PhantomData};
@@ -219,7 +219,7 @@ impl<B: Naming> SoleBook<B> {
         ensures legal { IsLegal B.boot.limits self.new.journal }
     {
         let _events = self.journal.len();
-        let Some((call, more)) = batch_of(calls) else {
+        let Some((call, more)) = split_batch(calls) else {
             return Err(SubmitRefusal::BadBatch);
         };
         let mut replies = replies_room(self.alloc, calls)?;
