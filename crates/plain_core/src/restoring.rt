@@ -20,7 +20,7 @@ pub use building::build;
 pub use counts::{count_listers, counted, is_distinct, is_listed_rightly};
 pub use keeping::is_well_formed;
 pub use labels::{are_made, stored};
-pub use numbers::next_numbers;
+pub use numbers::{listed, next_numbers};
 pub use restores::{RestoreFault, is_restorable, restore};
 pub use tests_of_names::{are_recorded, name_given, name_kinds};
 pub use tests_of_objects::{

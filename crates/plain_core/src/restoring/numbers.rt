@@ -40,8 +40,8 @@ fn numbers_after(alloc: Global, events: &[Event]) -> Result<BTreeMap<ObjectId, u
     Ok(numbers)
 }
 
-/// These numbers, the threads rising.
-fn listed(alloc: Global, numbers: &BTreeMap<ObjectId, u64>) -> Result<Vec<NextNumber>, NoMemory>
+/// These numbers, the threads rising. The error is want of memory.
+pub fn listed(alloc: Global, numbers: &BTreeMap<ObjectId, u64>) -> Result<Vec<NextNumber>, NoMemory>
     ensures value { IfOk result (λ next. map {B = ℕ × ℕ} (λ n. (n.thread, n.number)) next.items ≡ numbers.now.entries) }
     ensures rise { IfOk result (λ next. threads_rise next.items ≡ true) }
 {
