@@ -19,8 +19,8 @@ CALLERS = "12"
 # What is done to one thing, or to two at once.
 FAULTS = ("kill node", "kill member", "pause member", "pause node", "kill both", "pause two members", "replace member", "node sleeps")
 CUTS = ("cut off node", "cut off member", "cut off both")
-# A node that sleeps has lost its lease for so many seconds, in which the others drop what it had not played.
-ASLEEP = 12
+# A node sleeps until it has lost its lease and the others dropped what it had not played: for so many seconds at least, and at most.
+ASLEEP, LONGEST = 12, 60
 DROPPED = "log dropped beneath a sleeping node"
 # The dumps of what is left of the log, and of the whole of it.
 LOGS = ("audit", "whole")
@@ -76,15 +76,22 @@ class Faults:
         status, said = self.call("etcdctl", "--endpoints", ",".join(self.members), "get", "/faults/boot", "-w", "json")
         return json.loads(said)["header"]["revision"] if status == 0 else 0
 
-    def sleeps(self):
-        """The time passes in which a node sleeps. What was there before is forgotten, if the log was dropped."""
-        before = self.revision()
-        time.sleep(ASLEEP)
-        said = self.call("etcdctl", "--endpoints", ",".join(self.members), "get", "/faults/boot", "--keys-only", "--rev", str(before))[1]
-        self.counts[DROPPED] += before > 0 and "compacted" in said
+    def is_dropped(self, revision):
+        """Whether the log was dropped beyond a revision: what was there then is forgotten."""
+        at = ["--endpoints", ",".join(self.members)]
+        return revision > 0 and "compacted" in self.call("etcdctl", *at, "get", "/faults/boot", "--keys-only", "--rev", str(revision))[1]
 
-    def hurt(self, nodes, members, what):
-        """One thing is killed or replaced, or some are paused or cut off for a while. What has to be started anew."""
+    def sleeps(self, left):
+        """The time passes in which a node sleeps, which ends where the run has so many seconds left."""
+        began, before = time.time(), self.revision()
+        time.sleep(ASLEEP)
+        while not self.is_dropped(before) and time.time() < began + min(LONGEST, left):
+            time.sleep(1)
+            before = before or self.revision()
+        self.counts[DROPPED] += self.is_dropped(before)
+
+    def hurt(self, nodes, members, what, left):
+        """One thing is killed or replaced, or some are paused or cut off for a while, of so many seconds. What has to be started anew."""
         self.counts[what] = self.counts.get(what, 0) + 1
         first, second = self.random.sample(range(3), 2)
         killed = [nodes[first]] * (what in ("kill node", "kill both")) + [members[second]] * (what in ("kill member", "kill both", "replace member"))
@@ -98,7 +105,7 @@ class Faults:
         for it in cut:
             self.hosts.cut(it, True)
         if what == "node sleeps":
-            self.sleeps()
+            self.sleeps(left)
         else:
             time.sleep(self.random.uniform(0.1, 5))
         for it in paused:
@@ -142,7 +149,7 @@ class Faults:
             nodes = [self.node(it, left()) for it in range(3)]
             time.sleep(1)
             while left() > ASLEEP + 3:
-                node, member = self.hurt(nodes, members, self.next_fault())
+                node, member = self.hurt(nodes, members, self.next_fault(), left() - 3)
                 if node is not None:
                     nodes[node] = self.node(node, left())
                 if member is not None:
