@@ -13,7 +13,7 @@ use Rattle.text_words.proofs.SpokenLemmas.{arg_outside, name_lacks_space}
 use Rattle.call_text.specs.Line.{mark}
 use Rattle.check_text.specs.declared.line_faults.expected.Expected.{Expected}
 use Rattle.check_text.specs.declared.line_faults.expected.Expected.TheVariants as expected
-use Rattle.check_text.specs.declared.line_faults.expected.Fault.{Fault}
+use Rattle.check_text.specs.declared.line_faults.expected.LineFault.{LineFault}
 use Rattle.check_text.specs.Faults.{IsWorker, IsExpected, IsArgument, AllFollow, BeginsWith, EndsWord, GoesOn, MayFollow, StopsAt, TellsFault, further, space_before}
 
 pub mark_lacks : (m : Bool) → lacks 32 (mark m) ≡ true
@@ -115,7 +115,7 @@ all_follow expected.End F G on all = on [] all
 -- a fault of the rest is one of the whole
 pub stops_after : {U V : Type 0} (front rest bytes : List ℕ) (n : ℕ) (part : U → List ℕ) (PartFits : U → Type 0) (text : V → List ℕ) (Fits : V → Type 0)
     → Continues front part PartFits text Fits → 1 ≤ length front → IsRest rest → bytes ≡ front ++ rest → n ≡ length front
-    → (found : Option Fault) → TellsFault part PartFits rest found → TellsFault text Fits bytes (further n found)
+    → (found : Option LineFault) → TellsFault part PartFits rest found → TellsFault text Fits bytes (further n found)
 stops_after front rest bytes n part PartFits text Fits continues some spaced is len None told =
     let v = continues.on told.0 told.1 in
     (v.0, v.1, is ∙ ap (λ (r : List ℕ). front ++ r) told.2 ∙ sym v.2)

@@ -19,16 +19,16 @@ use Rattle.call_text.specs.Line.{Break, Said, Saying, Written, mark, said_text, 
 use Rattle.call_text.proofs.LineLemmas.{mark_same}
 use Rattle.check_text.specs.declared.line_faults.expected.Expected.{Expected}
 use Rattle.check_text.specs.declared.line_faults.expected.Expected.TheVariants as expected
-use Rattle.check_text.specs.declared.line_faults.expected.Fault.{Fault}
+use Rattle.check_text.specs.declared.line_faults.expected.LineFault.{LineFault}
 use Rattle.check_text.specs.Faults.{suits, IsWorker, IsArgument, IsVerb, IsExpected, TellsFault, TellsArgument, further, call_after, IsCall, making_after, IsMaking, bound_after}
 use Rattle.check_text.proofs.FaultLemmas.{Continues, mark_lacks, stops_here, stops_after, other_word, no_word}
 use Rattle.check_text.proofs.Samples.{further_is_rest, args_go_on, args_follow, calls_go_on, calls_follow, makings_go_on, makings_follow, bounds_go_on, bounds_follow, lines_go_on, lines_follow}
 
 -- what is told right where a text begins
-abbrev pub told_here : Expected → Option Fault
+abbrev pub told_here : Expected → Option LineFault
 told_here e = Some (record { before = 0; expected = e })
 
-pub missing_arg : (ks : List ArgKind) (d : ArgKind) (text : List ℕ) (r : Option Fault) → 1 ≤ length ks → ((more : List ℕ) → text ≡ 32 ∷ more → ⊥)
+pub missing_arg : (ks : List ArgKind) (d : ArgKind) (text : List ℕ) (r : Option LineFault) → 1 ≤ length ks → ((more : List ℕ) → text ≡ 32 ∷ more → ⊥)
     → r ≡ told_here (expected.Argument (get_or ks 0 d)) → TellsFault further_text (AreArgs ks) text r
 missing_arg [] d text r some none is = absurd (omega arith)
 missing_arg (k ∷ ks) d text r some none is =
@@ -43,7 +43,7 @@ such : (k : ArgKind) (word : List ℕ) (is_so : Bool) → is_so ≡ true → Tel
 such k word true e told = told
 such k word false e told = absurd cc
 
-pub other_arg : (ks : List ArgKind) (d : ArgKind) (text word rest : List ℕ) (is_so : Bool) (r : Option Fault) → 1 ≤ length ks → text ≡ 32 ∷ (word ++ rest)
+pub other_arg : (ks : List ArgKind) (d : ArgKind) (text word rest : List ℕ) (is_so : Bool) (r : Option LineFault) → 1 ≤ length ks → text ≡ 32 ∷ (word ++ rest)
     → lacks 32 word ≡ true → IsRest rest → is_so ≡ false → TellsArgument (get_or ks 0 d) word is_so
     → r ≡ told_here (expected.Argument (get_or ks 0 d)) → TellsFault further_text (AreArgs ks) text r
 other_arg [] d text word rest is_so r some parts lack is isnt told e = absurd (omega arith)
@@ -64,7 +64,7 @@ args_after k ks word lack (x ∷ xs) are after is e =
     let p = word_is (arg_text x) word (further_text xs) after (arg_outside 32 k x space_outside are.0) lack (further_is_rest xs) is texts in
     (xs, are.1, p.1)
 
-pub next_arg : (ks : List ArgKind) (d : ArgKind) (text word rest : List ℕ) (is_so : Bool) (found r : Option Fault) → 1 ≤ length ks → text ≡ 32 ∷ (word ++ rest)
+pub next_arg : (ks : List ArgKind) (d : ArgKind) (text word rest : List ℕ) (is_so : Bool) (found r : Option LineFault) → 1 ≤ length ks → text ≡ 32 ∷ (word ++ rest)
     → lacks 32 word ≡ true → IsRest rest → is_so ≡ true → TellsArgument (get_or ks 0 d) word is_so
     → TellsFault further_text (AreArgs (take (length ks - 1) (drop 1 ks))) rest found
     → r ≡ further (1 + length word) found → TellsFault further_text (AreArgs ks) text r
@@ -81,13 +81,13 @@ next_arg (k ∷ ks) d text word rest is_so found r some parts lack spaced ok tol
     rw e (stops_after (32 ∷ word) rest text (1 + length word) further_text (AreArgs ks) further_text (AreArgs (k ∷ ks)) on (omega arith) spaced parts
     (omega arith) found there)
 
-pub missing_call : (binds more : Bool) (text : List ℕ) (r : Option Fault) → ((rest : List ℕ) → text ≡ 32 ∷ rest → ⊥)
+pub missing_call : (binds more : Bool) (text : List ℕ) (r : Option LineFault) → ((rest : List ℕ) → text ≡ 32 ∷ rest → ⊥)
     → r ≡ told_here (expected.Call binds more) → TellsFault call_after (IsCall binds more) text r
 missing_call binds more text r none is =
     rw is (stops_here call_after (IsCall binds more) text (expected.Call binds more) (calls_go_on binds more) (calls_follow binds more)
     (no_word (expected.Call binds more) text refl none))
 
-pub other_call : (binds more : Bool) (text word rest : List ℕ) (r : Option Fault) → text ≡ 32 ∷ (word ++ rest)
+pub other_call : (binds more : Bool) (text word rest : List ℕ) (r : Option LineFault) → text ≡ 32 ∷ (word ++ rest)
     → lacks 32 word ≡ true → IsRest rest → (IsVerb binds more word → ⊥)
     → r ≡ told_here (expected.Call binds more) → TellsFault call_after (IsCall binds more) text r
 other_call binds more text word rest r parts lack is none e =
@@ -112,7 +112,7 @@ call_args_after binds more word verb ks lack named kinds call fits after is e =
     let same : call.verb ≡ verb = verb_is call.verb verb (p.0 ∙ named) in
     (call.args, subst (λ (l : List ArgKind). AreArgs l call.args) (ap kinds_of same ∙ sym kinds) fits.0, p.1)
 
-pub next_call : (binds more : Bool) (text word rest : List ℕ) (verb : Verb) (ks : List ArgKind) (is_so : Bool) (found r : Option Fault) → text ≡ 32 ∷ (word ++ rest)
+pub next_call : (binds more : Bool) (text word rest : List ℕ) (verb : Verb) (ks : List ArgKind) (is_so : Bool) (found r : Option LineFault) → text ≡ 32 ∷ (word ++ rest)
     → lacks 32 word ≡ true → IsRest rest → word ≡ name_of verb → is_so ≡ suits binds more verb → is_so ≡ true → ks ≡ kinds_of verb
     → TellsFault further_text (AreArgs ks) rest found
     → r ≡ further (1 + length word) found → TellsFault call_after (IsCall binds more) text r
@@ -129,7 +129,7 @@ next_call binds more text word rest verb ks is_so found r parts lack spaced name
     rw e (stops_after (32 ∷ word) rest text (1 + length word) further_text (AreArgs ks) call_after (IsCall binds more) on (omega arith) spaced parts
     (omega arith) found told)
 
-pub missing_worker : (text : List ℕ) (r : Option Fault) → ((rest : List ℕ) → text ≡ 32 ∷ rest → ⊥)
+pub missing_worker : (text : List ℕ) (r : Option LineFault) → ((rest : List ℕ) → text ≡ 32 ∷ rest → ⊥)
     → r ≡ told_here expected.Worker → TellsFault making_after IsMaking text r
 missing_worker text r none is =
     rw is (stops_here making_after IsMaking text expected.Worker makings_go_on makings_follow (no_word expected.Worker text refl none))
@@ -138,7 +138,7 @@ no_worker : (word : List ℕ) → ((more : Bool) → IsWorker more word → ⊥)
 no_worker word none (inl is) = none false is
 no_worker word none (inr is) = none true is
 
-pub other_worker : (text word rest : List ℕ) (r : Option Fault) → text ≡ 32 ∷ (word ++ rest)
+pub other_worker : (text word rest : List ℕ) (r : Option LineFault) → text ≡ 32 ∷ (word ++ rest)
     → lacks 32 word ≡ true → IsRest rest → ((more : Bool) → IsWorker more word → ⊥)
     → r ≡ told_here expected.Worker → TellsFault making_after IsMaking text r
 other_worker text word rest r parts lack is none e =
@@ -162,7 +162,7 @@ making_call_after more word lack is said fits after then e =
     let goes : (not more || writes said.2.verb) ≡ true = subst (λ (m : Bool). (not m || writes said.2.verb) ≡ true) p.0 fits.0.2 in
     (said.2, (fits.0.1, rw (fits.1, goes) refl), p.1)
 
-pub next_worker : (more : Bool) (text word rest : List ℕ) (found r : Option Fault) → text ≡ 32 ∷ (word ++ rest) → lacks 32 word ≡ true → IsRest rest
+pub next_worker : (more : Bool) (text word rest : List ℕ) (found r : Option LineFault) → text ≡ 32 ∷ (word ++ rest) → lacks 32 word ≡ true → IsRest rest
     → IsWorker more word → TellsFault call_after (IsCall true more) rest found
     → r ≡ further (1 + length word) found → TellsFault making_after IsMaking text r
 next_worker more text word rest found r parts lack spaced is told e =
@@ -181,19 +181,19 @@ next_worker more text word rest found r parts lack spaced is told e =
     rw e (stops_after (32 ∷ word) rest text (1 + length word) call_after (IsCall true more) making_after IsMaking on (omega arith) spaced parts (omega arith)
     found told)
 
-pub missing_equals : (text : List ℕ) (r : Option Fault) → ((rest : List ℕ) → text ≡ 32 ∷ rest → ⊥)
+pub missing_equals : (text : List ℕ) (r : Option LineFault) → ((rest : List ℕ) → text ≡ 32 ∷ rest → ⊥)
     → r ≡ told_here expected.Equals → TellsFault bound_after IsMaking text r
 missing_equals text r none is =
     rw is (stops_here bound_after IsMaking text expected.Equals bounds_go_on bounds_follow (no_word expected.Equals text refl none))
 
-pub other_equals : (text word rest : List ℕ) (r : Option Fault) → text ≡ 32 ∷ (word ++ rest)
+pub other_equals : (text word rest : List ℕ) (r : Option LineFault) → text ≡ 32 ∷ (word ++ rest)
     → lacks 32 word ≡ true → IsRest rest → (word ≡ codes "=" → ⊥)
     → r ≡ told_here expected.Equals → TellsFault bound_after IsMaking text r
 other_equals text word rest r parts lack is none e =
     rw e (stops_here bound_after IsMaking text expected.Equals bounds_go_on bounds_follow
     (other_word expected.Equals text word rest parts lack is none))
 
-pub next_equals : (text word rest : List ℕ) (found r : Option Fault) → text ≡ 32 ∷ (word ++ rest) → IsRest rest → word ≡ codes "="
+pub next_equals : (text word rest : List ℕ) (found r : Option LineFault) → text ≡ 32 ∷ (word ++ rest) → IsRest rest → word ≡ codes "="
     → TellsFault making_after IsMaking rest found → r ≡ further 2 found → TellsFault bound_after IsMaking text r
 next_equals text word rest found r parts spaced is told e =
     let on : Continues (codes " =") making_after IsMaking bound_after IsMaking = record {
@@ -245,7 +245,7 @@ break_after (Said (Some name) worker more call) is after then e =
     (sym (append_assoc name (codes " = ") (said_text (worker, more, call))) ∙ e))
 
 -- a line that parts phases
-pub next_break : (line word rest : List ℕ) (found r : Option Fault) → line ≡ word ++ rest → IsRest rest → word ≡ codes "--"
+pub next_break : (line word rest : List ℕ) (found r : Option LineFault) → line ≡ word ++ rest → IsRest rest → word ≡ codes "--"
     → TellsFault further_text (AreArgs []) rest found → r ≡ further 2 found → TellsFault written_text IsWritten line r
 next_break line word rest found r parts spaced is told e =
     let on : Continues (codes "--") further_text (AreArgs []) written_text IsWritten = record {
@@ -273,7 +273,7 @@ saying_call_after more word lack w (Said (Some name) worker goes_on call) is aft
     absurd (no_worker_name name w.0 more is.0 (p.0 ∙ w.2))
 
 -- a line that binds no name
-pub next_saying : (more : Bool) (line word rest : List ℕ) (found r : Option Fault) → line ≡ word ++ rest → lacks 32 word ≡ true → IsRest rest
+pub next_saying : (more : Bool) (line word rest : List ℕ) (found r : Option LineFault) → line ≡ word ++ rest → lacks 32 word ≡ true → IsRest rest
     → IsWorker more word
     → TellsFault call_after (IsCall false more) rest found → r ≡ further (length word) found → TellsFault written_text IsWritten line r
 next_saying more line word rest found r parts lack spaced is told e =
@@ -304,7 +304,7 @@ bound_saying_after word lack name_is (Said (Some name) worker goes_on call) is a
     ((worker, goes_on, call), (is.1, is.2), p.1)
 
 -- a line that binds one
-pub next_bound : (line word rest : List ℕ) (found r : Option Fault) → line ≡ word ++ rest → lacks 32 word ≡ true → IsRest rest → IsName word
+pub next_bound : (line word rest : List ℕ) (found r : Option LineFault) → line ≡ word ++ rest → lacks 32 word ≡ true → IsRest rest → IsName word
     → TellsFault bound_after IsMaking rest found → r ≡ further (length word) found → TellsFault written_text IsWritten line r
 next_bound line word rest found r parts lack spaced is told e =
     let on : Continues word bound_after IsMaking written_text IsWritten = record {
@@ -325,7 +325,7 @@ no_beginning word dash name worker (inr (inr (inl is))) = worker false is
 no_beginning word dash name worker (inr (inr (inr is))) = worker true is
 
 -- a line that begins with another word
-pub other_line : (line word rest : List ℕ) (r : Option Fault) → line ≡ word ++ rest → lacks 32 word ≡ true → IsRest rest
+pub other_line : (line word rest : List ℕ) (r : Option LineFault) → line ≡ word ++ rest → lacks 32 word ≡ true → IsRest rest
     → (word ≡ codes "--" → ⊥) → (IsName word → ⊥) → ((more : Bool) → IsWorker more word → ⊥)
     → r ≡ told_here expected.Beginning → TellsFault written_text IsWritten line r
 other_line line word rest r parts lack is dash name worker e =

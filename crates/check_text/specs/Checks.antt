@@ -5,7 +5,7 @@ use Rattle.call_text.specs.Line.{written_text, IsWritten}
 use Rattle.call_text.specs.Script.{IsScript, ScriptFaultsAt}
 use Rattle.call_text.specs.declared.phases.Line.{Line}
 use Rattle.check_text.specs.Faults.{TellsFault}
-use Rattle.check_text.specs.declared.line_faults.expected.Fault.{Fault}
+use Rattle.check_text.specs.declared.line_faults.expected.LineFault.{LineFault}
 use Rattle.check_text.specs.Warnings.{warnings_of}
 use Rattle.check_text.specs.FaultTexts.{fault_text, reason_text}
 use Rattle.check_text.specs.Lines.{before_byte, after_byte}
@@ -25,13 +25,13 @@ pub record IsWarned (path numbers bytes told : List ℕ) : Type 0 where
   pub text : told ≡ warnings_text path numbers (warnings_of phases)
 
 -- what is told of a line after the first faulty one: where it is not well formed, or nothing
-abbrev pub later_text : List ℕ → List ℕ → ℕ → List ℕ → Option Fault → List ℕ
+abbrev pub later_text : List ℕ → List ℕ → ℕ → List ℕ → Option LineFault → List ℕ
 later_text path numbers number line None = []
 later_text path numbers number line (Some fault) = fault_text path numbers number line (Malformed fault)
 
 abbrev pub IsToldLater : List ℕ → List ℕ → ℕ → List ℕ → List ℕ → Type 0
 IsToldLater path numbers number line told =
-    (found : Option Fault) × TellsFault written_text IsWritten line found
+    (found : Option LineFault) × TellsFault written_text IsWritten line found
     × (told ≡ later_text path numbers number line found)
 
 -- the same of the lines of a text, at most so many, of which the first has this number

@@ -4,7 +4,7 @@ use Rattle.text_words.specs.declared.spoken_calls.args.ArgKind.{ArgKind}
 use Rattle.text_words.specs.declared.spoken_calls.args.ArgKind.TheVariants as kinds
 use Rattle.check_text.specs.declared.line_faults.expected.Expected.{Expected}
 use Rattle.check_text.specs.declared.line_faults.expected.Expected.TheVariants as expected
-use Rattle.check_text.specs.declared.line_faults.expected.Fault.{Fault}
+use Rattle.check_text.specs.declared.line_faults.expected.LineFault.{LineFault}
 use Rattle.check_text.specs.Hints.{hint}
 use Rattle.check_text.specs.Lines.{before_byte}
 use Rattle.check_text.specs.Places.{place_text}
@@ -69,7 +69,7 @@ IsWithin line (Malformed fault) = fault.before ≤ length line
 IsWithin line _ = Unit {0}
 
 -- what is expected in a line, what was found, and what that suggests
-abbrev pub malformed_text : List ℕ → Fault → List ℕ
+abbrev pub malformed_text : List ℕ → LineFault → List ℕ
 malformed_text line fault =
     codes "expected "
     ++ (expected_text fault.expected

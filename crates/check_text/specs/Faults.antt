@@ -11,7 +11,7 @@ use Rattle.text_words.specs.Verb.{name_of, makes, writes}
 use Rattle.call_text.specs.Line.{Saying, mark, said_text, IsSaid}
 use Rattle.check_text.specs.declared.line_faults.expected.Expected.{Expected}
 use Rattle.check_text.specs.declared.line_faults.expected.Expected.TheVariants as expected
-use Rattle.check_text.specs.declared.line_faults.expected.Fault.{Fault}
+use Rattle.check_text.specs.declared.line_faults.expected.LineFault.{LineFault}
 
 -- whether a call may stand where a name is bound or not, and its batch goes on or not
 abbrev pub suits : Bool → Bool → Verb → Bool
@@ -72,7 +72,7 @@ AllFollow e Follows = (word : List ℕ) → IsExpected e word
 
 -- In well-formed texts the words before the place are followed by just what is expected. In these bytes they are not.
 pub record StopsAt {V : Type 0} (text : V → List ℕ) (Fits : V → Type 0) (bytes : List ℕ)
-    (f : Fault) : Type 0 where
+    (f : LineFault) : Type 0 where
   pub within : f.before ≤ length bytes
   pub ends : EndsWord (take f.before bytes) (drop f.before bytes)
   pub follows : (more : List ℕ) → MayFollow text Fits (take f.before bytes) more → GoesOn f.expected more
@@ -80,12 +80,12 @@ pub record StopsAt {V : Type 0} (text : V → List ℕ) (Fits : V → Type 0) (b
   pub stops : GoesOn f.expected (drop f.before bytes) → ⊥
 
 -- the bytes are a well-formed text, or they stop being the beginning of one
-abbrev pub TellsFault : {V : Type 0} → (V → List ℕ) → (V → Type 0) → List ℕ → Option Fault → Type 0
+abbrev pub TellsFault : {V : Type 0} → (V → List ℕ) → (V → Type 0) → List ℕ → Option LineFault → Type 0
 TellsFault {V} text Fits bytes None = (whole : V) × Fits whole × (bytes ≡ text whole)
 TellsFault text Fits bytes (Some f) = StopsAt text Fits bytes f
 
 -- the fault of what stands after so many bytes, as one of the whole
-abbrev pub further : ℕ → Option Fault → Option Fault
+abbrev pub further : ℕ → Option LineFault → Option LineFault
 further bytes None = None
 further bytes (Some f) = Some (record { before = bytes + f.before; expected = f.expected })
 

@@ -5,7 +5,7 @@ ghost use Rattle.check_text.specs.FaultTexts.{beginning, IsWithin, malformed_tex
 ghost use Rattle.check_text.specs.FaultTexts.{standing_words};
 
 use crate::hints::put_hint;
-use crate::line_faults::{Expected, Fault};
+use crate::line_faults::{Expected, LineFault};
 use crate::lines::cut;
 use crate::places::{Source, put_place};
 use crate::reasons::Reason;
@@ -131,7 +131,7 @@ fn put_malformed(
     alloc: Global,
     out: &mut Vec<u8>,
     line: &[u8],
-    fault: &Fault,
+    fault: &LineFault,
 ) -> Result<(), NoMemory>
     requires { fault.now.before ≤ length line.now }
     ensures { OnOk result (out.new.items ≡ out.old.items ++ malformed_text line.now fault.now) }

@@ -9,6 +9,6 @@ mod lines;
 mod verbs;
 mod words;
 
-pub use expected::{Expected, Fault};
+pub use expected::{Expected, LineFault};
 pub use lines::{fault_in, longest_beginning};
 pub use verbs::{all_verbs, suits};

@@ -4,7 +4,7 @@ ghost use Rattle.call_text.specs.Script.{is_bound, known_names};
 ghost use Rattle.check_text.specs.Lines.{binding};
 ghost use Rattle.check_text.specs.Reasons.{name_reason, numbered, reason_of, IsReason};
 
-use crate::line_faults::{Fault, fault_in};
+use crate::line_faults::{LineFault, fault_in};
 use crate::lines::{after_lines, binding, binding_line, cut};
 use call_text::plain_scripts::number_at;
 use std::alloc::{AllocError, Global};
@@ -20,7 +20,7 @@ const LONGEST: usize = 4096;
 #[derive(Clone, Copy, PartialEq, Eq)]
 pub enum Reason {
     /// It isn't well formed.
-    Malformed(Fault),
+    Malformed(LineFault),
     /// No LF ends it.
     NoEnd,
     /// It is too long.

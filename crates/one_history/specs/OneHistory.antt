@@ -17,7 +17,7 @@ use Rattle.kernel_rules.specs.declared.replies.Reply.{Reply}
 use Rattle.arena_state.specs.Kept.{AreStored}
 use Rattle.published_copy.specs.Turns.{Turn, turn, TellsBatch, with_event}
 use Rattle.published_copy.specs.declared.receipts.BatchReceipt.{BatchReceipt}
-use Rattle.one_history.specs.declared.kept.Kept.{Kept}
+use Rattle.one_history.specs.declared.kept.KeptParts.{KeptParts}
 use Rattle.one_history.specs.declared.kept.Looked.{Looked}
 
 -- how the labels of two indexes compare, if both have one
@@ -26,14 +26,14 @@ compared one other = option_and_then (λ l. option_map (λ m. bits_of l m) other
 
 -- The labels are those of two indexes, of which each label that the state stores has one, and no other label has any; how they
 -- compare is what recomputation gives.
-abbrev pub IsDecided : State → Looked → Kept → Type 0
+abbrev pub IsDecided : State → Looked → KeptParts → Type 0
 IsDecided s looked kept =
     (labels : ℕ → Option LabelValue) × AreStored s labels
     × (kept.one ≡ labels looked.one.0) × (kept.other ≡ labels looked.other.0)
     × (option_map (λ o. o.0) kept.order ≡ compared kept.one kept.other)
 
 -- what is kept is what recomputation gives in the state
-abbrev pub IsRecomputed : State → Looked → Kept → Type 0
+abbrev pub IsRecomputed : State → Looked → KeptParts → Type 0
 IsRecomputed s looked kept =
     (kept.live ≡ slice_get (ids_of s.objects) looked.place)
     × (kept.used ≡ option_map (λ _. use_of s looked.object) (object_at s looked.object))
@@ -59,7 +59,7 @@ IsAnswered limits earlier thread query reply list =
 -- The journal is the one history. It is legal. It begins with all that the reader has seen, which begins with all that the
 -- writer was told, and ends there with the writer's calls. The receipt is theirs, and the reply is the rules' answer in the
 -- state of what the reader has seen. What is kept is what recomputation gives in the journal's state.
-abbrev pub IsOneHistory : Limits → ℕ → List Call → ℕ → Query → Looked → BatchReceipt → Reply → Kept → Type 0
+abbrev pub IsOneHistory : Limits → ℕ → List Call → ℕ → Query → Looked → BatchReceipt → Reply → KeptParts → Type 0
 IsOneHistory limits writer calls reader query looked receipt reply kept =
     (journal seen called : List Event) × IsLegal limits journal × IsPrefix seen journal
     × IsCalled limits writer calls receipt called

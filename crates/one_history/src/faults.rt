@@ -4,7 +4,7 @@ use thiserror::Error;
 
 /// Why nothing is told.
 #[derive(Clone, Copy, PartialEq, Eq, Debug, Error)]
-pub enum Fault {
+pub enum RoundFault {
     /// A thread was given no seat.
     #[error("a seat was refused")]
     Seat(#[from] SeatRefusal),

@@ -24,7 +24,7 @@ pub struct Looked {
 
 /// What a kernel keeps: a live id, what an object uses, what a slot of a thread's address space shows, and how two labels compare.
 #[derive(Clone, Copy)]
-pub struct Kept {
+pub struct KeptParts {
     /// The live id at a place among all of them.
     pub live: Option<ObjectId>,
     /// The pages that an object uses, where it is live.
@@ -40,11 +40,11 @@ pub struct Kept {
 }
 
 /// What a kernel keeps of what is looked at.
-pub fn kept_of(kernel: &Kernel, looked: &Looked, meter: &mut Meter) -> Kept
+pub fn kept_of(kernel: &Kernel, looked: &Looked, meter: &mut Meter) -> KeptParts
     ensures { IsRecomputed (kernel_state kernel.now) looked.now result }
 {
     kernel.labels_are_kept();
-    Kept {
+    KeptParts {
         live: kernel.kept_live(looked.place, meter),
         used: kernel.kept_use(looked.object, meter),
         shown: kernel.kept_translation(looked.object, looked.slot, meter),

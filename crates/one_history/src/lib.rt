@@ -9,6 +9,6 @@ mod faults;
 mod kept;
 mod told;
 
-pub use faults::Fault;
-pub use kept::{Kept, Looked, kept_of};
-pub use told::{Asked, Told, told_by};
+pub use faults::RoundFault;
+pub use kept::{KeptParts, Looked, kept_of};
+pub use told::{Round, RoundAnswers, told_by};

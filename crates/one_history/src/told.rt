@@ -3,8 +3,8 @@ ghost use Rattle.std.specs.Prelude.{◌≡◌, IfOk};
 ghost use mathlib.Core.List.{IsPrefix};
 ghost use Rattle.one_history.specs.OneHistory.{IsAnswered, IsCalled, IsOneHistory};
 
-use crate::faults::Fault;
-use crate::kept::{Kept, Looked, kept_of};
+use crate::faults::RoundFault;
+use crate::kept::{KeptParts, Looked, kept_of};
 use base::{Meter, ObjectId};
 use kernel_rules::{Call, Query, Reply};
 use published_copy::{BatchReceipt, Naming, Note, Pass, Shared};
@@ -13,7 +13,7 @@ use std::sync::Wait;
 /// What is asked: a batch of calls of one thread, then a query of another, then what is looked at. Neither thread has a seat or
 /// an event.
 #[derive(Clone, Copy)]
-pub struct Asked<'a> {
+pub struct Round<'a> {
     /// The thread that calls.
     pub writer: ObjectId,
     /// Its calls, 1 to 16.
@@ -28,13 +28,13 @@ pub struct Asked<'a> {
 
 /// What is told.
 #[derive(Drop)]
-pub struct Told {
+pub struct RoundAnswers {
     /// What the calls were answered, and where their event stands.
     pub receipt: BatchReceipt,
     /// What the query was answered.
     pub reply: Reply,
     /// What the book's kernel keeps.
-    pub kept: Kept,
+    pub kept: KeptParts,
 }
 
 /// A thread's first batch, through a seat, and the note of it.
@@ -43,7 +43,7 @@ fn called<B: Naming, R: Wait>(
     shared: &Shared<B>,
     thread: ObjectId,
     calls: &[Call],
-) -> Result<(BatchReceipt, Note<B>), Fault>
+) -> Result<(BatchReceipt, Note<B>), RoundFault>
     ensures { IfOk result (λ told. IsCalled B.boot.limits thread calls.now told.0 told.1) }
 {
     let mut seat = shared.open_seat(rt, thread)?;
@@ -58,7 +58,7 @@ fn answered<B: Naming, R: Wait>(
     note: &Note<B>,
     thread: ObjectId,
     query: &Query,
-) -> Result<(Reply, Pass<B>), Fault>
+) -> Result<(Reply, Pass<B>), RoundFault>
     ensures { IfOk result (λ told. IsAnswered B.boot.limits note.now thread query.now told.0 told.1.seen) }
 {
     let mut seat = shared.open_seat(rt, thread)?;
@@ -73,9 +73,9 @@ fn answered<B: Naming, R: Wait>(
 pub fn told_by<B: Naming, R: Wait>(
     rt: &R,
     shared: &Shared<B>,
-    asked: &Asked<'_>,
+    asked: &Round<'_>,
     meter: &mut Meter,
-) -> Result<Told, Fault>
+) -> Result<RoundAnswers, RoundFault>
     ensures { IfOk result (λ told. IsOneHistory B.boot.limits asked.now.writer asked.now.calls.now asked.now.reader
         asked.now.query.now asked.now.looked.now told.receipt told.reply told.kept) }
 {
@@ -83,12 +83,12 @@ pub fn told_by<B: Naming, R: Wait>(
     let (reply, pass) = answered(rt, shared, &note, asked.reader, asked.query)?;
     let book = shared.book(rt);
     if !book.has_seen(&pass) {
-        return Err(Fault::Behind);
+        return Err(RoundFault::Behind);
     }
     // For the proof alone: the journal is legal.
     let _legal = book.events().len();
     let kept = kept_of(book.kernel(), asked.looked, meter);
-    Ok(Told {
+    Ok(RoundAnswers {
         receipt,
         reply,
         kept,

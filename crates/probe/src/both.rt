@@ -18,7 +18,7 @@ use test_structures::samples::are_equal;
 
 /// What is told of a script.
 #[derive(Clone, Copy)]
-enum Told {
+enum Outcome {
     /// Both machines answer and keep the same.
     Same,
     /// The first line that they answer otherwise, by its number.
@@ -40,16 +40,16 @@ fn script_of<I: Read>(alloc: Global, input: &mut I) -> Result<Script, Fault> {
     }
 }
 
-fn told_of(alloc: Global, played: &Played, replies: &Replies) -> Result<Told, NoMemory> {
+fn told_of(alloc: Global, played: &Played, replies: &Replies) -> Result<Outcome, NoMemory> {
     if let Some(number) = differing_step(alloc, played, replies)? {
-        return Ok(Told::Differs(number));
+        return Ok(Outcome::Differs(number));
     }
     if !are_equal(&played.tables, &replies.tables) {
-        Ok(Told::OtherTables)
+        Ok(Outcome::OtherTables)
     } else if !replies.keeps_rows {
-        Ok(Told::OtherRows)
+        Ok(Outcome::OtherRows)
     } else {
-        Ok(Told::Same)
+        Ok(Outcome::Same)
     }
 }
 
@@ -59,13 +59,13 @@ fn told_every(
     played: &Played,
     limits: &Limits,
     every: Option<u64>,
-) -> Result<Told, NoMemory> {
+) -> Result<Outcome, NoMemory> {
     let Some(every) = every else {
-        return Ok(Told::Same);
+        return Ok(Outcome::Same);
     };
     match parted(alloc, limits, played.steps.as_slice(), every)? {
-        None => Ok(Told::Same),
-        Some(number) => Ok(Told::Parted(number)),
+        None => Ok(Outcome::Same),
+        Some(number) => Ok(Outcome::Parted(number)),
     }
 }
 
@@ -76,7 +76,7 @@ fn compare<I: Read>(
     input: &mut I,
     limits: &Limits,
     every: Option<u64>,
-) -> Result<Told, Fault> {
+) -> Result<Outcome, Fault> {
     let script = script_of(alloc, input)?;
     let played = play(alloc, &script, limits)?;
     let replies = asked_again(rt, alloc, played.steps.as_slice(), limits)?;
@@ -85,20 +85,20 @@ fn compare<I: Read>(
         return Err(Fault::Output);
     }
     let told = match told_of(alloc, &played, &replies)? {
-        Told::Same => told_every(alloc, &played, limits, every)?,
+        Outcome::Same => told_every(alloc, &played, limits, every)?,
         told => told,
     };
     Ok(told)
 }
 
 /// Says whether the plain machine answers the same, and if not, what differs first.
-fn say(rt: &HostRuntime, told: Told) -> Result<(), Fault> {
+fn say(rt: &HostRuntime, told: Outcome) -> Result<(), Fault> {
     let said = match told {
-        Told::Same => println!(rt; "same"),
-        Told::Differs(line) => println!(rt; "line {line} differs"),
-        Told::OtherTables => println!(rt; "the tables differ"),
-        Told::OtherRows => println!(rt; "the kept rows differ"),
-        Told::Parted(line) => println!(rt; "after line {line} they keep something else"),
+        Outcome::Same => println!(rt; "same"),
+        Outcome::Differs(line) => println!(rt; "line {line} differs"),
+        Outcome::OtherTables => println!(rt; "the tables differ"),
+        Outcome::OtherRows => println!(rt; "the kept rows differ"),
+        Outcome::Parted(line) => println!(rt; "after line {line} they keep something else"),
     };
     match said {
         Ok(()) => Ok(()),
@@ -114,7 +114,7 @@ pub fn ended<I: Read>(rt: &HostRuntime, input: &mut I, limits: &Limits, every: O
         Err(fault) => return fault.tell(crate::NAME, &mut rt.stderr()),
     };
     match (say(rt, told), told) {
-        (Ok(()), Told::Same) => 0,
+        (Ok(()), Outcome::Same) => 0,
         (Ok(()), _) => 1,
         (Err(fault), _) => fault.tell(crate::NAME, &mut rt.stderr()),
     }

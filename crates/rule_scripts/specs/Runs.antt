@@ -10,7 +10,7 @@ use Rattle.text_words.specs.declared.spoken_calls.verbs.Verb.{Verb}
 use Rattle.text_words.specs.declared.spoken_calls.verbs.Verb.TheVariants as verbs
 use Rattle.call_text.specs.declared.phases.Line.{Line}
 use Rattle.script_rules.specs.Run.{run}
-use Rattle.script_rules.specs.Lines.{Told, told}
+use Rattle.script_rules.specs.Lines.{AnsweredLine, told}
 use Rattle.base.specs.declared.refusals.Refusal.TheVariants.{CannotObserve, NoThread}
 use Rattle.kernel_rules.specs.declared.replies.Reply.{Reply}
 use Rattle.kernel_rules.specs.declared.replies.Reply.TheVariants as reply
@@ -42,11 +42,11 @@ with_one name level default =
     args.Label (record { pairs = record { category = Name name; level = level } ∷ []; default = default })
 
 -- a line of a worker is told a reply
-abbrev pub tells : ℕ → List ℕ → Reply → List ℕ × Told
+abbrev pub tells : ℕ → List ℕ → Reply → List ℕ × AnsweredLine
 tells number worker r = (worker, told number (Ok r))
 
 -- or a name that is not known
-abbrev pub lacks : ℕ → List ℕ → List ℕ → List ℕ × Told
+abbrev pub lacks : ℕ → List ℕ → List ℕ → List ℕ × AnsweredLine
 lacks number worker name = (worker, told number (Err name))
 
 -- c = boot: cat_create · s = boot: segment_create root {c:3,1} 2 1 · boot: segment_write root s 0 6162

@@ -11,13 +11,13 @@ use Rattle.call_text.specs.declared.asking.Asked.{Asked}
 use Rattle.call_text.specs.declared.asking.Asked.TheVariants.{Read, Write}
 use Rattle.call_text.specs.declared.phases.Line.{Line}
 use Rattle.script_rules.specs.Asking.{with_calls}
-use Rattle.script_rules.specs.Lines.{Told, Seen, Stand, Waiting, told, seen, with_read, tell, tell_waiting, tell_all, answer_in, state_in, calls_of, asked, are_batch, refuse_all, make, wait, unseated, line_by, lines_by}
+use Rattle.script_rules.specs.Lines.{AnsweredLine, Seen, Stand, Waiting, told, seen, with_read, tell, tell_waiting, tell_all, answer_in, state_in, calls_of, asked, are_batch, refuse_all, make, wait, unseated, line_by, lines_by}
 
 -- where a worker stands, with what was told and read before
-abbrev pub onto : List Told → List Seen → Stand → Stand
+abbrev pub onto : List AnsweredLine → List Seen → Stand → Stand
 onto before read p = record p { told = before ++ p.told; reads = read ++ p.reads }
 
-module _ (before : List Told) (read : List Seen) where
+module _ (before : List AnsweredLine) (read : List Seen) where
   tell_on : (p : Stand) (number : ℕ) (binds : Option (List ℕ)) (answer : Result Reply (List ℕ))
       → tell (onto before read p) number binds answer ≡ onto before read (tell p number binds answer)
   tell_on p number binds answer =

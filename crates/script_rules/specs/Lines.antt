@@ -21,7 +21,7 @@ use Rattle.script_rules.specs.Asking.{reply_to, state_after, with_calls}
 use Rattle.script_rules.specs.Names.{names_after}
 
 -- a line's number, with a reply or the name that is not known
-pub record Told : Type 0 where
+pub record AnsweredLine : Type 0 where
   pub number : ℕ
   pub answer : Result Reply (List ℕ)
 
@@ -42,10 +42,10 @@ pub record Stand : Type 0 where
   pub events : List Event
   pub names : List Named
   pub waiting : List Waiting
-  pub told : List Told
+  pub told : List AnsweredLine
   pub reads : List Seen
 
-abbrev pub told : ℕ → Result Reply (List ℕ) → Told
+abbrev pub told : ℕ → Result Reply (List ℕ) → AnsweredLine
 told number answer = record { number = number; answer = answer }
 
 abbrev pub seen : ℕ → Query → Reply → Seen

@@ -6,7 +6,7 @@ use Rattle.text_words.specs.Name.{name_text}
 use Rattle.call_text.specs.declared.known_names.Named.{Named}
 use Rattle.call_text.specs.declared.phases.Line.{Line}
 use Rattle.call_text.specs.Reply.{reply_text}
-use Rattle.script_rules.specs.Lines.{Told, Seen}
+use Rattle.script_rules.specs.Lines.{AnsweredLine, Seen}
 use Rattle.script_rules.specs.Run.{Run}
 use Rattle.script_rules.specs.Workers.{lines_in, workers_of}
 
@@ -25,11 +25,11 @@ line_text worker number answer =
     name_text worker ++ 32 ∷ (decimal number ++ (codes ": " ++ (answer ++ 10 ∷ [])))
 
 -- the line of what a worker was told
-abbrev pub told_text : List Named → List ℕ → Told → List ℕ
+abbrev pub told_text : List Named → List ℕ → AnsweredLine → List ℕ
 told_text names worker t = line_text worker t.number (answer_text names t.answer)
 
 -- the lines of all that it was told
-abbrev pub worker_text : List Named → List (List ℕ × Told) → List ℕ → List ℕ
+abbrev pub worker_text : List Named → List (List ℕ × AnsweredLine) → List ℕ → List ℕ
 worker_text names told worker = flat_map (told_text names worker) (own worker told)
 
 -- the lines of workers, with the names as they are known at the end

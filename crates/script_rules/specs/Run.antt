@@ -15,7 +15,7 @@ use Rattle.call_text.specs.declared.known_names.Named.{Named}
 use Rattle.call_text.specs.declared.known_names.Value.{Value}
 use Rattle.call_text.specs.declared.known_names.Value.TheVariants.{Object, Category}
 use Rattle.call_text.specs.declared.phases.Line.{Line}
-use Rattle.script_rules.specs.Lines.{Told, Seen, Stand, lines_by}
+use Rattle.script_rules.specs.Lines.{AnsweredLine, Seen, Stand, lines_by}
 use Rattle.script_rules.specs.Workers.{lines_in, workers_of}
 
 -- a run so far: each worker that has a seat with its thread, the events, the names that are known, and what each line was
@@ -24,7 +24,7 @@ pub record Run : Type 0 where
   pub seats : List (List ℕ × ℕ)
   pub events : List Event
   pub names : List Named
-  pub told : List (List ℕ × Told)
+  pub told : List (List ℕ × AnsweredLine)
   pub reads : List (List ℕ × Seen)
 
 -- before the first line

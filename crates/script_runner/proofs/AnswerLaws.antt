@@ -7,8 +7,8 @@ use Rattle.kernel_rules.specs.declared.replies.Reply.{Reply}
 use Rattle.kernel_rules.specs.declared.replies.Reply.TheVariants as replies
 use Rattle.script_rules.specs.Lines.{told, seen}
 use Rattle.script_runner.specs.Answers.{answer_of, reply_of, told_in, seen_in, AllStay, IsThere, Keeps}
-use Rattle.script_runner.specs.declared.answers.Answer.{Answer}
-use Rattle.script_runner.specs.declared.answers.Answer.TheVariants as kept
+use Rattle.script_runner.specs.declared.answers.KeptAnswer.{KeptAnswer}
+use Rattle.script_runner.specs.declared.answers.KeptAnswer.TheVariants as kept
 use Rattle.script_runner.specs.declared.answers.AskedQuery.{AskedQuery}
 use Rattle.script_runner.specs.declared.answers.ToldLine.{ToldLine}
 
@@ -63,7 +63,7 @@ reply_kept bytes whole after x place at is =
     let last = at_end whole x replies.Done in
     subst (λ (z : List Reply × ℕ). Keeps bytes z.0 x (kept.Replied z.1)) (λ i. (sym is i, sym at i)) (last.0, ap Ok last.1, last.1)
 
-answer_stays : (bytes more : List (List ℕ)) (whole all : List Reply) (answer : Answer)
+answer_stays : (bytes more : List (List ℕ)) (whole all : List Reply) (answer : KeptAnswer)
     → reply_of more all answer ≡ reply_of bytes whole answer → answer_of more all answer ≡ answer_of bytes whole answer
 answer_stays bytes more whole all kept.Done e = refl
 answer_stays bytes more whole all (kept.Made value) e = refl

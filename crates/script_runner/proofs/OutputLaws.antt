@@ -7,7 +7,7 @@ use Rattle.text_words.specs.Name.{name_text}
 use Rattle.call_text.specs.declared.known_names.Named.{Named}
 use Rattle.script_runner.proofs.NumberLaws.{take_next}
 use Rattle.script_runner.proofs.TurnLaws.{drop_next}
-use Rattle.script_rules.specs.Lines.{Told}
+use Rattle.script_rules.specs.Lines.{AnsweredLine}
 use Rattle.script_rules.specs.Output.{answer_text, line_text, told_text, worker_text}
 use Rattle.script_rules.specs.Run.{Run}
 use Rattle.script_runner.specs.Shared.{left_text}
@@ -23,8 +23,8 @@ told_is worker answer old a b c d e new number a_is b_is c_is d_is e_is is =
     ∙ simp append_assoc
 
 -- and that of a line which was told so
-pub told_line_is : (told : Option Told) (names : List Named) (worker old a b c d e new : List ℕ) (number : ℕ)
-    → option_map (λ (t : Told). t.number) told ≡ Some number → a ≡ old ++ name_text worker
+pub told_line_is : (told : Option AnsweredLine) (names : List Named) (worker old a b c d e new : List ℕ) (number : ℕ)
+    → option_map (λ (t : AnsweredLine). t.number) told ≡ Some number → a ≡ old ++ name_text worker
     → b ≡ a ++ 32 ∷ [] → c ≡ b ++ decimal number → d ≡ c ++ codes ": " → IfSome told (λ t. e ≡ d ++ answer_text names t.answer)
     → new ≡ e ++ 10 ∷ [] → IfSome told (λ t. new ≡ old ++ told_text names worker t)
 told_line_is None names worker old a b c d e new number numbered a_is b_is c_is d_is e_is is = tt
@@ -42,16 +42,16 @@ texts_more text xs k x old now new there so_far is =
     ∙ sym (flat_map-append text (take k xs) (x ∷ [])) ∙ ap (flat_map text) (sym (take_next xs k x there)))
 
 -- the line of a worker more, as it was told
-pub own_line_more : (names : List Named) (worker : List ℕ) (told : List Told) (k : ℕ) (old now new : List ℕ) → k < length told
+pub own_line_more : (names : List Named) (worker : List ℕ) (told : List AnsweredLine) (k : ℕ) (old now new : List ℕ) → k < length told
     → now ≡ old ++ flat_map (told_text names worker) (take k told)
     → IfSome (slice_get told k) (λ t. new ≡ now ++ told_text names worker t)
     → new ≡ old ++ flat_map (told_text names worker) (take (k + 1) told)
 own_line_more names worker told k old now new within so_far put = at (slice_get told k) refl put
   where
-    none : Told
+    none : AnsweredLine
     none = get_or told k (record { number = 0; answer = Err [] })
 
-    at : (o : Option Told) → slice_get told k ≡ o → IfSome o (λ t. new ≡ now ++ told_text names worker t)
+    at : (o : Option AnsweredLine) → slice_get told k ≡ o → IfSome o (λ t. new ≡ now ++ told_text names worker t)
         → new ≡ old ++ flat_map (told_text names worker) (take (k + 1) told)
     at None there put = absurd (none-some none (sym there ∙ slice_get-get_or told k (record { number = 0; answer = Err [] }) within))
     at (Some t) there put = texts_more (told_text names worker) told k t old now new there so_far put

@@ -21,7 +21,7 @@ use Rattle.script_rules.specs.Run.{Run, phase_after, played_by, refusal_by, run_
 use Rattle.script_rules.specs.Workers.{lines_in, workers_of}
 use Rattle.script_rules.proofs.OwnLaws.{own_more, own_same}
 use Rattle.script_rules.proofs.StandLaws.{onto, lines_on}
-use Rattle.script_runner.specs.Answers.{Kept}
+use Rattle.script_runner.specs.Answers.{LineAnswers}
 use Rattle.script_runner.specs.Turns.{seated_after, stand, thread_after, AreOwn, IsOwn, IsRun, IsTurns, IsUnplayed}
 use Rattle.script_runner.specs.declared.answers.Left.{Left}
 use Rattle.script_runner.specs.declared.batches.Gathered.{Gathered}
@@ -71,7 +71,7 @@ module _ (limits : Limits) (r : Run) (w : List ℕ) (seat : Result ℕ (Option R
   run_then = played_by limits r w seat lines
 
   -- what lines leave after what the worker was told before
-  stands_then : (journal after : List Event) (names known : List Named) (g : List Gathered) (k new : Kept)
+  stands_then : (journal after : List Event) (names known : List Named) (g : List Gathered) (k new : LineAnswers)
       → journal ≡ r.events → names ≡ r.names → k.told ≡ own w r.told → k.reads ≡ own w r.reads
       → stand after known g new ≡ lines_by limits seat (stand journal names [] k) lines
       → stand after known g new ≡ onto (own w r.told) (own w r.reads) left_then

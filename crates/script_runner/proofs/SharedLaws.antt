@@ -38,8 +38,8 @@ use Rattle.script_rules.specs.Asking.{with_calls}
 use Rattle.script_rules.specs.Lines.{Stand, are_batch, asked, is_no_read, refuse_all, told}
 use Rattle.script_rules.specs.Output.{told_text}
 use Rattle.script_rules.specs.Run.{refusal_by, seat_for, seated, unless_refused}
-use Rattle.script_runner.specs.Answers.{Kept}
-use Rattle.script_runner.specs.Desks.{Place, events_in, place, seat_in, IsGiven, IsSubmitted}
+use Rattle.script_runner.specs.Answers.{LineAnswers}
+use Rattle.script_runner.specs.Desks.{SeatPlace, events_in, place, seat_in, IsGiven, IsSubmitted}
 use Rattle.script_runner.specs.Shared.{Post, unplayed, seeing, with_waiting, wait_among, made_after, line_among, thread_in, takes_part, object_in, posts_text, left_text, IsAfter, IsPlayed, IsSeated, Seats, Sits, Plays, Settles, IsPhase, ArePhases, AreLeft, AreSeen, HasSeen, IsAnswered, IsSharedBy}
 use Rattle.script_runner.specs.Turns.{idle, stand, waiting_for, waiting_in}
 use Rattle.script_runner.specs.Workers.{lines_of}
@@ -224,7 +224,7 @@ shared_by limits room script workers known left passes text journal events is be
     names = workers_stay limits room script start_values known (map unplayed workers) is.posts is.phases ∙ unplayed_names workers
 
 -- no call is no event
-pub none_submitted : (limits : Limits) (p : Place) (calls : List Call) (replies : List Reply) → calls ≡ [] → replies ≡ []
+pub none_submitted : (limits : Limits) (p : SeatPlace) (calls : List Call) (replies : List Reply) → calls ≡ [] → replies ≡ []
     → IsSubmitted limits (λ s. replies ≡ replies_to s (by p.thread calls)) p calls p
 none_submitted limits p calls replies none told = (
   p.events,
@@ -234,7 +234,7 @@ none_submitted limits p calls replies none told = (
 )
 
 -- a line of which a name is not known is told that
-pub asked_unbound : (limits : Limits) (thread : ℕ) (known : List Named) (events : List Event) (names : List Named) (k new : Kept)
+pub asked_unbound : (limits : Limits) (thread : ℕ) (known : List Named) (events : List Event) (names : List Named) (k new : LineAnswers)
     (line : Line) (name : List ℕ) → resolved line.call (names ++ known) ≡ Err name
     → new.told ≡ k.told ++ told line.number (Err name) ∷ [] → new.reads ≡ k.reads
     → IsAfter (made_after limits thread (wait_among known (stand events names [] k) line)) (stand events names [] k)
@@ -274,7 +274,7 @@ batch_made limits thread p q several are made =
 
 -- a line waits
 pub line_waits : (limits : Limits) (thread : ℕ) (known : List Named) (events : List Event) (names : List Named) (g more : List Gathered)
-    (k : Kept) (line : Line) → line.more ≡ true
+    (k : LineAnswers) (line : Line) → line.more ≡ true
     → map waiting_in more ≡ map waiting_in g ++ waiting_for line (names ++ known) ∷ []
     → IsAfter (line_among limits known (Ok thread) (stand events names g k) line) (stand events names g k) (stand events names more k)
 line_waits limits thread known events names g more k line is waits = (
@@ -319,7 +319,7 @@ if_ok (Ok x) follows h = follows h
 if_ok (Err e) follows h = h
 
 -- a worker by its name, its seat, its names and its answers
-abbrev pub post_of : List ℕ → Result Place (Option Refusal) → List Named → Kept → Post
+abbrev pub post_of : List ℕ → Result SeatPlace (Option Refusal) → List Named → LineAnswers → Post
 post_of worker seating names kept = record {
   worker = worker;
   seat = seat_in seating;
@@ -331,7 +331,7 @@ post_of worker seating names kept = record {
 
 -- the lines of a phase that were played are the worker's
 pub plays_ok : {T E : Type 0} (limits : Limits) (known : List Named) (phase : List Line) (r : Result T E) (worker : List ℕ)
-    (seating then_seating : Result Place (Option Refusal)) (own then_own : List Named) (k new : Kept) (g : List Gathered)
+    (seating then_seating : Result SeatPlace (Option Refusal)) (own then_own : List Named) (k new : LineAnswers) (g : List Gathered)
     → OnOk r (IsPlayed limits known (seat_in seating) (stand (events_in seating) own [] k) (lines_of worker phase)
     (stand (events_in then_seating) then_own g new))
     → OnOk r (seat_in then_seating ≡ seat_in seating)
@@ -392,14 +392,14 @@ not_opened_given boot thread refusal (book, legal, within, some) = (
 
 -- a worker that has a seat stays as it is
 pub sits_ok : (limits : Limits) (room : ℕ) (known : List Named) (phase : List Line) (worker : List ℕ)
-    (seating : Result Place (Option Refusal)) (own : List Named) (k : Kept) → is_ok seating ≡ true
+    (seating : Result SeatPlace (Option Refusal)) (own : List Named) (k : LineAnswers) → is_ok seating ≡ true
     → Sits limits room known phase (post_of worker seating own k) (post_of worker seating own k)
 sits_ok limits room known phase worker (Ok p) own k has = sits_still limits room known phase (post_of worker (Ok p) own k) p.thread refl
 sits_ok limits room known phase worker (Err r) own k has = absurd (true≢false (sym has))
 
 -- and one that has none is given one, or refused
 pub sits_new : (limits : Limits) (room : ℕ) (known : List Named) (phase : List Line) (worker : List ℕ)
-    (seating then_seating : Result Place (Option Refusal)) (own : List Named) (k : Kept) → is_ok seating ≡ false
+    (seating then_seating : Result SeatPlace (Option Refusal)) (own : List Named) (k : LineAnswers) → is_ok seating ≡ false
     → takes_part worker phase ≡ true
     → ((refusal : Option Refusal) → IsSeated limits room (value_of worker known) (Err refusal) (seat_in then_seating))
     → Sits limits room known phase (post_of worker seating own k) (post_of worker then_seating own k)

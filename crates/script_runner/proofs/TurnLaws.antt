@@ -22,7 +22,7 @@ use Rattle.call_text.specs.declared.known_names.Named.{Named}
 use Rattle.call_text.specs.declared.phases.Line.{Line}
 use Rattle.script_rules.specs.Asking.{with_calls}
 use Rattle.script_rules.specs.Lines.{Stand, Waiting, tell, tell_waiting, tell_all, answer_in, state_in, call_in, calls_of, asked, is_no_read, are_batch, refuse_all, make, line_by, lines_by}
-use Rattle.script_runner.specs.Answers.{Kept}
+use Rattle.script_runner.specs.Answers.{LineAnswers}
 use Rattle.script_runner.specs.Turns.{idle, stand, tell_next, tell_with, waiting_in}
 use Rattle.script_runner.specs.declared.batches.Gathered.{Gathered}
 
@@ -58,7 +58,7 @@ told_all (w ∷ ws) thread calls_only s p =
     told_next w.number w.binds w.asks ws s thread p (told_all ws thread parts.1) parts.0
 
 -- lines that waited were asked, by the replies to their calls
-pub asked_by : (limits : Limits) (thread : ℕ) (journal after : List Event) (names known : List Named) (g : List Gathered) (k new : Kept)
+pub asked_by : (limits : Limits) (thread : ℕ) (journal after : List Event) (names known : List Named) (g : List Gathered) (k new : LineAnswers)
     (calls : List Call) (replies : List Reply) → list_all (λ (w : Waiting). is_no_read w.asks) (map waiting_in g) ≡ true
     → calls ≡ calls_of (map waiting_in g) → replies ≡ replies_to (state_of limits journal) (by thread calls)
     → after ≡ with_calls limits thread journal calls
@@ -79,7 +79,7 @@ asked_by limits thread journal after names known g k new calls replies calls_onl
     s : State
     s = state_of limits journal
 
-pub made_refused : (limits : Limits) (thread : ℕ) (journal : List Event) (names : List Named) (g : List Gathered) (k : Kept) (q : Stand)
+pub made_refused : (limits : Limits) (thread : ℕ) (journal : List Event) (names : List Named) (g : List Gathered) (k : LineAnswers) (q : Stand)
     → are_batch (map waiting_in g) ≡ false → q ≡ refuse_all BadBatch (stand journal names [] k) (map waiting_in g)
     → q ≡ make limits thread (stand journal names g k)
 made_refused limits thread journal names g k q are is =

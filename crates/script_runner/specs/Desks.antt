@@ -11,11 +11,11 @@ use Rattle.script_rules.specs.Asking.{with_calls}
 use Rattle.script_rules.specs.Run.{refusal_by, unless_refused}
 
 -- its thread, and the events that it has seen
-pub record Place : Type 0 where
+pub record SeatPlace : Type 0 where
   pub thread : ℕ
   pub events : List Event
 
-abbrev pub place : ℕ → List Event → Place
+abbrev pub place : ℕ → List Event → SeatPlace
 place thread events = record { thread = thread; events = events }
 
 -- a seat as it is given, or refused, after some legal events where some threads have seats
@@ -26,16 +26,16 @@ IsGiven limits room thread given =
 
 -- calls are the last event of what the worker has then seen, which begins with all that it had seen, and the state before them
 -- tells of the replies
-abbrev pub IsSubmitted : Limits → (State → Type 0) → Place → List Call → Place → Type 0
+abbrev pub IsSubmitted : Limits → (State → Type 0) → SeatPlace → List Call → SeatPlace → Type 0
 IsSubmitted limits Tells before calls after =
     (events : List Event) × IsPrefix before.events events
     × (after ≡ place before.thread (with_calls limits before.thread events calls)) × Tells (state_of limits events)
 
 -- where a worker has a seat, its thread and what it has seen; else what refused it one
-abbrev pub seat_in : Result Place (Option Refusal) → Result ℕ (Option Refusal)
+abbrev pub seat_in : Result SeatPlace (Option Refusal) → Result ℕ (Option Refusal)
 seat_in (Ok p) = Ok p.thread
 seat_in (Err refusal) = Err refusal
 
-abbrev pub events_in : Result Place (Option Refusal) → List Event
+abbrev pub events_in : Result SeatPlace (Option Refusal) → List Event
 events_in (Ok p) = p.events
 events_in (Err refusal) = []

@@ -14,7 +14,7 @@ use Rattle.call_text.specs.declared.known_names.Named.{Named}
 use Rattle.call_text.specs.declared.known_names.Value.{Value}
 use Rattle.call_text.specs.declared.known_names.Value.TheVariants.{Object, Category}
 use Rattle.call_text.specs.declared.phases.Line.{Line}
-use Rattle.script_rules.specs.Lines.{Told, Seen, Stand, make, tell, unseated}
+use Rattle.script_rules.specs.Lines.{AnsweredLine, Seen, Stand, make, tell, unseated}
 use Rattle.script_rules.specs.Output.{told_text}
 use Rattle.script_rules.specs.Run.{refusal_by, room_for, seat_for, seated}
 use Rattle.script_rules.specs.Workers.{lines_in, workers_of}
@@ -64,7 +64,7 @@ pub record Post : Type 0 where
   pub seat : Result ℕ (Option Refusal)
   pub events : List Event
   pub names : List Named
-  pub told : List Told
+  pub told : List AnsweredLine
   pub reads : List Seen
 
 -- before the first phase

@@ -13,7 +13,7 @@ use Rattle.published_copy.specs.Books.{BookView}
 use Rattle.script_rules.specs.Lines.{Stand, Waiting, tell_waiting}
 use Rattle.script_rules.specs.Output.{output_text, own}
 use Rattle.script_rules.specs.Run.{Run, run, thread_of}
-use Rattle.script_runner.specs.Answers.{Kept}
+use Rattle.script_runner.specs.Answers.{LineAnswers}
 use Rattle.script_runner.specs.declared.answers.Left.{Left}
 use Rattle.script_runner.specs.declared.batches.Gathered.{Gathered}
 
@@ -26,7 +26,7 @@ abbrev pub waiting_for : Line → List Named → Waiting
 waiting_for l names = record { number = l.number; binds = l.binds; asks = resolved l.call names }
 
 -- where a worker stands, by the journal, the names, the lines that wait and what its lines were told
-abbrev pub stand : List Event → List Named → List Gathered → Kept → Stand
+abbrev pub stand : List Event → List Named → List Gathered → LineAnswers → Stand
 stand journal names gathered kept = record {
   events = journal;
   names = names;

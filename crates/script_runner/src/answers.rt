@@ -24,7 +24,7 @@ use text_words::Name;
 
 /// What a line was told.
 #[derive(Clone, Copy)]
-pub enum Answer {
+pub enum KeptAnswer {
     /// Its call was done.
     Done,
     /// The object or the category that its call made.
@@ -65,7 +65,7 @@ pub struct ToldLine {
     /// The line's number in the script.
     pub number: u32,
     /// What it was told.
-    pub answer: Answer,
+    pub answer: KeptAnswer,
 }
 
 /// A query that was answered.
@@ -76,7 +76,7 @@ pub struct AskedQuery {
     /// What it asked.
     pub query: Query,
     /// What it was answered.
-    pub answer: Answer,
+    pub answer: KeptAnswer,
 }
 
 /// What a worker's lines were told, in their order, and which queries were answered. A contract sees both lists.
@@ -92,9 +92,9 @@ pub struct Answers {
 
 impl Model for Answers {
     ghost use Rattle.std.specs.Prelude.{length};
-    ghost use Rattle.script_runner.specs.Answers.{kept_in, AreThere, Kept};
+    ghost use Rattle.script_runner.specs.Answers.{kept_in, AreThere, LineAnswers};
 
-    ghost Value = { Kept };
+    ghost Value = { LineAnswers };
 
     ghost view = { λ a. kept_in a.bytes.items a.replies.items a.lines.items a.asked.items };
 
@@ -102,17 +102,17 @@ impl Model for Answers {
 }
 
 /// What says all of a reply that is small and has no bytes.
-fn short(reply: &Reply) -> Option<Answer>
+fn short(reply: &Reply) -> Option<KeptAnswer>
     ensures { IfSome result (λ answer. (bytes : List (List ℕ)) (whole : List ReplyValue) → Keeps bytes whole reply.now answer) }
 {
     match reply {
-        Reply::Done => Some(Answer::Done),
-        Reply::Category(category) => Some(Answer::Made(Value::Category(*category))),
-        Reply::Object(id) => Some(Answer::Made(Value::Object(*id))),
+        Reply::Done => Some(KeptAnswer::Done),
+        Reply::Category(category) => Some(KeptAnswer::Made(Value::Category(*category))),
+        Reply::Object(id) => Some(KeptAnswer::Made(Value::Object(*id))),
         Reply::Entered {
             entry_point,
             closure,
-        } => Some(Answer::Entered {
+        } => Some(KeptAnswer::Entered {
             entry_point: *entry_point,
             closure: *closure,
         }),
@@ -121,31 +121,31 @@ fn short(reply: &Reply) -> Option<Answer>
             used,
             fixed,
             immutable,
-        } => Some(Answer::Quota {
+        } => Some(KeptAnswer::Quota {
             quota: *quota,
             used: *used,
             fixed: *fixed,
             immutable: *immutable,
         }),
-        Reply::Pages(pages) => Some(Answer::Pages(*pages)),
-        Reply::Refused(refusal) => Some(Answer::Refused(*refusal)),
+        Reply::Pages(pages) => Some(KeptAnswer::Pages(*pages)),
+        Reply::Refused(refusal) => Some(KeptAnswer::Refused(*refusal)),
         _ => None,
     }
 }
 
 /// Keeps bytes among others.
-fn keep_bytes(kept: &mut Vec<Data>, bytes: &Data) -> Result<Answer, NoMemory>
+fn keep_bytes(kept: &mut Vec<Data>, bytes: &Data) -> Result<KeptAnswer, NoMemory>
     ensures stay { (whole : List ReplyValue) → AllStay kept.old.items whole kept.new.items whole }
     ensures kept { IfOk result (λ answer. (whole : List ReplyValue)
         → Keeps kept.new.items whole (replies.Bytes bytes.now) answer) }
 {
     let place = kept.len();
     kept.push(*bytes)?;
-    Ok(Answer::Bytes(place))
+    Ok(KeptAnswer::Bytes(place))
 }
 
 /// Keeps a reply among others.
-fn keep_whole(whole: &mut Vec<Reply>, reply: &Reply) -> Result<Answer, NoMemory>
+fn keep_whole(whole: &mut Vec<Reply>, reply: &Reply) -> Result<KeptAnswer, NoMemory>
     ensures stay { (bytes : List (List ℕ)) → AllStay bytes whole.old.items bytes whole.new.items }
     ensures kept { IfOk result (λ answer. (bytes : List (List ℕ)) → Keeps bytes whole.new.items reply.now answer) }
 {
@@ -153,11 +153,11 @@ fn keep_whole(whole: &mut Vec<Reply>, reply: &Reply) -> Result<Answer, NoMemory>
     let _named: Option<Mapping> = None;
     let place = whole.len();
     whole.push(*reply)?;
-    Ok(Answer::Replied(place))
+    Ok(KeptAnswer::Replied(place))
 }
 
 /// Keeps a reply: what is large or has bytes among others.
-fn keep(kept: &mut Vec<Data>, whole: &mut Vec<Reply>, reply: &Reply) -> Result<Answer, NoMemory>
+fn keep(kept: &mut Vec<Data>, whole: &mut Vec<Reply>, reply: &Reply) -> Result<KeptAnswer, NoMemory>
     ensures stay { AllStay kept.old.items whole.old.items kept.new.items whole.new.items }
     ensures kept { IfOk result (Keeps kept.new.items whole.new.items reply.now) }
 {
@@ -171,7 +171,7 @@ fn keep(kept: &mut Vec<Data>, whole: &mut Vec<Reply>, reply: &Reply) -> Result<A
 }
 
 /// Adds a line that was told this.
-fn note_line(lines: &mut Vec<ToldLine>, number: u32, answer: &Answer) -> Result<(), AllocError>
+fn note_line(lines: &mut Vec<ToldLine>, number: u32, answer: &KeptAnswer) -> Result<(), AllocError>
     ensures ok { OnOk result (lines.new.items ≡ lines.old.items ++ record { number = number; answer = answer.now } ∷ []) }
     ensures err { OnErr result (lines.new.items ≡ lines.old.items) }
 {
@@ -189,7 +189,7 @@ fn note_read(
     asked: &mut Vec<AskedQuery>,
     length: usize,
     query: &Query,
-    answer: &Answer,
+    answer: &KeptAnswer,
 ) -> Result<(), AllocError>
     ensures ok { OnOk result (asked.new.items
         ≡ asked.old.items ++ record { length = length; query = query.now; answer = answer.now } ∷ []) }
@@ -217,21 +217,21 @@ fn made_reply(made: &Value) -> Reply
 }
 
 /// The reply that is kept so, where its answer says all of it but bytes.
-fn short_reply(answer: &Answer, kept: &[Data]) -> Option<Reply>
+fn short_reply(answer: &KeptAnswer, kept: &[Data]) -> Option<Reply>
     ensures { IfSome result (λ reply. (whole : List ReplyValue)
         → (answer_of kept.now whole answer.now ≡ Ok reply) × (reply_of kept.now whole answer.now ≡ reply)) }
 {
     match answer {
-        Answer::Done => Some(Reply::Done),
-        Answer::Made(made) => Some(made_reply(made)),
-        Answer::Entered {
+        KeptAnswer::Done => Some(Reply::Done),
+        KeptAnswer::Made(made) => Some(made_reply(made)),
+        KeptAnswer::Entered {
             entry_point,
             closure,
         } => Some(Reply::Entered {
             entry_point: *entry_point,
             closure: *closure,
         }),
-        Answer::Quota {
+        KeptAnswer::Quota {
             quota,
             used,
             fixed,
@@ -242,13 +242,13 @@ fn short_reply(answer: &Answer, kept: &[Data]) -> Option<Reply>
             fixed: *fixed,
             immutable: *immutable,
         }),
-        Answer::Pages(pages) => Some(Reply::Pages(*pages)),
-        Answer::Refused(refusal) => Some(Reply::Refused(*refusal)),
-        Answer::Bytes(place) => match kept.get(*place) {
+        KeptAnswer::Pages(pages) => Some(Reply::Pages(*pages)),
+        KeptAnswer::Refused(refusal) => Some(Reply::Refused(*refusal)),
+        KeptAnswer::Bytes(place) => match kept.get(*place) {
             Some(bytes) => Some(Reply::Bytes(*bytes)),
             None => None,
         },
-        Answer::Replied(_) | Answer::Unbound(_) => None,
+        KeptAnswer::Replied(_) | KeptAnswer::Unbound(_) => None,
     }
 }
 
@@ -275,7 +275,7 @@ fn put_unbound(out: &mut Vec<u8>, name: &Name) -> Result<(), AllocError>
 /// Adds what a line was told.
 fn put_answer(
     out: &mut Vec<u8>,
-    answer: &Answer,
+    answer: &KeptAnswer,
     kept: &[Data],
     whole: &[Reply],
     names: &BoundNames,
@@ -284,9 +284,9 @@ fn put_answer(
         (out.new.items ≡ out.old.items ++ answer_text names.now (answer_of kept.now whole.now answer.now)) }
 {
     match answer {
-        Answer::Made(made) => Ok(put_made(out, made, names)?),
-        Answer::Replied(place) => put_kept(out, whole.get(*place), names),
-        Answer::Unbound(name) => Ok(put_unbound(out, name)?),
+        KeptAnswer::Made(made) => Ok(put_made(out, made, names)?),
+        KeptAnswer::Replied(place) => put_kept(out, whole.get(*place), names),
+        KeptAnswer::Unbound(name) => Ok(put_unbound(out, name)?),
         _ => put_kept(out, short_reply(answer, kept).as_ref(), names),
     }
 }
@@ -321,7 +321,7 @@ impl Answers {
         ensures told { OnOk result (self.new.told ≡ self.old.told ++ told number (Err name.now) ∷ []) }
         ensures reads { OnOk result (self.new.reads ≡ self.old.reads) }
     {
-        note_line(&mut self.lines, number, &Answer::Unbound(*name))
+        note_line(&mut self.lines, number, &KeptAnswer::Unbound(*name))
     }
 
     /// A line is told the reply to a query that was asked after so many events.
@@ -377,10 +377,10 @@ impl Answers {
     }
 
     /// What a query was answered, as it is printed where no name is known.
-    fn text_of(&self, alloc: Global, answer: &Answer) -> Result<Option<Vec<u8>>, NoMemory> {
+    fn text_of(&self, alloc: Global, answer: &KeptAnswer) -> Result<Option<Vec<u8>>, NoMemory> {
         let _named: Option<Mapping> = None;
         let reply = match answer {
-            Answer::Replied(place) => self.replies.get(*place).copied(),
+            KeptAnswer::Replied(place) => self.replies.get(*place).copied(),
             _ => short_reply(answer, self.bytes.as_slice()),
         };
         match &reply {

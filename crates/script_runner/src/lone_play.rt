@@ -17,7 +17,7 @@ use crate::faults::PlayFault;
 use crate::names::BoundNames;
 use crate::play::Played;
 use crate::players::Player;
-use crate::printing::{Told, told_of};
+use crate::printing::{Printed, told_of};
 use base::{Limits, ObjectId, Refusal};
 use call_text::{Known, Phase, Script, Value};
 use indexmap::IndexSet;
@@ -138,7 +138,7 @@ fn told_in<B: Naming>(
     player: &mut Player<B>,
     script: &Script,
     workers: &IndexSet<Name>,
-) -> Result<(Told, Tables), PlayFault>
+) -> Result<(Printed, Tables), PlayFault>
     requires journal { player.old.desk.journal ≡ [] }
     requires seated { player.old.desk.seated ≡ [] }
     requires names { player.old.names ≡ start_values }
@@ -193,7 +193,7 @@ pub fn play_alone<B: Naming>(
     } = player;
     let events = desk.into_events();
     let (told, tables) = told?;
-    let Told { output, reads } = told;
+    let Printed { output, reads } = told;
     Ok(Played {
         output,
         events,

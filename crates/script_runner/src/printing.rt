@@ -15,7 +15,7 @@ use text_words::{Name, put_name, put_number};
 
 /// What a run prints, and the reads in it.
 #[derive(Drop)]
-pub struct Told {
+pub struct Printed {
     /// The lines of the workers.
     pub output: Vec<u8>,
     /// The reads of each worker that was given a seat.
@@ -98,12 +98,12 @@ pub fn told_of(
     workers: &IndexSet<Name>,
     left: Vec<Left>,
     names: &BoundNames,
-) -> Result<Told, PlayFault>
+) -> Result<Printed, PlayFault>
     ensures text { IfOk result (λ told. (r : Run) → AreOwn workers.now.keys left.items r → names.now ≡ r.names
         → told.output.items ≡ text_of r workers.now.keys) }
     ensures lines { IfOk result (λ told. told.output.items ≡ left_text names.now workers.now.keys left.items) }
 {
     let output = output_of(alloc, workers, left.as_slice(), names)?;
     let reads = reads_of(alloc, left)?;
-    Ok(Told { output, reads })
+    Ok(Printed { output, reads })
 }

@@ -22,9 +22,9 @@ pub struct SharedDesk<'s, B: Naming> {
 }
 
 impl<'s, B: Naming> Model for SharedDesk<'s, B> {
-    ghost use Rattle.script_runner.specs.Desks.{Place, place};
+    ghost use Rattle.script_runner.specs.Desks.{SeatPlace, place};
 
-    ghost Value = { Place };
+    ghost Value = { SeatPlace };
 
     ghost view = { λ d. place d.seat.pass.thread d.seat.pass.seen };
 }

@@ -13,7 +13,7 @@ use crate::closings::{Closing, closing_of};
 use crate::faults::PlayFault;
 use crate::names::BoundNames;
 use crate::play::Played;
-use crate::printing::{Told, told_of};
+use crate::printing::{Printed, told_of};
 use crate::workers::Worker;
 use call_text::{Phase, Script};
 use indexmap::IndexSet;
@@ -302,7 +302,7 @@ pub fn play_shared<B: Naming + Send, R: Threads + Wait + Sync>(
     if !seen {
         return Err(PlayFault::Stopped);
     }
-    let Told { output, reads } = told_of(alloc, workers, left, &names)?;
+    let Printed { output, reads } = told_of(alloc, workers, left, &names)?;
     Ok(Played {
         output,
         events,

@@ -11,12 +11,12 @@ use Rattle.try_text.specs.Standing.{after_all, after_asking, after_kept, after_l
 use Rattle.try_text.specs.Standing.{made_by, question, reply_to, start, state_after, with_name}
 use Rattle.try_text.specs.Stands.{Stands}
 use Rattle.try_text.specs.Takes.{binds_of, checked, if_asked, if_made, kept_as, rebound, unless_rebound}
-use Rattle.try_text.specs.declared.tried_lines.answers.Answer.{Answer}
-use Rattle.try_text.specs.declared.tried_lines.answers.Answer.TheVariants as is
-use Rattle.try_text.specs.declared.tried_lines.kept.Kept.{Kept}
+use Rattle.try_text.specs.declared.tried_lines.answers.LineAnswer.{LineAnswer}
+use Rattle.try_text.specs.declared.tried_lines.answers.LineAnswer.TheVariants as is
+use Rattle.try_text.specs.declared.tried_lines.kept.TriedLine.{TriedLine}
 use Rattle.try_text.specs.declared.tried_lines.questions.Question.{Question}
 
-pub after_all-snoc : (s : Stands) (ks : List Kept) (k : Kept)
+pub after_all-snoc : (s : Stands) (ks : List TriedLine) (k : TriedLine)
     → after_all s (ks ++ k ∷ []) ≡ after_kept (after_all s ks) k
 after_all-snoc s [] k = refl
 after_all-snoc s (x ∷ ks) k = after_all-snoc (after_kept s x) ks k
@@ -70,7 +70,7 @@ taken_stands d script q reply asks is =
     made = made_by (reply_to s.state q)
 
 -- the same where it stood so, and the line was asked and kept
-pub taken_more : (limits : Limits) (lines items after : List Kept) (script : List (List Line)) (q : Question)
+pub taken_more : (limits : Limits) (lines items after : List TriedLine) (script : List (List Line)) (q : Question)
     (reply : Reply) (b made : Option (List ℕ)) (old new : Stands)
     → old ≡ standing (talk limits lines) → Ok q ≡ checked old (first_line script) → reply ≡ reply_to old.state q
     → new ≡ after_question old b q → b ≡ binds_of (first_line script) → made ≡ if_made b (made_by reply)

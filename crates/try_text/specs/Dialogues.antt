@@ -3,13 +3,13 @@ use Rattle.std.specs.Prelude.{ℕ, ◌-◌, ◌++◌, ◌∷◌, List, [], lengt
 use Rattle.base.specs.declared.ranges.Limits.{Limits}
 use Rattle.try_text.specs.Standing.{start, after_all}
 use Rattle.try_text.specs.Stands.{Stands}
-use Rattle.try_text.specs.declared.tried_lines.kept.Kept.{Kept}
+use Rattle.try_text.specs.declared.tried_lines.kept.TriedLine.{TriedLine}
 
 pub record Talk : Type 0 where
   pub limits : Limits
-  pub lines : List Kept
+  pub lines : List TriedLine
 
-abbrev pub talk : Limits → List Kept → Talk
+abbrev pub talk : Limits → List TriedLine → Talk
 talk limits lines = record { limits = limits; lines = lines }
 
 -- before its first line
@@ -17,11 +17,11 @@ abbrev pub begun : Limits → Talk
 begun limits = talk limits []
 
 -- with one line more
-abbrev pub with_line : Talk → Kept → Talk
+abbrev pub with_line : Talk → TriedLine → Talk
 with_line d k = talk d.limits (d.lines ++ k ∷ [])
 
 -- all lines but the last
-abbrev pub all_but_last : List Kept → List Kept
+abbrev pub all_but_last : List TriedLine → List TriedLine
 all_but_last lines = take (length lines - 1) lines
 
 -- with its last line taken back
@@ -33,5 +33,5 @@ abbrev pub standing : Talk → Stands
 standing d = after_all (start d.limits) d.lines
 
 -- its last line
-abbrev pub last_of : List Kept → Option Kept
+abbrev pub last_of : List TriedLine → Option TriedLine
 last_of lines = slice_get lines (length lines - 1)

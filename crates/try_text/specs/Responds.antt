@@ -5,7 +5,7 @@ use Rattle.shown_dumps.specs.Trees.{named_tree}
 use Rattle.try_text.specs.Dialogues.{Talk, last_of, standing, undone}
 use Rattle.try_text.specs.FullLines.{full_line}
 use Rattle.try_text.specs.Takes.{Takes}
-use Rattle.try_text.specs.declared.tried_lines.answers.Answer.{Answer}
+use Rattle.try_text.specs.declared.tried_lines.answers.LineAnswer.{LineAnswer}
 use Rattle.try_text.specs.Tells.{AddsAnswer, undone_text}
 use Rattle.try_text.specs.Why.{why_text}
 use Rattle.try_text.specs.declared.words.Word.{Word}
@@ -19,7 +19,7 @@ help_text =
 -- a call: its line in exact form, with a worker, is asked, and what comes of it is told
 abbrev pub Calls : List ℕ → Talk → Talk → List ℕ → List ℕ → Type 0
 Calls line d d' old new =
-    (answer : Answer) × Takes (full_line (plain_line line)) d d' answer
+    (answer : LineAnswer) × Takes (full_line (plain_line line)) d d' answer
     × AddsAnswer (full_line (plain_line line)) d' answer old new
 
 -- the dialogue stays, and this is told

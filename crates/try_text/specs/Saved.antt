@@ -4,7 +4,7 @@ use Rattle.std.specs.Str.{bytes_eq}
 use Rattle.call_text.specs.Line.{Said, written_text}
 use Rattle.call_text.specs.declared.phases.Line.{Line}
 use Rattle.try_text.specs.Standing.{first_line}
-use Rattle.try_text.specs.declared.tried_lines.kept.Kept.{Kept}
+use Rattle.try_text.specs.declared.tried_lines.kept.TriedLine.{TriedLine}
 
 -- what parts a line from the line before it: --, where that was another worker's
 abbrev pub break_text : Option (List ℕ) → List ℕ → List ℕ
@@ -26,7 +26,7 @@ worker_after before None = before
 worker_after before (Some l) = Some l.worker
 
 -- the lines after another one, whose worker was this
-abbrev pub saved_after : Option (List ℕ) → List Kept → List ℕ
+abbrev pub saved_after : Option (List ℕ) → List TriedLine → List ℕ
 saved_after before [] = []
 saved_after before (k ∷ kept) =
     next_text before k.binds (first_line k.script)
@@ -34,5 +34,5 @@ saved_after before (k ∷ kept) =
 
 -- The whole script. Each name is bound by the line that made something, so no name is bound twice, and none is used in a
 -- phase of another worker than its own.
-abbrev pub saved_text : List Kept → List ℕ
+abbrev pub saved_text : List TriedLine → List ℕ
 saved_text kept = saved_after None kept

@@ -15,7 +15,7 @@ use Rattle.call_text.specs.declared.known_names.Value.{Value}
 use Rattle.call_text.specs.declared.known_names.Value.TheVariants.{Object, Category}
 use Rattle.call_text.specs.declared.phases.Line.{Line}
 use Rattle.try_text.specs.Stands.{Stands}
-use Rattle.try_text.specs.declared.tried_lines.kept.Kept.{Kept}
+use Rattle.try_text.specs.declared.tried_lines.kept.TriedLine.{TriedLine}
 use Rattle.try_text.specs.declared.tried_lines.questions.Question.{Question}
 
 -- before the first line
@@ -91,10 +91,10 @@ first_line [] = None
 first_line (phase ∷ more) = slice_get phase 0
 
 -- after a line that was kept
-abbrev pub after_kept : Stands → Kept → Stands
+abbrev pub after_kept : Stands → TriedLine → Stands
 after_kept s k = after_line s k.binds (first_line k.script)
 
 -- after several, one after another
-abbrev pub after_all : Stands → List Kept → Stands
+abbrev pub after_all : Stands → List TriedLine → Stands
 after_all s [] = s
 after_all s (k ∷ kept) = after_all (after_kept s k) kept

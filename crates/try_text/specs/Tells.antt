@@ -9,9 +9,9 @@ use Rattle.try_text.specs.Dialogues.{Talk, standing}
 use Rattle.try_text.specs.Saved.{line_text}
 use Rattle.try_text.specs.Standing.{first_line}
 use Rattle.try_text.specs.Takes.{ended}
-use Rattle.try_text.specs.declared.tried_lines.answers.Answer.{Answer}
-use Rattle.try_text.specs.declared.tried_lines.answers.Answer.TheVariants as is
-use Rattle.try_text.specs.declared.tried_lines.kept.Kept.{Kept}
+use Rattle.try_text.specs.declared.tried_lines.answers.LineAnswer.{LineAnswer}
+use Rattle.try_text.specs.declared.tried_lines.answers.LineAnswer.TheVariants as is
+use Rattle.try_text.specs.declared.tried_lines.kept.TriedLine.{TriedLine}
 
 -- a line with a name in it
 abbrev pub named_text : List ℕ → List ℕ → List ℕ → List ℕ
@@ -27,7 +27,7 @@ AddsFault text n old new =
     (why : List ℕ) × AddsWhy (ended text) n (old ++ codes "fault: ") why × (new ≡ why ++ 10 ∷ [])
 
 -- what came of a line, after which the dialogue is this
-abbrev pub AddsAnswer : List ℕ → Talk → Answer → List ℕ → List ℕ → Type 0
+abbrev pub AddsAnswer : List ℕ → Talk → LineAnswer → List ℕ → List ℕ → Type 0
 AddsAnswer text d (is.Told reply) old new = new ≡ old ++ told_text (standing d).names reply
 AddsAnswer text d (is.Faulty n) old new = AddsFault text n old new
 AddsAnswer text d (is.Rebound name) old new =
@@ -43,6 +43,6 @@ abbrev pub undone_line : Option (List ℕ) → Option Line → List ℕ
 undone_line binds None = []
 undone_line binds (Some l) = codes "undone: " ++ line_text binds l ++ 10 ∷ []
 
-abbrev pub undone_text : Option Kept → List ℕ
+abbrev pub undone_text : Option TriedLine → List ℕ
 undone_text None = codes "nothing to undo\n"
 undone_text (Some k) = undone_line k.binds (first_line k.script)

@@ -14,7 +14,7 @@ use Rattle.try_text.specs.Dialogues.{Talk, last_of, standing, undone}
 use Rattle.try_text.specs.Saved.{line_text}
 use Rattle.try_text.specs.Standing.{first_line, question, reply_to}
 use Rattle.try_text.specs.Stands.{Stands}
-use Rattle.try_text.specs.declared.tried_lines.kept.Kept.{Kept}
+use Rattle.try_text.specs.declared.tried_lines.kept.TriedLine.{TriedLine}
 use Rattle.try_text.specs.declared.tried_lines.questions.Question.{Question}
 
 -- the conditions of what is asked
@@ -38,10 +38,10 @@ abbrev pub why_of : List Named → Stands → Option (List ℕ) → Option Line 
 why_of names s binds None = []
 why_of names s binds (Some l) = why_asking names s (line_text binds l) (question s.names l)
 
-abbrev pub why_line : List Named → Stands → Kept → List ℕ
+abbrev pub why_line : List Named → Stands → TriedLine → List ℕ
 why_line names s k = why_of names s k.binds (first_line k.script)
 
-abbrev pub why_last : List Named → Stands → Option Kept → List ℕ
+abbrev pub why_last : List Named → Stands → Option TriedLine → List ℕ
 why_last names s None = codes "no call was made\n"
 why_last names s (Some k) = why_line names s k
 

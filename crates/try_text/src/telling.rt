@@ -4,7 +4,7 @@ ghost use Rattle.std.specs.Option.{option_copied};
 ghost use Rattle.try_text.specs.Dialogues.{standing};
 ghost use Rattle.try_text.specs.Tells.{named_text, told_text, AddsFault, AddsAnswer, undone_text};
 
-use crate::tried_lines::{Answer, Dialogue, Kept, put_line};
+use crate::tried_lines::{Dialogue, LineAnswer, TriedLine, put_line};
 use base::NoMemory;
 use call_text::put_reply;
 use check_text::put_why;
@@ -48,23 +48,25 @@ pub fn put_answer(
     out: &mut Vec<u8>,
     text: &[u8],
     talk: &Dialogue,
-    answer: &Answer,
+    answer: &LineAnswer,
 ) -> Result<(), NoMemory>
     ensures { OnOk result (AddsAnswer text.now talk.now answer.now out.old.items out.new.items) }
 {
     match answer {
-        Answer::Told(reply) => put_told(out, talk, reply),
-        Answer::Faulty(number) => put_fault(out, text, *number),
-        Answer::Rebound(name) => put_named(out, "fault: ", name, " is bound already\n"),
-        Answer::Unbound(name) => put_named(out, "unbound ", name, "\n"),
-        Answer::NoThread(name) => put_named(out, "fault: ", name, " is no live thread\n"),
-        Answer::Nothing => Ok(()),
-        Answer::Full => Ok(out.extend_from_slice(b"fault: a dialogue has at most 32,768 calls\n")?),
+        LineAnswer::Told(reply) => put_told(out, talk, reply),
+        LineAnswer::Faulty(number) => put_fault(out, text, *number),
+        LineAnswer::Rebound(name) => put_named(out, "fault: ", name, " is bound already\n"),
+        LineAnswer::Unbound(name) => put_named(out, "unbound ", name, "\n"),
+        LineAnswer::NoThread(name) => put_named(out, "fault: ", name, " is no live thread\n"),
+        LineAnswer::Nothing => Ok(()),
+        LineAnswer::Full => Ok(out.extend_from_slice(
+            b"fault: a dialogue has at most 32,768 calls\n",
+        )?),
     }
 }
 
 /// Adds the line that is taken back, or that there is none.
-pub fn put_undone(out: &mut Vec<u8>, last: Option<&Kept>) -> Result<(), NoMemory>
+pub fn put_undone(out: &mut Vec<u8>, last: Option<&TriedLine>) -> Result<(), NoMemory>
     ensures { OnOk result (out.new.items ≡ out.old.items ++ undone_text (option_copied last.entry)) }
 {
     let Some(kept) = last else {

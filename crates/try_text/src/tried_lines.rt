@@ -13,10 +13,10 @@ mod questions;
 mod saving;
 mod standing;
 
-pub use answers::Answer;
+pub use answers::LineAnswer;
 pub use dialogues::Dialogue;
 pub use full_lines::full_line;
-pub use kept::Kept;
+pub use kept::TriedLine;
 pub use questions::Question;
 pub use saving::put_line;
 pub use standing::Standing;

@@ -5,7 +5,7 @@ ghost use Rattle.plain_state.specs.StateOf.{state_of};
 ghost use Rattle.shown_dumps.specs.Parts.{condition_text};
 ghost use Rattle.try_text.specs.Why.{findings_of, why_asked, why_line, why_text};
 
-use crate::tried_lines::{Dialogue, Kept, Question, Standing, put_line};
+use crate::tried_lines::{Dialogue, Question, Standing, TriedLine, put_line};
 use base::{Meter, NoMemory};
 use call_text::{Asked, Named};
 use explained::{Finding, explain, explain_query};
@@ -68,7 +68,7 @@ fn put_asked(
 fn put_line_why(
     out: &mut Vec<u8>,
     before: Standing,
-    kept: &Kept,
+    kept: &TriedLine,
     names: &[Named],
 ) -> Result<(), NoMemory>
     ensures { OnOk result (out.new.items ≡ out.old.items ++ why_line names.now before kept.now) }

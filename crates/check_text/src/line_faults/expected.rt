@@ -28,7 +28,7 @@ pub enum Expected {
 
 /// Where a line stops being the beginning of a well-formed one.
 #[derive(Clone, Copy, PartialEq, Eq)]
-pub struct Fault {
+pub struct LineFault {
     /// How many bytes stand before that place: those of the words that are right, without the space after them.
     pub before: usize,
     /// What may stand there.
@@ -36,13 +36,13 @@ pub struct Fault {
 }
 
 /// The fault of what stands after so many bytes, as one of the whole.
-pub(crate) fn further(found: Option<Fault>, bytes: usize) -> Option<Fault>
+pub(crate) fn further(found: Option<LineFault>, bytes: usize) -> Option<LineFault>
     requires { IfSome found (λ f. bytes + f.before < 2 ^ 64) }
     ensures { result ≡ further bytes found }
 {
     match found {
         None => None,
-        Some(fault) => Some(Fault {
+        Some(fault) => Some(LineFault {
             before: bytes + fault.before,
             expected: fault.expected,
         }),

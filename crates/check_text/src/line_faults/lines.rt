@@ -5,9 +5,9 @@ ghost use Rattle.text_words.specs.Spoken.{further_text, AreArgs, IsRest};
 ghost use Rattle.call_text.specs.Line.{written_text, IsWritten, Written};
 ghost use Rattle.check_text.specs.Faults.{TellsFault, call_after, IsCall, making_after, IsMaking, bound_after};
 ghost use Rattle.check_text.specs.Faults.{space_before, MayFollow, StopsAt};
-ghost use Rattle.check_text.specs.declared.line_faults.expected.Fault.{Fault as FaultValue};
+ghost use Rattle.check_text.specs.declared.line_faults.expected.LineFault.{LineFault as FaultValue};
 
-use crate::line_faults::expected::{Expected, Fault, further};
+use crate::line_faults::expected::{Expected, LineFault, further};
 use crate::line_faults::verbs::{suits, verb_of};
 use crate::line_faults::words::{batch_mark, first_word, is_argument, next_word};
 use std::alloc::{AllocError, Global};
@@ -15,10 +15,10 @@ use text_words::spoken_calls::ArgKind;
 use text_words::{is_same, read_name};
 
 /// The fault right where a text begins.
-fn here(expected: Expected) -> Option<Fault>
+fn here(expected: Expected) -> Option<LineFault>
     ensures { result ≡ Some (record { before = 0; expected = expected }) }
 {
-    Some(Fault {
+    Some(LineFault {
         before: 0,
         expected,
     })
@@ -29,7 +29,7 @@ fn fault_in_arguments(
     alloc: Global,
     kinds: &[ArgKind],
     text: &[u8],
-) -> Result<Option<Fault>, AllocError>
+) -> Result<Option<LineFault>, AllocError>
     ensures { IfOk result (TellsFault further_text (AreArgs kinds.now) text.now) }
 {
     let [kind, others @ ..] = kinds else {
@@ -55,7 +55,7 @@ fn fault_in_call(
     binds: bool,
     more: bool,
     text: &[u8],
-) -> Result<Option<Fault>, AllocError>
+) -> Result<Option<LineFault>, AllocError>
     ensures { IfOk result (TellsFault call_after (IsCall binds more) text.now) }
 {
     let expected = Expected::Call { binds, more };
@@ -73,7 +73,7 @@ fn fault_in_call(
 }
 
 /// The fault of a worker after a space, with its call that makes something.
-fn fault_in_making(alloc: Global, text: &[u8]) -> Result<Option<Fault>, AllocError>
+fn fault_in_making(alloc: Global, text: &[u8]) -> Result<Option<LineFault>, AllocError>
     ensures { IfOk result (TellsFault making_after IsMaking text.now) }
 {
     let Some((word, rest)) = next_word(text) else {
@@ -87,7 +87,7 @@ fn fault_in_making(alloc: Global, text: &[u8]) -> Result<Option<Fault>, AllocErr
 }
 
 /// The fault of what stands after a name: an equals sign, a worker and its call.
-fn fault_in_bound(alloc: Global, text: &[u8]) -> Result<Option<Fault>, AllocError>
+fn fault_in_bound(alloc: Global, text: &[u8]) -> Result<Option<LineFault>, AllocError>
     ensures { IfOk result (TellsFault bound_after IsMaking text.now) }
 {
     let Some((word, rest)) = next_word(text) else {
@@ -102,7 +102,7 @@ fn fault_in_bound(alloc: Global, text: &[u8]) -> Result<Option<Fault>, AllocErro
 
 /// Where a line, without the LF that ends it, stops being the beginning of a well-formed one, and what may stand
 /// there. None where it is well formed. The length of a line plays no part.
-pub fn fault_in(alloc: Global, line: &[u8]) -> Result<Option<Fault>, AllocError>
+pub fn fault_in(alloc: Global, line: &[u8]) -> Result<Option<LineFault>, AllocError>
     ensures { IfOk result (TellsFault written_text IsWritten line.now) }
 {
     let (word, rest) = first_word(line);

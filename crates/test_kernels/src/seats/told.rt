@@ -5,7 +5,7 @@ use anyhow::Result;
 use base::{Meter, ObjectId};
 use kernel_rules::{Call, Query, Reply};
 use label_intern::LabelIx;
-use one_history::{Asked, Fault, Looked, Told, told_by};
+use one_history::{Looked, Round, RoundAnswers, RoundFault, told_by};
 use published_copy::{Naming, SeatRefusal, Shared};
 use std::alloc::Global;
 use std::sync::Wait;
@@ -15,7 +15,7 @@ use test_structures::samples::{boot_thread, new_thread};
 
 /// Whether the writer made two categories as its first event and the journal's fourth, the reader was shown its own values, a page
 /// is kept as what it uses, with the root as the first live id, and a stored label compares with itself.
-fn is_told(told: &Told) -> bool {
+fn is_told(told: &RoundAnswers) -> bool {
     matches!(
         told.receipt.replies.as_slice(),
         [Reply::Category(_), Reply::Category(_)]
@@ -44,7 +44,7 @@ pub fn tell_at<B: Naming, R: Wait>(
 ) -> Result<()> {
     let mut meter = Meter::new(alloc)?;
     make_threads(rt, shared)?;
-    let asked = Asked {
+    let asked = Round {
         writer: ObjectId::new(4),
         calls: &[Call::CatCreate, Call::CatCreate],
         reader: ObjectId::new(6),
@@ -62,7 +62,7 @@ pub fn tell_at<B: Naming, R: Wait>(
         Err(_) => look.sees(false),
     }
     let again = told_by(rt, shared, &asked, &mut meter);
-    look.sees(again.err() == Some(Fault::Seat(SeatRefusal::SeatTaken)));
+    look.sees(again.err() == Some(RoundFault::Seat(SeatRefusal::SeatTaken)));
     Ok(())
 }
 

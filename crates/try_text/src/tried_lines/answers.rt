@@ -4,7 +4,7 @@ use text_words::Name;
 
 /// What comes of a line.
 #[derive(Clone, Copy)]
-pub enum Answer {
+pub enum LineAnswer {
     /// It was asked, and this is the reply. No other answer changes anything.
     Told(Reply),
     /// It is no script of its own: the first faulty line of its text, from 1.

@@ -7,8 +7,8 @@ ghost use Rattle.try_text.specs.Saved.{saved_text};
 ghost use Rattle.try_text.specs.Standing.{first_line, made_by};
 ghost use Rattle.try_text.specs.Takes.{Takes, IsScriptOf, is_full, answer_in, after_answer, binds_of, if_made};
 
-use crate::tried_lines::answers::Answer;
-use crate::tried_lines::kept::{Kept, first_line};
+use crate::tried_lines::answers::LineAnswer;
+use crate::tried_lines::kept::{TriedLine, first_line};
 use crate::tried_lines::saving::put_saved;
 use crate::tried_lines::standing::{Standing, made_by};
 use base::{Limits, Meter, NoMemory};
@@ -26,7 +26,7 @@ const MOST: usize = 32_768;
 pub struct Dialogue {
     alloc: Global,
     limits: Limits,
-    lines: Vec<Kept>,
+    lines: Vec<TriedLine>,
     current: Standing,
 }
 
@@ -75,7 +75,7 @@ fn if_made(binds: &Option<Name>, reply: &Reply) -> Option<Name>
 }
 
 /// All lines but the last.
-fn all_but_last(lines: &[Kept]) -> &[Kept]
+fn all_but_last(lines: &[TriedLine]) -> &[TriedLine]
     ensures { result.now ≡ all_but_last lines.now }
 {
     match lines {
@@ -111,7 +111,7 @@ impl Dialogue {
     }
 
     /// Its last line.
-    pub fn last(&self) -> Option<&Kept>
+    pub fn last(&self) -> Option<&TriedLine>
         ensures { option_copied result ≡ last_of self.now.lines }
     {
         self.lines.as_slice().last()
@@ -125,13 +125,13 @@ impl Dialogue {
     }
 
     /// Asks the line of a script, and keeps it where there is a reply. An `Err`, which is want of memory, changes nothing.
-    fn take_script(&mut self, script: Script) -> Result<Answer, NoMemory>
+    fn take_script(&mut self, script: Script) -> Result<LineAnswer, NoMemory>
         ensures answer { IfOk result (λ answer. answer ≡ answer_in self.old (first_line script)) }
         ensures after { IfOk result (λ answer. self.new ≡ after_answer self.old script answer) }
         ensures err { OnErr result (self.new ≡ self.old) }
     {
         if self.is_full() {
-            return Ok(Answer::Full);
+            return Ok(LineAnswer::Full);
         }
         let question = match self.current.check(&script) {
             Ok(question) => question,
@@ -141,22 +141,22 @@ impl Dialogue {
         let mut meter = Meter::new(self.alloc)?;
         self.lines.reserve(1)?;
         let reply = self.current.answer(&binds, &question, &mut meter)?;
-        self.lines.push_reserved(Kept {
+        self.lines.push_reserved(TriedLine {
             binds: if_made(&binds, &reply),
             script,
         });
-        Ok(Answer::Told(reply))
+        Ok(LineAnswer::Told(reply))
     }
 
     /// Asks the line of a script that the text, without the line's end, spells, and keeps it where there is a reply. All
     /// else changes nothing. An `Err`, which is want of memory, changes nothing either.
-    pub fn take(&mut self, text: &[u8]) -> Result<Answer, NoMemory>
+    pub fn take(&mut self, text: &[u8]) -> Result<LineAnswer, NoMemory>
         ensures ok { IfOk result (Takes text.now self.old self.new) }
         ensures err { OnErr result (self.new ≡ self.old) }
     {
         match script_of(self.alloc, text)? {
             Ok(script) => self.take_script(script),
-            Err(line) => Ok(Answer::Faulty(line)),
+            Err(line) => Ok(LineAnswer::Faulty(line)),
         }
     }
 

@@ -7,7 +7,7 @@ use text_words::Name;
 
 /// A line that was asked.
 #[derive(Drop)]
-pub struct Kept {
+pub struct TriedLine {
     /// The name that it bound to what its call made.
     pub binds: Option<Name>,
     /// The line, as a script of its own.
@@ -24,7 +24,7 @@ pub fn first_line(script: &Script) -> Option<Line<'_>>
     }
 }
 
-impl Kept {
+impl TriedLine {
     /// The line.
     pub fn line(&self) -> Option<Line<'_>>
         ensures { result ≡ first_line self.now.script }

@@ -3,7 +3,7 @@ ghost use Rattle.std.specs.Prelude.{◌≡◌, ◌++◌, IfOk, OnOk};
 ghost use Rattle.try_text.specs.Saved.{break_text, line_text, next_text, worker_after, saved_text};
 ghost use Rattle.try_text.specs.Standing.{first_line};
 
-use crate::tried_lines::kept::Kept;
+use crate::tried_lines::kept::TriedLine;
 use base::NoMemory;
 use call_text::Line;
 use text_words::spoken_calls::put_spoken;
@@ -36,7 +36,11 @@ pub fn put_line(out: &mut Vec<u8>, binds: Option<Name>, line: &Line<'_>) -> Resu
 }
 
 /// Adds a kept line with its end, after another one, whose worker was this; and tells the worker of the last line so far.
-fn put_next(out: &mut Vec<u8>, before: Option<Name>, kept: &Kept) -> Result<Option<Name>, NoMemory>
+fn put_next(
+    out: &mut Vec<u8>,
+    before: Option<Name>,
+    kept: &TriedLine,
+) -> Result<Option<Name>, NoMemory>
     ensures text { OnOk result (out.new.items
         ≡ out.old.items ++ next_text before kept.now.binds (first_line kept.now.script)) }
     ensures worker { IfOk result (λ worker. worker ≡ worker_after before (first_line kept.now.script)) }
@@ -51,7 +55,7 @@ fn put_next(out: &mut Vec<u8>, before: Option<Name>, kept: &Kept) -> Result<Opti
 }
 
 /// Adds kept lines, one after another.
-pub fn put_saved(out: &mut Vec<u8>, kept: &[Kept]) -> Result<(), NoMemory>
+pub fn put_saved(out: &mut Vec<u8>, kept: &[TriedLine]) -> Result<(), NoMemory>
     ensures { OnOk result (out.new.items ≡ out.old.items ++ saved_text kept.now) }
 {
     let mut before: Option<Name> = None;

@@ -7,8 +7,8 @@ ghost use Rattle.try_text.specs.Standing.{start, question, reply_to, made_by, st
 ghost use Rattle.try_text.specs.Standing.{after_question, after_kept, after_all, first_line};
 ghost use Rattle.try_text.specs.Takes.{rebound, checked};
 
-use crate::tried_lines::answers::Answer;
-use crate::tried_lines::kept::{Kept, first_line};
+use crate::tried_lines::answers::LineAnswer;
+use crate::tried_lines::kept::{TriedLine, first_line};
 use crate::tried_lines::questions::Question;
 use base::{Kind, Limits, Meter, NoMemory};
 use call_text::{Asked, Known, Line, NameList, Named, Script, Value, resolve, start_names};
@@ -122,22 +122,22 @@ impl Standing {
     }
 
     /// What the line of a script asks, or why it is not asked.
-    pub fn check(&self, script: &Script) -> Result<Question, Answer>
+    pub fn check(&self, script: &Script) -> Result<Question, LineAnswer>
         ensures { result ≡ checked self.now (first_line script.now) }
     {
         let Some(line) = first_line(script) else {
-            return Err(Answer::Nothing);
+            return Err(LineAnswer::Nothing);
         };
         if let Some(name) = self.rebound(line.binds) {
-            return Err(Answer::Rebound(name));
+            return Err(LineAnswer::Rebound(name));
         }
         match self.question(&line) {
-            Err(name) => Err(Answer::Unbound(name)),
+            Err(name) => Err(LineAnswer::Unbound(name)),
             Ok(question) => {
                 if self.state.is_live_kind(Kind::Thread, question.thread) {
                     Ok(question)
                 } else {
-                    Err(Answer::NoThread(line.worker))
+                    Err(LineAnswer::NoThread(line.worker))
                 }
             }
         }
@@ -166,7 +166,7 @@ impl Standing {
     }
 
     /// Asks a kept line again. An `Err` is want of memory.
-    fn replay(&mut self, kept: &Kept, meter: &mut Meter) -> Result<(), NoMemory>
+    fn replay(&mut self, kept: &TriedLine, meter: &mut Meter) -> Result<(), NoMemory>
         ensures { OnOk result (self.new ≡ after_kept self.old kept.now) }
     {
         // (a type that a reply has, which the proof names)
@@ -182,7 +182,7 @@ impl Standing {
     }
 
     /// Asks kept lines again, one after another. An `Err` is want of memory.
-    fn replay_all(&mut self, kept: &[Kept], meter: &mut Meter) -> Result<(), NoMemory>
+    fn replay_all(&mut self, kept: &[TriedLine], meter: &mut Meter) -> Result<(), NoMemory>
         ensures { OnOk result (self.new ≡ after_all self.old kept.now) }
     {
         for one in kept {
@@ -192,7 +192,7 @@ impl Standing {
     }
 
     /// Where a dialogue of these lines stands. The error is want of memory, where the limits are in range.
-    pub fn after(alloc: Global, limits: &Limits, kept: &[Kept]) -> Result<Standing, NoMemory>
+    pub fn after(alloc: Global, limits: &Limits, kept: &[TriedLine]) -> Result<Standing, NoMemory>
         ensures { IfOk result (λ made. made ≡ after_all (start limits.now) kept.now) }
     {
         let mut meter = Meter::new(alloc)?;
