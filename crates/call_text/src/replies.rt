@@ -66,7 +66,7 @@ fn own_words(
     entry_point: u64,
     closure: u64,
 ) -> [Word; 7]
-    ensures { result.items ≡ own_words label.now clearance.now verify.now space.now entry_point closure }
+    ensures { result ≡ own_words label.now clearance.now verify.now space.now entry_point closure }
 {
     [
         Word::Label(*label),
@@ -82,7 +82,7 @@ fn own_words(
 /// Adds what a thread is, in these words.
 #[inline(never)]
 fn put_own<K: Known>(out: &mut Vec<u8>, words: &[Word; 7], names: &K) -> Result<(), NoMemory>
-    ensures { OnOk result (out.new.items ≡ out.old.items ++ words_text (K.names names.now) Head.Own words.now.items) }
+    ensures { OnOk result (out.new.items ≡ out.old.items ++ words_text (K.names names.now) Head.Own words.now) }
 {
     put_words(out, Head::Own, words, names)
 }

@@ -140,9 +140,10 @@ fn add(
         phases.new.items args.new.items lines.new.items) }
 {
     match line {
-        None => close(alloc, phases, args, lines),
-        Some(line) => Ok(lines.push(line)?),
+        None => close(alloc, phases, args, lines)?,
+        Some(line) => lines.push(line)?,
     }
+    Ok(())
 }
 
 /// The one script that the bytes spell. `Line` tells the first faulty line: the first at which they stop being the beginning
