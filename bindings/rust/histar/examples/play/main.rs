@@ -61,7 +61,7 @@ impl<'a> Player<'a> {
         for line in lines.iter().filter(|it| it.phase == phase) {
             let Some(Value::Object(id)) = self.names.value(line.worker, "", phase) else { continue };
             if !self.seated.contains(line.worker) {
-                match session_of(&self.kernel, id.into()).self_get() {
+                match session_of(&self.kernel, id.into()).self_get().map_err(Refusal::from) {
                     Err(Refusal::Halted) => self.turned_away.insert(line.worker),
                     _ => self.seated.insert(line.worker),
                 };
@@ -79,7 +79,7 @@ impl<'a> Player<'a> {
         let words = line.call.split_whitespace();
         let call = Words { words, names: &self.names, worker: line.worker, phase: line.phase }.call();
         match call {
-            Ok(call) => Answer::Reply(self.kernel.call(Thread::from(worker), &call)),
+            Ok(call) => Answer::Reply(self.kernel.call(Thread::from(worker), &call).map_err(Refusal::from)),
             Err(Unbound(name)) => Answer::Unbound(name),
         }
     }
