@@ -235,7 +235,7 @@ def written(call):
     entry = "entry" if named and named.name == "device" else named and named.name
     entry = f"&Entry::new({of or '*'}{first.name}, Object::NONE)" if first else entry or "&Entry::NONE"
     if not call.arguments:
-        return [f"self.call = {call.number};"]
+        return [f"self.put({call.number}, &Entry::NONE, []);"]
     return [*made, f"self.put({call.number}, {entry}, [{', '.join(numbers)}]);"]
 
 
@@ -292,14 +292,14 @@ def method(call):
     example = call.example.rstrip("\n").split("\n")
     errors = ", ".join(f"[`{it}`] {when}".rstrip() for it, when in call.refusals) + "." if call.refusals else "Those of every call."
     made = docs(f"{call.does} {call.in_rust}".strip(), indent) + "    ///\n    /// ```\n"
-    shown = [example[0], "# let kernel = histar::Kernel::boot(64)?;", "# let boot = kernel.session();", *example[1:], "# Ok::<(), histar::Refusal>(())"]
+    shown = [example[0], "# let kernel = histar::Kernel::boot(64)?;", "# let boot = kernel.session();", *example[1:], "# Ok::<(), histar::Refused>(())"]
     made += "".join(f"    /// {it}\n" for it in shown) + "    /// ```\n    ///\n    /// # Errors\n" + docs(errors, indent)
     kinds = [("device" if name == "entry" and call.one("entry").name == "device" else name, kind) for name, kind, _ in fields(call)]
     kinds = [(name, {"Cow<'a, Label>": "&Label", "Cow<'a, [u8]>": "&[u8]"}.get(kind, kind)) for name, kind in kinds]
     if call.name == "gate_create":
         kinds = [("gate", "&NewGate<'_>")]
     answer = "Session<'k>" if call.name == "thread_create" else ANSWERS[call.answer]
-    head = [f"pub fn {call.name}(", ["&self", *(f"{name}: {kind}" for name, kind in kinds)], f") -> Result<{answer}, Refusal> {{"]
+    head = [f"pub fn {call.name}(", ["&self", *(f"{name}: {kind}" for name, kind in kinds)], f") -> Result<{answer}, Refused> {{"]
     made += fit(head, indent)
     values = [f"{name}: {given}.into()" if kind[0] == "&" else name if name == given else f"{name}: {given}"
               for (name, _, _), (given, kind) in zip(fields(call), kinds)]
@@ -324,7 +324,7 @@ def asked(call, value):
         opening = ["let call =", f"    {value};"]
     given = "&call" if is_long else f"&{value}"
     if call.name == "thread_create":
-        return [*opening, "let made: Result<Object, Refusal> = expect_reply!(self.call(&call)?, Reply::Object);",
+        return [*opening, "let made: Result<Object, Refused> = expect_reply!(self.call(&call)?, Reply::Object);",
                 "made.map(|thread| Session::new(self.kernel, thread.into()))"]
     if call.answer == "ok":
         return [*opening, f"self.done({given})"]
@@ -343,7 +343,7 @@ def methods(group, made):
     life = "'k" if group == "thread" else "'_"
     text = "\n".join(made)
     code = re.sub(r"///.*", "", text)
-    used = [it for it in ("Bytes", "Call", "Category", "Entered", "Entry", "Kinds", "Label", "Listed", "Mapping", "NewGate", "Object", "Own", "Quota", "Refusal", "Reply")
+    used = [it for it in ("Bytes", "Call", "Category", "Entered", "Entry", "Kinds", "Label", "Listed", "Mapping", "NewGate", "Object", "Own", "Quota", "Refused", "Reply")
             if re.search(rf"\b{it}\b(?!<?'?\()", code) and (it != "Own" or "Result<Own" in code)]
     used = [it for it in used if re.search(rf"(?<!Reply::)(?<!:){it}\b", code)]
     return (f"//! Calls about {GROUPS[group]}. Made from bindings/calls.toml by bindings/make.py.\nuse super::Session;\nuse crate::{{{', '.join(used)}}};\n\n"
@@ -476,7 +476,7 @@ def parts(all_calls):
             joined(function_in_c, reads, "\n")]),
         (f"{RUST}/call.rs", rust, [
             joined(variant), joined(own_arm), read_test(reads)]),
-        (f"{RUST}/records.rs", rust, [joined(write_arm)]),
+        (f"{RUST}/records.rs", rust, [joined(write_arm), joined(lambda it: f'    "{it.name}",\n')]),
         ("bindings/rust/histar/examples/play/words.rs", rust, [joined(played_in_rust)]),
         ("docs/CALLS.md", ("|---|---|---|---|", ""), [joined(row, writes), joined(row, reads)]),
     ]

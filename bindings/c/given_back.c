@@ -5,21 +5,15 @@
  * Then threads do it at once: each writes and reads through a seat of its own, closes it and opens another beside that of the thread
  * before it, so that no block may go that a seat lacks: each new seat is in the state of the one beside it, and sees what comes.
  *
- * given_back [CALLS SECONDS]   1,000,000 calls and 2 seconds without words. To be linked with -Wl,--wrap=malloc,--wrap=realloc,--wrap=free */
+ * given_back [CALLS SECONDS]   1,000,000 calls and 2 seconds without words */
 #define _GNU_SOURCE
 #include "histar.h"
+#include "wrapped.h"
 #include <malloc.h>
 #include <pthread.h>
 #include <stdio.h>
 #include <stdlib.h>
 #include <time.h>
-
-void *__real_malloc(size_t len);
-void *__real_realloc(void *old, size_t len);
-void __real_free(void *old);
-void *__wrap_malloc(size_t len);
-void *__wrap_realloc(void *old, size_t len);
-void __wrap_free(void *old);
 
 /* The bytes of blocks that are out. */
 static long in_use;

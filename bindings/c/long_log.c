@@ -1,18 +1,12 @@
 /* A dump stands nowhere whole: a kernel keeps a log of many write calls, and its dump goes to a function that counts the lines. Beside what
  * was in use before it a dump takes no more of a long log than of a short one.
  *
- * long_log [CALLS]   1,000,000 calls without words. To be linked with -Wl,--wrap=malloc,--wrap=realloc,--wrap=free */
+ * long_log [CALLS]   1,000,000 calls without words */
 #include "histar.h"
+#include "wrapped.h"
 #include <malloc.h>
 #include <stdio.h>
 #include <stdlib.h>
-
-void *__real_malloc(size_t len);
-void *__real_realloc(void *old, size_t len);
-void __real_free(void *old);
-void *__wrap_malloc(size_t len);
-void *__wrap_realloc(void *old, size_t len);
-void __wrap_free(void *old);
 
 /* The bytes of blocks that are out, and the most that there were. */
 static size_t in_use, peak;

@@ -3,18 +3,10 @@
  * all back. Then the same of calls that are kept in a log, and of its dump: a call that is refused memory is told 40 and is
  * made as ever when it is asked for again, and a dump is told 51. The same of a checkpoint, of the open at its text, and of a log that is
  * cut. And the same of a kernel that threads share: of its first seat, of
- * another, and of write calls, those that lay a block of the list too, while reads take none.
- *
- * To be linked with -Wl,--wrap=malloc,--wrap=realloc,--wrap=free. */
+ * another, and of write calls, those that lay a block of the list too, while reads take none. */
 #include "histar.h"
+#include "wrapped.h"
 #include <stdio.h>
-
-void *__real_malloc(size_t len);
-void *__real_realloc(void *old, size_t len);
-void __real_free(void *old);
-void *__wrap_malloc(size_t len);
-void *__wrap_realloc(void *old, size_t len);
-void __wrap_free(void *old);
 
 /* Requests so far, which of them is refused, and blocks that are out. */
 static long asked, refused, out;

@@ -2,7 +2,7 @@
 use crate::spelling::{put_number, take_number};
 use crate::{Machine, Unrestored, Written};
 use histar::trusted::{session_of, Record, Thread};
-use histar::{Kernel, Level, Limits, Refusal, Reply};
+use histar::{Kernel, Level, Limits, Refusal, Refused, Reply};
 
 /// The levels that a device may have, by their numbers.
 const LEVELS: [Level; 4] = [Level::L0, Level::L1, Level::L2, Level::L3];
@@ -40,8 +40,8 @@ fn head_of(limits: &Limits) -> String {
 }
 
 /// Why no kernel was opened at a text.
-fn unopened(why: Refusal) -> Unrestored {
-    match why {
+fn unopened(refused: Refused) -> Unrestored {
+    match refused.reason {
         Refusal::TextFault | Refusal::HasEvents | Refusal::IllFormed | Refusal::BadLimits => Unrestored::NoState,
         _ => Unrestored::NoMemory,
     }
@@ -55,25 +55,25 @@ fn put_numbers(out: &mut Vec<u8>, numbers: [u64; 3]) {
 /// So its text has the limits and the state alone, and is the same on each node.
 impl Machine for Kernel {
     type Call = Record;
-    type Reply = Result<Reply, Refusal>;
+    type Reply = Result<Reply, Refused>;
 
     const RULES: u64 = 1;
 
     fn boot(limits: &[u8]) -> Result<Kernel, String> {
         let limits = limits_of(limits).ok_or("the limits can't be read")?;
-        Kernel::boot_with(&limits).map_err(|why| why.to_string())
+        Kernel::boot_with(&limits).map_err(|refused| refused.to_string())
     }
 
     fn set_rules(&mut self, rules: u64) -> bool {
         rules == 1
     }
 
-    fn play(&mut self, call: &Record) -> Result<Reply, Refusal> {
+    fn play(&mut self, call: &Record) -> Result<Reply, Refused> {
         Kernel::play(self, call)
     }
 
     fn is_live(&self, thread: u64) -> bool {
-        session_of(self, Thread(thread)).self_get() != Err(Refusal::Halted)
+        !matches!(session_of(self, Thread(thread)).self_get(), Err(Refused { reason: Refusal::Halted, .. }))
     }
 
     fn checkpoint(&self) -> Written {
@@ -99,7 +99,7 @@ impl Machine for Kernel {
         call.thread().0
     }
 
-    fn made(call: &Record, reply: &Result<Reply, Refusal>) -> Option<u64> {
+    fn made(call: &Record, reply: &Result<Reply, Refused>) -> Option<u64> {
         match reply {
             Ok(Reply::Object(made)) if call.makes_thread() => Some(made.0),
             _ => None,
@@ -114,9 +114,9 @@ impl Machine for Kernel {
         Record::take(bytes)
     }
 
-    fn put_reply(reply: &Result<Reply, Refusal>, out: &mut Vec<u8>) {
+    fn put_reply(reply: &Result<Reply, Refused>, out: &mut Vec<u8>) {
         match reply {
-            Err(refusal) => out.extend_from_slice(&[0, refusal.number() as u8]),
+            Err(refused) => out.extend_from_slice(&[0, refused.reason.number() as u8]),
             Ok(Reply::Category(category)) => put_numbers(out, [1, category.0, 0]),
             Ok(Reply::Object(object)) => put_numbers(out, [2, object.0, 0]),
             Ok(Reply::Entered(entered)) => put_numbers(out, [3, entered.entry_point, entered.closure]),

@@ -4,7 +4,7 @@ use crate::node::{Node, Options, Output, Status};
 use crate::receipt::{Fault, Note, Receipt, Told};
 use crate::{Item, Machine, Replica};
 use histar::trusted::{Record, Thread};
-use histar::{Call, Kernel, Refusal, Reply};
+use histar::{Call, Kernel, Refused, Reply};
 use std::collections::HashMap;
 use std::fmt;
 use std::sync::mpsc::{channel, Receiver, RecvTimeoutError, Sender};
@@ -276,7 +276,7 @@ where
 #[derive(Clone, PartialEq, Eq, Debug)]
 pub struct Called {
     /// The kernel's reply.
-    pub reply: Result<Reply, Refusal>,
+    pub reply: Result<Reply, Refused>,
     /// What a reader has to have seen to see it.
     pub note: Note,
 }

@@ -7,7 +7,7 @@ use crate::sha256::{sha256, Digest};
 use crate::spelling::take_number;
 use crate::state::{Boot, State, Step};
 use crate::Name;
-use histar::{Kernel, Refusal};
+use histar::{Kernel, Refused};
 use std::collections::BTreeMap;
 use std::fmt;
 
@@ -204,7 +204,7 @@ impl<'p> Log<'p> {
 
     /// The dump of a kernel that plays what comes after a start.
     fn dump(&self, start: Start<'_>) -> Result<String, Fault> {
-        let no_machine = |why: Refusal| Fault::NoMachine(why.to_string());
+        let no_machine = |refused: Refused| Fault::NoMachine(refused.to_string());
         let mut state = self.state(start)?;
         state.machine.log_on().map_err(no_machine)?;
         self.play(&mut state)?; // (a kernel with a log writes another text, so its marks tell nothing)

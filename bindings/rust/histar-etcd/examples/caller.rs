@@ -13,7 +13,7 @@ mod wire;
 
 use grpc::{Channel, Fault};
 use histar::trusted::{Record, Thread};
-use histar::{label, Call, Entry, Kernel, Limits, Object, Refusal, Reply};
+use histar::{label, Call, Entry, Kernel, Limits, Object, Refused, Reply};
 use histar_cluster::engine::{Engine, Pair};
 use histar_cluster::memory::Memory;
 use histar_cluster::{audit, limits, range, Item, Machine, Name, Options, Receipt, Running, Told, Unrestored, Written};
@@ -30,12 +30,12 @@ use wire::{Done, PutRequest};
 /// A kernel that knows what each record was answered.
 struct Probe {
     kernel: Kernel,
-    answered: HashMap<Vec<u8>, Vec<Result<Reply, Refusal>>>,
+    answered: HashMap<Vec<u8>, Vec<Result<Reply, Refused>>>,
 }
 
 impl Machine for Probe {
     type Call = Record;
-    type Reply = Result<Reply, Refusal>;
+    type Reply = Result<Reply, Refused>;
     const RULES: u64 = Kernel::RULES;
 
     fn boot(limits: &[u8]) -> Result<Probe, String> {
@@ -126,13 +126,13 @@ fn prepare(cluster: &str, members: &str, nodes: &[String]) {
     }
 }
 
-fn told_of(receipt: Option<Receipt<Result<Reply, Refusal>>>, number: u64) -> (String, Option<Object>) {
+fn told_of(receipt: Option<Receipt<Result<Reply, Refused>>>, number: u64) -> (String, Option<Object>) {
     match receipt {
         Some(Receipt::Told { told, note }) => match &told[..] {
             [Told::Reply(Ok(Reply::Object(made)))] => {
                 (format!("a {number} {} 0 {}\n", note.place, made.0), Some(*made))
             }
-            [Told::Reply(Err(why))] => (format!("a {number} {} {} 0\n", note.place, why.number()), None),
+            [Told::Reply(Err(refused))] => (format!("a {number} {} {} 0\n", note.place, refused.reason.number()), None),
             other => panic!("another reply: {other:?}"),
         },
         Some(Receipt::NeverMade) => (format!("n {number}\n"), None),

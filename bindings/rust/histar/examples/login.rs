@@ -1,6 +1,6 @@
 //! A login gate: its entry function compares a password, and only then the thread that entered gets to a user's data. The kernel
 //! hands out the gate's entry point and closure; the program keeps the table of its functions.
-use histar::{label, Category, Entry, Kernel, Label, NewGate, Object, Refusal, Session};
+use histar::{label, Category, Entry, Kernel, Label, NewGate, Object, Refused, Session};
 
 /// What the program keeps beside the kernel: the category of a user's data, and where they are.
 struct User {
@@ -9,13 +9,13 @@ struct User {
 }
 
 /// What runs when a thread has entered a gate: it is handed the gate's closure.
-type EntryFunction = fn(&Session<'_>, &User, u64, &str) -> Result<(), Refusal>;
+type EntryFunction = fn(&Session<'_>, &User, u64, &str) -> Result<(), Refused>;
 
 /// The functions by their entry points.
 const ENTRIES: [EntryFunction; 1] = [login];
 
 /// The thread owns the category here. It leaves with 3 in it, which reads the data and can't send them on, or as it came.
-fn login(client: &Session<'_>, user: &User, closure: u64, password: &str) -> Result<(), Refusal> {
+fn login(client: &Session<'_>, user: &User, closure: u64, password: &str) -> Result<(), Refused> {
     let stored = client.segment_read(Entry::in_root(Object(closure)), 0, 16)?;
     if stored.split(|byte| *byte == 0).next() == Some(password.as_bytes()) {
         return client.self_set_label(&label! { user.category => L3; L1 });
@@ -25,20 +25,20 @@ fn login(client: &Session<'_>, user: &User, closure: u64, password: &str) -> Res
 }
 
 /// Enters a gate of this program, and runs its entry function.
-fn enter(client: &Session<'_>, user: &User, gate: Entry, password: &str) -> Result<(), Refusal> {
+fn enter(client: &Session<'_>, user: &User, gate: Entry, password: &str) -> Result<(), Refused> {
     let owner = label! { user.category => Star; L1 };
     let clearance = label! { user.category => L3; L2 };
     let entered = client.gate_enter(gate, &owner, &clearance, &label! { L3 })?;
     ENTRIES[entered.entry_point as usize](client, user, entered.closure, password)
 }
 
-fn new_segment(boot: &Session<'_>, label: &Label, text: &str) -> Result<Object, Refusal> {
+fn new_segment(boot: &Session<'_>, label: &Label, text: &str) -> Result<Object, Refused> {
     let made = boot.segment_create(Object::ROOT, label, 2, 1)?;
     boot.segment_write(Entry::in_root(made), 0, text.as_bytes())?;
     Ok(made)
 }
 
-fn main() -> Result<(), Refusal> {
+fn main() -> Result<(), Refused> {
     let kernel = Kernel::boot(64)?;
     let boot = kernel.session();
     let category = boot.cat_create()?;
@@ -54,11 +54,11 @@ fn main() -> Result<(), Refusal> {
         enter(&client, &user, gate, password)?;
         match client.segment_read(user.data, 0, 11) {
             Ok(read) => println!("{password}: reads {}", String::from_utf8_lossy(&read)),
-            Err(refusal) => println!("{password}: refused {refusal}"),
+            Err(refused) => println!("{password}: refused {}", refused.reason),
         }
         match client.dev_send(Entry::in_root(Object::DEVICE), b"mail") {
             Ok(()) => println!("{password}: sends a packet"),
-            Err(refusal) => println!("{password}: sends {refusal:?}"),
+            Err(refused) => println!("{password}: sends {:?}", refused.reason),
         }
     }
     Ok(())

@@ -40,7 +40,7 @@ impl Kernel {
     /// # let boot = kernel.session();
     /// boot.cat_create()?;
     /// assert_eq!((kernel.kept_live(2), kernel.kept_live(3)), (Some(Object::DEVICE), None));
-    /// # Ok::<(), histar::Refusal>(())
+    /// # Ok::<(), histar::Refused>(())
     /// ```
     pub fn kept_live(&self, place: u32) -> Option<Object> {
         self.finds(35, Object::NONE, [u64::from(place)], |answer| Object(answer.numbers[0]))
@@ -54,7 +54,7 @@ impl Kernel {
     /// # let boot = kernel.session();
     /// let note = boot.segment_create(Object::ROOT, &label! { L1 }, 4, 2)?;
     /// assert_eq!((kernel.kept_use(note), kernel.kept_use(Object(99))), (Some(3), None));
-    /// # Ok::<(), histar::Refusal>(())
+    /// # Ok::<(), histar::Refused>(())
     /// ```
     pub fn kept_use(&self, object: Object) -> Option<u32> {
         self.finds(36, object, [], |answer| answer.numbers[0] as u32)
@@ -73,7 +73,7 @@ impl Kernel {
     /// assert_eq!(kernel.kept_translation(boot.id(), 5), None);
     /// boot.self_set_as(space)?;
     /// assert_eq!(kernel.kept_translation(boot.id(), 5), Some((note, rights)));
-    /// # Ok::<(), histar::Refusal>(())
+    /// # Ok::<(), histar::Refused>(())
     /// ```
     pub fn kept_translation(&self, thread: Object, slot: u32) -> Option<(Object, Rights)> {
         self.finds(37, thread, [u64::from(slot)], |answer| {
@@ -91,7 +91,7 @@ impl Kernel {
     /// let c = boot.cat_create()?;
     /// let mut kept = (0..9).filter_map(|index| kernel.kept_label(index));
     /// assert!(kept.any(|it| it == label! { c => Star; L1 }));
-    /// # Ok::<(), histar::Refusal>(())
+    /// # Ok::<(), histar::Refused>(())
     /// ```
     pub fn kept_label(&self, index: u16) -> Option<Label> {
         self.finds(38, Object::NONE, [u64::from(index)], |answer| answer.label.label())
@@ -108,7 +108,7 @@ impl Kernel {
     /// assert!(kernel.kept_order(own, clearance).unwrap().at_most);
     /// assert!(!kernel.kept_order(clearance, own).unwrap().at_most);
     /// assert_eq!(kernel.kept_order(own, 9999), None);
-    /// # Ok::<(), histar::Refusal>(())
+    /// # Ok::<(), histar::Refused>(())
     /// ```
     pub fn kept_order(&self, first: u16, second: u16) -> Option<Order> {
         self.finds(39, Object::NONE, [u64::from(first), u64::from(second)], |answer| {

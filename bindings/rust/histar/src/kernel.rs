@@ -1,7 +1,7 @@
 //! A kernel.
-use crate::raw::{Answer, Raw};
+use crate::raw::{Answer, Raw, Request};
 use crate::trusted::Thread;
-use crate::{Call, Limits, Refusal, Reply, Session};
+use crate::{Call, Limits, Refused, Reply, Session};
 
 #[cfg(doc)]
 use crate::Refusal::*;
@@ -22,11 +22,6 @@ pub struct Kernel {
     pub(crate) raw: Raw,
 }
 
-/// The refusal of a number that the library told.
-pub(crate) fn refusal(number: u32) -> Refusal {
-    Refusal::of(number).unwrap_or_else(|| unreachable!("the library told no refusal: {number}"))
-}
-
 /// The reply that the library told.
 pub(crate) fn told(answer: &Answer) -> Reply {
     answer.reply().unwrap_or_else(|| unreachable!("the library told no reply"))
@@ -40,14 +35,15 @@ impl Kernel {
     /// let kernel = Kernel::boot_with(&Limits { next_category: 7, ..Limits::pages(64) })?;
     /// assert_eq!(kernel.session().cat_create()?.0, 7);
     /// let star = Limits { device: Level::Star, ..Limits::pages(64) };
-    /// assert_eq!(Kernel::boot_with(&star).err(), Some(Refusal::BadLimits));
-    /// # Ok::<(), histar::Refusal>(())
+    /// assert_eq!(Kernel::boot_with(&star).unwrap_err().reason, Refusal::BadLimits);
+    /// # Ok::<(), histar::Refused>(())
     /// ```
     ///
     /// # Errors
     /// [`BadLimits`] where a limit is out of its range, and [`Unavailable`] for want of memory.
-    pub fn boot_with(limits: &Limits) -> Result<Kernel, Refusal> {
-        Raw::boot(limits).map(|raw| Kernel { raw }).map_err(refusal)
+    pub fn boot_with(limits: &Limits) -> Result<Kernel, Refused> {
+        let raw = Raw::boot(limits).map_err(|why| Refused::of("boot", why))?;
+        Ok(Kernel { raw })
     }
 
     /// A new kernel of so many pages of 256 bytes, 8 to 1,024, with the limits of a script.
@@ -56,13 +52,13 @@ impl Kernel {
     /// use histar::{Entry, Kernel, Object, Refusal};
     /// let kernel = Kernel::boot(8)?;
     /// assert_eq!(kernel.session().obj_quota(Entry::in_root(Object::ROOT))?.quota, 8);
-    /// assert_eq!(Kernel::boot(7).err(), Some(Refusal::BadLimits));
-    /// # Ok::<(), histar::Refusal>(())
+    /// assert_eq!(Kernel::boot(7).unwrap_err().reason, Refusal::BadLimits);
+    /// # Ok::<(), histar::Refused>(())
     /// ```
     ///
     /// # Errors
     /// As [`boot_with`](Kernel::boot_with).
-    pub fn boot(pages: u32) -> Result<Kernel, Refusal> {
+    pub fn boot(pages: u32) -> Result<Kernel, Refused> {
         Kernel::boot_with(&Limits::pages(pages))
     }
 
@@ -73,7 +69,7 @@ impl Kernel {
     /// let kernel = Kernel::boot(64)?;
     /// assert_eq!(kernel.session().id(), Object(2));
     /// assert_eq!(kernel.session().self_get()?.clearance, label! { L2 });
-    /// # Ok::<(), histar::Refusal>(())
+    /// # Ok::<(), histar::Refused>(())
     /// ```
     pub fn session(&self) -> Session<'_> {
         Session::new(self, Thread::BOOT)
@@ -86,22 +82,19 @@ impl Kernel {
     /// use histar::{Call, Category, Kernel, Refusal, Reply};
     /// let kernel = Kernel::boot(64)?;
     /// assert_eq!(kernel.call(Thread::BOOT, &Call::CatCreate), Ok(Reply::Category(Category(1))));
-    /// assert_eq!(kernel.call(Thread(99), &Call::CatCreate), Err(Refusal::Halted));
-    /// # Ok::<(), histar::Refusal>(())
+    /// assert_eq!(kernel.call(Thread(99), &Call::CatCreate).unwrap_err().reason, Refusal::Halted);
+    /// # Ok::<(), histar::Refused>(())
     /// ```
     ///
     /// # Errors
     /// The refusal of the call's row in docs/CALLS.md; if several checks fail, the one with the lowest number. A refused call
     /// changes nothing.
-    pub fn call(&self, thread: Thread, call: &Call<'_>) -> Result<Reply, Refusal> {
-        let asked = self.raw.ask(
-            |request| {
-                request.thread = thread.0;
-                request.put_call(call);
-            },
-            told,
-        );
-        asked.map_err(refusal)
+    pub fn call(&self, thread: Thread, call: &Call<'_>) -> Result<Reply, Refused> {
+        let fill = |request: &mut Request| {
+            request.thread = thread.0;
+            request.put_call(call);
+        };
+        self.raw.ask(fill, told)
     }
 }
 

@@ -4,7 +4,7 @@
 //! is proved of the code that this crate links; the crate itself is ordinary Rust, with all unsafe code in one file.
 //!
 //! ```
-//! use histar::{label, Entry, Kernel, Object, Refusal};
+//! use histar::{label, Entry, Kernel, Object, Refusal, Refused};
 //!
 //! let kernel = Kernel::boot(64)?;
 //! let boot = kernel.session();
@@ -14,8 +14,8 @@
 //!
 //! let stranger = boot.thread_create(Object::ROOT, &label! { L1 }, 1, &label! { L2 }, 0)?;
 //! assert_eq!(boot.segment_read(secret, 0, 3)?, b"key");
-//! assert_eq!(stranger.segment_read(secret, 0, 3).err(), Some(Refusal::CannotObserve));
-//! # Ok::<(), Refusal>(())
+//! assert_eq!(stranger.segment_read(secret, 0, 3).unwrap_err().reason, Refusal::CannotObserve);
+//! # Ok::<(), Refused>(())
 //! ```
 
 mod bytes;
@@ -42,7 +42,7 @@ pub use ids::{Category, Entry, Object};
 pub use kept::Order;
 pub use kernel::Kernel;
 pub use label::{Label, Level, ParseLabelError};
-pub use refusal::{NoRefusal, Refusal};
+pub use refusal::{NoRefusal, Refusal, Refused};
 pub use reply::{Entered, Listed, Own, Quota, Reply};
 pub use session::Session;
 pub use shared::{Log, Note, Seat};

@@ -1,7 +1,6 @@
 //! The log of a kernel's calls, and its checkpoints.
-use crate::kernel::refusal;
 use crate::raw::{Raw, Taken};
-use crate::{Entry, Kernel, Refusal};
+use crate::{Entry, Kernel, Refused};
 use std::io;
 
 #[cfg(doc)]
@@ -15,12 +14,12 @@ use crate::Refusal::*;
 /// kernel.log_on()?;
 /// kernel.session().cat_create()?;
 /// assert!(kernel.dump()?.contains("cat_create => cat #1"));
-/// # Ok::<(), histar::Refusal>(())
+/// # Ok::<(), histar::Refused>(())
 /// ```
 impl Kernel {
     /// Asks for what is answered by nothing.
-    fn ask_log(&self, part: u32) -> Result<(), Refusal> {
-        self.raw.ask(|request| request.put(part, &Entry::NONE, []), |_| ()).map_err(refusal)
+    fn ask_log(&self, part: u32) -> Result<(), Refused> {
+        self.raw.ask(|request| request.put(part, &Entry::NONE, []), |_| ())
     }
 
     /// Begins the log, before the first write call. From here on each write call takes memory.
@@ -30,13 +29,13 @@ impl Kernel {
     /// let (kernel, late) = (Kernel::boot(64)?, Kernel::boot(64)?);
     /// assert_eq!(kernel.log_on(), Ok(()));
     /// late.session().cat_create()?;
-    /// assert_eq!(late.log_on(), Err(Refusal::BadBatch));
-    /// # Ok::<(), histar::Refusal>(())
+    /// assert_eq!(late.log_on().unwrap_err().reason, Refusal::BadBatch);
+    /// # Ok::<(), histar::Refused>(())
     /// ```
     ///
     /// # Errors
     /// [`BadBatch`] where a write call was made already.
-    pub fn log_on(&self) -> Result<(), Refusal> {
+    pub fn log_on(&self) -> Result<(), Refused> {
         self.ask_log(40)
     }
 
@@ -51,12 +50,12 @@ impl Kernel {
     /// kernel.session().cat_create()?;
     /// let dump = kernel.dump()?;
     /// assert!(dump.contains("event 2 2 cat_create => cat #2\n") && !dump.contains("event 2 1 "));
-    /// # Ok::<(), histar::Refusal>(())
+    /// # Ok::<(), histar::Refused>(())
     /// ```
     ///
     /// # Errors
     /// [`Memory`] where there is none for that, and the log is as before.
-    pub fn cut_log(&self) -> Result<(), Refusal> {
+    pub fn cut_log(&self) -> Result<(), Refused> {
         self.ask_log(49)
     }
 
@@ -68,12 +67,12 @@ impl Kernel {
     /// let kernel = histar::Kernel::boot(64)?;
     /// kernel.session().cat_create()?;
     /// assert!(kernel.checkpoint()?.starts_with("histar-dump 2\nlimits 64 "));
-    /// # Ok::<(), histar::Refusal>(())
+    /// # Ok::<(), histar::Refused>(())
     /// ```
     ///
     /// # Errors
     /// [`TextMemory`] where the library has no memory for the text.
-    pub fn checkpoint(&self) -> Result<String, Refusal> {
+    pub fn checkpoint(&self) -> Result<String, Refused> {
         self.text(CHECKPOINT)
     }
 
@@ -110,15 +109,16 @@ impl Kernel {
     /// let kernel = Kernel::open_at(&text)?;
     /// assert_eq!(kernel.session().segment_read(Entry::in_root(note), 0, 4)?, b"kept");
     /// assert_eq!(kernel.session().container_create(Object::ROOT, &label! { L1 }, 1, Default::default())?, Object(note.0 + 1));
-    /// assert_eq!(Kernel::open_at(&text[1..]).err(), Some(Refusal::TextFault));
-    /// # Ok::<(), histar::Refusal>(())
+    /// assert_eq!(Kernel::open_at(&text[1..]).unwrap_err().reason, Refusal::TextFault);
+    /// # Ok::<(), histar::Refused>(())
     /// ```
     ///
     /// # Errors
     /// [`TextFault`] where the text is no dump, as one that is cut short; [`HasEvents`] where events come after the checkpoint;
     /// [`IllFormed`] where no calls lead to what it says; and [`Unavailable`] for want of memory.
-    pub fn open_at(text: impl AsRef<[u8]>) -> Result<Kernel, Refusal> {
-        Raw::boot_at(text.as_ref()).map(|raw| Kernel { raw }).map_err(refusal)
+    pub fn open_at(text: impl AsRef<[u8]>) -> Result<Kernel, Refused> {
+        let raw = Raw::boot_at(text.as_ref()).map_err(|why| Refused::of("open_at", why))?;
+        Ok(Kernel { raw })
     }
 
     /// The dump of the log. The log stays as it is, so it may be dumped again, and calls may follow.
@@ -126,16 +126,16 @@ impl Kernel {
     /// ```
     /// use histar::{Entry, Kernel, Object, Refusal};
     /// let kernel = Kernel::boot(64)?;
-    /// assert_eq!(kernel.dump(), Err(Refusal::BadBatch));
+    /// assert_eq!(kernel.dump().unwrap_err().reason, Refusal::BadBatch);
     /// kernel.log_on()?;
     /// assert!(kernel.session().unref(Entry::in_root(Object::ROOT)).is_err());
     /// assert!(kernel.dump()?.contains("event 2 1 unref #1 #1 => refused 16 RootKept\n"));
-    /// # Ok::<(), histar::Refusal>(())
+    /// # Ok::<(), histar::Refused>(())
     /// ```
     ///
     /// # Errors
     /// [`BadBatch`] where no log was begun, and [`TextMemory`] where the library has no memory for the text.
-    pub fn dump(&self) -> Result<String, Refusal> {
+    pub fn dump(&self) -> Result<String, Refused> {
         self.text(DUMP)
     }
 
@@ -159,14 +159,14 @@ impl Kernel {
     }
 
     /// Has the library make a text, and gives each piece of it, of which the one past the last is empty. No call comes between them.
-    fn pieces<E: From<Refusal>>(&self, part: u32, mut put: impl FnMut(&[u8]) -> Result<(), E>) -> Result<(), E> {
-        let mut taken = self.raw.take().map_err(refusal)?;
+    fn pieces<E: From<Refused>>(&self, part: u32, mut put: impl FnMut(&[u8]) -> Result<(), E>) -> Result<(), E> {
+        let mut taken = self.raw.take(|request| request.put(part, &Entry::NONE, []))?;
         let mut text = Vec::new();
         for number in 0.. {
             let put = match piece(&mut taken, part, number, &mut text) {
                 Ok(()) if text.is_empty() => break,
                 Ok(()) => put(&text),
-                Err(number) => Err(refusal(number).into()),
+                Err(refused) => Err(refused.into()),
             };
             if put.is_err() {
                 // (past the last piece, so that the library keeps none)
@@ -178,11 +178,11 @@ impl Kernel {
     }
 
     /// A text that the library makes.
-    fn text(&self, part: u32) -> Result<String, Refusal> {
+    fn text(&self, part: u32) -> Result<String, Refused> {
         let mut text = Vec::new();
         self.pieces(part, |piece| {
             text.extend_from_slice(piece);
-            Ok::<(), Refusal>(())
+            Ok::<(), Refused>(())
         })?;
         Ok(String::from_utf8(text).unwrap_or_else(|_| unreachable!("the library's texts have no letter beyond ASCII")))
     }
@@ -194,7 +194,7 @@ const CHECKPOINT: u32 = 48;
 const BYTES: u32 = 42;
 
 /// A piece of a text that the library makes.
-fn piece(taken: &mut Taken<'_>, part: u32, number: u64, text: &mut Vec<u8>) -> Result<(), u32> {
+fn piece(taken: &mut Taken<'_>, part: u32, number: u64, text: &mut Vec<u8>) -> Result<(), Refused> {
     text.clear();
     let len = taken.ask(|request| request.put(part, &Entry::NONE, [number]), |answer| answer.numbers[0])? as usize;
     while text.len() < len {

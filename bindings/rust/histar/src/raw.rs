@@ -1,6 +1,6 @@
 //! The library's functions and records, as `include/histar.h` has them, and a safe kernel over them. All unsafe code of
 //! the crate stands here.
-use crate::Limits;
+use crate::{Limits, Refusal, Refused};
 use std::cell::{RefCell, RefMut, UnsafeCell};
 use std::marker::PhantomData;
 use std::mem::{align_of, size_of};
@@ -122,12 +122,6 @@ extern "C" {
     fn histar_end(room: *mut Room);
 }
 
-/// The number that a record is told which asks for nothing.
-const BAD_BATCH: u32 = 45;
-
-/// The number that tells that the library is of another version.
-const OTHER_VERSION: u32 = 32;
-
 /// A number of this crate's version.
 const fn number(digits: &str) -> u32 {
     let digits = digits.as_bytes();
@@ -153,13 +147,13 @@ const TRIES_AT_ONCE: u32 = 100;
 const TRIES_IN_TURN: u32 = 200;
 const TRIES: u32 = 400;
 
-/// Whether the library is of this crate's version. The error is the number that tells that it is not.
-fn check_version() -> Result<(), u32> {
+/// Whether the library is of this crate's version.
+fn check_version() -> Result<(), Refusal> {
     // SAFETY: the function takes nothing and looks at nothing.
     if unsafe { histar_version() } == VERSION {
         Ok(())
     } else {
-        Err(OTHER_VERSION)
+        Err(Refusal::OtherVersion)
     }
 }
 
@@ -206,15 +200,25 @@ pub(crate) struct Taken<'a> {
 }
 
 impl Taken<'_> {
-    /// Does what is asked for, and reads the answer; or gives the number of the refusal. Nothing of either stays in the records.
-    pub fn ask<R>(&mut self, fill: impl FnOnce(&mut Request), read: impl FnOnce(&Answer) -> R) -> Result<R, u32> {
+    /// Does what is asked for, and reads the answer, or tells what was refused. Nothing of either stays in the records.
+    pub fn ask<R>(&mut self, fill: impl FnOnce(&mut Request), read: impl FnOnce(&Answer) -> R) -> Result<R, Refused> {
         let records = &mut **self.records;
         fill(&mut records.request);
-        let number = self.raw.serve(records);
-        let told = if number == 0 { Ok(read(&records.answer)) } else { Err(number) };
+        let told = match self.raw.serve(records) {
+            0 => Ok(read(&records.answer)),
+            number => Err(records.request.refused(Refusal::told(number))),
+        };
         records.wipe();
         told
     }
+}
+
+/// What is asked for is refused, since another call uses the kernel.
+#[cold]
+fn busy(fill: impl FnOnce(&mut Request)) -> Refused {
+    let mut request = Request::ZEROS;
+    fill(&mut request);
+    request.refused(Refusal::Busy)
 }
 
 /// What a room holds.
@@ -238,11 +242,11 @@ pub(crate) struct Raw {
 unsafe impl Send for Raw {}
 
 impl Raw {
-    /// A kernel or a seat in a room that holds it, or why there is none: then the error is the number that tells why.
+    /// A kernel or a seat in a room that holds it, or why there is none.
     ///
     /// # Safety
     /// `histar_boot` or, for a seat, `histar_seat_first` or `histar_seat_beside` filled the room.
-    unsafe fn of(room: Box<Room>, holds: Holds) -> Result<Raw, u32> {
+    unsafe fn of(room: Box<Room>, holds: Holds) -> Result<Raw, Refusal> {
         let raw = Raw {
             room: UnsafeCell::new(room),
             holds,
@@ -251,14 +255,14 @@ impl Raw {
         };
         // A record of zeros asks for nothing: a kernel that is there says so.
         match raw.ask(|_| (), |_| ()) {
-            Err(BAD_BATCH) => Ok(raw),
-            Err(why) => Err(why),
+            Err(Refused { reason: Refusal::BadBatch, .. }) => Ok(raw),
+            Err(refused) => Err(refused.reason),
             Ok(()) => unreachable!("the library did what was not asked"),
         }
     }
 
-    /// Boots a kernel. The error is the number that tells why there is none.
-    pub fn boot(limits: &Limits) -> Result<Raw, u32> {
+    /// Boots a kernel, or tells why there is none.
+    pub fn boot(limits: &Limits) -> Result<Raw, Refusal> {
         check_version()?;
         let mut room = Room::new();
         // SAFETY: the room is this kernel's own and nothing is held in it yet. It is large enough and stands at a multiple of 16. From
@@ -269,8 +273,8 @@ impl Raw {
         }
     }
 
-    /// Opens a kernel at a text. The error is the number that tells why there is none.
-    pub fn boot_at(text: &[u8]) -> Result<Raw, u32> {
+    /// Opens a kernel at a text, or tells why there is none.
+    pub fn boot_at(text: &[u8]) -> Result<Raw, Refusal> {
         check_version()?;
         let mut room = Room::new();
         // SAFETY: as at a boot. The text is read for the length of the call, and nobody writes it meanwhile.
@@ -280,8 +284,8 @@ impl Raw {
         }
     }
 
-    /// Boots the first seat of a kernel that threads share. The error is the number that tells why there is none.
-    pub fn first_seat(limits: &Limits, most: u64, logs: bool) -> Result<Raw, u32> {
+    /// Boots the first seat of a kernel that threads share, or tells why there is none.
+    pub fn first_seat(limits: &Limits, most: u64, logs: bool) -> Result<Raw, Refusal> {
         check_version()?;
         let mut room = Room::new();
         // SAFETY: as for a kernel.
@@ -299,12 +303,12 @@ impl Raw {
         }
     }
 
-    /// Another seat beside one. The error is the number that tells why there is none.
-    pub fn seat_beside(&self) -> Result<Raw, u32> {
+    /// Another seat beside one, or why there is none.
+    pub fn seat_beside(&self) -> Result<Raw, Refusal> {
         if self.holds != Holds::Seat {
-            return Err(BAD_BATCH);
+            return Err(Refusal::BadBatch);
         }
-        let _taken = self.take()?;
+        let _taken = self.take(|_| ())?;
         let mut room = Room::new();
         // SAFETY: this room holds a seat, and keeps it. A `Raw` is not `Sync` and its records are taken, so nobody else is at this
         // room. The other room is as for a kernel.
@@ -337,15 +341,21 @@ impl Raw {
         }
     }
 
-    /// Takes the kernel for calls, so that none of another comes between them. The error is the number that tells that it is taken.
-    pub fn take(&self) -> Result<Taken<'_>, u32> {
-        let records = self.records.try_borrow_mut().map_err(|_| BUSY)?;
-        Ok(Taken { raw: self, records })
+    /// Takes the kernel for calls, so that none of another comes between them. Where it is taken already, what `fill` asks for is
+    /// refused.
+    pub fn take(&self, fill: impl FnOnce(&mut Request)) -> Result<Taken<'_>, Refused> {
+        match self.records.try_borrow_mut() {
+            Ok(records) => Ok(Taken { raw: self, records }),
+            Err(_) => Err(busy(fill)),
+        }
     }
 
     /// One call.
-    pub fn ask<R>(&self, fill: impl FnOnce(&mut Request), read: impl FnOnce(&Answer) -> R) -> Result<R, u32> {
-        self.take()?.ask(fill, read)
+    pub fn ask<R>(&self, fill: impl FnOnce(&mut Request), read: impl FnOnce(&Answer) -> R) -> Result<R, Refused> {
+        match self.records.try_borrow_mut() {
+            Ok(records) => Taken { raw: self, records }.ask(fill, read),
+            Err(_) => Err(busy(fill)),
+        }
     }
 }
 

@@ -1,8 +1,8 @@
 //! Write calls as bytes: for a journal, or a log that other machines play.
-use crate::kernel::{refusal, told};
+use crate::kernel::told;
 use crate::raw::{LabelRecord, Request};
 use crate::trusted::Thread;
-use crate::{Call, Kernel, Refusal, Reply};
+use crate::{Call, Kernel, Refusal, Refused, Reply};
 
 #[cfg(doc)]
 use crate::Refusal::*;
@@ -19,7 +19,7 @@ use crate::Refusal::*;
 /// assert_eq!(bytes, [1, 2, 0]);
 /// let again = Record::take(&mut &bytes[..]).unwrap();
 /// assert_eq!(Kernel::boot(64)?.play(&again), Kernel::boot(64)?.play(&record));
-/// # Ok::<(), histar::Refusal>(())
+/// # Ok::<(), histar::Refused>(())
 /// ```
 #[derive(Clone)]
 pub struct Record(Box<Request>);
@@ -108,18 +108,17 @@ impl Record {
     /// use histar::trusted::{Record, Thread};
     /// use histar::{Call, Refusal};
     /// assert!(Record::new(Thread::BOOT, &Call::CatCreate).is_ok());
-    /// assert_eq!(Record::new(Thread::BOOT, &Call::SelfGet).err(), Some(Refusal::BadBatch));
+    /// assert_eq!(Record::new(Thread::BOOT, &Call::SelfGet).unwrap_err().reason, Refusal::BadBatch);
     /// ```
     ///
     /// # Errors
     /// [`BadBatch`] where the call changes nothing, or the arguments make no call.
-    pub fn new(thread: Thread, call: &Call<'_>) -> Result<Record, Refusal> {
-        let mut request = Box::new(Request::ZEROS);
+    pub fn new(thread: Thread, call: &Call<'_>) -> Result<Record, Refused> {
+        let mut request = Box::new(Request::of(call));
         request.thread = thread.0;
-        request.put_call(call);
         let labels = [&request.label, &request.clearance, &request.verify];
         if call.is_read() || request.len > 64 || labels.iter().any(|label| label.count > 24) {
-            return Err(Refusal::BadBatch);
+            return Err(request.refused(Refusal::BadBatch));
         }
         Ok(Record(request))
     }
@@ -130,7 +129,7 @@ impl Record {
     /// use histar::trusted::{Record, Thread};
     /// let record = Record::new(Thread(7), &histar::Call::CatCreate)?;
     /// assert_eq!(record.thread(), Thread(7));
-    /// # Ok::<(), histar::Refusal>(())
+    /// # Ok::<(), histar::Refused>(())
     /// ```
     pub fn thread(&self) -> Thread {
         Thread(self.0.thread)
@@ -142,7 +141,7 @@ impl Record {
     /// use histar::trusted::{Record, Thread};
     /// let record = Record::new(Thread::BOOT, &histar::Call::CatCreate)?;
     /// assert!(!record.makes_thread());
-    /// # Ok::<(), histar::Refusal>(())
+    /// # Ok::<(), histar::Refused>(())
     /// ```
     pub fn makes_thread(&self) -> bool {
         self.0.call == 9
@@ -156,7 +155,7 @@ impl Record {
     /// let mut bytes = Vec::new();
     /// Record::new(Thread::BOOT, &Call::Unref { entry: Entry::in_root(Object(7)) })?.put(&mut bytes);
     /// assert_eq!(bytes, [12, 2, 3, 1, 7]);
-    /// # Ok::<(), histar::Refusal>(())
+    /// # Ok::<(), histar::Refused>(())
     /// ```
     pub fn put(&self, out: &mut Vec<u8>) {
         let request = &self.0;
@@ -229,13 +228,13 @@ impl Kernel {
     /// let kernel = Kernel::boot(64)?;
     /// let play = |thread| kernel.play(&Record::new(thread, &Call::CatCreate)?);
     /// assert_eq!(play(Thread::BOOT), Ok(Reply::Category(Category(1))));
-    /// assert_eq!(play(Thread(99)), Err(Refusal::Halted));
-    /// # Ok::<(), histar::Refusal>(())
+    /// assert_eq!(play(Thread(99)).unwrap_err().reason, Refusal::Halted);
+    /// # Ok::<(), histar::Refused>(())
     /// ```
     ///
     /// # Errors
     /// As [`call`](Kernel::call); and [`BadBatch`] where the record's numbers make no call.
-    pub fn play(&self, record: &Record) -> Result<Reply, Refusal> {
-        self.raw.ask(|request| request.clone_from(&record.0), told).map_err(refusal)
+    pub fn play(&self, record: &Record) -> Result<Reply, Refused> {
+        self.raw.ask(|request| request.clone_from(&record.0), told)
     }
 }

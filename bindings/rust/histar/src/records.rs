@@ -1,7 +1,8 @@
 //! Calls as records, and answers as replies.
 use crate::raw::{Answer, LabelRecord, Request};
 use crate::{
-    Bytes, Call, Category, Entered, Entry, Kinds, Label, Level, Listed, Mapping, Object, Own, Quota, Reply, Rights,
+    Bytes, Call, Category, Entered, Entry, Kinds, Label, Level, Listed, Mapping, Object, Own, Quota, Refusal, Refused,
+    Reply, Rights,
 };
 
 impl LabelRecord {
@@ -59,7 +60,7 @@ impl Request {
     pub fn put_call(&mut self, call: &Call<'_>) {
         match call {
             // Made from bindings/calls.toml:
-            Call::CatCreate => self.call = 1,
+            Call::CatCreate => self.put(1, &Entry::NONE, []),
             Call::SelfSetLabel { label } => {
                 self.label.put(label);
                 self.put(2, &Entry::NONE, []);
@@ -142,7 +143,7 @@ impl Request {
                 self.put(23, entry, []);
             }
             Call::DevRecv { entry } => self.put(24, entry, []),
-            Call::SelfGet => self.call = 25,
+            Call::SelfGet => self.put(25, &Entry::NONE, []),
             Call::ObjLabel { entry } => self.put(26, entry, []),
             Call::ObjQuota { entry } => self.put(27, entry, []),
             Call::ContainerList { container, from } => {
@@ -159,11 +160,88 @@ impl Request {
     }
 }
 
+/// The words of what records ask for, by their numbers.
+const WORDS: [&str; 50] = [
+    "nothing",
+    // Made from bindings/calls.toml:
+    "cat_create",
+    "self_set_label",
+    "self_set_clearance",
+    "self_set_as",
+    "container_create",
+    "segment_create",
+    "segment_copy",
+    "as_create",
+    "thread_create",
+    "gate_create",
+    "link",
+    "unref",
+    "quota_move",
+    "set_fixed",
+    "set_immutable",
+    "meta_set",
+    "segment_resize",
+    "segment_write",
+    "as_map",
+    "as_unmap",
+    "store",
+    "gate_enter",
+    "dev_send",
+    "dev_recv",
+    "self_get",
+    "obj_label",
+    "obj_quota",
+    "container_list",
+    "container_parent",
+    "segment_len",
+    "segment_read",
+    "meta_get",
+    "as_get",
+    "load",
+    // (the end of what is made)
+    "kept_live",
+    "kept_use",
+    "kept_translation",
+    "kept_label",
+    "kept_order",
+    "log_on",
+    "dump",
+    "dump",
+    "seen",
+    "learn",
+    "batch",
+    "batch",
+    "batch",
+    "checkpoint",
+    "cut_log",
+];
+
+/// What the number of a call of a batch is more than the call's own.
+const IN_BATCH: u32 = 64;
+
 impl Request {
+    /// The record of a call, of no thread.
+    pub fn of(call: &Call<'_>) -> Request {
+        let mut request = Request::ZEROS;
+        request.put_call(call);
+        request
+    }
+
     /// Writes a write call to keep for a batch: its number is 64 more. Of another call the library tells that it is none.
     pub fn put_batch_call(&mut self, call: &Call<'_>) {
         self.put_call(call);
-        self.call += 64;
+        self.call += IN_BATCH;
+    }
+
+    /// What the record asks for was refused.
+    #[cold]
+    pub fn refused(&self, reason: Refusal) -> Refused {
+        let object = if self.object == 0 { self.container } else { self.object };
+        Refused {
+            call: WORDS[(self.call % IN_BATCH) as usize],
+            object: Some(Object(object)).filter(|object| *object != Object::NONE),
+            reason,
+        }
     }
 }
 

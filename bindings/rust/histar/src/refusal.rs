@@ -1,4 +1,6 @@
-//! Why a call was refused.
+//! What was refused, and why.
+use crate::raw::Request;
+use crate::{Call, Object};
 use std::fmt;
 
 /// Why a call was refused, or a kernel not booted. If several checks fail, it is the refusal with the lowest number. A
@@ -133,6 +135,11 @@ impl Refusal {
         self as u32
     }
 
+    /// The refusal of a number that the library told.
+    pub(crate) fn told(number: u32) -> Refusal {
+        Refusal::of(number).unwrap_or_else(|| unreachable!("the library told no refusal: {number}"))
+    }
+
     /// The refusal of a number; none where the number has none.
     ///
     /// ```
@@ -179,17 +186,80 @@ impl TryFrom<u32> for Refusal {
     }
 }
 
+/// What was refused, of which object, and why.
+///
+/// ```
+/// use histar::{Entry, Kernel, Object, Refusal};
+/// let kernel = Kernel::boot(64)?;
+/// let refused = kernel.session().segment_len(Entry::in_root(Object(7))).unwrap_err();
+/// assert_eq!((refused.call, refused.object, refused.reason), ("segment_len", Some(Object(7)), Refusal::NoEntry));
+/// assert_eq!(refused.to_string(), "segment_len #7: 3 NoEntry");
+/// assert_eq!(kernel.dump().unwrap_err().to_string(), "dump: 45 BadBatch");
+/// # Ok::<(), histar::Refused>(())
+/// ```
+#[derive(Clone, Copy, PartialEq, Eq, Debug, Hash)]
+pub struct Refused {
+    /// The word of the call, as docs/CALLS.md has it. What is no call has the name of its method; an open is `boot`, `open_at` or `share`.
+    pub call: &'static str,
+    /// The object that the call names: of a new object its container, of a link what is linked. None where it names none.
+    pub object: Option<Object>,
+    /// Why.
+    pub reason: Refusal,
+}
+
+impl Refused {
+    /// What names no object was refused.
+    pub(crate) fn of(call: &'static str, reason: Refusal) -> Refused {
+        Refused { call, object: None, reason }
+    }
+
+    /// A call was refused.
+    ///
+    /// ```
+    /// use histar::{Call, Entry, Object, Refusal, Refused};
+    /// let refused = Refused::call(&Call::SegmentLen { entry: Entry::in_root(Object(7)) }, Refusal::NoEntry);
+    /// assert_eq!(refused, Refused { call: "segment_len", object: Some(Object(7)), reason: Refusal::NoEntry });
+    /// ```
+    pub fn call(call: &Call<'_>, reason: Refusal) -> Refused {
+        Request::of(call).refused(reason)
+    }
+}
+
+/// As `segment_len #7: 3 NoEntry`.
+impl fmt::Display for Refused {
+    fn fmt(&self, f: &mut fmt::Formatter<'_>) -> fmt::Result {
+        f.write_str(self.call)?;
+        if let Some(object) = self.object {
+            write!(f, " {object}")?;
+        }
+        write!(f, ": {}", self.reason)
+    }
+}
+
+impl std::error::Error for Refused {}
+
+/// Why, without what was refused.
+impl From<Refused> for Refusal {
+    fn from(refused: Refused) -> Refusal {
+        refused.reason
+    }
+}
+
 /// `PermissionDenied` where labels refuse it, `NotFound` where an entry leads nowhere, `OutOfMemory` for want of memory, `InvalidInput`
 /// where a number is out of its range, `InvalidData` where a text opens no kernel, and else `Other`.
 ///
 /// ```
-/// let error = std::io::Error::from(histar::Refusal::CannotObserve);
-/// assert_eq!(error.kind(), std::io::ErrorKind::PermissionDenied);
+/// use histar::{Entry, Object};
+/// let kernel = histar::Kernel::boot(64)?;
+/// let error = std::io::Error::from(kernel.session().segment_len(Entry::in_root(Object(7))).unwrap_err());
+/// assert_eq!(error.kind(), std::io::ErrorKind::NotFound);
+/// assert_eq!(error.to_string(), "segment_len #7: 3 NoEntry");
+/// # Ok::<(), histar::Refused>(())
 /// ```
-impl From<Refusal> for std::io::Error {
-    fn from(refusal: Refusal) -> std::io::Error {
+impl From<Refused> for std::io::Error {
+    fn from(refused: Refused) -> std::io::Error {
         use std::io::ErrorKind;
-        let kind = match refusal {
+        let kind = match refused.reason {
             Refusal::CannotObserve | Refusal::CannotModify | Refusal::GateDenied | Refusal::RightsDenied => {
                 ErrorKind::PermissionDenied
             }
@@ -199,6 +269,6 @@ impl From<Refusal> for std::io::Error {
             Refusal::TextFault | Refusal::IllFormed | Refusal::HasEvents => ErrorKind::InvalidData,
             _ => ErrorKind::Other,
         };
-        std::io::Error::new(kind, refusal)
+        std::io::Error::new(kind, refused)
     }
 }

@@ -1,6 +1,9 @@
 //! A thread's calls: a method a call, named as the script's word.
 use crate::trusted::Thread;
-use crate::{Call, Kernel, Object, Refusal, Reply};
+use crate::{Call, Kernel, Object, Refused, Reply};
+
+#[cfg(doc)]
+use crate::Refusal::*;
 
 /// The value of a reply that the call gives.
 macro_rules! expect_reply {
@@ -19,10 +22,10 @@ mod thread_calls;
 /// A kernel and one thread of it. Whoever has a session calls as its thread and as no other: it leads to no other thread's calls
 /// but to those of threads that it makes. [`Kernel::session`] is the boot thread's.
 ///
-/// Each call may be refused [`Halted`](Refusal::Halted), where the thread is gone, [`BadBatch`](Refusal::BadBatch), where the arguments
-/// make no call, as 65 bytes, and [`Memory`](Refusal::Memory), where calls are kept and there is no memory for it. One that names an
-/// entry may be refused [`NoAccess`](Refusal::NoAccess), where its container is not there or not observed, and
-/// [`NoEntry`](Refusal::NoEntry), where the container does not list the object. A method's Errors name the refusals beside these.
+/// Each call may be refused [`Halted`], where the thread is gone, [`BadBatch`], where the arguments
+/// make no call, as 65 bytes, and [`Memory`], where calls are kept and there is no memory for it. One that names an
+/// entry may be refused [`NoAccess`], where its container is not there or not observed, and
+/// [`NoEntry`], where the container does not list the object. A method's Errors name the refusals beside these.
 /// If several checks fail, the one with the lowest number is given. A refused call changes nothing.
 #[derive(Clone, Copy, Debug)]
 pub struct Session<'k> {
@@ -58,7 +61,7 @@ impl<'k> Session<'k> {
     /// # let boot = kernel.session();
     /// let made = boot.thread_create(Object::ROOT, &label! { L1 }, 1, &label! { L2 }, 0)?;
     /// assert_eq!((boot.id(), made.id()), (Object(2), Object(4)));
-    /// # Ok::<(), histar::Refusal>(())
+    /// # Ok::<(), histar::Refused>(())
     /// ```
     pub fn id(&self) -> Object {
         self.thread.into()
@@ -67,22 +70,22 @@ impl<'k> Session<'k> {
     /// One call, as a value.
     ///
     /// ```
-    /// use histar::{Call, Category, Entry, Refusal, Reply};
+    /// use histar::{Call, Category, Entry, Refused, Reply};
     /// # let kernel = histar::Kernel::boot(64)?;
     /// # let boot = kernel.session();
     /// assert_eq!(boot.call(&Call::CatCreate), Ok(Reply::Category(Category(1))));
-    /// assert_eq!(boot.call(&Call::Unref { entry: Entry::NONE }), Err(Refusal::NoAccess));
-    /// # Ok::<(), histar::Refusal>(())
+    /// assert_eq!(boot.call(&Call::Unref { entry: Entry::NONE }).unwrap_err().reason, Refusal::NoAccess);
+    /// # Ok::<(), histar::Refused>(())
     /// ```
     ///
     /// # Errors
     /// Those of the call.
-    pub fn call(&self, call: &Call<'_>) -> Result<Reply, Refusal> {
+    pub fn call(&self, call: &Call<'_>) -> Result<Reply, Refused> {
         self.kernel.call(self.thread, call)
     }
 
     /// A call that answers nothing but its refusal.
-    fn done(&self, call: &Call<'_>) -> Result<(), Refusal> {
+    fn done(&self, call: &Call<'_>) -> Result<(), Refused> {
         self.call(call).map(drop)
     }
 }

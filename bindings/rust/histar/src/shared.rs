@@ -1,8 +1,7 @@
 //! One kernel for many threads, with no lock: each thread has a seat.
-use crate::kernel::refusal;
 use crate::raw::{Answer, Raw, Request};
 use crate::trusted::Thread;
-use crate::{Call, Entry, Kernel, Limits, Refusal, Reply, Session};
+use crate::{Call, Entry, Kernel, Limits, Refusal, Refused, Reply, Session};
 use std::sync::atomic::{AtomicU64, Ordering};
 
 #[cfg(doc)]
@@ -42,7 +41,7 @@ pub struct Note {
 /// let other = seat.another()?;
 /// std::thread::spawn(move || other.session().segment_write(made, 0, b"mine")).join().unwrap()?;
 /// assert_eq!(seat.session().segment_read(made, 0, 4)?, b"mine");
-/// # Ok::<(), histar::Refusal>(())
+/// # Ok::<(), histar::Refused>(())
 /// ```
 ///
 /// ```
@@ -69,13 +68,13 @@ impl Seat {
     /// let seat = Seat::share_with(&Limits { next_category: 7, ..Limits::pages(64) }, 1, Log::Whole)?;
     /// assert_eq!(seat.session().cat_create()?.0, 7);
     /// assert!(seat.dump()?.contains("cat_create => cat #7"));
-    /// # Ok::<(), histar::Refusal>(())
+    /// # Ok::<(), histar::Refused>(())
     /// ```
     ///
     /// # Errors
     /// [`BadLimits`] where a limit is out of its range, and [`Unavailable`] for want of memory.
-    pub fn share_with(limits: &Limits, most: u64, log: Log) -> Result<Seat, Refusal> {
-        let raw = Raw::first_seat(limits, most, log == Log::Whole).map_err(refusal)?;
+    pub fn share_with(limits: &Limits, most: u64, log: Log) -> Result<Seat, Refused> {
+        let raw = Raw::first_seat(limits, most, log == Log::Whole).map_err(|why| Refused::of("share", why))?;
         Ok(Seat { kernel: Kernel { raw }, shared: COUNT.fetch_add(1, Ordering::Relaxed) })
     }
 
@@ -84,13 +83,13 @@ impl Seat {
     /// ```
     /// use histar::{Refusal, Seat};
     /// assert!(Seat::share(8, 10).is_ok());
-    /// assert_eq!(Seat::share(7, 10).err(), Some(Refusal::BadLimits));
-    /// # Ok::<(), histar::Refusal>(())
+    /// assert_eq!(Seat::share(7, 10).unwrap_err().reason, Refusal::BadLimits);
+    /// # Ok::<(), histar::Refused>(())
     /// ```
     ///
     /// # Errors
     /// As [`share_with`](Seat::share_with).
-    pub fn share(pages: u32, most: u64) -> Result<Seat, Refusal> {
+    pub fn share(pages: u32, most: u64) -> Result<Seat, Refused> {
         Seat::share_with(&Limits::pages(pages), most, Log::None)
     }
 
@@ -102,13 +101,13 @@ impl Seat {
     /// let seat = Seat::share(64, 10)?;
     /// let c = seat.session().cat_create()?;
     /// assert_eq!(seat.another()?.session().self_get()?.label, label! { c => Star; L1 });
-    /// # Ok::<(), histar::Refusal>(())
+    /// # Ok::<(), histar::Refused>(())
     /// ```
     ///
     /// # Errors
     /// [`Unavailable`] for want of memory, and where the kernel has 4,096 seats.
-    pub fn another(&self) -> Result<Seat, Refusal> {
-        let raw = self.kernel.raw.seat_beside().map_err(refusal)?;
+    pub fn another(&self) -> Result<Seat, Refused> {
+        let raw = self.kernel.raw.seat_beside().map_err(|why| Refused::of("another", why))?;
         Ok(Seat { kernel: Kernel { raw }, shared: self.shared })
     }
 
@@ -118,7 +117,7 @@ impl Seat {
     /// use histar::{Object, Seat};
     /// let seat = Seat::share(64, 10)?;
     /// assert_eq!(seat.session().id(), Object(2));
-    /// # Ok::<(), histar::Refusal>(())
+    /// # Ok::<(), histar::Refused>(())
     /// ```
     pub fn session(&self) -> Session<'_> {
         self.kernel.session()
@@ -137,13 +136,13 @@ impl Seat {
     /// let seat = Seat::share(64, 10)?;
     /// assert!(matches!(seat.call(Thread::BOOT, &Call::CatCreate), Ok(Reply::Category(_))));
     /// assert!(seat.call(Thread::BOOT, &Call::SelfGet).is_ok());
-    /// # Ok::<(), histar::Refusal>(())
+    /// # Ok::<(), histar::Refused>(())
     /// ```
     ///
     /// # Errors
     /// Those of the call; and of a write call [`Memory`], where there is none to keep it, [`ListFull`], where a seat lacks as many as
     /// it may lack, or a list with a log has as many as it may have, and [`Busy`], where another thread stands still in the middle of adding its call. It is not made then.
-    pub fn call(&self, thread: Thread, call: &Call<'_>) -> Result<Reply, Refusal> {
+    pub fn call(&self, thread: Thread, call: &Call<'_>) -> Result<Reply, Refused> {
         self.kernel.call(thread, call)
     }
 
@@ -152,36 +151,37 @@ impl Seat {
     ///
     /// ```
     /// use histar::trusted::Thread;
-    /// use histar::{label, Call, Object, Refusal, Reply, Seat};
+    /// use histar::{label, Call, Object, Refusal, Refused, Reply, Seat};
     ///
     /// let seat = Seat::share(64, u64::MAX)?;
     /// let large = Call::SegmentCreate { container: Object::ROOT, label: label! { L1 }.into(), quota: 99, pages: 1 };
     /// let replies = seat.batch(Thread::BOOT, &[large, Call::CatCreate])?;
-    /// assert_eq!(replies[0], Err(Refusal::NoQuota));
+    /// assert_eq!(replies[0].as_ref().unwrap_err().reason, Refusal::NoQuota);
     /// assert!(matches!(replies[1], Ok(Reply::Category(_))));
-    /// assert_eq!(seat.batch(Thread::BOOT, &[]), Err(Refusal::BadBatch));
-    /// # Ok::<(), Refusal>(())
+    /// assert_eq!(seat.batch(Thread::BOOT, &[]).unwrap_err().reason, Refusal::BadBatch);
+    /// # Ok::<(), Refused>(())
     /// ```
     ///
     /// # Errors
     /// `BadBatch` of another number of calls, and where one is no write call or its arguments make none; and `Memory`, `ListFull` and
     /// `Busy` as of one [call](Seat::call). No call is made then.
-    pub fn batch(&self, thread: Thread, calls: &[Call<'_>]) -> Result<Vec<Result<Reply, Refusal>>, Refusal> {
+    pub fn batch(&self, thread: Thread, calls: &[Call<'_>]) -> Result<Vec<Result<Reply, Refused>>, Refused> {
         let raw = &self.kernel.raw;
-        raw.ask(|request| request.put(45, &Entry::NONE, []), |_| ()).map_err(refusal)?;
+        raw.ask(|request| request.put(45, &Entry::NONE, []), |_| ())?;
         for call in calls {
-            raw.ask(|request| request.put_batch_call(call), |_| ()).map_err(refusal)?;
+            raw.ask(|request| request.put_batch_call(call), |_| ())?;
         }
         let make = |request: &mut Request| {
             request.thread = thread.0;
             request.put(46, &Entry::NONE, []);
         };
-        raw.ask(make, |_| ()).map_err(refusal)?;
+        raw.ask(make, |_| ())?;
         let told = |at| {
             let reply = |answer: &Answer| answer.reply().unwrap_or_else(|| unreachable!("the library told no reply"));
-            raw.ask(|request| request.put(47, &Entry::NONE, [at]), reply).map_err(refusal)
+            raw.ask(|request| request.put(47, &Entry::NONE, [at]), reply)
         };
-        Ok((0..calls.len() as u64).map(told).collect())
+        let each = calls.iter().zip(0..);
+        Ok(each.map(|(call, at)| told(at).map_err(|refused| Refused::call(call, refused.reason))).collect())
     }
 
     /// The dump of what the seat has seen: each batch of each seat as an event, with the answers of its calls. It is what a
@@ -194,13 +194,13 @@ impl Seat {
     /// first.session().cat_create()?;
     /// second.learn(first.seen())?;
     /// assert!(second.dump()?.contains("cat_create => cat #1"));
-    /// assert_eq!(Seat::share(64, 10)?.dump(), Err(Refusal::BadBatch));
-    /// # Ok::<(), histar::Refusal>(())
+    /// assert_eq!(Seat::share(64, 10)?.dump().unwrap_err().reason, Refusal::BadBatch);
+    /// # Ok::<(), histar::Refused>(())
     /// ```
     ///
     /// # Errors
     /// `BadBatch` where the list has no log, and `TextMemory` where the library has no memory for the text.
-    pub fn dump(&self) -> Result<String, Refusal> {
+    pub fn dump(&self) -> Result<String, Refused> {
         self.kernel.dump()
     }
 
@@ -230,7 +230,7 @@ impl Seat {
     /// assert_eq!(first.seen(), second.seen());
     /// first.session().cat_create()?;
     /// assert_ne!(first.seen(), second.seen());
-    /// # Ok::<(), histar::Refusal>(())
+    /// # Ok::<(), histar::Refused>(())
     /// ```
     pub fn seen(&self) -> Note {
         let calls = self.kernel.raw.ask(|request| request.put(43, &Entry::NONE, []), |answer| answer.numbers[0]);
@@ -246,17 +246,17 @@ impl Seat {
     /// first.session().cat_create()?;
     /// second.learn(first.seen())?;
     /// assert_eq!(second.seen(), first.seen());
-    /// assert_eq!(Seat::share(64, 10)?.learn(first.seen()), Err(Refusal::OtherList));
-    /// # Ok::<(), histar::Refusal>(())
+    /// assert_eq!(Seat::share(64, 10)?.learn(first.seen()).unwrap_err().reason, Refusal::OtherList);
+    /// # Ok::<(), histar::Refused>(())
     /// ```
     ///
     /// # Errors
     /// [`OtherList`] where the note is of another shared kernel, and nothing changes.
-    pub fn learn(&self, note: Note) -> Result<(), Refusal> {
+    pub fn learn(&self, note: Note) -> Result<(), Refused> {
         if note.shared != self.shared {
-            return Err(Refusal::OtherList);
+            return Err(Refused::of("learn", Refusal::OtherList));
         }
-        self.kernel.raw.ask(|request| request.put(44, &Entry::NONE, [note.calls]), |_| ()).map_err(refusal)
+        self.kernel.raw.ask(|request| request.put(44, &Entry::NONE, [note.calls]), |_| ())
     }
 }
 

@@ -31,8 +31,8 @@ impl From<Thread> for Object {
 /// use histar::trusted::{session_of, Thread};
 ///
 /// let kernel = histar::Kernel::boot(64)?;
-/// assert_eq!(session_of(&kernel, Thread(99)).self_get().err(), Some(histar::Refusal::Halted));
-/// # Ok::<(), histar::Refusal>(())
+/// assert_eq!(session_of(&kernel, Thread(99)).self_get().unwrap_err().reason, histar::Refusal::Halted);
+/// # Ok::<(), histar::Refused>(())
 /// ```
 pub fn session_of(kernel: &Kernel, thread: Thread) -> Session<'_> {
     Session::new(kernel, thread)
@@ -45,8 +45,8 @@ pub fn session_of(kernel: &Kernel, thread: Thread) -> Session<'_> {
 /// use histar::{Refusal, Seat};
 /// let seat = Seat::share(64, 10)?;
 /// assert_eq!(session_at(&seat, Thread::BOOT).cat_create()?.0, 1);
-/// assert_eq!(session_at(&seat, Thread(99)).self_get().err(), Some(Refusal::Halted));
-/// # Ok::<(), histar::Refusal>(())
+/// assert_eq!(session_at(&seat, Thread(99)).self_get().unwrap_err().reason, Refusal::Halted);
+/// # Ok::<(), histar::Refused>(())
 /// ```
 pub fn session_at(seat: &Seat, thread: Thread) -> Session<'_> {
     seat.session_of(thread)

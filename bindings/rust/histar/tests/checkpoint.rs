@@ -1,6 +1,6 @@
 //! A kernel that comes back at the text of its checkpoint, and a log that is cut.
 use histar::trusted::{session_of, Thread};
-use histar::{label, Entry, Kernel, Kinds, Label, Limits, Mapping, NewGate, Object, Refusal, Rights};
+use histar::{label, Entry, Kernel, Kinds, Label, Limits, Mapping, NewGate, Object, Refusal, Refused, Rights};
 use std::fmt::Debug;
 
 const ROOT: Object = Object::ROOT;
@@ -28,7 +28,7 @@ fn filled() -> Kernel {
     boot.store(7 * 256 + 9, b"stored").unwrap();
     let thread = boot.thread_create(ROOT, &plain, 2, &label! { L2 }, 77).unwrap();
     thread.cat_create().unwrap();
-    assert_eq!(thread.segment_read(secret, 0, 1).err(), Some(Refusal::NoAccess));
+    assert_eq!(thread.segment_read(secret, 0, 1).unwrap_err().reason, Refusal::NoAccess);
     let (label, clearance) = (label! { c => Star; L1 }, label! { c => L3; L2 });
     let gate = NewGate { space, entry_point: 8, closure: 9, ..NewGate::new(&label, &clearance) };
     boot.gate_create(&gate).unwrap();
@@ -39,7 +39,7 @@ fn filled() -> Kernel {
 }
 
 /// What a read is answered, as text.
-fn put<T: Debug>(out: &mut String, read: Result<T, Refusal>) {
+fn put<T: Debug>(out: &mut String, read: Result<T, Refused>) {
     *out += &format!("{read:?}\n");
 }
 
@@ -130,14 +130,14 @@ fn a_log_is_cut() {
 fn what_is_no_checkpoint_opens_nothing() {
     let kernel = filled();
     let text = kernel.checkpoint().unwrap();
-    let refused = |text: &str| Kernel::open_at(text).err();
+    let refused = |text: &str| Kernel::open_at(text).unwrap_err().reason;
     for len in 0..text.len() {
-        assert_eq!(refused(&text[..len]), Some(Refusal::TextFault), "{len} bytes");
+        assert_eq!(refused(&text[..len]), Refusal::TextFault, "{len} bytes");
     }
-    assert_eq!(refused(&text.replace("histar-dump 2", "histar-dump 3")), Some(Refusal::TextFault));
-    assert_eq!(Kernel::open_at([text.as_bytes(), &[255]].concat()).err(), Some(Refusal::TextFault));
-    assert_eq!(refused(&text.replacen("object 1 container", "object 8 container", 1)), Some(Refusal::IllFormed));
-    assert_eq!(refused(&kernel.dump().unwrap()), Some(Refusal::HasEvents));
+    assert_eq!(refused(&text.replace("histar-dump 2", "histar-dump 3")), Refusal::TextFault);
+    assert_eq!(Kernel::open_at([text.as_bytes(), &[255]].concat()).unwrap_err().reason, Refusal::TextFault);
+    assert_eq!(refused(&text.replacen("object 1 container", "object 8 container", 1)), Refusal::IllFormed);
+    assert_eq!(refused(&kernel.dump().unwrap()), Refusal::HasEvents);
     let booted = Kernel::open_at("histar-dump 1\nlimits 64 1 4 1\nend\n").unwrap();
     assert_eq!(booted.checkpoint(), Kernel::boot(64).unwrap().checkpoint());
 }

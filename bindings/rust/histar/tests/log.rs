@@ -1,5 +1,5 @@
 //! The log of the calls, and its dump.
-use histar::{label, Entry, Kernel, Limits, Log, Object, Refusal, Seat};
+use histar::{label, Entry, Kernel, Limits, Log, Object, Refusal, Refused, Seat};
 use std::io::{self, ErrorKind, Write};
 
 const ROOT: Object = Object::ROOT;
@@ -18,11 +18,11 @@ fn each_write_call_is_an_event() {
     let secret = Entry::in_root(boot.segment_create(ROOT, &label! { c => L3; L1 }, 2, 1).unwrap());
     let stranger = boot.thread_create(ROOT, &label! { L1 }, 1, &label! { L2 }, 0).unwrap();
     boot.segment_write(secret, 0, b"key").unwrap();
-    assert_eq!(stranger.segment_write(secret, 0, b"x"), Err(Refusal::CannotObserve));
+    assert_eq!(stranger.segment_write(secret, 0, b"x").unwrap_err().reason, Refusal::CannotObserve);
     // (reads, refused or not, what is no call, and look-ups are no events)
-    assert_eq!(stranger.segment_read(secret, 0, 3), Err(Refusal::CannotObserve));
+    assert_eq!(stranger.segment_read(secret, 0, 3).unwrap_err().reason, Refusal::CannotObserve);
     assert_eq!(boot.segment_read(secret, 0, 3).unwrap(), b"key");
-    assert_eq!(boot.segment_write(secret, 0, &[0; 65]), Err(Refusal::BadBatch));
+    assert_eq!(boot.segment_write(secret, 0, &[0; 65]).unwrap_err().reason, Refusal::BadBatch);
     assert_eq!(kernel.kept_live(0), Some(ROOT));
     let dump = kernel.dump().unwrap();
     assert_eq!(
@@ -46,19 +46,19 @@ fn each_write_call_is_an_event() {
 fn a_log_begins_with_the_first_call() {
     let kernel = Kernel::boot(64).unwrap();
     let boot = kernel.session();
-    assert_eq!(kernel.dump(), Err(Refusal::BadBatch));
+    assert_eq!(kernel.dump().unwrap_err().reason, Refusal::BadBatch);
     boot.self_get().unwrap();
     kernel.log_on().unwrap();
     assert_eq!(events(&kernel.dump().unwrap()), [""; 0]);
     kernel.log_on().unwrap();
-    assert_eq!(boot.unref(Entry::in_root(ROOT)), Err(Refusal::RootKept));
-    assert_eq!(kernel.log_on(), Err(Refusal::BadBatch));
+    assert_eq!(boot.unref(Entry::in_root(ROOT)).unwrap_err().reason, Refusal::RootKept);
+    assert_eq!(kernel.log_on().unwrap_err().reason, Refusal::BadBatch);
     assert_eq!(events(&kernel.dump().unwrap()), ["event 2 1 unref #1 #1 => refused 16 RootKept"]);
 
     let late = Kernel::boot(64).unwrap();
     late.session().cat_create().unwrap();
-    assert_eq!(late.log_on(), Err(Refusal::BadBatch));
-    assert_eq!(late.dump(), Err(Refusal::BadBatch));
+    assert_eq!(late.log_on().unwrap_err().reason, Refusal::BadBatch);
+    assert_eq!(late.dump().unwrap_err().reason, Refusal::BadBatch);
 }
 
 /// Takes so many bytes, and then no more.
@@ -83,7 +83,7 @@ impl Write for Small {
 /// Calls the kernel, and keeps why it may not.
 struct Calling<'k> {
     kernel: &'k Kernel,
-    told: Vec<Refusal>,
+    told: Vec<Refused>,
 }
 
 impl Write for Calling<'_> {
@@ -106,7 +106,7 @@ fn logged(calls: usize) -> Kernel {
     let kernel = Kernel::boot(64).unwrap();
     kernel.log_on().unwrap();
     for _ in 0..calls {
-        assert_eq!(kernel.session().unref(Entry::in_root(ROOT)), Err(Refusal::RootKept));
+        assert_eq!(kernel.session().unref(Entry::in_root(ROOT)).unwrap_err().reason, Refusal::RootKept);
     }
     kernel
 }
@@ -149,7 +149,7 @@ fn no_call_comes_between_the_pieces_of_a_dump() {
     let mut calling = Calling { kernel: &kernel, told: Vec::new() };
     kernel.dump_to(&mut calling).unwrap();
     assert!(calling.told.len() >= 4 * 4);
-    assert!(calling.told.iter().all(|refusal| *refusal == Refusal::Busy));
+    assert!(calling.told.iter().all(|refused| refused.reason == Refusal::Busy));
     assert_eq!(kernel.dump().unwrap(), dump);
 }
 
@@ -157,9 +157,10 @@ fn no_call_comes_between_the_pieces_of_a_dump() {
 fn what_has_no_log_writes_nothing() {
     let (kernel, seat) = (Kernel::boot(64).unwrap(), Seat::share(64, 1).unwrap());
     let mut text = Vec::new();
-    let refused = |error: io::Error| *error.get_ref().unwrap().downcast_ref::<Refusal>().unwrap();
-    assert_eq!(refused(kernel.dump_to(&mut text).unwrap_err()), Refusal::BadBatch);
-    assert_eq!(refused(seat.dump_to(&mut text).unwrap_err()), Refusal::BadBatch);
+    let refused = |error: io::Error| *error.get_ref().unwrap().downcast_ref::<Refused>().unwrap();
+    let none = Refused { call: "dump", object: None, reason: Refusal::BadBatch };
+    assert_eq!(refused(kernel.dump_to(&mut text).unwrap_err()), none);
+    assert_eq!(refused(seat.dump_to(&mut text).unwrap_err()), none);
     assert!(text.is_empty());
 }
 
@@ -167,7 +168,7 @@ fn what_has_no_log_writes_nothing() {
 fn a_seat_writes_its_dump() {
     let seat = Seat::share_with(&Limits::pages(8), 300, Log::Whole).unwrap();
     for _ in 0..200 {
-        assert_eq!(seat.session().unref(Entry::in_root(ROOT)), Err(Refusal::RootKept));
+        assert_eq!(seat.session().unref(Entry::in_root(ROOT)).unwrap_err().reason, Refusal::RootKept);
     }
     let mut text = Vec::new();
     seat.dump_to(&mut text).unwrap();

@@ -40,7 +40,7 @@ fn reads_and_writes_take_no_memory() {
         for offset in 0..192 {
             boot.segment_write(entry, offset, &[7; 64]).unwrap();
             assert_eq!(boot.segment_read(entry, offset, 64).unwrap(), [7; 64]);
-            assert_eq!(boot.segment_read(entry, 300, 64).err(), Some(Refusal::Bounds));
+            assert_eq!(boot.segment_read(entry, 300, 64).unwrap_err().reason, Refusal::Bounds);
         }
     });
     assert_eq!(none, 0);

@@ -1,6 +1,6 @@
 //! Many threads share one kernel, each through a seat.
 use histar::trusted::{session_at, Thread};
-use histar::{label, Call, Entry, Limits, Log, Object, Refusal, Reply, Seat};
+use histar::{label, Call, Entry, Limits, Log, Object, Refusal, Refused, Reply, Seat};
 use std::sync::atomic::{AtomicU64, Ordering};
 
 const BOOT: Thread = Thread::BOOT;
@@ -9,7 +9,7 @@ fn create() -> Call<'static> {
     Call::SegmentCreate { container: Object::ROOT, label: label! { L1 }.into(), quota: 2, pages: 1 }
 }
 
-fn made(reply: Result<Reply, Refusal>) -> Object {
+fn made(reply: Result<Reply, Refused>) -> Object {
     match reply {
         Ok(Reply::Object(id)) => id,
         other => panic!("{other:?}"),
@@ -108,9 +108,10 @@ fn no_read_goes_back() {
 fn write_both(seat: &Seat, both: [Entry; 2], number: u64) {
     let [first, second] =
         both.map(|entry| Call::SegmentWrite { entry, offset: 0, bytes: number.to_le_bytes().to_vec().into() });
-    let refused = Call::Unref { entry: Entry::in_root(Object::ROOT) };
-    let replies = seat.batch(BOOT, &[first, refused, second]).unwrap();
-    assert_eq!(replies, [Ok(Reply::Done), Err(Refusal::RootKept), Ok(Reply::Done)]);
+    let unref = Call::Unref { entry: Entry::in_root(Object::ROOT) };
+    let refused = Refused::call(&unref, Refusal::RootKept);
+    let replies = seat.batch(BOOT, &[first, unref, second]).unwrap();
+    assert_eq!(replies, [Ok(Reply::Done), Err(refused), Ok(Reply::Done)]);
 }
 
 /// Threads that write and read at once: each id is given once, each sees its own write, no batch is seen in part, and a seat that comes
@@ -166,10 +167,10 @@ fn what_is_no_batch_is_not_made() {
     let seat = Seat::share(64, u64::MAX).unwrap();
     let before = seat.seen();
     let long = Call::DevSend { entry: Entry::in_root(Object(3)), bytes: vec![0; 65].into() };
-    assert_eq!(seat.batch(BOOT, &[]), Err(Refusal::BadBatch));
-    assert_eq!(seat.batch(BOOT, &vec![Call::CatCreate; 17]), Err(Refusal::BadBatch));
-    assert_eq!(seat.batch(BOOT, &[Call::CatCreate, Call::SelfGet]), Err(Refusal::BadBatch));
-    assert_eq!(seat.batch(BOOT, &[Call::CatCreate, long]), Err(Refusal::BadBatch));
+    assert_eq!(seat.batch(BOOT, &[]).unwrap_err().reason, Refusal::BadBatch);
+    assert_eq!(seat.batch(BOOT, &vec![Call::CatCreate; 17]).unwrap_err().reason, Refusal::BadBatch);
+    assert_eq!(seat.batch(BOOT, &[Call::CatCreate, Call::SelfGet]).unwrap_err().reason, Refusal::BadBatch);
+    assert_eq!(seat.batch(BOOT, &[Call::CatCreate, long]).unwrap_err().reason, Refusal::BadBatch);
     assert_eq!(seat.seen(), before);
     assert_eq!(seat.batch(BOOT, &vec![Call::CatCreate; 16]).unwrap().len(), 16);
     assert_ne!(seat.seen(), before);
@@ -186,8 +187,8 @@ fn a_batch_is_one_of_the_list() {
     for _ in 1..512 {
         first.batch(BOOT, &[refused.clone(), refused.clone()]).unwrap();
     }
-    assert_eq!(first.batch(BOOT, &[Call::CatCreate]), Err(Refusal::ListFull));
-    assert_eq!(first.call(BOOT, &Call::CatCreate), Err(Refusal::ListFull));
+    assert_eq!(first.batch(BOOT, &[Call::CatCreate]).unwrap_err().reason, Refusal::ListFull);
+    assert_eq!(first.call(BOOT, &Call::CatCreate).unwrap_err().reason, Refusal::ListFull);
     assert_eq!(number_in(&second, Entry::in_root(Object(5))), 0);
     assert!(first.batch(BOOT, &[Call::CatCreate]).is_ok());
 }
@@ -198,14 +199,14 @@ fn a_log_keeps_each_call() {
     let first = Seat::share_with(&Limits::pages(64), 1, Log::Whole).unwrap();
     let refused = Call::Unref { entry: Entry::in_root(Object::ROOT) };
     for _ in 0..512 {
-        assert_eq!(first.call(BOOT, &refused), Err(Refusal::RootKept));
+        assert_eq!(first.call(BOOT, &refused).unwrap_err().reason, Refusal::RootKept);
     }
-    assert_eq!(first.call(BOOT, &refused), Err(Refusal::ListFull));
+    assert_eq!(first.call(BOOT, &refused).unwrap_err().reason, Refusal::ListFull);
     let second = first.another().unwrap();
     let dump = first.dump().unwrap();
     assert!(second.dump().unwrap() == dump);
     assert_eq!(dump.matches("RootKept").count(), 512);
-    assert_eq!(Seat::share(64, 1).unwrap().dump(), Err(Refusal::BadBatch));
+    assert_eq!(Seat::share(64, 1).unwrap().dump().unwrap_err().reason, Refusal::BadBatch);
 }
 
 #[test]
@@ -213,7 +214,7 @@ fn a_refused_call_stands_in_the_list_too() {
     let first = Seat::share_with(&Limits::pages(8), 3, Log::Whole).unwrap();
     let second = first.another().unwrap();
     let large = Call::SegmentCreate { container: Object::ROOT, label: label! { L1 }.into(), quota: 9, pages: 1 };
-    assert_eq!(first.call(BOOT, &large), Err(Refusal::NoQuota));
+    assert_eq!(first.call(BOOT, &large).unwrap_err().reason, Refusal::NoQuota);
     assert_eq!(made(second.call(BOOT, &create())), Object(4));
     assert_eq!(made(first.call(BOOT, &create())), Object(5));
     assert_eq!(number_in(&second, Entry::in_root(Object(5))), 0);
@@ -230,13 +231,13 @@ fn a_note_is_learned_and_one_of_another_is_refused() {
     second.learn(note).unwrap();
     assert_eq!(second.seen(), note);
     let before = other.seen();
-    assert_eq!(other.learn(note), Err(Refusal::OtherList));
+    assert_eq!(other.learn(note).unwrap_err().reason, Refusal::OtherList);
     assert_eq!(other.seen(), before);
 }
 
 #[test]
 fn limits_are_refused_at_the_boot() {
-    assert_eq!(Seat::share(7, 10).err(), Some(Refusal::BadLimits));
+    assert_eq!(Seat::share(7, 10).unwrap_err().reason, Refusal::BadLimits);
 }
 
 #[test]
@@ -246,5 +247,5 @@ fn a_session_is_of_one_seat_and_any_thread() {
     let made = first.session().thread_create(Object::ROOT, &label! { L1 }, 1, &label! { L2 }, 0).unwrap().id();
     let other = session_at(&second, made.into());
     assert_eq!(other.self_get().unwrap().label, label! { L1 });
-    assert_eq!(session_at(&second, Thread(99)).self_get().err(), Some(Refusal::Halted));
+    assert_eq!(session_at(&second, Thread(99)).self_get().unwrap_err().reason, Refusal::Halted);
 }

@@ -1,7 +1,7 @@
 //! The machines that the simulation plays: the model, and the proved kernel.
 use crate::model::{Call, Model, Reply};
 use histar::trusted::{Record, Thread};
-use histar::{label, Entry, Kernel, Limits, Object, Refusal};
+use histar::{label, Entry, Kernel, Limits, Object, Refused};
 use histar_cluster::{limits, Machine, Unrestored, Written};
 use std::collections::BTreeMap;
 
@@ -45,12 +45,12 @@ impl Player for Model {
 pub struct Real {
     pub kernel: Kernel,
     answers: BTreeMap<u64, Vec<u8>>,
-    played: Vec<(u64, Result<histar::Reply, Refusal>)>,
+    played: Vec<(u64, Result<histar::Reply, Refused>)>,
     lacks_memory: bool,
 }
 
 /// The bytes of a reply.
-fn bytes_of(reply: &Result<histar::Reply, Refusal>) -> Vec<u8> {
+fn bytes_of(reply: &Result<histar::Reply, Refused>) -> Vec<u8> {
     let mut out = Vec::new();
     Kernel::put_reply(reply, &mut out);
     out
@@ -74,7 +74,7 @@ fn take_answers(bytes: &mut &[u8]) -> Option<BTreeMap<u64, Vec<u8>>> {
 
 impl Machine for Real {
     type Call = (u64, Record);
-    type Reply = Result<histar::Reply, Refusal>;
+    type Reply = Result<histar::Reply, Refused>;
     const RULES: u64 = Kernel::RULES;
 
     fn boot(limits: &[u8]) -> Result<Real, String> {

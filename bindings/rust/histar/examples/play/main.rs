@@ -59,9 +59,12 @@ impl<'a> Player<'a> {
     fn open_seats(&mut self, phase: usize, lines: &[Line<'a>]) {
         self.turned_away.clear();
         for line in lines.iter().filter(|it| it.phase == phase) {
-            let Some(Value::Object(id)) = self.names.value(line.worker, "", phase) else { continue };
+            let id = match self.names.value(line.worker, "", phase) {
+                Some(Value::Object(id)) => id,
+                _ => continue,
+            };
             if !self.seated.contains(line.worker) {
-                match session_of(&self.kernel, id.into()).self_get() {
+                match session_of(&self.kernel, id.into()).self_get().map_err(Refusal::from) {
                     Err(Refusal::Halted) => self.turned_away.insert(line.worker),
                     _ => self.seated.insert(line.worker),
                 };
@@ -70,8 +73,9 @@ impl<'a> Player<'a> {
     }
 
     fn play(&mut self, line: &Line<'a>) -> Answer<'a> {
-        let Some(Value::Object(worker)) = self.names.value(line.worker, "", line.phase) else {
-            return Answer::Unbound(line.worker);
+        let worker = match self.names.value(line.worker, "", line.phase) {
+            Some(Value::Object(worker)) => worker,
+            _ => return Answer::Unbound(line.worker),
         };
         if self.turned_away.contains(line.worker) {
             return Answer::NoThread;
@@ -79,19 +83,20 @@ impl<'a> Player<'a> {
         let words = line.call.split_whitespace();
         let call = Words { words, names: &self.names, worker: line.worker, phase: line.phase }.call();
         match call {
-            Ok(call) => Answer::Reply(self.kernel.call(Thread::from(worker), &call)),
+            Ok(call) => Answer::Reply(self.kernel.call(Thread::from(worker), &call).map_err(Refusal::from)),
             Err(Unbound(name)) => Answer::Unbound(name),
         }
     }
 
     fn bind(&mut self, line: &Line<'a>, answer: &Answer<'a>) {
-        let Some(name) = line.bound else { return };
         let value = match answer {
             Answer::Reply(Ok(Reply::Object(id))) => Value::Object(*id),
             Answer::Reply(Ok(Reply::Category(category))) => Value::Category(*category),
             _ => return,
         };
-        self.names.bind(name, value, line.worker, line.phase + 1);
+        if let Some(name) = line.bound {
+            self.names.bind(name, value, line.worker, line.phase + 1);
+        }
     }
 }
 

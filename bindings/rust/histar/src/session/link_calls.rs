@@ -1,6 +1,6 @@
 //! Calls about containers, links and quotas. Made from bindings/calls.toml by bindings/make.py.
 use super::Session;
-use crate::{Call, Entry, Kinds, Label, Listed, Object, Quota, Refusal, Reply};
+use crate::{Call, Entry, Kinds, Label, Listed, Object, Quota, Refused, Reply};
 
 #[cfg(doc)]
 use crate::Refusal::*;
@@ -17,8 +17,8 @@ impl Session<'_> {
     /// let folder = boot.container_create(Object::ROOT, &label! { L1 }, 8, Kinds::THREADS)?;
     /// assert_eq!(boot.container_list(Object::ROOT, 0)?.ids.last(), Some(&folder));
     /// let refused = boot.thread_create(folder, &label! { L1 }, 1, &label! { L2 }, 0);
-    /// assert_eq!(refused.err(), Some(Refusal::AvoidType));
-    /// # Ok::<(), histar::Refusal>(())
+    /// assert_eq!(refused.unwrap_err().reason, Refusal::AvoidType);
+    /// # Ok::<(), histar::Refused>(())
     /// ```
     ///
     /// # Errors
@@ -30,7 +30,7 @@ impl Session<'_> {
         label: &Label,
         quota: u32,
         avoid: Kinds,
-    ) -> Result<Object, Refusal> {
+    ) -> Result<Object, Refused> {
         expect_reply!(
             self.call(&Call::ContainerCreate { container, label: label.into(), quota, avoid })?,
             Reply::Object
@@ -45,17 +45,17 @@ impl Session<'_> {
     /// # let boot = kernel.session();
     /// let folder = boot.container_create(Object::ROOT, &label! { L1 }, 8, Kinds::NONE)?;
     /// let note = boot.segment_create(Object::ROOT, &label! { L1 }, 2, 1)?;
-    /// assert_eq!(boot.link(folder, Entry::in_root(note)), Err(Refusal::NotFixed));
+    /// assert_eq!(boot.link(folder, Entry::in_root(note)).unwrap_err().reason, Refusal::NotFixed);
     /// boot.set_fixed(Entry::in_root(note))?;
     /// boot.link(folder, Entry::in_root(note))?;
     /// assert_eq!(boot.segment_len(Entry::new(folder, note)), Ok(1));
-    /// # Ok::<(), histar::Refusal>(())
+    /// # Ok::<(), histar::Refused>(())
     /// ```
     ///
     /// # Errors
     /// [`WrongType`] for a container, [`CannotObserve`], [`CannotModify`], [`LabelRange`], [`AvoidType`], [`NoQuota`],
     /// [`NotFixed`], [`AlreadyLinked`], [`Immutable`].
-    pub fn link(&self, target: Object, entry: Entry) -> Result<(), Refusal> {
+    pub fn link(&self, target: Object, entry: Entry) -> Result<(), Refused> {
         self.done(&Call::Link { target, entry })
     }
 
@@ -67,14 +67,14 @@ impl Session<'_> {
     /// # let boot = kernel.session();
     /// let note = Entry::in_root(boot.segment_create(Object::ROOT, &label! { L1 }, 2, 1)?);
     /// boot.unref(note)?;
-    /// assert_eq!(boot.segment_len(note), Err(Refusal::NoEntry));
-    /// assert_eq!(boot.unref(Entry::in_root(Object::ROOT)), Err(Refusal::RootKept));
-    /// # Ok::<(), histar::Refusal>(())
+    /// assert_eq!(boot.segment_len(note).unwrap_err().reason, Refusal::NoEntry);
+    /// assert_eq!(boot.unref(Entry::in_root(Object::ROOT)).unwrap_err().reason, Refusal::RootKept);
+    /// # Ok::<(), histar::Refused>(())
     /// ```
     ///
     /// # Errors
     /// [`CannotObserve`], [`CannotModify`], [`RootKept`], [`Immutable`].
-    pub fn unref(&self, entry: Entry) -> Result<(), Refusal> {
+    pub fn unref(&self, entry: Entry) -> Result<(), Refused> {
         self.done(&Call::Unref { entry })
     }
 
@@ -88,13 +88,13 @@ impl Session<'_> {
     /// boot.quota_move(note, 3)?;
     /// assert_eq!(boot.obj_quota(note)?.quota, 5);
     /// // It uses 2 of them.
-    /// assert_eq!(boot.quota_move(note, -4), Err(Refusal::NoQuota));
-    /// # Ok::<(), histar::Refusal>(())
+    /// assert_eq!(boot.quota_move(note, -4).unwrap_err().reason, Refusal::NoQuota);
+    /// # Ok::<(), histar::Refused>(())
     /// ```
     ///
     /// # Errors
     /// [`CannotObserve`], [`CannotModify`], [`LabelRange`], [`NoQuota`], [`FixedQuota`], [`Immutable`].
-    pub fn quota_move(&self, entry: Entry, change: i32) -> Result<(), Refusal> {
+    pub fn quota_move(&self, entry: Entry, change: i32) -> Result<(), Refused> {
         self.done(&Call::QuotaMove { entry, change })
     }
 
@@ -106,13 +106,13 @@ impl Session<'_> {
     /// # let boot = kernel.session();
     /// let note = Entry::in_root(boot.segment_create(Object::ROOT, &label! { L1 }, 2, 1)?);
     /// boot.set_fixed(note)?;
-    /// assert_eq!(boot.quota_move(note, 1), Err(Refusal::FixedQuota));
-    /// # Ok::<(), histar::Refusal>(())
+    /// assert_eq!(boot.quota_move(note, 1).unwrap_err().reason, Refusal::FixedQuota);
+    /// # Ok::<(), histar::Refused>(())
     /// ```
     ///
     /// # Errors
     /// [`CannotObserve`], [`CannotModify`], [`Immutable`].
-    pub fn set_fixed(&self, entry: Entry) -> Result<(), Refusal> {
+    pub fn set_fixed(&self, entry: Entry) -> Result<(), Refused> {
         self.done(&Call::SetFixed { entry })
     }
 
@@ -124,14 +124,14 @@ impl Session<'_> {
     /// # let boot = kernel.session();
     /// let note = Entry::in_root(boot.segment_create(Object::ROOT, &label! { L1 }, 2, 1)?);
     /// boot.set_immutable(note)?;
-    /// assert_eq!(boot.segment_write(note, 0, b"x"), Err(Refusal::Immutable));
-    /// assert_eq!(boot.set_immutable(Entry::in_root(boot)), Err(Refusal::WrongType));
-    /// # Ok::<(), histar::Refusal>(())
+    /// assert_eq!(boot.segment_write(note, 0, b"x").unwrap_err().reason, Refusal::Immutable);
+    /// assert_eq!(boot.set_immutable(Entry::in_root(boot)).unwrap_err().reason, Refusal::WrongType);
+    /// # Ok::<(), histar::Refused>(())
     /// ```
     ///
     /// # Errors
     /// [`WrongType`] for a thread or a device, [`CannotObserve`], [`CannotModify`].
-    pub fn set_immutable(&self, entry: Entry) -> Result<(), Refusal> {
+    pub fn set_immutable(&self, entry: Entry) -> Result<(), Refused> {
         self.done(&Call::SetImmutable { entry })
     }
 
@@ -146,13 +146,13 @@ impl Session<'_> {
     /// let stranger = boot.thread_create(Object::ROOT, &label! { L1 }, 1, &label! { L2 }, 0)?;
     /// // The label of an object is seen by whoever observes its container, that of a thread is not.
     /// assert_eq!(stranger.obj_label(secret)?, label! { c => L3; L1 });
-    /// assert_eq!(stranger.obj_label(Entry::in_root(boot)), Err(Refusal::CannotObserve));
-    /// # Ok::<(), histar::Refusal>(())
+    /// assert_eq!(stranger.obj_label(Entry::in_root(boot)).unwrap_err().reason, Refusal::CannotObserve);
+    /// # Ok::<(), histar::Refused>(())
     /// ```
     ///
     /// # Errors
     /// [`CannotObserve`] for a thread whose label the caller may not see.
-    pub fn obj_label(&self, entry: Entry) -> Result<Label, Refusal> {
+    pub fn obj_label(&self, entry: Entry) -> Result<Label, Refused> {
         expect_reply!(self.call(&Call::ObjLabel { entry })?, Reply::Label)
     }
 
@@ -165,12 +165,12 @@ impl Session<'_> {
     /// let note = Entry::in_root(boot.segment_create(Object::ROOT, &label! { L1 }, 4, 1)?);
     /// let quota = boot.obj_quota(note)?;
     /// assert_eq!((quota.quota, quota.used, quota.fixed, quota.immutable), (4, 2, false, false));
-    /// # Ok::<(), histar::Refusal>(())
+    /// # Ok::<(), histar::Refused>(())
     /// ```
     ///
     /// # Errors
     /// [`CannotObserve`].
-    pub fn obj_quota(&self, entry: Entry) -> Result<Quota, Refusal> {
+    pub fn obj_quota(&self, entry: Entry) -> Result<Quota, Refused> {
         expect_reply!(self.call(&Call::ObjQuota { entry })?, Reply::Quota)
     }
 
@@ -182,13 +182,13 @@ impl Session<'_> {
     /// # let boot = kernel.session();
     /// let listed = boot.container_list(Object::ROOT, 0)?;
     /// assert_eq!((listed.length, listed.ids), (2, vec![boot.id(), Object::DEVICE]));
-    /// assert_eq!(boot.container_list(Object::ROOT, 3), Err(Refusal::Bounds));
-    /// # Ok::<(), histar::Refusal>(())
+    /// assert_eq!(boot.container_list(Object::ROOT, 3).unwrap_err().reason, Refusal::Bounds);
+    /// # Ok::<(), histar::Refused>(())
     /// ```
     ///
     /// # Errors
     /// [`Bounds`].
-    pub fn container_list(&self, container: Object, from: u32) -> Result<Listed, Refusal> {
+    pub fn container_list(&self, container: Object, from: u32) -> Result<Listed, Refused> {
         expect_reply!(self.call(&Call::ContainerList { container, from })?, Reply::Listed)
     }
 
@@ -200,13 +200,13 @@ impl Session<'_> {
     /// # let boot = kernel.session();
     /// let folder = boot.container_create(Object::ROOT, &label! { L1 }, 8, Kinds::NONE)?;
     /// assert_eq!(boot.container_parent(folder), Ok(Object::ROOT));
-    /// assert_eq!(boot.container_parent(Object::DEVICE), Err(Refusal::NoAccess));
-    /// # Ok::<(), histar::Refusal>(())
+    /// assert_eq!(boot.container_parent(Object::DEVICE).unwrap_err().reason, Refusal::NoAccess);
+    /// # Ok::<(), histar::Refused>(())
     /// ```
     ///
     /// # Errors
     /// Those of every call.
-    pub fn container_parent(&self, container: Object) -> Result<Object, Refusal> {
+    pub fn container_parent(&self, container: Object) -> Result<Object, Refused> {
         expect_reply!(self.call(&Call::ContainerParent { container })?, Reply::Parent)
     }
 }

@@ -1,6 +1,6 @@
 //! Calls about categories, labels, threads and gates. Made from bindings/calls.toml by bindings/make.py.
 use super::Session;
-use crate::{Call, Category, Entered, Entry, Label, NewGate, Object, Own, Refusal, Reply};
+use crate::{Call, Category, Entered, Entry, Label, NewGate, Object, Own, Refused, Reply};
 
 #[cfg(doc)]
 use crate::Refusal::*;
@@ -16,12 +16,12 @@ impl<'k> Session<'k> {
     /// let c = boot.cat_create()?;
     /// let own = boot.self_get()?;
     /// assert_eq!((own.label, own.clearance), (label! { c => Star; L1 }, label! { c => L3; L2 }));
-    /// # Ok::<(), histar::Refusal>(())
+    /// # Ok::<(), histar::Refused>(())
     /// ```
     ///
     /// # Errors
     /// [`LabelFull`], [`Spent`].
-    pub fn cat_create(&self) -> Result<Category, Refusal> {
+    pub fn cat_create(&self) -> Result<Category, Refused> {
         expect_reply!(self.call(&Call::CatCreate)?, Reply::Category)
     }
 
@@ -33,14 +33,14 @@ impl<'k> Session<'k> {
     /// # let boot = kernel.session();
     /// let note = Entry::in_root(boot.segment_create(Object::ROOT, &label! { L1 }, 2, 1)?);
     /// boot.self_set_label(&label! { L2 })?;
-    /// assert_eq!(boot.segment_write(note, 0, b"x"), Err(Refusal::CannotModify));
-    /// assert_eq!(boot.self_set_label(&label! { L1 }), Err(Refusal::LabelRange));
-    /// # Ok::<(), histar::Refusal>(())
+    /// assert_eq!(boot.segment_write(note, 0, b"x").unwrap_err().reason, Refusal::CannotModify);
+    /// assert_eq!(boot.self_set_label(&label! { L1 }).unwrap_err().reason, Refusal::LabelRange);
+    /// # Ok::<(), histar::Refused>(())
     /// ```
     ///
     /// # Errors
     /// [`BadLabel`], [`LabelRange`].
-    pub fn self_set_label(&self, label: &Label) -> Result<(), Refusal> {
+    pub fn self_set_label(&self, label: &Label) -> Result<(), Refused> {
         self.done(&Call::SelfSetLabel { label: label.into() })
     }
 
@@ -53,16 +53,16 @@ impl<'k> Session<'k> {
     /// # let boot = kernel.session();
     /// let c = boot.cat_create()?;
     /// boot.self_set_clearance(&label! { L1 })?;
-    /// assert_eq!(boot.self_set_label(&label! { L2 }), Err(Refusal::LabelRange));
+    /// assert_eq!(boot.self_set_label(&label! { L2 }).unwrap_err().reason, Refusal::LabelRange);
     /// // An owner takes its category's clearance back, and no other.
     /// boot.self_set_clearance(&label! { c => L3; L1 })?;
-    /// assert_eq!(boot.self_set_clearance(&label! { L2 }), Err(Refusal::ClearanceRange));
-    /// # Ok::<(), histar::Refusal>(())
+    /// assert_eq!(boot.self_set_clearance(&label! { L2 }).unwrap_err().reason, Refusal::ClearanceRange);
+    /// # Ok::<(), histar::Refused>(())
     /// ```
     ///
     /// # Errors
     /// [`BadLabel`], [`ClearanceRange`].
-    pub fn self_set_clearance(&self, clearance: &Label) -> Result<(), Refusal> {
+    pub fn self_set_clearance(&self, clearance: &Label) -> Result<(), Refused> {
         self.done(&Call::SelfSetClearance { clearance: clearance.into() })
     }
 
@@ -75,13 +75,13 @@ impl<'k> Session<'k> {
     /// let space = Entry::in_root(boot.as_create(Object::ROOT, &label! { L1 }, 1)?);
     /// boot.self_set_as(space)?;
     /// assert_eq!(boot.self_get()?.space, space);
-    /// assert_eq!(boot.self_set_as(Entry::in_root(Object::DEVICE)), Err(Refusal::WrongType));
-    /// # Ok::<(), histar::Refusal>(())
+    /// assert_eq!(boot.self_set_as(Entry::in_root(Object::DEVICE)).unwrap_err().reason, Refusal::WrongType);
+    /// # Ok::<(), histar::Refused>(())
     /// ```
     ///
     /// # Errors
     /// [`WrongType`].
-    pub fn self_set_as(&self, space: Entry) -> Result<(), Refusal> {
+    pub fn self_set_as(&self, space: Entry) -> Result<(), Refused> {
         self.done(&Call::SelfSetAs { space })
     }
 
@@ -96,8 +96,8 @@ impl<'k> Session<'k> {
     /// let secret = Entry::in_root(boot.segment_create(Object::ROOT, &label! { c => L3; L1 }, 2, 1)?);
     /// let stranger = boot.thread_create(Object::ROOT, &label! { L1 }, 1, &label! { L2 }, 7)?;
     /// assert_eq!(stranger.self_get()?.entry_point, 7);
-    /// assert_eq!(stranger.segment_read(secret, 0, 1), Err(Refusal::CannotObserve));
-    /// # Ok::<(), histar::Refusal>(())
+    /// assert_eq!(stranger.segment_read(secret, 0, 1).unwrap_err().reason, Refusal::CannotObserve);
+    /// # Ok::<(), histar::Refused>(())
     /// ```
     ///
     /// # Errors
@@ -110,10 +110,10 @@ impl<'k> Session<'k> {
         quota: u32,
         clearance: &Label,
         entry_point: u64,
-    ) -> Result<Session<'k>, Refusal> {
+    ) -> Result<Session<'k>, Refused> {
         let call =
             Call::ThreadCreate { container, label: label.into(), quota, clearance: clearance.into(), entry_point };
-        let made: Result<Object, Refusal> = expect_reply!(self.call(&call)?, Reply::Object);
+        let made: Result<Object, Refused> = expect_reply!(self.call(&call)?, Reply::Object);
         made.map(|thread| Session::new(self.kernel, thread.into()))
     }
 
@@ -129,14 +129,14 @@ impl<'k> Session<'k> {
     /// assert_eq!(boot.obj_label(Entry::in_root(gate))?, owner);
     /// // Who does not own the category makes no gate that does.
     /// let stranger = boot.thread_create(Object::ROOT, &label! { L1 }, 1, &label! { L2 }, 0)?;
-    /// assert_eq!(stranger.gate_create(&NewGate::new(&owner, &clearance)), Err(Refusal::LabelRange));
-    /// # Ok::<(), histar::Refusal>(())
+    /// assert_eq!(stranger.gate_create(&NewGate::new(&owner, &clearance)).unwrap_err().reason, Refusal::LabelRange);
+    /// # Ok::<(), histar::Refused>(())
     /// ```
     ///
     /// # Errors
     /// [`CannotObserve`], [`CannotModify`], [`BadLabel`], [`LabelRange`], [`AvoidType`], [`NoQuota`], [`Immutable`],
     /// [`Spent`], [`ClearanceRange`], [`WrongType`].
-    pub fn gate_create(&self, gate: &NewGate<'_>) -> Result<Object, Refusal> {
+    pub fn gate_create(&self, gate: &NewGate<'_>) -> Result<Object, Refused> {
         expect_reply!(self.call(&Call::GateCreate(gate.clone()))?, Reply::Object)
     }
 
@@ -151,10 +151,10 @@ impl<'k> Session<'k> {
     /// let (owner, clearance) = (label! { c => Star; L1 }, label! { c => L3; L2 });
     /// let gate = Entry::in_root(boot.gate_create(&NewGate { entry_point: 7, ..NewGate::new(&owner, &clearance) })?);
     /// let client = boot.thread_create(Object::ROOT, &label! { L1 }, 1, &label! { L2 }, 0)?;
-    /// assert_eq!(client.gate_enter(gate, &owner, &clearance, &label! { L0 }), Err(Refusal::GateDenied));
+    /// assert_eq!(client.gate_enter(gate, &owner, &clearance, &label! { L0 }).unwrap_err().reason, Refusal::GateDenied);
     /// assert_eq!(client.gate_enter(gate, &owner, &clearance, &label! { L3 })?.entry_point, 7);
     /// assert_eq!(client.self_get()?.label, owner);
-    /// # Ok::<(), histar::Refusal>(())
+    /// # Ok::<(), histar::Refused>(())
     /// ```
     ///
     /// # Errors
@@ -165,7 +165,7 @@ impl<'k> Session<'k> {
         label: &Label,
         clearance: &Label,
         verify: &Label,
-    ) -> Result<Entered, Refusal> {
+    ) -> Result<Entered, Refused> {
         let call = Call::GateEnter { gate, label: label.into(), clearance: clearance.into(), verify: verify.into() };
         expect_reply!(self.call(&call)?, Reply::Entered)
     }
@@ -178,12 +178,12 @@ impl<'k> Session<'k> {
     /// # let boot = kernel.session();
     /// let own = boot.self_get()?;
     /// assert_eq!((own.label, own.clearance, own.space), (label! { L1 }, label! { L2 }, Entry::NONE));
-    /// # Ok::<(), histar::Refusal>(())
+    /// # Ok::<(), histar::Refused>(())
     /// ```
     ///
     /// # Errors
     /// Those of every call.
-    pub fn self_get(&self) -> Result<Own, Refusal> {
+    pub fn self_get(&self) -> Result<Own, Refused> {
         expect_reply!(self.call(&Call::SelfGet)?, Reply::Own)
     }
 }
