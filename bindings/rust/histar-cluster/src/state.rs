@@ -101,21 +101,25 @@ impl<M: Machine> State<M> {
             return Err(Fault::UnknownRules(boot.rules));
         }
         let owners = BTreeMap::from([(BOOT_THREAD, boot.first.clone())]);
-        let (order, rules) = (Order::default(), boot.rules);
-        let played = Played::default();
-        Ok(State {
+        Ok(State::begun(keys, boot, machine, owners))
+    }
+
+    /// The state of a machine before any entry.
+    fn begun(keys: Keys, boot: Boot, machine: M, owners: BTreeMap<u64, Name>) -> State<M> {
+        let rules = boot.rules;
+        State {
             keys,
             boot,
             machine,
-            order,
+            order: Order::default(),
             owners,
             rules,
             entries: 0,
             place: 0,
             marked: 0,
             digest: [0; 32],
-            played,
-        })
+            played: Played::default(),
+        }
     }
 
     /// How many entries have counted.
@@ -288,18 +292,8 @@ impl<M: Machine> State<M> {
             owners.insert(thread, Name::new(std::str::from_utf8(take_bytes(rest)?).ok()?)?);
         }
         let restored = restored(&boot.limits, rules, rest);
-        Some(restored.map(|machine| State {
-            keys,
-            boot,
-            machine,
-            order,
-            owners,
-            rules,
-            entries,
-            place,
-            marked,
-            digest,
-            played: Played::default(),
+        Some(restored.map(|machine| {
+            State { order, rules, entries, place, marked, digest, ..State::begun(keys, boot, machine, owners) }
         }))
     }
 }
