@@ -292,8 +292,14 @@ impl<M: Machine> State<M> {
             owners.insert(thread, Name::new(std::str::from_utf8(take_bytes(rest)?).ok()?)?);
         }
         let restored = restored(&boot.limits, rules, rest);
-        Some(restored.map(|machine| {
-            State { order, rules, entries, place, marked, digest, ..State::begun(keys, boot, machine, owners) }
+        Some(restored.map(|machine| State {
+            order,
+            rules,
+            entries,
+            place,
+            marked,
+            digest,
+            ..State::begun(keys, boot, machine, owners)
         }))
     }
 }
