@@ -139,6 +139,7 @@ fn add(
     ensures { OnOk result (AddsLine line phases.old.items args.old.items lines.old.items
         phases.new.items args.new.items lines.new.items) }
 {
+    let _named: Option<Name> = None;
     match line {
         None => close(alloc, phases, args, lines)?,
         Some(line) => lines.push(line)?,

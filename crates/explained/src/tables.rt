@@ -1,7 +1,7 @@
 //! The row of each call: its conditions, in their order.
 #![tactic(auto)]
 
-ghost use Rattle.std.specs.Prelude.{◌++◌, OnOk};
+ghost use Rattle.std.specs.Prelude.{◌≡◌, ◌++◌, OnOk};
 ghost use Rattle.kernel_rules.specs.Table.{conditions, query_conditions};
 ghost use Rattle.plain_state.specs.StateOf.{state_of};
 ghost use Rattle.explained.specs.Ruled.{conditions_in};

@@ -8,7 +8,7 @@ use Rattle.kernel_rules.specs.Table.{conditions}
 use Rattle.plain_state.specs.StateOf.{state_of}
 use Rattle.explained.specs.Ruled.{conditions_in}
 use Rattle.explained.proofs.Chain.{six}
-use Rattle.explained.proofs.tables.Row.put_call.Goals as goal
+use Rattle.explained.proofs.rows.Row.put_call.Goals as goal
 
 pub returns-in_ok-at_most-in-SegmentCreate : goal.returns-in_ok-at_most-in-SegmentCreate
 returns-in_ok-at_most-in-SegmentCreate c =
