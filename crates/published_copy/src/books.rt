@@ -14,7 +14,6 @@ ghost use Rattle.published_copy.specs.Turns.{turn, is_turn, with_event, receipt_
 ghost use Rattle.published_copy.specs.Turns.{passed_on, Has, TellsBatch};
 ghost use mathlib.Core.List.{IsPrefix};
 
-use crate::batches::Batch;
 use crate::naming::Naming;
 use crate::notes::Note;
 use crate::pairs::Pair;
@@ -205,8 +204,7 @@ impl<B: Naming> Book<B> {
         let events = self.journal.len() as u64;
         let _begins = self.pair.position(events).has(pass.position());
         make_room(&mut self.journal, &mut self.tallies)?;
-        let batch = Batch { call, more };
-        let event = self.pair.commit(rt, pass, batch, events + 1, reply)?;
+        let event = self.pair.commit(rt, pass, call, more, events + 1, reply)?;
         self.journal.push_reserved(event);
         count_events(&mut self.tallies, pass.thread(), pass.number());
         let position = self.pair.position(events + 1);

@@ -8,7 +8,6 @@ ghost use Rattle.published_copy.specs.Boots.{boot_of};
 ghost use Rattle.published_copy.specs.Shares.{IsShown};
 ghost use Rattle.syscall_core.specs.Kernel.{kernel_state};
 
-use crate::batches::Batch;
 use crate::further::Further;
 use crate::logs::{SeenLog, weighed};
 use crate::ops::Op;
@@ -89,11 +88,8 @@ fn make(
     ensures state { kernel_state kernel.new ≡ state_after (kernel_state kernel.old)
         (by operation.now.thread (calls_with operation.now)) }
 {
-    let batch = Batch {
-        call: &operation.call,
-        more: operation.more.as_slice(),
-    };
-    further.make(kernel, meter, operation.thread, batch, reply);
+    let (call, more) = (&operation.call, operation.more.as_slice());
+    further.make(kernel, meter, operation.thread, call, more, reply);
 }
 
 impl Absorb<Op> for Copied {

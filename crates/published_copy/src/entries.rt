@@ -1,6 +1,6 @@
 //! What stands in the log of a boot, and the rule of the log.
-use crate::batches::Batch;
 use base::ObjectId;
+use kernel_rules::Call;
 use kernel_rules::histories::Event;
 use logbook::{Gain, Plain, Play, Rule};
 use syscall_core::Kernel;
@@ -73,8 +73,10 @@ pub(crate) struct Trial<'a> {
     pub(crate) thread: ObjectId,
     /// Which of its thread's events the batch is.
     pub(crate) number: u64,
-    /// The calls.
-    pub(crate) batch: Batch<'a>,
+    /// The first call.
+    pub(crate) call: &'a Call,
+    /// The calls after it.
+    pub(crate) more: &'a [Call],
 }
 
 impl<'a> Plain<Trial<'a>, Entry, u64> for Add {
@@ -86,7 +88,7 @@ impl<'a> Plain<Trial<'a>, Entry, u64> for Add {
     ghost ask = { λ t. tried (record {
       thread = t.thread;
       number = t.number;
-      calls = answered (kernel_state t.kernel.now) t.thread (t.batch.call.now ∷ t.batch.more.now);
+      calls = answered (kernel_state t.kernel.now) t.thread (t.call.now ∷ t.more.now);
     }) };
 
     ghost state = { λ t. None };

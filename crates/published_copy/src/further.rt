@@ -4,7 +4,6 @@ ghost use Rattle.kernel_rules.specs.Events.{by};
 ghost use Rattle.kernel_rules.specs.Runs.{replies_to, state_after};
 ghost use Rattle.syscall_core.specs.Kernel.{kernel_state};
 
-use crate::batches::Batch;
 use base::{Meter, NoMemory, ObjectId};
 use kept_events::{KeptReply, call_answers};
 use kernel_rules::histories::BATCH;
@@ -79,19 +78,20 @@ impl Further {
         kernel: &mut Kernel,
         meter: &mut Meter,
         thread: ObjectId,
-        batch: Batch<'_>,
+        call: &Call,
+        more: &[Call],
         reply: &mut Reply,
     )
-        requires { length batch.more.now ≤ 15 }
+        requires { length more.now ≤ 15 }
         ensures replies { reply.new ∷ self.new
-            ≡ replies_to (kernel_state kernel.old) (by thread (batch.call.now ∷ batch.more.now)) }
+            ≡ replies_to (kernel_state kernel.old) (by thread (call.now ∷ more.now)) }
         ensures state { kernel_state kernel.new
-            ≡ state_after (kernel_state kernel.old) (by thread (batch.call.now ∷ batch.more.now)) }
+            ≡ state_after (kernel_state kernel.old) (by thread (call.now ∷ more.now)) }
     {
-        kernel.step_into(thread, batch.call, reply, meter);
+        kernel.step_into(thread, call, reply, meter);
         self.replies.clear();
-        if !batch.more.is_empty() {
-            make_more(kernel, meter, thread, batch.more, &mut self.replies);
+        if !more.is_empty() {
+            make_more(kernel, meter, thread, more, &mut self.replies);
         }
     }
 }

@@ -7,7 +7,6 @@
 //! there is a book with one kernel and no copies.
 #![tactic(auto)]
 
-mod batches;
 mod book_guards;
 mod books;
 mod boots;

@@ -12,7 +12,6 @@ ghost use Rattle.published_copy.specs.Rules.{head_of};
 ghost use Rattle.published_copy.specs.Shares.{IsShown};
 ghost use Rattle.published_copy.specs.Turns.{event_at, with_event};
 
-use crate::batches::Batch;
 use crate::log_positions::LogPosition;
 use crate::logs::{Head, SeenLog};
 use crate::naming::Naming;
@@ -66,21 +65,22 @@ fn attempt<B: Naming, R: Wait>(
     head: &Arc<Head>,
     kernel: &Kernel,
     pass: &Pass<B>,
-    batch: Batch<'_>,
+    call: &Call,
+    more: &[Call],
 ) -> Option<Arc<Head>>
     requires head { arc_value head.now ≡ head_of B.boot.log }
     requires state { kernel_state kernel.now ≡ state_of B.boot.limits (made whole.old) }
     ensures same { made whole.new ≡ made whole.old }
     ensures head { IfSome result (λ owner. arc_value owner ≡ head_of B.boot.log) }
     ensures list { OnSome result (list_of false whole.new
-        ≡ with_event B.boot.limits (made whole.old) pass.now (batch.call.now ∷ batch.more.now)) }
+        ≡ with_event B.boot.limits (made whole.old) pass.now (call.now ∷ more.now)) }
     ensures room { OnSome result (weight whole.new + 1 < 2 ^ 64) }
 {
     if whole.weight() >= u64::MAX - 3 {
         return None;
     }
     let owner = Arc::try_clone(head).ok()?;
-    whole.attempt(rt, head, kernel, pass, batch);
+    whole.attempt(rt, head, kernel, pass, call, more);
     Some(owner)
 }
 
@@ -178,26 +178,27 @@ impl<B: Naming> Pair<B> {
         &mut self,
         rt: &R,
         pass: &Pass<B>,
-        batch: Batch<'_>,
+        call: &Call,
+        more: &[Call],
         events: u64,
         reply: &mut Reply,
     ) -> Result<KeptEvent, NoMemory>
-        requires size { is_batch (batch.call.now ∷ batch.more.now) ≡ true }
+        requires size { is_batch (call.now ∷ more.now) ≡ true }
         requires number { pass.now.number ≡ count pass.now.thread self.old + 1 }
         requires events { events ≡ length self.old + 1 }
         ensures event { IfOk result (λ kept. kept
-            ≡ event_at (state_of B.boot.limits self.old) pass.now (batch.call.now ∷ batch.more.now)) }
+            ≡ event_at (state_of B.boot.limits self.old) pass.now (call.now ∷ more.now)) }
         ensures journal { OnOk result (self.new
-            ≡ with_event B.boot.limits self.old pass.now (batch.call.now ∷ batch.more.now)) }
+            ≡ with_event B.boot.limits self.old pass.now (call.now ∷ more.now)) }
         ensures reply { OnOk result
-            (reply.new ≡ answer (state_of B.boot.limits self.old) pass.now.thread batch.call.now) }
+            (reply.new ≡ answer (state_of B.boot.limits self.old) pass.now.thread call.now) }
         ensures kept { OnErr result (self.new ≡ self.old) }
     {
-        let first = Box::new(self.alloc, *batch.call)?;
-        let others = copied(self.alloc, batch.more)?;
-        let kept = KeptCalls::new(self.alloc, batch.call, batch.more)?;
+        let first = Box::new(self.alloc, *call)?;
+        let others = copied(self.alloc, more)?;
+        let kept = KeptCalls::new(self.alloc, call, more)?;
         let kernel = self.copies.kernel();
-        let tried = attempt(rt, &mut self.whole, &self.head, kernel, pass, batch);
+        let tried = attempt(rt, &mut self.whole, &self.head, kernel, pass, call, more);
         let Some(head) = tried else {
             return Err(NoMemory);
         };

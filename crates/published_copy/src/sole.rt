@@ -12,7 +12,6 @@ ghost use Rattle.published_copy.specs.Seats.{seat_refused};
 ghost use Rattle.published_copy.specs.Tallies.{IsTallied};
 ghost use Rattle.published_copy.specs.Turns.{next_turn, receipt_of, receipt_with, with_event, TellsBatch};
 
-use crate::batches::Batch;
 use crate::books::make_room;
 use crate::further::Further;
 use crate::naming::Naming;
@@ -168,8 +167,7 @@ impl<B: Naming> SoleBook<B> {
         make_room(&mut self.journal, &mut self.tallies)?;
         let kept = KeptCalls::new(self.alloc, call, more)?;
         let (kernel, meter) = (&mut self.kernel, &mut self.meter);
-        let batch = Batch { call, more };
-        self.further.make(kernel, meter, thread, batch, reply);
+        self.further.make(kernel, meter, thread, call, more, reply);
         call_answers();
         let further = self.further.replies();
         let event = kept.event(thread, number, KeptReply::new(reply), further);

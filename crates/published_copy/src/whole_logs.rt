@@ -6,11 +6,11 @@ ghost use Rattle.published_copy.specs.Turns.{event_at};
 ghost use Rattle.published_copy.specs.declared.entries.Entry.TheVariants.{Made};
 ghost use Rattle.syscall_core.specs.Kernel.{kernel_state};
 
-use crate::batches::Batch;
 use crate::entries::{Add, Entry, Law, Nothing, Sealing, Trial};
 use crate::logs::{Head, SeenLog};
 use crate::naming::Naming;
 use crate::passes::Pass;
+use kernel_rules::Call;
 use logbook::{Offer, Plain};
 use std::marker::{Model, PhantomData};
 use std::sync::Wait;
@@ -114,19 +114,21 @@ impl<B: Naming> WholeLog<B> {
         head: &Head,
         kernel: &Kernel,
         pass: &Pass<B>,
-        batch: Batch<'_>,
+        call: &Call,
+        more: &[Call],
     )
         requires head { head.now ≡ head_of B.boot.log }
         requires room { weight self.old + 2 < 2 ^ 64 }
         ensures { self.new
             ≡ self.old ++ tried (event_at (kernel_state kernel.now) pass.now
-            (batch.call.now ∷ batch.more.now)) ∷ [] }
+            (call.now ∷ more.now)) ∷ [] }
     {
         let trial = Trial {
             kernel,
             thread: pass.thread(),
             number: pass.number(),
-            batch,
+            call,
+            more,
         };
         self.add::<Trial<'_>, Add, R>(rt, head, &trial, 2)
     }

@@ -23,15 +23,15 @@ publish-requires g c =
     let list = made c.self.inside.whole in
     let whole = c.attempt-tried.new.whole in
     let pass = c.args.pass.now in
-    let calls : List Call = c.args.batch.call.now ∷ c.args.batch.more.now in
+    let calls : List Call = c.args.call.now ∷ c.args.more.now in
     let event : Event = event_at (state_of boot.limits list) pass calls in
     let op = c.operation-op.result in
     let lists : c.queue.new.self.list ≡ list = search rules in
     let pending : c.queue.new.self.pending ≡ op ∷ [] = search rules in
     let saw : c.operation-op.result.seen.log ≡ whole = search rules in
     let tried : list_of false whole ≡ list ++ event ∷ [] = search rules in
-    let first : op.call.value ≡ c.args.batch.call.now = search rules in
-    let others : op.more.items ≡ c.args.batch.more.now = search rules in
+    let first : op.call.value ≡ c.args.call.now = search rules in
+    let others : op.more.items ≡ c.args.more.now = search rules in
     let nx : IsNext boot list op =
     record {
       event = event;
@@ -51,7 +51,7 @@ event-requires g c =
     let limits = g.B.Naming.boot.limits in
     let list = made c.self.inside.whole in
     let pass = c.args.pass.now in
-    let calls : List Call = c.args.batch.call.now ∷ c.args.batch.more.now in
+    let calls : List Call = c.args.call.now ∷ c.args.more.now in
     let journal : made c.settle.new.self ≡ list ++ event_at (state_of limits list) pass calls ∷ [] = search rules in
     let told = ap length (told_last limits list (made c.settle.new.self) pass calls _ c.publish.ensures.replies journal) in
     let kept : length c.in_ok-kept.kept ≡ length calls = ap length c.in_ok-kept.ensures in
@@ -63,7 +63,7 @@ returns-clause-event g c =
     let limits = g.B.Naming.boot.limits in
     let list = made c.self.inside.whole in
     let pass = c.args.pass.now in
-    let calls : List Call = c.args.batch.call.now ∷ c.args.batch.more.now in
+    let calls : List Call = c.args.call.now ∷ c.args.more.now in
     let journal : made c.settle.new.self ≡ list ++ event_at (state_of limits list) pass calls ∷ [] = search rules in
     let told = told_last limits list (made c.settle.new.self) pass calls _ c.publish.ensures.replies journal in
     let reply : c.new-3.result ≡ c.publish.new.self.reply = search rules in
@@ -79,10 +79,10 @@ returns-clause-reply g c =
     let limits = g.B.Naming.boot.limits in
     let list = made c.self.inside.whole in
     let pass = c.args.pass.now in
-    let calls : List Call = c.args.batch.call.now ∷ c.args.batch.more.now in
+    let calls : List Call = c.args.call.now ∷ c.args.more.now in
     let journal : made c.settle.new.self ≡ list ++ event_at (state_of limits list) pass calls ∷ [] = search rules in
     let told : c.publish.new.self.reply ∷ c.publish.new.self.further ≡ replies_to (state_of limits list) (by pass.thread calls) =
     told_last limits list (made c.settle.new.self) pass calls _ c.publish.ensures.replies journal in
-    let first : c.publish.new.self.reply ≡ answer (state_of limits list) pass.thread c.args.batch.call.now = cc told in
+    let first : c.publish.new.self.reply ≡ answer (state_of limits list) pass.thread c.args.call.now = cc told in
     c.publish.ensures.reply ∙ first
-    ∙ ap (λ l. answer (state_of limits l) pass.thread c.args.batch.call.now) c.self.view_is
+    ∙ ap (λ l. answer (state_of limits l) pass.thread c.args.call.now) c.self.view_is
