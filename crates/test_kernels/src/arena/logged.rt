@@ -76,7 +76,7 @@ fn is_clean(alloc: Global, text: &[u8]) -> bool {
 
 /// Whether the log begins.
 fn begins(kernel: &mut LoggedKernel) -> bool {
-    kernel.begin_log()
+    kernel.begin_log(9)
 }
 
 /// Whether the boot thread is there.
@@ -117,7 +117,7 @@ fn keep_calls(look: &mut Look, alloc: Global, kernel: &mut LoggedKernel, meter: 
 
 /// Whether the log begins anew, again where there was no memory.
 fn cuts(kernel: &mut LoggedKernel) -> bool {
-    kernel.cut_log().is_ok() || kernel.cut_log().is_ok()
+    kernel.cut_log(9).is_ok() || kernel.cut_log(9).is_ok()
 }
 
 /// A kernel that the checkpoint of another one restores.
