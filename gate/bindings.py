@@ -280,7 +280,7 @@ class Bindings:
             self.counts(f"{RECORDS:,} random records leave the heap as it was", records, str(RECORDS))
         soak = self.compile([compiler, "-std=gnu11"], "soak.c", "soak", *WARNINGS)
         if soak:
-            self.counts(f"{SESSIONS:,} sessions of 100 writes take no memory", soak, str(SESSIONS), "100")
+            self.soak(soak)
         wrapped = "-Wl,--wrap=malloc,--wrap=realloc,--wrap=free"
         long_log = self.compile([compiler, "-std=gnu11"], "long_log.c", "long_log", *WARNINGS, wrapped)
         if long_log:
@@ -296,6 +296,19 @@ class Bindings:
             self.play([*checked, player], "C under valgrind")
         if records:
             self.counts("random records under valgrind", *checked, records, "20000")
+
+    def soak(self, soak):
+        """Sessions come and go on one kernel, and it takes no memory: without a log, and with one that is dumped and cut whenever it is full."""
+        self.counts(f"{SESSIONS:,} sessions of 100 writes take no memory", soak, str(SESSIONS), "100")
+        folder = f"{self.room}/soak"
+        os.makedirs(folder, exist_ok=True)
+        self.counts(f"{SESSIONS:,} sessions of 100 writes take no memory with a log that is cut", soak, str(SESSIONS), "100", folder)
+        if not self.auditor:
+            self.leave_out("audits of logs that are cut", "./histar-audit is not built")
+            return
+        logs = sorted(glob.glob(f"{folder}/dump-*"))
+        unclean = [os.path.basename(it) for it in logs if run(self.auditor, it) != (True, "clean\n")]
+        self.report.counts(len(logs) == 3 and not unclean, f"./histar-audit finds {len(logs)} logs that were cut clean" + but_not(unclean))
 
     def try_threads(self, compiler):
         """Eight threads that share a kernel: for some time, under valgrind, and with clang's sanitizer of threads."""

@@ -44,6 +44,9 @@ GUARDS = (
     ("    if (note.at != seat->shared.at || note.since != seat->shared.since) return histar_released(seat, HISTAR_OTHER_LIST);\n", ""),
     ("note.at != seat->shared.at || ", ""),
     (" || note.since != seat->shared.since", ""),
+    ("    k->request.numbers[0] = most;\n", "    k->request.numbers[0] = UINT64_MAX;\n"),
+    ("HISTAR_CALL_LOG_CUT, HISTAR_NOTHING, HISTAR_NOWHERE);\n    if (refusal) return refusal;\n    k->request.numbers[0] = most;\n",
+     "HISTAR_CALL_LOG_CUT, HISTAR_NOTHING, HISTAR_NOWHERE);\n    if (refusal) return refusal;\n    k->request.numbers[0] = UINT64_MAX;\n"),
     (", uint64_t offset,", ", uint32_t offset,"),
     ("void *bytes, uint64_t len)", "void *bytes, uint32_t len)"),
 )

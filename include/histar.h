@@ -15,7 +15,7 @@
  *   bytes. HISTAR_BUSY comes where another call uses it: by another thread, or by the code that a signal interrupted.
  *   Nothing is done then, and the call may be made again.
  * - It takes no memory, prints nothing and never waits. Only the opens take memory, checkpoints, and what the log needs: a
- *   write call after histar_log_on, which is refused HISTAR_MEMORY where there is none, histar_log_cut and dumps. Of a kernel that
+ *   write call after histar_log_on, up to the bound that this was given, histar_log_cut and dumps. Of a kernel that
  *   threads share, the opens and each write call take memory, and a write call may sleep where another's is not ended.
  * - The bytes and labels that it gave or took stand in no record of the kernel once it returns. The library keeps the last
  *   call and the last reply inside the room, and histar_close wipes all of it.
@@ -128,6 +128,7 @@ enum histar_refusal {
     HISTAR_BUSY = 46,            /* another call uses the kernel or has not ended adding itself to the list, or it is open already */
     HISTAR_LIST_FULL = 47,       /* a seat of the shared kernel lacks as many batches as it may lack; with a log, there are so many */
     HISTAR_OTHER_LIST = 48,      /* the note is not of this shared kernel */
+    HISTAR_LOG_FULL = 49,        /* the log has as many write calls as it may have */
     HISTAR_TEXT_FAULT = 50,      /* the text is no dump */
     HISTAR_TEXT_MEMORY = 51,     /* there is no memory for the text of a dump or of a checkpoint */
     HISTAR_ILL_FORMED = 60,      /* no calls lead to what the text's checkpoint says */
@@ -171,6 +172,7 @@ static inline const char *histar_refusal_name(uint32_t refusal)
     case HISTAR_BUSY: return "Busy";
     case HISTAR_LIST_FULL: return "ListFull";
     case HISTAR_OTHER_LIST: return "OtherList";
+    case HISTAR_LOG_FULL: return "LogFull";
     case HISTAR_TEXT_FAULT: return "TextFault";
     case HISTAR_TEXT_MEMORY: return "TextMemory";
     case HISTAR_ILL_FORMED: return "IllFormed";
@@ -1147,24 +1149,27 @@ static inline uint32_t histar_batch(histar *seat, histar_object thread, const hi
 /* ---- The log: each write call since the open or the last cut, refused or not, with its answer. Its dump is the text that
  * `./histar run --dump` writes of a run, and histar-audit tells whether its answers are those of the rules. ---- */
 
-/* Begins the log, before the first write call. From here on each write call takes memory, and is refused HISTAR_MEMORY
- * and not made where there is none. HISTAR_BAD_BATCH where a write call was made already. */
+/* Begins the log, of `most` write calls at most, before the first one. From here on each write call takes memory. One past the bound is
+ * refused HISTAR_LOG_FULL, and HISTAR_MEMORY where there is no memory for it: it is not made and not kept, and reads are answered as ever.
+ * histar_log_cut makes room; UINT64_MAX is no bound. HISTAR_BAD_BATCH where a write call was made already. */
 HISTAR_LOOKED_AT(1)
-static inline uint32_t histar_log_on(histar *k)
+static inline uint32_t histar_log_on(histar *k, uint64_t most)
 {
     uint32_t refusal = histar_asks(k, HISTAR_CALL_LOG_ON, HISTAR_NOTHING, HISTAR_NOWHERE);
     if (refusal) return refusal;
+    k->request.numbers[0] = most;
     return histar_done(k);
 }
 
-/* Begins the log anew at the kernel as it stands, so that the memory of its calls is given back: its dump has the checkpoint of this
- * moment and the write calls from here on. Where no log was kept, one begins, in which each thread's first event has number 1.
+/* Begins the log anew at the kernel as it stands, of `most` write calls at most, so that the memory of its calls is given back: its dump has
+ * the checkpoint of this moment and the write calls from here on. Where no log was kept, one begins, in which each thread's first event has number 1.
  * HISTAR_MEMORY where there is no memory for that, and the log is as before; HISTAR_BAD_BATCH of a seat. */
 HISTAR_LOOKED_AT(1)
-static inline uint32_t histar_log_cut(histar *k)
+static inline uint32_t histar_log_cut(histar *k, uint64_t most)
 {
     uint32_t refusal = histar_asks(k, HISTAR_CALL_LOG_CUT, HISTAR_NOTHING, HISTAR_NOWHERE);
     if (refusal) return refusal;
+    k->request.numbers[0] = most;
     return histar_done(k);
 }
 

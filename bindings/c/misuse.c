@@ -41,7 +41,7 @@ static void opens(void)
     histar_category category;
     histar_label clearance = histar_level(2);
     must(histar_open(&k, 64));
-    must(histar_log_on(&k));
+    must(histar_log_on(&k, UINT64_MAX));
     must(histar_cat_create(&k, HISTAR_BOOT, &category));
     plain = histar_level(1);
     guarded = histar_with(plain, category, 3);
@@ -76,7 +76,7 @@ static uint32_t look_up_closed(void)
     histar_object it;
     return histar_kept_live(&closed, 0, &is_there, &it);
 }
-static uint32_t log_closed(void) { return histar_log_on(&closed); }
+static uint32_t log_closed(void) { return histar_log_on(&closed, 9); }
 static uint32_t dump_closed(void)
 {
     size_t needed;
@@ -245,7 +245,44 @@ static uint32_t call_by_what_takes_a_checkpoint(void)
     must(histar_checkpoint_to(&k, calls_the_kernel, &refusal));
     return refusal;
 }
-static uint32_t log_begun_late(void) { return histar_log_on(&k); }
+static uint32_t log_begun_late(void) { return histar_log_on(&k, 9); }
+
+/* A kernel whose log has as many write calls as it may have. */
+static histar logged;
+static uint32_t opens_logged(uint64_t most)
+{
+    uint64_t made;
+    must(histar_open(&logged, 8));
+    must(histar_log_on(&logged, most));
+    for (made = 0; made < most; made++) must(is_called(&logged));
+    return is_called(&logged);
+}
+/* A call that is refused leaves the dump as it was, and one that the rules refuse is refused so too; a read is answered, and once the log
+ * is cut the call is made, as the thread's next one. */
+static uint32_t call_past_the_logs_bound(void)
+{
+    static char before[4096], after[4096];
+    size_t len, late;
+    uint64_t pages;
+    uint32_t refusal = opens_logged(3);
+    must(histar_dump(&logged, before, sizeof before, &len));
+    if (is_called(&logged) != refusal || histar_unref(&logged, HISTAR_BOOT, in_root(HISTAR_ROOT)) != refusal) return HISTAR_DONE;
+    if (histar_segment_len(&logged, HISTAR_BOOT, in_root(HISTAR_ROOT), &pages) != HISTAR_WRONG_TYPE) return HISTAR_DONE;
+    must(histar_dump(&logged, after, sizeof after, &late));
+    if (late != len || memcmp(before, after, len)) return HISTAR_DONE;
+    must(histar_log_cut(&logged, 1));
+    must(is_called(&logged));
+    if (is_called(&logged) != refusal) return HISTAR_DONE;
+    must(histar_dump(&logged, after, sizeof after, &late));
+    must(histar_close(&logged));
+    return memmem(after, late, "event 2 4 cat_create => cat #4\n", 31) ? refusal : HISTAR_DONE;
+}
+static uint32_t call_to_a_log_of_nothing(void)
+{
+    uint32_t refusal = opens_logged(0);
+    must(histar_close(&logged));
+    return refusal;
+}
 
 /* ---- Two calls at once ---- */
 
@@ -460,7 +497,7 @@ static uint32_t copied_seat(void)
     must(histar_close(&copy));
     return is_called(&copy);
 }
-static uint32_t log_of_a_seat(void) { return histar_log_on(&seat); }
+static uint32_t log_of_a_seat(void) { return histar_log_on(&seat, 9); }
 static uint32_t look_up_by_a_seat(void)
 {
     int is_there;
@@ -474,7 +511,7 @@ static uint32_t opened_after_a_seat(void)
     must(histar_seat_open(&it, &seat));
     must(histar_close(&it));
     must(histar_open(&it, 8));
-    must(histar_log_on(&it)); /* which a seat is refused */
+    must(histar_log_on(&it, 9)); /* which a seat is refused */
     refusal = is_called(&it);
     must(histar_close(&it));
     return refusal;
@@ -552,8 +589,8 @@ static uint32_t checkpoint_in_63(void)
     return needed > 63 && !place[0] ? refusal : 0;
 }
 static uint32_t checkpoint_of_a_seat(void) { return histar_checkpoint(&seat, place, sizeof place, &written_len); }
-static uint32_t cut_closed(void) { return histar_log_cut(&closed); }
-static uint32_t cut_by_a_seat(void) { return histar_log_cut(&seat); }
+static uint32_t cut_closed(void) { return histar_log_cut(&closed, 9); }
+static uint32_t cut_by_a_seat(void) { return histar_log_cut(&seat, 9); }
 /* A kernel opened at the checkpoint, in which these bytes stand in place of the first that are those, or at the first `len` bytes of it. It
  * is closed after a refused open, and opens otherwise. */
 static uint32_t opened_with(const char *those, const char *these, size_t cut)
@@ -676,6 +713,8 @@ static const struct row {
     {"a call by the function that a dump goes to", HISTAR_BUSY, call_by_what_takes_a_dump},
     {"a call by the function that a checkpoint goes to", HISTAR_BUSY, call_by_what_takes_a_checkpoint},
     {"a log begun after a call", HISTAR_BAD_BATCH, log_begun_late},
+    {"a call past the log's bound", HISTAR_LOG_FULL, call_past_the_logs_bound},
+    {"a call to a log of no calls", HISTAR_LOG_FULL, call_to_a_log_of_nothing},
     {"a call by the handler of a signal", HISTAR_BUSY, called_by_a_handler},
     {"a close by the handler of a signal", HISTAR_BUSY, closed_by_a_handler},
     {"an open by the handler of a signal", HISTAR_BUSY, opened_by_a_handler},

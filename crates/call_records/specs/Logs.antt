@@ -10,11 +10,11 @@ use Rattle.call_records.specs.Words.{wide_at}
 -- what a record asks of the log
 abbrev pub log_request_of : Request → Option LogRequest
 log_request_of r =
-    if r.call == 40 then Some logs.Begin
+    if r.call == 40 then Some (logs.Begin (wide_at r 0))
     else if r.call == 41 then Some (logs.Dump (wide_at r 0))
     else if r.call == 42 then Some (logs.Text (wide_at r 0))
     else if r.call == 48 then Some (logs.Checkpoint (wide_at r 0))
-    else if r.call == 49 then Some logs.Cut
+    else if r.call == 49 then Some (logs.Cut (wide_at r 0))
     else None
 
 -- the answer tells how many bytes a text has

@@ -12,7 +12,10 @@ use base::Data;
 #[derive(Clone, Copy)]
 pub enum LogRequest {
     /// That it begins.
-    Begin,
+    Begin {
+        /// How many events it may have.
+        most: u64,
+    },
     /// That a piece of its dump is made, and how many bytes the text has.
     Dump {
         /// The number of the piece, from 0.
@@ -29,7 +32,10 @@ pub enum LogRequest {
         piece: u64,
     },
     /// That it begins anew.
-    Cut,
+    Cut {
+        /// How many events it may have.
+        most: u64,
+    },
 }
 
 /// What a record asks of the log. None where its number is not 40 to 42, 48 or 49.
@@ -37,7 +43,9 @@ pub fn log_request_of(request: &Request) -> Option<LogRequest>
     ensures { result ≡ log_request_of request.now }
 {
     Some(match request.call {
-        40 => LogRequest::Begin,
+        40 => LogRequest::Begin {
+            most: request.numbers[0],
+        },
         41 => LogRequest::Dump {
             piece: request.numbers[0],
         },
@@ -47,7 +55,9 @@ pub fn log_request_of(request: &Request) -> Option<LogRequest>
         48 => LogRequest::Checkpoint {
             piece: request.numbers[0],
         },
-        49 => LogRequest::Cut,
+        49 => LogRequest::Cut {
+            most: request.numbers[0],
+        },
         _ => return None,
     })
 }

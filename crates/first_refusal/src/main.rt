@@ -59,11 +59,15 @@ fn segment_guarded_by(category: Category) -> Call {
     })
 }
 
-/// A thread that owns no category.
-fn stranger() -> Call {
+/// A thread that owns no category. It is at 2 in one, so it modifies nothing at 1, and can't delete what the root lists.
+fn stranger(guests: Category) -> Call {
+    let guest = Pair {
+        category: guests,
+        level: Level::L2,
+    };
     Call::ThreadCreate(NewThread {
         container: ObjectId::root(),
-        label: RawLabel::new(Level::L1, &[]),
+        label: RawLabel::new(Level::L1, &[guest]),
         quota: 1,
         clearance: RawLabel::new(Level::L2, &[]),
         entry_point: 0,
@@ -74,8 +78,9 @@ fn stranger() -> Call {
 fn read_a_secret(kernel: &mut Kernel, meter: &mut Meter) -> Option<Refusal> {
     let boot = ObjectId::new(2);
     let category = new_category(kernel, boot, meter)?;
+    let guests = new_category(kernel, boot, meter)?;
     let secret = make(kernel, boot, &segment_guarded_by(category), meter)?;
-    let stranger = make(kernel, boot, &stranger(), meter)?;
+    let stranger = make(kernel, boot, &stranger(guests), meter)?;
     refusal_of_read(kernel, stranger, secret, meter)
 }
 

@@ -11,7 +11,7 @@ use Rattle.kernel_rules.specs.declared.calls.Call.{Call}
 use Rattle.kernel_rules.specs.declared.replies.Reply.TheVariants as replies
 use Rattle.dump_text.specs.Boot.{boot_checkpoint}
 use Rattle.dump_text.specs.Pieces.{AreLegal, IsPiece}
-use Rattle.logged_kernel.specs.Logged.{Logged, IsCut, IsMade, IsWritten, begun}
+use Rattle.logged_kernel.specs.Logged.{Logged, IsCut, IsMade, IsWritten, begun, is_full}
 use Rattle.call_records.specs.Asked.{Asked, Write, Read, Look, Log, Nothing, asked}
 use Rattle.call_records.specs.Logs.{TellsLength}
 use Rattle.call_records.specs.declared.logs.LogRequest.TheVariants as logs
@@ -80,17 +80,23 @@ IsRefused why before after number old told = IsSame before after × (number ≡ 
 
 -- a call is made and answered by the rules, and where a log is kept its event is the last; or a log is
 -- kept and there is no memory for the event, and the number is 40
-abbrev pub IsCalled : Call → ℕ → Kept → Kept → ℕ → Answer → Answer → Type 0
-IsCalled call thread before after number old told =
+abbrev pub IsMadeOrLacks : Call → ℕ → Kept → Kept → ℕ → Answer → Answer → Type 0
+IsMadeOrLacks call thread before after number old told =
     (IsMade before.logged after.logged thread call × (after.text.items ≡ before.text.items)
     × IsTold (answer (kernel_state before.logged.kernel) thread call) number told)
     ⊎ ((before.logged.log ≡ None → ⊥) × IsRefused 40 before after number old told)
 
--- the log begins; or a call was made before, and the number is 45
-abbrev pub IsBegun : Kept → Kept → ℕ → Answer → Answer → Type 0
-IsBegun before after number old told =
+-- the same, where the log has not as many events as it may have; where it has, the number is 49
+abbrev pub IsCalled : Call → ℕ → Kept → Kept → ℕ → Answer → Answer → Type 0
+IsCalled call thread before after number old told =
+    MatchBool (is_full before.logged) (IsRefused 49 before after number old told)
+    (IsMadeOrLacks call thread before after number old told)
+
+-- the log, of so many events at most, begins; or a call was made before, and the number is 45
+abbrev pub IsBegun : ℕ → Kept → Kept → ℕ → Answer → Answer → Type 0
+IsBegun most before after number old told =
     MatchBool before.logged.is_new
-    ((after.logged ≡ begun before.logged) × (after.text.items ≡ before.text.items)
+    ((after.logged ≡ begun most before.logged) × (after.text.items ≡ before.text.items)
     × IsTold replies.Done number told)
     (IsRefused 45 before after number old told)
 
@@ -122,10 +128,10 @@ IsSaved piece before after number old told =
     MatchBool (piece == 0) (IsSavedWhole before after number old told)
     ((after.logged ≡ before.logged) × (after.text.items ≡ []) × (number ≡ 0) × TellsLength [] told)
 
--- the log begins anew at the kernel as it stands; or there is no memory for that, and the number is 40
-abbrev pub IsLogCut : Kept → Kept → ℕ → Answer → Answer → Type 0
-IsLogCut before after number old told =
-    (IsCut before.logged after.logged × (after.text.items ≡ before.text.items)
+-- the log begins anew at the kernel as it stands, of so many events at most; or there is no memory for that, and the number is 40
+abbrev pub IsLogCut : ℕ → Kept → Kept → ℕ → Answer → Answer → Type 0
+IsLogCut most before after number old told =
+    (IsCut most before.logged after.logged × (after.text.items ≡ before.text.items)
     × IsTold replies.Done number told)
     ⊎ IsRefused 40 before after number old told
 
@@ -138,12 +144,12 @@ IsDone (Read query) thread before after number old told =
     × IsTold (query_answer (kernel_state before.logged.kernel) thread query) number told
 IsDone (Look lookup) thread before after number old told =
     IsSame before after × IsFoundTold before.logged.kernel lookup number told
-IsDone (Log logs.Begin) thread before after number old told = IsBegun before after number old told
+IsDone (Log (logs.Begin most)) thread before after number old told = IsBegun most before after number old told
 IsDone (Log (logs.Dump piece)) thread before after number old told = IsDumped piece before after number old told
 IsDone (Log (logs.Text from)) thread before after number old told =
     IsSame before after × IsTold (replies.Bytes (take 64 (drop from before.text.items))) number told
 IsDone (Log (logs.Checkpoint piece)) thread before after number old told = IsSaved piece before after number old told
-IsDone (Log logs.Cut) thread before after number old told = IsLogCut before after number old told
+IsDone (Log (logs.Cut most)) thread before after number old told = IsLogCut most before after number old told
 IsDone Nothing thread before after number old told = IsRefused 45 before after number old told
 
 -- the same, where a kernel may be held; where none is, nothing changes and the number is why

@@ -14,7 +14,7 @@ use call_records::{
     tell_found,
 };
 use kernel_rules::{Call, Reply};
-use logged_kernel::LoggedKernel;
+use logged_kernel::{LoggedKernel, NotKept};
 use std::alloc::Global;
 use syscall_core::BootRefusal;
 
@@ -105,8 +105,8 @@ fn tell_look_up(kept: &mut Kept, lookup: &Lookup, answer: &mut Answer)
     tell_found(&found, answer, &mut kept.meter);
 }
 
-/// Makes the call that stands in `kept`, and gives the number of the refusal: 0 for none, 40 where there is no memory for
-/// its event.
+/// Makes the call that stands in `kept`, and gives the number of the refusal: 0 for none, 49 where the log has as many events as
+/// it may have, 40 where there is no memory for the call's event.
 fn make(kept: &mut Kept, thread: ObjectId, answer: &mut Answer) -> u32
     ensures { IsCalled kept.old.call thread kept.old kept.new result answer.old answer.new }
 {
@@ -115,7 +115,8 @@ fn make(kept: &mut Kept, thread: ObjectId, answer: &mut Answer) -> u32
         .step_into(thread, &kept.call, &mut kept.reply, &mut kept.meter);
     match made {
         Ok(()) => tell(&kept.reply, answer, &mut kept.meter),
-        Err(_) => 40,
+        Err(NotKept::NoMemory) => 40,
+        Err(NotKept::LogFull) => 49,
     }
 }
 

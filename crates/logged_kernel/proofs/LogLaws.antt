@@ -152,25 +152,27 @@ all_three (Err e) P Q R S f p q r = tt
 -- a call is made
 pub made_called : (k : Logged) (kernel : Kernel) (thread : ℕ) (call : Call) → k.log ≡ None
     → kernel_state kernel ≡ next (kernel_state k.kernel) thread call
-    → IsMade k (record { kernel = kernel; limits = k.limits; origin = k.origin; is_new = false; log = None }) thread call
+    → IsMade k (record { kernel = kernel; limits = k.limits; origin = k.origin; is_new = false; log = None; most = k.most }) thread call
 made_called k kernel thread call none stepped = record {
   state = stepped;
   limits = refl;
   origin = refl;
   called = refl;
   log = sym (ap (option_map (with_call (start_of k.limits k.origin) thread call)) none);
+  most = refl;
 }
 
 pub made_kept : (k : Logged) (kernel : Kernel) (thread : ℕ) (call : Call) (old new : List Event) → k.log ≡ Some old
     → kernel_state kernel ≡ next (kernel_state k.kernel) thread call
     → new ≡ with_call (start_of k.limits k.origin) thread call old
-    → IsMade k (record { kernel = kernel; limits = k.limits; origin = k.origin; is_new = false; log = Some new }) thread call
+    → IsMade k (record { kernel = kernel; limits = k.limits; origin = k.origin; is_new = false; log = Some new; most = k.most }) thread call
 made_kept k kernel thread call old new some stepped items = record {
   state = stepped;
   limits = refl;
   origin = refl;
   called = refl;
   log = ap Some items ∙ sym (ap (option_map (with_call (start_of k.limits k.origin) thread call)) some);
+  most = refl;
 }
 
 -- a checkpoint of the kernel as it stands

@@ -1,5 +1,5 @@
 -- A kernel, and the events of its write calls where they are kept.
-use Rattle.std.specs.Prelude.{◌≡◌, ℕ, ◌+◌, ◌<◌, List, [], ◌∷◌, ◌++◌, Bool, true, false, Option, Some, None, option_map, if◌then◌else◌}
+use Rattle.std.specs.Prelude.{◌≡◌, ℕ, ◌+◌, ◌<◌, nat_le, List, [], ◌∷◌, ◌++◌, length, Bool, true, false, Option, Some, None, option_map, if◌then◌else◌}
 use Rattle.base.specs.Limits.{in_range}
 use Rattle.base.specs.declared.ranges.Limits.{Limits}
 use Rattle.checkpoints.specs.Checkpoint.{Checkpoint}
@@ -19,14 +19,15 @@ use Rattle.syscall_core.specs.Kernel.{kernel_state}
 use Rattle.syscall_core.specs.declared.kernel.Kernel.{Kernel}
 use Rattle.logged_kernel.specs.declared.logging.EventLog.{EventLog}
 
--- the kernel, its limits, the checkpoint at which its events begin, whether no write call was made since, and the events of
--- those that were, where they are kept
+-- the kernel, its limits, the checkpoint at which its events begin, whether no write call was made since, the events of
+-- those that were, where they are kept, and how many may be kept
 pub record Logged : Type 0 where
   pub kernel : Kernel
   pub limits : Limits
   pub origin : Checkpoint
   pub is_new : Bool
   pub log : Option (List Event)
+  pub most : ℕ
 
 -- the events that are kept
 abbrev pub events_in : Option EventLog → Option (List Event)
@@ -43,6 +44,15 @@ event_after start events thread call = record {
 -- the events with that one at their end
 abbrev pub with_call : Start → ℕ → Call → List Event → List Event
 with_call start thread call events = events ++ event_after start events thread call ∷ []
+
+-- there are as many events as may be kept
+abbrev pub is_filled : ℕ → Option (List Event) → Bool
+is_filled most None = false
+is_filled most (Some events) = nat_le most (length events)
+
+-- the log has as many events as it may have
+abbrev pub is_full : Logged → Bool
+is_full k = is_filled k.most k.log
 
 -- the events that are kept are legal, and lead to the state
 abbrev pub IsLog : Start → State → Option (List Event) → Type 0
@@ -65,12 +75,13 @@ pub record IsMade (before after : Logged) (thread : ℕ) (call : Call) : Type 0 
   pub origin : after.origin ≡ before.origin
   pub called : after.is_new ≡ false
   pub log : after.log ≡ option_map (with_call (start_of before.limits before.origin) thread call) before.log
+  pub most : after.most ≡ before.most
 
--- the log begins where no call was made
-abbrev pub begun : Logged → Logged
-begun k =
+-- the log, of so many events at most, begins where no call was made
+abbrev pub begun : ℕ → Logged → Logged
+begun most k =
     if k.is_new
-    then record { kernel = k.kernel; limits = k.limits; origin = k.origin; is_new = k.is_new; log = Some [] }
+    then record { kernel = k.kernel; limits = k.limits; origin = k.origin; is_new = k.is_new; log = Some []; most = most }
     else k
 
 -- the number of a thread's next event after these events: 1 where none are kept
@@ -102,12 +113,13 @@ IsTextOf limits c text = (text ≡ checkpoint_text limits c) × IsLegalDump limi
 abbrev pub IsWritten : Logged → List ℕ → Type 0
 IsWritten k text = (c : Checkpoint) × Writes k c × IsTextOf k.limits c text
 
--- the log begins anew at the kernel as it stands
-pub record IsCut (before after : Logged) : Type 0 where
+-- the log begins anew at the kernel as it stands, of so many events at most
+pub record IsCut (bound : ℕ) (before after : Logged) : Type 0 where
   pub kernel : after.kernel ≡ before.kernel
   pub limits : after.limits ≡ before.limits
   pub origin : Writes before after.origin
   pub log : after.log ≡ Some []
+  pub most : after.most ≡ bound
 
 -- a piece of the dump of the events that are kept, which is legal; there is none where none are kept
 abbrev pub IsPieceOf : Logged → ℕ → Option (List ℕ) → Type 0

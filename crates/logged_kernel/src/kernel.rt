@@ -7,7 +7,7 @@ ghost use Rattle.kernel_rules.specs.Step.{answer};
 ghost use Rattle.dump_text.specs.Boot.{boot_checkpoint};
 ghost use Rattle.syscall_core.specs.Kernel.{kernel_state};
 ghost use Rattle.syscall_core.specs.Restored.{AreNext, restore_refusal};
-ghost use Rattle.logged_kernel.specs.Logged.{AreNumbered, IsCut, IsMade, IsPieceOf, IsWritten, Writes, begun};
+ghost use Rattle.logged_kernel.specs.Logged.{AreNumbered, IsCut, IsMade, IsPieceOf, IsWritten, Writes, begun, is_full};
 
 use crate::logging::{EventLog, checkpoint_text_of, make_kept, piece_of};
 use crate::numbers::next_numbers;
@@ -18,10 +18,22 @@ use kernel_rules::{Call, Reply};
 use std::alloc::Global;
 use std::marker::Model;
 use syscall_core::{BootRefusal, Kernel, RestoreError};
+use thiserror::Error;
+
+/// Why a call was not made: the log has no room for its event.
+#[derive(Clone, Copy, PartialEq, Eq, Debug, Error)]
+pub enum NotKept {
+    /// There is no memory for it, or the thread has no next number.
+    #[error("out of memory")]
+    NoMemory,
+    /// The log has as many events as it may have.
+    #[error("log full")]
+    LogFull,
+}
 
 /// A kernel, and the events of its write calls where they are kept. A contract sees the kernel, its limits, the checkpoint at
-/// which the events begin, whether no write call was made since, and the events. These are legal from there, and the kernel is
-/// in the state that they lead to.
+/// which the events begin, whether no write call was made since, the events, and how many there may be. These are legal from
+/// there, and the kernel is in the state that they lead to.
 #[derive(Drop)]
 pub struct LoggedKernel {
     kernel: Kernel,
@@ -30,6 +42,7 @@ pub struct LoggedKernel {
     origin: Checkpoint,
     is_new: bool,
     log: Option<EventLog>,
+    most: u64,
 }
 
 impl Model for LoggedKernel {
@@ -44,6 +57,7 @@ impl Model for LoggedKernel {
       origin = k.origin;
       is_new = k.is_new;
       log = events_in k.log;
+      most = k.most;
     } };
 
     ghost invariant = { λ k. IsSound k.limits k.origin (kernel_state k.kernel) k.is_new (events_in k.log) };
@@ -71,6 +85,7 @@ impl LoggedKernel {
             origin,
             is_new: true,
             log: None,
+            most: u64::MAX,
         })
     }
 
@@ -97,6 +112,7 @@ impl LoggedKernel {
             origin,
             is_new: true,
             log: None,
+            most: u64::MAX,
         })
     }
 
@@ -107,11 +123,11 @@ impl LoggedKernel {
         &self.kernel
     }
 
-    /// Begins the log: each write call from here on is kept. Tells whether it began, which it does where no write call was
-    /// made since the boot or the checkpoint. Else nothing changes.
-    pub fn begin_log(&mut self) -> bool
+    /// Begins the log, of so many events at most: each write call from here on is kept. Tells whether it began, which it does
+    /// where no write call was made since the boot or the checkpoint. Else nothing changes.
+    pub fn begin_log(&mut self, most: u64) -> bool
         ensures began { result ≡ self.old.is_new }
-        ensures log { self.new ≡ begun self.old }
+        ensures log { self.new ≡ begun most self.old }
     {
         if !self.is_new {
             return false;
@@ -120,13 +136,23 @@ impl LoggedKernel {
             alloc: self.alloc,
             events: Vec::new(self.alloc),
         });
+        self.most = most;
         true
     }
 
-    /// Makes a call of a thread. The reply becomes the answer. Where a log is kept, the call with its answer is its last
-    /// event. The error is want of memory for that event, or that the thread has no next number, and changes nothing in the
-    /// kernel and the log; where no log is kept, no memory is taken, and there is no error.
-    pub fn step_into(
+    // Whether the log has as many events as it may have.
+    fn is_full(&self) -> bool
+        ensures { result ≡ is_full self.now }
+    {
+        match &self.log {
+            None => false,
+            Some(log) => self.most <= log.events.len() as u64,
+        }
+    }
+
+    // Makes a call of a thread, whose event is the last where a log is kept, however many it has. The error is want of memory
+    // for the event, or that the thread has no next number.
+    fn make(
         &mut self,
         thread: ObjectId,
         call: &Call,
@@ -153,6 +179,33 @@ impl LoggedKernel {
         }
         self.is_new = false;
         Ok(())
+    }
+
+    /// Makes a call of a thread. The reply becomes the answer. Where a log is kept, the call with its answer is its last
+    /// event. It is refused exactly where the log has as many events as it may have, and for want of memory for that event,
+    /// or where the thread has no next number; that changes nothing in the kernel and the log. Where no log is kept, no
+    /// memory is taken, and there is no error.
+    pub fn step_into(
+        &mut self,
+        thread: ObjectId,
+        call: &Call,
+        reply: &mut Reply,
+        meter: &mut Meter,
+    ) -> Result<(), NotKept>
+        ensures made { OnOk result (IsMade self.old self.new thread call.now) }
+        ensures reply { OnOk result
+            (reply.new ≡ answer (kernel_state self.old.kernel) thread call.now) }
+        ensures kept { OnErr result (self.new ≡ self.old) }
+        ensures full { IsErrOf result NotKept.LogFull ↔ (is_full self.old ≡ true) }
+        ensures sure { self.old.log ≡ None → OnErr result ⊥ }
+    {
+        if self.is_full() {
+            return Err(NotKept::LogFull);
+        }
+        match self.make(thread, call, reply, meter) {
+            Ok(()) => Ok(()),
+            Err(_) => Err(NotKept::NoMemory),
+        }
     }
 
     /// A piece of the text of the log's dump, by its number; none where no log is kept. Number 0 has what stands before the
@@ -203,10 +256,11 @@ impl LoggedKernel {
         Ok(text)
     }
 
-    /// Begins the log anew at the kernel as it stands: the events before are gone, and the numbers of threads go on. Where no
-    /// log was kept, one begins. The error is want of memory, or that a thread has no next number, and nothing changes.
-    pub fn cut_log(&mut self) -> Result<(), NoMemory>
-        ensures cut { OnOk result (IsCut self.old self.new) }
+    /// Begins the log anew at the kernel as it stands, of so many events at most: the events before are gone, and the numbers of
+    /// threads go on. Where no log was kept, one begins. The error is want of memory, or that a thread has no next number, and
+    /// nothing changes.
+    pub fn cut_log(&mut self, most: u64) -> Result<(), NoMemory>
+        ensures cut { OnOk result (IsCut most self.old self.new) }
         ensures kept { OnErr result (self.new ≡ self.old) }
     {
         self.origin = self.checkpoint()?;
@@ -215,6 +269,7 @@ impl LoggedKernel {
             alloc: self.alloc,
             events: Vec::new(self.alloc),
         });
+        self.most = most;
         Ok(())
     }
 }

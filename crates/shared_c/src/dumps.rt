@@ -38,9 +38,9 @@ pub(crate) fn answer_log(kept: &mut KeptSeat, asked: LogRequest, answer: &mut An
     ensures { IsLogAsked asked kept.old kept.new result answer.old answer.new }
 {
     match asked {
-        LogRequest::Begin => 45,
+        LogRequest::Begin { .. } => 45,
         LogRequest::Checkpoint { .. } => 45,
-        LogRequest::Cut => 45,
+        LogRequest::Cut { .. } => 45,
         LogRequest::Dump { piece } => make_dump(kept, piece, answer),
         LogRequest::Text { from } => {
             tell_text(kept.text.as_slice(), from, answer);

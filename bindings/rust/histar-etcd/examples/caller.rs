@@ -310,7 +310,7 @@ fn check(words: &[String]) {
                     told += 1;
                     let is_so = match made.first() {
                         Some(Ok(Reply::Object(object))) => words[3] == "0" && words[4] == object.0.to_string(),
-                        Some(Err(why)) => words[3] == why.number().to_string(),
+                        Some(Err(refused)) => words[3] == refused.reason.number().to_string(),
                         _ => false,
                     };
                     if !is_so {

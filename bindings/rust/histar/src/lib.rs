@@ -8,13 +8,15 @@
 //!
 //! let kernel = Kernel::boot(64)?;
 //! let boot = kernel.session();
-//! let c = boot.cat_create()?;
+//! let (c, guests) = (boot.cat_create()?, boot.cat_create()?);
 //! let secret = Entry::in_root(boot.segment_create(Object::ROOT, &label! { c => L3; L1 }, 2, 1)?);
 //! boot.segment_write(secret, 0, b"key")?;
 //!
-//! let stranger = boot.thread_create(Object::ROOT, &label! { L1 }, 1, &label! { L2 }, 0)?;
+//! let guest = label! { guests => L2; L1 }; // it can't delete what is at 1
+//! let stranger = boot.thread_create(Object::ROOT, &guest, 1, &label! { L2 }, 0)?;
 //! assert_eq!(boot.segment_read(secret, 0, 3)?, b"key");
 //! assert_eq!(stranger.segment_read(secret, 0, 3).unwrap_err().reason, Refusal::CannotObserve);
+//! assert_eq!(stranger.unref(secret).unwrap_err().reason, Refusal::CannotModify);
 //! # Ok::<(), Refused>(())
 //! ```
 

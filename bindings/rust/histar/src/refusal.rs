@@ -74,6 +74,8 @@ pub enum Refusal {
     ListFull = 47,
     /// The note is of another shared kernel.
     OtherList = 48,
+    /// The log has as many write calls as it may have.
+    LogFull = 49,
     /// The text is no dump.
     TextFault = 50,
     /// There is no memory for the text of a dump or of a checkpoint.
@@ -85,7 +87,7 @@ pub enum Refusal {
 }
 
 /// All refusals.
-const REFUSALS: [Refusal; 37] = [
+const REFUSALS: [Refusal; 38] = [
     Refusal::Halted,
     Refusal::NoAccess,
     Refusal::NoEntry,
@@ -119,6 +121,7 @@ const REFUSALS: [Refusal; 37] = [
     Refusal::Busy,
     Refusal::ListFull,
     Refusal::OtherList,
+    Refusal::LogFull,
     Refusal::TextFault,
     Refusal::TextMemory,
     Refusal::IllFormed,

@@ -23,7 +23,7 @@ mod thread_calls;
 /// but to those of threads that it makes. [`Kernel::session`] is the boot thread's.
 ///
 /// Each call may be refused [`Halted`], where the thread is gone, [`BadBatch`], where the arguments
-/// make no call, as 65 bytes, and [`Memory`], where calls are kept and there is no memory for it. One that names an
+/// make no call, as 65 bytes, and, where calls are kept, [`Memory`], without memory for it, and [`LogFull`]. One that names an
 /// entry may be refused [`NoAccess`], where its container is not there or not observed, and
 /// [`NoEntry`], where the container does not list the object. A method's Errors name the refusals beside these.
 /// If several checks fail, the one with the lowest number is given. A refused call changes nothing.

@@ -13,7 +13,7 @@ fn events(dump: &str) -> Vec<&str> {
 fn each_write_call_is_an_event() {
     let kernel = Kernel::boot(64).unwrap();
     let boot = kernel.session();
-    kernel.log_on().unwrap();
+    kernel.log_on(1000).unwrap();
     let c = boot.cat_create().unwrap();
     let secret = Entry::in_root(boot.segment_create(ROOT, &label! { c => L3; L1 }, 2, 1).unwrap());
     let stranger = boot.thread_create(ROOT, &label! { L1 }, 1, &label! { L2 }, 0).unwrap();
@@ -48,17 +48,41 @@ fn a_log_begins_with_the_first_call() {
     let boot = kernel.session();
     assert_eq!(kernel.dump().unwrap_err().reason, Refusal::BadBatch);
     boot.self_get().unwrap();
-    kernel.log_on().unwrap();
+    kernel.log_on(1000).unwrap();
     assert_eq!(events(&kernel.dump().unwrap()), [""; 0]);
-    kernel.log_on().unwrap();
+    kernel.log_on(1000).unwrap();
     assert_eq!(boot.unref(Entry::in_root(ROOT)).unwrap_err().reason, Refusal::RootKept);
-    assert_eq!(kernel.log_on().unwrap_err().reason, Refusal::BadBatch);
+    assert_eq!(kernel.log_on(1000).unwrap_err().reason, Refusal::BadBatch);
     assert_eq!(events(&kernel.dump().unwrap()), ["event 2 1 unref #1 #1 => refused 16 RootKept"]);
 
     let late = Kernel::boot(64).unwrap();
     late.session().cat_create().unwrap();
-    assert_eq!(late.log_on().unwrap_err().reason, Refusal::BadBatch);
+    assert_eq!(late.log_on(1000).unwrap_err().reason, Refusal::BadBatch);
     assert_eq!(late.dump().unwrap_err().reason, Refusal::BadBatch);
+}
+
+#[test]
+fn a_full_log_refuses_what_is_kept() {
+    for most in [0, 1, 2, 100] {
+        let kernel = Kernel::boot(64).unwrap();
+        let boot = kernel.session();
+        kernel.log_on(most).unwrap();
+        (0..most).for_each(|number| assert_eq!(boot.cat_create().unwrap().0, number + 1));
+        let dump = kernel.dump().unwrap();
+        assert_eq!(boot.cat_create().unwrap_err().to_string(), "cat_create: 49 LogFull");
+        // (also what the rules refuse, which would be kept)
+        assert_eq!(boot.unref(Entry::in_root(ROOT)).unwrap_err().reason, Refusal::LogFull);
+        assert!(boot.self_get().is_ok());
+        assert_eq!(kernel.dump().unwrap(), dump);
+        kernel.cut_log(1).unwrap();
+        assert_eq!(boot.cat_create().unwrap().0, most + 1);
+        assert_eq!(boot.cat_create().unwrap_err().reason, Refusal::LogFull);
+        let event = format!("event 2 {} cat_create => cat #{0}\n", most + 1);
+        assert!(kernel.dump().unwrap().contains(&event));
+        // (a bound may be raised at a cut, and `u64::MAX` is none)
+        kernel.cut_log(u64::MAX).unwrap();
+        assert!((0..200).all(|_| boot.unref(Entry::in_root(ROOT)).unwrap_err().reason == Refusal::RootKept));
+    }
 }
 
 /// Takes so many bytes, and then no more.
@@ -92,7 +116,7 @@ impl Write for Calling<'_> {
         self.told.extend(boot.cat_create().err());
         self.told.extend(boot.self_get().err());
         self.told.extend(self.kernel.dump().err());
-        self.told.extend(self.kernel.cut_log().err());
+        self.told.extend(self.kernel.cut_log(1000).err());
         Ok(bytes.len())
     }
 
@@ -104,7 +128,7 @@ impl Write for Calling<'_> {
 /// A kernel with a log of so many calls.
 fn logged(calls: usize) -> Kernel {
     let kernel = Kernel::boot(64).unwrap();
-    kernel.log_on().unwrap();
+    kernel.log_on(1000).unwrap();
     for _ in 0..calls {
         assert_eq!(kernel.session().unref(Entry::in_root(ROOT)).unwrap_err().reason, Refusal::RootKept);
     }

@@ -3,7 +3,7 @@ use anyhow::Result;
 use auditor::{Verdict, audit};
 use base::Meter;
 use kernel_rules::{Call, Reply};
-use logged_kernel::LoggedKernel;
+use logged_kernel::{LoggedKernel, NotKept};
 use std::alloc::Global;
 use syscall_core::BootRefusal;
 use test_structures::look::{Look, agree};
@@ -76,7 +76,7 @@ fn is_clean(alloc: Global, text: &[u8]) -> bool {
 
 /// Whether the log begins.
 fn begins(kernel: &mut LoggedKernel) -> bool {
-    kernel.begin_log()
+    kernel.begin_log(9)
 }
 
 /// Whether the boot thread is there.
@@ -115,9 +115,28 @@ fn keep_calls(look: &mut Look, alloc: Global, kernel: &mut LoggedKernel, meter: 
     look.sees(is_dumped(alloc, kernel, meter));
 }
 
-/// Whether the log begins anew, again where there was no memory.
-fn cuts(kernel: &mut LoggedKernel) -> bool {
-    kernel.cut_log().is_ok() || kernel.cut_log().is_ok()
+/// Whether the log begins anew, of so many calls at most, again where there was no memory.
+fn cuts(kernel: &mut LoggedKernel, most: u64) -> bool {
+    kernel.cut_log(most).is_ok() || kernel.cut_log(most).is_ok()
+}
+
+/// Whether a call is refused since the log has as many as it may have.
+fn is_full(kernel: &mut LoggedKernel, call: &Call, meter: &mut Meter) -> bool {
+    let mut reply = Reply::Done;
+    let made = kernel.step_into(boot_thread(), call, &mut reply, meter);
+    matches!(made, Err(NotKept::LogFull))
+}
+
+// A log of one call at most refuses a second one, also one that the rules refuse, until it is cut.
+fn fill(look: &mut Look, alloc: Global, kernel: &mut LoggedKernel, meter: &mut Meter) {
+    let root = Call::Unref { entry: in_root(1) };
+    look.sees(cuts(kernel, 1));
+    look.sees(refusal_of(kernel, &root, meter) == 16);
+    look.sees(is_full(kernel, &root, meter));
+    look.sees(is_full(kernel, &new_thread(), meter));
+    look.sees(is_dumped(alloc, kernel, meter));
+    look.sees(cuts(kernel, 9));
+    look.sees(refusal_of(kernel, &root, meter) == 16);
 }
 
 /// A kernel that the checkpoint of another one restores.
@@ -148,7 +167,7 @@ fn keep_restored(look: &mut Look, alloc: Global, other: &mut LoggedKernel, meter
 
 // A log that is cut keeps the calls after it, and so does that of a kernel which its checkpoint restores.
 fn cut_and_restore(look: &mut Look, alloc: Global, kernel: &mut LoggedKernel, meter: &mut Meter) {
-    look.sees(cuts(kernel));
+    look.sees(cuts(kernel, 9));
     look.sees(is_dumped(alloc, kernel, meter));
     look.sees(refusal_of(kernel, &new_thread(), meter) == 0);
     look.sees(is_dumped(alloc, kernel, meter));
@@ -164,6 +183,7 @@ fn want_of_memory_keeps_each_call_once(alloc: Global, look: &mut Look) -> Result
     let mut meter = meter_again(alloc)?;
     let mut kernel = boot_again(alloc)?;
     keep_calls(look, alloc, &mut kernel, &mut meter);
+    fill(look, alloc, &mut kernel, &mut meter);
     cut_and_restore(look, alloc, &mut kernel, &mut meter);
     Ok(())
 }

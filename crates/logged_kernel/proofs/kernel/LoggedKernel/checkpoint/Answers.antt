@@ -8,7 +8,7 @@ use Rattle.logged_kernel.proofs.kernel.LoggedKernel.checkpoint.Goals as goal
 pub returns : goal.returns
 returns c =
     let k = c.self.inside in
-    let view : Logged = record { kernel = k.kernel; limits = k.limits; origin = k.origin; is_new = k.is_new; log = events_in k.log } in
+    let view : Logged = record { kernel = k.kernel; limits = k.limits; origin = k.origin; is_new = k.is_new; log = events_in k.log; most = k.most } in
     let whole = subst (λ (l : Logged). AreNext (kernel_state l.kernel) c.in_ok-next.next.items) (sym c.self.view_is) c.in_ok-next.ensures.whole in
     let numbered = subst (λ (l : Logged). AreNumbered l c.in_ok-next.next.items) (sym c.self.view_is) c.in_ok-next.ensures.numbers in
     all_three c.checkpoint.result _ _ _ _ (λ made state next fit.
