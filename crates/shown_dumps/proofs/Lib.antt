@@ -5,6 +5,7 @@ pub mod LineLaws
 pub mod PlaceLaws
 pub mod ColourLaws
 pub mod TextLaws
+pub mod TreeLaws
 pub mod Whole
 pub mod DotLaws
 pub mod FloatLaws

@@ -106,3 +106,4 @@ IsWhy names whole text n (Err faults.NoCall) =
 IsWhy names whole text n (Err faults.IllFormed) = (d : DumpLists) × IsDump text d × (begins d ≡ false)
 IsWhy names whole text n (Err (faults.Unreadable m)) = DumpFaultsAt text m
 IsWhy names whole text n (Err faults.Memory) = Unit {0}
+IsWhy names whole text n (Err faults.NoThread) = ⊥

@@ -28,6 +28,7 @@ IsWhyOrNone names whole text n (Err (faults.Unreadable m)) = DumpFaultsAt text m
 IsWhyOrNone names whole text n (Err faults.Memory) = Unit {0}
 IsWhyOrNone names whole text n (Err faults.IllFormed) = ⊥
 IsWhyOrNone names whole text n (Err faults.NoCall) = ⊥
+IsWhyOrNone names whole text n (Err faults.NoThread) = ⊥
 
 -- the verdict's line, and why what the first false line tells is answered as it is, where it tells a call or a read
 abbrev pub TellsVerdict : List Named → Bool → List ℕ → Verdict → List ℕ → Type 0
@@ -44,6 +45,7 @@ IsShown names whole None text (Err (faults.Unreadable m)) = DumpFaultsAt text m
 IsShown names whole None text (Err faults.Memory) = Unit {0}
 IsShown names whole None text (Err faults.IllFormed) = ⊥
 IsShown names whole None text (Err faults.NoCall) = ⊥
+IsShown names whole None text (Err faults.NoThread) = ⊥
 
 -- what is shown of the text was added to what was printed
 abbrev pub Shows : List Named → Bool → Option ℕ → Option (List ℕ) → Option (List ℕ) → List ℕ → Type 0

@@ -1,7 +1,5 @@
--- The dump that a text spells, the state that its first events lead to, and what is shown of that.
-use Rattle.std.specs.Global.{Vec}
+-- The dump that a text spells, and the state that its first events lead to.
 use Rattle.std.specs.Prelude.{◌≡◌, ℕ, true, false, List, take, Option, Some, None, Result, Ok, Err}
-use Rattle.std.specs.Io.KnownBytes.{Appends}
 use Rattle.auditor.specs.Verdict.{begins}
 use Rattle.dump_text.specs.Dump.{IsDump, DumpFaultsAt}
 use Rattle.dump_text.specs.Lists.{DumpLists}
@@ -21,6 +19,7 @@ IsDumpIn text (Err (faults.Unreadable m)) = DumpFaultsAt text m
 IsDumpIn text (Err faults.Memory) = Unit {0}
 IsDumpIn text (Err faults.IllFormed) = ⊥
 IsDumpIn text (Err faults.NoCall) = ⊥
+IsDumpIn text (Err faults.NoThread) = ⊥
 
 -- the first n of events, all where no count is told
 abbrev pub first_of : Option ℕ → List Event → List Event
@@ -42,17 +41,8 @@ IsWhyNone text (faults.Unreadable m) = DumpFaultsAt text m
 IsWhyNone text faults.IllFormed = (d : DumpLists) × IsDump text d × (begins d ≡ false)
 IsWhyNone text faults.Memory = Unit {0}
 IsWhyNone text faults.NoCall = ⊥
+IsWhyNone text faults.NoThread = ⊥
 
 abbrev pub IsStateAfter : List ℕ → Option ℕ → Result PlainState ShowFault → Type 0
 IsStateAfter text after (Ok p) = LeadsTo text after (state_of p)
 IsStateAfter text after (Err fault) = IsWhyNone text fault
-
--- what is shown of that state
-abbrev pub ShowsAfter : (State → List ℕ) → List ℕ → Option ℕ → Result (Vec ℕ) ShowFault → Type 0
-ShowsAfter shown text after (Ok told) = (s : State) × LeadsTo text after s × (told.items ≡ shown s)
-ShowsAfter shown text after (Err fault) = IsWhyNone text fault
-
--- the same of a dump that was read, added to what was printed
-abbrev pub PrintsAfter : (State → List ℕ) → Option ℕ → Option (List ℕ) → Option (List ℕ) → List ℕ → Type 0
-PrintsAfter shown after old new text =
-    (told : Vec ℕ) × ShowsAfter shown text after (Ok told) × Appends old new told.items

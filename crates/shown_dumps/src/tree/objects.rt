@@ -5,6 +5,8 @@ ghost use Rattle.plain_state.specs.StateOf.{state_of};
 ghost use Rattle.shown_dumps.specs.Objects.{indent, kind_word, label_text, head_text, owned_one, owned_text, space_text, bearer_text, body_text, quota_text, flags_text, other_one, others_text, own_text, object_text, object_line};
 
 use crate::states::{put_named, put_value};
+use crate::tree::deleting::put_deletable;
+use crate::tree::looks::Look;
 use crate::tree::places::Place;
 use base::{Kind, Level, Meter, NoMemory, ObjectId};
 use call_text::{Named, Value};
@@ -239,14 +241,15 @@ pub fn put_line(
     state: &PlainState,
     place: &Place,
     object: &Object,
-    names: &[Named],
+    look: &Look<'_>,
     meter: &mut Meter,
 ) -> Result<(), NoMemory>
     ensures { OnOk result (out.new.items
-        ≡ out.old.items ++ object_line names.now (state_of state.now) place.now object.now) }
+        ≡ out.old.items ++ object_line look.now.names.now look.now.asked (state_of state.now) place.now object.now) }
 {
     put_indent(out, place.depth)?;
-    put_object(out, state, place, object, names, meter)?;
+    put_object(out, state, place, object, look.names, meter)?;
+    put_deletable(out, state, look.asked, place.id, meter)?;
     out.push(b'\n')?;
     Ok(())
 }
