@@ -17,9 +17,7 @@ abbrev pub IsDumpIn : List ℕ → Result DumpLists ShowFault → Type 0
 IsDumpIn text (Ok dump) = IsDump text dump
 IsDumpIn text (Err (faults.Unreadable m)) = DumpFaultsAt text m
 IsDumpIn text (Err faults.Memory) = Unit {0}
-IsDumpIn text (Err faults.IllFormed) = ⊥
-IsDumpIn text (Err faults.NoCall) = ⊥
-IsDumpIn text (Err faults.NoThread) = ⊥
+IsDumpIn text (Err _) = ⊥
 
 -- the first n of events, all where no count is told
 abbrev pub first_of : Option ℕ → List Event → List Event
@@ -34,14 +32,10 @@ state_after d after = state_from (start_with d.limits d.checkpoint).state (first
 abbrev pub LeadsTo : List ℕ → Option ℕ → State → Type 0
 LeadsTo text after s = (d : DumpLists) × IsDump text d × (begins d ≡ true) × (s ≡ state_after d after)
 
--- why there is no such state. Unreadable: line m is the first at which the text stops being the beginning of a dump.
--- IllFormed: the checkpoint can't be restored.
+-- why there is no such state. IllFormed: the checkpoint can't be restored.
 abbrev pub IsWhyNone : List ℕ → ShowFault → Type 0
-IsWhyNone text (faults.Unreadable m) = DumpFaultsAt text m
 IsWhyNone text faults.IllFormed = (d : DumpLists) × IsDump text d × (begins d ≡ false)
-IsWhyNone text faults.Memory = Unit {0}
-IsWhyNone text faults.NoCall = ⊥
-IsWhyNone text faults.NoThread = ⊥
+IsWhyNone text fault = IsDumpIn text (Err fault)
 
 abbrev pub IsStateAfter : List ℕ → Option ℕ → Result PlainState ShowFault → Type 0
 IsStateAfter text after (Ok p) = LeadsTo text after (state_of p)

@@ -14,10 +14,7 @@ use Rattle.shown_dumps.specs.declared.tree.looks.Look.{Look}
 -- why there is no tree. NoThread: the thread that is asked about is not live in the state
 abbrev pub IsNoTree : Option ℕ → List ℕ → Option ℕ → ShowFault → Type 0
 IsNoTree asked text after faults.NoThread = (s : State) × LeadsTo text after s × (is_there s asked ≡ false)
-IsNoTree asked text after (faults.Unreadable m) = IsWhyNone text (faults.Unreadable m)
-IsNoTree asked text after faults.IllFormed = IsWhyNone text faults.IllFormed
-IsNoTree asked text after faults.Memory = Unit {0}
-IsNoTree asked text after faults.NoCall = ⊥
+IsNoTree asked text after fault = IsWhyNone text fault
 
 -- the tree of the state that the first events of a dump lead to, in which the thread that is asked about is live
 abbrev pub IsTree : Look → List ℕ → Option ℕ → Result (Vec ℕ) ShowFault → Type 0
