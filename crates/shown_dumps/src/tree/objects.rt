@@ -1,5 +1,6 @@
 //! The line of an object.
-ghost use Rattle.std.specs.Prelude.{◌≡◌, ◌++◌, [], OnOk, decimal, if◌then◌else◌};
+ghost use Rattle.std.specs.Prelude.{◌≡◌, ◌++◌, List, [], OnOk, true, decimal, if◌then◌else◌};
+ghost use Rattle.call_text.specs.declared.known_names.Named.{Named as NamedValue};
 ghost use Rattle.call_text.specs.ReplyWord.{value_text};
 ghost use Rattle.plain_state.specs.StateOf.{state_of};
 ghost use Rattle.shown_dumps.specs.Objects.{indent, kind_word, label_text, head_text, owned_one, owned_text, space_text, bearer_text, body_text, quota_text, flags_text, other_one, others_text, own_text, object_text, object_line};
@@ -200,6 +201,17 @@ fn put_other(
     }
 }
 
+/// Whether no other container can list the object at a place: one whose quota is not fixed stands in one list.
+fn is_listed_once(state: &PlainState, place: &Place) -> bool
+    ensures { result ≡ true → (names : List NamedValue) → others_text names (state_of state.now) place.now ≡ [] }
+{
+    state.well_formed();
+    match state.object(place.id) {
+        None => false,
+        Some(object) => !object.fixed && state.lists(place.container, place.id),
+    }
+}
+
 /// Adds the other containers that list the object.
 fn put_others(
     out: &mut Vec<u8>,
@@ -210,6 +222,9 @@ fn put_others(
     ensures { OnOk result (out.new.items
         ≡ out.old.items ++ others_text names.now (state_of state.now) place.now) }
 {
+    if is_listed_once(state, place) {
+        return Ok(());
+    }
     for (id, _) in state.records().objects.iter() {
         put_other(out, state, place, *id, names)?;
     }
