@@ -88,9 +88,16 @@ fn show_dump<I: Read, S: Sink, E: Write>(
             let telling = Telling { names, is_whole };
             why_on(alloc, dump, line, &telling, out, err)
         }
-        View::Tree { after, colours } => {
-            let is_coloured = is_coloured(rt, colours);
-            let look = Look { names, is_coloured };
+        View::Tree {
+            after,
+            asked,
+            colours,
+        } => {
+            let look = Look {
+                names,
+                asked,
+                is_coloured: is_coloured(rt, colours),
+            };
             tree_on(alloc, dump, after, &look, out, err)
         }
         View::Json => json_on(alloc, dump, out, err),

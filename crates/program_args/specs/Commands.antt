@@ -134,7 +134,9 @@ why_command =
 abbrev pub tree_command : ValueParser → App
 tree_command colours =
     with_rule
+    (with_rule
     (with_rule (with_rule (view_command (codes "tree")) (parsed_rule (codes "after") any_number))
+    (parsed_rule (codes "as") any_number))
     (parsed_rule (codes "color") colours))
     (option_rule (codes "names"))
 

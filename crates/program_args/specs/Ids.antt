@@ -9,7 +9,7 @@ abbrev pub takes_id : Text → Bool
 takes_id word =
     bytes_eq word (codes "--from")
     || (bytes_eq word (codes "--category")
-    || (bytes_eq word (codes "--next-id") || bytes_eq word (codes "--next-category")))
+    || (bytes_eq word (codes "--next-id") || (bytes_eq word (codes "--next-category") || bytes_eq word (codes "--as"))))
 
 -- the mark of an id
 abbrev pub is_mark : ℕ → Bool

@@ -109,7 +109,7 @@ colours_of text =
 abbrev pub view_in : Text → List Row → View
 view_in name rows =
     if bytes_eq name (codes "tree")
-    then view.Tree (number_in 64 (codes "after") rows) (colours_of (text_in (codes "color") rows))
+    then view.Tree (number_in 64 (codes "after") rows) (number_in 64 (codes "as") rows) (colours_of (text_in (codes "color") rows))
     else (if bytes_eq name (codes "json") then view.Json
     else (if bytes_eq name (codes "dot") then view.Dot (flow_in rows)
     else (if bytes_eq name (codes "page") then view.Page (flow_in rows)

@@ -8,7 +8,11 @@ use std::alloc::{AllocError, Global};
 fn takes_id(word: &str) -> bool
     ensures { result ≡ takes_id word.now }
 {
-    word == "--from" || word == "--category" || word == "--next-id" || word == "--next-category"
+    word == "--from"
+        || word == "--category"
+        || word == "--next-id"
+        || word == "--next-category"
+        || word == "--as"
 }
 
 /// A value without the mark of an id.

@@ -7,7 +7,7 @@ ghost use Rattle.program_args.specs.Commands.{IsCommand, TakesColours, any_numbe
 ghost use Rattle.program_args.specs.Commands.{flag_rule, line_rule, option_rule, page_command, parsed_rule};
 ghost use Rattle.program_args.specs.Commands.{show_command, tree_command, view_command, why_command, with_flows};
 ghost use Rattle.program_args.specs.Showing.{help_of, words_of_show};
-ghost use Rattle.program_args.specs.Told.{IsShownOf, colours_of, names_of, out_of, view_in};
+ghost use Rattle.program_args.specs.Told.{IsShownOf, colours_of, names_of, number_in, out_of, view_in};
 
 use crate::args::{flag_of, flow_of, names, needed_text_of, number_of, option, text_of};
 use crate::versions::VERSION;
@@ -41,6 +41,8 @@ pub enum View {
     Tree {
         /// After how many events, after all where no count is told.
         after: Option<u64>,
+        /// The thread that is asked about: what it may delete is marked.
+        asked: Option<ObjectId>,
         /// Whether in colours.
         colours: Colours,
     },
@@ -105,6 +107,14 @@ fn after<'a>(alloc: Global) -> Arg<'a>
     number(alloc, "after", "N").help(
         "After how many events of the dump; after all where no count is told",
     )
+}
+
+/// The thread that a tree is asked about.
+fn asked<'a>(alloc: Global) -> Arg<'a>
+    ensures rule { rule_of result ≡ parsed_rule (codes "as") any_number }
+    ensures local { result.global ≡ false }
+{
+    number(alloc, "as", "ID").help("Mark as deletable what the thread ID, 4 or #4, may unreference")
 }
 
 /// Whether a tree is in colours.
@@ -194,6 +204,7 @@ fn tree<'a>(alloc: Global) -> Result<Command<'a>, AllocError>
         .about("Shows the objects that a dump leads to as a tree")
         .arg(dump(alloc))?
         .arg(after(alloc))?
+        .arg(asked(alloc))?
         .arg(color(alloc))?
         .arg(names(alloc, NAMES))
 }
@@ -343,6 +354,16 @@ fn names_of<'a>(view: &View, words: &ArgMatches<'a>) -> Option<&'a str>
     }
 }
 
+/// The thread that a tree is asked about.
+fn asked_of(words: &ArgMatches<'_>) -> Option<ObjectId>
+    ensures { result ≡ number_in 64 (codes "as") (rows_of (found_of words.now)) }
+{
+    match number_of(words, "as") {
+        Some(id) => Some(ObjectId::new(id)),
+        None => None,
+    }
+}
+
 /// What is shown, by the name of the view.
 fn view_of(name: &str, words: &ArgMatches<'_>) -> View
     ensures { result ≡ view_in name.now (rows_of (found_of words.now)) }
@@ -350,6 +371,7 @@ fn view_of(name: &str, words: &ArgMatches<'_>) -> View
     match name {
         "tree" => View::Tree {
             after: number_of(words, "after"),
+            asked: asked_of(words),
             colours: colours_of(needed_text_of(words, "color")),
         },
         "json" => View::Json,

@@ -5,6 +5,8 @@ pub mod LineLaws
 pub mod PlaceLaws
 pub mod ColourLaws
 pub mod TextLaws
+pub mod TreeLaws
+pub mod OtherLaws
 pub mod Whole
 pub mod DotLaws
 pub mod FloatLaws

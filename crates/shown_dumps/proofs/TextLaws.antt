@@ -1,5 +1,5 @@
 -- Texts that are put together of parts.
-use Rattle.std.proofs.Common.{◌≡◌, ℕ, ◌-◌, ◌<◌, ◌≤◌, List, ◌++◌, length, drop, ap, sym, ◌∙◌, arith, suc, zero}
+use Rattle.std.proofs.Common.{◌≡◌, ℕ, ◌-◌, ◌<◌, ◌≤◌, Option, List, ◌++◌, length, drop, ap, sym, ◌∙◌, arith, suc, zero}
 use Rattle.std.proofs.lemmas.List.{append_assoc, append-nil, drop_all}
 use Rattle.std.specs.List.{flat_map}
 use Rattle.call_text.specs.declared.known_names.Named.{Named}
@@ -27,20 +27,20 @@ all_listed f out first lines told ids i begun all more =
     ∙ ap (λ l. l ++ flat_map f ids) begun ∙ append_assoc out first (flat_map f ids)
 
 -- a level of the tree, and the levels below it
-level : (names : List Named) (s : State) (levels : ℕ) (p : Place) → 0 < levels
-    → lines_at names s p ++ flat_map (λ id. tree_from names s (levels - 1) (below p id)) (list_at s p.id) ≡ tree_from names s levels p
-level names s zero p some = absurd (omega arith)
-level names s (suc n) p some =
+level : (names : List Named) (asked : Option ℕ) (s : State) (levels : ℕ) (p : Place) → 0 < levels
+    → lines_at names asked s p ++ flat_map (λ id. tree_from names asked s (levels - 1) (below p id)) (list_at s p.id) ≡ tree_from names asked s levels p
+level names asked s zero p some = absurd (omega arith)
+level names asked s (suc n) p some =
     let less : suc n - 1 ≡ n = omega arith in
-    ap (λ m. lines_at names s p ++ flat_map (λ id. tree_from names s m (below p id)) (list_at s p.id)) less
+    ap (λ m. lines_at names asked s p ++ flat_map (λ id. tree_from names asked s m (below p id)) (list_at s p.id)) less
 
 -- all levels were told
-pub told_level : (names : List Named) (s : State) (levels : ℕ) (p : Place) (out lines told : List ℕ) (ids : List ℕ) (i : ℕ) → 0 < levels
-    → lines ≡ out ++ lines_at names s p → ids ≡ list_at s p.id → length ids ≤ i
-    → told ++ flat_map (λ id. tree_from names s (levels - 1) (below p id)) (drop i ids)
-    ≡ lines ++ flat_map (λ id. tree_from names s (levels - 1) (below p id)) ids
-    → told ≡ out ++ tree_from names s levels p
-told_level names s levels p out lines told ids i some first listed all more =
-    let f : ℕ → List ℕ = λ id. tree_from names s (levels - 1) (below p id) in
-    all_listed f out (lines_at names s p) lines told ids i first all more
-    ∙ ap (λ l. out ++ (lines_at names s p ++ flat_map f l)) listed ∙ ap (λ l. out ++ l) (level names s levels p some)
+pub told_level : (names : List Named) (asked : Option ℕ) (s : State) (levels : ℕ) (p : Place) (out lines told : List ℕ) (ids : List ℕ) (i : ℕ) → 0 < levels
+    → lines ≡ out ++ lines_at names asked s p → ids ≡ list_at s p.id → length ids ≤ i
+    → told ++ flat_map (λ id. tree_from names asked s (levels - 1) (below p id)) (drop i ids)
+    ≡ lines ++ flat_map (λ id. tree_from names asked s (levels - 1) (below p id)) ids
+    → told ≡ out ++ tree_from names asked s levels p
+told_level names asked s levels p out lines told ids i some first listed all more =
+    let f : ℕ → List ℕ = λ id. tree_from names asked s (levels - 1) (below p id) in
+    all_listed f out (lines_at names asked s p) lines told ids i first all more
+    ∙ ap (λ l. out ++ (lines_at names asked s p ++ flat_map f l)) listed ∙ ap (λ l. out ++ l) (level names asked s levels p some)

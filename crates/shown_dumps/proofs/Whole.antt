@@ -23,11 +23,11 @@ costs (is.Gate g) = omega arith
 costs (is.Device packets) = omega arith
 
 -- what is not there has no lines
-none_there : (names : List Named) (s : State) (levels : ℕ) (p : Place) → object_at s p.id ≡ None → tree_from names s levels p ≡ []
-none_there names s zero p gone = refl
-none_there names s (suc levels) p gone =
-    ap (λ (v : Option Object). of_object [] (object_lines names s p) v
-    ++ flat_map (λ id. tree_from names s levels (below p id)) (of_object [] (λ (x : Object). listed x.body) v)) gone
+none_there : (names : List Named) (asked : Option ℕ) (s : State) (levels : ℕ) (p : Place) → object_at s p.id ≡ None → tree_from names asked s levels p ≡ []
+none_there names asked s zero p gone = refl
+none_there names asked s (suc levels) p gone =
+    ap (λ (v : Option Object). of_object [] (object_lines names asked s p) v
+    ++ flat_map (λ id. tree_from names asked s levels (below p id)) (of_object [] (λ (x : Object). listed x.body) v)) gone
 
 -- each object has a quota
 absent : (s : State) → is_well_formed s ≡ true → (o : ℕ) → quota_at s o ≤ 0 → object_at s o ≡ None
@@ -65,11 +65,11 @@ same_each f g q n each (i ∷ ids) within =
     ap (λ l. l ++ flat_map f ids) (each i first) ∙ ap (λ l. g i ++ l) (same_each f g q n each ids rest)
 
 -- more levels than the quota of a place show no more
-pub no_deeper : (names : List Named) (s : State) → is_well_formed s ≡ true → (n more : ℕ) (p : Place) → quota_at s p.id ≤ n
-    → tree_from names s (n + more) p ≡ tree_from names s n p
-no_deeper names s h zero more p small = none_there names s (0 + more) p (absent s h p.id small)
-no_deeper names s h (suc n) more p small =
-    ap (λ m. tree_from names s m p) (suc-add n more)
-    ∙ ap (λ l. lines_at names s p ++ l)
-    (same_each (λ id. tree_from names s (n + more) (below p id)) (λ id. tree_from names s n (below p id)) (quota_at s) n
-    (λ id less. no_deeper names s h n more (below p id) less) (list_at s p.id) (room s h p.id n small))
+pub no_deeper : (names : List Named) (asked : Option ℕ) (s : State) → is_well_formed s ≡ true → (n more : ℕ) (p : Place) → quota_at s p.id ≤ n
+    → tree_from names asked s (n + more) p ≡ tree_from names asked s n p
+no_deeper names asked s h zero more p small = none_there names asked s (0 + more) p (absent s h p.id small)
+no_deeper names asked s h (suc n) more p small =
+    ap (λ m. tree_from names asked s m p) (suc-add n more)
+    ∙ ap (λ l. lines_at names asked s p ++ l)
+    (same_each (λ id. tree_from names asked s (n + more) (below p id)) (λ id. tree_from names asked s n (below p id)) (quota_at s) n
+    (λ id less. no_deeper names asked s h n more (below p id) less) (list_at s p.id) (room s h p.id n small))

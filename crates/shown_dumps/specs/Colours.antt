@@ -31,7 +31,9 @@ abbrev pub is_owns : List ℕ → Bool
 is_owns word = bytes_eq word (codes "owns")
 
 abbrev pub is_strong : List ℕ → Bool
-is_strong word = is_owns word || (bytes_eq word (codes "fixed") || bytes_eq word (codes "immutable"))
+is_strong word =
+    is_owns word
+    || (bytes_eq word (codes "fixed") || (bytes_eq word (codes "immutable") || bytes_eq word (codes "deletable")))
 
 -- the style of a word, which stands after `owns` or not
 abbrev pub style_of : Bool → List ℕ → Option Style

@@ -15,7 +15,7 @@ use Rattle.kernel_rules.specs.declared.histories.events.Answered.{Answered}
 use Rattle.auditor.specs.Verdict.{begins}
 use Rattle.call_text.specs.Reply.{reply_text}
 use Rattle.call_text.specs.declared.known_names.Named.{Named}
-use Rattle.dump_text.specs.Dump.{IsDump, DumpFaultsAt}
+use Rattle.dump_text.specs.Dump.{IsDump}
 use Rattle.dump_text.specs.Lists.{DumpLists}
 use Rattle.dump_text.specs.Whole.{start_with}
 use Rattle.dump_text.specs.declared.reads.Read.{Read}
@@ -24,6 +24,7 @@ use Rattle.call_text.specs.NameLines.{named_line}
 use Rattle.shown_dumps.specs.Lines.{before_end, after_end, after_lines}
 use Rattle.shown_dumps.specs.Parts.{condition_text}
 use Rattle.shown_dumps.specs.Places.{place_at}
+use Rattle.shown_dumps.specs.States.{IsWhyNone}
 use Rattle.shown_dumps.specs.declared.why.places.Content.{Content}
 use Rattle.shown_dumps.specs.declared.why.places.Content.TheVariants.{Calls, Asked}
 use Rattle.shown_dumps.specs.declared.why.places.Place.{Place}
@@ -97,12 +98,9 @@ abbrev pub Explains : List Named → Bool → List ℕ → ℕ → List ℕ → 
 Explains names whole text n told =
     (d : DumpLists) × IsDump text d × (begins d ≡ true) × (line_explained names whole text d n ≡ Some told)
 
--- Why what a line tells is answered as it is. Unreadable: line m is the first at which the text stops being the beginning of a
--- dump. IllFormed: the checkpoint can't be restored. NoCall: the line tells no call and no read.
+-- Why what a line tells is answered as it is. NoCall: the line tells no call and no read.
 abbrev pub IsWhy : List Named → Bool → List ℕ → ℕ → Result (Vec ℕ) ShowFault → Type 0
 IsWhy names whole text n (Ok told) = Explains names whole text n told.items
 IsWhy names whole text n (Err faults.NoCall) =
     (d : DumpLists) × IsDump text d × (begins d ≡ true) × (line_explained names whole text d n ≡ None)
-IsWhy names whole text n (Err faults.IllFormed) = (d : DumpLists) × IsDump text d × (begins d ≡ false)
-IsWhy names whole text n (Err (faults.Unreadable m)) = DumpFaultsAt text m
-IsWhy names whole text n (Err faults.Memory) = Unit {0}
+IsWhy names whole text n (Err fault) = IsWhyNone text fault

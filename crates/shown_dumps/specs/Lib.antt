@@ -7,10 +7,12 @@ pub mod Parts
 pub mod Places
 pub mod Shown
 pub mod Colours
+pub mod Deleting
 pub mod Objects
 pub mod TreePlaces
 pub mod Slots
 pub mod Trees
+pub mod TreeShown
 pub mod Dots
 pub mod Nodes
 pub mod DotShown

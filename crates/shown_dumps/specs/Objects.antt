@@ -1,5 +1,5 @@
 -- The line of an object at one place where it is listed.
-use Rattle.std.specs.Prelude.{ℕ, ◌+◌, ◌==◌, ◌&&◌, not, Bool, List, [], ◌∷◌, ◌++◌, codes, decimal, if◌then◌else◌, zero, suc}
+use Rattle.std.specs.Prelude.{ℕ, ◌+◌, ◌==◌, ◌&&◌, not, Bool, List, [], ◌∷◌, ◌++◌, Option, codes, decimal, if◌then◌else◌, zero, suc}
 use Rattle.std.specs.List.{flat_map}
 use Rattle.base.specs.Level.{rank_of}
 use Rattle.base.specs.Live.{has}
@@ -18,6 +18,7 @@ use Rattle.kernel_rules.specs.declared.objects.Body.TheVariants as is
 use Rattle.kernel_rules.specs.declared.replies.Reply.TheVariants as replies
 use Rattle.label_lattice.specs.Label.{LabelValue}
 use Rattle.label_lattice.specs.declared.pairings.Pair.{Pair}
+use Rattle.shown_dumps.specs.Deleting.{deletable_text}
 use Rattle.shown_dumps.specs.declared.tree.places.Place.{Place}
 
 -- two spaces for each level
@@ -93,6 +94,6 @@ abbrev pub object_text : List Named → State → Place → Object → List ℕ
 object_text names s p x =
     own_text names p.id x ++ quota_text x.quota (use_of s p.id) ++ flags_text x.fixed x.immutable ++ others_text names s p
 
--- its line, which is as far in as the place is deep
-abbrev pub object_line : List Named → State → Place → Object → List ℕ
-object_line names s p x = indent p.depth ++ object_text names s p x ++ 10 ∷ []
+-- its line, which is as far in as the place is deep, and says whether the thread that is asked about may delete it
+abbrev pub object_line : List Named → Option ℕ → State → Place → Object → List ℕ
+object_line names asked s p x = indent p.depth ++ object_text names s p x ++ deletable_text s asked p.id ++ 10 ∷ []

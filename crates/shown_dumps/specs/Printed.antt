@@ -10,6 +10,7 @@ abbrev pub fault_status : ShowFault → ℕ
 fault_status (faults.Unreadable m) = 2
 fault_status faults.IllFormed = 1
 fault_status faults.NoCall = 2
+fault_status faults.NoThread = 2
 fault_status faults.Memory = 4
 
 -- what is shown was added to what was printed

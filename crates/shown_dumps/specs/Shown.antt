@@ -7,11 +7,11 @@ use Rattle.auditor.specs.Lines.{verdict_line}
 use Rattle.auditor.specs.declared.verdicts.Verdict.{Verdict}
 use Rattle.auditor.specs.declared.verdicts.Verdict.TheVariants as is
 use Rattle.call_text.specs.declared.known_names.Named.{Named}
-use Rattle.dump_text.specs.Dump.{IsDump, DumpFaultsAt}
+use Rattle.dump_text.specs.Dump.{IsDump}
 use Rattle.dump_text.specs.Lists.{DumpLists}
 use Rattle.shown_dumps.specs.Explained.{IsWhy, line_explained, Explains}
+use Rattle.shown_dumps.specs.States.{IsDumpIn}
 use Rattle.shown_dumps.specs.declared.states.faults.ShowFault.{ShowFault}
-use Rattle.shown_dumps.specs.declared.states.faults.ShowFault.TheVariants as faults
 
 -- line n tells no call and no read, or is that of a checkpoint that can't be restored
 abbrev pub TellsNone : List Named → Bool → List ℕ → ℕ → Type 0
@@ -24,10 +24,7 @@ WhyOrNone names whole text n more = Explains names whole text n more ⊎ ((more 
 
 abbrev pub IsWhyOrNone : List Named → Bool → List ℕ → ℕ → Result (Vec ℕ) ShowFault → Type 0
 IsWhyOrNone names whole text n (Ok told) = WhyOrNone names whole text n told.items
-IsWhyOrNone names whole text n (Err (faults.Unreadable m)) = DumpFaultsAt text m
-IsWhyOrNone names whole text n (Err faults.Memory) = Unit {0}
-IsWhyOrNone names whole text n (Err faults.IllFormed) = ⊥
-IsWhyOrNone names whole text n (Err faults.NoCall) = ⊥
+IsWhyOrNone names whole text n (Err fault) = IsDumpIn text (Err fault)
 
 -- the verdict's line, and why what the first false line tells is answered as it is, where it tells a call or a read
 abbrev pub TellsVerdict : List Named → Bool → List ℕ → Verdict → List ℕ → Type 0
@@ -40,10 +37,7 @@ TellsVerdict names whole text (is.Unreadable n) told = ⊥
 abbrev pub IsShown : List Named → Bool → Option ℕ → List ℕ → Result (Vec ℕ) ShowFault → Type 0
 IsShown names whole (Some n) text result = IsWhy names whole text n result
 IsShown names whole None text (Ok told) = (v : Verdict) × IsVerdict text v × TellsVerdict names whole text v told.items
-IsShown names whole None text (Err (faults.Unreadable m)) = DumpFaultsAt text m
-IsShown names whole None text (Err faults.Memory) = Unit {0}
-IsShown names whole None text (Err faults.IllFormed) = ⊥
-IsShown names whole None text (Err faults.NoCall) = ⊥
+IsShown names whole None text (Err fault) = IsDumpIn text (Err fault)
 
 -- what is shown of the text was added to what was printed
 abbrev pub Shows : List Named → Bool → Option ℕ → Option (List ℕ) → Option (List ℕ) → List ℕ → Type 0

@@ -1,7 +1,5 @@
--- The dump that a text spells, the state that its first events lead to, and what is shown of that.
-use Rattle.std.specs.Global.{Vec}
+-- The dump that a text spells, and the state that its first events lead to.
 use Rattle.std.specs.Prelude.{◌≡◌, ℕ, true, false, List, take, Option, Some, None, Result, Ok, Err}
-use Rattle.std.specs.Io.KnownBytes.{Appends}
 use Rattle.auditor.specs.Verdict.{begins}
 use Rattle.dump_text.specs.Dump.{IsDump, DumpFaultsAt}
 use Rattle.dump_text.specs.Lists.{DumpLists}
@@ -19,8 +17,7 @@ abbrev pub IsDumpIn : List ℕ → Result DumpLists ShowFault → Type 0
 IsDumpIn text (Ok dump) = IsDump text dump
 IsDumpIn text (Err (faults.Unreadable m)) = DumpFaultsAt text m
 IsDumpIn text (Err faults.Memory) = Unit {0}
-IsDumpIn text (Err faults.IllFormed) = ⊥
-IsDumpIn text (Err faults.NoCall) = ⊥
+IsDumpIn text (Err _) = ⊥
 
 -- the first n of events, all where no count is told
 abbrev pub first_of : Option ℕ → List Event → List Event
@@ -35,24 +32,11 @@ state_after d after = state_from (start_with d.limits d.checkpoint).state (first
 abbrev pub LeadsTo : List ℕ → Option ℕ → State → Type 0
 LeadsTo text after s = (d : DumpLists) × IsDump text d × (begins d ≡ true) × (s ≡ state_after d after)
 
--- why there is no such state. Unreadable: line m is the first at which the text stops being the beginning of a dump.
--- IllFormed: the checkpoint can't be restored.
+-- why there is no such state. IllFormed: the checkpoint can't be restored.
 abbrev pub IsWhyNone : List ℕ → ShowFault → Type 0
-IsWhyNone text (faults.Unreadable m) = DumpFaultsAt text m
 IsWhyNone text faults.IllFormed = (d : DumpLists) × IsDump text d × (begins d ≡ false)
-IsWhyNone text faults.Memory = Unit {0}
-IsWhyNone text faults.NoCall = ⊥
+IsWhyNone text fault = IsDumpIn text (Err fault)
 
 abbrev pub IsStateAfter : List ℕ → Option ℕ → Result PlainState ShowFault → Type 0
 IsStateAfter text after (Ok p) = LeadsTo text after (state_of p)
 IsStateAfter text after (Err fault) = IsWhyNone text fault
-
--- what is shown of that state
-abbrev pub ShowsAfter : (State → List ℕ) → List ℕ → Option ℕ → Result (Vec ℕ) ShowFault → Type 0
-ShowsAfter shown text after (Ok told) = (s : State) × LeadsTo text after s × (told.items ≡ shown s)
-ShowsAfter shown text after (Err fault) = IsWhyNone text fault
-
--- the same of a dump that was read, added to what was printed
-abbrev pub PrintsAfter : (State → List ℕ) → Option ℕ → Option (List ℕ) → Option (List ℕ) → List ℕ → Type 0
-PrintsAfter shown after old new text =
-    (told : Vec ℕ) × ShowsAfter shown text after (Ok told) × Appends old new told.items

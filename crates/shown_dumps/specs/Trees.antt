@@ -1,6 +1,6 @@
 -- The tree of a state: the root, below each container what it lists, in the order of its list, and below each address space
--- its filled slots.
-use Rattle.std.specs.Prelude.{ℕ, ◌+◌, List, [], ◌++◌, zero, suc}
+-- its filled slots. Where a thread is asked about, each object that it may delete is marked.
+use Rattle.std.specs.Prelude.{ℕ, ◌+◌, List, [], ◌++◌, Option, None, zero, suc}
 use Rattle.std.specs.List.{flat_map}
 use Rattle.call_text.specs.declared.known_names.Named.{Named}
 use Rattle.kernel_rules.specs.State.{State, object_at, of_object, list_at, quota_at, slots_of}
@@ -11,19 +11,23 @@ use Rattle.shown_dumps.specs.Slots.{slot_lines}
 use Rattle.shown_dumps.specs.declared.tree.places.Place.{Place}
 
 -- the line of an object, and those of its slots
-abbrev pub object_lines : List Named → State → Place → Object → List ℕ
-object_lines names s p x = object_line names s p x ++ slot_lines names (p.depth + 1) 0 (slots_of x.body)
+abbrev pub object_lines : List Named → Option ℕ → State → Place → Object → List ℕ
+object_lines names asked s p x = object_line names asked s p x ++ slot_lines names (p.depth + 1) 0 (slots_of x.body)
 
-abbrev pub lines_at : List Named → State → Place → List ℕ
-lines_at names s p = of_object [] (object_lines names s p) (object_at s p.id)
+abbrev pub lines_at : List Named → Option ℕ → State → Place → List ℕ
+lines_at names asked s p = of_object [] (object_lines names asked s p) (object_at s p.id)
 
 -- so many levels of the tree from a place on
-abbrev pub tree_from : List Named → State → ℕ → Place → List ℕ
-tree_from names s zero p = []
-tree_from names s (suc levels) p =
-    lines_at names s p ++ flat_map (λ id. tree_from names s levels (below p id)) (list_at s p.id)
+abbrev pub tree_from : List Named → Option ℕ → State → ℕ → Place → List ℕ
+tree_from names asked s zero p = []
+tree_from names asked s (suc levels) p =
+    lines_at names asked s p ++ flat_map (λ id. tree_from names asked s levels (below p id)) (list_at s p.id)
 
 -- the whole tree. What a container lists has a smaller quota than the container, so there are no more levels than the root
 -- has pages
+abbrev pub whole_tree : List Named → Option ℕ → State → List ℕ
+whole_tree names asked s = tree_from names asked s (quota_at s 1) root
+
+-- the same, where no thread is asked about
 abbrev pub named_tree : List Named → State → List ℕ
-named_tree names s = tree_from names s (quota_at s 1) root
+named_tree names s = whole_tree names None s

@@ -17,6 +17,9 @@ pub enum ShowFault {
     /// The line tells no call.
     #[error("no call at this line")]
     NoCall,
+    /// No live thread has the id that is asked about.
+    #[error("no thread of this id")]
+    NoThread,
     /// There was no memory.
     #[error("out of memory")]
     Memory,

@@ -67,12 +67,16 @@ fn tell<E: Write>(fault: ShowFault, err: &mut E) -> u8
             let _ = writeln!(err, "{NAME}: no call at this line");
             2
         }
+        ShowFault::NoThread => {
+            let _ = writeln!(err, "{NAME}: no thread of this id");
+            2
+        }
     }
 }
 
 /// Prints what is shown, and hands it on. The answer is the status: 0 where that was done. Else one line on `err` tells why
-/// not, with status 1 where the checkpoint can't be restored, 2 where the bytes are no dump or the line tells no call, 3 where
-/// the text can't be written, 4 where there was no memory.
+/// not, with status 1 where the checkpoint can't be restored, 2 where the bytes are no dump, the line tells no call or no thread
+/// has the id, 3 where the text can't be written, 4 where there was no memory.
 pub fn show_on<S: Sink, E: Write>(shown: Result<Vec<u8>, ShowFault>, out: &mut S, err: &mut E) -> u8
     ensures { result ≡ 0 → IsPrinted shown (S.contents out.old) (S.contents out.new) }
 {

@@ -12,7 +12,7 @@ use std::alloc::Global;
 pub enum Style {
     /// The colour of a category, one of six, from 0: what is left of its number, divided by 6.
     Category(u8),
-    /// Bold: that a category is owned, that a quota is fixed, or that an object is read-only for good.
+    /// Bold: that a category is owned, that a quota is fixed, that an object is read-only for good, or that a thread may delete it.
     Strong,
 }
 
@@ -96,7 +96,10 @@ fn is_owns(word: &[u8]) -> bool
 fn is_strong(word: &[u8]) -> bool
     ensures { result ≡ is_strong word.now }
 {
-    is_owns(word) || word == b"fixed".as_slice() || word == b"immutable".as_slice()
+    is_owns(word)
+        || word == b"fixed".as_slice()
+        || word == b"immutable".as_slice()
+        || word == b"deletable".as_slice()
 }
 
 /// The style of a word, which stands after `owns` or not.
@@ -143,7 +146,7 @@ fn plain_after(style: Option<Style>, plain: usize, length: usize) -> usize
 }
 
 /// The words of a text that have a style: each category with its level in its colour, each category that is owned, and in bold
-/// `owns`, `fixed` and `immutable`. Want of memory is the only error.
+/// `owns`, `fixed`, `immutable` and `deletable`. Want of memory is the only error.
 pub fn marks_of(alloc: Global, text: &[u8]) -> Result<Vec<Mark>, NoMemory>
     ensures { IfOk result (λ marks. marks.items ≡ marks_of text.now) }
 {

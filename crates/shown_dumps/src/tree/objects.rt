@@ -1,10 +1,13 @@
 //! The line of an object.
-ghost use Rattle.std.specs.Prelude.{◌≡◌, ◌++◌, [], OnOk, decimal, if◌then◌else◌};
+ghost use Rattle.std.specs.Prelude.{◌≡◌, ◌++◌, List, [], OnOk, true, decimal, if◌then◌else◌};
+ghost use Rattle.call_text.specs.declared.known_names.Named.{Named as NamedValue};
 ghost use Rattle.call_text.specs.ReplyWord.{value_text};
 ghost use Rattle.plain_state.specs.StateOf.{state_of};
 ghost use Rattle.shown_dumps.specs.Objects.{indent, kind_word, label_text, head_text, owned_one, owned_text, space_text, bearer_text, body_text, quota_text, flags_text, other_one, others_text, own_text, object_text, object_line};
 
 use crate::states::{put_named, put_value};
+use crate::tree::deleting::put_deletable;
+use crate::tree::looks::Look;
 use crate::tree::places::Place;
 use base::{Kind, Level, Meter, NoMemory, ObjectId};
 use call_text::{Named, Value};
@@ -198,6 +201,17 @@ fn put_other(
     }
 }
 
+/// Whether no other container can list the object at a place: one whose quota is not fixed stands in one list.
+fn is_listed_once(state: &PlainState, place: &Place) -> bool
+    ensures { result ≡ true → (names : List NamedValue) → others_text names (state_of state.now) place.now ≡ [] }
+{
+    state.well_formed();
+    match state.object(place.id) {
+        None => false,
+        Some(object) => !object.fixed && state.lists(place.container, place.id),
+    }
+}
+
 /// Adds the other containers that list the object.
 fn put_others(
     out: &mut Vec<u8>,
@@ -208,6 +222,9 @@ fn put_others(
     ensures { OnOk result (out.new.items
         ≡ out.old.items ++ others_text names.now (state_of state.now) place.now) }
 {
+    if is_listed_once(state, place) {
+        return Ok(());
+    }
     for (id, _) in state.records().objects.iter() {
         put_other(out, state, place, *id, names)?;
     }
@@ -239,14 +256,15 @@ pub fn put_line(
     state: &PlainState,
     place: &Place,
     object: &Object,
-    names: &[Named],
+    look: &Look<'_>,
     meter: &mut Meter,
 ) -> Result<(), NoMemory>
     ensures { OnOk result (out.new.items
-        ≡ out.old.items ++ object_line names.now (state_of state.now) place.now object.now) }
+        ≡ out.old.items ++ object_line look.now.names.now look.now.asked (state_of state.now) place.now object.now) }
 {
     put_indent(out, place.depth)?;
-    put_object(out, state, place, object, names, meter)?;
+    put_object(out, state, place, object, look.names, meter)?;
+    put_deletable(out, state, look.asked, place.id, meter)?;
     out.push(b'\n')?;
     Ok(())
 }

@@ -5,6 +5,6 @@ use Rattle.shown_dumps.proofs.tree.trees.+put_tree.Goals as goal
 
 pub returns : goal.returns
 returns t c =
-    told_level c.args.names.now (state_of c.args.state.now) c.args.levels c.args.place.now c.args.out.now.items c.put_lines.new.out.items
+    told_level c.args.look.now.names.now c.args.look.now.asked (state_of c.args.state.now) c.args.levels c.args.place.now c.args.out.now.items c.put_lines.new.out.items
     c.loop-id.out.items c.list-id-items.result.now c.loop-id.id-index (omega (arith, c.if-levels-eq0.false))
     c.in_ok-put_lines.ensures c.list-id-items.ensures c.loop-id-test.false c.loop-id.invariant

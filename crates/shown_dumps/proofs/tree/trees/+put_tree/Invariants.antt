@@ -10,5 +10,5 @@ decreases-put_tree l = l.levels
 
 abbrev pub invariant-loop-id : goal.invariant-loop-id
 invariant-loop-id l =
-    l.out.items ++ flat_map (λ id. tree_from l.names (state_of l.state) (l.levels - 1) (below l.place id)) (drop l.id-index l.id-items)
-    ≡ l.initial.out.items ++ flat_map (λ id. tree_from l.names (state_of l.state) (l.levels - 1) (below l.place id)) l.id-items
+    l.out.items ++ flat_map (λ id. tree_from l.look.names.now l.look.asked (state_of l.state) (l.levels - 1) (below l.place id)) (drop l.id-index l.id-items)
+    ≡ l.initial.out.items ++ flat_map (λ id. tree_from l.look.names.now l.look.asked (state_of l.state) (l.levels - 1) (below l.place id)) l.id-items
