@@ -1,5 +1,5 @@
 //! The numbers of threads' next events.
-ghost use Rattle.std.specs.Prelude.{◌≡◌, ◌+◌, ◌<◌, ◌≤◌, ◌==◌, ℕ, true, cond, Some, nat_le, nat_lt, map, IfOk, IfSome, OnOk};
+ghost use Rattle.std.specs.Prelude.{◌≡◌, ◌+◌, ◌<◌, ◌≤◌, ◌==◌, ℕ, true, cond, Some, nat_le, nat_lt, IfOk, IfSome, OnOk};
 ghost use Rattle.std.specs.BTreeMap.{get};
 ghost use Rattle.std.specs.List.{list_all};
 ghost use Rattle.std.specs.Option.{unwrap_or};
@@ -12,6 +12,7 @@ ghost use Rattle.logged_kernel.specs.Numbers.{is_noted, AreCounted};
 use base::{NoMemory, ObjectId};
 use checkpoints::{Checkpoint, NextNumber};
 use kept_events::KeptEvent;
+use plain_core::restoring::listed;
 use std::alloc::Global;
 use std::collections::BTreeMap;
 
@@ -96,20 +97,6 @@ fn note_events(
         note(numbers, event.thread(), number, next_id)?;
     }
     Ok(())
-}
-
-fn listed(alloc: Global, numbers: &BTreeMap<ObjectId, u64>) -> Result<Vec<NextNumber>, NoMemory>
-    ensures value { IfOk result (λ next. map {B = ℕ × ℕ} (λ n. (n.thread, n.number)) next.items ≡ numbers.now.entries) }
-    ensures rise { IfOk result (λ next. threads_rise next.items ≡ true) }
-{
-    let mut next = Vec::new(alloc);
-    for (thread, number) in numbers.iter() {
-        next.push(NextNumber {
-            thread: *thread,
-            number: *number,
-        })?;
-    }
-    Ok(next)
 }
 
 /// The next number of each thread with an id below this one, where it isn't 1, after events that begin at the checkpoint. The
