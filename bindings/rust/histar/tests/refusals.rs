@@ -99,6 +99,7 @@ fn a_refusal_names_its_call_and_object() {
     let all: Vec<_> = named.chain(calls_of_none().into_iter().map(|(word, call)| (word, call, None))).collect();
     assert_eq!(all.len(), 34);
     for (word, call, object) in all {
+        gone.unref(Entry::in_root(OTHER)).unwrap_err();
         let refused = gone.call(&call).unwrap_err();
         assert_eq!(refused, Refused { call: word, object, reason: Refusal::Halted });
         assert_eq!(Refused::call(&call, Refusal::Halted), refused);
