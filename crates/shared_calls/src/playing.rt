@@ -1,7 +1,7 @@
 //! How a kernel makes the calls of batches.
-ghost use Rattle.std.specs.Prelude.{◌≡◌, ◌≤◌, ◌<◌, ◌+◌, ◌∷◌, ◌++◌, [], length, vec_len, vec_capacity, IfOk, OnOk, IfSome, IsSome, ◌↔◌, true};
+ghost use Rattle.std.specs.Prelude.{◌≡◌, ◌≤◌, ◌<◌, ◌+◌, ◌∷◌, ◌++◌, [], length, vec_len, vec_capacity, IfOk, OnOk};
 ghost use Rattle.kernel_rules.specs.Events.{by};
-ghost use Rattle.kernel_rules.specs.History.{answered, is_batch};
+ghost use Rattle.kernel_rules.specs.History.{answered};
 ghost use Rattle.kernel_rules.specs.Runs.{replies_to, state_after};
 ghost use Rattle.kernel_rules.specs.Step.{answer, next};
 ghost use Rattle.syscall_core.specs.Kernel.{kernel_state};
@@ -9,40 +9,10 @@ ghost use Rattle.syscall_core.specs.Kernel.{kernel_state};
 use crate::rules::Entry;
 use base::{Meter, NoMemory, ObjectId};
 use kept_events::KeptCall;
-use kernel_rules::histories::{Answered, BATCH};
+use kernel_rules::histories::Answered;
 use kernel_rules::{Call, Mapping, Reply};
 use std::alloc::Global;
 use syscall_core::Kernel;
-
-/// The first call of a batch, and those after it: there are 1 to 16.
-pub(crate) fn batch_of(calls: &[Call]) -> Option<(&Call, &[Call])>
-    ensures some { IfSome result (λ batch. batch.0.now ∷ batch.1.now ≡ calls.now) }
-    ensures size { IsSome result ↔ (is_batch calls.now ≡ true) }
-{
-    if calls.len() > BATCH {
-        return None;
-    }
-    calls.split_first()
-}
-
-/// Room for the replies of a batch. The error is want of memory.
-pub(crate) fn replies_room(alloc: Global, calls: &[Call]) -> Result<Vec<Reply>, NoMemory>
-    ensures empty { IfOk result (λ room. room.items ≡ []) }
-    ensures room { IfOk result (λ room. length calls.now ≤ vec_capacity room) }
-{
-    Ok(Vec::with_capacity(alloc, calls.len())?)
-}
-
-/// Calls that are kept. The error is want of memory.
-pub(crate) fn kept_calls(alloc: Global, calls: &[Call]) -> Result<Vec<KeptCall>, NoMemory>
-    ensures { IfOk result (λ kept. kept.items ≡ calls.now) }
-{
-    let mut kept = Vec::with_capacity(alloc, calls.len())?;
-    for call in calls {
-        kept.push_reserved(KeptCall::new(alloc, call)?);
-    }
-    Ok(kept)
-}
 
 /// A kernel makes a call that is kept.
 fn play_call(

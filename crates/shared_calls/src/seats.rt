@@ -17,11 +17,11 @@ use crate::chairs::Chair;
 use crate::cursors::Cursor;
 use crate::journals::dump_known;
 use crate::lists::{CallList, Known};
-use crate::playing::{batch_of, kept_calls, make_all, play, replies_room};
+use crate::playing::{make_all, play};
 use crate::refusals::{DumpRefusal, SeatRefusal, SubmitRefusal};
 use crate::rules::Asked;
 use base::{Limits, Meter, NoMemory, ObjectId};
-use kept_events::KeptCall;
+use kept_events::{KeptCall, kept_calls, replies_room, split_batch};
 use kernel_rules::{Call, Query, Reply};
 use std::alloc::Global;
 use std::marker::Model;
@@ -279,7 +279,7 @@ impl Seat {
         ensures good { IsErrOf result SubmitRefusal.BadBatch ↔ (is_batch calls.now ≡ false) }
         ensures bad { IsErrOf result SubmitRefusal.BadBatch → self.new ≡ self.old }
     {
-        let Some((call, more)) = batch_of(calls) else {
+        let Some((call, more)) = split_batch(calls) else {
             return Err(SubmitRefusal::BadBatch);
         };
         let kept = KeptCall::new(alloc, call)?;
