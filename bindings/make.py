@@ -395,7 +395,7 @@ ANSWERED_IN_C = {
                ["if (now->refusal) return;", 'says("list");', "says_number(list.length);", "now->object_count = list.count;",
                 "memcpy(now->objects, list.objects, sizeof list.objects);"]),
     "mapping": ([], ["&now->mapping"], ['says("mapping");', "now->has_mapping = 1;"]),
-    "own": (["histar_self self;"], ["&self"],
+    "own": (["histar_self self;", "memset(&self, 0, sizeof self);"], ["&self"],
             ["if (now->refusal) return;", "says_label(self.label);", "says_label(self.clearance);", "says_label(self.verify);", 'says_object("self", self.space.container);',
              'says_object("self", self.space.object);', "says_number(self.entry_point);", "says_number(self.closure);"]),
 }

@@ -262,6 +262,7 @@ static void plays_dev_recv(histar_object thread)
 static void plays_self_get(histar_object thread)
 {
     histar_self self;
+    memset(&self, 0, sizeof self);
     now->refusal = histar_self_get(&k, thread, &self);
     if (now->refusal) return;
     says_label(self.label);

@@ -70,7 +70,7 @@ impl<'k> Session<'k> {
     /// One call, as a value.
     ///
     /// ```
-    /// use histar::{Call, Category, Entry, Refused, Reply};
+    /// use histar::{Call, Category, Entry, Refusal, Reply};
     /// # let kernel = histar::Kernel::boot(64)?;
     /// # let boot = kernel.session();
     /// assert_eq!(boot.call(&Call::CatCreate), Ok(Reply::Category(Category(1))));
