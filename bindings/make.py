@@ -117,10 +117,10 @@ ENDS_IN_C = {
     "read": ["return histar_takes(k, bytes, 64, NULL);"],
     "entered": ["if (!refusal && entry_point) *entry_point = k->answer.numbers[0];", "if (!refusal && closure) *closure = k->answer.numbers[1];"],
     "label": ["if (!refusal) *label = k->answer.label;"],
-    "own": ["if (!refusal) *self = histar_self_of(&k->answer);"],
-    "quota": ["if (!refusal) *quota = histar_quota_of(&k->answer);"],
-    "listed": ["if (!refusal) *list = histar_list_of(&k->answer);"],
-    "mapping": ["if (!refusal) *mapping = histar_mapping_of(&k->answer);"],
+    "own": ["if (!refusal) histar_self_of(&k->answer, self);"],
+    "quota": ["if (!refusal) histar_quota_of(&k->answer, quota);"],
+    "listed": ["if (!refusal) histar_list_of(&k->answer, list);"],
+    "mapping": ["if (!refusal) histar_mapping_of(&k->answer, mapping);"],
 }
 
 

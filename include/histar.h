@@ -595,30 +595,26 @@ typedef struct {
     histar_entry space;
     uint64_t entry_point, closure;
 } histar_self;
-static inline histar_self histar_self_of(const histar_answer *answer)
+static inline void histar_self_of(const histar_answer *answer, histar_self *self)
 {
-    histar_self self;
-    self.label = answer->label;
-    self.clearance = answer->clearance;
-    self.verify = answer->verify;
-    self.space = histar_in(histar_object_of(answer->numbers[0]), histar_object_of(answer->numbers[1]));
-    self.entry_point = answer->numbers[2];
-    self.closure = answer->numbers[3];
-    return self;
+    self->label = answer->label;
+    self->clearance = answer->clearance;
+    self->verify = answer->verify;
+    self->space = histar_in(histar_object_of(answer->numbers[0]), histar_object_of(answer->numbers[1]));
+    self->entry_point = answer->numbers[2];
+    self->closure = answer->numbers[3];
 }
 
 /* What an object may use and uses, in pages of 256 bytes; 1 where its quota is fixed, and where it is read-only. */
 typedef struct {
     uint32_t quota, used, fixed, immutable;
 } histar_quota;
-static inline histar_quota histar_quota_of(const histar_answer *answer)
+static inline void histar_quota_of(const histar_answer *answer, histar_quota *quota)
 {
-    histar_quota quota;
-    quota.quota = (uint32_t)answer->numbers[0];
-    quota.used = (uint32_t)answer->numbers[1];
-    quota.fixed = (uint32_t)answer->numbers[2];
-    quota.immutable = (uint32_t)answer->numbers[3];
-    return quota;
+    quota->quota = (uint32_t)answer->numbers[0];
+    quota->used = (uint32_t)answer->numbers[1];
+    quota->fixed = (uint32_t)answer->numbers[2];
+    quota->immutable = (uint32_t)answer->numbers[3];
 }
 
 /* What a container lists: its whole length, and up to 16 objects. */
@@ -627,13 +623,11 @@ typedef struct {
     uint32_t count;
     histar_object objects[16];
 } histar_list;
-static inline histar_list histar_list_of(const histar_answer *answer)
+static inline void histar_list_of(const histar_answer *answer, histar_list *list)
 {
-    histar_list list;
-    list.length = answer->numbers[0];
-    list.count = answer->len;
-    memcpy(list.objects, answer->numbers + 1, sizeof list.objects);
-    return list;
+    list->length = answer->numbers[0];
+    list->count = answer->len;
+    memcpy(list->objects, answer->numbers + 1, sizeof list->objects);
 }
 
 /* What a slot maps, as histar_as_map has it; nothing, and zeros, where is_mapped is 0. */
@@ -642,20 +636,18 @@ typedef struct {
     uint32_t page, first, count, rights;
     histar_entry segment;
 } histar_mapping;
-static inline histar_mapping histar_mapping_of(const histar_answer *answer)
+static inline void histar_mapping_of(const histar_answer *answer, histar_mapping *mapping)
 {
     const uint64_t *n = answer->numbers;
-    histar_mapping mapping;
-    memset(&mapping, 0, sizeof mapping);
+    memset(mapping, 0, sizeof *mapping);
     if (answer->len) {
-        mapping.is_mapped = 1;
-        mapping.page = (uint32_t)n[0];
-        mapping.segment = histar_in(histar_object_of(n[1]), histar_object_of(n[2]));
-        mapping.first = (uint32_t)n[3];
-        mapping.count = (uint32_t)n[4];
-        mapping.rights = (uint32_t)(n[5] * HISTAR_READ + n[6] * HISTAR_WRITE);
+        mapping->is_mapped = 1;
+        mapping->page = (uint32_t)n[0];
+        mapping->segment = histar_in(histar_object_of(n[1]), histar_object_of(n[2]));
+        mapping->first = (uint32_t)n[3];
+        mapping->count = (uint32_t)n[4];
+        mapping->rights = (uint32_t)(n[5] * HISTAR_READ + n[6] * HISTAR_WRITE);
     }
-    return mapping;
 }
 
 /* ---- Write calls. A result goes where its pointer says; for `made` and `category`, NULL is allowed. Each new object may be refused
@@ -976,7 +968,7 @@ static inline uint32_t histar_self_get(histar *k, histar_object thread, histar_s
     uint32_t refusal = histar_asks(k, HISTAR_CALL_SELF_GET, thread, HISTAR_NOWHERE);
     if (refusal) return refusal;
     refusal = histar_serves(k);
-    if (!refusal) *self = histar_self_of(&k->answer);
+    if (!refusal) histar_self_of(&k->answer, self);
     return histar_told(k, refusal);
 }
 
@@ -998,7 +990,7 @@ static inline uint32_t histar_obj_quota(histar *k, histar_object thread, histar_
     uint32_t refusal = histar_asks(k, HISTAR_CALL_OBJ_QUOTA, thread, entry);
     if (refusal) return refusal;
     refusal = histar_serves(k);
-    if (!refusal) *quota = histar_quota_of(&k->answer);
+    if (!refusal) histar_quota_of(&k->answer, quota);
     return histar_told(k, refusal);
 }
 
@@ -1011,7 +1003,7 @@ static inline uint32_t histar_container_list(histar *k, histar_object thread, hi
     if (refusal) return refusal;
     k->request.numbers[0] = from;
     refusal = histar_serves(k);
-    if (!refusal) *list = histar_list_of(&k->answer);
+    if (!refusal) histar_list_of(&k->answer, list);
     return histar_told(k, refusal);
 }
 
@@ -1066,7 +1058,7 @@ static inline uint32_t histar_as_get(histar *k, histar_object thread, histar_ent
     if (refusal) return refusal;
     k->request.numbers[0] = slot;
     refusal = histar_serves(k);
-    if (!refusal) *mapping = histar_mapping_of(&k->answer);
+    if (!refusal) histar_mapping_of(&k->answer, mapping);
     return histar_told(k, refusal);
 }
 
