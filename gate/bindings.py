@@ -300,7 +300,7 @@ class Bindings:
     def soak(self, soak):
         """Sessions come and go on one kernel, and it takes no memory: without a log, and with one that is dumped and cut whenever it is full."""
         self.counts(f"{SESSIONS:,} sessions of 100 writes take no memory", soak, str(SESSIONS), "100")
-        folder = f"{self.room}/soak"
+        folder = f"{self.room}/soak-dumps"
         os.makedirs(folder, exist_ok=True)
         self.counts(f"{SESSIONS:,} sessions of 100 writes take no memory with a log that is cut", soak, str(SESSIONS), "100", folder)
         if not self.auditor:

@@ -6,11 +6,11 @@ import re
 # a number of the answer that is taken from the next place.
 TURNS = (
     (r"(HISTAR_CALL_\w+) = (\d+)", lambda it: f"{it[1]} = {int(it[2]) % 42 + 1}" if int(it[2]) < 43 else None),
-    (r"k->request\.numbers\[\d\] = (?!at|change)\w+;", lambda it: ""),
+    (r"k->request\.numbers\[\d\] = (?!at|change|most)\w+;", lambda it: ""),
     (r"k->request\.(?:label|clearance|verify) = \*(\w+);", lambda it: f"(void){it[1]};"),
     (r"(k->request\.other_\w+) = (\w+)\.container\.id;", lambda it: f"{it[1]} = {it[2]}.object.id;"),
     (r"(k->request\.other_\w+) = (\w+)\.object\.id;", lambda it: f"{it[1]} = {it[2]}.container.id;"),
-    (r"(answer(?:\.|->))numbers\[(\d)\]", lambda it: f"{it[1]}numbers[{int(it[2]) + 1}]"),
+    (r"(k->answer\.|\banswer->)numbers\[(\d)\]", lambda it: f"{it[1]}numbers[{int(it[2]) + 1}]"),
     (r"\(n\[(\d)\]", lambda it: f"(n[{int(it[1]) + 1}]"),
 )
 
