@@ -257,7 +257,7 @@ STARTS = (
     Scene("starts at a label, which writes a report", "confine-run first -- sh -c 'cat $S/key > $R'; echo clean", printed="clean\n", report=SECRET + "\n", policy=POLICY),
     Scene("starts at a label and looks at its status", "confine-run first -- sh -c 'exit 7'; echo $?", printed="0\n", policy=POLICY),
     Scene("starts at a label and looks when it ends", "a=$(date +%s); confine-run first -- sleep 2; b=$(date +%s); [ $((b-a)) -lt 2 ] && echo at once", printed="at once\n", policy=POLICY),
-    Scene("starts at a label and looks when its pipe ends", "a=$(date +%s); confine-run first -- sleep 2 | cat; b=$(date +%s); [ $((b-a)) -lt 2 ] && echo at once", printed="at once\n", policy=POLICY),
+    Scene("starts at a label and looks when its pipe ends", "a=$(date +%s); confine-run first -- sleep 6 | cat; b=$(date +%s); [ $((b-a)) -lt 6 ] && echo at once", printed="at once\n", policy=POLICY),
     Scene("starts at a label and looks whether it reads", "a=$(date +%s); head -c 1000000 /dev/zero | confine-run first -- sleep 2; b=$(date +%s); [ $((b-a)) -lt 2 ] && echo at once", printed="at once\n", policy=POLICY),
     Scene("starts at no label and knows its status", "confine-run none -- sh -c 'exit 7'; echo $?", printed="7\n", policy=POLICY),
     Scene("starts at no label and hands it much", "head -c 1000000 /dev/zero | confine-run none -- wc -c", printed="1000000\n", policy=POLICY),
