@@ -1138,30 +1138,36 @@ static inline uint32_t histar_batch(histar *seat, histar_object thread, const hi
     return histar_told(seat, refusal);
 }
 
-/* ---- The log: each write call since the open or the last cut, refused or not, with its answer. Its dump is the text that
- * `./histar run --dump` writes of a run, and histar-audit tells whether its answers are those of the rules. ---- */
+/* ---- The log: each write call since the open or the last cut, refused or not, with its answer, and each read where all are kept. Its dump
+ * is the text that `./histar run --dump` writes of a run, and histar-audit tells whether its answers are those of the rules. ---- */
 
-/* Begins the log, of `most` write calls at most, before the first one. From here on each write call takes memory. One past the bound is
- * refused HISTAR_LOG_FULL, and HISTAR_MEMORY where there is no memory for it: it is not made and not kept, and reads are answered as ever.
- * histar_log_cut makes room; UINT64_MAX is no bound. HISTAR_BAD_BATCH where a write call was made already. */
+/* What a log keeps: write calls, or reads too. */
+enum { HISTAR_LOG_WRITES = 0, HISTAR_LOG_ALL = 1 };
+
+/* Begins the log, of `most` calls at most, before the first write call. From here on each call that is kept takes memory. One past the bound
+ * is refused HISTAR_LOG_FULL, and HISTAR_MEMORY where there is no memory for it: it is not made and not kept. Where write calls alone are
+ * kept, reads are answered as ever. histar_log_cut makes room; UINT64_MAX is no bound. HISTAR_BAD_BATCH where a write call was made
+ * already. */
 HISTAR_LOOKED_AT(1)
-static inline uint32_t histar_log_on(histar *k, uint64_t most)
+static inline uint32_t histar_log_on(histar *k, uint64_t most, uint64_t keeps)
 {
     uint32_t refusal = histar_asks(k, HISTAR_CALL_LOG_ON, HISTAR_NOTHING, HISTAR_NOWHERE);
     if (refusal) return refusal;
     k->request.numbers[0] = most;
+    k->request.numbers[1] = keeps;
     return histar_done(k);
 }
 
-/* Begins the log anew at the kernel as it stands, of `most` write calls at most, so that the memory of its calls is given back: its dump has
- * the checkpoint of this moment and the write calls from here on. Where no log was kept, one begins, in which each thread's first event has number 1.
+/* Begins the log anew at the kernel as it stands, of `most` calls at most, so that the memory of its calls is given back: its dump has
+ * the checkpoint of this moment and the calls from here on that are kept. Where no log was kept, one begins, in which each thread's first event has number 1.
  * HISTAR_MEMORY where there is no memory for that, and the log is as before; HISTAR_BAD_BATCH of a seat. */
 HISTAR_LOOKED_AT(1)
-static inline uint32_t histar_log_cut(histar *k, uint64_t most)
+static inline uint32_t histar_log_cut(histar *k, uint64_t most, uint64_t keeps)
 {
     uint32_t refusal = histar_asks(k, HISTAR_CALL_LOG_CUT, HISTAR_NOTHING, HISTAR_NOWHERE);
     if (refusal) return refusal;
     k->request.numbers[0] = most;
+    k->request.numbers[1] = keeps;
     return histar_done(k);
 }
 

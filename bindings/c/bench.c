@@ -115,7 +115,7 @@ static void a_kernel(void)
 static void opens(int with_log)
 {
     done(histar_open(&k, pages));
-    if (with_log) done(histar_log_on(&k, UINT64_MAX));
+    if (with_log) done(histar_log_on(&k, UINT64_MAX, HISTAR_LOG_WRITES));
     guarded = histar_level(1);
     for (int i = 0; i < categories; i++) {
         histar_category category;

@@ -59,7 +59,7 @@ int main(int count, char **given)
     int is_back;
     if (count < 2) return 2;
     is_back = opens(given[1]);
-    must(histar_log_on(&k, UINT64_MAX));
+    must(histar_log_on(&k, UINT64_MAX, HISTAR_LOG_WRITES));
     if (!is_back) must(histar_segment_create(&k, HISTAR_BOOT, HISTAR_ROOT, &plain, 2, 1, &made));
     must(histar_segment_read(&k, HISTAR_BOOT, histar_in(HISTAR_ROOT, made), 0, &starts, 1));
     starts++;

@@ -81,7 +81,7 @@ static size_t takes(long count)
 static size_t takes_of_kernel(long count)
 {
     size_t more;
-    must(!histar_open(&k, 64) && !histar_log_on(&k, (uint64_t)count), "no kernel");
+    must(!histar_open(&k, 64) && !histar_log_on(&k, (uint64_t)count, HISTAR_LOG_WRITES), "no kernel");
     writes(count);
     more = takes(count);
     must(!histar_close(&k), "no close");

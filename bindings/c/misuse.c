@@ -41,7 +41,7 @@ static void opens(void)
     histar_category category;
     histar_label clearance = histar_level(2);
     must(histar_open(&k, 64));
-    must(histar_log_on(&k, UINT64_MAX));
+    must(histar_log_on(&k, UINT64_MAX, HISTAR_LOG_WRITES));
     must(histar_cat_create(&k, HISTAR_BOOT, &category));
     plain = histar_level(1);
     guarded = histar_with(plain, category, 3);
@@ -76,7 +76,7 @@ static uint32_t look_up_closed(void)
     histar_object it;
     return histar_kept_live(&closed, 0, &is_there, &it);
 }
-static uint32_t log_closed(void) { return histar_log_on(&closed, 9); }
+static uint32_t log_closed(void) { return histar_log_on(&closed, 9, HISTAR_LOG_WRITES); }
 static uint32_t dump_closed(void)
 {
     size_t needed;
@@ -245,7 +245,7 @@ static uint32_t call_by_what_takes_a_checkpoint(void)
     must(histar_checkpoint_to(&k, calls_the_kernel, &refusal));
     return refusal;
 }
-static uint32_t log_begun_late(void) { return histar_log_on(&k, 9); }
+static uint32_t log_begun_late(void) { return histar_log_on(&k, 9, HISTAR_LOG_WRITES); }
 
 /* A kernel whose log has as many write calls as it may have. */
 static histar logged;
@@ -253,7 +253,7 @@ static uint32_t opens_logged(uint64_t most)
 {
     uint64_t made;
     must(histar_open(&logged, 8));
-    must(histar_log_on(&logged, most));
+    must(histar_log_on(&logged, most, HISTAR_LOG_WRITES));
     for (made = 0; made < most; made++) must(is_called(&logged));
     return is_called(&logged);
 }
@@ -270,7 +270,7 @@ static uint32_t call_past_the_logs_bound(void)
     if (histar_segment_len(&logged, HISTAR_BOOT, in_root(HISTAR_ROOT), &pages) != HISTAR_WRONG_TYPE) return HISTAR_DONE;
     must(histar_dump(&logged, after, sizeof after, &late));
     if (late != len || memcmp(before, after, len)) return HISTAR_DONE;
-    must(histar_log_cut(&logged, 1));
+    must(histar_log_cut(&logged, 1, HISTAR_LOG_WRITES));
     must(is_called(&logged));
     if (is_called(&logged) != refusal) return HISTAR_DONE;
     must(histar_dump(&logged, after, sizeof after, &late));
@@ -497,7 +497,7 @@ static uint32_t copied_seat(void)
     must(histar_close(&copy));
     return is_called(&copy);
 }
-static uint32_t log_of_a_seat(void) { return histar_log_on(&seat, 9); }
+static uint32_t log_of_a_seat(void) { return histar_log_on(&seat, 9, HISTAR_LOG_WRITES); }
 static uint32_t look_up_by_a_seat(void)
 {
     int is_there;
@@ -511,7 +511,7 @@ static uint32_t opened_after_a_seat(void)
     must(histar_seat_open(&it, &seat));
     must(histar_close(&it));
     must(histar_open(&it, 8));
-    must(histar_log_on(&it, 9)); /* which a seat is refused */
+    must(histar_log_on(&it, 9, HISTAR_LOG_WRITES)); /* which a seat is refused */
     refusal = is_called(&it);
     must(histar_close(&it));
     return refusal;
@@ -589,8 +589,8 @@ static uint32_t checkpoint_in_63(void)
     return needed > 63 && !place[0] ? refusal : 0;
 }
 static uint32_t checkpoint_of_a_seat(void) { return histar_checkpoint(&seat, place, sizeof place, &written_len); }
-static uint32_t cut_closed(void) { return histar_log_cut(&closed, 9); }
-static uint32_t cut_by_a_seat(void) { return histar_log_cut(&seat, 9); }
+static uint32_t cut_closed(void) { return histar_log_cut(&closed, 9, HISTAR_LOG_WRITES); }
+static uint32_t cut_by_a_seat(void) { return histar_log_cut(&seat, 9, HISTAR_LOG_WRITES); }
 /* A kernel opened at the checkpoint, in which these bytes stand in place of the first that are those, or at the first `len` bytes of it. It
  * is closed after a refused open, and opens otherwise. */
 static uint32_t opened_with(const char *those, const char *these, size_t cut)

@@ -57,7 +57,7 @@ static int is_well(long records, int is_logged)
     static histar_answer before;
     int is_same = 1;
     size_t used;
-    if (histar_open(&k, 64) || (is_logged && histar_log_on(&k, 5000))) return 0;
+    if (histar_open(&k, 64) || (is_logged && histar_log_on(&k, 5000, HISTAR_LOG_WRITES))) return 0;
     used = mallinfo2().uordblks;
     for (long i = 0; i < records; i++) {
         uint32_t refusal;

@@ -118,7 +118,7 @@ static int is_logged(void)
     static size_t len[2];
     int n = len[0] != 0;
     uint32_t refusal;
-    if (histar_log_on(&k, 3) || once_more(creates_category) || category.number != 1) return 0;
+    if (histar_log_on(&k, 3, HISTAR_LOG_WRITES) || once_more(creates_category) || category.number != 1) return 0;
     if (once_more(creates_segment) || made.id != 4 || once_more(keeps_root) != HISTAR_ROOT_KEPT) return 0;
     refusal = histar_dump(&k, text[n], sizeof text[n], &len[n]);
     if (refusal == HISTAR_TEXT_MEMORY) again++, refusal = histar_dump(&k, text[n], sizeof text[n], &len[n]);
@@ -149,7 +149,7 @@ static char written[1 << 16], cut[1 << 16];
 static size_t written_len, cut_len;
 static uint32_t writes_checkpoint(void) { return histar_checkpoint(&k, written, sizeof written, &written_len); }
 static uint32_t opens_back(void) { return histar_open_at(&back, written, written_len); }
-static uint32_t cuts_log(void) { return histar_log_cut(&back, 0); }
+static uint32_t cuts_log(void) { return histar_log_cut(&back, 0, HISTAR_LOG_WRITES); }
 static uint32_t dumps_cut(void) { return histar_dump(&back, cut, sizeof cut, &cut_len); }
 
 /* Whether a kernel comes back at its checkpoint, and its log, which is cut there, has that checkpoint and no calls. */

@@ -52,7 +52,7 @@ static void cuts(void)
     must(file != NULL, "there is no file for a dump");
     done(histar_dump_to(&k, adds, file));
     must(!fclose(file), "a dump was not written");
-    done(histar_log_cut(&k, LOGGED));
+    done(histar_log_cut(&k, LOGGED, HISTAR_LOG_WRITES));
 }
 
 /* Makes a write call, which a full log refuses once. */
@@ -109,7 +109,7 @@ int main(int count, char **words)
     struct session before, it;
     folder = count > 3 ? words[3] : NULL;
     done(histar_open(&k, 64));
-    if (folder) done(histar_log_on(&k, LOGGED));
+    if (folder) done(histar_log_on(&k, LOGGED, HISTAR_LOG_WRITES));
     comes(&before);
     for (long i = 0; i < sessions; i++) {
         comes(&it);

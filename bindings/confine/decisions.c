@@ -123,7 +123,7 @@ void make_objects(struct plan *plan)
 {
     struct levels plain = {{1, 1, 1, 1, 1, 1, 1, 1}};
     MUST(histar_open(&kernel, PAGES));
-    if (plan->dump) MUST(histar_log_on(&kernel, UINT64_MAX));
+    if (plan->dump) MUST(histar_log_on(&kernel, UINT64_MAX, HISTAR_LOG_WRITES));
     for (int i = 0; i < plan->category_count; i++) make_category(plan, &plan->categories[i]);
     for (int i = 0; i < plan->secret_count; i++) make_secret(plan, &plan->secrets[i]);
     for (int i = 0; i < plan->report_count; i++)

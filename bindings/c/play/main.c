@@ -147,7 +147,7 @@ int main(int count, char **given)
     }
     read_script(given[1]);
     if ((refusal = histar_open_with(&k, pages, device, next_id, next_category))) faulty(histar_refusal_name(refusal));
-    if (dump && histar_log_on(&k, UINT64_MAX)) faulty("the log does not begin");
+    if (dump && histar_log_on(&k, UINT64_MAX, HISTAR_LOG_ALL)) faulty("the log does not begin");
     binds("root", "", 0, 0, HISTAR_ROOT.id);
     binds("boot", "", 0, 0, HISTAR_BOOT.id);
     binds("dev", "", 0, 0, HISTAR_DEVICE.id);

@@ -13,8 +13,10 @@ use base::Data;
 pub enum LogRequest {
     /// That it begins.
     Begin {
-        /// How many events it may have.
+        /// How many events and reads it may have.
         most: u64,
+        /// Whether reads are kept too.
+        reads: bool,
     },
     /// That a piece of its dump is made, and how many bytes the text has.
     Dump {
@@ -33,8 +35,10 @@ pub enum LogRequest {
     },
     /// That it begins anew.
     Cut {
-        /// How many events it may have.
+        /// How many events and reads it may have.
         most: u64,
+        /// Whether reads are kept too.
+        reads: bool,
     },
 }
 
@@ -45,6 +49,7 @@ pub fn log_request_of(request: &Request) -> Option<LogRequest>
     Some(match request.call {
         40 => LogRequest::Begin {
             most: request.numbers[0],
+            reads: request.numbers[1] != 0,
         },
         41 => LogRequest::Dump {
             piece: request.numbers[0],
@@ -57,6 +62,7 @@ pub fn log_request_of(request: &Request) -> Option<LogRequest>
         },
         49 => LogRequest::Cut {
             most: request.numbers[0],
+            reads: request.numbers[1] != 0,
         },
         _ => return None,
     })

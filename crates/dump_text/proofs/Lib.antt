@@ -21,4 +21,5 @@ pub mod RestorableLines
 pub mod KernelDumps
 pub mod Batches
 pub mod Migration
+pub mod PieceTexts
 pub mod PieceLemmas

@@ -1,12 +1,10 @@
 -- The pieces of a dump, one after another.
-use Rattle.std.proofs.Common.{◌≡◌, ℕ, zero, suc, ◌+◌, ◌-◌, ◌*◌, ◌/◌, ◌<◌, ◌≤◌, ◌==◌, nat_lt, Bool, true, false, if◌then◌else◌, List, [], ◌∷◌, ◌++◌, length, take, drop, Option, Some, None, refl, ap, ◌∙◌, sym, subst, arith, append_assoc, length-drop}
+use Rattle.std.proofs.Common.{◌≡◌, ℕ, zero, suc, ◌+◌, ◌*◌, ◌/◌, ◌<◌, ◌≤◌, nat_lt, Bool, true, false, List, [], ◌∷◌, ◌++◌, length, take, drop, Option, Some, None, refl, ap, ◌∙◌, sym, subst, arith, append_assoc}
 use Rattle.std.specs.List.{flat_map, AllByRecursion}
-use Rattle.std.proofs.Math.Seq.{take-add}
-use Rattle.std.proofs.lemmas.Bool.{ne_eqb, lt-ltb, le-ltb, ltb-true, ltb-false}
-use Rattle.std.proofs.lemmas.Grind.{flat_map-append}
-use Rattle.std.proofs.lemmas.List.{append-nil, take_all, drop_all}
+use Rattle.std.proofs.lemmas.Bool.{ltb-true, ltb-false}
+use Rattle.std.proofs.lemmas.List.{take_all, drop_all}
 use Rattle.base.specs.declared.ranges.Limits.{Limits}
-use Rattle.call_text.specs.Text.{line, lines_text}
+use Rattle.call_text.specs.Text.{lines_text}
 use Rattle.checkpoints.specs.Checkpoint.{Checkpoint}
 use Rattle.kernel_rules.specs.Events.{Event}
 use Rattle.kernel_rules.specs.declared.histories.events.Answered.{Answered}
@@ -15,7 +13,7 @@ use Rattle.dump_text.specs.Dump.{dump_text, event_lines, format_of, lines_with, 
 use Rattle.dump_text.specs.Fits.{FitsLine, FitTables, FitsWords}
 use Rattle.dump_text.specs.Line.{line_text}
 use Rattle.dump_text.specs.Lists.{TableLists, DumpLists, dump_with}
-use Rattle.dump_text.specs.Pieces.{head_lines, tail_lines, lines_in, piece_at, piece_text, joined, AreLegal, ArePieces, FitsPiece}
+use Rattle.dump_text.specs.Pieces.{head_lines, tail_lines, lines_in, part_text, piece_at, piece_text, joined, AreLegal, ArePieces, FitsPiece}
 use Rattle.dump_text.specs.Reads.{have_places}
 use Rattle.dump_text.specs.Whole.{whole_dump, IsLegalDump}
 use Rattle.dump_text.specs.declared.lines.Line.{Line}
@@ -25,93 +23,44 @@ use Rattle.dump_text.specs.declared.pieces.Piece.TheVariants as pieces
 use Rattle.dump_text.proofs.EventLines.{lines_append}
 use Rattle.dump_text.proofs.KernelDumps.{legal_dump}
 use Rattle.dump_text.proofs.LabelPlaces.{all_append}
+use Rattle.dump_text.proofs.PieceTexts.{Solid, events_piece, last_after, piece_of, pieces_all, tables_piece, two_parts}
 
--- what a piece after the first tells
-place_is : (n : ℕ) → 64 * (suc n - 1) ≡ 64 * n
-place_is n = omega arith
+-- what an event tells
+abbrev event_text : Event → List ℕ
+event_text e = lines_text line_text (event_lines e)
 
-not_first : (n : ℕ) → (suc n == 0) ≡ false
-not_first n = ne_eqb (suc n) 0 (λ e. omega (arith, e))
+-- the text of the lines of events
+told_text : (es : List Event) → lines_text line_text (flat_map event_lines es) ≡ flat_map event_text es
+told_text [] = refl
+told_text (e ∷ es) = lines_append (event_lines e) (flat_map event_lines es) ∙ ap (λ (t : List ℕ). event_text e ++ t) (told_text es)
 
-pub events_piece : (count n : ℕ) → 64 * n < count → piece_at count (suc n) ≡ pieces.Events (64 * n)
-events_piece count n less =
-    let place : ℕ = 64 * (suc n - 1) in
-    let first = not_first n in
-    let one = lt-ltb place count (omega (arith, less)) in
-    (λ i. if first i then pieces.Head else (if one i then pieces.Events place else (if nat_lt place (count + 64) then pieces.Tables else pieces.Nothing)))
-    ∙ ap pieces.Events (place_is n)
+abbrev head_of : DumpLists → List ℕ
+head_of d = lines_text line_text (head_lines d.limits d.checkpoint)
 
-pub tables_piece : (count n : ℕ) → count ≤ 64 * n → 64 * n < count + 64 → piece_at count (suc n) ≡ pieces.Tables
-tables_piece count n past less =
-    let place : ℕ = 64 * (suc n - 1) in
-    let first = not_first n in
-    let one = le-ltb place count (omega (arith, past)) in
-    let two = lt-ltb place (count + 64) (omega (arith, less)) in
-    λ i. if first i then pieces.Head else (if one i then pieces.Events place else (if two i then pieces.Tables else pieces.Nothing))
+abbrev tail_of : DumpLists → List ℕ
+tail_of d = lines_text line_text (tail_lines d.tables)
 
-pub no_piece : (count n : ℕ) → count + 64 ≤ 64 * n → piece_at count (suc n) ≡ pieces.Nothing
-no_piece count n past =
-    let place : ℕ = 64 * (suc n - 1) in
-    let first = not_first n in
-    let one = le-ltb place count (omega (arith, past)) in
-    let two = le-ltb place (count + 64) (omega (arith, past)) in
-    λ i. if first i then pieces.Head else (if one i then pieces.Events place else (if two i then pieces.Tables else pieces.Nothing))
+-- a piece is one of a head, of what events tell and of a tail
+piece_is : (d : DumpLists) (n : ℕ) → piece_text d n ≡ piece_of event_text (head_of d) (tail_of d) d.events n
+piece_is d n = of (piece_at (length d.events) n)
+  where
+    of : (p : Piece) → lines_text line_text (lines_in d p) ≡ part_text event_text (head_of d) (tail_of d) d.events p
+    of pieces.Head = refl
+    of (pieces.Events from) = told_text (take 64 (drop from d.events))
+    of pieces.Tables = refl
+    of pieces.Nothing = refl
 
--- the lines of the events before a place, and of those from there on
-two_parts : (n : ℕ) (es : List Event) → flat_map event_lines (take (64 * suc n) es) ≡ flat_map event_lines (take (64 * n) es) ++ flat_map event_lines (take 64 (drop (64 * n) es))
-two_parts n es =
-    let more : 64 * suc n ≡ 64 * n + 64 = omega arith in
-    ap (λ (k : ℕ). flat_map event_lines (take k es)) more
-    ∙ ap (λ (l : List Event). flat_map event_lines l) (take-add (64 * n) 64 es)
-    ∙ flat_map-append event_lines (take (64 * n) es) (take 64 (drop (64 * n) es))
-
--- the first piece and those of events
-first_pieces : (d : DumpLists) (n : ℕ) → 64 * n < length d.events + 64
-    → joined (piece_text d) (suc n) ≡ lines_text line_text (head_lines d.limits d.checkpoint ++ flat_map event_lines (take (64 * n) d.events))
-first_pieces d zero less = ap (λ (ls : List Line). lines_text line_text ls) (sym (append-nil (head_lines d.limits d.checkpoint)))
-first_pieces d (suc n) less =
-    let head = head_lines d.limits d.checkpoint in
-    let before = flat_map event_lines (take (64 * n) d.events) in
-    let here = flat_map event_lines (take 64 (drop (64 * n) d.events)) in
-    let fewer : 64 * n < length d.events + 64 = omega (arith, less) in
-    let within : 64 * n < length d.events = omega (arith, less) in
-    (λ i. first_pieces d n fewer i ++ lines_text line_text (lines_in d (events_piece (length d.events) n within i)))
-    ∙ sym (lines_append (head ++ before) here)
-    ∙ ap (λ (ls : List Line). lines_text line_text ls) (append_assoc head before here ∙ ap (λ (ls : List Line). head ++ ls) (sym (two_parts n d.events)))
-
--- the first piece and all events
-all_events : (d : DumpLists) (n : ℕ) → length d.events ≤ 64 * n → 64 * n < length d.events + 64
-    → joined (piece_text d) (suc n) ≡ lines_text line_text (head_lines d.limits d.checkpoint ++ flat_map event_lines d.events)
-all_events d n past less =
-    first_pieces d n less
-    ∙ ap (λ (es : List Event). lines_text line_text (head_lines d.limits d.checkpoint ++ flat_map event_lines es)) (take_all (64 * n) d.events past)
-
--- all pieces
-one_more : (l : Limits) (c : Option Checkpoint) (es : List Event) (t : TableLists) (n : ℕ) → length es + 64 ≤ 64 * suc n
-    → (length es + 64 ≤ 64 * n → joined (piece_text (dump_with l c es [] t)) (suc n) ≡ dump_text (dump_with l c es [] t))
-    → (b : Bool) → nat_lt (64 * n) (length es + 64) ≡ b
-    → joined (piece_text (dump_with l c es [] t)) (suc (suc n)) ≡ dump_text (dump_with l c es [] t)
-one_more l c es t n past at true is =
-    let d = dump_with l c es [] t in
-    let less = ltb-true (64 * n) (length es + 64) is in
-    let after : length es ≤ 64 * n = omega (arith, past) in
-    let head = head_lines l c in
-    let told = flat_map event_lines es in
-    (λ i. all_events d n after less i ++ lines_text line_text (lines_in d (tables_piece (length es) n after less i)))
-    ∙ sym (lines_append (head ++ told) (tail_lines t))
+-- and so is a dump
+pub text_is : (l : Limits) (c : Option Checkpoint) (told : List Line) (t : TableLists)
+    → lines_text line_text (head_lines l c) ++ (lines_text line_text told ++ lines_text line_text (tail_lines t))
+    ≡ lines_text line_text (lines.Version (format_of c) ∷ lines.Limits l ∷ (start_lines c ++ (told ++ table_lines t)) ++ lines.End ∷ [])
+text_is l c told t =
+    ap (λ (x : List ℕ). lines_text line_text (head_lines l c) ++ x) (sym (lines_append told (tail_lines t)))
+    ∙ sym (lines_append (head_lines l c) (told ++ tail_lines t))
     ∙ ap (λ (ls : List Line). lines_text line_text (lines.Version (format_of c) ∷ lines.Limits l ∷ ls)) (parts (start_lines c) told (table_lines t) (lines.End ∷ []))
   where
-    parts : (a b c d : List Line) → (a ++ b) ++ (c ++ d) ≡ (a ++ (b ++ c)) ++ d
+    parts : (a b c d : List Line) → a ++ (b ++ (c ++ d)) ≡ (a ++ (b ++ c)) ++ d
     parts a b c d = simp append_assoc
-one_more l c es t n past at false is =
-    let d = dump_with l c es [] t in
-    let after = ltb-false (64 * n) (length es + 64) is in
-    (λ i. at after i ++ lines_text line_text (lines_in d (no_piece (length es) n after i))) ∙ append-nil (dump_text d)
-
-all_pieces : (l : Limits) (c : Option Checkpoint) (es : List Event) (t : TableLists) (n : ℕ) → length es + 64 ≤ 64 * n
-    → joined (piece_text (dump_with l c es [] t)) (suc n) ≡ dump_text (dump_with l c es [] t)
-all_pieces l c es t zero past = absurd (omega (arith, past))
-all_pieces l c es t (suc n) past = one_more l c es t n past (all_pieces l c es t n) (nat_lt (64 * n) (length es + 64)) refl
 
 -- no line, no text
 no_line : (x : List ℕ) (rest : List ℕ) → (x ++ 10 ∷ []) ++ rest ≡ [] → ⊥
@@ -131,45 +80,35 @@ some_event t n [] rest h = cc
 some_event t n (a ∷ []) rest h = cc
 some_event t n (a ∷ b ∷ cs) rest h = cc
 
-some_events : (es : List Event) → 0 < length es → flat_map event_lines (take 64 es) ≡ [] → ⊥
-some_events [] some h = omega (arith, some)
-some_events (e ∷ es) some h = some_event e.thread e.number e.calls (flat_map event_lines (take 63 es)) h
+pub no_head : (d : DumpLists) → head_of d ≡ [] → ⊥
+no_head d h = let e : head_lines d.limits d.checkpoint ≡ [] = no_lines (head_lines d.limits d.checkpoint) h in cc
 
--- an empty piece is past the last
-empty_after : (d : DumpLists) (n : ℕ) (a b : Bool) → nat_lt (64 * n) (length d.events) ≡ a → nat_lt (64 * n) (length d.events + 64) ≡ b
-    → piece_text d (suc n) ≡ [] → length d.events + 64 ≤ 64 * n
-empty_after d n true b is_a is_b h =
-    let less = ltb-true (64 * n) (length d.events) is_a in
-    let here = subst (λ (p : Piece). lines_text line_text (lines_in d p) ≡ []) (events_piece (length d.events) n less) h in
-    let some : 0 < length (drop (64 * n) d.events) = omega (arith, less, length-drop (64 * n) d.events) in
-    absurd (some_events (drop (64 * n) d.events) some (no_lines (flat_map event_lines (take 64 (drop (64 * n) d.events))) here))
-empty_after d n false true is_a is_b h =
-    let past = ltb-false (64 * n) (length d.events) is_a in
-    let less = ltb-true (64 * n) (length d.events + 64) is_b in
-    let here = subst (λ (p : Piece). lines_text line_text (lines_in d p) ≡ []) (tables_piece (length d.events) n past less) h in
-    absurd (some_end (table_lines d.tables) lines.End (no_lines (tail_lines d.tables) here))
-empty_after d n false false is_a is_b h = ltb-false (64 * n) (length d.events + 64) is_b
+pub no_tail : (d : DumpLists) → tail_of d ≡ [] → ⊥
+no_tail d h = some_end (table_lines d.tables) lines.End (no_lines (tail_lines d.tables) h)
 
--- texts that are the pieces
-same_joined : (texts others : ℕ → List ℕ) (n : ℕ) → ((m : ℕ) → m < n → texts m ≡ others m) → joined texts n ≡ joined others n
-same_joined texts others zero same = refl
-same_joined texts others (suc n) same =
-    λ i. same_joined texts others n (λ m less. same m (omega (arith, less))) i ++ same n (omega arith) i
+pub no_event : (e : Event) (rest : List ℕ) → event_text e ++ rest ≡ [] → ⊥
+no_event e rest h = some_event e.thread e.number e.calls [] (ap (λ (ls : List Line). ls ++ []) (no_lines (event_lines e) (no_first (event_text e) rest h)))
+  where
+    no_first : (a b : List ℕ) → a ++ b ≡ [] → a ≡ []
+    no_first [] b h = refl
+    no_first (x ∷ a) b h = absurd (cc)
+
+no_events : (es : List Event) → AllByRecursion (Solid event_text) es
+no_events [] = tt
+no_events (e ∷ es) = (no_event e, no_events es)
 
 -- which piece is empty
-last_after : (d : DumpLists) (n : ℕ) → piece_text d n ≡ [] → (m : ℕ) × (n ≡ suc m) × (length d.events + 64 ≤ 64 * m)
-last_after d zero h = absurd (let e : head_lines d.limits d.checkpoint ≡ [] = no_lines (head_lines d.limits d.checkpoint) h in cc)
-last_after d (suc n) h = (n, refl, empty_after d n (nat_lt (64 * n) (length d.events)) (nat_lt (64 * n) (length d.events + 64)) refl refl h)
+last_of : (d : DumpLists) (n : ℕ) → piece_text d n ≡ [] → (m : ℕ) × (n ≡ suc m) × (length d.events + 64 ≤ 64 * m)
+last_of d n h = last_after event_text (head_of d) (tail_of d) d.events n (no_events d.events) (no_head d) (no_tail d) (sym (piece_is d n) ∙ h)
 
 -- the pieces up to an empty one are the text
 pub pieces_text : (l : Limits) (c : Option Checkpoint) (es : List Event) (texts : ℕ → List ℕ) (n : ℕ) → ArePieces l c es texts n
     → joined texts n ≡ dump_text (whole_dump l c es [])
 pieces_text l c es texts n are =
     let d = whole_dump l c es [] in
-    let last = last_after d n (sym are.last.text) in
-    same_joined texts (piece_text d) n (λ m less. (are.each m less).text)
-    ∙ ap (λ (k : ℕ). joined (piece_text d) k) last.1
-    ∙ all_pieces l c es d.tables last.0 last.2
+    pieces_all event_text (head_of d) (tail_of d) es texts n (no_events es) (no_head d) (no_tail d)
+    (λ m less. (are.each m less).text ∙ piece_is d m) (sym (piece_is d n) ∙ sym are.last.text)
+    ∙ ap (λ (x : List ℕ). head_of d ++ (x ++ tail_of d)) (sym (told_text es)) ∙ text_is l c (flat_map event_lines es) d.tables
 
 -- the values of the events before a place fit, where those of each piece do
 events_fit : (d : DumpLists) (k : ℕ) → ((m : ℕ) → m < suc k → FitsPiece d (piece_at (length d.events) m)) → (n : ℕ) → n ≤ k
@@ -178,7 +117,7 @@ events_fit d k each zero le = tt
 events_fit d k each (suc n) le =
     let before = flat_map event_lines (take (64 * n) d.events) in
     let here = flat_map event_lines (take 64 (drop (64 * n) d.events)) in
-    subst (λ (ls : List Line). AllByRecursion FitsLine ls) (sym (two_parts n d.events))
+    subst (λ (ls : List Line). AllByRecursion FitsLine ls) (sym (two_parts event_lines n d.events))
     (all_append FitsLine before here (events_fit d k each n (omega (arith, le))) (of (nat_lt (64 * n) (length d.events)) refl))
   where
     of : (b : Bool) → nat_lt (64 * n) (length d.events) ≡ b → AllByRecursion FitsLine (flat_map event_lines (take 64 (drop (64 * n) d.events)))
@@ -206,7 +145,7 @@ pub pieces_legal : (l : Limits) (c : Option Checkpoint) (es : List Event) (texts
     → IsLegalDump l c (joined texts n)
 pieces_legal l c es texts n legal are =
     let d = whole_dump l c es [] in
-    let last = last_after d n (sym are.last.text) in
+    let last = last_of d n (sym are.last.text) in
     let each : (m : ℕ) → m < suc last.0 → FitsPiece d (piece_at (length d.events) m) =
     λ m less. (are.each m (subst (λ (k : ℕ). m < k) (sym last.1) less)).fits in
     let fit = pieces_fit d last.0 last.2 each in

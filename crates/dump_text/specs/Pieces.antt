@@ -32,6 +32,13 @@ piece_at count number =
     else if nat_lt (64 * (number - 1)) (count + 64) then pieces.Tables
     else pieces.Nothing
 
+-- the text of a piece of a head, of what items tell, up to 64 in a piece, and of a tail
+abbrev pub part_text : {X : Type 0} → (X → List ℕ) → List ℕ → List ℕ → List X → Piece → List ℕ
+part_text text head tail items pieces.Head = head
+part_text text head tail items (pieces.Events from) = flat_map text (take 64 (drop from items))
+part_text text head tail items pieces.Tables = tail
+part_text text head tail items pieces.Nothing = []
+
 -- its lines
 abbrev pub lines_in : DumpLists → Piece → List Line
 lines_in d pieces.Head = head_lines d.limits d.checkpoint

@@ -46,11 +46,13 @@ pub use errors::DumpError;
 pub use laws::{legal_boot_is_dump, legal_is_dump};
 pub use migrating::{MigrateFault, boot_checkpoint, boots_can_begin, migrate};
 pub use parting::part_reads;
-pub use pieces::{Piece, events_text, head_text, piece_at, pieces_are_the_dump, tables_text};
+pub use pieces::{
+    Piece, events_text, head_text, piece_at, pieces_are_the_dump, put_read_line, tables_text,
+};
 pub use read_replies::{
     LabelReply, ListReply, OwnReply, PagesReply, ParentReply, QuotaReply, ReadReply, raw_reply,
 };
 pub use reads::Read;
 pub use tables::{Dump, DumpTables, PlacedRead, Stored};
 pub use whole::{dump_of, dump_with};
-pub use writing::write_dump;
+pub use writing::{put_event, write_dump};

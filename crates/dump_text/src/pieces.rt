@@ -1,5 +1,5 @@
 //! The text of a dump in pieces, so that it need not stand whole in memory.
-ghost use Rattle.std.specs.Prelude.{◌≡◌, ◌<◌, ℕ, [], List, Option, Some, IfOk, OnOk};
+ghost use Rattle.std.specs.Prelude.{◌≡◌, ◌<◌, ◌++◌, ◌∷◌, ℕ, [], List, Option, Some, IfOk, OnOk};
 ghost use Rattle.std.specs.List.{AllByRecursion, flat_map};
 ghost use Rattle.base.specs.declared.ranges.Limits.{Limits as Booted};
 ghost use Rattle.call_text.specs.Text.{lines_text};
@@ -11,11 +11,13 @@ ghost use Rattle.dump_text.specs.Fits.{FitsLine, FitTables};
 ghost use Rattle.dump_text.specs.Line.{line_text};
 ghost use Rattle.dump_text.specs.Pieces.{AreLegal, ArePieces, head_lines, joined, piece_at, tail_lines};
 ghost use Rattle.dump_text.specs.Whole.{placed, whole_dump, IsLegalDump};
+ghost use Rattle.dump_text.specs.declared.lines.Line.TheVariants as lines;
 ghost use Rattle.dump_text.specs.declared.pieces.Piece.TheVariants as pieces;
 
 use crate::checkpoint_writing::put_checkpoint;
 use crate::line_writing::put_line;
 use crate::lines::{Format, Line};
+use crate::reads::Read;
 use crate::whole::placed_tables;
 use crate::writing::{put_history, put_tables};
 use base::{Limits, NoMemory};
@@ -87,6 +89,15 @@ pub fn events_text(alloc: Global, events: &[Event]) -> Result<Vec<u8>, NoMemory>
     let mut out = Vec::new(alloc);
     put_history(&mut out, events, &[])?;
     Ok(out)
+}
+
+/// Adds the line of a read.
+pub fn put_read_line(out: &mut Vec<u8>, read: &Read) -> Result<(), NoMemory>
+    ensures text { OnOk result (out.new.items
+        ≡ out.old.items ++ lines_text line_text (lines.Read read.now ∷ [])) }
+    ensures fits { OnOk result (FitsLine (lines.Read read.now)) }
+{
+    put_line(out, &Line::Read(*read))
 }
 
 /// The text of the lines after the events: the tables of a kernel, each label with its place, and the end.

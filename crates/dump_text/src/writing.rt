@@ -20,7 +20,7 @@ use kernel_rules::histories::Event;
 use std::alloc::Global;
 
 /// Adds the lines of the event.
-fn put_event(out: &mut Vec<u8>, event: &Event) -> Result<(), NoMemory>
+pub fn put_event(out: &mut Vec<u8>, event: &Event) -> Result<(), NoMemory>
     ensures text { OnOk result (out.new.items
         ≡ out.old.items ++ lines_text line_text (event_lines event.now)) }
     ensures fits { OnOk result (AllByRecursion FitsLine (event_lines event.now)) }

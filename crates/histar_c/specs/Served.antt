@@ -1,17 +1,17 @@
 -- What the exports do to the kernel that C's memory holds, and what C is told.
-use Rattle.std.specs.Prelude.{◌≡◌, ◌⊎◌, ◌==◌, ℕ, List, [], take, drop, true, Option, Some, None, option_map, Result, Ok, Err}
+use Rattle.std.specs.Prelude.{◌≡◌, ◌⊎◌, ◌==◌, ◌&&◌, ℕ, Bool, List, [], take, drop, true, Option, Some, None, option_map, Result, Ok, Err}
 use Rattle.std.specs.Bool.{MatchBool}
 use Rattle.base.specs.Limits.{in_range}
 use Rattle.base.specs.declared.ranges.Limits.{Limits}
-use Rattle.kernel_rules.specs.Events.{Event}
 use Rattle.kernel_rules.specs.declared.replies.Reply.{Reply}
 use Rattle.kernel_rules.specs.Runs.{booted}
 use Rattle.kernel_rules.specs.Step.{answer, query_answer}
 use Rattle.kernel_rules.specs.declared.calls.Call.{Call}
+use Rattle.kernel_rules.specs.declared.calls.Query.{Query}
 use Rattle.kernel_rules.specs.declared.replies.Reply.TheVariants as replies
 use Rattle.dump_text.specs.Boot.{boot_checkpoint}
-use Rattle.dump_text.specs.Pieces.{AreLegal, IsPiece}
-use Rattle.logged_kernel.specs.Logged.{Logged, IsCut, IsMade, IsWritten, begun, is_full}
+use Rattle.logged_kernel.specs.Logged.{Logged, IsCut, IsMade, IsPiece, IsRight, IsWritten, begun, is_full, keeps_reads, with_query}
+use Rattle.logged_kernel.specs.declared.entries.Entry.{Entry}
 use Rattle.call_records.specs.Asked.{Asked, Write, Read, Look, Log, Nothing, asked}
 use Rattle.call_records.specs.Logs.{TellsLength}
 use Rattle.call_records.specs.declared.logs.LogRequest.TheVariants as logs
@@ -86,28 +86,40 @@ IsMadeOrLacks call thread before after number old told =
     × IsTold (answer (kernel_state before.logged.kernel) thread call) number told)
     ⊎ ((before.logged.log ≡ None → ⊥) × IsRefused 40 before after number old told)
 
--- the same, where the log has not as many events as it may have; where it has, the number is 49
+-- the same, where the log has not as much as it may have; where it has, the number is 49
 abbrev pub IsCalled : Call → ℕ → Kept → Kept → ℕ → Answer → Answer → Type 0
 IsCalled call thread before after number old told =
     MatchBool (is_full before.logged) (IsRefused 49 before after number old told)
     (IsMadeOrLacks call thread before after number old told)
 
--- the log, of so many events at most, begins; or a call was made before, and the number is 45
-abbrev pub IsBegun : ℕ → Kept → Kept → ℕ → Answer → Answer → Type 0
-IsBegun most before after number old told =
+-- a query is asked and answered by the rules, and where reads are kept its line is; or they are, and there is no memory for it, and the
+-- number is 40
+abbrev pub IsAskedOrLacks : Query → ℕ → Kept → Kept → ℕ → Answer → Answer → Type 0
+IsAskedOrLacks query thread before after number old told =
+    ((after.logged ≡ with_query before.logged thread query) × (after.text.items ≡ before.text.items)
+    × IsTold (query_answer (kernel_state before.logged.kernel) thread query) number told)
+    ⊎ ((keeps_reads before.logged ≡ true) × IsRefused 40 before after number old told)
+
+-- the same, where reads are not kept or the log has not as much as it may have; else the number is 49
+abbrev pub IsAsked : Query → ℕ → Kept → Kept → ℕ → Answer → Answer → Type 0
+IsAsked query thread before after number old told =
+    MatchBool (before.logged.reads && is_full before.logged) (IsRefused 49 before after number old told)
+    (IsAskedOrLacks query thread before after number old told)
+
+-- the log, of so much at most and with reads or without, begins; or a call was made before, and the number is 45
+abbrev pub IsBegun : ℕ → Bool → Kept → Kept → ℕ → Answer → Answer → Type 0
+IsBegun most reads before after number old told =
     MatchBool before.logged.is_new
-    ((after.logged ≡ begun most before.logged) × (after.text.items ≡ before.text.items)
+    ((after.logged ≡ begun most reads before.logged) × (after.text.items ≡ before.text.items)
     × IsTold replies.Done number told)
     (IsRefused 45 before after number old told)
 
--- a piece of the dump of the events that are kept is made, which is legal, and its length is told; or there is no memory for it, and the number is
--- 51. Where no events are kept, the number is 45
-abbrev pub IsDumpedIn : Option (List Event) → ℕ → Kept → Kept → ℕ → Answer → Answer → Type 0
+-- a piece of the dump of what is kept is made, which is right, and its length is told; or there is no memory for it, and the number is
+-- 51. Where no log is kept, the number is 45
+abbrev pub IsDumpedIn : Option (List Entry) → ℕ → Kept → Kept → ℕ → Answer → Answer → Type 0
 IsDumpedIn None piece before after number old told = IsRefused 45 before after number old told
-IsDumpedIn (Some events) piece before after number old told =
-    ((after.logged ≡ before.logged)
-    × IsPiece before.logged.limits (Some before.logged.origin) events piece after.text.items
-    × AreLegal before.logged.limits (Some before.logged.origin) events
+IsDumpedIn (Some kept) piece before after number old told =
+    ((after.logged ≡ before.logged) × IsPiece before.logged kept piece after.text.items × IsRight before.logged kept
     × (number ≡ 0) × TellsLength after.text.items told)
     ⊎ IsRefused 51 before after number old told
 
@@ -128,10 +140,11 @@ IsSaved piece before after number old told =
     MatchBool (piece == 0) (IsSavedWhole before after number old told)
     ((after.logged ≡ before.logged) × (after.text.items ≡ []) × (number ≡ 0) × TellsLength [] told)
 
--- the log begins anew at the kernel as it stands, of so many events at most; or there is no memory for that, and the number is 40
-abbrev pub IsLogCut : ℕ → Kept → Kept → ℕ → Answer → Answer → Type 0
-IsLogCut most before after number old told =
-    (IsCut most before.logged after.logged × (after.text.items ≡ before.text.items)
+-- the log begins anew at the kernel as it stands, of so much at most and with reads or without; or there is no memory for that, and the
+-- number is 40
+abbrev pub IsLogCut : ℕ → Bool → Kept → Kept → ℕ → Answer → Answer → Type 0
+IsLogCut most reads before after number old told =
+    (IsCut most reads before.logged after.logged × (after.text.items ≡ before.text.items)
     × IsTold replies.Done number told)
     ⊎ IsRefused 40 before after number old told
 
@@ -139,17 +152,15 @@ IsLogCut most before after number old told =
 -- and the number is 45
 abbrev pub IsDone : Asked → ℕ → Kept → Kept → ℕ → Answer → Answer → Type 0
 IsDone (Write call) thread before after number old told = IsCalled call thread before after number old told
-IsDone (Read query) thread before after number old told =
-    IsSame before after
-    × IsTold (query_answer (kernel_state before.logged.kernel) thread query) number told
+IsDone (Read query) thread before after number old told = IsAsked query thread before after number old told
 IsDone (Look lookup) thread before after number old told =
     IsSame before after × IsFoundTold before.logged.kernel lookup number told
-IsDone (Log (logs.Begin most)) thread before after number old told = IsBegun most before after number old told
+IsDone (Log (logs.Begin most reads)) thread before after number old told = IsBegun most reads before after number old told
 IsDone (Log (logs.Dump piece)) thread before after number old told = IsDumped piece before after number old told
 IsDone (Log (logs.Text from)) thread before after number old told =
     IsSame before after × IsTold (replies.Bytes (take 64 (drop from before.text.items))) number told
 IsDone (Log (logs.Checkpoint piece)) thread before after number old told = IsSaved piece before after number old told
-IsDone (Log (logs.Cut most)) thread before after number old told = IsLogCut most before after number old told
+IsDone (Log (logs.Cut most reads)) thread before after number old told = IsLogCut most reads before after number old told
 IsDone Nothing thread before after number old told = IsRefused 45 before after number old told
 
 -- the same, where a kernel may be held; where none is, nothing changes and the number is why

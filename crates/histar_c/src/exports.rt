@@ -45,7 +45,7 @@ pub unsafe extern "C" fn histar_boot_at(alloc: Global, text: &[u8], at: *mut u8)
 }
 
 /// Does what the record asks for, and gives the number of the refusal: 0 for none, 45 where the record asks for nothing.
-/// Where a log is kept, 49 is that it has as many events as it may have, 40 want of memory for a call's event, and 51 for a
+/// Where a log is kept, 49 is that it has as much as it may have, 40 want of memory for a call's event or a read, and 51 for a
 /// dump's text; nothing is done then. Where no kernel is held, it gives 30 or 31, and nothing changes.
 #[unsafe(no_mangle)]
 pub unsafe extern "C" fn histar_call(at: *mut u8, request: &Request, answer: &mut Answer) -> u32

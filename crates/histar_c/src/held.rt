@@ -3,7 +3,7 @@ ghost use Rattle.std.specs.Prelude.{◌≡◌, Some, None};
 ghost use Rattle.call_records.specs.Asked.{asked, asked_by};
 ghost use Rattle.call_records.specs.Logs.{log_request_of};
 ghost use Rattle.call_records.specs.Lookups.{lookup_of};
-ghost use Rattle.histar_c.specs.Served.{IsBoot, IsCalled, IsDone, IsFoundTold, IsKept, IsSame, IsServed};
+ghost use Rattle.histar_c.specs.Served.{IsAsked, IsBoot, IsCalled, IsDone, IsFoundTold, IsKept, IsSame, IsServed};
 ghost use Rattle.histar_c.specs.Served.{held_kernel, kernel_in, limits_of};
 
 use crate::logs::answer_log;
@@ -13,7 +13,7 @@ use call_records::{
     Answer, Lookup, Request, call_into, level_of, log_request_of, lookup_of, query_of, tell,
     tell_found,
 };
-use kernel_rules::{Call, Reply};
+use kernel_rules::{Call, Query, Reply};
 use logged_kernel::{LoggedKernel, NotKept};
 use std::alloc::Global;
 use syscall_core::BootRefusal;
@@ -105,7 +105,7 @@ fn tell_look_up(kept: &mut Kept, lookup: &Lookup, answer: &mut Answer)
     tell_found(&found, answer, &mut kept.meter);
 }
 
-/// Makes the call that stands in `kept`, and gives the number of the refusal: 0 for none, 49 where the log has as many events as
+/// Makes the call that stands in `kept`, and gives the number of the refusal: 0 for none, 49 where the log has as much as
 /// it may have, 40 where there is no memory for the call's event.
 fn make(kept: &mut Kept, thread: ObjectId, answer: &mut Answer) -> u32
     ensures { IsCalled kept.old.call thread kept.old kept.new result answer.old answer.new }
@@ -114,6 +114,21 @@ fn make(kept: &mut Kept, thread: ObjectId, answer: &mut Answer) -> u32
         .logged
         .step_into(thread, &kept.call, &mut kept.reply, &mut kept.meter);
     match made {
+        Ok(()) => tell(&kept.reply, answer, &mut kept.meter),
+        Err(NotKept::NoMemory) => 40,
+        Err(NotKept::LogFull) => 49,
+    }
+}
+
+/// Asks a query, and gives the number of the refusal: 0 for none. Where reads are kept, 49 is that the log has as much as it may
+/// have, 40 that there is no memory for the read.
+fn ask(kept: &mut Kept, thread: ObjectId, query: &Query, answer: &mut Answer) -> u32
+    ensures { IsAsked query.now thread kept.old kept.new result answer.old answer.new }
+{
+    let asked = kept
+        .logged
+        .ask_into(thread, query, &mut kept.reply, &mut kept.meter);
+    match asked {
         Ok(()) => tell(&kept.reply, answer, &mut kept.meter),
         Err(NotKept::NoMemory) => 40,
         Err(NotKept::LogFull) => 49,
@@ -146,9 +161,7 @@ fn answer_kept(kept: &mut Kept, request: &Request, answer: &mut Answer) -> u32
         return make(kept, thread, answer);
     }
     if let Some(query) = query_of(request) {
-        let kernel = kept.logged.kernel();
-        kernel.ask_into(thread, &query, &mut kept.reply, &mut kept.meter);
-        return tell(&kept.reply, answer, &mut kept.meter);
+        return ask(kept, thread, &query, answer);
     }
     answer_other(kept, request, answer)
 }

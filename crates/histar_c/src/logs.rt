@@ -8,11 +8,12 @@ use crate::held::Kept;
 use call_records::{Answer, LogRequest, tell, tell_length, tell_text};
 use kernel_rules::Reply;
 
-/// Begins the log, of so many events at most, and gives 0; 45 where a call was made already, and nothing changes.
-fn begin(kept: &mut Kept, most: u64, answer: &mut Answer) -> u32
-    ensures { IsBegun most kept.old kept.new result answer.old answer.new }
+/// Begins the log, of so much at most and with reads where they are wanted, and gives 0; 45 where a call was made already, and
+/// nothing changes.
+fn begin(kept: &mut Kept, most: u64, reads: bool, answer: &mut Answer) -> u32
+    ensures { IsBegun most reads kept.old kept.new result answer.old answer.new }
 {
-    if !kept.logged.begin_log(most) {
+    if !kept.logged.begin_log(most, reads) {
         return 45;
     }
     tell(&Reply::Done, answer, &mut kept.meter)
@@ -53,11 +54,12 @@ fn make_checkpoint(kept: &mut Kept, piece: u64, answer: &mut Answer) -> u32
     }
 }
 
-/// Begins the log anew, of so many events at most, and gives 0; 40 for want of memory, and nothing changes.
-fn cut(kept: &mut Kept, most: u64, answer: &mut Answer) -> u32
-    ensures { IsLogCut most kept.old kept.new result answer.old answer.new }
+/// Begins the log anew, of so much at most and with reads where they are wanted, and gives 0; 40 for want of memory, and nothing
+/// changes.
+fn cut(kept: &mut Kept, most: u64, reads: bool, answer: &mut Answer) -> u32
+    ensures { IsLogCut most reads kept.old kept.new result answer.old answer.new }
 {
-    match kept.logged.cut_log(most) {
+    match kept.logged.cut_log(most, reads) {
         Ok(()) => tell(&Reply::Done, answer, &mut kept.meter),
         Err(_) => 40,
     }
@@ -68,13 +70,13 @@ pub(crate) fn answer_log(kept: &mut Kept, request: LogRequest, answer: &mut Answ
     ensures { (thread : ℕ) → IsDone (Log request) thread kept.old kept.new result answer.old answer.new }
 {
     match request {
-        LogRequest::Begin { most } => begin(kept, most, answer),
+        LogRequest::Begin { most, reads } => begin(kept, most, reads, answer),
         LogRequest::Dump { piece } => make_piece(kept, piece, answer),
         LogRequest::Text { from } => {
             tell_text(kept.text.as_slice(), from, answer);
             0
         }
         LogRequest::Checkpoint { piece } => make_checkpoint(kept, piece, answer),
-        LogRequest::Cut { most } => cut(kept, most, answer),
+        LogRequest::Cut { most, reads } => cut(kept, most, reads, answer),
     }
 }

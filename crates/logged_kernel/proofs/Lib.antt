@@ -1,2 +1,4 @@
+mod EntryLaws
 mod NumberLaws
 mod LogLaws
+mod PieceLaws

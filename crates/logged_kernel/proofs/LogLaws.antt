@@ -1,6 +1,5 @@
 -- A legal list of events with that of one call more.
 use Rattle.std.proofs.Common.{◌≡◌, ℕ, ◌+◌, ◌-◌, ◌<◌, ◌≤◌, ◌==◌, ◌&&◌, nat_lt, nat_le, true, false, if◌then◌else◌, Bool, Option, IfSome, Result, Ok, Err, IfOk, length, take, drop, get_or, List, [], ◌∷◌, ◌++◌, Some, None, refl, sym, ap, ◌∙◌, subst, arith}
-use Rattle.std.proofs.lemmas.List.{take-append-drop, drop_more}
 use Rattle.std.proofs.lemmas.Bool.Decides.{nat_tests}
 use Rattle.base.specs.declared.ranges.Limits.{Limits}
 use Rattle.checkpoints.proofs.LimitsLaws.{next_limits}
@@ -23,7 +22,20 @@ use Rattle.syscall_core.specs.Kernel.{kernel_state}
 use Rattle.syscall_core.specs.Restored.{restore_refusal}
 use Rattle.syscall_core.specs.declared.kernel.Kernel.{Kernel}
 use Rattle.std.specs.Option.{option_map}
-use Rattle.logged_kernel.specs.Logged.{Logged, AreNumbered, IsMade, IsSound, Writes, event_after, with_call}
+use Rattle.kernel_rules.specs.Step.{query_answer}
+use Rattle.kernel_rules.specs.declared.calls.Query.{Query}
+use Rattle.std.proofs.lemmas.List.{take_all}
+use Rattle.dump_text.specs.Fits.{FitsLine}
+use Rattle.dump_text.specs.Whole.{raw_reply, AreRead, IsAnsweredRightly}
+use Rattle.dump_text.specs.declared.lines.Line.TheVariants as lines
+use Rattle.dump_text.specs.declared.reads.Read.{Read}
+use Rattle.dump_text.specs.declared.tables.PlacedRead.{PlacedRead}
+use Rattle.logged_kernel.proofs.EntryLaws.{answers_event, events_among, events_append, tell_among, told_event, told_within}
+use Rattle.logged_kernel.specs.Entries.{events_of}
+use Rattle.logged_kernel.specs.ReadLines.{line_of, read_of}
+use Rattle.logged_kernel.specs.declared.entries.Entry.{Entry}
+use Rattle.logged_kernel.specs.declared.entries.Entry.TheVariants as entries
+use Rattle.logged_kernel.specs.Logged.{Logged, AreNumbered, IsMade, IsSound, Leads, Writes, event_after, with_call, with_read}
 use Rattle.logged_kernel.specs.Numbers.{AreCounted}
 
 -- the events of a legal list are numbered
@@ -33,47 +45,66 @@ pub numbered : (start : Start) (events : List Event) → IsLegalFrom start event
 numbered start events legal before after e is = (legal before after e is).number
 
 -- one call more is legal
-pub legal_more : (start : Start) (events : List Event) (thread : ℕ) (call : Call) → IsLegalFrom start events
-    → IsLegalFrom start (with_call start thread call events)
+legal_more : (start : Start) (events : List Event) (thread : ℕ) (call : Call) → IsLegalFrom start events
+    → IsLegalFrom start (events ++ event_after start events thread call ∷ [])
 legal_more start events thread call legal =
     legal-snoc_from start events (event_after start events thread call) legal
     (record { size = refl; number = refl; replies = refl })
 
--- and leads to the next state
-pub state_more : (start : Start) (events : List Event) (thread : ℕ) (call : Call)
-    → state_from start.state (with_call start thread call events) ≡ next (state_from start.state events) thread call
-state_more start events thread call = state_from-snoc start.state events (event_after start events thread call)
+-- what is kept still leads to the state, with an event more
+pub leads_call : (start : Start) (s : State) (thread : ℕ) (call : Call) (kept : List Entry) → Leads start s kept
+    → Leads start (next s thread call) (with_call start thread call kept)
+leads_call start s thread call kept leads =
+    let events = events_of kept in
+    let event = event_after start events thread call in
+    let more : events_of (with_call start thread call kept) ≡ events ++ event ∷ [] = events_append kept (entries.Event event ∷ []) in
+    let read = leads.told.2 in
+    record {
+      legal = subst (λ (l : List Event). IsLegalFrom start l) (sym more) (legal_more start events thread call leads.legal);
+      state = ap (λ (z : State). next z thread call) leads.state ∙ sym (state_from-snoc start.state events event)
+          ∙ ap (state_from start.state) (sym more);
+      told = (
+        leads.told.0,
+        told_event 0 kept event leads.told.0 leads.told.1,
+        subst (λ (l : List Event). AreRead start l leads.told.0) (sym more) (record {
+          answers = answers_event start events event leads.told.0 (told_within 0 kept leads.told.0 leads.told.1) read.answers;
+          rising = read.rising;
+        }),
+      );
+    }
+
+-- and with a read
+pub leads_read : (start : Start) (s : State) (thread : ℕ) (query : Query) (kept : List Entry) → Leads start s kept
+    → FitsLine (lines.Read (read_of thread query (query_answer s thread query))) → Leads start s (with_read s thread query kept)
+leads_read start s thread query kept leads fits =
+    let read : Read = read_of thread query (query_answer s thread query) in
+    let events = events_of kept in
+    let placed_read : PlacedRead = record { place = length events; read = read } in
+    let same : events_of (with_read s thread query kept) ≡ events = events_among (line_of read) kept in
+    let now : state_from start.state (take (length events) events) ≡ s =
+    ap (state_from start.state) (take_all (length events) events (omega arith)) ∙ sym leads.state in
+    let right : IsAnsweredRightly start events placed_read =
+    ap (λ (z : State). raw_reply (query_answer z thread query)) (sym now) in
+    let more = tell_among (IsAnsweredRightly start events) 0 0 0 placed_read kept leads.told.0 leads.told.1 leads.told.2.rising leads.told.2.answers
+    right fits refl (λ is. omega arith) in
+    record {
+      legal = subst (λ (l : List Event). IsLegalFrom start l) (sym same) leads.legal;
+      state = leads.state ∙ ap (state_from start.state) (sym same);
+      told = (more.0, more.1, subst (λ (l : List Event). AreRead start l more.0) (sym same) (record { answers = more.3; rising = more.2 }));
+    }
 
 -- an event after which its thread has none has the last number of its thread
-pub last_number : (first : List NextNumber) (events : List Event) (i : ℕ) (d : Event) → AreCounted first events → i < length events
-    → count (get_or events i d).thread (drop (i + 1) events) ≡ 0
-    → (get_or events i d).number + 1 ≡ count (get_or events i d).thread events + number_of first (get_or events i d).thread
-last_number first events i d are less none =
-    let e = get_or events i d in
-    let split : events ≡ take i events ++ e ∷ drop (i + 1) events =
-    sym (take-append-drop i events) ∙ ap (λ l. take i events ++ l) (drop_more events i d less) in
-    let own : (e.thread == e.thread) ≡ true = grind (arith, nat_tests) in
-    let one : count e.thread (e ∷ drop (i + 1) events) ≡ 1 = ap (λ (p : Bool × ℕ). (if p.0 then 1 else 0) + p.1) (λ j. (own j, none j)) in
-    let number : e.number ≡ count e.thread (take i events) + number_of first e.thread =
-    are (take i events) (drop (i + 1) events) e split in
-    let all : count e.thread events ≡ count e.thread (take i events) + 1 =
-    ap (count e.thread) split ∙ count-append e.thread (take i events) (e ∷ drop (i + 1) events)
-    ∙ ap (λ n. count e.thread (take i events) + n) one in
+pub number_found : (first : List NextNumber) (events before after : List Event) (e : Event) (thread : ℕ) → AreCounted first events
+    → events ≡ before ++ e ∷ after → e.thread ≡ thread → count thread after ≡ 0
+    → e.number + 1 ≡ count thread events + number_of first thread
+number_found first events before after e thread are split is none =
+    let own : (e.thread == thread) ≡ true = grind (arith, nat_tests) in
+    let one : count thread (e ∷ after) ≡ 1 = ap (λ (p : Bool × ℕ). (if p.0 then 1 else 0) + p.1) (λ j. (own j, none j)) in
+    let number : e.number ≡ count thread before + number_of first thread =
+    are before after e split ∙ ap (λ t. count t before + number_of first t) is in
+    let all : count thread events ≡ count thread before + 1 =
+    ap (count thread) split ∙ count-append thread before (e ∷ after) ∙ ap (λ n. count thread before + n) one in
     omega arith
-
--- the same, as the search for it meets the event
-pub number_found : (first : List NextNumber) (events : List Event) (place thread : ℕ) (e : Event) → AreCounted first events
-    → 0 < place → place ≤ length events → e ≡ get_or events (place - 1) e → e.thread ≡ thread
-    → count thread (drop place events) ≡ 0 → e.number + 1 ≡ count thread events + number_of first thread
-number_found first events place thread e are some within is same none =
-    let i : ℕ = place - 1 in
-    let less : i < length events = omega arith in
-    let more : i + 1 ≡ place = omega arith in
-    let thread_is : (get_or events i e).thread ≡ thread = sym (ap (λ (x : Event). x.thread) is) ∙ same in
-    let at : count (get_or events i e).thread (drop (i + 1) events) ≡ 0 =
-    (λ j. count (thread_is j) (drop (more j) events)) ∙ none in
-    ap (λ (x : Event). x.number + 1) is ∙ last_number first events i e are less at
-    ∙ ap (λ t. count t events + number_of first t) thread_is
 
 called : (P : Type 0) → false ≡ true → P
 called P e = absurd (cc e)
@@ -90,33 +121,32 @@ sound_called limits origin before after was thread call sound stepped = record {
 }
 
 -- the event that is kept is that of the call
-pub items_kept : (limits : Limits) (origin : Checkpoint) (before : State) (was : Bool) (old new : List Event) (thread : ℕ) (call : Call)
+pub items_kept : (limits : Limits) (origin : Checkpoint) (before : State) (was : Bool) (old new : List Entry) (thread : ℕ) (call : Call)
     → IsSound limits origin before was (Some old)
-    → new ≡ old ++ record {
+    → new ≡ old ++ entries.Event (record {
       thread = thread;
-      number = count thread old + number_of origin.next thread;
+      number = count thread (events_of old) + number_of origin.next thread;
       calls = told call (answer before thread call) ∷ [];
-    } ∷ []
+    }) ∷ []
     → new ≡ with_call (start_of limits origin) thread call old
 items_kept limits origin before was old new thread call sound added =
-    added ∙ ap (λ (s : State). old ++ record {
+    added ∙ ap (λ (s : State). old ++ entries.Event (record {
       thread = thread;
-      number = count thread old + number_of origin.next thread;
+      number = count thread (events_of old) + number_of origin.next thread;
       calls = told call (answer s thread call) ∷ [];
-    } ∷ []) sound.log.1
+    }) ∷ []) sound.log.state
 
 -- a call is made and kept
-pub sound_kept : (limits : Limits) (origin : Checkpoint) (before after : State) (was : Bool) (old new : List Event) (thread : ℕ)
+pub sound_kept : (limits : Limits) (origin : Checkpoint) (before after : State) (was : Bool) (old new : List Entry) (thread : ℕ)
     (call : Call) → IsSound limits origin before was (Some old) → after ≡ next before thread call
-    → new ≡ old ++ record {
+    → new ≡ old ++ entries.Event (record {
       thread = thread;
-      number = count thread old + number_of origin.next thread;
+      number = count thread (events_of old) + number_of origin.next thread;
       calls = told call (answer before thread call) ∷ [];
-    } ∷ []
+    }) ∷ []
     → IsSound limits origin after false (Some new)
 sound_kept limits origin before after was old new thread call sound stepped added =
     let start : Start = start_of limits origin in
-    let state_is : before ≡ state_from start.state old = sound.log.1 in
     let items : new ≡ with_call start thread call old =
     items_kept limits origin before was old new thread call sound added in
     record {
@@ -124,12 +154,22 @@ sound_kept limits origin before after was old new thread call sound stepped adde
       range = sound.range;
       fit = sound.fit;
       new = λ e. called (after ≡ restored limits origin) e;
-      log = (
-        subst (λ (l : List Event). IsLegalFrom start l) (sym items) (legal_more start old thread call sound.log.0),
-        stepped ∙ ap (λ s. next s thread call) state_is ∙ sym (state_more start old thread call)
-            ∙ ap (state_from start.state) (sym items),
-      );
+      log = rw (items, stepped) (leads_call start before thread call old sound.log);
     }
+
+-- a query is asked and kept
+pub sound_asked : (limits : Limits) (origin : Checkpoint) (s : State) (is_new : Bool) (old new : List Entry) (thread : ℕ) (query : Query)
+    → IsSound limits origin s is_new (Some old)
+    → FitsLine (lines.Read (read_of thread query (query_answer s thread query)))
+    → new ≡ with_read s thread query old
+    → IsSound limits origin s is_new (Some new)
+sound_asked limits origin s is_new old new thread query sound fits added = record {
+  same = sound.same;
+  range = sound.range;
+  fit = sound.fit;
+  new = sound.new;
+  log = rw added (leads_read (start_of limits origin) s thread query old sound.log fits);
+}
 
 -- the numbers of a checkpoint that can be restored are from 2
 pub first_later : (limits : Limits) (c : Checkpoint) → is_restorable limits c ≡ true
@@ -152,7 +192,7 @@ all_three (Err e) P Q R S f p q r = tt
 -- a call is made
 pub made_called : (k : Logged) (kernel : Kernel) (thread : ℕ) (call : Call) → k.log ≡ None
     → kernel_state kernel ≡ next (kernel_state k.kernel) thread call
-    → IsMade k (record { kernel = kernel; limits = k.limits; origin = k.origin; is_new = false; log = None; most = k.most }) thread call
+    → IsMade k (record { kernel = kernel; limits = k.limits; origin = k.origin; is_new = false; log = None; most = k.most; reads = k.reads }) thread call
 made_called k kernel thread call none stepped = record {
   state = stepped;
   limits = refl;
@@ -160,12 +200,13 @@ made_called k kernel thread call none stepped = record {
   called = refl;
   log = sym (ap (option_map (with_call (start_of k.limits k.origin) thread call)) none);
   most = refl;
+  reads = refl;
 }
 
-pub made_kept : (k : Logged) (kernel : Kernel) (thread : ℕ) (call : Call) (old new : List Event) → k.log ≡ Some old
+pub made_kept : (k : Logged) (kernel : Kernel) (thread : ℕ) (call : Call) (old new : List Entry) → k.log ≡ Some old
     → kernel_state kernel ≡ next (kernel_state k.kernel) thread call
     → new ≡ with_call (start_of k.limits k.origin) thread call old
-    → IsMade k (record { kernel = kernel; limits = k.limits; origin = k.origin; is_new = false; log = Some new; most = k.most }) thread call
+    → IsMade k (record { kernel = kernel; limits = k.limits; origin = k.origin; is_new = false; log = Some new; most = k.most; reads = k.reads }) thread call
 made_kept k kernel thread call old new some stepped items = record {
   state = stepped;
   limits = refl;
@@ -173,6 +214,7 @@ made_kept k kernel thread call old new some stepped items = record {
   called = refl;
   log = ap Some items ∙ sym (ap (option_map (with_call (start_of k.limits k.origin) thread call)) some);
   most = refl;
+  reads = refl;
 }
 
 -- a checkpoint of the kernel as it stands

@@ -1,2 +1,4 @@
 pub mod Numbers
+pub mod ReadLines
+pub mod Entries
 pub mod Logged

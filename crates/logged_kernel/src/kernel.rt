@@ -1,39 +1,47 @@
 //! A kernel with its log.
-ghost use Rattle.std.specs.Prelude.{◌≡◌, ◌≢◌, ◌↔◌, false, true, IfErr, IfOk, OnOk, OnErr, IsErrOf, None, Some, option_map};
+ghost use Rattle.std.specs.Prelude.{◌≡◌, ◌≢◌, ◌↔◌, ◌&&◌, false, true, IfErr, IfOk, OnOk, OnErr, IsErrOf, None, Some, option_map};
 ghost use Rattle.base.specs.Limits.{in_range};
 ghost use Rattle.checkpoints.specs.Restored.{restored};
 ghost use Rattle.kernel_rules.specs.Runs.{booted};
-ghost use Rattle.kernel_rules.specs.Step.{answer};
+ghost use Rattle.kernel_rules.specs.Step.{answer, query_answer};
 ghost use Rattle.dump_text.specs.Boot.{boot_checkpoint};
 ghost use Rattle.syscall_core.specs.Kernel.{kernel_state};
 ghost use Rattle.syscall_core.specs.Restored.{AreNext, restore_refusal};
-ghost use Rattle.logged_kernel.specs.Logged.{AreNumbered, IsCut, IsMade, IsPieceOf, IsWritten, Writes, begun, is_full};
+ghost use Rattle.logged_kernel.specs.Logged.{AreNumbered, IsCut, IsMade, IsPieceOf, IsWritten, Writes, begun, is_full, keeps_reads, with_query};
 
-use crate::logging::{EventLog, checkpoint_text_of, make_kept, piece_of};
+use crate::logging::{EventLog, checkpoint_text_of, keep_read, make_kept, piece_of};
 use crate::numbers::next_numbers;
 use base::{Limits, Meter, NoMemory, ObjectId};
 use checkpoints::{Checkpoint, NextNumber};
 use dump_text::{boot_checkpoint, boots_can_begin};
-use kernel_rules::{Call, Reply};
+use kernel_rules::{Call, Query, Reply};
 use std::alloc::Global;
 use std::marker::Model;
 use syscall_core::{BootRefusal, Kernel, RestoreError};
 use thiserror::Error;
 
-/// Why a call was not made: the log has no room for its event.
+/// Why a call was not made: the log has no room for it.
 #[derive(Clone, Copy, PartialEq, Eq, Debug, Error)]
 pub enum NotKept {
     /// There is no memory for it, or the thread has no next number.
     #[error("out of memory")]
     NoMemory,
-    /// The log has as many events as it may have.
+    /// The log has as much as it may have.
     #[error("log full")]
     LogFull,
 }
 
-/// A kernel, and the events of its write calls where they are kept. A contract sees the kernel, its limits, the checkpoint at
-/// which the events begin, whether no write call was made since, the events, and how many there may be. These are legal from
-/// there, and the kernel is in the state that they lead to.
+impl From<NoMemory> for NotKept {
+    fn from(_none: NoMemory) -> NotKept
+        ensures { result ≡ NotKept.NoMemory }
+    {
+        NotKept::NoMemory
+    }
+}
+
+/// A kernel, and the log of its calls where one is kept. A contract sees the kernel, its limits, the checkpoint at which the
+/// log begins, whether no write call was made since, what is kept, how much there may be, and whether reads are kept. The
+/// events are legal from there, the kernel is in the state that they lead to, and each read has the rules' reply at its place.
 #[derive(Drop)]
 pub struct LoggedKernel {
     kernel: Kernel,
@@ -43,11 +51,12 @@ pub struct LoggedKernel {
     is_new: bool,
     log: Option<EventLog>,
     most: u64,
+    reads: bool,
 }
 
 impl Model for LoggedKernel {
     ghost use Rattle.syscall_core.specs.Kernel.{kernel_state};
-    ghost use Rattle.logged_kernel.specs.Logged.{Logged, IsSound, events_in};
+    ghost use Rattle.logged_kernel.specs.Logged.{Logged, IsSound, entries_in};
 
     ghost Value = { Logged };
 
@@ -56,11 +65,12 @@ impl Model for LoggedKernel {
       limits = k.limits;
       origin = k.origin;
       is_new = k.is_new;
-      log = events_in k.log;
+      log = entries_in k.log;
       most = k.most;
+      reads = k.reads;
     } };
 
-    ghost invariant = { λ k. IsSound k.limits k.origin (kernel_state k.kernel) k.is_new (events_in k.log) };
+    ghost invariant = { λ k. IsSound k.limits k.origin (kernel_state k.kernel) k.is_new (entries_in k.log) };
 }
 
 impl LoggedKernel {
@@ -86,6 +96,7 @@ impl LoggedKernel {
             is_new: true,
             log: None,
             most: u64::MAX,
+            reads: false,
         })
     }
 
@@ -113,6 +124,7 @@ impl LoggedKernel {
             is_new: true,
             log: None,
             most: u64::MAX,
+            reads: false,
         })
     }
 
@@ -123,34 +135,35 @@ impl LoggedKernel {
         &self.kernel
     }
 
-    /// Begins the log, of so many events at most: each write call from here on is kept. Tells whether it began, which it does
-    /// where no write call was made since the boot or the checkpoint. Else nothing changes.
-    pub fn begin_log(&mut self, most: u64) -> bool
+    /// Begins the log, of so much at most: each write call from here on is kept, and each read where reads are wanted. Tells
+    /// whether it began, which it does where no write call was made since the boot or the checkpoint. Else nothing changes.
+    pub fn begin_log(&mut self, most: u64, reads: bool) -> bool
         ensures began { result ≡ self.old.is_new }
-        ensures log { self.new ≡ begun most self.old }
+        ensures log { self.new ≡ begun most reads self.old }
     {
         if !self.is_new {
             return false;
         }
         self.log = Some(EventLog {
             alloc: self.alloc,
-            events: Vec::new(self.alloc),
+            entries: Vec::new(self.alloc),
         });
         self.most = most;
+        self.reads = reads;
         true
     }
 
-    // Whether the log has as many events as it may have.
-    fn is_full(&self) -> bool
-        ensures { result ≡ is_full self.now }
+    // The error is that the log has as much as it may have.
+    fn has_room(&self) -> Result<(), NotKept>
+        ensures full { result ≡ (if is_full self.now then Err NotKept.LogFull else Ok tt) }
     {
         match &self.log {
-            None => false,
-            Some(log) => self.most <= log.events.len() as u64,
+            Some(log) if self.most <= log.entries.len() as u64 => Err(NotKept::LogFull),
+            _ => Ok(()),
         }
     }
 
-    // Makes a call of a thread, whose event is the last where a log is kept, however many it has. The error is want of memory
+    // Makes a call of a thread, whose event is the last where a log is kept, however much it has. The error is want of memory
     // for the event, or that the thread has no next number.
     fn make(
         &mut self,
@@ -182,7 +195,7 @@ impl LoggedKernel {
     }
 
     /// Makes a call of a thread. The reply becomes the answer. Where a log is kept, the call with its answer is its last
-    /// event. It is refused exactly where the log has as many events as it may have, and for want of memory for that event,
+    /// event. It is refused exactly where the log has as much as it may have, and for want of memory for that event,
     /// or where the thread has no next number; that changes nothing in the kernel and the log. Where no log is kept, no
     /// memory is taken, and there is no error.
     pub fn step_into(
@@ -199,17 +212,60 @@ impl LoggedKernel {
         ensures full { IsErrOf result NotKept.LogFull ↔ (is_full self.old ≡ true) }
         ensures sure { self.old.log ≡ None → OnErr result ⊥ }
     {
-        if self.is_full() {
-            return Err(NotKept::LogFull);
-        }
-        match self.make(thread, call, reply, meter) {
-            Ok(()) => Ok(()),
-            Err(_) => Err(NotKept::NoMemory),
+        self.has_room()?;
+        self.make(thread, call, reply, meter)?;
+        Ok(())
+    }
+
+    // Asks a query of a thread, and keeps it where a log is, however much that has. The error is want of memory for it.
+    fn ask(
+        &mut self,
+        thread: ObjectId,
+        query: &Query,
+        reply: &mut Reply,
+        meter: &mut Meter,
+    ) -> Result<(), NoMemory>
+        requires { self.old.reads ≡ true }
+        ensures reply { reply.new ≡ query_answer (kernel_state self.old.kernel) thread query.now }
+        ensures log { OnOk result (self.new ≡ with_query self.old thread query.now) }
+        ensures kept { OnErr result (self.new ≡ self.old) }
+        ensures sure { self.old.log ≡ None → OnErr result ⊥ }
+    {
+        self.kernel.ask_into(thread, query, reply, meter);
+        match &mut self.log {
+            None => Ok(()),
+            Some(log) => keep_read(log, thread, query, reply, meter),
         }
     }
 
+    /// Asks a query of a thread. The reply becomes the answer. Where reads are kept, its line stands in the log, before those
+    /// of greater threads at the same place. It is refused exactly where such a log has as much as it may have, and for want of
+    /// memory for that line; that changes nothing in the kernel and the log. Where no reads are kept, there is no error.
+    pub fn ask_into(
+        &mut self,
+        thread: ObjectId,
+        query: &Query,
+        reply: &mut Reply,
+        meter: &mut Meter,
+    ) -> Result<(), NotKept>
+        ensures reply { OnOk result
+            (reply.new ≡ query_answer (kernel_state self.old.kernel) thread query.now) }
+        ensures log { OnOk result (self.new ≡ with_query self.old thread query.now) }
+        ensures kept { OnErr result (self.new ≡ self.old) }
+        ensures full { IsErrOf result NotKept.LogFull ↔ (self.old.reads && is_full self.old ≡ true) }
+        ensures sure { keeps_reads self.old ≡ false → OnErr result ⊥ }
+    {
+        if !self.reads {
+            self.kernel.ask_into(thread, query, reply, meter);
+            return Ok(());
+        }
+        self.has_room()?;
+        self.ask(thread, query, reply, meter)?;
+        Ok(())
+    }
+
     /// A piece of the text of the log's dump, by its number; none where no log is kept. Number 0 has what stands before the
-    /// events, each next one up to 64 events, and the last one the tables; past it a piece is empty. One after another they
+    /// events, each next one up to 64 events and reads, and the last one the tables; past it a piece is empty. One after another they
     /// are the dump of events that are legal from the checkpoint at which they begin, so an audit finds it clean. The error
     /// is want of memory for the piece of a log that is kept.
     pub fn dump_piece(&self, number: u64, meter: &mut Meter) -> Result<Option<Vec<u8>>, NoMemory>
@@ -233,7 +289,7 @@ impl LoggedKernel {
             return Ok(Vec::new(self.alloc));
         };
         let next_id = self.kernel.next_id().number();
-        next_numbers(self.alloc, &self.origin, log.events.as_slice(), next_id)
+        next_numbers(self.alloc, &self.origin, log.entries.as_slice(), next_id)
     }
 
     /// The checkpoint of the kernel as it stands, with the next number of each thread that was given; where no log is kept,
@@ -256,20 +312,21 @@ impl LoggedKernel {
         Ok(text)
     }
 
-    /// Begins the log anew at the kernel as it stands, of so many events at most: the events before are gone, and the numbers of
-    /// threads go on. Where no log was kept, one begins. The error is want of memory, or that a thread has no next number, and
-    /// nothing changes.
-    pub fn cut_log(&mut self, most: u64) -> Result<(), NoMemory>
-        ensures cut { OnOk result (IsCut most self.old self.new) }
+    /// Begins the log anew at the kernel as it stands, of so much at most and with reads where they are wanted: what was kept is
+    /// gone, and the numbers of threads go on. Where no log was kept, one begins. The error is want of memory, or that a thread
+    /// has no next number, and nothing changes.
+    pub fn cut_log(&mut self, most: u64, reads: bool) -> Result<(), NoMemory>
+        ensures cut { OnOk result (IsCut most reads self.old self.new) }
         ensures kept { OnErr result (self.new ≡ self.old) }
     {
         self.origin = self.checkpoint()?;
         self.is_new = true;
         self.log = Some(EventLog {
             alloc: self.alloc,
-            events: Vec::new(self.alloc),
+            entries: Vec::new(self.alloc),
         });
         self.most = most;
+        self.reads = reads;
         Ok(())
     }
 }

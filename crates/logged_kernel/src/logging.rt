@@ -1,53 +1,54 @@
-//! Keeping the events of calls.
-ghost use Rattle.std.specs.Prelude.{◌≡◌, ◌+◌, ◌<◌, ◌≤◌, ◌++◌, ◌∷◌, [], true, Some, IfOk, IfSome, OnOk, OnErr, length, take, drop, vec_len, vec_capacity};
-ghost use Rattle.std.specs.List.{AllByRecursion, flat_map};
+//! Keeping calls in a log.
+ghost use Rattle.std.specs.Prelude.{◌≡◌, ◌+◌, ◌<◌, ◌≤◌, ◌++◌, ◌∷◌, [], true, IfOk, IfSome, OnOk, OnErr, length, take, drop, vec_len, vec_capacity};
 ghost use Rattle.base.specs.Limits.{in_range};
 ghost use Rattle.checkpoints.specs.Restorable.{is_restorable};
 ghost use Rattle.checkpoints.specs.Restored.{restored};
 ghost use Rattle.checkpoints.specs.Starts.{number_of};
-ghost use Rattle.call_text.specs.Text.{lines_text};
-ghost use Rattle.dump_text.specs.Dump.{event_lines};
 ghost use Rattle.dump_text.specs.Fits.{FitsLine};
-ghost use Rattle.dump_text.specs.Line.{line_text};
-ghost use Rattle.dump_text.specs.Pieces.{FitsPiece, piece_at, piece_text};
-ghost use Rattle.dump_text.specs.Whole.{whole_dump};
+ghost use Rattle.dump_text.specs.Pieces.{piece_at};
+ghost use Rattle.dump_text.specs.declared.lines.Line.TheVariants as lines;
 ghost use Rattle.kernel_rules.specs.Events.{told};
-ghost use Rattle.kernel_rules.specs.History.{count, state_from};
+ghost use Rattle.kernel_rules.specs.History.{count};
 ghost use Rattle.kernel_rules.specs.Scratch.{scratch};
 ghost use Rattle.kernel_rules.specs.Step.{answer, next};
 ghost use Rattle.syscall_core.specs.Kernel.{kernel_state};
-ghost use Rattle.logged_kernel.specs.Logged.{IsTextOf};
+ghost use Rattle.logged_kernel.specs.Entries.{among, events_of};
+ghost use Rattle.logged_kernel.specs.Logged.{FitsPiece, IsTextOf, piece_text};
 ghost use Rattle.logged_kernel.specs.Numbers.{AreCounted};
+ghost use Rattle.logged_kernel.specs.ReadLines.{line_of, read_of};
+ghost use Rattle.logged_kernel.specs.declared.entries.Entry.TheVariants as entries;
 
+use crate::entries::{Entry, KeptRead, entries_text, place_of};
 use crate::numbers::{later, number_of};
 use base::{Limits, Meter, NoMemory, ObjectId};
 use checkpoints::Checkpoint;
-use dump_text::{Piece, dump_of, events_text, head_text, legal_is_dump, piece_at, tables_text};
-use kept_events::{KeptCalls, KeptEvent, KeptReply, call_answers, events_of};
-use kernel_rules::{Call, Reply, Tables};
+use dump_text::{Piece, dump_of, head_text, legal_is_dump, piece_at, tables_text};
+use kept_events::{KeptCalls, KeptReply, call_answers};
+use kernel_rules::{Call, Query, Reply, Tables};
 use std::alloc::Global;
 use syscall_core::Kernel;
 
-/// The events of calls, the oldest first, and where they take memory.
+/// What is kept of calls, the oldest first, and where it takes memory.
 #[derive(Drop)]
 pub struct EventLog {
-    /// Where they take memory.
+    /// Where it takes memory.
     pub alloc: Global,
-    /// The events.
-    pub events: Vec<KeptEvent>,
+    /// The events, and the reads among them.
+    pub entries: Vec<Entry>,
 }
 
 /// The number of a thread's next event after events that begin at the checkpoint; none where the last number was taken.
-fn next_number(origin: &Checkpoint, events: &[KeptEvent], thread: ObjectId) -> Option<u64>
-    requires { AreCounted origin.now.next events.now }
-    ensures { IfSome result (λ number. number ≡ count thread events.now + number_of origin.now.next thread) }
+fn next_number(origin: &Checkpoint, entries: &[Entry], thread: ObjectId) -> Option<u64>
+    requires { AreCounted origin.now.next (events_of entries.now) }
+    ensures { IfSome result (λ number. number ≡ count thread (events_of entries.now) + number_of origin.now.next thread) }
 {
-    let mut place = events.len();
+    let mut place = entries.len();
     while place > 0 {
         place -= 1;
-        let event = &events[place];
-        if event.thread() == thread {
-            return later(event.number());
+        if let Entry::Event(event) = &entries[place] {
+            if event.thread() == thread {
+                return later(event.number());
+            }
         }
     }
     Some(number_of(origin.next.as_slice(), thread))
@@ -56,10 +57,10 @@ fn next_number(origin: &Checkpoint, events: &[KeptEvent], thread: ObjectId) -> O
 /// Keeps a call, with room for its event. Nothing else changes, also without memory.
 fn keep_call(log: &mut EventLog, call: &Call) -> Result<KeptCalls, NoMemory>
     ensures kept { IfOk result (λ kept. kept ≡ call.now ∷ []) }
-    ensures room { OnOk result (vec_len log.new.events < vec_capacity log.new.events) }
-    ensures same { log.new.events.items ≡ log.old.events.items }
+    ensures room { OnOk result (vec_len log.new.entries < vec_capacity log.new.entries) }
+    ensures same { log.new.entries.items ≡ log.old.entries.items }
 {
-    log.events.reserve(1)?;
+    log.entries.reserve(1)?;
     KeptCalls::new(log.alloc, call, &[])
 }
 
@@ -75,26 +76,45 @@ pub(crate) fn make_kept(
     reply: &mut Reply,
     meter: &mut Meter,
 ) -> Result<(), NoMemory>
-    requires { AreCounted origin.now.next log.old.events.items }
+    requires { AreCounted origin.now.next (events_of log.old.entries.items) }
     ensures state { OnOk result
         (kernel_state kernel.new ≡ next (kernel_state kernel.old) thread call.now) }
     ensures reply { OnOk result (reply.new ≡ answer (kernel_state kernel.old) thread call.now) }
-    ensures event { OnOk result (log.new.events.items ≡ log.old.events.items ++ record {
+    ensures event { OnOk result (log.new.entries.items ≡ log.old.entries.items ++ entries.Event (record {
       thread = thread;
-      number = count thread log.old.events.items + number_of origin.now.next thread;
+      number = count thread (events_of log.old.entries.items) + number_of origin.now.next thread;
       calls = told call.now (answer (kernel_state kernel.old) thread call.now) ∷ [];
-    } ∷ []) }
+    }) ∷ []) }
     ensures kernel { OnErr result (kernel.new ≡ kernel.old) }
-    ensures kept { OnErr result (log.new.events.items ≡ log.old.events.items) }
+    ensures kept { OnErr result (log.new.entries.items ≡ log.old.entries.items) }
 {
-    let Some(number) = next_number(origin, log.events.as_slice(), thread) else {
+    let Some(number) = next_number(origin, log.entries.as_slice(), thread) else {
         return Err(NoMemory);
     };
     let kept = keep_call(log, call)?;
     kernel.step_into(thread, call, reply, meter);
     call_answers();
     let event = kept.event(thread, number, KeptReply::new(reply), &[]);
-    log.events.push_reserved(event);
+    log.entries.push_reserved(Entry::Event(event));
+    Ok(())
+}
+
+/// Keeps a thread's query with its reply. Without memory nothing is kept.
+pub(crate) fn keep_read(
+    log: &mut EventLog,
+    thread: ObjectId,
+    query: &Query,
+    reply: &Reply,
+    meter: &mut Meter,
+) -> Result<(), NoMemory>
+    ensures kept { OnOk result (log.new.entries.items
+        ≡ among (line_of (read_of thread query.now reply.now)) log.old.entries.items) }
+    ensures fits { OnOk result (FitsLine (lines.Read (read_of thread query.now reply.now))) }
+    ensures same { OnErr result (log.new.entries.items ≡ log.old.entries.items) }
+{
+    let read = KeptRead::new(log.alloc, thread, query, reply, meter)?;
+    let place = place_of(log.entries.as_slice(), thread);
+    log.entries.insert(place, Entry::Read(read))?;
     Ok(())
 }
 
@@ -116,32 +136,19 @@ pub(crate) fn checkpoint_text_of(
     Ok(text)
 }
 
-/// Up to 64 events from a place on.
-fn events_from(events: &[KeptEvent], from: usize) -> &[KeptEvent]
-    requires { from ≤ length events.now }
-    ensures { result.now ≡ take 64 (drop from events.now) }
+/// Up to 64 entries from a place on.
+fn entries_from(entries: &[Entry], from: usize) -> &[Entry]
+    requires { from ≤ length entries.now }
+    ensures { result.now ≡ take 64 (drop from entries.now) }
 {
-    let rest = &events[from..];
+    let rest = &entries[from..];
     if rest.len() <= 64 {
         return rest;
     }
-    &events[from..from + 64]
+    &entries[from..from + 64]
 }
 
-/// The text of up to 64 events of a log, from a place on. Want of memory is the only error.
-fn some_events(log: &EventLog, from: usize) -> Result<Vec<u8>, NoMemory>
-    requires { from ≤ length log.now.events.items }
-    ensures text { IfOk result (λ text. text.items
-        ≡ lines_text line_text (flat_map event_lines (take 64 (drop from log.now.events.items)))) }
-    ensures fits { OnOk result
-        (AllByRecursion FitsLine (flat_map event_lines (take 64 (drop from log.now.events.items)))) }
-{
-    let events = events_of(log.alloc, events_from(log.events.as_slice(), from))?;
-    let text = events_text(log.alloc, events.as_slice())?;
-    Ok(text)
-}
-
-/// A piece of the dump of the events after a checkpoint, which have led a kernel to its state. Want of memory is the only
+/// A piece of the dump of what is kept after a checkpoint, which has led a kernel to its state. Want of memory is the only
 /// error.
 pub(crate) fn piece_of(
     log: &EventLog,
@@ -151,15 +158,16 @@ pub(crate) fn piece_of(
     number: u64,
     meter: &mut Meter,
 ) -> Result<Vec<u8>, NoMemory>
-    requires { kernel_state kernel.now ≡ state_from (restored limits.now origin.now) log.now.events.items }
     ensures text { IfOk result (λ text. text.items
-        ≡ piece_text (whole_dump limits.now (Some origin.now) log.now.events.items []) number) }
-    ensures fits { OnOk result (FitsPiece (whole_dump limits.now (Some origin.now) log.now.events.items [])
-        (piece_at (length log.now.events.items) number)) }
+        ≡ piece_text limits.now origin.now (kernel_state kernel.now) log.now.entries.items number) }
+    ensures fits { OnOk result (FitsPiece origin.now (kernel_state kernel.now) log.now.entries.items
+        (piece_at (length log.now.entries.items) number)) }
 {
-    match piece_at(log.events.len(), number) {
+    match piece_at(log.entries.len(), number) {
         Piece::Head => head_text(log.alloc, limits, origin),
-        Piece::Events { from } => some_events(log, from),
+        Piece::Events { from } => {
+            entries_text(log.alloc, entries_from(log.entries.as_slice(), from))
+        }
         Piece::Tables => tables_text(log.alloc, kernel.tables(meter)?),
         Piece::Nothing => Ok(Vec::new(log.alloc)),
     }

@@ -7,11 +7,12 @@ ghost use Rattle.std.specs.Ordering.{nat_cmp};
 ghost use Rattle.checkpoints.specs.Restorable.{threads_rise};
 ghost use Rattle.checkpoints.specs.Starts.{number_of};
 ghost use Rattle.kernel_rules.specs.History.{count};
+ghost use Rattle.logged_kernel.specs.Entries.{events_of};
 ghost use Rattle.logged_kernel.specs.Numbers.{is_noted, AreCounted};
 
+use crate::entries::Entry;
 use base::{NoMemory, ObjectId};
 use checkpoints::{Checkpoint, NextNumber};
-use kept_events::KeptEvent;
 use plain_core::restoring::listed;
 use std::alloc::Global;
 use std::collections::BTreeMap;
@@ -78,23 +79,25 @@ fn noted_first(
 fn note_events(
     numbers: &mut BTreeMap<ObjectId, u64>,
     first: &[NextNumber],
-    events: &[KeptEvent],
+    entries: &[Entry],
     next_id: u64,
 ) -> Result<(), NoMemory>
     requires first { list_all (λ n. nat_le 2 n.number) first.now ≡ true }
     requires value { (t : ℕ) → t < next_id → unwrap_or (get nat_cmp numbers.old t) 1 ≡ number_of first.now t }
     requires noted { list_all (is_noted next_id) numbers.old.entries ≡ true }
-    requires events { AreCounted first.now events.now }
+    requires events { AreCounted first.now (events_of entries.now) }
     ensures value { OnOk result ((t : ℕ) → t < next_id
-        → unwrap_or (get nat_cmp numbers.new t) 1 ≡ count t events.now + number_of first.now t) }
+        → unwrap_or (get nat_cmp numbers.new t) 1 ≡ count t (events_of entries.now) + number_of first.now t) }
     ensures noted { OnOk result (list_all (is_noted next_id) numbers.new.entries ≡ true) }
 {
     let _ = first;
-    for event in events {
-        let Some(number) = later(event.number()) else {
-            return Err(NoMemory);
-        };
-        note(numbers, event.thread(), number, next_id)?;
+    for entry in entries {
+        if let Entry::Event(event) = entry {
+            let Some(number) = later(event.number()) else {
+                return Err(NoMemory);
+            };
+            note(numbers, event.thread(), number, next_id)?;
+        }
     }
     Ok(())
 }
@@ -104,19 +107,19 @@ fn note_events(
 pub(crate) fn next_numbers(
     alloc: Global,
     origin: &Checkpoint,
-    events: &[KeptEvent],
+    entries: &[Entry],
     next_id: u64,
 ) -> Result<Vec<NextNumber>, NoMemory>
     requires first { list_all (λ n. nat_le 2 n.number) origin.now.next ≡ true }
-    requires events { AreCounted origin.now.next events.now }
+    requires events { AreCounted origin.now.next (events_of entries.now) }
     ensures numbers { IfOk result (λ next. (t : ℕ) → t < next_id
-        → number_of next.items t ≡ count t events.now + number_of origin.now.next t) }
+        → number_of next.items t ≡ count t (events_of entries.now) + number_of origin.now.next t) }
     ensures rise { IfOk result (λ next. threads_rise next.items ≡ true) }
     ensures later { IfOk result (λ next. list_all (λ n. nat_le 2 n.number) next.items ≡ true) }
     ensures given { IfOk result (λ next. list_all (λ n. nat_lt n.thread next_id) next.items ≡ true) }
 {
     let first = origin.next.as_slice();
     let mut numbers = noted_first(alloc, first, next_id)?;
-    note_events(&mut numbers, first, events, next_id)?;
+    note_events(&mut numbers, first, entries, next_id)?;
     listed(alloc, &numbers)
 }

@@ -7,7 +7,7 @@ use crate::sha256::{sha256, Digest};
 use crate::spelling::take_number;
 use crate::state::{Boot, State, Step};
 use crate::Name;
-use histar::{Kernel, Refused};
+use histar::{Keep, Kernel, Refused};
 use std::collections::BTreeMap;
 use std::fmt;
 
@@ -206,7 +206,7 @@ impl<'p> Log<'p> {
     fn dump(&self, start: Start<'_>) -> Result<String, Fault> {
         let no_machine = |refused: Refused| Fault::NoMachine(refused.to_string());
         let mut state = self.state(start)?;
-        state.machine.log_on(u64::MAX).map_err(no_machine)?;
+        state.machine.log_on(u64::MAX, Keep::Writes).map_err(no_machine)?;
         self.play(&mut state)?; // (a kernel with a log writes another text, so its marks tell nothing)
         state.machine.dump().map_err(no_machine)
     }

@@ -44,6 +44,7 @@ pub use ids::{Category, Entry, Object};
 pub use kept::Order;
 pub use kernel::Kernel;
 pub use label::{Label, Level, ParseLabelError};
+pub use log::Keep;
 pub use refusal::{NoRefusal, Refusal, Refused};
 pub use reply::{Entered, Listed, Own, Quota, Reply};
 pub use session::Session;

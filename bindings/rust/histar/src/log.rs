@@ -6,50 +6,60 @@ use std::io;
 #[cfg(doc)]
 use crate::Refusal::*;
 
-/// The log: each write call since the boot, refused or not, with its answer. Its dump is the text that `./histar run --dump`
+/// What a log keeps.
+#[derive(Clone, Copy, PartialEq, Eq, Debug)]
+pub enum Keep {
+    /// Write calls.
+    Writes,
+    /// Write calls and reads.
+    All,
+}
+
+/// The log: each write call since the boot, refused or not, with its answer, and each read where all are kept. Its dump is the text that `./histar run --dump`
 /// writes of a run, and `histar-audit` tells whether its answers are those of the rules.
 ///
 /// ```
 /// let kernel = histar::Kernel::boot(64)?;
-/// kernel.log_on(100)?;
+/// kernel.log_on(100, histar::Keep::Writes)?;
 /// kernel.session().cat_create()?;
 /// assert!(kernel.dump()?.contains("cat_create => cat #1"));
 /// # Ok::<(), histar::Refused>(())
 /// ```
 impl Kernel {
     /// Asks for what is answered by nothing.
-    fn ask_log(&self, part: u32, most: u64) -> Result<(), Refused> {
-        self.raw.ask(|request| request.put(part, &Entry::NONE, [most]), |_| ())
+    fn ask_log(&self, part: u32, most: u64, keep: Keep) -> Result<(), Refused> {
+        let keeps = u64::from(keep == Keep::All);
+        self.raw.ask(|request| request.put(part, &Entry::NONE, [most, keeps]), |_| ())
     }
 
-    /// Begins the log, of `most` write calls at most, before the first one. From here on each write call takes memory. One past the bound
-    /// is refused [`LogFull`] and not made, and reads are answered as ever; [`cut_log`](Kernel::cut_log) makes room. `u64::MAX` is no bound.
+    /// Begins the log, of `most` calls at most, before the first write call. From here on each call that is kept takes memory. One past the
+    /// bound is refused [`LogFull`] and not made; [`cut_log`](Kernel::cut_log) makes room. `u64::MAX` is no bound.
     ///
     /// ```
     /// use histar::{Kernel, Refusal};
     /// let (kernel, late) = (Kernel::boot(64)?, Kernel::boot(64)?);
-    /// kernel.log_on(1)?;
+    /// kernel.log_on(1, histar::Keep::Writes)?;
     /// kernel.session().cat_create()?;
     /// assert_eq!(kernel.session().cat_create().unwrap_err().reason, Refusal::LogFull);
     /// late.session().cat_create()?;
-    /// assert_eq!(late.log_on(1).unwrap_err().reason, Refusal::BadBatch);
+    /// assert_eq!(late.log_on(1, histar::Keep::Writes).unwrap_err().reason, Refusal::BadBatch);
     /// # Ok::<(), histar::Refused>(())
     /// ```
     ///
     /// # Errors
     /// [`BadBatch`] where a write call was made already.
-    pub fn log_on(&self, most: u64) -> Result<(), Refused> {
-        self.ask_log(40, most)
+    pub fn log_on(&self, most: u64, keep: Keep) -> Result<(), Refused> {
+        self.ask_log(40, most, keep)
     }
 
-    /// Begins the log anew at the kernel as it stands, of `most` write calls at most, so that the memory of its calls is given back: its dump
-    /// has the checkpoint of this moment, and the write calls from here on. Where no log was kept, one begins, in which each thread's first event has number 1.
+    /// Begins the log anew at the kernel as it stands, of `most` calls at most, so that the memory of its calls is given back: its dump
+    /// has the checkpoint of this moment, and the calls from here on that are kept. Where no log was kept, one begins, in which each thread's first event has number 1.
     ///
     /// ```
     /// let kernel = histar::Kernel::boot(64)?;
-    /// kernel.log_on(100)?;
+    /// kernel.log_on(100, histar::Keep::Writes)?;
     /// kernel.session().cat_create()?;
-    /// kernel.cut_log(100)?;
+    /// kernel.cut_log(100, histar::Keep::Writes)?;
     /// kernel.session().cat_create()?;
     /// let dump = kernel.dump()?;
     /// assert!(dump.contains("event 2 2 cat_create => cat #2\n") && !dump.contains("event 2 1 "));
@@ -58,8 +68,8 @@ impl Kernel {
     ///
     /// # Errors
     /// [`Memory`] where there is none for that, and the log is as before.
-    pub fn cut_log(&self, most: u64) -> Result<(), Refused> {
-        self.ask_log(49, most)
+    pub fn cut_log(&self, most: u64, keep: Keep) -> Result<(), Refused> {
+        self.ask_log(49, most, keep)
     }
 
     /// The text of a checkpoint: the kernel's limits and state, with all that segments hold, so keep it as you would the kernel. Where a log
@@ -130,7 +140,7 @@ impl Kernel {
     /// use histar::{Entry, Kernel, Object, Refusal};
     /// let kernel = Kernel::boot(64)?;
     /// assert_eq!(kernel.dump().unwrap_err().reason, Refusal::BadBatch);
-    /// kernel.log_on(100)?;
+    /// kernel.log_on(100, histar::Keep::Writes)?;
     /// assert!(kernel.session().unref(Entry::in_root(Object::ROOT)).is_err());
     /// assert!(kernel.dump()?.contains("event 2 1 unref #1 #1 => refused 16 RootKept\n"));
     /// # Ok::<(), histar::Refused>(())
@@ -147,7 +157,7 @@ impl Kernel {
     ///
     /// ```
     /// let kernel = histar::Kernel::boot(64)?;
-    /// kernel.log_on(100)?;
+    /// kernel.log_on(100, histar::Keep::Writes)?;
     /// kernel.session().cat_create()?;
     /// let mut text = Vec::new();
     /// kernel.dump_to(&mut text)?;

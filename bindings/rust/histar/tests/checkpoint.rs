@@ -1,6 +1,6 @@
 //! A kernel that comes back at the text of its checkpoint, and a log that is cut.
 use histar::trusted::{session_of, Thread};
-use histar::{label, Entry, Kernel, Kinds, Label, Limits, Mapping, NewGate, Object, Refusal, Refused, Rights};
+use histar::{label, Entry, Keep, Kernel, Kinds, Label, Limits, Mapping, NewGate, Object, Refusal, Refused, Rights};
 use std::fmt::Debug;
 
 const ROOT: Object = Object::ROOT;
@@ -9,7 +9,7 @@ const ROOT: Object = Object::ROOT;
 fn filled() -> Kernel {
     let kernel = Kernel::boot_with(&Limits { next_id: 9, next_category: 5, ..Limits::pages(128) }).unwrap();
     let boot = kernel.session();
-    kernel.log_on(1000).unwrap();
+    kernel.log_on(1000, Keep::Writes).unwrap();
     let c = boot.cat_create().unwrap();
     let (plain, guarded) = (label! { L1 }, label! { c => L3; L1 });
     let folder = boot.container_create(ROOT, &plain, 40, Kinds { gate: true, ..Kinds::default() }).unwrap();
@@ -92,7 +92,7 @@ fn a_kernel_comes_back() {
     let again = Kernel::open_at(&text).unwrap();
     assert_eq!(all_reads(&again), all_reads(&kernel));
     assert_eq!(labels(&again), labels(&kernel));
-    again.log_on(1000).unwrap();
+    again.log_on(1000, Keep::Writes).unwrap();
     assert_eq!(again.checkpoint().unwrap(), text);
     // (both go on alike: ids, categories, packets, and the numbers of threads)
     for it in [&kernel, &again] {
@@ -111,7 +111,7 @@ fn a_kernel_comes_back() {
 fn a_log_is_cut() {
     let kernel = filled();
     let (text, whole) = (kernel.checkpoint().unwrap(), kernel.dump().unwrap());
-    kernel.cut_log(1000).unwrap();
+    kernel.cut_log(1000, Keep::Writes).unwrap();
     assert_eq!(kernel.dump().unwrap(), text);
     kernel.session().cat_create().unwrap();
     let number = 1 + whole.lines().filter(|line| line.starts_with("event 2 ")).count();
@@ -121,7 +121,7 @@ fn a_log_is_cut() {
     // (a kernel whose calls were not kept begins a log so too)
     let late = Kernel::boot(64).unwrap();
     late.session().cat_create().unwrap();
-    late.cut_log(1000).unwrap();
+    late.cut_log(1000, Keep::Writes).unwrap();
     late.session().cat_create().unwrap();
     assert!(late.dump().unwrap().contains("event 2 1 cat_create => cat #2\n"));
 }

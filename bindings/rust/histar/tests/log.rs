@@ -1,5 +1,5 @@
 //! The log of the calls, and its dump.
-use histar::{label, Entry, Kernel, Limits, Log, Object, Refusal, Refused, Seat};
+use histar::{label, Entry, Keep, Kernel, Limits, Log, Object, Refusal, Refused, Seat};
 use std::io::{self, ErrorKind, Write};
 
 const ROOT: Object = Object::ROOT;
@@ -13,7 +13,7 @@ fn events(dump: &str) -> Vec<&str> {
 fn each_write_call_is_an_event() {
     let kernel = Kernel::boot(64).unwrap();
     let boot = kernel.session();
-    kernel.log_on(1000).unwrap();
+    kernel.log_on(1000, Keep::Writes).unwrap();
     let c = boot.cat_create().unwrap();
     let secret = Entry::in_root(boot.segment_create(ROOT, &label! { c => L3; L1 }, 2, 1).unwrap());
     let stranger = boot.thread_create(ROOT, &label! { L1 }, 1, &label! { L2 }, 0).unwrap();
@@ -43,21 +43,60 @@ fn each_write_call_is_an_event() {
 }
 
 #[test]
+fn a_log_of_all_has_reads_too() {
+    let kernel = Kernel::boot(64).unwrap();
+    let boot = kernel.session();
+    kernel.log_on(8, Keep::All).unwrap();
+    let c = boot.cat_create().unwrap();
+    let secret = Entry::in_root(boot.segment_create(ROOT, &label! { c => L3; L1 }, 2, 1).unwrap());
+    let stranger = boot.thread_create(ROOT, &label! { L1 }, 1, &label! { L2 }, 0).unwrap();
+    // (where no event is between, the line of the smaller thread comes first)
+    assert_eq!(stranger.segment_read(secret, 0, 3).unwrap_err().reason, Refusal::CannotObserve);
+    assert_eq!(boot.segment_read(secret, 0, 3).unwrap(), [0; 3]);
+    boot.segment_write(secret, 0, b"key").unwrap();
+    assert_eq!(boot.segment_read(secret, 0, 3).unwrap(), b"key");
+    let dump = kernel.dump().unwrap();
+    let is_kept = |line: &&str| line.starts_with("event ") || line.starts_with("read ");
+    assert_eq!(
+        dump.lines().filter(is_kept).collect::<Vec<_>>(),
+        [
+            "event 2 1 cat_create => cat #1",
+            "event 2 2 segment_create #1 {#1:3,1} 2 1 => id #4",
+            "event 2 3 thread_create #1 {1} 1 {2} 0 => id #5",
+            "read 2 segment_read #1 #4 0 3 => data 000000",
+            "read 5 segment_read #1 #4 0 3 => refused 5 CannotObserve",
+            "event 2 4 segment_write #1 #4 0 6b6579 => ok",
+            "read 2 segment_read #1 #4 0 3 => data 6b6579",
+        ]
+    );
+    // (the bound is of both; a look-up is no read)
+    assert_eq!(boot.segment_len(secret).unwrap(), 1);
+    assert_eq!(boot.segment_len(secret).unwrap_err().to_string(), "segment_len #4: 49 LogFull");
+    assert_eq!(boot.cat_create().unwrap_err().reason, Refusal::LogFull);
+    assert_eq!(kernel.kept_live(0), Some(ROOT));
+    kernel.cut_log(1, Keep::All).unwrap();
+    assert_eq!(boot.segment_len(secret).unwrap(), 1);
+    assert_eq!(boot.segment_len(secret).unwrap_err().reason, Refusal::LogFull);
+    kernel.cut_log(0, Keep::Writes).unwrap();
+    assert_eq!(boot.segment_len(secret).unwrap(), 1);
+}
+
+#[test]
 fn a_log_begins_with_the_first_call() {
     let kernel = Kernel::boot(64).unwrap();
     let boot = kernel.session();
     assert_eq!(kernel.dump().unwrap_err().reason, Refusal::BadBatch);
     boot.self_get().unwrap();
-    kernel.log_on(1000).unwrap();
+    kernel.log_on(1000, Keep::Writes).unwrap();
     assert_eq!(events(&kernel.dump().unwrap()), [""; 0]);
-    kernel.log_on(1000).unwrap();
+    kernel.log_on(1000, Keep::Writes).unwrap();
     assert_eq!(boot.unref(Entry::in_root(ROOT)).unwrap_err().reason, Refusal::RootKept);
-    assert_eq!(kernel.log_on(1000).unwrap_err().reason, Refusal::BadBatch);
+    assert_eq!(kernel.log_on(1000, Keep::Writes).unwrap_err().reason, Refusal::BadBatch);
     assert_eq!(events(&kernel.dump().unwrap()), ["event 2 1 unref #1 #1 => refused 16 RootKept"]);
 
     let late = Kernel::boot(64).unwrap();
     late.session().cat_create().unwrap();
-    assert_eq!(late.log_on(1000).unwrap_err().reason, Refusal::BadBatch);
+    assert_eq!(late.log_on(1000, Keep::Writes).unwrap_err().reason, Refusal::BadBatch);
     assert_eq!(late.dump().unwrap_err().reason, Refusal::BadBatch);
 }
 
@@ -66,7 +105,7 @@ fn a_full_log_refuses_what_is_kept() {
     for most in [0, 1, 2, 12] {
         let kernel = Kernel::boot(64).unwrap();
         let boot = kernel.session();
-        kernel.log_on(most).unwrap();
+        kernel.log_on(most, Keep::Writes).unwrap();
         (0..most).for_each(|number| assert_eq!(boot.cat_create().unwrap().0, number + 1));
         let dump = kernel.dump().unwrap();
         assert_eq!(boot.cat_create().unwrap_err().to_string(), "cat_create: 49 LogFull");
@@ -74,13 +113,13 @@ fn a_full_log_refuses_what_is_kept() {
         assert_eq!(boot.unref(Entry::in_root(ROOT)).unwrap_err().reason, Refusal::LogFull);
         assert!(boot.self_get().is_ok());
         assert_eq!(kernel.dump().unwrap(), dump);
-        kernel.cut_log(1).unwrap();
+        kernel.cut_log(1, Keep::Writes).unwrap();
         assert_eq!(boot.cat_create().unwrap().0, most + 1);
         assert_eq!(boot.cat_create().unwrap_err().reason, Refusal::LogFull);
         let event = format!("event 2 {} cat_create => cat #{0}\n", most + 1);
         assert!(kernel.dump().unwrap().contains(&event));
         // (a bound may be raised at a cut, and `u64::MAX` is none)
-        kernel.cut_log(u64::MAX).unwrap();
+        kernel.cut_log(u64::MAX, Keep::Writes).unwrap();
         assert!((0..200).all(|_| boot.unref(Entry::in_root(ROOT)).unwrap_err().reason == Refusal::RootKept));
     }
 }
@@ -116,7 +155,7 @@ impl Write for Calling<'_> {
         self.told.extend(boot.cat_create().err());
         self.told.extend(boot.self_get().err());
         self.told.extend(self.kernel.dump().err());
-        self.told.extend(self.kernel.cut_log(1000).err());
+        self.told.extend(self.kernel.cut_log(1000, Keep::Writes).err());
         Ok(bytes.len())
     }
 
@@ -128,7 +167,7 @@ impl Write for Calling<'_> {
 /// A kernel with a log of so many calls.
 fn logged(calls: usize) -> Kernel {
     let kernel = Kernel::boot(64).unwrap();
-    kernel.log_on(1000).unwrap();
+    kernel.log_on(1000, Keep::Writes).unwrap();
     for _ in 0..calls {
         assert_eq!(kernel.session().unref(Entry::in_root(ROOT)).unwrap_err().reason, Refusal::RootKept);
     }

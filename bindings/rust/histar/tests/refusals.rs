@@ -1,6 +1,6 @@
 //! What a refusal names, beside why.
 use histar::trusted::{session_of, Record, Thread};
-use histar::{label, Call, Entry, Kernel, Kinds, Label, Mapping, NewGate, Object, Refusal, Refused, Rights};
+use histar::{label, Call, Entry, Keep, Kernel, Kinds, Label, Mapping, NewGate, Object, Refusal, Refused, Rights};
 use std::borrow::Cow;
 use std::io::ErrorKind;
 
@@ -119,7 +119,7 @@ fn what_is_no_call_has_its_methods_name() {
     assert_eq!(Kernel::boot(7).unwrap_err().to_string(), "boot: 31 BadLimits");
     assert_eq!(Kernel::open_at("").unwrap_err().to_string(), "open_at: 50 TextFault");
     assert_eq!(kernel.dump().unwrap_err().to_string(), "dump: 45 BadBatch");
-    assert_eq!(late.log_on(1000).unwrap_err().to_string(), "log_on: 45 BadBatch");
+    assert_eq!(late.log_on(1000, Keep::Writes).unwrap_err().to_string(), "log_on: 45 BadBatch");
 }
 
 #[test]

@@ -10,7 +10,7 @@ mod saying;
 mod words;
 
 use histar::trusted::{session_of, Thread};
-use histar::{Kernel, Limits, Object, Refusal, Reply};
+use histar::{Keep, Kernel, Limits, Object, Refusal, Reply};
 use names::{Names, Unbound, Value};
 use saying::{print_tables, said, Answer};
 use std::collections::BTreeSet;
@@ -122,7 +122,7 @@ fn main() {
     let kernel = Kernel::boot_with(&limits(&words[1..])).expect("a kernel");
     let dump = words.iter().position(|it| it == "--dump").map(|place| &words[place + 1]);
     if dump.is_some() {
-        kernel.log_on(u64::MAX).expect("a log");
+        kernel.log_on(u64::MAX, Keep::All).expect("a log");
     }
     let mut player = Player { kernel, names: Names::default(), seated: BTreeSet::new(), turned_away: BTreeSet::new() };
     for (name, id) in [("root", Object::ROOT), ("boot", Thread::BOOT.into()), ("dev", Object::DEVICE)] {
