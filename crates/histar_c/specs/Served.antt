@@ -12,6 +12,8 @@ use Rattle.kernel_rules.specs.declared.replies.Reply.TheVariants as replies
 use Rattle.dump_text.specs.Boot.{boot_checkpoint}
 use Rattle.logged_kernel.specs.Logged.{Logged, IsCut, IsMade, IsPiece, IsRight, IsWritten, begun, is_full, keeps_reads, with_query}
 use Rattle.logged_kernel.specs.declared.entries.Entry.{Entry}
+use Rattle.logged_kernel.specs.declared.kernel.NotKept.{NotKept}
+use Rattle.logged_kernel.specs.declared.kernel.NotKept.TheVariants as not_kept
 use Rattle.call_records.specs.Asked.{Asked, Write, Read, Look, Log, Nothing, asked}
 use Rattle.call_records.specs.Logs.{TellsLength}
 use Rattle.call_records.specs.declared.logs.LogRequest.TheVariants as logs
@@ -77,6 +79,11 @@ IsSame before after = (after.logged ≡ before.logged) × (after.text.items ≡ 
 -- nothing is done and nothing is told but this number
 abbrev pub IsRefused : ℕ → Kept → Kept → ℕ → Answer → Answer → Type 0
 IsRefused why before after number old told = IsSame before after × (number ≡ why) × (told ≡ old)
+
+-- the number that tells why a call is not kept
+abbrev pub not_kept_number : NotKept → ℕ
+not_kept_number not_kept.NoMemory = 40
+not_kept_number not_kept.LogFull = 49
 
 -- a call is made and answered by the rules, and where a log is kept its event is the last; or a log is
 -- kept and there is no memory for the event, and the number is 40

@@ -4,7 +4,7 @@ ghost use Rattle.call_records.specs.Asked.{asked, asked_by};
 ghost use Rattle.call_records.specs.Logs.{log_request_of};
 ghost use Rattle.call_records.specs.Lookups.{lookup_of};
 ghost use Rattle.histar_c.specs.Served.{IsAsked, IsBoot, IsCalled, IsDone, IsFoundTold, IsKept, IsSame, IsServed};
-ghost use Rattle.histar_c.specs.Served.{held_kernel, kernel_in, limits_of};
+ghost use Rattle.histar_c.specs.Served.{held_kernel, kernel_in, limits_of, not_kept_number};
 
 use crate::logs::answer_log;
 use crate::looking::look_up;
@@ -105,6 +105,16 @@ fn tell_look_up(kept: &mut Kept, lookup: &Lookup, answer: &mut Answer)
     tell_found(&found, answer, &mut kept.meter);
 }
 
+/// The number that tells why a call is not kept, and so not made.
+fn not_kept_number(why: NotKept) -> u32
+    ensures { result ≡ not_kept_number why }
+{
+    match why {
+        NotKept::NoMemory => 40,
+        NotKept::LogFull => 49,
+    }
+}
+
 /// Makes the call that stands in `kept`, and gives the number of the refusal: 0 for none, 49 where the log has as much as
 /// it may have, 40 where there is no memory for the call's event.
 fn make(kept: &mut Kept, thread: ObjectId, answer: &mut Answer) -> u32
@@ -115,8 +125,7 @@ fn make(kept: &mut Kept, thread: ObjectId, answer: &mut Answer) -> u32
         .step_into(thread, &kept.call, &mut kept.reply, &mut kept.meter);
     match made {
         Ok(()) => tell(&kept.reply, answer, &mut kept.meter),
-        Err(NotKept::NoMemory) => 40,
-        Err(NotKept::LogFull) => 49,
+        Err(why) => not_kept_number(why),
     }
 }
 
@@ -130,8 +139,7 @@ fn ask(kept: &mut Kept, thread: ObjectId, query: &Query, answer: &mut Answer) ->
         .ask_into(thread, query, &mut kept.reply, &mut kept.meter);
     match asked {
         Ok(()) => tell(&kept.reply, answer, &mut kept.meter),
-        Err(NotKept::NoMemory) => 40,
-        Err(NotKept::LogFull) => 49,
+        Err(why) => not_kept_number(why),
     }
 }
 

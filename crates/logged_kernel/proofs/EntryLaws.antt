@@ -144,6 +144,7 @@ tell_among P place before last r (entries.Read l ∷ es) (q ∷ rs) told rise al
             let less : r.read.thread < q.read.thread = ltb-true r.read.thread q.read.thread is in
             let rest = all_later r.read.thread place q.place q.read.thread es rs told.3 parts.1 told.0 less none in
             absurd (let no : false ≡ true = sym some ∙ both _ _ here rest in cc)
+
         no_events : (events : List Event) → length events ≡ 0 → events ≡ []
         no_events [] is = refl
         no_events (e ∷ events) is = absurd (omega (arith, is))

@@ -155,7 +155,8 @@ impl LoggedKernel {
 
     // The error is that the log has as much as it may have.
     fn has_room(&self) -> Result<(), NotKept>
-        ensures full { result ≡ (if is_full self.now then Err NotKept.LogFull else Ok tt) }
+        ensures full { IsErrOf result NotKept.LogFull ↔ (is_full self.now ≡ true) }
+        ensures alone { IfErr result (λ why. why ≡ NotKept.LogFull) }
     {
         match &self.log {
             Some(log) if self.most <= log.entries.len() as u64 => Err(NotKept::LogFull),
