@@ -194,9 +194,9 @@ IsDumped piece before after number old told =
 
 -- what is asked of the log is done; it does not begin, is not cut, and has no checkpoint
 abbrev pub IsLogAsked : LogRequest → KeptSeat → KeptSeat → ℕ → Answer → Answer → Type 0
-IsLogAsked (logs.Begin most) before after number old told = IsRefused 45 before after number old told
+IsLogAsked (logs.Begin most reads) before after number old told = IsRefused 45 before after number old told
 IsLogAsked (logs.Checkpoint piece) before after number old told = IsRefused 45 before after number old told
-IsLogAsked (logs.Cut most) before after number old told = IsRefused 45 before after number old told
+IsLogAsked (logs.Cut most reads) before after number old told = IsRefused 45 before after number old told
 IsLogAsked (logs.Dump piece) before after number old told = IsDumped piece before after number old told
 IsLogAsked (logs.Text from) before after number old told =
     (after.seat ≡ before.seat) × SameBeside before after

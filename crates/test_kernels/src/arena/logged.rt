@@ -2,7 +2,7 @@
 use anyhow::Result;
 use auditor::{Verdict, audit};
 use base::Meter;
-use kernel_rules::{Call, Reply};
+use kernel_rules::{Call, Query, Reply};
 use logged_kernel::{LoggedKernel, NotKept};
 use std::alloc::Global;
 use syscall_core::BootRefusal;
@@ -31,6 +31,18 @@ fn refusal_of(kernel: &mut LoggedKernel, call: &Call, meter: &mut Meter) -> u8 {
         (true, Reply::Refused(refusal)) => refusal.number(),
         (true, _) => 0,
     }
+}
+
+/// Whether a query is answered, asked again where there was no memory.
+fn is_asked(kernel: &mut LoggedKernel, meter: &mut Meter) -> bool {
+    let mut reply = Reply::Done;
+    let asks = Query::SelfGet;
+    kernel
+        .ask_into(boot_thread(), &asks, &mut reply, meter)
+        .is_ok()
+        || kernel
+            .ask_into(boot_thread(), &asks, &mut reply, meter)
+            .is_ok()
 }
 
 /// A piece of the dump of the log, made again where there was no memory.
@@ -76,7 +88,7 @@ fn is_clean(alloc: Global, text: &[u8]) -> bool {
 
 /// Whether the log begins.
 fn begins(kernel: &mut LoggedKernel) -> bool {
-    kernel.begin_log(9)
+    kernel.begin_log(9, true)
 }
 
 /// Whether the boot thread is there.
@@ -103,13 +115,14 @@ fn has_no_log(kernel: &LoggedKernel, meter: &mut Meter) -> bool {
     piece_of(kernel, 0, meter).is_none()
 }
 
-// A call that is done and one that is refused are kept, once each.
+// A call that is done, one that is refused and a read are kept, once each.
 fn keep_calls(look: &mut Look, alloc: Global, kernel: &mut LoggedKernel, meter: &mut Meter) {
     look.sees(has_no_log(kernel, meter));
     look.sees(begins(kernel));
     look.sees(refusal_of(kernel, &new_thread(), meter) == 0);
     let root = Call::Unref { entry: in_root(1) };
     look.sees(refusal_of(kernel, &root, meter) == 16);
+    look.sees(is_asked(kernel, meter));
     look.sees(!begins(kernel));
     look.sees(has_boot_thread(kernel, meter));
     look.sees(is_dumped(alloc, kernel, meter));
@@ -117,7 +130,7 @@ fn keep_calls(look: &mut Look, alloc: Global, kernel: &mut LoggedKernel, meter: 
 
 /// Whether the log begins anew, of so many calls at most, again where there was no memory.
 fn cuts(kernel: &mut LoggedKernel, most: u64) -> bool {
-    kernel.cut_log(most).is_ok() || kernel.cut_log(most).is_ok()
+    kernel.cut_log(most, true).is_ok() || kernel.cut_log(most, true).is_ok()
 }
 
 /// Whether a call is refused since the log has as many as it may have.
