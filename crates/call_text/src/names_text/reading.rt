@@ -1,6 +1,6 @@
 //! Reading names.
 ghost use Rattle.std.specs.Global.{Vec as VecValue};
-ghost use Rattle.std.specs.Prelude.{◌≡◌, Result as ResultValue, IfOk, Some};
+ghost use Rattle.std.specs.Prelude.{◌≡◌, ℕ, List, Result as ResultValue, IfOk, Some};
 ghost use Rattle.text_words.specs.Reading.{Reads};
 ghost use Rattle.call_text.specs.declared.known_names.Named.{Named as NamedValue};
 ghost use Rattle.call_text.specs.Names.{Binds};
