@@ -277,6 +277,23 @@ static uint32_t call_past_the_logs_bound(void)
     must(histar_close(&logged));
     return memmem(after, late, "event 2 4 cat_create => cat #4\n", 31) ? refusal : HISTAR_DONE;
 }
+/* A read that the rules refuse is kept where all are. One past the bound leaves the dump as it was. */
+static uint32_t read_past_the_bound_of_a_log_of_all(void)
+{
+    static const char kept[] = "read 2 segment_len #1 #1 => refused 4 WrongType\n";
+    static char before[4096], after[4096];
+    size_t len, late;
+    uint64_t pages;
+    uint32_t refusal;
+    must(histar_open(&logged, 8));
+    must(histar_log_on(&logged, 1, HISTAR_LOG_ALL));
+    if (histar_segment_len(&logged, HISTAR_BOOT, in_root(HISTAR_ROOT), &pages) != HISTAR_WRONG_TYPE) return HISTAR_DONE;
+    must(histar_dump(&logged, before, sizeof before, &len));
+    refusal = histar_segment_len(&logged, HISTAR_BOOT, in_root(HISTAR_ROOT), &pages);
+    must(histar_dump(&logged, after, sizeof after, &late));
+    must(histar_close(&logged));
+    return late == len && !memcmp(before, after, len) && memmem(after, late, kept, sizeof kept - 1) ? refusal : HISTAR_DONE;
+}
 static uint32_t call_to_a_log_of_nothing(void)
 {
     uint32_t refusal = opens_logged(0);
@@ -715,6 +732,7 @@ static const struct row {
     {"a log begun after a call", HISTAR_BAD_BATCH, log_begun_late},
     {"a call past the log's bound", HISTAR_LOG_FULL, call_past_the_logs_bound},
     {"a call to a log of no calls", HISTAR_LOG_FULL, call_to_a_log_of_nothing},
+    {"a read past the bound of a log of all", HISTAR_LOG_FULL, read_past_the_bound_of_a_log_of_all},
     {"a call by the handler of a signal", HISTAR_BUSY, called_by_a_handler},
     {"a close by the handler of a signal", HISTAR_BUSY, closed_by_a_handler},
     {"an open by the handler of a signal", HISTAR_BUSY, opened_by_a_handler},

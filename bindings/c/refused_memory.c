@@ -81,6 +81,11 @@ static uint32_t creates_segment(void)
     histar_label guarded = histar_with(histar_level(1), category, 3);
     return histar_segment_create(&k, HISTAR_BOOT, HISTAR_ROOT, &guarded, 2, 1, &made);
 }
+static uint32_t reads_length(void)
+{
+    uint64_t pages;
+    return histar_segment_len(&k, HISTAR_BOOT, histar_in(HISTAR_ROOT, made), &pages);
+}
 static uint32_t keeps_root(void) { return histar_unref(&k, HISTAR_BOOT, histar_in(HISTAR_ROOT, HISTAR_ROOT)); }
 
 /* What a dump goes to: its text so far. */
@@ -111,15 +116,15 @@ static int is_given(const char *text, size_t len)
     return !refusal && it.len == len && !memcmp(it.text, text, len) && out <= before;
 }
 
-/* Whether logged calls are done, each once, and their dump is the one before where there was one. */
+/* Whether logged calls and a read are done, each once, and their dump is the one before where there was one. */
 static int is_logged(void)
 {
     static char text[2][4096];
     static size_t len[2];
     int n = len[0] != 0;
     uint32_t refusal;
-    if (histar_log_on(&k, 3, HISTAR_LOG_WRITES) || once_more(creates_category) || category.number != 1) return 0;
-    if (once_more(creates_segment) || made.id != 4 || once_more(keeps_root) != HISTAR_ROOT_KEPT) return 0;
+    if (histar_log_on(&k, 4, HISTAR_LOG_ALL) || once_more(creates_category) || category.number != 1) return 0;
+    if (once_more(creates_segment) || made.id != 4 || once_more(reads_length) || once_more(keeps_root) != HISTAR_ROOT_KEPT) return 0;
     refusal = histar_dump(&k, text[n], sizeof text[n], &len[n]);
     if (refusal == HISTAR_TEXT_MEMORY) again++, refusal = histar_dump(&k, text[n], sizeof text[n], &len[n]);
     if (refusal || !is_given(text[n], len[n])) return 0;
