@@ -62,7 +62,7 @@ told_event place (entries.Read l ∷ es) e [] told = told
 told_event place (entries.Read l ∷ es) e (r ∷ rs) told = (told.0, told.1, told.2, told_event place es e rs told.3)
 
 -- no read stands past the last event
-pub told_within : (place : ℕ) (es : List Entry) (rs : List PlacedRead) → Tell place es rs
+told_within : (place : ℕ) (es : List Entry) (rs : List PlacedRead) → Tell place es rs
     → AllByRecursion (λ (r : PlacedRead). r.place ≤ place + length (events_of es)) rs
 told_within place [] rs told =
     subst (λ (l : List PlacedRead). AllByRecursion (λ (r : PlacedRead). r.place ≤ place + 0) l) (sym told) tt
@@ -72,6 +72,11 @@ told_within place (entries.Event e ∷ es) rs told =
 told_within place (entries.Read l ∷ es) [] told = absurd told
 told_within place (entries.Read l ∷ es) (r ∷ rs) told =
     let at = told.0 in (omega (arith, at), told_within place es rs told.3)
+
+pub told_in : (es : List Entry) (rs : List PlacedRead) → Tell 0 es rs → AllByRecursion (λ (r : PlacedRead). r.place ≤ length (events_of es)) rs
+told_in es rs told =
+    let all : 0 + length (events_of es) ≡ length (events_of es) = omega arith in
+    subst (λ (n : ℕ). AllByRecursion (λ (r : PlacedRead). r.place ≤ n) rs) all (told_within 0 es rs told)
 
 -- each read's reply is the same with an event more
 pub answers_event : (start : Start) (events : List Event) (e : Event) (rs : List PlacedRead)
@@ -108,8 +113,13 @@ all_later thread place before last (entries.Read l ∷ es) (r ∷ rs) told rise 
     let own : nat_lt thread l.thread ≡ true = grind (arith, nat_tests, first, thread_is, less) in
     both _ _ own (all_later thread place r.place r.read.thread es rs told.3 parts.1 told.0 (omega (arith, first, less)) none)
 
+-- no events are none
+no_events : (events : List Event) → length events ≡ 0 → events ≡ []
+no_events [] is = refl
+no_events (e ∷ events) is = absurd (omega (arith, is))
+
 -- what reads tell with one more
-pub Told : (PlacedRead → Type 0) → ℕ → ℕ → ℕ → List Entry → Type 0
+abbrev pub Told : (PlacedRead → Type 0) → ℕ → ℕ → ℕ → List Entry → Type 0
 Told P place before last es =
     (rs : List PlacedRead) × Tell place es rs × (threads_rise before last rs ≡ true) × AllByRecursion P rs
 
@@ -126,6 +136,7 @@ tell_among P place before last r (entries.Event e ∷ es) rs told rise all own f
 tell_among P place before last r (entries.Read l ∷ es) [] told rise all own fits at least = absurd told
 tell_among P place before last r (entries.Read l ∷ es) (q ∷ rs) told rise all own fits at least =
     of (list_all (is_later r.read.thread) (entries.Read l ∷ es)) refl
+    (λ some. tell_among P place q.place q.read.thread r es rs told.3 parts.1 all.1 own fits at (after some))
   where
     parts : ((not (q.place == before) || nat_le last q.read.thread) ≡ true) × (threads_rise q.place q.read.thread rs ≡ true)
     parts = and_parts (not (q.place == before) || nat_le last q.read.thread) (threads_rise q.place q.read.thread rs) rise
@@ -145,13 +156,10 @@ tell_among P place before last r (entries.Read l ∷ es) (q ∷ rs) told rise al
             let rest = all_later r.read.thread place q.place q.read.thread es rs told.3 parts.1 told.0 less none in
             absurd (let no : false ≡ true = sym some ∙ both _ _ here rest in cc)
 
-        no_events : (events : List Event) → length events ≡ 0 → events ≡ []
-        no_events [] is = refl
-        no_events (e ∷ events) is = absurd (omega (arith, is))
-
     of : (b : Bool) → list_all (is_later r.read.thread) (entries.Read l ∷ es) ≡ b
+        → (list_all (is_later r.read.thread) (entries.Read l ∷ es) ≡ false → Told P place q.place q.read.thread (among (line_of r.read) es))
         → Told P place before last (if b then entries.Read (line_of r.read) ∷ entries.Read l ∷ es else entries.Read l ∷ among (line_of r.read) es)
-    of true is =
+    of true is next =
         let some = and_parts (nat_lt r.read.thread l.thread) (list_all (is_later r.read.thread) es) is in
         let none : length (events_of es) ≡ 0 = ap (λ (x : List Event). length x) (later_none r.read.thread es some.1) in
         let here : r.place ≡ place = omega (arith, at, none) in
@@ -159,12 +167,12 @@ tell_among P place before last r (entries.Read l ∷ es) (q ∷ rs) told rise al
         let less : r.read.thread < q.read.thread = grind (arith, nat_tests, some.0, thread_is) in
         let second : (not (q.place == r.place) || nat_le r.read.thread q.read.thread) ≡ true = grind (arith, nat_tests, less) in
         (r ∷ q ∷ rs, (here, refl, fits, told), both _ _ first (both _ _ second parts.1), (own, all))
-    of false is =
-        let rest = tell_among P place q.place q.read.thread r es rs told.3 parts.1 all.1 own fits at (after is) in
+    of false is next =
+        let rest = next is in
         (q ∷ rest.0, (told.0, told.1, told.2, rest.1), both _ _ parts.0 rest.2, (all.0, rest.3))
 
 -- they stand in the order of their places
-pub told_placed : (first place : ℕ) (es : List Entry) (rs : List PlacedRead) → first ≤ place → Tell place es rs
+told_placed : (first place : ℕ) (es : List Entry) (rs : List PlacedRead) → first ≤ place → Tell place es rs
     → are_placed first (place + length (events_of es)) rs ≡ true
 told_placed first place [] rs low told = ap (are_placed first (place + 0)) told
 told_placed first place (entries.Event e ∷ es) rs low told =
@@ -175,6 +183,11 @@ told_placed first place (entries.Read l ∷ es) (r ∷ rs) low told =
     let at = told.0 in
     both _ _ (le-leb first r.place (omega (arith, at, low))) (both _ _ (le-leb r.place (place + length (events_of es)) (omega (arith, at)))
     (told_placed r.place place es rs (omega (arith, at)) told.3))
+
+pub all_placed : (es : List Entry) (rs : List PlacedRead) → Tell 0 es rs → are_placed 0 (length (events_of es)) rs ≡ true
+all_placed es rs told =
+    let all : 0 + length (events_of es) ≡ length (events_of es) = omega arith in
+    subst (λ (n : ℕ). are_placed 0 n rs ≡ true) all (told_placed 0 0 es rs (omega arith) told)
 
 -- the lines of a read at the place, and of what comes after
 read_first : (place : ℕ) (events : List Event) (r : PlacedRead) (rs : List PlacedRead) → r.place ≡ place
@@ -251,7 +264,8 @@ parted r [] zero d within after before = refl
 parted r [] (suc n) d within after before = absurd (omega (arith, within))
 parted r (e ∷ es) zero d within after before =
     sym (ap (λ (b : Bool). if b then entries.Read r ∷ e ∷ es else e ∷ among r es) after)
-parted r (e ∷ es) (suc n) d within after before = of (list_all (is_later r.thread) (e ∷ es)) refl
+parted r (e ∷ es) (suc n) d within after before =
+    of (list_all (is_later r.thread) (e ∷ es)) refl (parted r es n d (omega (arith, within)) after (last_next r.thread e es n d not_last))
   where
     not_last : is_later r.thread (get_or (e ∷ es) n d) ≡ false
     not_last = by before
@@ -260,7 +274,7 @@ parted r (e ∷ es) (suc n) d within after before = of (list_all (is_later r.thr
         by (inl none) = absurd (omega (arith, none))
         by (inr not) = let is : suc n - 1 ≡ n = omega arith in sym (ap (λ i. is_later r.thread (get_or (e ∷ es) i d)) is) ∙ not
 
-    of : (b : Bool) → list_all (is_later r.thread) (e ∷ es) ≡ b
+    of : (b : Bool) → list_all (is_later r.thread) (e ∷ es) ≡ b → take n es ++ entries.Read r ∷ drop n es ≡ among r es
         → e ∷ (take n es ++ entries.Read r ∷ drop n es) ≡ (if b then entries.Read r ∷ e ∷ es else e ∷ among r es)
-    of true all = absurd (let no : false ≡ true = sym not_last ∙ one_of r.thread (e ∷ es) n d all (omega (arith, within)) in cc)
-    of false some = ap (λ (l : List Entry). e ∷ l) (parted r es n d (omega (arith, within)) after (last_next r.thread e es n d not_last))
+    of true all rest = absurd (let no : false ≡ true = sym not_last ∙ one_of r.thread (e ∷ es) n d all (omega (arith, within)) in cc)
+    of false some rest = ap (λ (l : List Entry). e ∷ l) rest

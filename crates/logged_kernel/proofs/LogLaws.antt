@@ -1,5 +1,5 @@
 -- A legal list of events with that of one call more.
-use Rattle.std.proofs.Common.{◌≡◌, ℕ, ◌+◌, ◌-◌, ◌<◌, ◌≤◌, ◌==◌, ◌&&◌, nat_lt, nat_le, true, false, if◌then◌else◌, Bool, Option, IfSome, Result, Ok, Err, IfOk, length, take, drop, get_or, List, [], ◌∷◌, ◌++◌, Some, None, refl, sym, ap, ◌∙◌, subst, arith}
+use Rattle.std.proofs.Common.{◌≡◌, ℕ, ◌+◌, ◌-◌, ◌<◌, ◌≤◌, ◌==◌, ◌&&◌, nat_lt, nat_le, true, false, if◌then◌else◌, Bool, Option, IfSome, Result, Ok, Err, IfOk, OnOk, OnErr, length, take, drop, get_or, List, [], ◌∷◌, ◌++◌, Some, None, refl, sym, ap, ◌∙◌, subst, arith}
 use Rattle.std.proofs.lemmas.Bool.Decides.{nat_tests}
 use Rattle.base.specs.declared.ranges.Limits.{Limits}
 use Rattle.checkpoints.proofs.LimitsLaws.{next_limits}
@@ -16,7 +16,7 @@ use Rattle.kernel_rules.specs.Step.{answer, next}
 use Rattle.kernel_rules.specs.declared.calls.Call.{Call}
 use Rattle.kernel_rules.specs.Events.{Event, told}
 use Rattle.kernel_rules.specs.History.{Start, count, state_from, IsLegalFrom}
-use Rattle.kernel_rules.proofs.HistoryLaws.{legal-snoc_from, state_from-snoc, count-append}
+use Rattle.kernel_rules.proofs.HistoryLaws.{legal-snoc_from, legal_none_from, state_from-snoc, count-append}
 use Rattle.syscall_core.proofs.CheckpointLaws.{unrefused}
 use Rattle.syscall_core.specs.Kernel.{kernel_state}
 use Rattle.syscall_core.specs.Restored.{restore_refusal}
@@ -30,8 +30,10 @@ use Rattle.dump_text.specs.Whole.{raw_reply, AreRead, IsAnsweredRightly}
 use Rattle.dump_text.specs.declared.lines.Line.TheVariants as lines
 use Rattle.dump_text.specs.declared.reads.Read.{Read}
 use Rattle.dump_text.specs.declared.tables.PlacedRead.{PlacedRead}
-use Rattle.logged_kernel.proofs.EntryLaws.{answers_event, events_among, events_append, tell_among, told_event, told_within}
-use Rattle.logged_kernel.specs.Entries.{events_of}
+use Rattle.logged_kernel.proofs.EntryLaws.{answers_event, events_among, events_append, tell_among, told_event, told_in}
+use Rattle.base.specs.Limits.{in_range}
+use Rattle.kernel_rules.specs.declared.replies.Reply.{Reply}
+use Rattle.logged_kernel.specs.Entries.{among, events_of}
 use Rattle.logged_kernel.specs.ReadLines.{line_of, read_of}
 use Rattle.logged_kernel.specs.declared.entries.Entry.{Entry}
 use Rattle.logged_kernel.specs.declared.entries.Entry.TheVariants as entries
@@ -67,7 +69,7 @@ leads_call start s thread call kept leads =
         leads.told.0,
         told_event 0 kept event leads.told.0 leads.told.1,
         subst (λ (l : List Event). AreRead start l leads.told.0) (sym more) (record {
-          answers = answers_event start events event leads.told.0 (told_within 0 kept leads.told.0 leads.told.1) read.answers;
+          answers = answers_event start events event leads.told.0 (told_in kept leads.told.0 leads.told.1) read.answers;
           rising = read.rising;
         }),
       );
@@ -86,12 +88,30 @@ leads_read start s thread query kept leads fits =
     let right : IsAnsweredRightly start events placed_read =
     ap (λ (z : State). raw_reply (query_answer z thread query)) (sym now) in
     let more = tell_among (IsAnsweredRightly start events) 0 0 0 placed_read kept leads.told.0 leads.told.1 leads.told.2.rising leads.told.2.answers
-    right fits refl (λ is. omega arith) in
+    right fits (omega arith) (λ is. omega arith) in
     record {
       legal = subst (λ (l : List Event). IsLegalFrom start l) (sym same) leads.legal;
       state = leads.state ∙ ap (state_from start.state) (sym same);
       told = (more.0, more.1, subst (λ (l : List Event). AreRead start l more.0) (sym same) (record { answers = more.3; rising = more.2 }));
     }
+
+-- nothing leads to the state at which a log begins
+pub leads_none : (limits : Limits) (origin : Checkpoint) (s : State) → s ≡ restored limits origin → Leads (start_of limits origin) s []
+leads_none limits origin s is = record {
+  legal = legal_none_from (start_of limits origin) [] refl;
+  state = is;
+  told = ([], refl, record { answers = tt; rising = refl });
+}
+
+pub sound_begun : (limits : Limits) (origin : Checkpoint) (s : State) (is_new : Bool) → s.limits ≡ limits → in_range limits ≡ true
+    → is_restorable limits origin ≡ true → s ≡ restored limits origin → IsSound limits origin s is_new (Some [])
+sound_begun limits origin s is_new same range fit is = record {
+  same = same;
+  range = range;
+  fit = fit;
+  new = λ e. is;
+  log = leads_none limits origin s is;
+}
 
 -- an event after which its thread has none has the last number of its thread
 pub number_found : (first : List NextNumber) (events before after : List Event) (e : Event) (thread : ℕ) → AreCounted first events
@@ -170,6 +190,18 @@ sound_asked limits origin s is_new old new thread query sound fits added = recor
   new = sound.new;
   log = rw added (leads_read (start_of limits origin) s thread query old sound.log fits);
 }
+
+-- the same, whether there was memory for it or not
+pub sound_read : {A E : Type 0} (r : Result A E) (limits : Limits) (origin : Checkpoint) (s : State) (is_new : Bool) (old new : List Entry)
+    (thread : ℕ) (query : Query) (reply : Reply) → IsSound limits origin s is_new (Some old) → reply ≡ query_answer s thread query
+    → OnOk r (new ≡ among (line_of (read_of thread query reply)) old) → OnOk r (FitsLine (lines.Read (read_of thread query reply)))
+    → OnErr r (new ≡ old) → IsSound limits origin s is_new (Some new)
+sound_read (Ok x) limits origin s is_new old new thread query reply sound is kept fits same =
+    sound_asked limits origin s is_new old new thread query sound
+    (subst (λ (a : Reply). FitsLine (lines.Read (read_of thread query a))) is fits)
+    (kept ∙ ap (λ (a : Reply). among (line_of (read_of thread query a)) old) is)
+sound_read (Err e) limits origin s is_new old new thread query reply sound is kept fits same =
+    subst (λ (l : List Entry). IsSound limits origin s is_new (Some l)) (sym same) sound
 
 -- the numbers of a checkpoint that can be restored are from 2
 pub first_later : (limits : Limits) (c : Checkpoint) → is_restorable limits c ≡ true

@@ -19,14 +19,16 @@ use Rattle.dump_text.specs.Dump.{dump_text, history_lines, IsDump}
 use Rattle.dump_text.specs.Fits.{FitsLine, FitTables, FitsWords}
 use Rattle.dump_text.specs.Line.{line_text}
 use Rattle.dump_text.specs.Lists.{DumpLists, TableLists}
+use Rattle.dump_text.specs.Reads.{read_line}
 use Rattle.dump_text.specs.Pieces.{head_lines, joined, piece_at, tail_lines}
 use Rattle.dump_text.specs.Whole.{placed, whole_dump, IsLegalDump}
 use Rattle.dump_text.specs.declared.lines.Line.{Line}
 use Rattle.dump_text.specs.declared.pieces.Piece.{Piece}
 use Rattle.dump_text.specs.declared.tables.PlacedRead.{PlacedRead}
-use Rattle.logged_kernel.proofs.EntryLaws.{told_fits, told_placed, told_text}
+use Rattle.logged_kernel.proofs.EntryLaws.{all_placed, told_fits, told_text}
 use Rattle.logged_kernel.specs.Entries.{FitsEntry, Tell, entry_text, events_of}
 use Rattle.logged_kernel.specs.Logged.{Logged, ArePieces, FitsPiece, IsRight, piece_text}
+use Rattle.logged_kernel.specs.ReadLines.{ReadLine}
 use Rattle.logged_kernel.specs.declared.entries.Entry.{Entry}
 use Rattle.logged_kernel.specs.declared.entries.Entry.TheVariants as entries
 
@@ -36,7 +38,7 @@ solid place [] rs told = tt
 solid place (entries.Event e ∷ es) rs told = (no_event e, solid (place + 1) es rs told)
 solid place (entries.Read l ∷ es) [] told = absurd told
 solid place (entries.Read l ∷ es) (r ∷ rs) told =
-    (λ rest h. some (line_text _) rest (ap (λ (t : List ℕ). t ++ rest) (sym (ap (λ x. x.line) told.1)) ∙ h), solid place es rs told.3)
+    (λ rest h. some (line_text (read_line r)) rest (ap (λ (t : List ℕ). t ++ rest) (sym (ap (λ (x : ReadLine). x.line) told.1)) ∙ h), solid place es rs told.3)
   where
     some : (text rest : List ℕ) → ((text ++ 10 ∷ []) ++ []) ++ rest ≡ [] → ⊥
     some [] rest h = cc
@@ -121,7 +123,7 @@ pieces_legal k kept texts n right are =
       tables = subst (λ (t : TableLists). FitTables t) (tables_are k kept reads right) fit.2;
     } in
     let dumped = legal_dump k.limits (Some k.origin) events reads right.range right.begin right.leads.legal read.answers
-    (told_placed 0 0 kept reads (omega arith) told) fits in (
+    (all_placed kept reads told) fits in (
       right.range,
       right.begin,
       (events, reads, right.leads.legal, read, subst (λ (bytes : List ℕ). IsDump bytes (dump k events reads)) (sym (pieces_text k kept reads texts n right told are)) dumped),

@@ -1,11 +1,11 @@
 //! What a log keeps: events, and reads among them.
-ghost use Rattle.std.specs.Prelude.{◌≡◌, ◌≤◌, ◌++◌, ◌∷◌, IfOk, OnOk, length, take, drop};
+ghost use Rattle.std.specs.Prelude.{◌≡◌, ◌≤◌, ◌++◌, ◌∷◌, ℕ, List, IfOk, OnOk, length, take, drop};
 ghost use Rattle.std.specs.List.{AllByRecursion, flat_map};
 ghost use Rattle.dump_text.specs.Fits.{FitsLine};
 ghost use Rattle.dump_text.specs.declared.lines.Line.TheVariants as lines;
 ghost use Rattle.logged_kernel.specs.Entries.{FitsEntry, among, entry_text, is_later};
 ghost use Rattle.logged_kernel.specs.ReadLines.{line_of, read_of};
-ghost use Rattle.logged_kernel.specs.declared.entries.Entry.TheVariants as entries;
+ghost use Rattle.logged_kernel.specs.declared.entries.Entry.TheVariants as told;
 
 use base::{Meter, NoMemory, ObjectId};
 use dump_text::{Read, put_event, put_read_line, raw_reply};
@@ -75,7 +75,7 @@ fn is_later(thread: ObjectId, entry: &Entry) -> bool
 pub(crate) fn place_of(entries: &[Entry], thread: ObjectId) -> usize
     ensures within { result ≤ length entries.now }
     ensures place { (line : List ℕ)
-        → take result entries.now ++ entries.Read (record { thread = thread; line = line }) ∷ drop result entries.now
+        → take result entries.now ++ told.Read (record { thread = thread; line = line }) ∷ drop result entries.now
         ≡ among (record { thread = thread; line = line }) entries.now }
 {
     let mut at = entries.len();

@@ -31,14 +31,6 @@ pub enum NotKept {
     LogFull,
 }
 
-impl From<NoMemory> for NotKept {
-    fn from(_none: NoMemory) -> NotKept
-        ensures { result ≡ NotKept.NoMemory }
-    {
-        NotKept::NoMemory
-    }
-}
-
 /// A kernel, and the log of its calls where one is kept. A contract sees the kernel, its limits, the checkpoint at which the
 /// log begins, whether no write call was made since, what is kept, how much there may be, and whether reads are kept. The
 /// events are legal from there, the kernel is in the state that they lead to, and each read has the rules' reply at its place.
@@ -153,14 +145,13 @@ impl LoggedKernel {
         true
     }
 
-    // The error is that the log has as much as it may have.
-    fn has_room(&self) -> Result<(), NotKept>
-        ensures full { IsErrOf result NotKept.LogFull ↔ (is_full self.now ≡ true) }
-        ensures alone { IfErr result (λ why. why ≡ NotKept.LogFull) }
+    // Whether the log has as much as it may have.
+    fn is_full(&self) -> bool
+        ensures { result ≡ is_full self.now }
     {
         match &self.log {
-            Some(log) if self.most <= log.entries.len() as u64 => Err(NotKept::LogFull),
-            _ => Ok(()),
+            None => false,
+            Some(log) => self.most <= log.entries.len() as u64,
         }
     }
 
@@ -213,12 +204,16 @@ impl LoggedKernel {
         ensures full { IsErrOf result NotKept.LogFull ↔ (is_full self.old ≡ true) }
         ensures sure { self.old.log ≡ None → OnErr result ⊥ }
     {
-        self.has_room()?;
-        self.make(thread, call, reply, meter)?;
-        Ok(())
+        if self.is_full() {
+            return Err(NotKept::LogFull);
+        }
+        match self.make(thread, call, reply, meter) {
+            Ok(()) => Ok(()),
+            Err(_) => Err(NotKept::NoMemory),
+        }
     }
 
-    // Asks a query of a thread, and keeps it where a log is, however much that has. The error is want of memory for it.
+    // Asks a query of a thread, and keeps it where reads are kept, however much the log has. The error is want of memory for it.
     fn ask(
         &mut self,
         thread: ObjectId,
@@ -226,13 +221,15 @@ impl LoggedKernel {
         reply: &mut Reply,
         meter: &mut Meter,
     ) -> Result<(), NoMemory>
-        requires { self.old.reads ≡ true }
         ensures reply { reply.new ≡ query_answer (kernel_state self.old.kernel) thread query.now }
         ensures log { OnOk result (self.new ≡ with_query self.old thread query.now) }
         ensures kept { OnErr result (self.new ≡ self.old) }
-        ensures sure { self.old.log ≡ None → OnErr result ⊥ }
+        ensures sure { keeps_reads self.old ≡ false → OnErr result ⊥ }
     {
         self.kernel.ask_into(thread, query, reply, meter);
+        if !self.reads {
+            return Ok(());
+        }
         match &mut self.log {
             None => Ok(()),
             Some(log) => keep_read(log, thread, query, reply, meter),
@@ -256,13 +253,13 @@ impl LoggedKernel {
         ensures full { IsErrOf result NotKept.LogFull ↔ (self.old.reads && is_full self.old ≡ true) }
         ensures sure { keeps_reads self.old ≡ false → OnErr result ⊥ }
     {
-        if !self.reads {
-            self.kernel.ask_into(thread, query, reply, meter);
-            return Ok(());
+        if self.reads && self.is_full() {
+            return Err(NotKept::LogFull);
         }
-        self.has_room()?;
-        self.ask(thread, query, reply, meter)?;
-        Ok(())
+        match self.ask(thread, query, reply, meter) {
+            Ok(()) => Ok(()),
+            Err(NoMemory) => Err(NotKept::NoMemory),
+        }
     }
 
     /// A piece of the text of the log's dump, by its number; none where no log is kept. Number 0 has what stands before the

@@ -92,11 +92,14 @@ fn note_events(
 {
     let _ = first;
     for entry in entries {
-        if let Entry::Event(event) = entry {
-            let Some(number) = later(event.number()) else {
-                return Err(NoMemory);
-            };
-            note(numbers, event.thread(), number, next_id)?;
+        match entry {
+            Entry::Event(event) => {
+                let Some(number) = later(event.number()) else {
+                    return Err(NoMemory);
+                };
+                note(numbers, event.thread(), number, next_id)?;
+            }
+            Entry::Read(_) => {}
         }
     }
     Ok(())

@@ -10,6 +10,7 @@ use Rattle.checkpoints.specs.declared.checkpoints.NextNumber.{NextNumber}
 use Rattle.kernel_rules.specs.History.{count}
 use Rattle.plain_core.proofs.NumberLaws.{number_is, all_are}
 use Rattle.logged_kernel.proofs.NumberLaws.{noted_parts}
+use Rattle.logged_kernel.specs.Entries.{events_of}
 use Rattle.logged_kernel.proofs.numbers.next_numbers.Goals as goal
 
 pub returns-clause-numbers : goal.returns-clause-numbers
@@ -18,8 +19,8 @@ returns-clause-numbers c =
     number_is next.items t
     ∙ ap (λ (es : List (ℕ × ℕ)). unwrap_or (lookup (is_at (nat_cmp t)) es) 1) h
     ∙ c.in_ok-note_events.ensures.value t below
-    ∙ ap (λ (ns : List NextNumber). count t c.args.events.now + number_of ns t) c.as_slice-first.ensures.value
-    ∙ ap (λ (o : Checkpoint). count t c.args.events.now + number_of o.next t) c.origin.view_is) c.listed.ensures.value
+    ∙ ap (λ (ns : List NextNumber). count t (events_of c.args.entries.now) + number_of ns t) c.as_slice-first.ensures.value
+    ∙ ap (λ (o : Checkpoint). count t (events_of c.args.entries.now) + number_of o.next t) c.origin.view_is) c.listed.ensures.value
 
 pub returns-clause-later : goal.returns-clause-later
 returns-clause-later c =
