@@ -3,7 +3,7 @@ use Rattle.std.proofs.Common.{◌≡◌, ℕ, suc, ◌+◌, ◌<◌, ◌≤◌, 
 use Rattle.std.specs.List.{AllByRecursion, flat_map, list_all}
 use Rattle.std.proofs.lemmas.Bool.{and_parts, le-leb, ltb-true, ltb-false, ne_eqb}
 use Rattle.std.proofs.lemmas.Bool.Decides.{nat_tests}
-use Rattle.std.proofs.lemmas.List.{append-nil, drop_more, take-append-drop, take-append-le, take_more}
+use Rattle.std.proofs.lemmas.List.{drop_more, take-append-drop, take-append-le, take_more}
 use Rattle.call_text.specs.Text.{lines_text}
 use Rattle.kernel_rules.specs.Events.{Event}
 use Rattle.kernel_rules.specs.History.{Start, state_from}

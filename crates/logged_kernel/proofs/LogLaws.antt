@@ -1,5 +1,5 @@
 -- A legal list of events with that of one call more.
-use Rattle.std.proofs.Common.{◌≡◌, ℕ, ◌+◌, ◌-◌, ◌<◌, ◌≤◌, ◌==◌, ◌&&◌, nat_lt, nat_le, true, false, if◌then◌else◌, Bool, Option, IfSome, Result, Ok, Err, IfOk, OnOk, OnErr, length, take, drop, get_or, List, [], ◌∷◌, ◌++◌, Some, None, refl, sym, ap, ◌∙◌, subst, arith}
+use Rattle.std.proofs.Common.{◌≡◌, ℕ, ◌+◌, ◌==◌, ◌&&◌, nat_lt, nat_le, true, false, if◌then◌else◌, Bool, Option, IfSome, Result, Ok, Err, IfOk, OnOk, OnErr, length, take, List, [], ◌∷◌, ◌++◌, Some, None, refl, sym, ap, ◌∙◌, subst, arith}
 use Rattle.std.proofs.lemmas.Bool.Decides.{nat_tests}
 use Rattle.base.specs.declared.ranges.Limits.{Limits}
 use Rattle.checkpoints.proofs.LimitsLaws.{next_limits}

@@ -1,6 +1,6 @@
 -- The pieces of a log's dump, one after another.
 use Rattle.std.proofs.Common.{◌≡◌, ℕ, zero, suc, ◌+◌, ◌*◌, ◌/◌, ◌<◌, ◌≤◌, nat_lt, Bool, true, false, List, [], ◌∷◌, ◌++◌, length, take, drop, Some, refl, ap, ◌∙◌, sym, subst, arith}
-use Rattle.std.specs.List.{flat_map, AllByRecursion}
+use Rattle.std.specs.List.{AllByRecursion}
 use Rattle.std.proofs.lemmas.Bool.{ltb-true, ltb-false}
 use Rattle.std.proofs.Math.Seq.{take-add}
 use Rattle.std.proofs.lemmas.List.{drop_all, take_all}
@@ -23,11 +23,10 @@ use Rattle.dump_text.specs.Reads.{read_line}
 use Rattle.dump_text.specs.Pieces.{head_lines, joined, piece_at, tail_lines}
 use Rattle.dump_text.specs.Whole.{placed, whole_dump, IsLegalDump}
 use Rattle.dump_text.specs.declared.lines.Line.{Line}
-use Rattle.dump_text.specs.declared.pieces.Piece.{Piece}
 use Rattle.dump_text.specs.declared.tables.PlacedRead.{PlacedRead}
 use Rattle.logged_kernel.proofs.EntryLaws.{all_placed, told_fits, told_text}
 use Rattle.logged_kernel.specs.Entries.{FitsEntry, Tell, entry_text, events_of}
-use Rattle.logged_kernel.specs.Logged.{Logged, ArePieces, FitsPiece, IsRight, piece_text}
+use Rattle.logged_kernel.specs.Logged.{Logged, ArePieces, FitsPiece, IsRight}
 use Rattle.logged_kernel.specs.ReadLines.{ReadLine}
 use Rattle.logged_kernel.specs.declared.entries.Entry.{Entry}
 use Rattle.logged_kernel.specs.declared.entries.Entry.TheVariants as entries

@@ -4,7 +4,7 @@ use Rattle.std.specs.BTreeMap.{get}
 use Rattle.checkpoints.specs.Starts.{number_of}
 use Rattle.logged_kernel.proofs.NumberLaws.{counted_at, counted_more, counted_read, noted_value, number_some}
 use Rattle.logged_kernel.proofs.numbers.note_events.Goals as goal
-use Rattle.logged_kernel.proofs.numbers.note_events.Goals.{in-Event+in-Some+in_ok-note, in-Read}
+use Rattle.logged_kernel.proofs.numbers.note_events.Goals.{in-Event+in-Some+in_ok-note-in-Event, in-Read}
 
 pub note-requires : goal.note-requires
 note-requires c =
@@ -21,15 +21,15 @@ loop-entry-preserved c =
     let place = c.loop-entry.entry-index in
     let x = c.entry-item.result in
     elim c.match-entry.branch [
-      | in-Event+in-Some+in_ok-note w ↦ rw w.numbers-is (record {
+      | in-Event+in-Some+in_ok-note-in-Event w ↦ rw w.numbers-is (record {
         value = λ t below.
-            ap (λ (o : Option ℕ). unwrap_or o 1) (w.in_ok-note.ensures.value t below)
+            ap (λ (o : Option ℕ). unwrap_or o 1) (w.in_ok-note-in-Event.ensures.value t below)
             ∙ noted_value (w.thread.result == t) w.in-Some.number (get nat_cmp c.loop-entry.numbers t)
             ∙ ap (λ (k : ℕ). cond (k == t) w.in-Some.number (unwrap_or (get nat_cmp c.loop-entry.numbers t) 1)) w.thread.ensures
             ∙ counted_more first es place x w.in-Event.event t (unwrap_or (get nat_cmp c.loop-entry.numbers t) 1) w.in-Some.number
             c.requires.events c.loop-entry-test.true c.entry-item.is w.in-Event.is (c.loop-entry.invariant.value t below)
             (w.in-Some.ensures ∙ ap (λ n. n + 1) w.number.ensures);
-        noted = w.in_ok-note.ensures.noted c.loop-entry.invariant.noted;
+        noted = w.in_ok-note-in-Event.ensures.noted c.loop-entry.invariant.noted;
       })
       | in-Read w ↦ rw w.numbers-is (record {
         value = λ t below.
