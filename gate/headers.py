@@ -6,7 +6,7 @@ import re
 # a number of the answer that is taken from the next place.
 TURNS = (
     (r"(HISTAR_CALL_\w+) = (\d+)", lambda it: f"{it[1]} = {int(it[2]) % 42 + 1}" if int(it[2]) < 43 else None),
-    (r"k->request\.numbers\[\d\] = (?!at|change|most)\w+;", lambda it: ""),
+    (r"k->request\.numbers\[\d\] = (?!at|change|most|keeps)\w+;", lambda it: ""),
     (r"k->request\.(?:label|clearance|verify) = \*(\w+);", lambda it: f"(void){it[1]};"),
     (r"(k->request\.other_\w+) = (\w+)\.container\.id;", lambda it: f"{it[1]} = {it[2]}.object.id;"),
     (r"(k->request\.other_\w+) = (\w+)\.object\.id;", lambda it: f"{it[1]} = {it[2]}.container.id;"),
@@ -47,6 +47,9 @@ GUARDS = (
     ("    k->request.numbers[0] = most;\n", "    k->request.numbers[0] = UINT64_MAX;\n"),
     ("HISTAR_CALL_LOG_CUT, HISTAR_NOTHING, HISTAR_NOWHERE);\n    if (refusal) return refusal;\n    k->request.numbers[0] = most;\n",
      "HISTAR_CALL_LOG_CUT, HISTAR_NOTHING, HISTAR_NOWHERE);\n    if (refusal) return refusal;\n    k->request.numbers[0] = UINT64_MAX;\n"),
+    ("    k->request.numbers[1] = keeps;\n", "    k->request.numbers[1] = 0;\n"),
+    ("HISTAR_CALL_LOG_CUT, HISTAR_NOTHING, HISTAR_NOWHERE);\n    if (refusal) return refusal;\n    k->request.numbers[0] = most;\n    k->request.numbers[1] = keeps;\n",
+     "HISTAR_CALL_LOG_CUT, HISTAR_NOTHING, HISTAR_NOWHERE);\n    if (refusal) return refusal;\n    k->request.numbers[0] = most;\n    k->request.numbers[1] = 0;\n"),
     (", uint64_t offset,", ", uint32_t offset,"),
     ("void *bytes, uint64_t len)", "void *bytes, uint32_t len)"),
 )

@@ -277,7 +277,7 @@ static uint32_t call_past_the_logs_bound(void)
     must(histar_close(&logged));
     return memmem(after, late, "event 2 4 cat_create => cat #4\n", 31) ? refusal : HISTAR_DONE;
 }
-/* A read that the rules refuse is kept where all are. One past the bound leaves the dump as it was. */
+/* A read that the rules refuse is kept where all are, from a cut on too. One past the bound leaves the dump as it was. */
 static uint32_t read_past_the_bound_of_a_log_of_all(void)
 {
     static const char kept[] = "read 2 segment_len #1 #1 => refused 4 WrongType\n";
@@ -291,8 +291,12 @@ static uint32_t read_past_the_bound_of_a_log_of_all(void)
     must(histar_dump(&logged, before, sizeof before, &len));
     refusal = histar_segment_len(&logged, HISTAR_BOOT, in_root(HISTAR_ROOT), &pages);
     must(histar_dump(&logged, after, sizeof after, &late));
+    if (late != len || memcmp(before, after, len) || !memmem(after, late, kept, sizeof kept - 1)) return HISTAR_DONE;
+    must(histar_log_cut(&logged, 1, HISTAR_LOG_ALL));
+    if (histar_segment_len(&logged, HISTAR_BOOT, in_root(HISTAR_ROOT), &pages) != HISTAR_WRONG_TYPE) return HISTAR_DONE;
+    if (histar_segment_len(&logged, HISTAR_BOOT, in_root(HISTAR_ROOT), &pages) != refusal) return HISTAR_DONE;
     must(histar_close(&logged));
-    return late == len && !memcmp(before, after, len) && memmem(after, late, kept, sizeof kept - 1) ? refusal : HISTAR_DONE;
+    return refusal;
 }
 static uint32_t call_to_a_log_of_nothing(void)
 {
