@@ -32,7 +32,7 @@ pub struct Options {
     pub node: Name,
     /// What each machine boots with. A node with other limits does not start.
     pub limits: Vec<u8>,
-    /// How many entries may be on their way at once.
+    /// How many entries may be on their way at once. What is submitted waits until it is a lane's share of all that has no receipt yet.
     pub lanes: usize,
     /// Nodes compare their states, and the log may be dropped, after so many entries. The first node's holds for all.
     pub interval: u64,

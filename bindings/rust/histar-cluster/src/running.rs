@@ -7,7 +7,7 @@ use histar::trusted::{Record, Thread};
 use histar::{Call, Kernel, Refused, Reply};
 use std::collections::HashMap;
 use std::fmt;
-use std::sync::mpsc::{channel, Receiver, RecvTimeoutError, Sender};
+use std::sync::mpsc::{channel, sync_channel, Receiver, RecvTimeoutError, Sender, SyncSender};
 use std::sync::{Arc, Condvar, Mutex, MutexGuard, PoisonError};
 use std::time::Duration;
 
@@ -21,8 +21,13 @@ struct Core<M: Machine> {
     node: Node<M>,
     asks: Option<Asks>,
     tickets: u64,
-    waiting: HashMap<u64, Sender<Receipt<M::Reply>>>,
+    waiting: HashMap<u64, SyncSender<Receipt<M::Reply>>>,
+    // How many threads wait until the node goes on.
+    watchers: usize,
 }
+
+/// A receipt, and where it goes.
+type Sent<R> = (SyncSender<Receipt<R>>, Receipt<R>);
 
 struct Shared<M: Machine> {
     core: Mutex<Core<M>>,
@@ -31,22 +36,22 @@ struct Shared<M: Machine> {
 }
 
 impl<M: Machine> Core<M> {
-    /// Asks and tells what the node wants. A node that has stopped tells nobody anything more.
-    fn act(&mut self) {
+    /// Asks what the node wants, and gives what is to be told. A node that has stopped tells nobody anything more.
+    fn act(&mut self) -> Vec<Sent<M::Reply>> {
+        let mut told = Vec::new();
         while let Some(output) = self.node.next_output() {
             match (output, &self.asks) {
                 (Output::Ask(number, request), Some(asks)) => asks(number, request),
                 (Output::Ask(..), None) => {}
                 (Output::Tell(ticket, receipt), _) => {
-                    if let Some(waiting) = self.waiting.remove(&ticket) {
-                        let _ = waiting.send(receipt); // (the caller may have stopped waiting)
-                    }
+                    told.extend(self.waiting.remove(&ticket).map(|waiting| (waiting, receipt)));
                 }
             }
         }
         if self.node.fault().is_some() {
             self.waiting.clear();
         }
+        told
     }
 }
 
@@ -59,9 +64,15 @@ impl<M: Machine> Shared<M> {
     fn with<T>(&self, act: impl FnOnce(&mut Core<M>) -> T) -> T {
         let mut core = self.core();
         let done = act(&mut core);
-        core.act();
-        drop(core);
-        self.goes_on.notify_all();
+        let told = core.act();
+        let is_watched = core.watchers > 0;
+        drop(core); // (who gets a receipt submits again)
+        if is_watched {
+            self.goes_on.notify_all();
+        }
+        for (waiting, receipt) in told {
+            let _ = waiting.send(receipt); // (the caller may have stopped waiting)
+        }
         done
     }
 }
@@ -115,7 +126,7 @@ where
 {
     /// Starts a node.
     pub fn open(engine: impl Engine, options: Options) -> Running<M> {
-        let core = Core { node: Node::new(options), asks: None, tickets: 0, waiting: HashMap::new() };
+        let core = Core { node: Node::new(options), asks: None, tickets: 0, waiting: HashMap::new(), watchers: 0 };
         let shared = Arc::new(Shared { core: Mutex::new(core), goes_on: Condvar::new() });
         let weak = Arc::downgrade(&shared);
         let asks = engine.start(Answers(weak.clone()));
@@ -139,7 +150,7 @@ where
             if let Some(fault) = core.node.fault() {
                 return Err(Uncalled::Stopped(fault.clone()));
             }
-            let (sender, receipt) = channel();
+            let (sender, receipt) = sync_channel(1);
             core.tickets += 1;
             if !core.node.submit(core.tickets, items) {
                 return Err(Uncalled::NoCall);
@@ -193,7 +204,9 @@ where
             if holds(&mut core.node) {
                 return Ok(core);
             }
+            core.watchers += 1;
             core = self.shared.goes_on.wait(core).unwrap_or_else(PoisonError::into_inner);
+            core.watchers -= 1;
         }
     }
 

@@ -2,11 +2,11 @@
 #[path = "simulation/model.rs"]
 mod model;
 
-use histar_cluster::engine::{Answers, Engine, Request};
+use histar_cluster::engine::{Answer, Answers, Engine, Request};
 use histar_cluster::memory::{Memory, Store};
-use histar_cluster::{Fault, Item, Name, Options, Receipt, Running, Told, Uncalled};
+use histar_cluster::{Fault, Item, Name, Node, Options, Output, Receipt, Running, Told, Uncalled};
 use model::{Call, Model, Reply};
-use std::collections::BTreeSet;
+use std::collections::{BTreeSet, VecDeque};
 use std::sync::atomic::{AtomicBool, AtomicU64, Ordering};
 use std::time::Duration;
 
@@ -134,6 +134,89 @@ fn a_thread_calls_by_its_node_alone() {
     assert_eq!(told(&north, &[Item::HandOver { thread, to: name("south") }]), [Told::Done]);
     assert!(matches!(told(&south, &[call(thread, 3, 0)])[0], Told::Reply(_)));
     assert_eq!(told(&north, &[call(thread, 4, 0)]), [Told::OtherNode]);
+}
+
+/// A node over a store that puts its entries one by one, when it is told to.
+struct Held {
+    node: Node<Model>,
+    store: Store,
+    watch: Option<(u64, Request)>,
+    seen: u64,
+    entries: VecDeque<(u64, Request)>,
+    told: Vec<u64>,
+}
+
+impl Held {
+    fn new() -> Held {
+        let (node, store) = (Node::new(Options { interval: 1 << 40, ..options("north") }), Store::new());
+        let mut held = Held { node, store, watch: None, seen: 0, entries: VecDeque::new(), told: Vec::new() };
+        while held.node.status().and_then(|status| status.incarnation).is_none() {
+            held.settle();
+            held.node.tick();
+        }
+        held.settle();
+        held.put();
+        held
+    }
+
+    /// Does all that the node asks but for entries.
+    fn settle(&mut self) {
+        while let Some(output) = self.node.next_output() {
+            match output {
+                Output::Tell(ticket, _) => self.told.push(ticket),
+                Output::Ask(number, Request::Put { key, value, lease: None, only_new: false }) => {
+                    self.entries.push_back((number, Request::Put { key, value, lease: None, only_new: false }))
+                }
+                Output::Ask(number, request) => self.act(number, request),
+            }
+        }
+    }
+
+    fn act(&mut self, number: u64, request: Request) {
+        let answer = self.store.act(&request, 100);
+        if let Request::Watch { after, .. } = &request {
+            self.seen = *after;
+            self.watch = Some((number, request));
+        }
+        self.node.answer(number, self.store.id, answer);
+        if let Some((number, Request::Watch { from, to, .. })) = &self.watch {
+            let events = self.store.changes(from, to, self.seen, 100).expect("nothing is forgotten");
+            self.seen = self.store.revision;
+            self.node.answer(*number, self.store.id, Answer::Events(events));
+        }
+    }
+
+    fn submit(&mut self, tickets: std::ops::RangeInclusive<u64>) {
+        for ticket in tickets {
+            assert!(self.node.submit(ticket, &[call(2, ticket, 0)]));
+            self.settle();
+        }
+    }
+
+    /// The first of the entries is put. Gives who gets a receipt.
+    fn put(&mut self) -> Vec<u64> {
+        let (number, request) = self.entries.pop_front().expect("an entry");
+        self.act(number, request);
+        self.settle();
+        std::mem::take(&mut self.told)
+    }
+}
+
+#[test]
+fn what_waits_goes_once_it_is_a_lanes_share() {
+    let mut held = Held::new();
+    held.submit(1..=6);
+    assert_eq!(held.entries.len(), 2, "both lanes have an entry on its way");
+    assert_eq!(held.put(), [1]);
+    held.submit(7..=7);
+    assert_eq!(held.put(), [2]);
+    assert_eq!(held.entries.len(), 1, "one of five is less than a half");
+    held.submit(8..=10);
+    assert_eq!(held.entries.len(), 2, "four of eight are a half");
+    assert_eq!(held.put(), [3, 4, 5, 6]);
+    assert_eq!(held.put(), [7, 8, 9, 10]);
+    held.submit(11..=11);
+    assert_eq!(held.put(), [11], "nothing waits where nothing is on its way");
 }
 
 /// An engine that is not there.

@@ -131,11 +131,15 @@ impl<M: Machine> Node<M> {
         }
     }
 
-    /// Puts all that waits into lanes that have no entry on its way.
+    /// Puts what waits into lanes that have no entry on its way, once it is a lane's share of all that has no receipt. So what many callers
+    /// submit, one after the other as they get their receipts, goes in one entry; and where nothing is on its way, nothing waits.
     pub(super) fn put_entries(&mut self) {
         while !self.queue.is_empty() {
             let Writer::Open { lanes, .. } = &self.writer else { return };
             let Some(lane) = lanes.iter().position(|lane| !lane.is_busy) else { return };
+            if self.queue.len() * lanes.len() < self.queue.len() + self.writer.waiting() {
+                return;
+            }
             self.put_entry(lane);
         }
     }
@@ -162,8 +166,8 @@ impl<M: Machine> Node<M> {
     pub(super) fn is_put(&mut self, incarnation: u64, lane: usize, number: u64) {
         if let Some(own) = self.writer.lane(incarnation, lane).filter(|own| own.last == number) {
             own.is_busy = false;
-            self.put_entries();
         }
+        self.put_entries();
     }
 
     /// An entry was played. Who waits for it is told.
