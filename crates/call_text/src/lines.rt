@@ -46,7 +46,7 @@ fn may_go_on(more: bool, verb: Verb) -> bool
 }
 
 /// What stands after an equals sign and a space.
-fn after_equals(text: &[u8]) -> Option<&[u8]>
+pub(crate) fn after_equals(text: &[u8]) -> Option<&[u8]>
     ensures some { IfSome result (λ r. text.now ≡ 61 ∷ 32 ∷ r.now) }
     ensures none { IfNone result ((r : List ℕ) → text.now ≡ 61 ∷ 32 ∷ r → ⊥) }
 {

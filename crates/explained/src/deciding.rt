@@ -5,7 +5,7 @@ ghost use Rattle.std.specs.Prelude.{◌≡◌, ◌≤◌, ◌++◌, ◌∷◌, [
 ghost use Rattle.label_lattice.specs.LabelRules.{stored};
 ghost use Rattle.label_lattice.specs.Raw.{is_bad};
 ghost use Rattle.kernel_rules.specs.Conditions.{allows, avoids_kind_of, gate_bearer, names_root, own_bearer};
-ghost use Rattle.kernel_rules.specs.Conditions.{asked_of_gate, own_clearance, own_label, pages_down, pages_up};
+ghost use Rattle.kernel_rules.specs.Conditions.{asked_of_gate, own_clearance, own_label};
 ghost use Rattle.kernel_rules.specs.State.{label_at, clearance_at};
 ghost use Rattle.plain_state.specs.StateOf.{state_of};
 ghost use Rattle.explained.specs.Ruled.{condition_of, right_of};
@@ -18,7 +18,7 @@ use crate::conditions::{Condition, Right};
 use crate::facts::Fact;
 use crate::parts::{Comparison, Part, Parts};
 use base::{Category, Kind, Level, Meter, NoMemory, ObjectId};
-use kernel_rules::{Entry, Mapping, Place};
+use kernel_rules::{Entry, Mapping, Place, pages_down, pages_up};
 use label_lattice::label_rules::{Asked, Bearer, stored_of, with_category};
 use label_lattice::{Label, RawLabel};
 use plain_state::{PlainState, kind_of};
@@ -113,20 +113,6 @@ fn avoids_kind_of(state: &PlainState, thread: ObjectId, container: ObjectId, id:
         Some(object) => state.avoids(kind_of(object), container),
         None => true,
     }
-}
-
-/// By how many pages a change of quota goes up.
-fn pages_up(change: i32) -> u32
-    ensures { result ≡ pages_up change }
-{
-    if change < 0 { 0 } else { change as u32 }
-}
-
-/// By how many it goes down.
-pub(crate) fn pages_down(change: i32) -> u32
-    ensures { result ≡ pages_down change }
-{
-    if change < 0 { change.unsigned_abs() } else { 0 }
 }
 
 /// What a container or an object would use with so many pages more.

@@ -254,7 +254,7 @@ impl Row {
     pub(crate) fn space_entry(&mut self, space: &Entry) -> Result<(), NoMemory>
         ensures { OnOk result (conditions_in self.new ≡ conditions_in self.old ++ rules.space_entry space.now) }
     {
-        let named = space.container.number() != 0 || space.object.number() != 0;
+        let named = !space.names_none();
         let is = Condition::NotOfKind(Kind::AddressSpace, space.object);
         self.put_if(
             named,

@@ -7,10 +7,9 @@ ghost use Rattle.plain_state.specs.StateOf.{state_of};
 ghost use Rattle.explained.specs.Ruled.{conditions_in};
 
 use crate::conditions::{Condition, Right};
-use crate::deciding::pages_down;
 use crate::rows::Row;
 use base::{Kind, NoMemory, Refusal};
-use kernel_rules::{Call, Query};
+use kernel_rules::{Call, Query, pages_down};
 use plain_state::PlainState;
 
 impl Row {

@@ -1,14 +1,13 @@
 //! What a step looks at and would modify, as told by the state before it.
-ghost use Rattle.std.specs.Prelude.{◌≡◌, ◌/◌, ◌≤◌, length};
-ghost use Rattle.flow_rules.specs.Touched.{owns, sees, changes, reads, on_the_way, covering, segment_of};
-ghost use Rattle.flow_rules.specs.Touched.{space_container};
+ghost use Rattle.std.specs.Prelude.{◌≡◌, ◌/◌};
+ghost use Rattle.flow_rules.specs.Touched.{owns, sees, changes, reads, on_the_way, covering};
 ghost use Rattle.flows.specs.Carriers.{is_owner_in};
 ghost use Rattle.flows.specs.Looks.{asks_owner, is_refusal, unless};
 ghost use Rattle.kernel_rules.specs.Translate.{covers, names_none};
 ghost use Rattle.plain_state.specs.StateOf.{state_of};
 
-use base::{Category, Kind, Level, Meter, ObjectId};
-use kernel_rules::{Call, Entry, Ids, Mapping, Query, Reply};
+use base::{Category, Kind, Meter, ObjectId};
+use kernel_rules::{Call, Entry, Ids, Mapping, Query, Reply, covers};
 use plain_state::PlainState;
 
 /// Whether an object owns a category.
@@ -26,24 +25,6 @@ pub fn is_owner(state: &PlainState, category: Category, thread: ObjectId, meter:
     ensures { result ≡ is_owner_in (state_of state.now) category.0 thread }
 {
     state.is_kind(Kind::Thread, thread) && owns(state, category, thread, meter)
-}
-
-fn names_none(entry: &Entry) -> bool
-    ensures { result ≡ names_none entry.now }
-{
-    entry.container.number() == 0 && entry.object.number() == 0
-}
-
-fn covers(mapping: &Option<Mapping>, page: u64) -> bool
-    ensures { result ≡ covers page mapping.now }
-{
-    match mapping {
-        None => false,
-        Some(mapping) => {
-            let first = mapping.page as u64;
-            first <= page && page < first + mapping.count as u64
-        }
-    }
 }
 
 // The first of these slots that covers a page.
@@ -91,7 +72,7 @@ pub fn sees(state: &PlainState, thread: ObjectId, call: &Call) -> Ids
             Ids::from_slice(&[])
         }
         Call::SelfSetAs { space } => {
-            if names_none(space) {
+            if space.names_none() {
                 Ids::from_slice(&[])
             } else {
                 Ids::from_slice(&[space.container])
@@ -105,7 +86,7 @@ pub fn sees(state: &PlainState, thread: ObjectId, call: &Call) -> Ids
         Call::AsCreate(made) => Ids::from_slice(&[made.container]),
         Call::ThreadCreate(made) => Ids::from_slice(&[made.container]),
         Call::GateCreate(made) => {
-            if names_none(&made.space) {
+            if made.space.names_none() {
                 Ids::from_slice(&[made.container])
             } else {
                 Ids::from_slice(&[made.container, made.space.container])

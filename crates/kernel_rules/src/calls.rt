@@ -1,4 +1,7 @@
 //! What a thread asks of a machine.
+ghost use Rattle.std.specs.Prelude.{◌≡◌};
+ghost use Rattle.kernel_rules.specs.Translate.{names_none};
+
 use crate::creations::{NewAddressSpace, NewContainer, NewCopy, NewGate, NewSegment, NewThread};
 use crate::objects::Mapping;
 use base::{Data, ObjectId};
@@ -12,6 +15,15 @@ pub struct Entry {
     pub container: ObjectId,
     /// The object, which the container lists, or which is the container.
     pub object: ObjectId,
+}
+
+impl Entry {
+    /// Whether both ids are 0, as of a thread that has no address space.
+    pub fn names_none(&self) -> bool
+        ensures { result ≡ names_none self.now }
+    {
+        self.container.number() == 0 && self.object.number() == 0
+    }
 }
 
 /// A call that may change the state. A call that is refused changes nothing, and the refusal is the

@@ -12,6 +12,7 @@ mod lists;
 mod metadata;
 mod objects;
 mod places;
+mod quotas;
 mod refusing;
 mod replies;
 mod tables;
@@ -21,7 +22,8 @@ pub use creations::{NewAddressSpace, NewContainer, NewCopy, NewGate, NewSegment,
 pub use lists::{Bytes, IdList, Ids, Packets, Slots};
 pub use metadata::padded_data;
 pub use objects::{Body, Gate, Mapping, Object, Thread, fresh_object};
-pub use places::Place;
+pub use places::{Place, covers};
+pub use quotas::{pages_down, pages_up};
 pub use refusing::{least_of, least_with};
 pub use replies::Reply;
 pub use tables::{Compared, Shown, Tables, Used};

@@ -147,7 +147,7 @@ pub fn space_entry(space: &Entry, seen: &Sight) -> [Condition; 3]
           not (names_none space.now) && not (is_of kinds.AddressSpace seen.now.object.kind),
         ) ∷ [] }
 {
-    let named = space.container.number() != 0 || space.object.number() != 0;
+    let named = !space.names_none();
     [
         (Refusal::NoAccess, named && !seen.accessible),
         (Refusal::NoEntry, named && !seen.held),

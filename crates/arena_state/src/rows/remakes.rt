@@ -29,13 +29,6 @@ fn mapping_in(slots: &[Option<Mapping>], place: usize) -> Option<Mapping>
     }
 }
 
-// Whether an entry names an address space.
-pub(crate) fn is_named(space: &Entry) -> bool
-    ensures { result ≡ not (names_none space.now) }
-{
-    space.container.number() != 0 || space.object.number() != 0
-}
-
 impl ArenaState {
     // The entry of a thread's address space, none for any other object.
     pub(crate) fn space_of(&self, thread: ObjectId, meter: &mut Meter) -> Option<Entry>
@@ -97,7 +90,7 @@ impl ArenaState {
         ensures scans { meter.new.scans ≡ meter.old.scans }
     {
         let (open, _) = self.opened(thread, space, meter);
-        is_named(space) && open
+        !space.names_none() && open
     }
 
     // What the sixteen slots show of an address space whose entry stands open to a thread.
@@ -146,7 +139,13 @@ impl ArenaState {
         ensures { result ≡ named_space (own_space (state_of self.now) thread) }
     {
         match self.space_in(thread, found) {
-            Some(space) => { if is_named(&space) { Some(space) } else { None } }
+            Some(space) => {
+                if space.names_none() {
+                    None
+                } else {
+                    Some(space)
+                }
+            }
             None => None,
         }
     }

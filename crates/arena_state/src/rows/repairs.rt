@@ -11,7 +11,6 @@ ghost use Rattle.arena_state.specs.Shown.{AreKept, AreKeptBut};
 ghost use Rattle.arena_state.specs.States.{state_of};
 ghost use Rattle.arena_state.specs.Touched.{goes_by, is_same, maps, reaches, touches};
 
-use crate::rows::remakes::is_named;
 use crate::states::ArenaState;
 use arena_memory::translation_rows::Rows;
 use base::{Meter, ObjectId};
@@ -99,7 +98,7 @@ impl ArenaState {
     {
         match self.space_of(thread, meter) {
             None => false,
-            Some(space) => is_named(&space) && self.reaches(change, &space, meter),
+            Some(space) => !space.names_none() && self.reaches(change, &space, meter),
         }
     }
 

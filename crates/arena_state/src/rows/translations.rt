@@ -15,21 +15,8 @@ use crate::states::ArenaState;
 use arena_memory::translation_rows::Rows;
 use base::{Meter, ObjectId, Rights};
 use containers::Located;
-use kernel_rules::{Entry, Mapping};
+use kernel_rules::{Entry, Mapping, covers};
 use kernel_store::Placed;
-
-// Whether a mapping covers a virtual page.
-fn covers(mapping: &Option<Mapping>, page: u64) -> bool
-    ensures { result ≡ covers page mapping.now }
-{
-    match mapping {
-        None => false,
-        Some(mapping) => {
-            let first = u64::from(mapping.page);
-            first <= page && page < first + u64::from(mapping.count)
-        }
-    }
-}
 
 impl ArenaState {
     // The entry of a thread's address space by the record that was found, none for any other

@@ -1,6 +1,6 @@
 //! Reading names.
 ghost use Rattle.std.specs.Global.{Vec as VecValue};
-ghost use Rattle.std.specs.Prelude.{◌≡◌, ◌∷◌, ℕ, List, Result as ResultValue, IfOk, IfSome, IfNone, Some};
+ghost use Rattle.std.specs.Prelude.{◌≡◌, ℕ, List, Result as ResultValue, IfOk, Some};
 ghost use Rattle.text_words.specs.Reading.{Reads};
 ghost use Rattle.call_text.specs.declared.known_names.Named.{Named as NamedValue};
 ghost use Rattle.call_text.specs.Names.{Binds};
@@ -8,6 +8,7 @@ ghost use Rattle.call_text.specs.RunNames.{made_text, named_text, IsMade, IsName
 ghost use Rattle.call_text.specs.declared.names_text.errors.NamesError.{NamesError as ErrorValue};
 ghost use Rattle.call_text.specs.NameReading.{ReadsNames, AreRead};
 
+use crate::lines::after_equals;
 use crate::names_text::errors::NamesError;
 use crate::{Named, Value};
 use base::{Category, ObjectId};
@@ -28,17 +29,6 @@ fn read_made(text: &[u8]) -> Option<Value>
             Some(number) => Some(Value::Category(Category(number))),
             None => None,
         },
-        _ => None,
-    }
-}
-
-/// What stands after an equals sign and a space.
-fn after_equals(text: &[u8]) -> Option<&[u8]>
-    ensures some { IfSome result (λ r. text.now ≡ 61 ∷ 32 ∷ r.now) }
-    ensures none { IfNone result ((r : List ℕ) → text.now ≡ 61 ∷ 32 ∷ r → ⊥) }
-{
-    match text {
-        [b'=', b' ', after @ ..] => Some(after),
         _ => None,
     }
 }
