@@ -1,3 +1,9 @@
+use Rattle.std.proofs.Common.{◌≡◌, List, Option, ◌∷◌, [], ◌++◌, sym, subst}
+use Rattle.std.specs.List.{AllZip}
+use Rattle.std.proofs.lemmas.List.Elements.{AllZip-push}
+use Rattle.published_copy.specs.Turns.{Turn}
+use Rattle.script_runner.specs.Shared.{AreLeft, HasSeen, Post}
+use Rattle.script_runner.specs.declared.answers.Left.{Left}
 use Rattle.script_runner.proofs.SharedLaws.{left_more, passes_more}
 use Rattle.script_runner.proofs.shared_play.part.Goals as goal
 
