@@ -2,7 +2,6 @@
 use Rattle.std.proofs.Common.{◌≡◌, ℕ, ◌<◌, List, [], ◌∷◌, ◌++◌, map, get_or, length, Result, Ok, refl, ap, sym, ◌∙◌, subst, arith}
 use Rattle.std.specs.List.{AllByRecursion}
 use Rattle.std.proofs.lemmas.List.{get_or_append_left, get_or_at, length-append, map-append}
-use Rattle.std.proofs.lemmas.Option.{get_or_from_slice_get, slice_get_read}
 use Rattle.kernel_rules.specs.declared.replies.Reply.{Reply}
 use Rattle.kernel_rules.specs.declared.replies.Reply.TheVariants as replies
 use Rattle.script_rules.specs.Lines.{told, seen}
@@ -118,7 +117,3 @@ module _ (bytes more : List (List ℕ)) (whole all : List Reply) (stay : AllStay
   asked_more asked after q r there is same =
       ap (map (seen_in more all)) is ∙ map-append (seen_in more all) asked (q ∷ [])
       ∙ (λ i. asked_stay asked there i ++ seen q.length q.query (same i) ∷ [])
-
--- bytes that are read at a place
-pub read_bytes : (bytes : List (List ℕ)) (place : ℕ) (x : List ℕ) → place < length bytes → x ≡ get_or bytes place x → get_or bytes place [] ≡ x
-read_bytes bytes place x there is = get_or_from_slice_get bytes place x [] (slice_get_read bytes (length bytes) place x refl there is)

@@ -6,17 +6,17 @@ ghost use Rattle.std.specs.Prelude.{◌≡◌, ◌++◌, ◌∷◌, [], ℕ, tru
 ghost use Rattle.std.specs.Option.{option_map};
 ghost use Rattle.kernel_rules.specs.declared.replies.Reply.{Reply as ReplyValue};
 ghost use Rattle.kernel_rules.specs.declared.replies.Reply.TheVariants as replies;
-ghost use Rattle.call_text.specs.Reply.{making, reply_text};
+ghost use Rattle.call_text.specs.Reply.{reply_text};
 ghost use Rattle.call_text.specs.declared.known_names.Named.{Named};
 ghost use Rattle.script_rules.specs.Lines.{seen, told};
 ghost use Rattle.script_rules.specs.Output.{answer_text};
-ghost use Rattle.script_runner.specs.Answers.{answer_of, reply_of, AllStay, Keeps};
+ghost use Rattle.script_runner.specs.Answers.{answer_of, AllStay, Keeps};
 
 use crate::faults::PlayFault;
 use crate::names::BoundNames;
 use crate::reads::{Reads, SeenRead};
 use base::{Data, NoMemory, ObjectId, Refusal};
-use call_text::{Value, put_made, put_reply, write_reply};
+use call_text::{Value, put_made, put_reply};
 use kernel_rules::{Mapping, Query, Reply};
 use std::alloc::{AllocError, Global};
 use std::marker::Model;
@@ -206,50 +206,80 @@ fn note_read(
     Ok(())
 }
 
-/// The reply of a call that made this.
-fn made_reply(made: &Value) -> Reply
-    ensures { result ≡ making made.now }
+/// Adds that a call was done.
+#[inline(never)]
+fn put_done(out: &mut Vec<u8>, names: &BoundNames) -> Result<(), PlayFault>
+    ensures { OnOk result (out.new.items ≡ out.old.items ++ reply_text names.now replies.Done) }
 {
-    match made {
-        Value::Category(category) => Reply::Category(*category),
-        Value::Object(id) => Reply::Object(*id),
-    }
+    Ok(put_reply(out, &Reply::Done, names)?)
 }
 
-/// The reply that is kept so, where its answer says all of it but bytes.
-fn short_reply(answer: &KeptAnswer, kept: &[Data]) -> Option<Reply>
-    ensures { IfSome result (λ reply. (whole : List ReplyValue)
-        → (answer_of kept.now whole answer.now ≡ Ok reply) × (reply_of kept.now whole answer.now ≡ reply)) }
+/// Adds where a thread runs and what it was handed.
+#[inline(never)]
+fn put_entered(
+    out: &mut Vec<u8>,
+    entry_point: u64,
+    closure: u64,
+    names: &BoundNames,
+) -> Result<(), PlayFault>
+    ensures { OnOk result (out.new.items ≡ out.old.items ++ reply_text names.now (replies.Entered entry_point closure)) }
 {
-    match answer {
-        KeptAnswer::Done => Some(Reply::Done),
-        KeptAnswer::Made(made) => Some(made_reply(made)),
-        KeptAnswer::Entered {
-            entry_point,
-            closure,
-        } => Some(Reply::Entered {
-            entry_point: *entry_point,
-            closure: *closure,
-        }),
-        KeptAnswer::Quota {
-            quota,
-            used,
-            fixed,
-            immutable,
-        } => Some(Reply::Quota {
-            quota: *quota,
-            used: *used,
-            fixed: *fixed,
-            immutable: *immutable,
-        }),
-        KeptAnswer::Pages(pages) => Some(Reply::Pages(*pages)),
-        KeptAnswer::Refused(refusal) => Some(Reply::Refused(*refusal)),
-        KeptAnswer::Bytes(place) => match kept.get(*place) {
-            Some(bytes) => Some(Reply::Bytes(*bytes)),
-            None => None,
-        },
-        KeptAnswer::Replied(_) | KeptAnswer::Unbound(_) => None,
-    }
+    let reply = Reply::Entered {
+        entry_point,
+        closure,
+    };
+    Ok(put_reply(out, &reply, names)?)
+}
+
+/// Adds what an object may use and uses.
+#[inline(never)]
+fn put_quota(
+    out: &mut Vec<u8>,
+    quota: u32,
+    used: u32,
+    fixed: bool,
+    immutable: bool,
+    names: &BoundNames,
+) -> Result<(), PlayFault>
+    ensures { OnOk result
+        (out.new.items ≡ out.old.items ++ reply_text names.now (replies.Quota quota used fixed immutable)) }
+{
+    let reply = Reply::Quota {
+        quota,
+        used,
+        fixed,
+        immutable,
+    };
+    Ok(put_reply(out, &reply, names)?)
+}
+
+/// Adds the length of a segment.
+#[inline(never)]
+fn put_pages(out: &mut Vec<u8>, pages: u32, names: &BoundNames) -> Result<(), PlayFault>
+    ensures { OnOk result (out.new.items ≡ out.old.items ++ reply_text names.now (replies.Pages pages)) }
+{
+    Ok(put_reply(out, &Reply::Pages(pages), names)?)
+}
+
+/// Adds what refused.
+#[inline(never)]
+fn put_refused(out: &mut Vec<u8>, refusal: Refusal, names: &BoundNames) -> Result<(), PlayFault>
+    ensures { OnOk result (out.new.items ≡ out.old.items ++ reply_text names.now (replies.Refused refusal)) }
+{
+    Ok(put_reply(out, &Reply::Refused(refusal), names)?)
+}
+
+/// Adds bytes that were read. Those that are not kept were not told.
+#[inline(never)]
+fn put_bytes(out: &mut Vec<u8>, bytes: Option<&Data>, names: &BoundNames) -> Result<(), PlayFault>
+    ensures text { OnOk result (IfSome bytes.entry
+        (λ b. out.new.items ≡ out.old.items ++ reply_text names.now (replies.Bytes b.now))) }
+    ensures some { OnOk result (is_some bytes.entry ≡ true) }
+{
+    let Some(bytes) = bytes else {
+        return Err(PlayFault::Stopped);
+    };
+    Ok(put_reply(out, &Reply::Bytes(*bytes), names)?)
 }
 
 /// Adds a reply. One that is not kept was not told.
@@ -283,11 +313,25 @@ fn put_answer(
     ensures text { OnOk result
         (out.new.items ≡ out.old.items ++ answer_text names.now (answer_of kept.now whole.now answer.now)) }
 {
+    // (a function sets room to zero for the replies of all its arms: so each arm's reply is made in a function of its own)
     match answer {
+        KeptAnswer::Done => put_done(out, names),
         KeptAnswer::Made(made) => Ok(put_made(out, made, names)?),
+        KeptAnswer::Entered {
+            entry_point,
+            closure,
+        } => put_entered(out, *entry_point, *closure, names),
+        KeptAnswer::Quota {
+            quota,
+            used,
+            fixed,
+            immutable,
+        } => put_quota(out, *quota, *used, *fixed, *immutable, names),
+        KeptAnswer::Pages(pages) => put_pages(out, *pages, names),
+        KeptAnswer::Bytes(place) => put_bytes(out, kept.get(*place), names),
         KeptAnswer::Replied(place) => put_kept(out, whole.get(*place), names),
+        KeptAnswer::Refused(refusal) => put_refused(out, *refusal, names),
         KeptAnswer::Unbound(name) => Ok(put_unbound(out, name)?),
-        _ => put_kept(out, short_reply(answer, kept).as_ref(), names),
     }
 }
 
@@ -376,35 +420,27 @@ impl Answers {
         )
     }
 
-    /// What a query was answered, as it is printed where no name is known.
-    fn text_of(&self, alloc: Global, answer: &KeptAnswer) -> Result<Option<Vec<u8>>, NoMemory> {
-        let _named: Option<Mapping> = None;
-        let reply = match answer {
-            KeptAnswer::Replied(place) => self.replies.get(*place).copied(),
-            _ => short_reply(answer, self.bytes.as_slice()),
-        };
-        match &reply {
-            Some(reply) => Ok(Some(write_reply(alloc, reply, &[])?)),
-            None => Ok(None),
-        }
-    }
-
-    /// Adds the queries that were answered, as reads of a thread.
+    /// Adds the queries that were answered, as reads of a thread: each answer as it is printed where no name is known.
     pub fn add_reads(
         &self,
         alloc: Global,
         thread: ObjectId,
         all: &mut Vec<SeenRead>,
     ) -> Result<(), NoMemory> {
+        let names = BoundNames::none(alloc);
+        let bytes = self.bytes.as_slice();
+        let replies = self.replies.as_slice();
         for asked in &self.asked {
-            if let Some(text) = self.text_of(alloc, &asked.answer)? {
-                all.push(SeenRead {
-                    thread,
-                    length: asked.length,
-                    query: asked.query,
-                    text,
-                })?;
+            let mut text = Vec::new(alloc);
+            if put_answer(&mut text, &asked.answer, bytes, replies, &names).is_err() {
+                return Err(NoMemory);
             }
+            all.push(SeenRead {
+                thread,
+                length: asked.length,
+                query: asked.query,
+                text,
+            })?;
         }
         Ok(())
     }

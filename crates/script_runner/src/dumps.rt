@@ -1,5 +1,5 @@
 //! The dump of a run.
-ghost use Rattle.std.specs.Prelude.{◌≡◌, true, IfOk, IfSome, Some, is_some, length, min, nat_lt};
+ghost use Rattle.std.specs.Prelude.{◌≡◌, ◌≤◌, true, IfOk, IfSome, Some, is_some, length, min, nat_lt, take};
 ghost use Rattle.std.specs.List.{list_all};
 ghost use Rattle.base.specs.Limits.{in_range};
 ghost use Rattle.checkpoints.specs.Restorable.{is_restorable};
@@ -10,7 +10,7 @@ ghost use Rattle.dump_text.specs.Reads.{have_places};
 ghost use Rattle.dump_text.specs.Whole.{AreRead, whole_dump};
 ghost use Rattle.kernel_rules.specs.History.{IsLegalFrom, state_from};
 ghost use Rattle.kernel_rules.specs.Scratch.{scratch};
-ghost use Rattle.script_runner.specs.Dumps.{are_given, IsPlayed, IsRunDump};
+ghost use Rattle.script_runner.specs.Dumps.{are_given, folded, IsPlayed, IsRunDump};
 
 use crate::reads::SeenRead;
 use crate::replays::told_reads;
@@ -61,6 +61,46 @@ fn at_most(first: u32, events: &[KeptEvent]) -> usize
     (first as usize).min(events.len())
 }
 
+/// Where a dump begins.
+#[derive(Drop)]
+struct Beginning {
+    /// How many of the first events the checkpoint tells.
+    count: usize,
+    /// Their checkpoint.
+    checkpoint: Checkpoint,
+}
+
+/// Where the dump of events begins, of whose first as many are to be told by a checkpoint.
+fn beginning_of(
+    alloc: Global,
+    limits: &Limits,
+    first: u32,
+    events: &[KeptEvent],
+) -> Result<Beginning, NoMemory>
+    requires { in_range limits.now ≡ true }
+    ensures within { IfOk result (λ b. b.count ≤ length events.now) }
+    ensures folded { IfOk result (λ b. folded limits.now first events.now ≡ b.count) }
+    ensures made { IfOk result (λ b. IsCheckpointOf limits.now (take b.count events.now) b.checkpoint) }
+    ensures restorable { IfOk result (λ b. is_restorable limits.now b.checkpoint ≡ true) }
+{
+    let count = at_most(first, events);
+    let (before, _) = events.split_at(count);
+    let before = events_of(alloc, before)?;
+    match checkpoint_of(alloc, limits, before.as_slice())? {
+        Some(made) => Ok(Beginning {
+            count,
+            checkpoint: made,
+        }),
+        None => {
+            let boot = checkpoint(alloc, limits, &[])?;
+            Ok(Beginning {
+                count: 0,
+                checkpoint: boot,
+            })
+        }
+    }
+}
+
 /// The dump of events that begin at a checkpoint, as text, with the reads among them and the tables of the state that they
 /// lead to.
 fn dump_from(
@@ -103,18 +143,8 @@ pub fn dump_of(
     ensures { IfOk result (λ bytes. IsRunDump limits.now first events.now reads.now bytes.items) }
 {
     later_are_legal();
-    let first = at_most(first, events);
-    let (before, after) = events.split_at(first);
-    let before = events_of(alloc, before)?;
-    match checkpoint_of(alloc, limits, before.as_slice())? {
-        Some(made) => {
-            let told = told_reads(alloc, limits, events, first, reads)?;
-            dump_from(alloc, limits, made, after, told, tables)
-        }
-        None => {
-            let boot = checkpoint(alloc, limits, &[])?;
-            let told = told_reads(alloc, limits, events, 0, reads)?;
-            dump_from(alloc, limits, boot, events, told, tables)
-        }
-    }
+    let Beginning { count, checkpoint } = beginning_of(alloc, limits, first, events)?;
+    let told = told_reads(alloc, limits, events, count, reads)?;
+    let (_, after) = events.split_at(count);
+    dump_from(alloc, limits, checkpoint, after, told, tables)
 }

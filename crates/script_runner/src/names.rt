@@ -51,12 +51,25 @@ impl BoundNames {
     pub fn start(alloc: Global) -> Result<BoundNames, AllocError>
         ensures { IfOk result (λ names. names ≡ start_values) }
     {
-        let [root, boot, dev] = start_names();
         let mut names = BoundNames::none(alloc);
-        names.bind(&root)?;
-        names.bind(&boot)?;
-        names.bind(&dev)?;
-        Ok(names)
+        match names.bind_start() {
+            Ok(()) => Ok(names),
+            Err(error) => {
+                drop(names);
+                Err(error)
+            }
+        }
+    }
+
+    /// Binds the names that are known at the start, before any other.
+    fn bind_start(&mut self) -> Result<(), AllocError>
+        requires { self.old ≡ [] }
+        ensures { OnOk result (self.new ≡ start_values) }
+    {
+        let [root, boot, dev] = start_names();
+        self.bind(&root)?;
+        self.bind(&boot)?;
+        self.bind(&dev)
     }
 
     /// Binds a name. One that is bound already stays bound to what it was. An `Err` changes

@@ -386,12 +386,14 @@ impl<'s, B: Naming> Worker<'s, B> {
         } = self;
         let Hand {
             alloc: _,
-            own: _,
+            own,
             answers,
-            batch: _,
+            batch,
             call: _,
             reply: _,
         } = hand;
+        drop(own);
+        drop(batch);
         match seating {
             Ok(desk) => {
                 let pass = desk.into_pass();

@@ -1,4 +1,4 @@
-use Rattle.std.proofs.Common.{◌≡◌, ℕ, Some, option_map, sym, ◌∙◌, ◌++◌, ap, decimal, slice_get}
+use Rattle.std.proofs.Common.{ℕ, sym, ◌∙◌, ◌++◌, ap, decimal, slice_get}
 use Rattle.script_runner.proofs.OutputLaws.{told_line_is}
 use Rattle.script_runner.proofs.printing.put_line.Goals as goal
 
