@@ -15,7 +15,7 @@
  *   bytes. HISTAR_BUSY comes where another call uses it: by another thread, or by the code that a signal interrupted.
  *   Nothing is done then, and the call may be made again.
  * - It takes no memory, prints nothing and never waits. Only the opens take memory, checkpoints, and what the log needs: a
- *   write call after histar_log_on, up to the bound that this was given, histar_log_cut and dumps. Of a kernel that
+ *   call that is kept, up to the bound that histar_log_on was given, histar_log_cut and dumps. Of a kernel that
  *   threads share, the opens and each write call take memory, and a write call may sleep where another's is not ended.
  * - The bytes and labels that it gave or took stand in no record of the kernel once it returns. The library keeps the last
  *   call and the last reply inside the room, and histar_close wipes all of it.
@@ -128,7 +128,7 @@ enum histar_refusal {
     HISTAR_BUSY = 46,            /* another call uses the kernel or has not ended adding itself to the list, or it is open already */
     HISTAR_LIST_FULL = 47,       /* a seat of the shared kernel lacks as many batches as it may lack; with a log, there are so many */
     HISTAR_OTHER_LIST = 48,      /* the note is not of this shared kernel */
-    HISTAR_LOG_FULL = 49,        /* the log has as many write calls as it may have */
+    HISTAR_LOG_FULL = 49,        /* the log has as many calls as it may have */
     HISTAR_TEXT_FAULT = 50,      /* the text is no dump */
     HISTAR_TEXT_MEMORY = 51,     /* there is no memory for the text of a dump or of a checkpoint */
     HISTAR_ILL_FORMED = 60,      /* no calls lead to what the text's checkpoint says */

@@ -74,7 +74,7 @@ pub enum Refusal {
     ListFull = 47,
     /// The note is of another shared kernel.
     OtherList = 48,
-    /// The log has as many write calls as it may have.
+    /// The log has as many calls as it may have.
     LogFull = 49,
     /// The text is no dump.
     TextFault = 50,
