@@ -38,7 +38,7 @@
 extern "C" {
 #else
 #define HISTAR_ALIGNED _Alignas(16)
-#define HISTAR_INIT {{0}, 0, 0, 0, {0, 0, 0}, {0}, {0}}
+#define HISTAR_INIT {{0}, 0, 0, 0, {0, 0, 0}, 0, 0, {0}, {0}}
 #endif
 
 /* The version of this header. The library that it is used with has the same, or nothing is opened. */
@@ -284,6 +284,7 @@ enum histar_call_number {
     HISTAR_CALL_BATCH_TOLD = 47,
     HISTAR_CALL_CHECKPOINT = 48,
     HISTAR_CALL_LOG_CUT = 49,
+    HISTAR_CALL_DUMP_SINCE = 50,
     HISTAR_CALL_IN_BATCH = 64
 };
 
@@ -323,6 +324,13 @@ void histar_seat_beside(void *from, void *seat);
 uint32_t histar_seat_call(void *seat, const histar_request *request, histar_answer *answer);
 void histar_seat_end(void *seat);
 
+/* The same of readers of one seat's kernel, in rooms of histar_reader_size() bytes: readers are called at once, each by one thread at a time, and
+ * histar_reader_of calls the seat that it is given. As long as a seat has a reader, it sees no more, and adds nothing. */
+size_t histar_reader_size(void);
+void histar_reader_of(void *seat, void *reader);
+uint32_t histar_reader_call(void *reader, const histar_request *request, histar_answer *answer);
+void histar_reader_end(void *reader);
+
 /* ---- A kernel ---- */
 
 /* What a seat has seen: how many calls, of which a batch counts as one, and of which shared kernel: where its first seat stood, and since
@@ -331,13 +339,15 @@ typedef struct {
     uint64_t at, since, calls;
 } histar_note;
 
-/* A kernel or a seat, or one that is closed. It begins as HISTAR_INIT, or is static; it is not to be copied while it is open. */
-typedef struct {
+/* A kernel, a seat or a reader, or one that is closed. It begins as HISTAR_INIT, or is static; it is not to be copied while it is open. */
+typedef struct histar {
     HISTAR_ALIGNED unsigned char room[3072];
     const void *open_at;         /* where it stands while it is open */
     unsigned char is_busy;       /* a call uses it */
     unsigned char is_seat;       /* it is a seat of a kernel that threads share, */
     histar_note shared;          /* of this one, with no calls */
+    struct histar *of;           /* it is a reader of this seat */
+    uint32_t readers;            /* of a seat: how many readers of it are open */
     histar_request request;
     histar_answer answer;
 } histar;
@@ -361,14 +371,27 @@ static inline uint32_t histar_released(histar *k, uint32_t refusal)
     return refusal;
 }
 
+/* Whether readers of a seat are open, so that it stays as it is. */
+static inline int histar_is_read(const histar *k) { return __atomic_load_n(&k->readers, __ATOMIC_ACQUIRE) != 0; }
+
+/* Ends a reader, of which its seat has one less. */
+static inline void histar_reads_no_more(histar *reader)
+{
+    histar_reader_end(reader->room);
+    __atomic_sub_fetch(&reader->of->readers, 1, __ATOMIC_RELEASE);
+    reader->of = NULL;
+}
+
 /* Gives all memory back and wipes the kernel, which may be opened again. A kernel that is closed stays so. HISTAR_BUSY where
- * a call uses it: it is open then as before. */
+ * a call uses it, or it is a seat with a reader that is open: it is open then as before. */
 __attribute__((nonnull)) static inline uint32_t histar_close(histar *k)
 {
     if (!histar_is_open(k)) return HISTAR_DONE;
     if (histar_taken(k)) return HISTAR_BUSY;
     if (histar_is_open(k)) {
-        if (k->is_seat) histar_seat_end(k->room);
+        if (histar_is_read(k)) return histar_released(k, HISTAR_BUSY);
+        if (k->of) histar_reads_no_more(k);
+        else if (k->is_seat) histar_seat_end(k->room);
         else histar_end(k->room);
         __atomic_store_n(&k->open_at, NULL, __ATOMIC_RELAXED);
         histar_wipes(k->room, sizeof k->room);
@@ -392,6 +415,8 @@ static inline uint32_t histar_booted(histar *k)
     memset(&k->request, 0, sizeof k->request);
     memset(&k->answer, 0, sizeof k->answer);
     k->is_seat = 0;
+    k->of = NULL;
+    k->readers = 0;
     /* A record of zeros asks for nothing: a kernel that is there says so. */
     refusal = histar_call(k->room, &k->request, &k->answer);
     if (refusal == HISTAR_BAD_BATCH) {
@@ -455,6 +480,8 @@ static inline uint32_t histar_seat_booted(histar *seat, histar_note shared)
     if (refusal == HISTAR_BAD_BATCH) {
         seat->is_seat = 1;
         seat->shared = shared;
+        seat->of = NULL;
+        seat->readers = 0;
         __atomic_store_n(&seat->open_at, seat, __ATOMIC_RELAXED);
         return HISTAR_DONE;
     }
@@ -524,6 +551,38 @@ static inline uint32_t histar_seat_open(histar *seat, histar *from)
     return histar_released(seat, refusal);
 }
 
+/* Opens a reader of a seat, whose kernel threads so read at once: each through a reader of its own, which takes no other kernel. A reader is a kernel to
+ * every function below that only reads, and answers in the state that the seat was in; write calls, batches, notes and dumps are
+ * refused HISTAR_BAD_BATCH. Until all its readers are closed, the seat stays as it is, and calls through it are refused HISTAR_BUSY, as is its
+ * close; other seats go on. HISTAR_UNAVAILABLE where there is no memory, or where `seat` is no open seat; HISTAR_BUSY where a call uses that
+ * one, or `reader` is open. */
+HISTAR_LOOKED_AT(1, 2)
+static inline uint32_t histar_reader_open(histar *reader, histar *seat)
+{
+    uint32_t refusal = HISTAR_UNAVAILABLE;
+    if (histar_taken(reader)) return HISTAR_BUSY;
+    if (histar_is_open(reader)) return histar_released(reader, HISTAR_BUSY);
+    if (histar_taken(seat)) return histar_released(reader, HISTAR_BUSY);
+    if (histar_is_open(seat) && seat->is_seat && histar_reader_size() <= sizeof reader->room) {
+        memset(&reader->request, 0, sizeof reader->request);
+        memset(&reader->answer, 0, sizeof reader->answer);
+        histar_reader_of(seat->room, reader->room);
+        /* A record of zeros asks for nothing: a reader that is there says so. */
+        refusal = histar_reader_call(reader->room, &reader->request, &reader->answer);
+        if (refusal == HISTAR_BAD_BATCH) {
+            __atomic_add_fetch(&seat->readers, 1, __ATOMIC_RELAXED);
+            reader->is_seat = 0;
+            reader->shared = seat->shared;
+            reader->of = seat;
+            reader->readers = 0;
+            __atomic_store_n(&reader->open_at, reader, __ATOMIC_RELAXED);
+            refusal = HISTAR_DONE;
+        } else histar_reader_end(reader->room);
+    }
+    histar_released(seat, HISTAR_DONE);
+    return histar_released(reader, refusal);
+}
+
 /* ---- How the functions below fill a record and read an answer ---- */
 
 /* Takes the kernel for a call, and fills what each call has. */
@@ -532,6 +591,7 @@ static inline uint32_t histar_asks(histar *k, uint32_t call, histar_object threa
     if (!histar_is_open(k)) return HISTAR_UNAVAILABLE;
     if (histar_taken(k)) return HISTAR_BUSY;
     if (!histar_is_open(k)) return histar_released(k, HISTAR_UNAVAILABLE); /* it was closed in between */
+    if (histar_is_read(k)) return histar_released(k, HISTAR_BUSY);
     k->request.call = call;
     k->request.thread = thread.id;
     k->request.container = entry.container.id;
@@ -543,6 +603,7 @@ static inline uint32_t histar_asks(histar *k, uint32_t call, histar_object threa
 static inline uint32_t histar_serves(histar *k)
 {
     uint32_t refusal, tries;
+    if (k->of) return histar_reader_call(k->room, &k->request, &k->answer);
     if (!k->is_seat) return histar_call(k->room, &k->request, &k->answer);
     for (tries = 0; (refusal = histar_seat_call(k->room, &k->request, &k->answer)) == HISTAR_BUSY && tries < 400; tries++)
         if (tries >= 200) poll(NULL, 0, 1);
@@ -1229,15 +1290,32 @@ static inline uint32_t histar_streamed(histar *k, uint32_t call, histar_put put,
 }
 
 /* Gives the text of the log's dump to `put`, so that it stands nowhere whole: beside the log the library takes memory for up to 64 events
- * of it, or for the kernel's state. No zero byte ends it. What `put` answers, where that is not 0, ends the dump and is returned. The kernel
- * is busy until the dump is over: no call comes between its parts, not by `put` either. Of a seat it is the dump of what the seat has seen,
- * with all calls that it was told of by a note, and stands whole in the library while it is given. HISTAR_BAD_BATCH where no log was begun,
+ * of it, or for the kernel's state, and of a seat for another kernel. No zero byte ends it. What `put` answers, where that is not 0, ends the
+ * dump and is returned. The kernel is busy until the dump is over: no call comes between its parts, not by `put` either. Of a seat it is the
+ * dump of what the seat has seen, with all calls that it was told of by a note. HISTAR_BAD_BATCH where no log was begun,
  * HISTAR_TEXT_MEMORY where there is no memory for a part, and the text has ended before it. The log stays as it is, so it may be dumped
  * again, and calls may follow. */
 HISTAR_LOOKED_AT(1, 2)
 static inline uint32_t histar_dump_to(histar *k, histar_put put, void *context)
 {
     return histar_streamed(k, HISTAR_CALL_DUMP, put, context);
+}
+
+/* Gives the dump of what the list has from what a seat has seen up to a note, as histar_dump_to gives one: it begins at a checkpoint of the
+ * seat's state, in which each thread's first event has number 1, and needs no log. A service that keeps a seat which makes no call so has
+ * the dump of all calls since, and begins anew by a seat beside the one of the note: histar_close of the old one gives back what it lacked.
+ * HISTAR_OTHER_LIST as histar_learn, and where the seat has seen more; the other refusals are those of histar_dump_to. */
+HISTAR_LOOKED_AT(1, 3)
+static inline uint32_t histar_dump_since(histar *older, histar_note note, histar_put put, void *context)
+{
+    size_t len;
+    uint32_t refusal = histar_asks(older, HISTAR_CALL_DUMP_SINCE, HISTAR_NOTHING, HISTAR_NOWHERE);
+    if (refusal) return refusal;
+    if (note.at != older->shared.at || note.since != older->shared.since) return histar_released(older, HISTAR_OTHER_LIST);
+    older->request.numbers[0] = note.calls;
+    refusal = histar_serves(older);
+    if (!refusal) refusal = histar_streams(older, HISTAR_CALL_DUMP, put, context, &len);
+    return histar_told(older, refusal);
 }
 
 /* Gives the text of a checkpoint to `put`, as histar_dump_to gives a dump's: the kernel's limits and state, with all that segments hold, so

@@ -32,7 +32,7 @@ void __wrap_free(void *old)
     __real_free(old);
 }
 
-static histar k;
+static histar k, seat;
 
 static void must(int holds, const char *what)
 {
@@ -55,36 +55,45 @@ static uint32_t tells(void *context, const void *part, size_t len)
 }
 
 /* Makes so many write calls. */
-static void writes(long count)
+static void writes(histar *kernel, long count)
 {
     histar_object made;
     histar_label plain = histar_level(1);
-    must(!histar_segment_create(&k, HISTAR_BOOT, HISTAR_ROOT, &plain, 2, 1, &made), "no segment");
+    must(!histar_segment_create(kernel, HISTAR_BOOT, HISTAR_ROOT, &plain, 2, 1, &made), "no segment");
     for (long i = 1; i < count; i++)
-        must(!histar_segment_write(&k, HISTAR_BOOT, histar_in(HISTAR_ROOT, made), 0, &i, sizeof i), "a write was refused");
+        must(!histar_segment_write(kernel, HISTAR_BOOT, histar_in(HISTAR_ROOT, made), 0, &i, sizeof i), "a write was refused");
 }
 
 /* What the dump of so many calls takes beside what is in use before it; it is told. */
-static size_t takes(long count)
+static size_t takes(histar *kernel, long count, const char *what)
 {
     struct told told = {0, 0};
     size_t before = in_use;
     peak = in_use;
-    must(!histar_dump_to(&k, tells, &told), "no dump");
+    must(!histar_dump_to(kernel, tells, &told), "no dump");
     must(told.lines > (size_t)count && told.lines < (size_t)count + 200, "a dump lacks calls");
     must(in_use <= before, "a dump leaves something in the library");
-    printf("%ld calls keep %zu bytes, their dump of %zu bytes takes %zu more\n", count, before, told.bytes, peak - before);
+    printf("%s: %ld calls keep %zu bytes, their dump of %zu bytes takes %zu more\n", what, count, before, told.bytes, peak - before);
     return peak - before;
 }
 
-/* The same of a kernel with that many calls. */
+/* The same of a kernel with that many calls, and of a seat. */
 static size_t takes_of_kernel(long count)
 {
     size_t more;
     must(!histar_open(&k, 64) && !histar_log_on(&k, (uint64_t)count, HISTAR_LOG_WRITES), "no kernel");
-    writes(count);
-    more = takes(count);
+    writes(&k, count);
+    more = takes(&k, count, "a kernel");
     must(!histar_close(&k), "no close");
+    return more;
+}
+static size_t takes_of_seat(long count)
+{
+    size_t more;
+    must(!histar_share_with(&seat, 64, 1, 4, 1, (uint64_t)count, 1), "no shared kernel");
+    writes(&seat, count);
+    more = takes(&seat, count, "a seat");
+    must(!histar_close(&seat), "no close");
     return more;
 }
 
@@ -92,6 +101,7 @@ int main(int count, char **given)
 {
     long calls = count > 1 ? atol(given[1]) : 1000000;
     must(takes_of_kernel(calls) <= takes_of_kernel(1000) + 4096, "the dump of a long log takes more than that of a short one");
+    must(takes_of_seat(calls) <= takes_of_seat(1000) + 4096, "the dump of a long list takes more than that of a short one");
     must(in_use < 4096, "something is left");
     return 0;
 }

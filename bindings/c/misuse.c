@@ -216,7 +216,7 @@ static uint32_t dump_given_without_a_log(void)
 static uint32_t is_given_otherwise(histar *it)
 {
     static char text[1 << 16];
-    size_t len;
+    size_t len = 0;
     must(histar_dump(it, text, sizeof text, &len));
     must(histar_dump_to(it, takes, empties(0, 0)));
     return taker.len != len || memcmp(taker.text, text, len);
@@ -226,7 +226,7 @@ static uint32_t dump_of_a_seat_given(void) { return is_given_otherwise(&seat); }
 static uint32_t checkpoint_given(void)
 {
     static char text[1 << 16];
-    size_t len;
+    size_t len = 0;
     must(histar_checkpoint(&k, text, sizeof text, &len));
     must(histar_checkpoint_to(&k, takes, empties(0, 0)));
     return taker.len != len || memcmp(taker.text, text, len);
@@ -537,6 +537,144 @@ static uint32_t opened_after_a_seat(void)
     must(histar_close(&it));
     return refusal;
 }
+/* ---- The dump of what a seat lacks ---- */
+
+static uint32_t dump_since_of_another(void)
+{
+    histar_note none = {0, 0, 0};
+    return histar_dump_since(&seat, none, takes, empties(0, 0));
+}
+static uint32_t dump_since_what_was_seen(void)
+{
+    histar_note note = seat.shared;
+    return histar_dump_since(&seat, note, takes, empties(0, 0));
+}
+static uint32_t dump_of_more_calls(void)
+{
+    histar_note note = a_note();
+    note.calls++;
+    return histar_dump_since(&seat, note, takes, empties(0, 0));
+}
+static uint32_t dump_since_by_a_kernel(void)
+{
+    histar_note none = {0, 0, 0};
+    return histar_dump_since(&k, none, takes, empties(0, 0));
+}
+/* What two seats lack one after another: each call is in one dump. */
+static uint32_t dumps_since(void)
+{
+    static histar its, older, next;
+    histar_note note;
+    must(histar_share(&its, 8, 3));
+    must(histar_seat_open(&older, &its));
+    must(is_called(&its));
+    must(histar_seat_open(&next, &its));
+    must(histar_seen(&its, &note));
+    must(histar_dump_since(&older, note, takes, empties(0, 0)));
+    if (!strstr(taker.text, "\nevent 2 1 cat_create => cat #1\n")) return 1;
+    must(histar_close(&older));
+    must(is_called(&its));
+    must(histar_seen(&its, &note));
+    must(histar_dump_since(&next, note, takes, empties(0, 0)));
+    if (!strstr(taker.text, "\nevent 2 1 cat_create => cat #2\n") || strstr(taker.text, "cat #1\n")) return 2;
+    must(histar_dump_since(&its, note, takes, empties(0, 0)));
+    if (strstr(taker.text, "\nevent")) return 3;
+    must(histar_close(&next));
+    must(histar_close(&its));
+    return HISTAR_DONE;
+}
+
+/* ---- Readers of a seat, of which one is open for the length of each ---- */
+
+static histar reader;
+static uint32_t with_a_reader(uint32_t (*misuses)(void))
+{
+    uint32_t refusal;
+    must(histar_reader_open(&reader, &seat));
+    refusal = misuses();
+    must(histar_close(&reader));
+    return refusal;
+}
+static uint32_t calls_the_seat(void) { return is_called(&seat); }
+static uint32_t reads_by_the_seat(void)
+{
+    histar_self self;
+    return histar_self_get(&seat, HISTAR_BOOT, &self);
+}
+static uint32_t closes_the_seat(void) { return histar_close(&seat); }
+static uint32_t calls_the_reader(void) { return is_called(&reader); }
+static uint32_t opens_the_reader(void) { return histar_reader_open(&reader, &seat); }
+static uint32_t opens_a_seat_there(void) { return histar_seat_open(&reader, &seat); }
+static uint32_t opens_beside_it(void) { return histar_seat_open(&unseated, &reader); }
+static uint32_t opens_a_reader_of_it(void) { return histar_reader_open(&unseated, &reader); }
+static uint32_t notes_by_it(void)
+{
+    histar_note note;
+    return histar_seen(&reader, &note);
+}
+static uint32_t learns_by_it(void)
+{
+    histar_note note = seat.shared;
+    return histar_learn(&reader, note);
+}
+static uint32_t dumps_by_it(void) { return histar_dump_to(&reader, takes, empties(0, 0)); }
+/* Two readers and the seat read alike, and a secret's reader is refused as by the seat. */
+static uint32_t reads_at_once(void)
+{
+    static histar other;
+    unsigned char one[64], two[64];
+    uint32_t refusal;
+    must(histar_reader_open(&other, &seat));
+    must(histar_segment_read(&reader, HISTAR_BOOT, in_root(shared_segment), 0, one, 64));
+    must(histar_segment_read(&other, HISTAR_BOOT, in_root(shared_segment), 0, two, 64));
+    refusal = histar_segment_read(&other, (histar_object){99}, in_root(shared_segment), 0, two, 64);
+    must(histar_close(&other));
+    return memcmp(one, two, 64) ? HISTAR_DONE : refusal;
+}
+static uint32_t seat_with_a_reader(void) { return with_a_reader(calls_the_seat); }
+static uint32_t read_with_a_reader(void) { return with_a_reader(reads_by_the_seat); }
+static uint32_t closed_with_a_reader(void) { return with_a_reader(closes_the_seat); }
+static uint32_t write_by_a_reader(void) { return with_a_reader(calls_the_reader); }
+static uint32_t reader_opened_twice(void) { return with_a_reader(opens_the_reader); }
+static uint32_t seat_where_a_reader_is(void) { return with_a_reader(opens_a_seat_there); }
+static uint32_t seat_beside_a_reader(void) { return with_a_reader(opens_beside_it); }
+static uint32_t reader_of_a_reader(void) { return with_a_reader(opens_a_reader_of_it); }
+static uint32_t note_by_a_reader(void) { return with_a_reader(notes_by_it); }
+static uint32_t learned_by_a_reader(void) { return with_a_reader(learns_by_it); }
+static uint32_t dump_by_a_reader(void) { return with_a_reader(dumps_by_it); }
+static uint32_t readers_at_once(void) { return with_a_reader(reads_at_once); }
+static uint32_t reader_of_a_kernel(void) { return histar_reader_open(&reader, &k); }
+static uint32_t reader_of_a_closed_seat(void) { return histar_reader_open(&reader, &unseated); }
+static uint32_t reader_of_itself(void) { return histar_reader_open(&reader, &reader); }
+static uint32_t reader_of_a_seat_in_a_call(void)
+{
+    uint32_t refusal;
+    must(histar_taken(&seat));
+    refusal = histar_reader_open(&reader, &seat);
+    histar_released(&seat, HISTAR_DONE);
+    return refusal;
+}
+static uint32_t called_by_a_closed_reader(void)
+{
+    (void)with_a_reader(never_opened);
+    return is_called(&reader);
+}
+/* A seat that was read goes on. */
+static uint32_t seat_after_its_readers(void)
+{
+    static histar its, one, two;
+    uint32_t refusal;
+    must(histar_share(&its, 8, 3));
+    must(histar_reader_open(&one, &its));
+    must(histar_reader_open(&two, &its));
+    must(histar_close(&one));
+    if (is_called(&its) != HISTAR_BUSY) return HISTAR_UNAVAILABLE;
+    must(histar_close(&two));
+    refusal = is_called(&its);
+    must(histar_close(&its));
+    return refusal;
+}
+
 /* A batch of so many calls, all of this number. */
 static uint32_t is_batched(histar *kernel, uint32_t call, size_t count)
 {
@@ -770,6 +908,29 @@ static const struct row {
     {"a log of a seat", HISTAR_BAD_BATCH, log_of_a_seat},
     {"a look-up by a seat", HISTAR_BAD_BATCH, look_up_by_a_seat},
     {"a kernel after a seat", HISTAR_DONE, opened_after_a_seat},
+    {"a dump up to a note of another shared kernel", HISTAR_OTHER_LIST, dump_since_of_another},
+    {"a dump up to less than a seat has seen", HISTAR_OTHER_LIST, dump_since_what_was_seen},
+    {"a dump up to more calls than there are", HISTAR_OTHER_LIST, dump_of_more_calls},
+    {"a dump up to a note by a kernel", HISTAR_BAD_BATCH, dump_since_by_a_kernel},
+    {"dumps of what seats lack", HISTAR_DONE, dumps_since},
+    {"a call by a seat that is read", HISTAR_BUSY, seat_with_a_reader},
+    {"a read by a seat that is read", HISTAR_BUSY, read_with_a_reader},
+    {"a close of a seat that is read", HISTAR_BUSY, closed_with_a_reader},
+    {"a write call by a reader", HISTAR_BAD_BATCH, write_by_a_reader},
+    {"a read that is refused by one of two readers", HISTAR_HALTED, readers_at_once},
+    {"a note by a reader", HISTAR_BAD_BATCH, note_by_a_reader},
+    {"a note learned by a reader", HISTAR_BAD_BATCH, learned_by_a_reader},
+    {"a dump by a reader", HISTAR_BAD_BATCH, dump_by_a_reader},
+    {"a reader that is opened twice", HISTAR_BUSY, reader_opened_twice},
+    {"a seat where a reader is", HISTAR_BUSY, seat_where_a_reader_is},
+    {"a seat beside a reader", HISTAR_UNAVAILABLE, seat_beside_a_reader},
+    {"a reader of a reader", HISTAR_UNAVAILABLE, reader_of_a_reader},
+    {"a reader of a kernel", HISTAR_UNAVAILABLE, reader_of_a_kernel},
+    {"a reader of a closed seat", HISTAR_UNAVAILABLE, reader_of_a_closed_seat},
+    {"a reader of itself", HISTAR_BUSY, reader_of_itself},
+    {"a reader of a seat in a call", HISTAR_BUSY, reader_of_a_seat_in_a_call},
+    {"a call by a closed reader", HISTAR_UNAVAILABLE, called_by_a_closed_reader},
+    {"a call by a seat after its readers", HISTAR_DONE, seat_after_its_readers},
     {"a call past the list's room", HISTAR_LIST_FULL, calls_past_the_room},
     {"a batch of no calls", HISTAR_BAD_BATCH, batch_of_nothing},
     {"a batch of 17 calls", HISTAR_BAD_BATCH, batch_of_seventeen},

@@ -3,7 +3,7 @@
  * all back. Then the same of calls that are kept in a log, and of its dump: a call that is refused memory is told 40 and is
  * made as ever when it is asked for again, and a dump is told 51. The same of a checkpoint, of the open at its text, and of a log that is
  * cut. And the same of a kernel that threads share: of its first seat, of
- * another, and of write calls, those that lay a block of the list too, while reads take none. */
+ * another, of a reader, of the dump of what a seat lacks, and of write calls, those that lay a block of the list too, while reads take none. */
 #include "histar.h"
 #include "wrapped.h"
 #include <stdio.h>
@@ -207,6 +207,38 @@ static int calls_are_shared(void)
     return 1;
 }
 
+static histar reader;
+
+/* Whether a reader of a seat reads, and takes no memory for that. */
+static int is_read(void)
+{
+    long before;
+    histar_self self;
+    uint32_t refusal = histar_reader_open(&reader, &seat);
+    if (refusal == HISTAR_UNAVAILABLE) again++, refusal = histar_reader_open(&reader, &seat);
+    if (refusal) return 0;
+    before = asked;
+    for (int i = 0; i < 100; i++)
+        if (histar_self_get(&reader, HISTAR_BOOT, &self)) return 0;
+    return asked == before && !histar_close(&reader);
+}
+
+/* Whether what one seat has written and another lacks is dumped, and no memory is kept then. */
+static int lack_is_dumped(void)
+{
+    struct taken it = {{0}, 0};
+    histar_note note;
+    long before;
+    uint32_t refusal = histar_cat_create(&seat, HISTAR_BOOT, &category);
+    if (refusal == HISTAR_MEMORY) again++, refusal = histar_cat_create(&seat, HISTAR_BOOT, &category);
+    if (refusal || histar_seen(&seat, &note)) return 0;
+    before = out;
+    refusal = histar_dump_since(&other, note, takes, &it);
+    if (refusal == HISTAR_TEXT_MEMORY) again++, it.len = 0, refusal = histar_dump_since(&other, note, takes, &it);
+    if (refusal || it.len == sizeof it.text || out > before) return 0;
+    return strstr(it.text, "\nevent 2 1 cat_create => cat #1\n") != NULL;
+}
+
 /* Whether a kernel is shared by two seats with each request for memory refused in turn, or else opens nothing. */
 static int kernels_are_shared(void)
 {
@@ -218,7 +250,7 @@ static int kernels_are_shared(void)
         if (refusal) return 0;
         refusal = histar_seat_open(&other, &seat);
         if (refusal && (refusal != HISTAR_UNAVAILABLE || asked < refused)) return 0;
-        if (!refusal && (!calls_are_shared() || again > 1)) return 0;
+        if (!refusal && (!calls_are_shared() || !is_read() || !lack_is_dumped() || again > 1)) return 0;
         if (histar_close(&seat) || histar_close(&other) || out != 0) return 0;
         if (asked < refused) return again == 0 && refused > 9;
     }

@@ -1,6 +1,6 @@
 /* Times a read and a write of 64 bytes through a seat of a shared kernel, beside positional reads and writes of a file in memory, and
- * beside one kernel with a lock around each call, by one thread and by four, in one run: of each row the least of the runs. Then a
- * write beside 63 threads that read and never pause: the median, and the 99th of 100.
+ * beside one kernel with a lock around each call, by one thread and by four, in one run: of each row the least of the runs; and reads by
+ * readers of one seat. Then a write beside 63 threads that read and never pause: the median, and the 99th of 100.
  *
  * shared_bench [CALLS RUNS]   20,000 calls and 15 runs without words. On a machine that is busy: under `chrt -f 50` */
 #define _GNU_SOURCE
@@ -15,7 +15,7 @@
 
 enum { MOST = 4, MANY = 64 };
 static int calls = 20000, runs = 15;
-static histar k, seats[MANY];
+static histar k, seats[MANY], readers[MOST];
 static histar_object of_k, of_share;
 static pthread_rwlock_t lock = PTHREAD_RWLOCK_INITIALIZER;
 static int file;
@@ -59,6 +59,7 @@ static void rdlock_only(int me, char *place)
     pthread_rwlock_unlock(&lock);
 }
 static void seat_read(int me, char *place) { done(histar_segment_read(&seats[me], HISTAR_BOOT, histar_in(HISTAR_ROOT, of_share), 128, place, 64)); }
+static void reader_read(int me, char *place) { done(histar_segment_read(&readers[me], HISTAR_BOOT, histar_in(HISTAR_ROOT, of_share), 128, place, 64)); }
 static void seat_write(int me, char *place) { done(histar_segment_write(&seats[me], HISTAR_BOOT, histar_in(HISTAR_ROOT, of_share), 128, place, 64)); }
 
 typedef void (*work)(int, char *);
@@ -168,7 +169,7 @@ int main(int count, char **words)
     done(histar_share(&seats[0], 64, HISTAR_ANY_NUMBER));
     for (int i = 1; i < MANY; i++) done(histar_seat_open(&seats[i], &seats[0]));
     done(histar_segment_create(&seats[0], HISTAR_BOOT, HISTAR_ROOT, &plain, 2, 1, &of_share));
-    printf("rooms: seat %zu, kernel %zu bytes\n", histar_seat_size(), histar_size());
+    printf("rooms: seat %zu, reader %zu, kernel %zu bytes\n", histar_seat_size(), histar_reader_size(), histar_size());
 
     row("pread, 1 thread", 1, file_read, file_read);
     row("one kernel, no lock, read, 1 thread", 1, alone_read, alone_read);
@@ -189,6 +190,11 @@ int main(int count, char **words)
     row("pwrite, 4 threads", 4, file_write, file_write);
     row("one kernel, rwlock, write, 4 threads", 4, locked_write, locked_write);
     row("seat, write, 4 threads", 4, seat_write, seat_write);
+    for (int i = 0; i < MOST; i++) done(histar_reader_open(&readers[i], &seats[MANY - 1]));
+    row("reader of a seat, read, 1 thread", 1, reader_read, reader_read);
+    row("readers of one seat, read, 4 threads", 4, reader_read, reader_read);
+    row("seat, write beside 3 readers of another", 4, seat_write, reader_read);
+    for (int i = 0; i < MOST; i++) done(histar_close(&readers[i]));
     beside_many(0);
     beside_many(3);
     beside_many(MANY - 1);

@@ -193,6 +193,37 @@ static void storm(long so_many, const char *folder)
     closes(folder);
 }
 
+/* ---- Readers of one seat at once, beside an owner that writes through another seat ---- */
+
+enum { READERS = 4, READS = 20000 };
+static histar readers[READERS];
+
+static void *reads_on(void *given)
+{
+    histar *reader = given;
+    pthread_barrier_wait(&start);
+    for (long round = 0; round < READS; round++) must(reads(reader, segments[0]) == 7, "a reader does not read what its seat had seen");
+    return NULL;
+}
+
+/* They read what the seat had seen, whatever is written meanwhile; it sees that once they are closed. */
+static void reads_one_seat(void)
+{
+    pthread_t threads[READERS];
+    opens(LOGS);
+    pthread_barrier_destroy(&start);
+    pthread_barrier_init(&start, NULL, READERS + 1);
+    writes(&seats[0], segments[0], 7);
+    for (size_t i = 0; i < READERS; i++) done(histar_reader_open(&readers[i], &seats[0]));
+    for (size_t i = 0; i < READERS; i++) must(!pthread_create(&threads[i], NULL, reads_on, &readers[i]), "no thread");
+    pthread_barrier_wait(&start);
+    for (uint64_t number = 8; number < READS; number++) writes(&seats[1], segments[0], number);
+    for (size_t i = 0; i < READERS; i++) pthread_join(threads[i], NULL);
+    for (size_t i = 0; i < READERS; i++) done(histar_close(&readers[i]));
+    must(reads(&seats[0], segments[0]) == READS - 1, "a seat lacks what was written while it was read");
+    closes(NULL);
+}
+
 /* ---- A thread that is stopped in the middle of adding a call ---- */
 
 static int held, go_on, stop;
@@ -250,6 +281,8 @@ int main(int count, char **words)
     do storm(MOST, NULL), storms++;
     while (time(NULL) < until);
     printf("%d threads: %ld histories of %d calls that write, each one list\n", THREADS, storms, (3 * MOST + 3 * MOST / BATCH_EACH + 3) * THREADS);
+    reads_one_seat();
+    printf("%d readers of one seat read at once, beside a writer\n", READERS);
     if (most) printf("a thread was stopped in the middle of adding a call, at try %ld, and reads went on\n", stops_in_the_middle(most));
     if (count > 3) storm(FEW, words[3]);
 }

@@ -18,11 +18,8 @@ use Rattle.dump_text.specs.declared.migrating.MigrateFault.{MigrateFault}
 use Rattle.dump_text.specs.declared.migrating.MigrateFault.TheVariants as faults
 use Rattle.dump_text.specs.declared.places.Place.{Place}
 use Rattle.dump_text.specs.Dump.{IsDump, next, ends, start}
-use Rattle.dump_text.specs.Line.{line_text, IsLine, IsBootable}
+use Rattle.dump_text.specs.Line.{line_text, IsLine}
 use Rattle.dump_text.specs.Lists.{DumpLists}
-use Rattle.dump_text.specs.Whole.{whole_dump}
-use Rattle.kernel_rules.specs.Events.{Event}
-use Rattle.kernel_rules.specs.History.{IsLegal}
 
 -- a label of one level
 abbrev pub plain_label : Level → RawLabel
@@ -62,17 +59,6 @@ boot_checkpoint l = record {
       ∷ [];
   next = [];
 }
-
--- the dump of events after a boot with these limits
-unfoldable pub boot_dump : Limits → List Event → DumpLists
-boot_dump limits events = whole_dump limits (Some (boot_checkpoint limits)) events []
-
--- the limits are in range, and the bytes are the dump of a legal list of events after a boot with
--- them
-abbrev pub IsBootDump : Limits → List ℕ → Type 0
-IsBootDump limits bytes =
-    IsBootable limits
-    × ((events : List Event) × IsLegal limits events × IsDump bytes (boot_dump limits events))
 
 -- the same dump in format 2, whose events begin at the checkpoint of the boot. Format 1 has no reads
 abbrev pub migrated : DumpLists → DumpLists

@@ -3,9 +3,8 @@ ghost use Rattle.std.specs.Prelude.{◌≡◌, true, List, Option};
 ghost use Rattle.std.specs.List.{AllByRecursion};
 ghost use Rattle.base.specs.declared.ranges.Limits.{Limits as Booted};
 ghost use Rattle.checkpoints.specs.Checkpoint.{Checkpoint as Written};
-ghost use Rattle.kernel_rules.specs.History.{IsLegal, IsLegalFrom};
+ghost use Rattle.kernel_rules.specs.History.{IsLegalFrom};
 ghost use Rattle.kernel_rules.specs.Events.{Event as Done};
-ghost use Rattle.dump_text.specs.Boot.{boot_dump};
 ghost use Rattle.dump_text.specs.Dump.{dump_text, IsDump};
 ghost use Rattle.dump_text.specs.Fits.{FitsWords};
 ghost use Rattle.dump_text.specs.Line.{IsBootable};
@@ -27,12 +26,4 @@ pub fn legal_is_dump()
         → FitsWords (whole_dump limits checkpoint events reads)
         → IsDump (dump_text (whole_dump limits checkpoint events reads))
         (whole_dump limits checkpoint events reads) }
-{}
-
-/// A law, which does nothing when it is called: the text of the dump of legal events after a boot is a dump's, where the
-/// limits are in range and each value in it fits its word.
-pub fn legal_boot_is_dump()
-    ensures { (limits : Booted) (events : List Done) → IsBootable limits → IsLegal limits events
-        → FitsWords (boot_dump limits events)
-        → IsDump (dump_text (boot_dump limits events)) (boot_dump limits events) }
 {}

@@ -43,7 +43,7 @@ mod writing;
 
 pub use dumps::{one_reading, read_dump};
 pub use errors::DumpError;
-pub use laws::{legal_boot_is_dump, legal_is_dump};
+pub use laws::legal_is_dump;
 pub use migrating::{MigrateFault, boot_checkpoint, boots_can_begin, migrate};
 pub use parting::part_reads;
 pub use pieces::{

@@ -20,7 +20,6 @@ fn of_dumps() {
     auditor::migrated_verdicts();
     dump_text::one_reading();
     dump_text::legal_is_dump();
-    dump_text::legal_boot_is_dump();
     dump_text::boots_can_begin();
 }
 

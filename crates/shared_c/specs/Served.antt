@@ -1,10 +1,8 @@
 -- What the exports do to what C's memory holds, and what C is told.
-use Rattle.std.specs.Prelude.{◌≡◌, ◌≢◌, ◌⊎◌, ◌↔◌, ◌==◌, ℕ, List, [], ◌∷◌, ◌++◌, Bool, false, length, take, drop, not, nat_eq, nat_lt, slice_get, if◌then◌else◌, Option, Some, None, option_map, Result, Ok, Err}
+use Rattle.std.specs.Prelude.{◌≡◌, ◌≢◌, ◌<◌, ◌⊎◌, ◌↔◌, ◌==◌, ℕ, List, [], ◌∷◌, ◌++◌, Bool, false, length, take, drop, not, nat_eq, nat_lt, slice_get, if◌then◌else◌, Option, Some, None, option_map, Result, Ok, Err}
 use Rattle.std.specs.Bool.{MatchBool}
 use Rattle.base.specs.Limits.{in_range}
 use Rattle.base.specs.declared.ranges.Limits.{Limits}
-use Rattle.dump_text.specs.Boot.{boot_dump, IsBootDump}
-use Rattle.dump_text.specs.Dump.{dump_text}
 use Rattle.kernel_rules.specs.History.{is_batch}
 use Rattle.kernel_rules.specs.declared.calls.Call.{Call}
 use Rattle.kernel_rules.specs.declared.calls.Query.{Query}
@@ -19,7 +17,7 @@ use Rattle.call_records.specs.declared.logs.LogRequest.{LogRequest}
 use Rattle.call_records.specs.declared.logs.LogRequest.TheVariants as logs
 use Rattle.call_records.specs.declared.records.Answer.{Answer}
 use Rattle.call_records.specs.declared.records.Request.{Request}
-use Rattle.shared_calls.specs.Events.{events_of}
+use Rattle.shared_calls.specs.Dumps.{DumpView, IsDumpAfter, IsDumpTo, IsPieceOf, dump_at}
 use Rattle.shared_calls.specs.Seats.{SeatView, IsBatchSubmitted, IsBeside, IsFirst, IsLater, IsLearned, IsRead, IsSubmitted}
 use Rattle.shared_calls.specs.declared.refusals.SubmitRefusal.{SubmitRefusal}
 use Rattle.shared_calls.specs.declared.refusals.SubmitRefusal.TheVariants as refusals
@@ -80,7 +78,8 @@ IsTold reply number told = (number ≡ refusal_number reply) × Tells reply told
 abbrev pub IsUnmade : ℕ → Type 0
 IsUnmade number = (refusal : SubmitRefusal) × (refusal ≢ refusals.BadBatch) × (number ≡ number_of refusal)
 
--- what is kept beside the seat: the calls for a batch, the replies of the last one, and the text of the last dump
+-- what is kept beside the seat: the calls for a batch, the replies of the last one, and the last piece of a dump with what comes after
+-- it
 abbrev pub SameCalls : KeptSeat → KeptSeat → Type 0
 SameCalls before after = after.calls.items ≡ before.calls.items
 
@@ -90,8 +89,11 @@ SameReplies before after = after.replies.items ≡ before.replies.items
 abbrev pub SameText : KeptSeat → KeptSeat → Type 0
 SameText before after = after.text.items ≡ before.text.items
 
+abbrev pub SameDump : KeptSeat → KeptSeat → Type 0
+SameDump before after = SameText before after × (after.dump ≡ before.dump)
+
 abbrev pub SameBeside : KeptSeat → KeptSeat → Type 0
-SameBeside before after = SameCalls before after × SameReplies before after × SameText before after
+SameBeside before after = SameCalls before after × SameReplies before after × SameDump before after
 
 -- nothing is done and nothing is told but this number
 abbrev pub IsRefused : ℕ → KeptSeat → KeptSeat → ℕ → Answer → Answer → Type 0
@@ -122,7 +124,7 @@ IsNoteLearned count before after number =
 -- no call is kept for a batch
 abbrev pub IsBegun : KeptSeat → KeptSeat → Type 0
 IsBegun before after =
-    (after.seat ≡ before.seat) × (after.calls.items ≡ []) × SameReplies before after × SameText before after
+    (after.seat ≡ before.seat) × (after.calls.items ≡ []) × SameReplies before after × SameDump before after
 
 -- the call is kept after those that were, or there is no memory for it; where 16 are kept it is not
 abbrev pub AreCallsThen : Call → List Call → List Call → ℕ → Type 0
@@ -134,7 +136,7 @@ AreCallsThen call before after number =
 abbrev pub IsCallKept : Call → KeptSeat → KeptSeat → ℕ → Type 0
 IsCallKept call before after number =
     (after.seat ≡ before.seat) × AreCallsThen call before.calls.items after.calls.items number
-    × SameReplies before after × SameText before after
+    × SameReplies before after × SameDump before after
 
 -- the calls that were kept are the last batch that the seat has then seen, and these are their replies; or none of them is made, and
 -- the seat has only seen more: 45 where they are no batch, and else 40, 46 or 47
@@ -147,7 +149,7 @@ IsBatchMade thread calls before after number =
 
 abbrev pub IsBatchCalled : ℕ → KeptSeat → KeptSeat → ℕ → Type 0
 IsBatchCalled thread before after number =
-    IsBatchMade thread before.calls.items before after number × SameCalls before after × SameText before after
+    IsBatchMade thread before.calls.items before after number × SameCalls before after × SameDump before after
 
 -- the reply to a call of the last batch is told, and the number of its refusal; 45 where there is no such call
 abbrev pub IsReplyAt : Option Reply → ℕ → Answer → Answer → Type 0
@@ -159,6 +161,18 @@ IsReplyTold at before after number old told =
     (after.seat ≡ before.seat) × SameBeside before after
     × IsReplyAt (slice_get before.replies.items at) number old told
 
+-- the dump is not begun: 48 where the seat has seen more batches, or where the list may have fewer, and else 51
+abbrev pub IsUnbegun : ℕ → ℕ → ℕ → Type 0
+IsUnbegun count seen number =
+    MatchBool (nat_lt count seen) (number ≡ 48) (((number ≡ 48) × (seen < count)) ⊎ (number ≡ 51))
+
+-- the dump is begun of what the list has more than the seat has seen, up to so many batches; or it is not, and there is none
+abbrev pub IsDumpBegun : ℕ → KeptSeat → KeptSeat → ℕ → Type 0
+IsDumpBegun count before after number =
+    (after.seat ≡ before.seat) × SameCalls before after × SameReplies before after × SameText before after
+    × (((d : DumpView) × IsDumpTo count before.seat d × (after.dump ≡ Some d) × (number ≡ 0))
+    ⊎ ((after.dump ≡ None) × IsUnbegun count (length before.seat.seen) number))
+
 -- what is asked of the seat is done
 abbrev pub IsAsked : SeatRequest → ℕ → KeptSeat → KeptSeat → ℕ → Answer → Answer → Type 0
 IsAsked seats.Seen thread before after number old told =
@@ -168,29 +182,46 @@ IsAsked (seats.Learn count) thread before after number old told =
 IsAsked seats.Begin thread before after number old told = IsBegun before after × (number ≡ 0) × (told ≡ old)
 IsAsked seats.Make thread before after number old told = IsBatchCalled thread before after number × (told ≡ old)
 IsAsked (seats.Told at) thread before after number old told = IsReplyTold at before after number old told
+IsAsked (seats.DumpTo count) thread before after number old told = IsDumpBegun count before after number × (told ≡ old)
 
--- the text is kept in place of the last one, and its length is told
-abbrev pub IsTextKept : List ℕ → KeptSeat → KeptSeat → ℕ → Answer → Type 0
-IsTextKept text before after number told =
+-- the text is kept as the last piece, after which this dump goes on, and its length is told
+abbrev pub IsTextKept : List ℕ → Option DumpView → KeptSeat → KeptSeat → ℕ → Answer → Type 0
+IsTextKept text dump before after number told =
     (after.seat ≡ before.seat) × SameCalls before after × SameReplies before after × (after.text.items ≡ text)
-    × (number ≡ 0) × TellsLength text told
+    × (after.dump ≡ dump) × (number ≡ 0) × TellsLength text told
 
--- the text is the dump of what the seat has seen, a legal list of events
-abbrev pub IsDumpText : SeatView → List ℕ → Type 0
-IsDumpText seat text = (text ≡ dump_text (boot_dump seat.limits (events_of seat.limits seat.seen))) × IsBootDump seat.limits text
+-- no piece is made, and the dump is over
+abbrev pub IsOver : ℕ → KeptSeat → KeptSeat → ℕ → Answer → Answer → Type 0
+IsOver why before after number old told =
+    (after.seat ≡ before.seat) × SameCalls before after × SameReplies before after × SameText before after
+    × (after.dump ≡ None) × (number ≡ why) × (told ≡ old)
 
--- that text is made; or there is no memory for it, and the number is 51; 45 where the list has no log
-abbrev pub IsDumpedWhole : KeptSeat → KeptSeat → ℕ → Answer → Answer → Type 0
-IsDumpedWhole before after number old told =
-    MatchBool before.seat.is_logged
-    ((IsTextKept after.text.items before after number told × IsDumpText before.seat after.text.items)
-    ⊎ IsRefused 51 before after number old told)
-    (IsRefused 45 before after number old told)
+-- the next piece of the dump is made; or there is no memory for it, and the number is 51
+abbrev pub IsPieceMade : DumpView → KeptSeat → KeptSeat → ℕ → Answer → Answer → Type 0
+IsPieceMade dump before after number old told =
+    (IsPieceOf dump after.text.items × IsDumpAfter dump after.text.items after.dump
+    × IsTextKept after.text.items after.dump before after number told)
+    ⊎ IsOver 51 before after number old told
 
--- the same as its one piece; the others are empty
+-- the first piece is made of the dump of what the seat has seen; 45 where the list has no log
+abbrev pub IsFirstMade : KeptSeat → KeptSeat → ℕ → Answer → Answer → Type 0
+IsFirstMade before after number old told =
+    MatchBool before.seat.is_logged (IsPieceMade (dump_at before.seat) before after number old told)
+    (IsOver 45 before after number old told)
+
+-- the dump whose next piece has this number
+abbrev pub dump_of_piece : ℕ → Option DumpView → Option DumpView
+dump_of_piece piece None = None
+dump_of_piece piece (Some dump) = if dump.number == piece then Some dump else None
+
+-- a piece is made of it; where it is not the next one it is empty, but the first begins a dump
+abbrev pub IsNextMade : ℕ → Option DumpView → KeptSeat → KeptSeat → ℕ → Answer → Answer → Type 0
+IsNextMade piece (Some dump) before after number old told = IsPieceMade dump before after number old told
+IsNextMade piece None before after number old told =
+    MatchBool (piece == 0) (IsFirstMade before after number old told) (IsTextKept [] None before after number told)
+
 abbrev pub IsDumped : ℕ → KeptSeat → KeptSeat → ℕ → Answer → Answer → Type 0
-IsDumped piece before after number old told =
-    MatchBool (piece == 0) (IsDumpedWhole before after number old told) (IsTextKept [] before after number told)
+IsDumped piece before after number old told = IsNextMade piece (dump_of_piece piece before.dump) before after number old told
 
 -- what is asked of the log is done; it does not begin, is not cut, and has no checkpoint
 abbrev pub IsLogAsked : LogRequest → KeptSeat → KeptSeat → ℕ → Answer → Answer → Type 0

@@ -25,9 +25,14 @@ pub enum SeatRequest {
         /// The place of the call, from 0.
         at: u64,
     },
+    /// That the dump begins of what the list has more, up to so many batches.
+    DumpTo {
+        /// How many batches a note tells.
+        count: u64,
+    },
 }
 
-/// What a record asks of a seat. None where its number is not 43 to 47.
+/// What a record asks of a seat. None where its number is not 43 to 47, and not 50.
 pub(crate) fn seat_request_of(request: &Request) -> Option<SeatRequest>
     ensures { result ≡ seat_request_of request.now }
 {
@@ -40,6 +45,9 @@ pub(crate) fn seat_request_of(request: &Request) -> Option<SeatRequest>
         46 => SeatRequest::Make,
         47 => SeatRequest::Told {
             at: request.numbers[0],
+        },
+        50 => SeatRequest::DumpTo {
+            count: request.numbers[0],
         },
         _ => return None,
     })

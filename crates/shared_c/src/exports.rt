@@ -2,9 +2,12 @@
 ghost use Rattle.std.specs.Borrow.{full_share, sem};
 ghost use Rattle.std.specs.Ptr.{lies_at, room_at};
 ghost use Rattle.shared_c.specs.contracts.held.HeldSeat.{the_row as SeatRow};
+ghost use Rattle.shared_c.specs.contracts.readers.HeldReader.{the_row as ReaderRow};
+ghost use Rattle.shared_c.specs.Readers.{IsReaderOf, IsReadBy, reader_in};
 ghost use Rattle.shared_c.specs.Served.{has_log, IsFirstSeat, IsSeatBeside, IsServed, limits_of, seat_in};
 
 use crate::held::{HeldSeat, beside, end_seat, first, serve};
+use crate::readers::{HeldReader, end_reader, read, reader_of};
 use call_records::{Answer, Request};
 use std::alloc::Global;
 
@@ -72,4 +75,49 @@ pub unsafe extern "C" fn histar_seat_end(at: *mut u8)
 #[unsafe(no_mangle)]
 pub extern "C" fn histar_seat_size() -> usize {
     std::mem::size_of::<HeldSeat>()
+}
+
+/// A reader of the kernel of the seat that a room holds, in room for it, which then holds the reader, or why there is none. As long as there
+/// is a reader, the seat sees no more, and its write calls are refused 46.
+#[unsafe(no_mangle)]
+pub unsafe extern "C" fn histar_reader_of(from: *mut u8, alloc: Global, at: *mut u8)
+    ghost other: { HeldSeat }
+    requires* { sem 𝓛 (lies_at SeatRow full_share from other) ∗ sem 𝓛 (room_at ReaderRow at) }
+    ensures* { ∃ₛ (λ (held : HeldReader). sem 𝓛 (lies_at SeatRow full_share from other)
+        ∗ sem 𝓛 (lies_at ReaderRow full_share at held) ∗ ⌜ IsReaderOf (seat_in other.seat) (reader_in held.reader) ⌝) }
+{
+    at.cast::<HeldReader>()
+        .write(reader_of(&mut *from.cast::<HeldSeat>(), alloc));
+}
+
+/// Answers the query that the record asks, in the state that the seat was in, and gives the number of the refusal: 0 for none, 45 where
+/// the record asks no query. Readers of one seat are called at once. Where no reader is held, it gives why, and nothing changes.
+#[unsafe(no_mangle)]
+pub unsafe extern "C" fn histar_reader_call(
+    at: *mut u8,
+    request: &Request,
+    answer: &mut Answer,
+) -> u32
+    ghost before: { HeldReader }
+    requires* { sem 𝓛 (lies_at ReaderRow full_share at before) }
+    ensures* { ∃ₛ (λ (after : HeldReader). sem 𝓛 (lies_at ReaderRow full_share at after)
+        ∗ ⌜ IsReadBy request.now before.reader after.reader result answer.old answer.new ⌝) }
+{
+    read(&mut *at.cast::<HeldReader>(), request, answer)
+}
+
+/// Gives back all that the reader took. The memory is room again.
+#[unsafe(no_mangle)]
+pub unsafe extern "C" fn histar_reader_end(at: *mut u8)
+    ghost before: { HeldReader }
+    requires* { sem 𝓛 (lies_at ReaderRow full_share at before) }
+    ensures* { sem 𝓛 (room_at ReaderRow at) }
+{
+    end_reader(at.cast::<HeldReader>().read());
+}
+
+/// How many bytes the room for a reader has, at a multiple of 16.
+#[unsafe(no_mangle)]
+pub extern "C" fn histar_reader_size() -> usize {
+    std::mem::size_of::<HeldReader>()
 }

@@ -6,11 +6,11 @@ ghost use Rattle.shared_c.specs.Served.{has_log, IsAsked, IsCalled, IsDone, IsFi
 
 use crate::asking::{SeatRequest, batch_call_into, seat_request_of, tell_count};
 use crate::batches::{begin, keep, make_batch, tell_reply};
-use crate::dumps::answer_log;
+use crate::dumps::{answer_log, begin_dump};
 use base::{Limits, Meter, ObjectId};
 use call_records::{Answer, Request, call_into, level_of, log_request_of, query_of, tell};
 use kernel_rules::{Call, Reply};
-use shared_calls::{Seat, SubmitRefusal};
+use shared_calls::{Seat, SeatDump, SubmitRefusal};
 use std::alloc::Global;
 
 /// A seat, with what its calls need beside it.
@@ -30,8 +30,10 @@ pub struct KeptSeat {
     pub calls: Vec<Call>,
     /// What the calls of the batch that was made last were answered.
     pub replies: Vec<Reply>,
-    /// The text of the dump that was made last.
+    /// The piece of a dump that was made last.
     pub text: Vec<u8>,
+    /// The dump that it is of, where more of it comes.
+    pub dump: Option<SeatDump>,
 }
 
 /// A seat, or the number that tells why there is none: 30 for want of memory, 31 for limits out of range.
@@ -55,6 +57,7 @@ fn kept_seat(alloc: Global, seat: Seat) -> Result<KeptSeat, u32>
             calls: Vec::new(alloc),
             replies: Vec::new(alloc),
             text: Vec::new(alloc),
+            dump: None,
         }),
         Err(_) => Err(30),
     }
@@ -173,6 +176,7 @@ fn answer_asked(
         }
         SeatRequest::Make => make_batch(kept, thread),
         SeatRequest::Told { at } => tell_reply(kept, at, answer),
+        SeatRequest::DumpTo { count } => begin_dump(kept, count),
     }
 }
 

@@ -11,9 +11,12 @@ mod batches;
 mod dumps;
 mod exports;
 mod held;
+mod readers;
 
 pub use asking::SeatRequest;
 pub use exports::{
+    histar_reader_call, histar_reader_end, histar_reader_of, histar_reader_size,
     histar_seat_beside, histar_seat_call, histar_seat_end, histar_seat_first, histar_seat_size,
 };
 pub use held::{HeldSeat, KeptSeat};
+pub use readers::{HeldReader, KeptReader};

@@ -4,3 +4,6 @@ pub mod Adding
 pub mod Taking
 pub mod Played
 pub mod EventLaws
+pub mod PieceLaws
+pub mod TellingLaws
+pub mod BeginningLaws

@@ -42,7 +42,3 @@ compared xs ys both m n p q is_m is_n = at (leb n m) refl
     at : (b : Bool) → leb n m ≡ b → MatchBool b (IsPrefix ys xs) (IsPrefix xs ys × (length xs < length ys))
     at true is = let le : n ≤ m = grind (arith, nat_tests) in prefix_shorter ys xs both q p (omega arith)
     at false is = let lt : m < n = grind (arith, nat_tests) in (prefix_shorter xs ys both p q (omega arith), omega arith)
-
--- two beginnings of one list that are as long are one
-pub prefix_same : {A : Type 0} (xs ys both : List A) → IsPrefix xs both → IsPrefix ys both → length xs ≡ length ys → xs ≡ ys
-prefix_same xs ys both p q len = prefix_whole xs ys (prefix_shorter xs ys both p q (omega arith)) (omega arith)

@@ -6,3 +6,4 @@ pub mod Directories
 pub mod Knowledge
 pub mod Seats
 pub mod Events
+pub mod Dumps

@@ -1,6 +1,7 @@
 //! How far a list was seen.
 ghost use Rattle.std.specs.Prelude.{◌≡◌, ◌+◌, ◌<◌, length, IfOk};
 ghost use Rattle.shared_calls.specs.Cursors.{IsPlaced};
+ghost use Rattle.shared_calls.specs.Seats.{Has};
 
 use crate::blocks::Block;
 use crate::rules::Prefix;
@@ -34,6 +35,19 @@ impl Cursor {
             block,
             at: self.at,
         })
+    }
+
+    /// Whether no fewer batches were seen than another has seen of the same list. Of the two beginnings of the list the shorter
+    /// begins the longer.
+    pub(crate) fn has(&self, other: &Cursor) -> bool
+        requires placed { IsPlaced self.now }
+        requires other { IsPlaced other.now }
+        requires list { other.now.seen.book ≡ self.now.seen.book }
+        ensures { Has result self.now.seen.log other.now.seen.log }
+    {
+        let mut both = self.seen.again();
+        both.learn(&other.seen);
+        self.count >= other.count
     }
 
     /// One batch more was seen, which stood in the place.

@@ -1,198 +1,89 @@
-//! The dump of a beginning of the list.
-ghost use Rattle.std.specs.Prelude.{◌≡◌, ◌+◌, ◌<◌, ◌++◌, ◌∷◌, [], length, true, IfOk, OnOk};
-ghost use Rattle.base.specs.Limits.{in_range};
-ghost use Rattle.dump_text.specs.Boot.{boot_dump, IsBootDump};
-ghost use Rattle.dump_text.specs.Dump.{dump_text};
-ghost use Rattle.dump_text.specs.Fits.{FitsWords};
-ghost use Rattle.kernel_rules.specs.History.{IsLegal, count, state_of};
-ghost use Rattle.kernel_rules.specs.Scratch.{scratch};
-ghost use Rattle.shared_calls.specs.Events.{AreNumbered, IsJournal, events_of};
-ghost use Rattle.shared_calls.specs.Cursors.{IsPlaced};
-ghost use Rattle.shared_calls.specs.Rules.{IsNext};
+//! The events of batches, one after another.
+ghost use Rattle.std.specs.Prelude.{◌≡◌, ◌+◌, ◌∷◌, [], ℕ, cond, Some, ◌==◌, IfOk, OnOk};
+ghost use Rattle.std.specs.BTreeMap.{get};
+ghost use Rattle.std.specs.Option.{unwrap_or};
+ghost use Rattle.std.specs.Ordering.{nat_cmp};
+ghost use Rattle.kernel_rules.specs.Events.{by};
+ghost use Rattle.kernel_rules.specs.History.{answered};
+ghost use Rattle.kernel_rules.specs.Runs.{state_after};
+ghost use Rattle.shared_calls.specs.Events.{IsJournal};
 ghost use Rattle.syscall_core.specs.Kernel.{kernel_state};
 
-use crate::cursors::Cursor;
-use crate::lists::CallList;
 use crate::playing::answer_all;
-use crate::rules::{Entry, Prefix};
-use base::{Limits, Meter, NoMemory, ObjectId};
-use dump_text::{boot_checkpoint, dump_of, legal_boot_is_dump};
-use kernel_rules::Tables;
+use crate::rules::Entry;
+use base::{Meter, NoMemory, ObjectId};
 use kernel_rules::histories::Event;
 use std::alloc::Global;
+use std::collections::BTreeMap;
 use syscall_core::Kernel;
 
-/// The events of batches, and a kernel in the state that they lead to.
+/// A kernel in the state that events lead to, and how many of them each thread has.
 #[derive(Drop)]
 pub(crate) struct Journal {
     pub(crate) kernel: Kernel,
     pub(crate) meter: Meter,
-    pub(crate) events: Vec<Event>,
+    pub(crate) counts: BTreeMap<ObjectId, u64>,
 }
 
-/// The number of a thread's next event.
-fn next_number(events: &[Event], thread: ObjectId) -> u64
-    requires { AreNumbered events.now }
-    ensures { result ≡ count thread events.now + 1 }
+/// How many events a thread has.
+fn count_of(counts: &BTreeMap<ObjectId, u64>, thread: ObjectId) -> u64
+    ensures { result ≡ unwrap_or (get nat_cmp counts.now thread) 0 }
 {
-    let mut place = events.len();
-    while place > 0 {
-        place -= 1;
-        let event = &events[place];
-        if event.thread == thread {
-            return event.number + 1;
-        }
+    match counts.get(&thread) {
+        Some(count) => *count,
+        None => 0,
     }
-    1
 }
 
-/// A journal of no event. The error is want of memory.
-fn empty_journal(alloc: Global, limits: &Limits) -> Result<Journal, NoMemory>
-    ensures journal { IfOk result (IsJournal limits.now []) }
-    ensures range { OnOk result (in_range limits.now ≡ true) }
+/// Counts an event of a thread, and gives its number. The error is want of memory, or that the thread has no next number.
+fn count_event(counts: &mut BTreeMap<ObjectId, u64>, thread: ObjectId) -> Result<u64, NoMemory>
+    ensures number { IfOk result (λ number. number ≡ unwrap_or (get nat_cmp counts.old thread) 0 + 1) }
+    ensures counted { IfOk result (λ number. (t : ℕ) → get nat_cmp counts.new t
+        ≡ cond (thread == t) (Some number) (get nat_cmp counts.old t)) }
 {
-    let Ok(kernel) = Kernel::boot(alloc, limits) else {
+    let Some(number) = count_of(counts, thread).checked_add(1) else {
         return Err(NoMemory);
     };
+    counts.insert(thread, number)?;
+    Ok(number)
+}
+
+/// A journal of no event, which begins with a kernel as it stands. The error is want of memory.
+pub(crate) fn empty_journal(alloc: Global, kernel: Kernel) -> Result<Journal, NoMemory>
+    ensures { IfOk result (IsJournal (kernel_state kernel) []) }
+{
     let meter = Meter::new(alloc)?;
+    let counts = BTreeMap::new(alloc);
     Ok(Journal {
         kernel,
         meter,
-        events: Vec::new(alloc),
+        counts,
     })
 }
 
-/// Adds the batch that comes after these to their journal, as an event. The error is want of memory.
-fn add_event(
+/// The event of the batch that stands at a place, which the journal's kernel makes: its thread's next number, and each call with its
+/// answer. The error is want of memory, or that the thread has no next number.
+pub(crate) fn next_event(
     alloc: Global,
-    list: &CallList,
-    seen: &Prefix,
     journal: &mut Journal,
     entry: &Entry,
-) -> Result<(), NoMemory>
-    requires journal { IsJournal list.now.limits seen.now.log journal.old }
-    requires next { IsNext seen.now.log entry.now }
-    ensures { OnOk result (IsJournal list.now.limits entry.now.seen.log journal.new) }
+) -> Result<Event, NoMemory>
+    ensures thread { IfOk result (λ event. event.thread ≡ entry.now.thread) }
+    ensures number { IfOk result (λ event. event.number
+        ≡ unwrap_or (get nat_cmp journal.old.counts entry.now.thread) 0 + 1) }
+    ensures calls { IfOk result (λ event. event.calls ≡ answered (kernel_state journal.old.kernel)
+        entry.now.thread (entry.now.call ∷ entry.now.more.items)) }
+    ensures state { OnOk result (kernel_state journal.new.kernel
+        ≡ state_after (kernel_state journal.old.kernel)
+        (by entry.now.thread (entry.now.call ∷ entry.now.more.items))) }
+    ensures counted { IfOk result (λ event. (t : ℕ) → get nat_cmp journal.new.counts t
+        ≡ cond (entry.now.thread == t) (Some event.number) (get nat_cmp journal.old.counts t)) }
 {
-    let number = next_number(journal.events.as_slice(), entry.thread);
-    journal.events.reserve(1)?;
+    let number = count_event(&mut journal.counts, entry.thread)?;
     let calls = answer_all(alloc, &mut journal.kernel, &mut journal.meter, entry)?;
-    journal.events.push_reserved(Event {
+    Ok(Event {
         thread: entry.thread,
         number,
         calls,
-    });
-    Ok(())
-}
-
-/// Adds the next batch of the list to the journal of those that were seen. The error is want of memory.
-fn add_next(
-    alloc: Global,
-    list: &CallList,
-    cursor: &mut Cursor,
-    journal: &mut Journal,
-) -> Result<(), NoMemory>
-    requires placed { IsPlaced cursor.old }
-    requires list { cursor.old.seen.book ≡ list.now.start.book }
-    requires journal { IsJournal list.now.limits cursor.old.seen.log journal.old }
-    ensures placed { OnOk result (IsPlaced cursor.new) }
-    ensures list { OnOk result (cursor.new.seen.book ≡ list.now.start.book) }
-    ensures journal { OnOk result (IsJournal list.now.limits cursor.new.seen.log journal.new) }
-    ensures count { OnOk result (length cursor.new.seen.log ≡ length cursor.old.seen.log + 1) }
-{
-    if !list.reach(cursor) {
-        return Err(NoMemory);
-    }
-    let Some(next) = cursor.block.next(cursor.at, &cursor.seen) else {
-        return Err(NoMemory);
-    };
-    add_event(alloc, list, &cursor.seen, journal, next)?;
-    let seen = next.seen.again();
-    cursor.step(seen);
-    Ok(())
-}
-
-/// Adds what was seen of a list with a log to a journal of no event. An error is want of memory.
-fn add_all(
-    alloc: Global,
-    list: &CallList,
-    known: &Cursor,
-    journal: &mut Journal,
-) -> Result<(), NoMemory>
-    requires placed { IsPlaced known.now }
-    requires list { known.now.seen.book ≡ list.now.start.book }
-    requires journal { IsJournal list.now.limits [] journal.old }
-    ensures { OnOk result (IsJournal list.now.limits known.now.seen.log journal.new) }
-{
-    let Some(mut cursor) = list.beginning() else {
-        return Err(NoMemory);
-    };
-    while cursor.count < known.count {
-        add_next(alloc, list, &mut cursor, journal)?;
-    }
-    let mut both = known.seen.again();
-    both.learn(&cursor.seen);
-    Ok(())
-}
-
-/// The journal of what was seen of a list with a log. An error is want of memory.
-fn journal_of(alloc: Global, list: &CallList, known: &Cursor) -> Result<Journal, NoMemory>
-    requires placed { IsPlaced known.now }
-    requires list { known.now.seen.book ≡ list.now.start.book }
-    ensures journal { IfOk result (IsJournal list.now.limits known.now.seen.log) }
-    ensures range { OnOk result (in_range list.now.limits ≡ true) }
-{
-    let mut journal = empty_journal(alloc, &list.limits)?;
-    match add_all(alloc, list, known, &mut journal) {
-        Ok(()) => Ok(journal),
-        Err(error) => Err(error),
-    }
-}
-
-/// The text of the dump of events after a boot with these limits, with the tables of the state that they lead to. Want of memory is
-/// the only error.
-#[tactic(auto, unfolding(dump_text::specs::Boot::boot_dump))]
-fn text_of(
-    alloc: Global,
-    limits: &Limits,
-    events: Vec<Event>,
-    tables: Tables,
-) -> Result<Vec<u8>, NoMemory>
-    requires { tables ≡ scratch (state_of limits.now events.items) }
-    ensures text { IfOk result (λ text. text.items ≡ dump_text (boot_dump limits.now events.items)) }
-    ensures fits { OnOk result (FitsWords (boot_dump limits.now events.items)) }
-{
-    let checkpoint = boot_checkpoint(alloc, limits)?;
-    dump_of(
-        alloc,
-        limits,
-        Some(checkpoint),
-        events,
-        Vec::new(alloc),
-        tables,
-    )
-}
-
-/// The text of the dump of what was seen of a list with a log, which an audit finds clean. An error is want of memory.
-pub(crate) fn dump_known(
-    alloc: Global,
-    list: &CallList,
-    known: &Cursor,
-) -> Result<Vec<u8>, NoMemory>
-    requires placed { IsPlaced known.now }
-    requires list { known.now.seen.book ≡ list.now.start.book }
-    ensures text { IfOk result (λ text. text.items ≡ dump_text
-        (boot_dump list.now.limits (events_of list.now.limits known.now.seen.log))) }
-    ensures legal { IfOk result (λ text. IsBootDump list.now.limits text.items) }
-{
-    legal_boot_is_dump();
-    let journal = journal_of(alloc, list, known)?;
-    let Journal {
-        kernel,
-        mut meter,
-        events,
-    } = journal;
-    let tables = kernel.tables(&mut meter)?;
-    let text = text_of(alloc, &list.limits, events, tables)?;
-    Ok(text)
+    })
 }

@@ -7,17 +7,23 @@
 //! so a batch that is refused is in nobody's list. What a seat has seen can be dumped as a legal history.
 #![tactic(auto)]
 
+mod beginnings;
 mod blocks;
 mod chairs;
 mod cursors;
 mod directory;
+mod dumps;
 mod journals;
 mod lists;
 mod playing;
+mod readers;
 mod refusals;
 mod rules;
 mod seats;
 mod standing;
+mod tellings;
 
+pub use dumps::SeatDump;
+pub use readers::Reader;
 pub use refusals::{DumpRefusal, SeatRefusal, SubmitRefusal};
 pub use seats::Seat;

@@ -1,5 +1,6 @@
 //! Why seats and batches are refused.
-ghost use Rattle.std.specs.Prelude.{◌≡◌};
+ghost use Rattle.std.specs.Prelude.{◌≡◌, ◌≢◌};
+ghost use Rattle.shared_calls.specs.declared.refusals.DumpRefusal.TheVariants.{Ahead, NoLog, Short};
 ghost use Rattle.shared_calls.specs.declared.refusals.SubmitRefusal.TheVariants.{Memory};
 
 use base::NoMemory;
@@ -39,6 +40,26 @@ pub enum DumpRefusal {
     /// The list has no log.
     #[error("no log")]
     NoLog,
+    /// The seat at which it was to begin has seen more batches than those with which it was to end.
+    #[error("ahead")]
+    Ahead,
+    /// The list has fewer batches than those with which it was to end.
+    #[error("short")]
+    Short,
+    /// The list has as many seats as it may have, 4,096: a dump that is made takes the place of one.
+    #[error("too many seats")]
+    TooMany,
+}
+
+impl From<SeatRefusal> for DumpRefusal {
+    ghost from_gives = { λ _ refusal. (refusal ≢ NoLog) × (refusal ≢ Ahead) × (refusal ≢ Short) };
+
+    fn from(why: SeatRefusal) -> DumpRefusal {
+        match why {
+            SeatRefusal::Memory => DumpRefusal::Memory,
+            SeatRefusal::TooMany => DumpRefusal::TooMany,
+        }
+    }
 }
 
 /// Why there is no other seat.

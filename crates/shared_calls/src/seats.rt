@@ -1,23 +1,24 @@
 //! A place at a kernel that threads share.
-ghost use Rattle.std.specs.Prelude.{◌≡◌, ◌↔◌, ◌+◌, ◌++◌, ◌∷◌, [], IfOk, IfSome, OnOk, OnErr, IsErrOf, IsTrue, length, false, MatchBool};
+ghost use Rattle.std.specs.Prelude.{◌≡◌, ◌↔◌, ◌+◌, ◌<◌, ◌++◌, ◌∷◌, [], IfOk, IfSome, OnOk, OnErr, IsErrOf, IsTrue, length, false, MatchBool};
 ghost use Rattle.std.specs.Arc.{arc_value};
 ghost use mathlib.Core.List.{IsPrefix};
-ghost use Rattle.dump_text.specs.Boot.{boot_dump, IsBootDump};
-ghost use Rattle.dump_text.specs.Dump.{dump_text};
 ghost use Rattle.kernel_rules.specs.History.{is_batch};
 ghost use Rattle.kernel_rules.specs.Runs.{booted};
+ghost use Rattle.kernel_rules.specs.Step.{query_answer};
 ghost use Rattle.shared_calls.specs.Cursors.{IsPlaced};
-ghost use Rattle.shared_calls.specs.Events.{events_of};
+ghost use Rattle.shared_calls.specs.Dumps.{IsDumpTo, dump_at};
 ghost use Rattle.shared_calls.specs.Knowledge.{IsKnown};
 ghost use Rattle.shared_calls.specs.Lists.{AreMarked, Lacks};
-ghost use Rattle.shared_calls.specs.Seats.{Has, IsBatchSubmitted, IsBeside, IsFirst, IsLater, IsLearned, IsRead, IsSubmitted, seat_with};
+ghost use Rattle.shared_calls.specs.Seats.{Has, IsBatchSubmitted, IsBeside, IsFirst, IsLater, IsLearned, IsRead, IsSubmitted, seat_with, state_of};
 ghost use Rattle.syscall_core.specs.Kernel.{kernel_state};
 
+use crate::beginnings::{end_at, telling_since, whole_telling};
 use crate::chairs::Chair;
 use crate::cursors::Cursor;
-use crate::journals::dump_known;
+use crate::dumps::SeatDump;
 use crate::lists::{CallList, Known};
 use crate::playing::{make_all, play};
+use crate::readers::Reader;
 use crate::refusals::{DumpRefusal, SeatRefusal, SubmitRefusal};
 use crate::rules::Asked;
 use base::{Limits, Meter, NoMemory, ObjectId};
@@ -34,7 +35,7 @@ use syscall_core::Kernel;
 #[derive(Drop)]
 pub struct Seat {
     chair: Chair,
-    kernel: Kernel,
+    kernel: Arc<Kernel>,
     meter: Meter,
     reply: Reply,
     known: Known,
@@ -53,7 +54,14 @@ impl Model for Seat {
         s.known.cursor.seen.log s.known.pen.nib.key };
 
     ghost invariant = { λ s. IsKnown (arc_value s.chair.list).start.book s.known
-        × (kernel_state s.kernel ≡ state_of (arc_value s.chair.list).limits s.known.cursor.seen.log) };
+        × (kernel_state (arc_value s.kernel) ≡ state_of (arc_value s.chair.list).limits s.known.cursor.seen.log) };
+}
+
+/// A kernel that readers may share. The error is want of memory.
+fn shared(alloc: Global, kernel: Kernel) -> Result<Arc<Kernel>, NoMemory>
+    ensures { IfOk result (λ shared. arc_value shared ≡ kernel) }
+{
+    Ok(Arc::new(alloc, kernel)?)
 }
 
 /// A chair for a seat that has seen a list so far, and what it knows then. None where the list has as many seats as it may have.
@@ -126,16 +134,17 @@ impl Seat {
     {
         let (chair, known) = first_chair(alloc, limits, most, is_logged)?;
         let meter = Meter::new(alloc)?;
-        match Kernel::boot(alloc, limits) {
-            Ok(kernel) => Ok(Seat {
-                chair,
-                kernel,
-                meter,
-                reply: Reply::Done,
-                known,
-            }),
-            Err(_) => Err(NoMemory),
-        }
+        let Ok(kernel) = Kernel::boot(alloc, limits) else {
+            return Err(NoMemory);
+        };
+        let kernel = shared(alloc, kernel)?;
+        Ok(Seat {
+            chair,
+            kernel,
+            meter,
+            reply: Reply::Done,
+            known,
+        })
     }
 
     /// Another seat of the same list, which has seen what this one has: its kernel is a copy of this one's. The error is `TooMany` where the
@@ -145,19 +154,18 @@ impl Seat {
     {
         let (chair, known) = chair_beside(&self.chair, &self.known)?;
         let meter = Meter::new(alloc)?;
-        match self.kernel.copy(alloc) {
-            Ok(kernel) => Ok(Seat {
-                chair,
-                kernel,
-                meter,
-                reply: Reply::Done,
-                known,
-            }),
-            Err(_) => Err(SeatRefusal::Memory),
-        }
+        let kernel = self.kernel.copy(alloc)?;
+        let kernel = shared(alloc, kernel)?;
+        Ok(Seat {
+            chair,
+            kernel,
+            meter,
+            reply: Reply::Done,
+            known,
+        })
     }
 
-    /// Plays the next batch of the list, and tells whether there was one.
+    /// Plays the next batch of the list, and tells whether it did: not where there is none, and not while there are readers of the kernel.
     #[tactic(auto, using(crate::proofs::Prefixes::prefix_self, crate::proofs::Prefixes::prefix_append, crate::proofs::Taking::state_more))]
     fn take_next(&mut self) -> bool
         ensures { IsLater self.old self.new }
@@ -169,13 +177,16 @@ impl Seat {
         let Some(next) = cursor.block.next(cursor.at, &cursor.seen) else {
             return false;
         };
-        play(&mut self.kernel, next, &mut self.reply, &mut self.meter);
+        let Some(kernel) = Arc::get_mut(&mut self.kernel) else {
+            return false;
+        };
+        play(kernel, next, &mut self.reply, &mut self.meter);
         let seen = next.seen.again();
         self.known.cursor.step(seen);
         true
     }
 
-    /// Plays all that stands in the list.
+    /// Plays all that stands in the list. While there are readers of its kernel, it sees no more.
     #[tactic(auto, using(crate::proofs::Prefixes::prefix_self, crate::proofs::Prefixes::prefix_trans))]
     pub fn catch_up(&mut self)
         ensures { IsLater self.old self.new }
@@ -200,9 +211,16 @@ impl Seat {
         requires { other.now.list ≡ self.now.list }
         ensures { Has result self.now.seen other.now.seen }
     {
-        let mut both = self.known.cursor.seen.again();
-        both.learn(&other.known.cursor.seen);
-        self.known.cursor.count >= other.known.cursor.count
+        self.known.cursor.has(&other.known.cursor)
+    }
+
+    /// Whether the seat has seen all that a dump of its list tells. Of the two beginnings of the list the shorter begins the longer: so
+    /// a dump up to the note of a seat tells what that seat has seen.
+    pub fn has_dumped(&self, dump: &SeatDump) -> bool
+        requires { dump.now.list ≡ self.now.list }
+        ensures { Has result self.now.seen dump.now.seen }
+    {
+        self.known.cursor.has(dump.end())
     }
 
     /// Of two seats of one list: no batch that the other has seen has the mark of this seat's next batch. So what this seat was
@@ -235,6 +253,14 @@ impl Seat {
         self.kernel.ask_into(thread, query, reply, &mut self.meter);
     }
 
+    /// A reader of the seat's kernel as it stands. As long as there is one, the seat sees no more, and a batch is refused as busy. The error is
+    /// want of memory.
+    pub fn reader(&self) -> Result<Reader, NoMemory>
+        ensures { IfOk result (λ reader. reader ≡ state_of self.now.limits self.now.seen) }
+    {
+        Reader::of(&self.kernel)
+    }
+
     /// Makes a call as a thread, which is then the last of the list. The reply becomes the answer. Where there is an error the
     /// call is not in the list, the seat has only seen more of it, and its mark is as it was.
     pub fn submit_into(
@@ -257,9 +283,12 @@ impl Seat {
             more: &[],
         };
         self.chair.room(alloc, &mut self.known.cursor)?;
+        let Some(kernel) = Arc::get_mut(&mut self.kernel) else {
+            return Err(SubmitRefusal::Busy);
+        };
         let list = &self.chair.list;
         list.add(&mut self.known, &asked, kept, Vec::new(alloc))?;
-        self.kernel.step_into(thread, call, reply, &mut self.meter);
+        kernel.step_into(thread, call, reply, &mut self.meter);
         Ok(())
     }
 
@@ -288,32 +317,44 @@ impl Seat {
         self.catch_up();
         let asked = Asked { thread, call, more };
         self.chair.room(alloc, &mut self.known.cursor)?;
+        let Some(kernel) = Arc::get_mut(&mut self.kernel) else {
+            return Err(SubmitRefusal::Busy);
+        };
         let list = &self.chair.list;
         list.add(&mut self.known, &asked, kept, kept_more)?;
-        make_all(
-            &mut self.kernel,
-            &mut self.meter,
-            thread,
-            calls,
-            &mut replies,
-        );
+        make_all(kernel, &mut self.meter, thread, calls, &mut replies);
         Ok(replies)
     }
 
-    /// The dump of what the seat has seen, as text: an event for each batch, with the answers of its calls. An audit finds it clean.
-    /// The error is `NoLog` exactly where the list has no log, and else want of memory.
-    pub fn dump(&self, alloc: Global) -> Result<Vec<u8>, DumpRefusal>
-        ensures text { IfOk result (λ text. text.items ≡ dump_text
-            (boot_dump self.now.limits (events_of self.now.limits self.now.seen))) }
-        ensures legal { IfOk result (λ text. IsBootDump self.now.limits text.items) }
+    /// The dump of what the seat has seen, of which no piece was told: an event for each batch, with the answers of its calls. What is
+    /// seen later is not in it. The error is `NoLog` exactly where the list has no log, `TooMany`, or want of memory.
+    pub fn begin_dump(&self, alloc: Global) -> Result<SeatDump, DumpRefusal>
+        ensures begun { IfOk result (λ dump. dump ≡ dump_at self.now) }
         ensures log { IsErrOf result DumpRefusal.NoLog ↔ (self.now.is_logged ≡ false) }
     {
         if !self.chair.list.is_logged {
             return Err(DumpRefusal::NoLog);
         }
-        match dump_known(alloc, &self.chair.list, &self.known.cursor) {
-            Ok(text) => Ok(text),
-            Err(_) => Err(DumpRefusal::Memory),
+        let telling = whole_telling(alloc, &self.chair, &self.known.cursor)?;
+        Ok(SeatDump::begun(telling))
+    }
+
+    /// The dump of what the list has more than this seat has seen, up to so many batches, as the note of another seat tells them; no piece was
+    /// told. It begins at a checkpoint of this seat's state, where the numbers of threads begin anew, so the list needs no log: what
+    /// this seat lacks is not given back. The error is `Ahead` exactly where this seat has seen more, `Short` where the list has fewer,
+    /// `TooMany`, or want of memory.
+    pub fn begin_dump_to(&self, alloc: Global, count: usize) -> Result<SeatDump, DumpRefusal>
+        ensures begun { IfOk result (λ dump. IsDumpTo count self.now dump) }
+        ensures ahead { IsErrOf result DumpRefusal.Ahead ↔ (count < length self.now.seen) }
+        ensures short { IsErrOf result DumpRefusal.Short → length self.now.seen < count }
+        ensures log { IsErrOf result DumpRefusal.NoLog → ⊥ }
+    {
+        let cursor = &self.known.cursor;
+        if count < cursor.count {
+            return Err(DumpRefusal::Ahead);
         }
+        let end = end_at(&self.chair, cursor, count)?;
+        let telling = telling_since(alloc, &self.chair, &self.kernel, cursor, end)?;
+        Ok(SeatDump::begun(telling))
     }
 }

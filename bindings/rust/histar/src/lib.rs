@@ -48,5 +48,5 @@ pub use log::Keep;
 pub use refusal::{NoRefusal, Refusal, Refused};
 pub use reply::{Entered, Listed, Own, Quota, Reply};
 pub use session::Session;
-pub use shared::{Log, Note, Seat};
+pub use shared::{Log, Note, Reader, Seat, View};
 pub use words::{Kinds, Limits, Mapping, Rights};

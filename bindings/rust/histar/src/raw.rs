@@ -86,7 +86,7 @@ impl Answer {
     };
 }
 
-/// The memory that a kernel or a seat stands in, which only the library looks at.
+/// The memory that a kernel, a seat or a reader stands in, which only the library looks at.
 #[repr(C, align(16))]
 struct Room([u64; 384]);
 
@@ -94,7 +94,7 @@ impl Room {
     /// Room in which nothing is held.
     fn new() -> Box<Room> {
         // SAFETY: these functions look at nothing.
-        let needed = unsafe { histar_size().max(histar_seat_size()) };
+        let needed = unsafe { histar_size().max(histar_seat_size()).max(histar_reader_size()) };
         assert!(needed <= size_of::<Room>(), "the library needs a larger room than this crate gives");
         Box::new(Room([0; 384]))
     }
@@ -114,6 +114,10 @@ extern "C" {
     fn histar_seat_beside(from: *mut Room, seat: *mut Room);
     fn histar_seat_call(seat: *mut Room, request: *const Request, answer: *mut Answer) -> u32;
     fn histar_seat_end(seat: *mut Room);
+    fn histar_reader_size() -> usize;
+    fn histar_reader_of(seat: *mut Room, reader: *mut Room);
+    fn histar_reader_call(reader: *mut Room, request: *const Request, answer: *mut Answer) -> u32;
+    fn histar_reader_end(reader: *mut Room);
     fn histar_size() -> usize;
     fn histar_version() -> u32;
     fn histar_boot(pages: u32, device_level: u8, next_id: u64, next_category: u64, room: *mut Room);
@@ -226,9 +230,10 @@ fn busy(fill: impl FnOnce(&mut Request)) -> Refused {
 enum Holds {
     Kernel,
     Seat,
+    Reader,
 }
 
-/// A booted kernel or a seat, with the records of its last call.
+/// A booted kernel, a seat or a reader, with the records of its last call.
 pub(crate) struct Raw {
     room: UnsafeCell<Box<Room>>,
     holds: Holds,
@@ -245,7 +250,7 @@ impl Raw {
     /// A kernel or a seat in a room that holds it, or why there is none.
     ///
     /// # Safety
-    /// `histar_boot` or, for a seat, `histar_seat_first` or `histar_seat_beside` filled the room.
+    /// `histar_boot` or, for a seat, `histar_seat_first` or `histar_seat_beside`, or for a reader `histar_reader_of` filled the room.
     unsafe fn of(room: Box<Room>, holds: Holds) -> Result<Raw, Refusal> {
         let raw = Raw {
             room: UnsafeCell::new(room),
@@ -319,6 +324,21 @@ impl Raw {
         }
     }
 
+    /// A reader of a seat's kernel, or why there is none.
+    pub fn reader(&self) -> Result<Raw, Refusal> {
+        if self.holds != Holds::Seat {
+            return Err(Refusal::BadBatch);
+        }
+        let _taken = self.take(|_| ())?;
+        let mut room = Room::new();
+        // SAFETY: as for a seat beside one.
+        unsafe {
+            let from: *mut Room = &mut **self.room.get();
+            histar_reader_of(from, &mut *room);
+            Raw::of(room, Holds::Reader)
+        }
+    }
+
     /// Does what the records ask for. Gives the number of the refusal, 0 for none. A seat asks again while another adds its call.
     fn serve(&self, records: &mut Records) -> u32 {
         // SAFETY: a boot made the room hold what the call requires, and each call keeps that. The records are taken, and the library
@@ -328,6 +348,9 @@ impl Raw {
             let room: *mut Room = &mut **self.room.get();
             if self.holds == Holds::Kernel {
                 return histar_call(room, &records.request, &mut records.answer);
+            }
+            if self.holds == Holds::Reader {
+                return histar_reader_call(room, &records.request, &mut records.answer);
             }
             for tries in 0..TRIES {
                 match histar_seat_call(room, &records.request, &mut records.answer) {
@@ -367,6 +390,7 @@ impl Drop for Raw {
             match self.holds {
                 Holds::Kernel => histar_end(room),
                 Holds::Seat => histar_seat_end(room),
+                Holds::Reader => histar_reader_end(room),
             }
         }
         wipe(&mut room.0);

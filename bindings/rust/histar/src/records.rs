@@ -161,7 +161,7 @@ impl Request {
 }
 
 /// The words of what records ask for, by their numbers.
-const WORDS: [&str; 50] = [
+const WORDS: [&str; 51] = [
     "nothing",
     // Made from bindings/calls.toml:
     "cat_create",
@@ -214,6 +214,7 @@ const WORDS: [&str; 50] = [
     "batch",
     "checkpoint",
     "cut_log",
+    "dump_since",
 ];
 
 /// What the number of a call of a batch is more than the call's own.

@@ -2,6 +2,7 @@
 use crate::raw::{Answer, Raw, Request};
 use crate::trusted::Thread;
 use crate::{Call, Entry, Kernel, Limits, Refusal, Refused, Reply, Session};
+use std::marker::PhantomData;
 use std::sync::atomic::{AtomicU64, Ordering};
 
 #[cfg(doc)]
@@ -109,6 +110,38 @@ impl Seat {
     pub fn another(&self) -> Result<Seat, Refused> {
         let raw = self.kernel.raw.seat_beside().map_err(|why| Refused::of("another", why))?;
         Ok(Seat { kernel: Kernel { raw }, shared: self.shared })
+    }
+
+    /// The seat as it stands, for many threads to read at once: each through a [reader](View::reader) of its own, which has no other
+    /// kernel. No call goes through the seat as long as it is viewed; other seats go on.
+    ///
+    /// ```
+    /// use histar::{label, Entry, Object, Seat};
+    ///
+    /// let mut seat = Seat::share(64, 1000)?;
+    /// let made = Entry::in_root(seat.session().segment_create(Object::ROOT, &label! { L1 }, 2, 1)?);
+    /// seat.session().segment_write(made, 0, b"seen")?;
+    /// let other = seat.another()?;
+    /// let view = seat.view();
+    /// let readers = [view.reader()?, view.reader()?, view.reader()?, view.reader()?];
+    /// std::thread::scope(|scope| {
+    ///     for reader in readers {
+    ///         scope.spawn(move || assert_eq!(reader.session().segment_read(made, 0, 4).unwrap(), b"seen"));
+    ///     }
+    ///     other.session().segment_write(made, 0, b"then")
+    /// })?;
+    /// assert_eq!(seat.session().segment_read(made, 0, 4)?, b"then");
+    /// # Ok::<(), histar::Refused>(())
+    /// ```
+    ///
+    /// ```compile_fail
+    /// let mut seat = histar::Seat::share(64, 10).unwrap();
+    /// let view = seat.view();
+    /// let _ = seat.session().cat_create();
+    /// let _ = view.reader();
+    /// ```
+    pub fn view(&mut self) -> View<'_> {
+        View { seat: self }
     }
 
     /// The session of the boot thread, as [`Kernel::session`].
@@ -222,6 +255,38 @@ impl Seat {
         self.kernel.dump_to(out)
     }
 
+    /// Writes the dump of what this seat has seen since an older one, as [`dump_to`](Seat::dump_to). It begins at a checkpoint of the older
+    /// seat's state, where each thread's first event has number 1, and needs no log. So a service of weeks has all its calls in dumps, and keeps
+    /// those since the last alone.
+    ///
+    /// ```
+    /// use histar::{Kernel, Seat};
+    /// let seat = Seat::share(64, 1000)?;
+    /// let mut older = seat.another()?;
+    /// for number in 1..3 {
+    ///     seat.session().cat_create()?;
+    ///     let mut text = Vec::new();
+    ///     seat.dump_since(&older, &mut text)?;
+    ///     let text = String::from_utf8(text).unwrap();
+    ///     assert!(text.contains(&format!("\nevent 2 1 cat_create => cat #{number}\n")));
+    ///     assert_eq!(text.matches("\nevent ").count(), 1);
+    ///     older = seat.another()?;
+    /// }
+    /// # Ok::<(), std::io::Error>(())
+    /// ```
+    ///
+    /// # Errors
+    /// [`OtherList`] where the older seat is of another shared kernel, or has seen more, `TextMemory` where the library has no memory for a
+    /// part, and what `out` gives; what was written before stays.
+    pub fn dump_since(&self, older: &Seat, out: &mut impl std::io::Write) -> std::io::Result<()> {
+        let note = self.seen();
+        if note.shared != older.shared {
+            return Err(Refused::of("dump_since", Refusal::OtherList).into());
+        }
+        older.kernel.raw.ask(|request| request.put(50, &Entry::NONE, [note.calls]), |_| ())?;
+        older.kernel.dump_to(out)
+    }
+
     /// A note of what the seat has seen. It panics where it is asked for by what a dump of the seat is written to.
     ///
     /// ```
@@ -257,6 +322,78 @@ impl Seat {
             return Err(Refused::of("learn", Refusal::OtherList));
         }
         self.kernel.raw.ask(|request| request.put(44, &Entry::NONE, [note.calls]), |_| ())
+    }
+}
+
+/// A seat as it stands, of which there are readers.
+pub struct View<'a> {
+    seat: &'a mut Seat,
+}
+
+impl View<'_> {
+    /// A reader of the seat, for another thread. It takes no kernel.
+    ///
+    /// ```
+    /// let mut seat = histar::Seat::share(64, 10)?;
+    /// let view = seat.view();
+    /// let (one, other) = (view.reader()?, view.reader()?);
+    /// assert_eq!(one.session().self_get()?, other.session().self_get()?);
+    /// # Ok::<(), histar::Refused>(())
+    /// ```
+    ///
+    /// # Errors
+    /// [`Unavailable`] for want of memory.
+    pub fn reader(&self) -> Result<Reader<'_>, Refused> {
+        let raw = self.seat.kernel.raw.reader().map_err(|why| Refused::of("reader", why))?;
+        Ok(Reader { kernel: Kernel { raw }, seat: PhantomData })
+    }
+}
+
+/// A reader of a seat as it stands. It can be sent to another thread; readers of one seat read at once, and nothing that they share is
+/// written.
+///
+/// ```
+/// fn can_be_sent<T: Send>() {}
+/// can_be_sent::<histar::Reader<'_>>();
+/// ```
+pub struct Reader<'a> {
+    kernel: Kernel,
+    seat: PhantomData<&'a ()>,
+}
+
+impl Reader<'_> {
+    /// The session of the boot thread, as [`Kernel::session`]. Its write calls are refused `BadBatch`.
+    ///
+    /// ```
+    /// use histar::{Refusal, Seat};
+    /// let mut seat = Seat::share(64, 10)?;
+    /// let view = seat.view();
+    /// let reader = view.reader()?;
+    /// assert!(reader.session().self_get().is_ok());
+    /// assert_eq!(reader.session().cat_create().unwrap_err().reason, Refusal::BadBatch);
+    /// # Ok::<(), histar::Refused>(())
+    /// ```
+    pub fn session(&self) -> Session<'_> {
+        self.kernel.session()
+    }
+
+    /// One query of a thread, as [`Kernel::call`].
+    ///
+    /// ```
+    /// use histar::trusted::Thread;
+    /// use histar::{Call, Refusal, Seat};
+    /// let mut seat = Seat::share(64, 10)?;
+    /// let view = seat.view();
+    /// let reader = view.reader()?;
+    /// assert!(reader.call(Thread::BOOT, &Call::SelfGet).is_ok());
+    /// assert_eq!(reader.call(Thread(99), &Call::SelfGet).unwrap_err().reason, Refusal::Halted);
+    /// # Ok::<(), histar::Refused>(())
+    /// ```
+    ///
+    /// # Errors
+    /// Those of the query, and `BadBatch` of a write call.
+    pub fn call(&self, thread: Thread, call: &Call<'_>) -> Result<Reply, Refused> {
+        self.kernel.call(thread, call)
     }
 }
 

@@ -104,6 +104,65 @@ fn no_read_goes_back() {
     });
 }
 
+fn write(seat: &Seat, entry: Entry, number: u64) {
+    let write = Call::SegmentWrite { entry, offset: 0, bytes: number.to_le_bytes().to_vec().into() };
+    assert_eq!(seat.call(BOOT, &write), Ok(Reply::Done));
+}
+
+/// Four threads read one seat at once, in the state that it had seen, whatever is written meanwhile. It sees that once they are done.
+#[test]
+fn readers_of_one_seat_read_at_once() {
+    let mut seat = Seat::share(64, u64::MAX).unwrap();
+    let entry = Entry::in_root(made(seat.call(BOOT, &create())));
+    write(&seat, entry, 7);
+    let writer = seat.another().unwrap();
+    let view = seat.view();
+    let readers: Vec<_> = (0..4).map(|_| view.reader().unwrap()).collect();
+    std::thread::scope(|scope| {
+        for reader in readers {
+            scope.spawn(move || {
+                for _ in 0..20_000 {
+                    assert_eq!(reader.session().segment_read(entry, 0, 8).unwrap(), 7u64.to_le_bytes());
+                }
+                assert_eq!(reader.call(BOOT, &create()).unwrap_err().reason, Refusal::BadBatch);
+            });
+        }
+        for number in 8..2000 {
+            write(&writer, entry, number);
+        }
+    });
+    assert_eq!(number_in(&seat, entry), 1999);
+}
+
+/// What is written stands in one dump: that since a seat which stood still meanwhile.
+#[test]
+fn each_call_stands_in_one_dump() {
+    let seat = Seat::share(64, 300).unwrap();
+    let entry = Entry::in_root(made(seat.call(BOOT, &create())));
+    let mut older = seat.another().unwrap();
+    let mut dumped = Vec::new();
+    for round in 0..5 {
+        for number in 0..200 {
+            write(&seat, entry, 200 * round + number);
+        }
+        let mut text = Vec::new();
+        seat.dump_since(&older, &mut text).unwrap();
+        let text = String::from_utf8(text).unwrap();
+        dumped.extend(
+            text.lines()
+                .filter(|line| line.starts_with("event "))
+                .map(|line| line.split(" => ").next().unwrap()[8..].to_owned()),
+        );
+        older = seat.another().unwrap();
+    }
+    assert_eq!(dumped.len(), 1000);
+    let other = Seat::share(64, 1).unwrap();
+    assert_eq!(seat.dump_since(&other, &mut Vec::new()).unwrap_err().to_string(), "dump_since: 48 OtherList");
+    assert!(older.dump_since(&seat, &mut Vec::new()).is_ok());
+    write(&seat, entry, 1);
+    assert!(older.dump_since(&seat, &mut Vec::new()).is_err());
+}
+
 /// A number into two segments at once, with a call between that is refused.
 fn write_both(seat: &Seat, both: [Entry; 2], number: u64) {
     let [first, second] =

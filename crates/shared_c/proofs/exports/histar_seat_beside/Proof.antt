@@ -1,6 +1,6 @@
 -- `histar_seat_beside` lends the other seat, makes the seat, has the other back, and writes the seat where C said.
-use Rattle.std.proofs.Common.{◌≡◌, ℕ, List, [], ◌∷◌, ◌++◌, refl, sym, ap, ◌∙◌, subst, w8, w32, w64}
-use mir.Val.{Val, vunit, vint, vptr}
+use Rattle.std.proofs.Common.{◌≡◌, ℕ, List, [], ◌∷◌, ◌++◌, refl, sym, ap, ◌∙◌, subst}
+use mir.Val.{Val, vunit, vptr}
 use base.Fraction.{full_share}
 use base.Logic.{SProp, ent, sep, id⊢}
 use base.Fml.{ftrue}
@@ -13,9 +13,9 @@ use denote.Exit.{yes}
 use denote.Laws.{Is, shows}
 use denote.Memory.{part_at}
 use denote.RattleType.{RattleType, owns}
-use denote.Steps.{nothing, owned, heard, peeks}
+use denote.Steps.{nothing, heard, peeks}
 use denote.Triple.Call.{calls_at}
-use denote.Triple.Clauses.{Lasts, lasts}
+use denote.Triple.Clauses.{lasts}
 use denote.Triple.Spec.{triple_of}
 use denote.Triple.Walked.{says, Stays, walk_of, stay_dropped, Goes-dropped, ends_at}
 use denote.Triple.Table.{framed}
@@ -35,7 +35,7 @@ use denote.Builtin.{RawPtr}
 use denote.Lend.{lends_ref, ref_back}
 use denote.Memory.{mem}
 use denote.Ref.{MutRef}
-use denote.RawPtr.{Ptr, ptr_val, block_ptr, in_a_block, lies_at, room_at, rawptr_Tells}
+use denote.RawPtr.{Ptr, ptr_val, in_a_block, lies_at, room_at, rawptr_Tells}
 use denote.Signature.{types_at, plain}
 use Rattle.shared_c.specs.Served.{IsSeatBeside, seat_in}
 use Rattle.shared_c.specs.contracts.held.HeldSeat.{the_row as R}

@@ -1,10 +1,9 @@
-use Rattle.std.proofs.Common.{◌≡◌, ap, ◌∙◌}
-use Rattle.std.specs.Arc.{arc_value}
+use Rattle.std.proofs.Common.{ap, ◌∙◌}
 use Rattle.shared_calls.specs.declared.lists.CallList.{CallList}
 use Rattle.shared_calls.proofs.seats.Seat.beside.Goals as goal
 
-pub returns-in-Ok : goal.returns-in-Ok
-returns-in-Ok c =
+pub returns : goal.returns
+returns c =
     let view = c.self.view_is in
     let told = c.in_ok-chair.ensures in
     let limits = ap (λ (l : CallList). l.limits) told.list ∙ ap (λ v. v.limits) view in

@@ -3,6 +3,8 @@ use Rattle.std.specs.Arc.{arc_value}
 use Rattle.kernel_rules.specs.Events.{by}
 use Rattle.kernel_rules.specs.Runs.{state_after}
 use Rattle.kernel_rules.specs.declared.calls.Call.{Call}
+use Rattle.syscall_core.specs.Kernel.{kernel_state}
+use Rattle.syscall_core.specs.declared.kernel.Kernel.{Kernel}
 use Rattle.shared_calls.specs.Knowledge.{IsKnown}
 use Rattle.shared_calls.specs.Lists.{made}
 use Rattle.shared_calls.specs.Seats.{state_of}
@@ -23,6 +25,7 @@ invariant_of-self-2 c =
     c.in_ok-add.ensures.log
     ∙ (λ i. (ap (λ t. t.log) c.room.ensures.seen) i ++ made s.known.pen.nib.key thread (some i) ∷ []) in (
       subst (λ (l : CallList). IsKnown l.start.book c.add.new.known) c.deref.ensures c.add.ensures.known,
-      c.make_all.ensures.state ∙ (ap (λ t. state_after t (by thread calls)) c.self.invariant.1
-          ∙ (sym (state_more limits s.known.cursor.seen.log m) ∙ ap (state_of limits) (sym log))),
+      c.make_all.ensures.state ∙ (ap (λ (k : Kernel). state_after (kernel_state k) (by thread calls)) c.in-Some-get_mut.ensures.value
+          ∙ (ap (λ t. state_after t (by thread calls)) c.self.invariant.1
+          ∙ (sym (state_more limits s.known.cursor.seen.log m) ∙ ap (state_of limits) (sym log)))),
     )

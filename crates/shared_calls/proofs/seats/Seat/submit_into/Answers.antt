@@ -1,6 +1,8 @@
 use Rattle.std.proofs.Common.{◌≡◌, ◌++◌, ◌∷◌, [], List, ap, sym, ◌∙◌, subst}
 use Rattle.std.specs.Arc.{arc_value}
 use Rattle.kernel_rules.specs.Step.{next}
+use Rattle.syscall_core.specs.Kernel.{kernel_state}
+use Rattle.syscall_core.specs.declared.kernel.Kernel.{Kernel}
 use Rattle.shared_calls.specs.Knowledge.{IsKnown}
 use Rattle.shared_calls.specs.Lists.{made}
 use Rattle.shared_calls.specs.Seats.{state_of}
@@ -17,6 +19,7 @@ invariant_of-self-2 c =
     let log : c.add.new.known.cursor.seen.log ≡ s.known.cursor.seen.log ++ m ∷ [] =
     c.in_ok-add.ensures.log ∙ ap (λ (l : List Made). l ++ m ∷ []) (ap (λ t. t.log) c.room.ensures.seen) in (
       subst (λ (l : CallList). IsKnown l.start.book c.add.new.known) c.deref.ensures c.add.ensures.known,
-      c.step_into.ensures.state ∙ (ap (λ t. next t m.thread c.args.call.now) c.self.invariant.1
-          ∙ (sym (state_more limits s.known.cursor.seen.log m) ∙ ap (state_of limits) (sym log))),
+      c.step_into.ensures.state ∙ (ap (λ (k : Kernel). next (kernel_state k) m.thread c.args.call.now) c.in-Some.ensures.value
+          ∙ (ap (λ t. next t m.thread c.args.call.now) c.self.invariant.1
+          ∙ (sym (state_more limits s.known.cursor.seen.log m) ∙ ap (state_of limits) (sym log)))),
     )
