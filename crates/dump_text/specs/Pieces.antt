@@ -1,4 +1,4 @@
--- The text of a dump without reads in pieces: what stands before the events, up to 64 events each, and the tables.
+-- The text of a dump in pieces: what stands before the events, up to 64 events (or events and reads) each, and the tables.
 use Rattle.std.specs.Prelude.{◌≡◌, ℕ, ◌+◌, ◌-◌, ◌*◌, ◌<◌, ◌==◌, nat_lt, List, [], ◌∷◌, ◌++◌, length, take, drop, Option, zero, suc, if◌then◌else◌}
 use Rattle.std.specs.List.{flat_map, AllByRecursion}
 use Rattle.base.specs.declared.ranges.Limits.{Limits}

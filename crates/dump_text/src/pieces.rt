@@ -26,12 +26,12 @@ use kernel_rules::Tables;
 use kernel_rules::histories::Event;
 use std::alloc::Global;
 
-/// What a piece of a dump without reads tells.
+/// What a piece of a dump tells.
 #[derive(Clone, Copy)]
 pub enum Piece {
     /// The version, the limits and the checkpoint.
     Head,
-    /// Up to 64 events.
+    /// Up to 64 events, or events and reads.
     Events {
         /// How many stand before them.
         from: usize,
