@@ -227,7 +227,7 @@ static int is_read(void)
 static int lack_is_dumped(void)
 {
     struct taken it = {{0}, 0};
-    histar_note note;
+    histar_note note = {0, 0, 0};
     long before;
     uint32_t refusal = histar_cat_create(&seat, HISTAR_BOOT, &category);
     if (refusal == HISTAR_MEMORY) again++, refusal = histar_cat_create(&seat, HISTAR_BOOT, &category);
