@@ -1,5 +1,6 @@
 pub mod AnswerLaws
 pub mod DumpLaws
+pub mod LineLaws
 pub mod NameLemmas
 pub mod NumberLaws
 pub mod OutputLaws

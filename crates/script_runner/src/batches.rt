@@ -212,15 +212,15 @@ impl Batch {
     /// The lines are told these replies, one to each call, and bind their names.
     pub fn tell(
         &self,
-        replies: &[Reply],
+        replies: Vec<Reply>,
         names: &mut BoundNames,
         answers: &mut Answers,
     ) -> Result<(), NoMemory>
         ensures { OnOk result ((journal : List Event)
             → stand journal names.new [] answers.new
-            ≡ tell_with (map waiting_in self.now.lines.items) replies.now (stand journal names.old [] answers.old)) }
+            ≡ tell_with (map waiting_in self.now.lines.items) replies.items (stand journal names.old [] answers.old)) }
     {
-        tell_lines(self.lines.as_slice(), replies, names, answers)
+        tell_lines(self.lines.as_slice(), replies.as_slice(), names, answers)
     }
 
     /// Each line is refused so.

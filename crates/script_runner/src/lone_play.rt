@@ -14,7 +14,7 @@ use crate::answers::{Answers, Left};
 use crate::batches::Batch;
 use crate::desks::SoleDesk;
 use crate::faults::PlayFault;
-use crate::names::BoundNames;
+use crate::names::{BoundNames, object_in};
 use crate::play::Played;
 use crate::players::Player;
 use crate::printing::{Printed, told_of};
@@ -63,9 +63,8 @@ fn sit<B: Naming>(
 {
     match own.thread {
         Some(thread) => Ok(thread),
-        None => match bound {
-            Some(Value::Object(thread)) => open(own, desk, *thread),
-            Some(Value::Category(_)) => Err(None),
+        None => match object_in(bound) {
+            Some(thread) => open(own, desk, thread),
             None => Err(None),
         },
     }

@@ -7,8 +7,9 @@ ghost use Rattle.indexmap.specs.IndexMap.{get, IsUnchanged};
 ghost use Rattle.call_text.specs.RunNames.{AreNames};
 ghost use Rattle.script_rules.specs.Names.{bound};
 ghost use Rattle.script_runner.specs.Names.{all_bound, first_name, AreFirst};
+ghost use Rattle.script_runner.specs.Shared.{object_in};
 
-use base::NoMemory;
+use base::{NoMemory, ObjectId};
 use call_text::names_text::write_names;
 use call_text::{Known, Named, Value, start_names};
 use indexmap::IndexMap;
@@ -182,6 +183,17 @@ fn note_first(names: &mut IndexMap<u64, Name>, number: u64, name: &Name) -> Resu
         names.insert(number, *name)?;
     }
     Ok(())
+}
+
+/// The object that a name is bound to.
+pub fn object_in(bound: &Option<Value>) -> Option<ObjectId>
+    ensures { result ≡ object_in bound.now }
+{
+    match bound {
+        Some(Value::Object(id)) => Some(*id),
+        Some(Value::Category(_)) => None,
+        None => None,
+    }
 }
 
 /// The names that a worker knows: what its own lines bound in this phase, and what was bound in earlier ones.

@@ -109,10 +109,7 @@ impl<B: Naming> Player<B> {
     {
         self.batch.put_calls()?;
         let replies = self.desk.submit_all(thread, self.batch.calls.as_slice())?;
-        Ok(
-            self.batch
-                .tell(replies.as_slice(), &mut self.names, answers)?,
-        )
+        Ok(self.batch.tell(replies, &mut self.names, answers)?)
     }
 
     /// A thread asks the lines that wait, of which there are several, or they are refused where they are no batch.

@@ -13,10 +13,10 @@ ghost use Rattle.script_runner.specs.Workers.{lines_of};
 use crate::answers::{Answers, Left};
 use crate::batches::{Batch, tell_made, tell_unseated};
 use crate::faults::PlayFault;
-use crate::names::{BoundNames, WorkerNames};
+use crate::names::{BoundNames, WorkerNames, object_in};
 use crate::parts::{is_of, takes_part};
 use crate::shared_desks::SharedDesk;
-use base::{ObjectId, Refusal};
+use base::Refusal;
 use call_text::{Known, Line, Phase, Value, resolve_into};
 use kernel_rules::{Call, Query, Reply};
 use published_copy::{Naming, Note, Pass, Shared};
@@ -27,17 +27,6 @@ use text_words::Name;
 
 /// A worker's seat, or what refused it one when it asked last: nothing where its name is no object's.
 pub type Seating<'s, B> = Result<SharedDesk<'s, B>, Option<Refusal>>;
-
-/// The object that a name is bound to.
-fn object_in(bound: &Option<Value>) -> Option<ObjectId>
-    ensures { result ≡ shared.object_in bound.now }
-{
-    match bound {
-        Some(Value::Object(id)) => Some(*id),
-        Some(Value::Category(_)) => None,
-        None => None,
-    }
-}
 
 /// A seat for what a worker's name is bound to, where that is an object.
 fn seated<'s, B: Naming, R: Wait>(
@@ -154,10 +143,7 @@ impl Hand {
     {
         self.batch.put_calls()?;
         let replies = desk.submit_all(rt, self.alloc, self.batch.calls.as_slice())?;
-        Ok(
-            self.batch
-                .tell(replies.as_slice(), &mut self.own, &mut self.answers)?,
-        )
+        Ok(self.batch.tell(replies, &mut self.own, &mut self.answers)?)
     }
 
     /// Asks the lines that wait, of which there are several, or they are refused where they are no batch.

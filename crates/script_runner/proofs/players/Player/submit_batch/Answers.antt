@@ -27,4 +27,4 @@ returns-clause-stands g c no_read =
     (c.in_ok-replies.ensures.replies ∙ ap (λ (cs : List Call). replies_to (state_of limits journal) (by c.args.thread cs)) same)
     (c.in_ok-replies.ensures.journal ∙ ap (with_calls limits c.args.thread journal) same)
     (c.in_ok-tell.ensures journal
-    ∙ (λ i. tell_with (map waiting_in (kept i)) (c.as_slice-2.ensures.value i) (stand journal names [] c.args.answers.now)))
+    ∙ (λ i. tell_with (map waiting_in (kept i)) replies (stand journal names [] c.args.answers.now)))

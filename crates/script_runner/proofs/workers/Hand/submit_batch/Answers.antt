@@ -30,5 +30,5 @@ returns-clause-asked g c no_read =
           (made.3 ∙ ap (λ (cs : List Call). replies_to (state_of limits events) (by c.args.desk.now.thread cs)) same)
           (ap (λ p. p.events) made.2 ∙ ap (with_calls limits c.args.desk.now.thread events) same)
           (c.in_ok-tell.ensures events
-          ∙ (λ i. tell_with (map waiting_in (kept i)) (c.as_slice-2.ensures.value i) (stand events names [] c.args.self.now.answers))),
+          ∙ (λ i. tell_with (map waiting_in (kept i)) replies (stand events names [] c.args.self.now.answers))),
     )
