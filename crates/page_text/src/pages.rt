@@ -15,10 +15,9 @@ use crate::steps::{Source, step_values};
 use auditor::clean_dumps::begin;
 use base::{Category, Meter, NoMemory, ObjectId};
 use call_text::Named;
-use dump_text::Dump;
 use plain_state::PlainState;
 use serde_json::{Value, json, push};
-use shown_dumps::dot::{DotFault, red_in};
+use shown_dumps::dot::{DotFault, RedDump, red_in};
 use shown_dumps::json::word_value;
 use shown_dumps::states::{ShowFault, dump_in};
 use std::alloc::{AllocError, Global};
@@ -138,25 +137,19 @@ pub fn page(
 ) -> Result<Vec<u8>, DotFault>
     ensures { IsPage names.now flow text.now result }
 {
-    let Dump {
-        limits,
-        checkpoint,
-        events,
-        reads,
-        tables: _,
-    } = match dump_in(alloc, text) {
+    let dump = match dump_in(alloc, text) {
         Ok(dump) => dump,
         Err(fault) => return Err(DotFault::Unshown(fault)),
     };
-    let Some(state) = begin(alloc, &limits, &checkpoint)? else {
+    let Some(state) = begin(alloc, &dump.limits, &dump.checkpoint)? else {
         return Err(DotFault::Unshown(ShowFault::IllFormed));
     };
-    let reached = red_in(alloc, text, flow)?;
+    let RedDump { dump, reached } = red_in(alloc, text, dump, flow)?;
     let source = Source {
         text,
         names,
-        events: events.as_slice(),
-        reads: reads.as_slice(),
+        events: dump.events.as_slice(),
+        reads: dump.reads.as_slice(),
         reached: reached.as_slice(),
     };
     Ok(page_of(&source, flow, state)?)

@@ -1,26 +1,30 @@
 //! What is shown of a line, or of the first false one.
 ghost use Rattle.std.specs.Prelude.{◌≡◌, ◌++◌, IfOk};
+ghost use Rattle.dump_text.specs.Dump.{IsDump};
 ghost use Rattle.shown_dumps.specs.Shown.{IsShown, IsWhyOrNone};
 ghost use Rattle.auditor.specs.Lines.{verdict_line};
 ghost use Rattle.auditor.specs.declared.verdicts.Verdict.TheVariants.{Clean as Legal, False as FalseAt};
 
 use crate::states::ShowFault;
-use crate::why::explaining::why;
+use crate::why::explaining::{why, why_in};
 use crate::why::telling::Telling;
-use auditor::{Verdict, audit, put_verdict};
+use auditor::{Verdict, put_verdict, read_audited};
 use base::NoMemory;
+use dump_text::{Dump, DumpError};
 use std::alloc::Global;
 
 /// Why what a line tells is answered as it is, and nothing where it tells no call and no read.
 fn why_or_none(
     alloc: Global,
     text: &[u8],
+    dump: &Dump,
     line: u64,
     telling: &Telling<'_>,
 ) -> Result<Vec<u8>, ShowFault>
+    requires { IsDump text.now dump.now }
     ensures { IsWhyOrNone telling.now.names.now telling.now.is_whole text.now line result }
 {
-    match why(alloc, text, line, telling) {
+    match why_in(alloc, text, dump, line, telling) {
         Err(ShowFault::NoCall) => Ok(Vec::new(alloc)),
         Err(ShowFault::IllFormed) => Ok(Vec::new(alloc)),
         told => told,
@@ -59,12 +63,16 @@ pub fn why_or_false(
     if let Some(line) = line {
         return why(alloc, text, line, telling);
     }
-    match audit(alloc, text)? {
-        Verdict::Clean => Ok(clean_shown(alloc)?),
-        Verdict::False(line) => {
-            let more = why_or_none(alloc, text, line, telling)?;
+    let audited = match read_audited(alloc, text) {
+        Ok(audited) => audited,
+        Err(DumpError::Line(line)) => return Err(ShowFault::Unreadable(line)),
+        Err(DumpError::Memory) => return Err(ShowFault::Memory),
+    };
+    match audited.false_line {
+        None => Ok(clean_shown(alloc)?),
+        Some(line) => {
+            let more = why_or_none(alloc, text, &audited.dump, line, telling)?;
             Ok(false_shown(alloc, line, more.as_slice())?)
         }
-        Verdict::Unreadable(line) => Err(ShowFault::Unreadable(line)),
     }
 }

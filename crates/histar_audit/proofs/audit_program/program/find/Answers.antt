@@ -1,0 +1,19 @@
+use Rattle.std.proofs.Common.{Err, ℕ, List, subst}
+use Rattle.dump_text.specs.Reading.{ReadsDump}
+use Rattle.dump_text.specs.declared.errors.DumpError.{DumpError}
+use Rattle.histar_audit.proofs.ToldLaws.{none_found}
+use Rattle.histar_audit.specs.Told.{IsFound}
+use Rattle.histar_audit.proofs.audit_program.program.find.Goals as goal
+
+pub returns-in-Ok : goal.returns-in-Ok
+returns-in-Ok c =
+    subst (λ (b : List ℕ). IsFound c.args.options.now c.args.hidden c.in_ok-found.found.verdict c.in_ok-found.found.file.items
+    c.in_ok-found.found.text.items b)
+    c.in-Ok.ensures.bytes c.in_ok-found.ensures
+
+pub returns-in-Err-Line : goal.returns-in-Err-Line
+returns-in-Err-Line c =
+    none_found c.args.options.now c.args.hidden c.in_ok-found.found.verdict c.in_ok-found.found.file.items c.in_ok-found.found.text.items
+    c.args.bytes.now c.in-Err-Line.line
+    (subst (λ (f : DumpError). ReadsDump c.args.bytes.now (Err f)) c.in-Err-Line.field-0-is c.in-Err-Line.ensures)
+    c.in_ok-found.ensures.verdict c.in_ok-found.ensures.file c.in_ok-found.ensures.text
