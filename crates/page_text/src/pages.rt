@@ -17,7 +17,7 @@ use base::{Category, Meter, NoMemory, ObjectId};
 use call_text::Named;
 use plain_state::PlainState;
 use serde_json::{Value, json, push};
-use shown_dumps::dot::{DotFault, RedDump, red_in};
+use shown_dumps::dot::{DotFault, red_in};
 use shown_dumps::json::word_value;
 use shown_dumps::states::{ShowFault, dump_in};
 use std::alloc::{AllocError, Global};
@@ -144,13 +144,14 @@ pub fn page(
     let Some(state) = begin(alloc, &dump.limits, &dump.checkpoint)? else {
         return Err(DotFault::Unshown(ShowFault::IllFormed));
     };
-    let RedDump { dump, reached } = red_in(alloc, text, dump, flow)?;
+    let red = red_in(alloc, text, dump, flow)?;
+    let shown = &red.dump;
     let source = Source {
         text,
         names,
-        events: dump.events.as_slice(),
-        reads: dump.reads.as_slice(),
-        reached: reached.as_slice(),
+        events: shown.events.as_slice(),
+        reads: shown.reads.as_slice(),
+        reached: red.reached.as_slice(),
     };
     Ok(page_of(&source, flow, state)?)
 }
