@@ -210,8 +210,8 @@ fn find(
             Ok(found)
         }
         Err(DumpError::Line(line)) => {
-            let found = unreadable(alloc, line)?;
-            Ok(found)
+            let none = unreadable(alloc, line)?;
+            Ok(none)
         }
         Err(DumpError::Memory) => Err(NoMemory),
     }

@@ -13,7 +13,7 @@ returns-in-Ok c =
 
 pub returns-in-Err-Line : goal.returns-in-Err-Line
 returns-in-Err-Line c =
-    none_found c.args.options.now c.args.hidden c.in_ok-found.found.verdict c.in_ok-found.found.file.items c.in_ok-found.found.text.items
+    none_found c.args.options.now c.args.hidden c.in_ok-none.none.verdict c.in_ok-none.none.file.items c.in_ok-none.none.text.items
     c.args.bytes.now c.in-Err-Line.line
-    (subst (λ (f : DumpError). ReadsDump c.args.bytes.now (Err f)) c.in-Err-Line.field-0-is c.in-Err-Line.ensures)
-    c.in_ok-found.ensures.verdict c.in_ok-found.ensures.file c.in_ok-found.ensures.text
+    (subst (λ (f : DumpError). ReadsDump c.args.bytes.now (Err f)) c.in-Err-Line.field-0-is c.in-Err-Line.ensures.fault)
+    c.in_ok-none.ensures.verdict c.in_ok-none.ensures.file c.in_ok-none.ensures.text

@@ -7,8 +7,8 @@ use Rattle.histar_audit.proofs.audit_program.program.found_in.Goals as goal
 pub returns : goal.returns
 returns c =
     let bytes = c.args.audited.now.bytes.now in
-    let verdict = c.verdict.result in
-    let same = sym c.verdict.ensures in
+    let verdict = c.verdict-verdict.result in
+    let same = sym c.verdict-verdict.ensures in
     let asked = c.args.options.now in
     let reached = c.in_ok-reached.reached.items in
     let told = c.in_ok-told.told.items in
