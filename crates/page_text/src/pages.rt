@@ -141,7 +141,8 @@ pub fn page(
         Ok(dump) => dump,
         Err(fault) => return Err(DotFault::Unshown(fault)),
     };
-    let Some(state) = begin(alloc, &dump.limits, &dump.checkpoint)? else {
+    let read = &dump;
+    let Some(state) = begin(alloc, &read.limits, &read.checkpoint)? else {
         return Err(DotFault::Unshown(ShowFault::IllFormed));
     };
     let red = red_in(alloc, text, dump, flow)?;

@@ -205,10 +205,7 @@ fn find(
     ensures { IfOk result (λ found. IsFound options.now hidden found.verdict found.file.items found.text.items bytes.now) }
 {
     match read_audited(alloc, bytes) {
-        Ok(audited) => {
-            let found = found_in(alloc, &audited, options, hidden)?;
-            Ok(found)
-        }
+        Ok(audited) => found_in(alloc, &audited, options, hidden),
         Err(DumpError::Line(line)) => {
             let none = unreadable(alloc, line)?;
             Ok(none)
