@@ -13,3 +13,4 @@ pub mod StopLaws
 pub mod Cleaning
 pub mod Turns
 pub mod Telling
+pub mod Auditing

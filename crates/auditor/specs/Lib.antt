@@ -1,3 +1,4 @@
+pub mod Audited
 pub mod Lines
 pub mod Migrated
 pub mod Replay

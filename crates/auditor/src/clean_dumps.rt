@@ -1,4 +1,4 @@
-//! Clean dumps, for whoever looks into one: `clean_dump` reads the bytes that an audit finds clean, and `begin` makes the state
+//! Clean dumps, for whoever looks into one: `Audited::clean` has the dump that an audit found clean, and `begin` makes the state
 //! that a dump's events begin in, of a boot or of a checkpoint. What is then looked for in the events is left to others.
 
 mod faults;
@@ -6,5 +6,4 @@ mod reading;
 mod starts;
 
 pub use faults::DumpFault;
-pub use reading::clean_dump;
 pub use starts::begin;

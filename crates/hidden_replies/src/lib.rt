@@ -1,4 +1,4 @@
-//! Which replies of a run hidden threads changed, and by what. `hidden_replies` audits a dump, plays its calls once whole and
+//! Which replies of a run hidden threads changed, and by what. `hidden_replies` plays the calls of an audited dump once whole and
 //! once without the calls of threads that an observer doesn't observe, and tells each reply to a call or a read that differs, by
 //! the exception of `worlds::nothing_is_told` that held there. It promises exactly these, and none where no exception was met.
 #![tactic(auto)]

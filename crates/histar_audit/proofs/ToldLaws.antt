@@ -1,29 +1,51 @@
 -- That a verdict is told, with what is reached and what hidden threads changed.
-use Rattle.std.proofs.Common.{◌≡◌, ℕ, List, Option, Some, None, ◌∙◌, subst}
+use Rattle.std.proofs.Common.{◌≡◌, ℕ, Bool, [], List, Option, Some, None, true, false, ◌∙◌, refl, sym, subst}
 use Rattle.std.specs.Io.KnownBytes.{Appends}
 use Rattle.std.specs.Option.{IfSome}
 use Rattle.program_io.specs.declared.options.AuditOptions.{AuditOptions}
-use Rattle.histar_audit.specs.Told.{audit_text, IsHiddenIn, IsMigration, IsReachedIn, IsTold}
-use Rattle.auditor.specs.Verdict.{IsVerdict, TellsFalse}
+use Rattle.dump_text.specs.Dump.{DumpFaultsAt}
+use Rattle.base.specs.declared.ids.Category.{Category}
+use Rattle.histar_audit.specs.Told.{told_text, IsFound, IsHiddenIn, IsMigration, IsReachedIn, IsTold}
 use Rattle.auditor.specs.declared.verdicts.Verdict.{Verdict}
-use Rattle.hidden_replies.specs.declared.differences.Difference.{Difference}
+use Rattle.auditor.specs.declared.verdicts.Verdict.TheVariants as is
 use Rattle.label_lattice.specs.Label.{LabelValue}
 
--- the verdict on what was read is told, with what is reached in it and what hidden threads changed, where its lines were added
-pub told_if : (read : Option (List ℕ)) (bytes text added file reached : List ℕ) (told : List Difference) (asked : AuditOptions)
-    (hidden : Option LabelValue) (verdict : Verdict) (before after : Option (List ℕ)) → IfSome read (λ left. bytes ≡ left)
-    → IsVerdict bytes verdict → TellsFalse bytes verdict → IsReachedIn asked.flow bytes verdict reached
-    → IsHiddenIn hidden bytes verdict told → IsMigration asked.migrate bytes verdict file
-    → text ≡ audit_text asked hidden verdict reached told → added ≡ text → Appends before after added
+none_reached : (asked : Option (ℕ × Category)) (bytes : List ℕ) (n : ℕ) → IsReachedIn asked bytes (is.Unreadable n) []
+none_reached None bytes n = refl
+none_reached (Some flow) bytes n = refl
+
+none_hidden : (asked : Option LabelValue) (bytes : List ℕ) (n : ℕ) → IsHiddenIn asked bytes (is.Unreadable n) []
+none_hidden None bytes n = refl
+none_hidden (Some label) bytes n = refl
+
+none_migrated : (asked : Bool) (bytes file : List ℕ) (n : ℕ) → file ≡ [] → IsMigration asked bytes (is.Unreadable n) file
+none_migrated true bytes file n none = none
+none_migrated false bytes file n none = none
+
+-- of bytes that are no dump from a line on, that is found
+pub none_found : (asked : AuditOptions) (hidden : Option LabelValue) (verdict : Verdict) (file text bytes : List ℕ) (line : ℕ)
+    → DumpFaultsAt bytes line → verdict ≡ is.Unreadable line → file ≡ []
+    → text ≡ told_text (is.Unreadable line) false [] false [] → IsFound asked hidden verdict file text bytes
+none_found asked hidden verdict file text bytes line faults is none told =
+    subst (λ (v : Verdict). IsFound asked hidden v file text bytes) (sym is) (record {
+      verdict_is = faults;
+      tells = tt;
+      reached = [];
+      is_reached = none_reached asked.flow bytes line;
+      told = [];
+      is_hidden = none_hidden hidden bytes line;
+      text_is = told;
+      migration = none_migrated asked.migrate bytes file line none;
+    })
+
+-- what was found of what was read is told, where its lines were added
+pub told_if : (read : Option (List ℕ)) (bytes given text added file : List ℕ) (asked : AuditOptions) (hidden : Option LabelValue)
+    (verdict : Verdict) (before after : Option (List ℕ)) → IfSome read (λ left. bytes ≡ left) → given ≡ bytes
+    → IsFound asked hidden verdict file text given → added ≡ text → Appends before after added
     → IfSome read (IsTold before after asked hidden verdict file)
-told_if None bytes text added file reached told asked hidden verdict before after r v f i h m t d w = tt
-told_if (Some left) bytes text added file reached told asked hidden verdict before after read_is is tells reaches hides migrates t d w = record {
-  verdict_is = subst (λ (b : List ℕ). IsVerdict b verdict) read_is is;
-  tells = subst (λ (b : List ℕ). TellsFalse b verdict) read_is tells;
-  reached = reached;
-  is_reached = subst (λ (b : List ℕ). IsReachedIn asked.flow b verdict reached) read_is reaches;
-  told = told;
-  is_hidden = subst (λ (b : List ℕ). IsHiddenIn hidden b verdict told) read_is hides;
-  added = subst (λ (l : List ℕ). Appends before after l) (d ∙ t) w;
-  migration = subst (λ (b : List ℕ). IsMigration asked.migrate b verdict file) read_is migrates;
+told_if None bytes given text added file asked hidden verdict before after read_is same found told appends = tt
+told_if (Some left) bytes given text added file asked hidden verdict before after read_is same found told appends = record {
+  text = text;
+  found = subst (λ (b : List ℕ). IsFound asked hidden verdict file text b) (same ∙ read_is) found;
+  added = subst (λ (l : List ℕ). Appends before after l) told appends;
 }

@@ -68,18 +68,24 @@ IsMigration true bytes is.Clean file =
     IsMigrated bytes file ⊎ ((n : ℕ) × FirstFormatFaultsAt bytes n × (file ≡ []))
 IsMigration asked bytes verdict file = file ≡ []
 
--- the verdict on the bytes is this one, and its line was added to what was printed, with a line for each of these
--- objects, which are reached, and one for each of these replies, which differ; the file is what is asked for
-pub record IsTold (before after : Option (List ℕ)) (asked : AuditOptions) (hidden : Option LabelValue) (verdict : Verdict)
-    (file bytes : List ℕ) : Type 0 where
+-- the verdict on the bytes is this one, and the text is its line, with a line for each of these objects, which are reached,
+-- and one for each of these replies, which differ; the file is what is asked for
+pub record IsFound (asked : AuditOptions) (hidden : Option LabelValue) (verdict : Verdict) (file text bytes : List ℕ) : Type 0 where
   pub verdict_is : IsVerdict bytes verdict
   pub tells : TellsFalse bytes verdict
   pub reached : List ℕ
   pub is_reached : IsReachedIn asked.flow bytes verdict reached
   pub told : List Difference
   pub is_hidden : IsHiddenIn hidden bytes verdict told
-  pub added : Appends before after (audit_text asked hidden verdict reached told)
+  pub text_is : text ≡ audit_text asked hidden verdict reached told
   pub migration : IsMigration asked.migrate bytes verdict file
+
+-- what was found was added to what was printed
+pub record IsTold (before after : Option (List ℕ)) (asked : AuditOptions) (hidden : Option LabelValue) (verdict : Verdict)
+    (file bytes : List ℕ) : Type 0 where
+  pub text : List ℕ
+  pub found : IsFound asked hidden verdict file text bytes
+  pub added : Appends before after text
 
 -- a verdict on the bytes was printed with what is asked for, whose status is this one, with this file
 abbrev pub TellsVerdict : Option (List ℕ) → Option (List ℕ) → AuditOptions → Option LabelValue → ℕ → List ℕ → List ℕ → Type 0

@@ -1,5 +1,5 @@
 -- What is shown of all that was read.
-use Rattle.std.proofs.Common.{◌≡◌, ℕ, List, Option, Some, None, IfSome, ap, subst, ◌∙◌}
+use Rattle.std.proofs.Common.{◌≡◌, ℕ, List, Option, Some, None, IfSome, subst, ◌∙◌}
 use Rattle.std.specs.Global.{Vec}
 use Rattle.base.specs.declared.ids.Category.{Category}
 use Rattle.call_text.specs.declared.known_names.Named.{Named}
@@ -19,13 +19,12 @@ pub shown_of_all : (names : List Named) (remaining : Option (List ℕ)) (flow : 
 shown_of_all names None flow read given told is same shown = tt
 shown_of_all names (Some left) flow read given told is same shown = subst (λ (l : List ℕ). PageShows names flow l told.items) (same ∙ is) shown
 
--- the page of what a dump was taken apart into is the dump's
-pub page_told : (names : List Named) (text : List ℕ) (whole parts : DumpLists) (flow : Option (ℕ × Category)) (reached given : List ℕ) (s : State)
+-- the page of what stands in a dump is the dump's
+pub page_told : (names : List Named) (text : List ℕ) (d : DumpLists) (flow : Option (ℕ × Category)) (reached given : List ℕ) (s : State)
     (events : List Event) (reads : List PlacedRead) (told : List ℕ)
     → told ≡ page_text (shown_data names flow given (steps_of names (told_in text) s (turns events reads)))
-    → given ≡ reached → parts ≡ whole → s ≡ (start_with parts.limits parts.checkpoint).state → events ≡ parts.events
-    → reads ≡ parts.reads → told ≡ page_text (page_data names text whole flow reached)
-page_told names text whole parts flow reached given s events reads told is same parted begun are asked =
+    → given ≡ reached → s ≡ (start_with d.limits d.checkpoint).state → events ≡ d.events → reads ≡ d.reads
+    → told ≡ page_text (page_data names text d flow reached)
+page_told names text d flow reached given s events reads told is same begun are asked =
     is
     ∙ (λ i. page_text (shown_data names flow (same i) (steps_of names (told_in text) (begun i) (turns (are i) (asked i)))))
-    ∙ ap (λ (d : DumpLists). page_text (page_data names text d flow reached)) parted

@@ -15,7 +15,6 @@ use crate::steps::{Source, step_values};
 use auditor::clean_dumps::begin;
 use base::{Category, Meter, NoMemory, ObjectId};
 use call_text::Named;
-use dump_text::Dump;
 use plain_state::PlainState;
 use serde_json::{Value, json, push};
 use shown_dumps::dot::{DotFault, red_in};
@@ -138,26 +137,22 @@ pub fn page(
 ) -> Result<Vec<u8>, DotFault>
     ensures { IsPage names.now flow text.now result }
 {
-    let Dump {
-        limits,
-        checkpoint,
-        events,
-        reads,
-        tables: _,
-    } = match dump_in(alloc, text) {
+    let dump = match dump_in(alloc, text) {
         Ok(dump) => dump,
         Err(fault) => return Err(DotFault::Unshown(fault)),
     };
-    let Some(state) = begin(alloc, &limits, &checkpoint)? else {
+    let read = &dump;
+    let Some(state) = begin(alloc, &read.limits, &read.checkpoint)? else {
         return Err(DotFault::Unshown(ShowFault::IllFormed));
     };
-    let reached = red_in(alloc, text, flow)?;
+    let red = red_in(alloc, text, dump, flow)?;
+    let shown = &red.dump;
     let source = Source {
         text,
         names,
-        events: events.as_slice(),
-        reads: reads.as_slice(),
-        reached: reached.as_slice(),
+        events: shown.events.as_slice(),
+        reads: shown.reads.as_slice(),
+        reached: red.reached.as_slice(),
     };
     Ok(page_of(&source, flow, state)?)
 }

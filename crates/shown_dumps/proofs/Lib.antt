@@ -8,7 +8,6 @@ pub mod TextLaws
 pub mod TreeLaws
 pub mod OtherLaws
 pub mod Whole
-pub mod DotLaws
 pub mod FloatLaws
 pub mod PieceLaws
 pub mod ValueLaws

@@ -3,15 +3,13 @@ use Rattle.std.proofs.Common.{◌≡◌, ℕ, ◌+◌, ◌≤◌, true, List, []
 use Rattle.std.proofs.Math.Nat.{suc-add}
 use Rattle.std.proofs.lemmas.List.Sums.{sum_by-cons}
 use Rattle.std.specs.List.{flat_map}
-use Rattle.call_text.specs.declared.known_names.Named.{Named}
 use Rattle.kernel_rules.proofs.QuotaLaws.{use_fits}
 use Rattle.kernel_rules.specs.State.{State, object_at, of_object, listed, list_at, quota_at, own_cost, cost_at}
 use Rattle.kernel_rules.specs.WellFormed.{is_well_formed}
 use Rattle.kernel_rules.specs.declared.objects.Body as body
 use Rattle.kernel_rules.specs.declared.objects.Body.TheVariants as is
 use Rattle.kernel_rules.specs.declared.objects.Object.{Object}
-use Rattle.shown_dumps.specs.TreePlaces.{below}
-use Rattle.shown_dumps.specs.Trees.{object_lines, lines_at, tree_from}
+use Rattle.shown_dumps.specs.TreePlaces.{below, walk}
 use Rattle.shown_dumps.specs.declared.tree.places.Place.{Place}
 
 costs : (b : body.Body) → 1 ≤ own_cost b
@@ -22,12 +20,15 @@ costs (is.Thread t) = omega arith
 costs (is.Gate g) = omega arith
 costs (is.Device packets) = omega arith
 
--- what is not there has no lines
-none_there : (names : List Named) (asked : Option ℕ) (s : State) (levels : ℕ) (p : Place) → object_at s p.id ≡ None → tree_from names asked s levels p ≡ []
-none_there names asked s zero p gone = refl
-none_there names asked s (suc levels) p gone =
-    ap (λ (v : Option Object). of_object [] (object_lines names asked s p) v
-    ++ flat_map (λ id. tree_from names asked s levels (below p id)) (of_object [] (λ (x : Object). listed x.body) v)) gone
+-- nothing is told of a place with no object
+abbrev pub IsOfObjects : State → (Place → List ℕ) → Type 0
+IsOfObjects s told = (p : Place) → object_at s p.id ≡ None → told p ≡ []
+
+none_there : (opened closed : Place → List ℕ) (s : State) (levels : ℕ) (p : Place) → object_at s p.id ≡ None → opened p ≡ []
+    → closed p ≡ [] → walk opened closed s levels p ≡ []
+none_there opened closed s zero p gone first last = refl
+none_there opened closed s (suc levels) p gone first last =
+    λ i. first i ++ flat_map (λ id. walk opened closed s levels (below p id)) (of_object [] (λ (x : Object). listed x.body) (gone i)) ++ last i
 
 -- each object has a quota
 absent : (s : State) → is_well_formed s ≡ true → (o : ℕ) → quota_at s o ≤ 0 → object_at s o ≡ None
@@ -65,11 +66,17 @@ same_each f g q n each (i ∷ ids) within =
     ap (λ l. l ++ flat_map f ids) (each i first) ∙ ap (λ l. g i ++ l) (same_each f g q n each ids rest)
 
 -- more levels than the quota of a place show no more
-pub no_deeper : (names : List Named) (asked : Option ℕ) (s : State) → is_well_formed s ≡ true → (n more : ℕ) (p : Place) → quota_at s p.id ≤ n
-    → tree_from names asked s (n + more) p ≡ tree_from names asked s n p
-no_deeper names asked s h zero more p small = none_there names asked s (0 + more) p (absent s h p.id small)
-no_deeper names asked s h (suc n) more p small =
-    ap (λ m. tree_from names asked s m p) (suc-add n more)
-    ∙ ap (λ l. lines_at names asked s p ++ l)
-    (same_each (λ id. tree_from names asked s (n + more) (below p id)) (λ id. tree_from names asked s n (below p id)) (quota_at s) n
-    (λ id less. no_deeper names asked s h n more (below p id) less) (list_at s p.id) (room s h p.id n small))
+pub no_deeper : (opened closed : Place → List ℕ) (s : State) → IsOfObjects s opened → IsOfObjects s closed → is_well_formed s ≡ true
+    → (n more : ℕ) (p : Place) → quota_at s p.id ≤ n → walk opened closed s (n + more) p ≡ walk opened closed s n p
+no_deeper opened closed s begins ends h zero more p small =
+    let gone = absent s h p.id small in
+    none_there opened closed s (0 + more) p gone (begins p gone) (ends p gone)
+no_deeper opened closed s begins ends h (suc n) more p small =
+    ap (λ m. walk opened closed s m p) (suc-add n more)
+    ∙ ap (λ l. opened p ++ l ++ closed p)
+    (same_each (λ id. walk opened closed s (n + more) (below p id)) (λ id. walk opened closed s n (below p id)) (quota_at s) n
+    (λ id less. no_deeper opened closed s begins ends h n more (below p id) less) (list_at s p.id) (room s h p.id n small))
+
+-- what is told by the object at a place is told of no other
+pub of_objects : (s : State) (told : Place → Object → List ℕ) → IsOfObjects s (λ p. of_object [] (told p) (object_at s p.id))
+of_objects s told p gone = ap (λ (v : Option Object). of_object [] (told p) v) gone

@@ -12,15 +12,11 @@ use Rattle.shown_dumps.specs.declared.tree.colours.Style.TheVariants as styles
 abbrev pub is_break : ℕ → Bool
 is_break x = (x == 32) || ((x == 44) || ((x == 123) || ((x == 125) || (x == 10))))
 
--- the colour of a category, one of six, from the digits of its number: what they leave, divided by 6
+-- the colour of a category, one of six, from the digits of its number, or the bytes of its name: what they leave, divided by 6.
+-- A # counts as 0
 abbrev pub hue_from : ℕ → List ℕ → ℕ
 hue_from n [] = n
 hue_from n (x ∷ xs) = if x == 58 then n else hue_from ((n * 10 + (x - 48)) % 6) xs
-
--- the same of a word: # and the number, or a name, whose bytes count as digits
-abbrev pub hue_of : List ℕ → ℕ
-hue_of [] = 0
-hue_of (x ∷ xs) = if x == 35 then hue_from 0 xs else hue_from 0 (x ∷ xs)
 
 -- a category with its level, as a label has it
 abbrev pub is_exception : List ℕ → Bool
@@ -39,7 +35,7 @@ is_strong word =
 abbrev pub style_of : Bool → List ℕ → Option Style
 style_of is_owned word =
     if is_strong word then Some styles.Strong
-    else if is_owned || is_exception word then Some (styles.Category (hue_of word))
+    else if is_owned || is_exception word then Some (styles.Category (hue_from 0 word))
     else None
 
 -- its mark, after so many bytes that have none

@@ -1,11 +1,10 @@
 -- A state as a graph for Graphviz: a cluster for each container, and in it a node for each object that it lists.
-use Rattle.std.specs.Prelude.{ℕ, List, [], ◌++◌, codes, zero, suc}
-use Rattle.std.specs.List.{flat_map}
+use Rattle.std.specs.Prelude.{ℕ, List, [], ◌++◌, codes}
 use Rattle.call_text.specs.declared.known_names.Named.{Named}
-use Rattle.kernel_rules.specs.State.{State, object_at, of_object, list_at, quota_at}
+use Rattle.kernel_rules.specs.State.{State, object_at, of_object, quota_at}
 use Rattle.kernel_rules.specs.declared.objects.Object.{Object}
 use Rattle.shown_dumps.specs.Nodes.{open_text, close_text, body_arrows}
-use Rattle.shown_dumps.specs.TreePlaces.{root, below}
+use Rattle.shown_dumps.specs.TreePlaces.{nothing, root, walk}
 use Rattle.shown_dumps.specs.declared.tree.places.Place.{Place}
 
 -- what stands at a place before what the object lists, and after it
@@ -17,9 +16,7 @@ closed_at s p = of_object [] (close_text p) (object_at s p.id)
 
 -- so many levels from a place on, of which these objects are reached
 abbrev pub dot_from : List Named → State → List ℕ → ℕ → Place → List ℕ
-dot_from names s reached zero p = []
-dot_from names s reached (suc levels) p =
-    opened_at names s reached p ++ flat_map (λ id. dot_from names s reached levels (below p id)) (list_at s p.id) ++ closed_at s p
+dot_from names s reached levels p = walk (opened_at names s reached) (closed_at s) s levels p
 
 -- the arrows from what stands at a place
 abbrev pub arrows_at : State → Place → List ℕ
@@ -27,9 +24,7 @@ arrows_at s p = of_object [] (λ (x : Object). body_arrows p x.body) (object_at 
 
 -- Those of so many levels from a place on. They stand after all clusters: Graphviz takes a node into each cluster that names it.
 abbrev pub arrows_from : State → ℕ → Place → List ℕ
-arrows_from s zero p = []
-arrows_from s (suc levels) p =
-    arrows_at s p ++ flat_map (λ id. arrows_from s levels (below p id)) (list_at s p.id)
+arrows_from s levels p = walk (arrows_at s) nothing s levels p
 
 -- the whole graph, which has as many levels as the tree
 abbrev pub dot_text : List Named → State → List ℕ → List ℕ

@@ -4,6 +4,7 @@ use Rattle.base.specs.Live.{has}
 use Rattle.base.specs.declared.kinds.Kind.TheVariants as kinds
 use Rattle.call_text.specs.declared.known_names.Named.{Named}
 use Rattle.kernel_rules.specs.State.{State, is_kind}
+use Rattle.kernel_rules.specs.Translate.{names_none}
 use Rattle.kernel_rules.specs.declared.calls.Entry.{Entry}
 use Rattle.kernel_rules.specs.declared.objects.Mapping.{Mapping}
 use Rattle.kernel_rules.specs.declared.objects.Object.{Object}
@@ -17,24 +18,17 @@ abbrev pub broken : ℕ → List ℕ → List ℕ
 broken last [] = []
 broken last (x ∷ xs) = (if (last == 44) && (x == 32) then codes "\\n" else x ∷ []) ++ broken x xs
 
--- what the tree tells of the object, as a label, with the names that are known
-abbrev pub node_label : List Named → State → Place → Object → List ℕ
-node_label names s p x = codes "label=\"" ++ broken 0 (object_text names s p x) ++ codes "\""
-
 -- the name of the node of an object in a container
 abbrev pub node_name : ℕ → ℕ → List ℕ
 node_name container id = codes "o" ++ decimal container ++ codes "_" ++ decimal id
 
 -- an object that is reached is red, and each other one black: a cluster would else take the colour of the one around it
 abbrev pub color_text : Bool → List ℕ
-color_text is_reached = if is_reached then codes ", color=red" else codes ", color=black"
+color_text is_reached = if is_reached then codes "\", color=red" else codes "\", color=black"
 
-abbrev pub mark_text : List ℕ → ℕ → List ℕ
-mark_text reached id = color_text (has reached id)
-
--- what Graphviz is told of the object
+-- what Graphviz is told of the object: what the tree tells of it, by the names that are known, as a label, and its colour
 abbrev pub attributes : List Named → State → List ℕ → Place → Object → List ℕ
-attributes names s reached p x = node_label names s p x ++ mark_text reached p.id
+attributes names s reached p x = codes "label=\"" ++ broken 0 (object_text names s p x) ++ color_text (has reached p.id)
 
 -- the line of a node
 abbrev pub node_line : List Named → State → List ℕ → Place → Object → List ℕ
@@ -56,7 +50,7 @@ slot_arrows p slot (m ∷ ms) = slot_arrow p slot m ++ slot_arrows p (slot + 1) 
 
 -- an arrow to the address space of a thread or of a gate, where it has one
 abbrev pub space_arrow : Place → Entry → List ℕ
-space_arrow p e = if (e.container == 0) && (e.object == 0) then [] else arrow_text p e ++ codes " [style=dashed];\n"
+space_arrow p e = if names_none e then [] else arrow_text p e ++ codes " [style=dashed];\n"
 
 abbrev pub body_arrows : Place → body.Body → List ℕ
 body_arrows p (is.Thread t) = space_arrow p t.space

@@ -11,6 +11,7 @@ use Rattle.call_text.specs.declared.known_names.Named.{Named}
 use Rattle.call_text.specs.declared.known_names.Value.TheVariants.{Object as OfObject, Category as OfCategory}
 use Rattle.kernel_rules.specs.Scratch.{ids_of}
 use Rattle.kernel_rules.specs.State.{State, kind_of, list_at, use_of}
+use Rattle.kernel_rules.specs.Translate.{names_none}
 use Rattle.kernel_rules.specs.declared.calls.Entry.{Entry}
 use Rattle.kernel_rules.specs.declared.objects.Object.{Object}
 use Rattle.kernel_rules.specs.declared.objects.Body as body
@@ -54,7 +55,7 @@ owned_text names pairs = flat_map (owned_one names) pairs
 -- the clearance of a thread or of a gate, and its address space where it has one
 abbrev pub space_text : List Named → Entry → List ℕ
 space_text names e =
-    if (e.container == 0) && (e.object == 0) then []
+    if names_none e then []
     else codes ", space " ++ value_text names (OfObject e.container) ++ codes " " ++ value_text names (OfObject e.object)
 
 abbrev pub bearer_text : List Named → LabelValue → Entry → List ℕ

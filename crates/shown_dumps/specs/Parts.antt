@@ -40,70 +40,56 @@ rank_text L2 = codes "2"
 rank_text L3 = codes "3"
 rank_text J = codes "J"
 
--- how a label stands to another one, or does not
+-- the first words where something stands against the call, and else the others
+abbrev pub either : Bool → List ℕ → List ℕ → List ℕ
+either against bad good = if against then bad else good
+
+-- two labels with words between them
+abbrev pub two_text : List Named → Option LabelValue → List ℕ → Option LabelValue → List ℕ
+two_text names a words b = label_text names a ++ words ++ label_text names b
+
+-- how a label stands to another one, and to the maximum of two others
 abbrev pub at_most_text : Bool → List ℕ
-at_most_text against = if against then codes " is not at most " else codes " is at most "
+at_most_text against = either against (codes " is not at most ") (codes " is at most ")
 
--- the same of a label whose star is raised
-abbrev pub raised_text : Bool → List ℕ
-raised_text against =
-    if against then codes " with star raised is not at most " else codes " with star raised is at most "
-
--- and to the maximum, or to the floor, of two others
 abbrev pub maximum_text : Bool → List ℕ
-maximum_text against =
-    if against then codes " is not at most the maximum of " else codes " is at most the maximum of "
-
-abbrev pub floor_text : Bool → List ℕ
-floor_text against =
-    if against then codes " is not at least the floor of " else codes " is at least the floor of "
+maximum_text against = either against (codes " is not at most the maximum of ") (codes " is at most the maximum of ")
 
 -- what is to be so of labels, or that it is not
 abbrev pub comparison_text : List Named → Bool → Comparison → List ℕ
-comparison_text names against (compared.Below a b) = label_text names a ++ at_most_text against ++ label_text names b
-comparison_text names against (compared.Visible a b) =
-    label_text names a ++ at_most_text against ++ label_text names b ++ codes " with star raised"
+comparison_text names against (compared.Below a b) = two_text names a (at_most_text against) b
+comparison_text names against (compared.Visible a b) = two_text names a (at_most_text against) b ++ codes " with star raised"
 comparison_text names against (compared.Shown a b) =
-    label_text names a ++ raised_text against ++ label_text names b ++ codes " with star raised"
-comparison_text names against (compared.BelowJoin a b c) =
-    label_text names a ++ maximum_text against ++ label_text names b ++ codes " and " ++ label_text names c
-comparison_text names against (compared.BelowJoinUp a b c) =
-    label_text names a ++ maximum_text against ++ label_text names b ++ codes " and " ++ label_text names c
+    two_text names a (either against (codes " with star raised is not at most ") (codes " with star raised is at most ")) b
     ++ codes " with star raised"
+comparison_text names against (compared.BelowJoin a b c) =
+    two_text names a (maximum_text against) b ++ codes " and " ++ label_text names c
+comparison_text names against (compared.BelowJoinUp a b c) =
+    two_text names a (maximum_text against) b ++ codes " and " ++ label_text names c ++ codes " with star raised"
 comparison_text names against (compared.AboveFloor a b c) =
-    label_text names c ++ floor_text against ++ label_text names a ++ codes " and " ++ label_text names b
-
--- how a number stands to the least or the most that it may be
-abbrev pub least_text : Bool → List ℕ
-least_text against = if against then codes " is less than " else codes " is at least "
-
-abbrev pub most_text : Bool → List ℕ
-most_text against = if against then codes " is more than " else codes " is at most "
+    two_text names c (either against (codes " is not at least the floor of ") (codes " is at least the floor of ")) a
+    ++ codes " and " ++ label_text names b
 
 -- how many pages are to come, and how many there may be
 abbrev pub more_text : Bool → ℕ → ℕ → List ℕ
-more_text against more most =
-    decimal more ++ (if against then codes " more are above " else codes " more are at most ") ++ decimal most
-
--- whether a slot is empty, and whether a mapping meets a page of it
-abbrev pub empty_text : Bool → List ℕ
-empty_text against = if against then codes " is not empty: it has " else codes " is empty: it has "
-
-abbrev pub apart_text : Bool → List ℕ
-apart_text against = if against then codes " meets a page of slot " else codes " meets no page of slot "
+more_text against more most = decimal more ++ either against (codes " more are above ") (codes " more are at most ") ++ decimal most
 
 -- what is to be so, or that it is not
 abbrev pub said_text : List Named → Bool → Part → List ℕ
 said_text names opposed (is.Fact fact against) = told_text opposed fact
 said_text names opposed (is.Compared labels) = comparison_text names opposed labels
-said_text names opposed (is.AtLeast number least) = decimal number ++ least_text opposed ++ decimal least
-said_text names opposed (is.AtMost number most) = decimal number ++ most_text opposed ++ decimal most
+said_text names opposed (is.AtLeast number least) =
+    decimal number ++ either opposed (codes " is less than ") (codes " is at least ") ++ decimal least
+said_text names opposed (is.AtMost number most) =
+    decimal number ++ either opposed (codes " is more than ") (codes " is at most ") ++ decimal most
 said_text names opposed (is.Sum used more most) =
     decimal used ++ codes " pages used and " ++ more_text opposed more most
 said_text names opposed (is.Empty slot mapping) =
-    codes "slot " ++ decimal slot ++ empty_text opposed ++ mapping_text names mapping
+    codes "slot " ++ decimal slot ++ either opposed (codes " is not empty: it has ") (codes " is empty: it has ")
+    ++ mapping_text names mapping
 said_text names opposed (is.Apart slot given mapping) =
-    mapping_text names (Some given) ++ apart_text opposed ++ decimal slot ++ codes ": it has " ++ mapping_text names mapping
+    mapping_text names (Some given) ++ either opposed (codes " meets a page of slot ") (codes " meets no page of slot ")
+    ++ decimal slot ++ codes ": it has " ++ mapping_text names mapping
 
 -- the level that is too high, and the one that it is to be at most
 abbrev pub ranks_text : Ranks → List ℕ
@@ -127,20 +113,7 @@ rest_text (Some ranks) = codes "          all others: " ++ ranks_text ranks
 -- where a part's comparison fails
 abbrev pub failing_text : List Named → Part → List ℕ
 failing_text names (is.Compared labels) = named_text names (named_of (sides labels)) ++ rest_text (rest_of (sides labels))
-failing_text names (is.Fact fact against) = []
-failing_text names (is.AtLeast number least) = []
-failing_text names (is.AtMost number most) = []
-failing_text names (is.Sum used more most) = []
-failing_text names (is.Empty slot mapping) = []
-failing_text names (is.Apart slot given mapping) = []
-
--- whether a part stands against the call
-abbrev pub part_mark : Bool → List ℕ
-part_mark against = if against then codes "    bad " else codes "    ok  "
-
--- whether a condition refuses the call
-abbrev pub finding_mark : Bool → List ℕ
-finding_mark holds = if holds then codes "yes " else codes "no  "
+failing_text names part = []
 
 -- what is so of a part, and where its comparison fails
 abbrev pub shown_text : List Named → Part → List ℕ
@@ -148,12 +121,12 @@ shown_text names part = said_text names (is_against part) part ++ 10 ∷ failing
 
 -- a part: ok where it is as it is to be, and bad where it stands against the call
 abbrev pub part_text : List Named → Part → List ℕ
-part_text names part = part_mark (is_against part) ++ shown_text names part
+part_text names part = either (is_against part) (codes "    bad ") (codes "    ok  ") ++ shown_text names part
 
 -- a condition: yes where it refuses the call
 abbrev pub finding_text : List Named → Finding → List ℕ
 finding_text names finding =
-    finding_mark (refuses finding.parts) ++ reply_text [] (replies.Refused finding.refusal)
+    either (refuses finding.parts) (codes "yes ") (codes "no  ") ++ reply_text [] (replies.Refused finding.refusal)
     ++ 10 ∷ flat_map (part_text names) finding.parts
 
 -- a part that stands against the call, after the refusal that it is the reason of

@@ -1,12 +1,11 @@
 -- The tree of a state: the root, below each container what it lists, in the order of its list, and below each address space
 -- its filled slots. Where a thread is asked about, each object that it may delete is marked.
-use Rattle.std.specs.Prelude.{ℕ, ◌+◌, List, [], ◌++◌, Option, None, zero, suc}
-use Rattle.std.specs.List.{flat_map}
+use Rattle.std.specs.Prelude.{ℕ, ◌+◌, List, [], ◌++◌, Option, None}
 use Rattle.call_text.specs.declared.known_names.Named.{Named}
-use Rattle.kernel_rules.specs.State.{State, object_at, of_object, list_at, quota_at, slots_of}
+use Rattle.kernel_rules.specs.State.{State, object_at, of_object, quota_at, slots_of}
 use Rattle.kernel_rules.specs.declared.objects.Object.{Object}
 use Rattle.shown_dumps.specs.Objects.{object_line}
-use Rattle.shown_dumps.specs.TreePlaces.{root, below}
+use Rattle.shown_dumps.specs.TreePlaces.{nothing, root, walk}
 use Rattle.shown_dumps.specs.Slots.{slot_lines}
 use Rattle.shown_dumps.specs.declared.tree.places.Place.{Place}
 
@@ -19,9 +18,7 @@ lines_at names asked s p = of_object [] (object_lines names asked s p) (object_a
 
 -- so many levels of the tree from a place on
 abbrev pub tree_from : List Named → Option ℕ → State → ℕ → Place → List ℕ
-tree_from names asked s zero p = []
-tree_from names asked s (suc levels) p =
-    lines_at names asked s p ++ flat_map (λ id. tree_from names asked s levels (below p id)) (list_at s p.id)
+tree_from names asked s levels p = walk (lines_at names asked s) nothing s levels p
 
 -- the whole tree. What a container lists has a smaller quota than the container, so there are no more levels than the root
 -- has pages

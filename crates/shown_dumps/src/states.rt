@@ -12,4 +12,4 @@ pub use faults::ShowFault;
 pub use making::{make, make_all};
 pub use naming::names_on;
 pub use printing::{NAME, put_bare, put_named, put_value, show_on};
-pub use states::{dump_in, state_after};
+pub use states::{dump_in, state_after, state_in};

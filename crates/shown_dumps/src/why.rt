@@ -14,7 +14,7 @@ mod program;
 mod shown;
 mod telling;
 
-pub use explaining::{put_head, read_refusal_text, refusal_text, why};
+pub use explaining::{put_head, read_refusal_text, refusal_text, why, why_in};
 pub use parts::put_findings;
 pub use program::why_on;
 pub use shown::why_or_false;

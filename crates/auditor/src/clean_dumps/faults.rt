@@ -1,4 +1,4 @@
-//! Why a dump is not read.
+//! Why a dump is not looked into.
 ghost use Rattle.std.specs.Prelude.{◌≡◌};
 ghost use Rattle.auditor.specs.Refused.{refusal_of};
 ghost use Rattle.auditor.specs.declared.clean_dumps.faults.DumpFault.TheVariants.{NoMemory as OutOfMemory};
@@ -6,7 +6,7 @@ ghost use Rattle.auditor.specs.declared.clean_dumps.faults.DumpFault.TheVariants
 use base::{NoMemory, Refusal};
 use thiserror::Error;
 
-/// Why a dump is not read.
+/// Why a dump is not looked into.
 #[derive(Clone, Copy, PartialEq, Eq, Debug, Error)]
 pub enum DumpFault {
     /// 62: the text is no clean dump.

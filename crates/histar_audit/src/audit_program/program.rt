@@ -1,15 +1,15 @@
 //! The program, over a reader, a sink and a writer.
-ghost use Rattle.std.specs.Prelude.{◌≡◌, ◌<◌, IfOk, IfSome, Some, is_some};
-ghost use Rattle.auditor.specs.Verdict.{IsVerdict};
-ghost use Rattle.histar_audit.specs.Told.{is_asked, verdict_status, IsHiddenIn, IsMigration, IsReachedIn, IsTold};
+ghost use Rattle.std.specs.Prelude.{◌≡◌, ◌<◌, [], IfOk, IfSome, Some, None, false, is_some};
+ghost use Rattle.auditor.specs.Audited.{verdict_of, IsAudited};
+ghost use Rattle.histar_audit.specs.Told.{is_asked, told_text, verdict_status, IsFound, IsHiddenIn, IsMigration, IsReachedIn, IsTold};
 ghost use Rattle.histar_audit.specs.Told.{TellsVerdict};
 
 use crate::audit_program::lines::text_of;
 use auditor::clean_dumps::DumpFault;
 use auditor::tracing::trace;
-use auditor::{Verdict, audit};
+use auditor::{Audited, Verdict, read_audited};
 use base::{Category, NoMemory, ObjectId};
-use dump_text::{MigrateFault, migrate};
+use dump_text::{DumpError, MigrateFault, migrate};
 use hidden_replies::{Difference, hidden_replies};
 use label_lattice::Label;
 use program_io::{AuditOptions, Fault, Sink, bytes_of, deliver};
@@ -30,13 +30,12 @@ pub struct AuditEnd {
     pub file: Vec<u8>,
 }
 
-/// What an audit tells.
+/// What an audit finds: the verdict, what goes to the migrated dump's file, and the lines that tell it.
 #[derive(Drop)]
-struct Audited {
-    /// The verdict.
+struct Found {
     verdict: Verdict,
-    /// What goes to the migrated dump's file.
     file: Vec<u8>,
+    text: Vec<u8>,
 }
 
 /// The status that tells a verdict.
@@ -83,14 +82,15 @@ fn file_of(
 /// What flows from an object outside a category reach in a clean dump.
 fn traced(
     alloc: Global,
-    bytes: &[u8],
+    audited: &Audited<'_>,
     flow: (ObjectId, Category),
 ) -> Result<Vec<ObjectId>, NoMemory>
-    requires { IsVerdict bytes.now Verdict.Clean }
-    ensures { IfOk result (λ ids. IsReachedIn (Some flow) bytes.now Verdict.Clean ids.items) }
+    requires audited { IsAudited audited.now }
+    requires clean { audited.now.false_line ≡ None }
+    ensures { IfOk result (λ ids. IsReachedIn (Some flow) audited.now.bytes.now Verdict.Clean ids.items) }
 {
     let (start, category) = flow;
-    match trace(alloc, bytes, start, category) {
+    match trace(alloc, audited, start, category) {
         Ok(ids) => Ok(ids),
         Err(DumpFault::NotClean) => Ok(Vec::new(alloc)),
         Err(DumpFault::NoMemory) => Err(NoMemory),
@@ -100,29 +100,29 @@ fn traced(
 /// What flows reach in the dump, where they are asked for and the dump is clean.
 fn reached_in(
     alloc: Global,
+    audited: &Audited<'_>,
     options: &AuditOptions,
-    bytes: &[u8],
-    verdict: Verdict,
 ) -> Result<Vec<ObjectId>, NoMemory>
-    requires { IsVerdict bytes.now verdict }
-    ensures { IfOk result (λ ids. IsReachedIn options.now.flow bytes.now verdict ids.items) }
+    requires { IsAudited audited.now }
+    ensures { IfOk result (λ ids. IsReachedIn options.now.flow audited.now.bytes.now
+        (verdict_of audited.now.false_line) ids.items) }
 {
     let Some(flow) = options.flow else {
         return Ok(Vec::new(alloc));
     };
-    match verdict {
-        Verdict::Clean => traced(alloc, bytes, flow),
-        Verdict::False(_) => Ok(Vec::new(alloc)),
-        Verdict::Unreadable(_) => Ok(Vec::new(alloc)),
+    match audited.false_line {
+        None => traced(alloc, audited, flow),
+        Some(_) => Ok(Vec::new(alloc)),
     }
 }
 
 /// The replies of a clean dump that differ without the calls of threads which an observer doesn't observe.
-fn changed(alloc: Global, bytes: &[u8], label: &Label) -> Result<Vec<Difference>, NoMemory>
-    requires { IsVerdict bytes.now Verdict.Clean }
-    ensures { IfOk result (λ told. IsHiddenIn (Some label.now) bytes.now Verdict.Clean told.items) }
+fn changed(alloc: Global, audited: &Audited<'_>, label: &Label) -> Result<Vec<Difference>, NoMemory>
+    requires audited { IsAudited audited.now }
+    requires clean { audited.now.false_line ≡ None }
+    ensures { IfOk result (λ told. IsHiddenIn (Some label.now) audited.now.bytes.now Verdict.Clean told.items) }
 {
-    match hidden_replies(alloc, bytes, label) {
+    match hidden_replies(alloc, audited, label) {
         Ok(told) => Ok(told),
         Err(DumpFault::NotClean) => Ok(Vec::new(alloc)),
         Err(DumpFault::NoMemory) => Err(NoMemory),
@@ -132,20 +132,85 @@ fn changed(alloc: Global, bytes: &[u8], label: &Label) -> Result<Vec<Difference>
 /// What hidden threads changed in the dump, where that is asked for and the dump is clean.
 fn hidden_in(
     alloc: Global,
+    audited: &Audited<'_>,
     hidden: Option<Label>,
-    bytes: &[u8],
-    verdict: Verdict,
 ) -> Result<Vec<Difference>, NoMemory>
-    requires { IsVerdict bytes.now verdict }
-    ensures { IfOk result (λ told. IsHiddenIn hidden bytes.now verdict told.items) }
+    requires { IsAudited audited.now }
+    ensures { IfOk result (λ told. IsHiddenIn hidden audited.now.bytes.now
+        (verdict_of audited.now.false_line) told.items) }
 {
     let Some(label) = hidden else {
         return Ok(Vec::new(alloc));
     };
-    match verdict {
-        Verdict::Clean => changed(alloc, bytes, &label),
-        Verdict::False(_) => Ok(Vec::new(alloc)),
-        Verdict::Unreadable(_) => Ok(Vec::new(alloc)),
+    match audited.false_line {
+        None => changed(alloc, audited, &label),
+        Some(_) => Ok(Vec::new(alloc)),
+    }
+}
+
+/// What is found of a dump that was read.
+fn found_in(
+    alloc: Global,
+    audited: &Audited<'_>,
+    options: &AuditOptions,
+    hidden: Option<Label>,
+) -> Result<Found, NoMemory>
+    requires { IsAudited audited.now }
+    ensures { IfOk result (λ found. IsFound options.now hidden found.verdict found.file.items found.text.items
+        audited.now.bytes.now) }
+{
+    let verdict = audited.verdict();
+    let file = file_of(alloc, options, audited.bytes, verdict)?;
+    let reached = reached_in(alloc, audited, options)?;
+    let flows = is_asked(options.flow.is_some(), verdict);
+    let observed = is_asked(hidden.is_some(), verdict);
+    let told = hidden_in(alloc, audited, hidden)?;
+    let text = text_of(
+        alloc,
+        verdict,
+        flows,
+        reached.as_slice(),
+        observed,
+        told.as_slice(),
+    )?;
+    Ok(Found {
+        verdict,
+        file,
+        text,
+    })
+}
+
+/// What is found of bytes that are no dump from a line on.
+fn unreadable(alloc: Global, line: u64) -> Result<Found, NoMemory>
+    ensures verdict { IfOk result (λ found. found.verdict ≡ Verdict.Unreadable line) }
+    ensures file { IfOk result (λ found. found.file.items ≡ []) }
+    ensures text { IfOk result (λ found. found.text.items ≡ told_text (Verdict.Unreadable line) false [] false []) }
+{
+    let verdict = Verdict::Unreadable(line);
+    let text = text_of(alloc, verdict, false, &[], false, &[])?;
+    Ok(Found {
+        verdict,
+        file: Vec::new(alloc),
+        text,
+    })
+}
+
+/// What is found of bytes.
+fn find(
+    alloc: Global,
+    bytes: &[u8],
+    options: &AuditOptions,
+    hidden: Option<Label>,
+) -> Result<Found, NoMemory>
+    ensures { IfOk result (λ found. IsFound options.now hidden found.verdict found.file.items found.text.items bytes.now) }
+{
+    match read_audited(alloc, bytes) {
+        Ok(audited) => found_in(alloc, &audited, options, hidden),
+        Err(DumpError::Line(line)) => {
+            let none = unreadable(alloc, line)?;
+            Ok(none)
+        }
+        Err(DumpError::Memory) => Err(NoMemory),
     }
 }
 
@@ -155,28 +220,14 @@ fn run<I: Read, S: Sink>(
     options: &AuditOptions,
     hidden: Option<Label>,
     out: &mut S,
-) -> Result<Audited, Fault>
-    ensures { IfOk result (λ audited. IfSome (I.remaining dump.old)
-        (IsTold (S.contents out.old) (S.contents out.new) options.now hidden audited.verdict audited.file.items)) }
+) -> Result<Found, Fault>
+    ensures { IfOk result (λ found. IfSome (I.remaining dump.old)
+        (IsTold (S.contents out.old) (S.contents out.new) options.now hidden found.verdict found.file.items)) }
 {
     let read = bytes_of(alloc, dump)?;
-    let bytes = read.as_slice();
-    let verdict = audit(alloc, bytes)?;
-    let file = file_of(alloc, options, bytes, verdict)?;
-    let reached = reached_in(alloc, options, bytes, verdict)?;
-    let flows = is_asked(options.flow.is_some(), verdict);
-    let observed = is_asked(hidden.is_some(), verdict);
-    let told = hidden_in(alloc, hidden, bytes, verdict)?;
-    let text = text_of(
-        alloc,
-        verdict,
-        flows,
-        reached.as_slice(),
-        observed,
-        told.as_slice(),
-    )?;
-    deliver(out, text.as_slice())?;
-    Ok(Audited { verdict, file })
+    let found = find(alloc, read.as_slice(), options, hidden)?;
+    deliver(out, found.text.as_slice())?;
+    Ok(found)
 }
 
 /// Audits the dump that a reader gives, and prints `clean`, `false at line N` or `unreadable at line N`. Where flows are asked
@@ -198,7 +249,13 @@ pub fn audit_on<I: Read, S: Sink, E: Write>(
         (TellsVerdict (S.contents out.old) (S.contents out.new) options.now hidden result.status result.file.items) }
 {
     match run(alloc, dump, options, hidden, out) {
-        Ok(Audited { verdict, file }) => AuditEnd {
+        Ok(
+            Found {
+                verdict,
+                file,
+                text: _,
+            },
+        ) => AuditEnd {
             status: status_of(verdict),
             file,
         },

@@ -1,5 +1,6 @@
 //! The graph.
 ghost use Rattle.std.specs.Prelude.{◌≡◌, ◌++◌, ◌+◌, ◌^◌, ◌<◌, IfErr, IfOk, OnOk};
+ghost use Rattle.dump_text.specs.Dump.{IsDump};
 ghost use Rattle.shown_dumps.specs.Dots.{opened_at, closed_at, dot_from, arrows_at, arrows_from, dot_text};
 ghost use Rattle.shown_dumps.specs.DotShown.{IsRed, IsDot, IsNoDot};
 ghost use Rattle.plain_state.specs.StateOf.{state_of};
@@ -7,12 +8,14 @@ ghost use Rattle.plain_state.specs.StateOf.{state_of};
 use crate::dot::faults::DotFault;
 use crate::dot::looks::Look;
 use crate::dot::nodes::{put_arrows, put_closed, put_opened};
-use crate::states::{ShowFault, state_after};
+use crate::states::{ShowFault, dump_in, state_in};
 use crate::tree::Place;
 use auditor::clean_dumps::DumpFault;
 use auditor::tracing::trace;
+use auditor::{Audited, audit_dump};
 use base::{Category, Meter, NoMemory, ObjectId};
 use call_text::Named;
+use dump_text::Dump;
 use plain_state::PlainState;
 use std::alloc::Global;
 
@@ -113,24 +116,44 @@ fn dot_of(state: &PlainState, look: &Look<'_>) -> Result<Vec<u8>, NoMemory>
     Ok(text)
 }
 
-/// Which objects are red: what flows from an object outside a category reach, where they are asked for. The errors come in this
-/// order: an audit does not find the dump clean; or there is no memory.
+/// A dump, and which of its objects are red.
+#[derive(Drop)]
+pub struct RedDump {
+    /// The dump.
+    pub dump: Dump,
+    /// What the flows that are asked for reach.
+    pub reached: Vec<ObjectId>,
+}
+
+/// Which objects of the dump that was read of a text are red: what flows from an object outside a category reach, where they are
+/// asked for. The errors come in this order: an audit does not find the dump clean; or there is no memory.
 pub fn red_in(
     alloc: Global,
     text: &[u8],
+    dump: Dump,
     flow: Option<(ObjectId, Category)>,
-) -> Result<Vec<ObjectId>, DotFault>
-    ensures red { IfOk result (λ ids. IsRed flow text.now ids.items) }
+) -> Result<RedDump, DotFault>
+    requires { IsDump text.now dump }
+    ensures dump { IfOk result (λ found. found.dump ≡ dump) }
+    ensures red { IfOk result (λ found. IsRed flow text.now found.reached.items) }
     ensures fault { IfErr result (IsNoDot flow text.now) }
 {
     let Some(asked) = flow else {
-        return Ok(Vec::new(alloc));
+        let reached = Vec::new(alloc);
+        return Ok(RedDump { dump, reached });
     };
-    match trace(alloc, text, asked.0, asked.1) {
-        Ok(ids) => Ok(ids),
-        Err(DumpFault::NotClean) => Err(DotFault::NotClean),
-        Err(DumpFault::NoMemory) => Err(DotFault::Unshown(ShowFault::Memory)),
-    }
+    let audited = audit_dump(alloc, text, dump)?;
+    let reached = match trace(alloc, &audited, asked.0, asked.1) {
+        Ok(ids) => ids,
+        Err(DumpFault::NotClean) => return Err(DotFault::NotClean),
+        Err(DumpFault::NoMemory) => return Err(DotFault::Unshown(ShowFault::Memory)),
+    };
+    let Audited {
+        bytes: _,
+        dump,
+        false_line: _,
+    } = audited;
+    Ok(RedDump { dump, reached })
 }
 
 /// The objects that a dump leads to as a graph, with the names that are known. Where flows are asked for, of an object outside a
@@ -144,14 +167,17 @@ pub fn dot(
 ) -> Result<Vec<u8>, DotFault>
     ensures { IsDot names.now flow text.now result }
 {
-    let state = match state_after(alloc, text, None) {
-        Ok(state) => state,
+    let dump = match dump_in(alloc, text) {
+        Ok(dump) => dump,
         Err(fault) => return Err(DotFault::Unshown(fault)),
     };
-    let red = red_in(alloc, text, flow)?;
+    let Some(state) = state_in(alloc, &dump, None)? else {
+        return Err(DotFault::Unshown(ShowFault::IllFormed));
+    };
+    let red = red_in(alloc, text, dump, flow)?;
     let look = Look {
         names,
-        reached: red.as_slice(),
+        reached: red.reached.as_slice(),
     };
     Ok(dot_of(&state, &look)?)
 }

@@ -1,13 +1,12 @@
 //! The nodes and clusters of objects.
 ghost use Rattle.std.specs.Prelude.{◌≡◌, ◌++◌, ◌+◌, ◌^◌, ◌<◌, OnOk, length};
 ghost use Rattle.base.specs.Live.{has};
-ghost use Rattle.shown_dumps.specs.Nodes.{broken, node_label, node_name, color_text, mark_text, attributes, node_line, arrow_text, slot_arrow, slot_arrows, space_arrow, body_arrows, cluster_begin, unseen_node, cluster_text, open_text, close_text};
+ghost use Rattle.shown_dumps.specs.Nodes.{broken, node_name, color_text, attributes, node_line, arrow_text, slot_arrow, slot_arrows, space_arrow, body_arrows, cluster_begin, unseen_node, cluster_text, open_text, close_text};
 ghost use Rattle.plain_state.specs.StateOf.{state_of};
 
 use crate::dot::looks::Look;
 use crate::tree::{Place, put_indent, put_object};
 use base::{Kind, Meter, NoMemory, ObjectId};
-use call_text::Named;
 use kernel_rules::{Body, Entry, Mapping, Object};
 use plain_state::{PlainState, kind_of};
 use text_words::put_number;
@@ -25,26 +24,6 @@ fn put_broken(out: &mut Vec<u8>, text: &[u8]) -> Result<(), NoMemory>
         }
         last = *byte;
     }
-    Ok(())
-}
-
-/// Adds what the tree tells of an object, as a label, with the names that are known.
-fn put_label(
-    out: &mut Vec<u8>,
-    state: &PlainState,
-    place: &Place,
-    object: &Object,
-    names: &[Named],
-    meter: &mut Meter,
-) -> Result<(), NoMemory>
-    ensures { OnOk result (out.new.items
-        ≡ out.old.items ++ node_label names.now (state_of state.now) place.now object.now) }
-{
-    let mut told = Vec::new(state.alloc());
-    put_object(&mut told, state, place, object, names, meter)?;
-    out.extend_from_slice(b"label=\"")?;
-    put_broken(out, told.as_slice())?;
-    out.extend_from_slice(b"\"")?;
     Ok(())
 }
 
@@ -66,26 +45,19 @@ fn has(ids: &[ObjectId], id: ObjectId) -> bool
     ids.iter().any(|one| id == *one)
 }
 
-/// The colour of an object, by whether it is reached. A cluster without one would take that of the cluster around it.
+/// The end of a label, and the colour by whether the object is reached. A cluster without one would take that of the cluster
+/// around it.
 fn color_text(is_reached: bool) -> &'static str
     ensures { result.now ≡ color_text is_reached }
 {
     if is_reached {
-        ", color=red"
+        "\", color=red"
     } else {
-        ", color=black"
+        "\", color=black"
     }
 }
 
-/// Adds the colour of an object.
-fn put_mark(out: &mut Vec<u8>, reached: &[ObjectId], id: ObjectId) -> Result<(), NoMemory>
-    ensures { OnOk result (out.new.items ≡ out.old.items ++ mark_text reached.now id) }
-{
-    out.extend_from_slice(color_text(has(reached, id)).as_bytes())?;
-    Ok(())
-}
-
-/// Adds what Graphviz is told of an object.
+/// Adds what Graphviz is told of an object: what the tree tells of it, as a label, and its colour.
 fn put_attributes(
     out: &mut Vec<u8>,
     state: &PlainState,
@@ -97,8 +69,12 @@ fn put_attributes(
     ensures { OnOk result (out.new.items
         ≡ out.old.items ++ attributes look.now.names.now (state_of state.now) look.now.reached.now place.now object.now) }
 {
-    put_label(out, state, place, object, look.names, meter)?;
-    put_mark(out, look.reached, place.id)
+    let mut told = Vec::new(state.alloc());
+    put_object(&mut told, state, place, object, look.names, meter)?;
+    out.extend_from_slice(b"label=\"")?;
+    put_broken(out, told.as_slice())?;
+    out.extend_from_slice(color_text(has(look.reached, place.id)).as_bytes())?;
+    Ok(())
 }
 
 /// Adds the line of an object's node.
@@ -172,7 +148,7 @@ fn put_slot_arrows(
 fn put_space_arrow(out: &mut Vec<u8>, place: &Place, space: &Entry) -> Result<(), NoMemory>
     ensures { OnOk result (out.new.items ≡ out.old.items ++ space_arrow place.now space.now) }
 {
-    if space.container.number() == 0 && space.object.number() == 0 {
+    if space.names_none() {
         return Ok(());
     }
     put_arrow(out, place, space)?;

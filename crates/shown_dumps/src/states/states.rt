@@ -1,11 +1,13 @@
 //! The state that the first events of a dump lead to.
-ghost use Rattle.std.specs.Prelude.{◌≡◌};
-ghost use Rattle.shown_dumps.specs.States.{first_of, IsDumpIn, IsStateAfter};
+ghost use Rattle.std.specs.Prelude.{◌≡◌, IfOk, IfSome, is_some};
+ghost use Rattle.auditor.specs.Verdict.{begins};
+ghost use Rattle.plain_state.specs.StateOf.{state_of};
+ghost use Rattle.shown_dumps.specs.States.{first_of, state_after, IsDumpIn, IsStateAfter};
 
 use crate::states::faults::ShowFault;
 use crate::states::making::make_all;
 use auditor::clean_dumps::begin;
-use base::Meter;
+use base::{Meter, NoMemory};
 use dump_text::{Dump, DumpError, read_dump};
 use kernel_rules::histories::Event;
 use plain_state::PlainState;
@@ -33,23 +35,36 @@ fn first_of(after: Option<u64>, events: &[Event]) -> &[Event]
     }
 }
 
-/// The state that the first `after` events of a dump lead to by the rules, or all of them where they are fewer, or where no
-/// count is told. Replies and tables of the dump are not looked at. The errors come in this order: the text is no dump, its
-/// checkpoint can't be restored; or there is no memory.
+/// The state that the first `after` events of a dump lead to by the rules, or all of them where they are fewer, or where no count
+/// is told, exactly where its events can begin. Replies and tables of the dump are not looked at. Want of memory is the only error.
+pub fn state_in(
+    alloc: Global,
+    dump: &Dump,
+    after: Option<u64>,
+) -> Result<Option<PlainState>, NoMemory>
+    ensures test { IfOk result (λ led. is_some led ≡ begins dump.now) }
+    ensures state { IfOk result (λ led. IfSome led (λ state. state_of state ≡ state_after dump.now after)) }
+{
+    let Some(mut state) = begin(alloc, &dump.limits, &dump.checkpoint)? else {
+        return Ok(None);
+    };
+    let mut meter = Meter::new(alloc)?;
+    make_all(
+        &mut state,
+        first_of(after, dump.events.as_slice()),
+        &mut meter,
+    )?;
+    Ok(Some(state))
+}
+
+/// The state that the first `after` events of the dump that a text spells lead to. The errors come in this order: the text is no
+/// dump, its checkpoint can't be restored; or there is no memory.
 pub fn state_after(alloc: Global, text: &[u8], after: Option<u64>) -> Result<PlainState, ShowFault>
     ensures { IsStateAfter text.now after result }
 {
-    let Dump {
-        limits,
-        checkpoint,
-        events,
-        reads: _,
-        tables: _,
-    } = dump_in(alloc, text)?;
-    let Some(mut state) = begin(alloc, &limits, &checkpoint)? else {
-        return Err(ShowFault::IllFormed);
-    };
-    let mut meter = Meter::new(alloc)?;
-    make_all(&mut state, first_of(after, events.as_slice()), &mut meter)?;
-    Ok(state)
+    let dump = dump_in(alloc, text)?;
+    match state_in(alloc, &dump, after)? {
+        Some(state) => Ok(state),
+        None => Err(ShowFault::IllFormed),
+    }
 }

@@ -2,7 +2,7 @@
 ghost use Rattle.std.specs.Prelude.{◌≡◌, ◌++◌, ◌+◌, ◌<◌, ◌≤◌, ◌^◌, IfOk, OnOk, length, decimal};
 ghost use Rattle.base.specs.Live.{has};
 ghost use Rattle.text_words.specs.Name.{is_letter};
-ghost use Rattle.shown_dumps.specs.Colours.{is_break, hue_from, hue_of, is_exception, is_owns, is_strong, style_of, mark_of, plain_after, marks_of};
+ghost use Rattle.shown_dumps.specs.Colours.{is_break, hue_from, is_exception, is_owns, is_strong, style_of, mark_of, plain_after, marks_of};
 
 use base::NoMemory;
 use std::alloc::Global;
@@ -34,31 +34,19 @@ fn is_break(byte: u8) -> bool
     byte == b' ' || byte == b',' || byte == b'{' || byte == b'}' || byte == b'\n'
 }
 
-/// The colour of the number whose digits stand at the beginning of a text. Bytes of a name count as digits.
-fn hue_in(digits: &[u8]) -> u8
-    ensures hue { result ≡ hue_from 0 digits.now }
+/// The colour of the category that a word names: by the digits of its number, or by the bytes of its name, which count as digits.
+fn hue_of(word: &[u8]) -> u8
+    ensures hue { result ≡ hue_from 0 word.now }
     ensures bound { result < 6 }
 {
     let mut hue = 0u16;
-    for byte in digits {
+    for byte in word {
         if *byte == b':' {
             return hue as u8;
         }
         hue = (hue * 10 + u16::from(byte.saturating_sub(b'0'))) % 6;
     }
     hue as u8
-}
-
-/// The colour of the category that a word names.
-fn hue_of(word: &[u8]) -> u8
-    ensures hue { result ≡ hue_of word.now }
-    ensures bound { result < 6 }
-{
-    match word {
-        [] => 0,
-        [b'#', digits @ ..] => hue_in(digits),
-        _ => hue_in(word),
-    }
 }
 
 /// Whether a text has a byte.

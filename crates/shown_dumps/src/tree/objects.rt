@@ -109,7 +109,7 @@ fn put_owned(out: &mut Vec<u8>, label: &RawLabel, names: &[Named]) -> Result<(),
 fn put_space(out: &mut Vec<u8>, space: &Entry, names: &[Named]) -> Result<(), NoMemory>
     ensures { OnOk result (out.new.items ≡ out.old.items ++ space_text names.now space.now) }
 {
-    if space.container.number() == 0 && space.object.number() == 0 {
+    if space.names_none() {
         return Ok(());
     }
     put_object_after(out, ", space ", space.container, names)?;

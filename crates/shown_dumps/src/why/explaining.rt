@@ -3,6 +3,7 @@ ghost use Rattle.std.specs.Prelude.{◌≡◌, ◌+◌, ◌^◌, ◌<◌, ◌≤
 ghost use Rattle.std.specs.List.{flat_map};
 ghost use Rattle.std.specs.Option.{option_map};
 ghost use Rattle.call_text.specs.Reply.{reply_text};
+ghost use Rattle.dump_text.specs.Dump.{IsDump};
 ghost use Rattle.explained.specs.Explained.{explained, query_explained};
 ghost use Rattle.kernel_rules.specs.Step.{answer, next, query_answer};
 ghost use Rattle.call_text.specs.NameLines.{named_line};
@@ -373,29 +374,24 @@ fn content_explained(
     }
 }
 
-/// Why what a line of a dump tells, calls or a read, is answered as it is: the reasons of a refusal, or all conditions. The
-/// lines of the text count from 1. The errors come in this order: the text is no dump, its checkpoint can't be restored, the
-/// line tells no call and no read; or there is no memory.
-pub fn why(
+/// Why what a line of the dump that was read of a text tells, calls or a read, is answered as it is: the reasons of a refusal, or
+/// all conditions. The lines of the text count from 1. The errors come in this order: the checkpoint can't be restored, the line
+/// tells no call and no read; or there is no memory.
+pub fn why_in(
     alloc: Global,
     text: &[u8],
+    dump: &Dump,
     line: u64,
     telling: &Telling<'_>,
 ) -> Result<Vec<u8>, ShowFault>
+    requires { IsDump text.now dump.now }
     ensures { IsWhy telling.now.names.now telling.now.is_whole text.now line result }
 {
-    let Dump {
-        limits,
-        checkpoint,
-        events,
-        reads,
-        tables: _,
-    } = dump_in(alloc, text)?;
-    let Some(state) = begin(alloc, &limits, &checkpoint)? else {
+    let Some(state) = begin(alloc, &dump.limits, &dump.checkpoint)? else {
         return Err(ShowFault::IllFormed);
     };
-    let events = events.as_slice();
-    let Some(content) = place_at(&checkpoint, events, reads.as_slice(), line) else {
+    let events = dump.events.as_slice();
+    let Some(content) = place_at(&dump.checkpoint, events, dump.reads.as_slice(), line) else {
         return Err(ShowFault::NoCall);
     };
     let mut meter = Meter::new(alloc)?;
@@ -407,4 +403,17 @@ pub fn why(
         Some(told) => Ok(told),
         None => Err(ShowFault::NoCall),
     }
+}
+
+/// The same of the dump that a text spells. Before the other errors comes that the text is no dump.
+pub fn why(
+    alloc: Global,
+    text: &[u8],
+    line: u64,
+    telling: &Telling<'_>,
+) -> Result<Vec<u8>, ShowFault>
+    ensures { IsWhy telling.now.names.now telling.now.is_whole text.now line result }
+{
+    let dump = dump_in(alloc, text)?;
+    why_in(alloc, text, &dump, line, telling)
 }

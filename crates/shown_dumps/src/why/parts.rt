@@ -2,8 +2,8 @@
 ghost use Rattle.std.specs.Prelude.{◌≡◌, ◌++◌, ◌∷◌, ◌≤◌, [], OnOk, decimal, codes};
 ghost use Rattle.std.specs.List.{flat_map};
 ghost use Rattle.explained.specs.Parts.{is_against};
-ghost use Rattle.shown_dumps.specs.Parts.{label_text, mapping_text, at_most_text, raised_text, maximum_text, floor_text, comparison_text, least_text, most_text, more_text, empty_text, apart_text, said_text};
-ghost use Rattle.shown_dumps.specs.Parts.{part_mark, finding_mark, shown_text, part_text, finding_text, reason_text, reasons_text, condition_text};
+ghost use Rattle.shown_dumps.specs.Parts.{either, label_text, mapping_text, two_text, comparison_text, more_text, said_text};
+ghost use Rattle.shown_dumps.specs.Parts.{shown_text, part_text, finding_text, reason_text, reasons_text, condition_text};
 
 use crate::states::{put_bare, put_named};
 use crate::why::facts::told_text;
@@ -16,6 +16,13 @@ use kernel_rules::{Mapping, Reply};
 use label_lattice::Label;
 use std::alloc::AllocError;
 use text_words::put_number;
+
+/// The first words where something stands against the call, and else the others.
+fn either(against: bool, bad: &'static str, good: &'static str) -> &'static str
+    ensures { result.now ≡ either against bad.now good.now }
+{
+    if against { bad } else { good }
+}
 
 /// Adds a label, where it is there.
 fn put_label(out: &mut Vec<u8>, label: &Option<Label>, names: &[Named]) -> Result<(), NoMemory>
@@ -43,7 +50,7 @@ fn put_two(
     names: &[Named],
 ) -> Result<(), NoMemory>
     ensures { OnOk result (out.new.items
-        ≡ out.old.items ++ (label_text names.now first.now ++ words.now ++ label_text names.now second.now)) }
+        ≡ out.old.items ++ (two_text names.now first.now words.now second.now)) }
 {
     put_label(out, first, names)?;
     out.extend_from_slice(words.as_bytes())?;
@@ -60,7 +67,7 @@ fn put_three(
     names: &[Named],
 ) -> Result<(), NoMemory>
     ensures { OnOk result (out.new.items ≡ out.old.items
-        ++ (label_text names.now first.now ++ words.now ++ label_text names.now second.now ++ codes " and " ++ label_text names.now third.now)) }
+        ++ (two_text names.now first.now words.now second.now ++ codes " and " ++ label_text names.now third.now)) }
 {
     put_two(out, first, words, second, names)?;
     out.extend_from_slice(b" and ")?;
@@ -76,7 +83,7 @@ fn put_two_raised(
     names: &[Named],
 ) -> Result<(), NoMemory>
     ensures { OnOk result (out.new.items ≡ out.old.items
-        ++ (label_text names.now first.now ++ words.now ++ label_text names.now second.now ++ codes " with star raised")) }
+        ++ (two_text names.now first.now words.now second.now ++ codes " with star raised")) }
 {
     put_two(out, first, words, second, names)?;
     out.extend_from_slice(b" with star raised")?;
@@ -93,56 +100,12 @@ fn put_three_raised(
     names: &[Named],
 ) -> Result<(), NoMemory>
     ensures { OnOk result (out.new.items ≡ out.old.items
-        ++ (label_text names.now first.now ++ words.now ++ label_text names.now second.now ++ codes " and " ++ label_text names.now third.now
+        ++ (two_text names.now first.now words.now second.now ++ codes " and " ++ label_text names.now third.now
         ++ codes " with star raised")) }
 {
     put_three(out, first, words, second, third, names)?;
     out.extend_from_slice(b" with star raised")?;
     Ok(())
-}
-
-/// How a label stands to another one, or does not.
-fn at_most_text(against: bool) -> &'static str
-    ensures { result.now ≡ at_most_text against }
-{
-    if against {
-        " is not at most "
-    } else {
-        " is at most "
-    }
-}
-
-/// The same of a label whose star is raised.
-fn raised_text(against: bool) -> &'static str
-    ensures { result.now ≡ raised_text against }
-{
-    if against {
-        " with star raised is not at most "
-    } else {
-        " with star raised is at most "
-    }
-}
-
-/// How a label stands to the maximum of two others.
-fn maximum_text(against: bool) -> &'static str
-    ensures { result.now ≡ maximum_text against }
-{
-    if against {
-        " is not at most the maximum of "
-    } else {
-        " is at most the maximum of "
-    }
-}
-
-/// How a label stands to the floor of two others.
-fn floor_text(against: bool) -> &'static str
-    ensures { result.now ≡ floor_text against }
-{
-    if against {
-        " is not at least the floor of "
-    } else {
-        " is at least the floor of "
-    }
 }
 
 /// Adds what is to be so of labels, or that it is not.
@@ -154,42 +117,33 @@ fn put_comparison(
 ) -> Result<(), NoMemory>
     ensures { OnOk result (out.new.items ≡ out.old.items ++ comparison_text names.now against labels.now) }
 {
+    let at_most = either(against, " is not at most ", " is at most ");
+    let maximum = either(
+        against,
+        " is not at most the maximum of ",
+        " is at most the maximum of ",
+    );
     match labels {
-        Comparison::Below(a, b) => put_two(out, a, at_most_text(against), b, names),
-        Comparison::Visible(a, b) => put_two_raised(out, a, at_most_text(against), b, names),
-        Comparison::Shown(a, b) => put_two_raised(out, a, raised_text(against), b, names),
-        Comparison::BelowJoin(a, b, c) => put_three(out, a, maximum_text(against), b, c, names),
-        Comparison::BelowJoinUp(a, b, c) => put_three_raised(
-            out,
-            a,
-            maximum_text(against),
-            b,
-            c,
-            names,
-        ),
-        Comparison::AboveFloor(a, b, c) => put_three(out, c, floor_text(against), a, b, names),
-    }
-}
-
-/// How a number stands to the least that it may be.
-fn least_text(against: bool) -> &'static str
-    ensures { result.now ≡ least_text against }
-{
-    if against {
-        " is less than "
-    } else {
-        " is at least "
-    }
-}
-
-/// How a number stands to the most that it may be.
-fn most_text(against: bool) -> &'static str
-    ensures { result.now ≡ most_text against }
-{
-    if against {
-        " is more than "
-    } else {
-        " is at most "
+        Comparison::Below(a, b) => put_two(out, a, at_most, b, names),
+        Comparison::Visible(a, b) => put_two_raised(out, a, at_most, b, names),
+        Comparison::Shown(a, b) => {
+            let raised = either(
+                against,
+                " with star raised is not at most ",
+                " with star raised is at most ",
+            );
+            put_two_raised(out, a, raised, b, names)
+        }
+        Comparison::BelowJoin(a, b, c) => put_three(out, a, maximum, b, c, names),
+        Comparison::BelowJoinUp(a, b, c) => put_three_raised(out, a, maximum, b, c, names),
+        Comparison::AboveFloor(a, b, c) => {
+            let floor = either(
+                against,
+                " is not at least the floor of ",
+                " is at least the floor of ",
+            );
+            put_three(out, c, floor, a, b, names)
+        }
     }
 }
 
@@ -216,11 +170,7 @@ fn put_numbers(out: &mut Vec<u8>, first: u64, words: &str, second: u64) -> Resul
 fn put_more(out: &mut Vec<u8>, against: bool, more: u32, most: u32) -> Result<(), NoMemory>
     ensures { OnOk result (out.new.items ≡ out.old.items ++ more_text against more most) }
 {
-    let words = if against {
-        " more are above "
-    } else {
-        " more are at most "
-    };
+    let words = either(against, " more are above ", " more are at most ");
     put_numbers(out, u64::from(more), words, u64::from(most))
 }
 
@@ -241,17 +191,6 @@ fn put_sum(
     Ok(())
 }
 
-/// Whether a slot is empty.
-fn empty_text(against: bool) -> &'static str
-    ensures { result.now ≡ empty_text against }
-{
-    if against {
-        " is not empty: it has "
-    } else {
-        " is empty: it has "
-    }
-}
-
 /// Adds whether a slot is empty, and what it maps.
 fn put_empty(
     out: &mut Vec<u8>,
@@ -261,23 +200,13 @@ fn put_empty(
     names: &[Named],
 ) -> Result<(), NoMemory>
     ensures { OnOk result (out.new.items ≡ out.old.items
-        ++ (codes "slot " ++ decimal slot ++ empty_text against ++ mapping_text names.now mapping)) }
+        ++ said_text names.now against (Part.Empty slot mapping)) }
 {
     out.extend_from_slice(b"slot ")?;
     put_number(out, u64::from(slot))?;
-    out.extend_from_slice(empty_text(against).as_bytes())?;
+    let words = either(against, " is not empty: it has ", " is empty: it has ");
+    out.extend_from_slice(words.as_bytes())?;
     put_mapping(out, mapping, names)
-}
-
-/// Whether a mapping meets a page of a slot.
-fn apart_text(against: bool) -> &'static str
-    ensures { result.now ≡ apart_text against }
-{
-    if against {
-        " meets a page of slot "
-    } else {
-        " meets no page of slot "
-    }
 }
 
 /// Adds whether a mapping meets a page of a slot, and what that maps.
@@ -293,7 +222,8 @@ fn put_apart(
         ++ said_text names.now against (Part.Apart slot given mapping)) }
 {
     put_mapping(out, Some(given), names)?;
-    out.extend_from_slice(apart_text(against).as_bytes())?;
+    let words = either(against, " meets a page of slot ", " meets no page of slot ");
+    out.extend_from_slice(words.as_bytes())?;
     put_number(out, u64::from(slot))?;
     out.extend_from_slice(b": it has ")?;
     put_mapping(out, mapping, names)
@@ -306,28 +236,20 @@ fn put_said(out: &mut Vec<u8>, against: bool, part: &Part, names: &[Named]) -> R
     match part {
         Part::Fact(fact, _) => Ok(out.extend_from_slice(told_text(against, *fact).as_bytes())?),
         Part::Compared(labels) => put_comparison(out, against, labels, names),
-        Part::AtLeast(number, least) => put_numbers(out, *number, least_text(against), *least),
-        Part::AtMost(number, most) => put_numbers(out, *number, most_text(against), *most),
+        Part::AtLeast(number, least) => {
+            let words = either(against, " is less than ", " is at least ");
+            put_numbers(out, *number, words, *least)
+        }
+        Part::AtMost(number, most) => {
+            let words = either(against, " is more than ", " is at most ");
+            put_numbers(out, *number, words, *most)
+        }
         Part::Sum(used, more, most) => put_sum(out, against, *used, *more, *most),
         Part::Empty(slot, mapping) => put_empty(out, against, *slot, *mapping, names),
         Part::Apart(slot, given, mapping) => put_apart(
             out, against, *slot, *given, *mapping, names,
         ),
     }
-}
-
-/// The mark of a part: whether it stands against the call.
-fn part_mark(against: bool) -> &'static str
-    ensures { result.now ≡ part_mark against }
-{
-    if against { "    bad " } else { "    ok  " }
-}
-
-/// The mark of a condition: whether it refuses the call.
-fn finding_mark(holds: bool) -> &'static str
-    ensures { result.now ≡ finding_mark holds }
-{
-    if holds { "yes " } else { "no  " }
 }
 
 /// Adds what is so of a part that stands against the call or doesn't, and where its comparison fails.
@@ -356,7 +278,7 @@ fn put_part(
     ensures { OnOk result (out.new.items ≡ out.old.items ++ part_text names.now part.now) }
 {
     let against = part.is_against(meter);
-    out.extend_from_slice(part_mark(against).as_bytes())?;
+    out.extend_from_slice(either(against, "    bad ", "    ok  ").as_bytes())?;
     put_shown(out, against, part, names, meter)
 }
 
@@ -385,7 +307,7 @@ fn put_finding(
     ensures { OnOk result (out.new.items ≡ out.old.items ++ finding_text names.now finding.now) }
 {
     let holds = finding.holds(meter);
-    out.extend_from_slice(finding_mark(holds).as_bytes())?;
+    out.extend_from_slice(either(holds, "yes ", "no  ").as_bytes())?;
     put_bare(out, &Reply::Refused(finding.refusal))?;
     out.push(b'\n')?;
     put_parts(out, finding.parts.as_slice(), names, meter)

@@ -1,12 +1,5 @@
-use Rattle.std.proofs.Common.{◌≡◌, ℕ, List, ◌++◌, ap, ◌∙◌}
-use Rattle.std.proofs.lemmas.List.{append_assoc}
+use Rattle.shown_dumps.proofs.TextLaws.{three_parts}
 use Rattle.shown_dumps.proofs.why.parts.put_sum.Goals as goal
-
--- three texts, one after another
-three_parts : (o o1 o2 o3 a b c : List ℕ) → o1 ≡ o ++ a → o2 ≡ o1 ++ b → o3 ≡ o2 ++ c → o3 ≡ o ++ ((a ++ b) ++ c)
-three_parts o o1 o2 o3 a b c first second third =
-    third ∙ ap (λ (l : List ℕ). l ++ c) (second ∙ ap (λ (l : List ℕ). l ++ b) first ∙ append_assoc o a b)
-    ∙ append_assoc o (a ++ b) c
 
 pub returns : goal.returns
 returns c =

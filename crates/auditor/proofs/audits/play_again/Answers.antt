@@ -7,10 +7,10 @@ use Rattle.auditor.specs.Replay.{IsReplay}
 use Rattle.auditor.specs.Told.{TellsAll, IsTold}
 use Rattle.auditor.specs.declared.replays.Replay.{Replay}
 use Rattle.auditor.proofs.StopLaws.{told_dump}
-use Rattle.auditor.proofs.audits.true_dump.Goals as goal
+use Rattle.auditor.proofs.audits.play_again.Goals as goal
 
-pub returns-clause-dump : goal.returns-clause-dump
-returns-clause-dump c =
+pub returns-clause-text : goal.returns-clause-text
+returns-clause-text c =
     let at = c.dump.inside in
     let tables = at.tables in
     let seen : DumpLists = record {
@@ -28,5 +28,10 @@ returns-clause-dump c =
     let tells = subst (λ (es : List Event). TellsAll start es at.reads.items c.take_all.new.self c.in_ok-told.told.items) c.as_slice.ensures.value
     (subst (λ (rs : List PlacedRead). TellsAll start c.as_slice.result.now rs c.take_all.new.self c.in_ok-told.told.items) c.as_slice-2.ensures.value
     (c.in_ok-told.ensures start begun empty)) in
-    subst (λ (d : DumpLists). IsTold d c.in_ok-whole.whole) c.dump.view_is
-    (told_dump seen c.in_ok-whole.whole c.in_ok-tables.tables c.in_ok-told.told.items c.take_all.new.self tells c.in_ok-tables.ensures c.in_ok-whole.ensures)
+    record {
+      told = c.in_ok-whole.whole;
+      is_told = subst (λ (d : DumpLists). IsTold d c.in_ok-whole.whole) c.dump.view_is
+          (told_dump seen c.in_ok-whole.whole c.in_ok-left.left c.in_ok-told.told.items c.take_all.new.self tells c.in_ok-left.ensures c.in_ok-whole.ensures);
+      text_is = c.in_ok-text.ensures.text;
+      fits = c.in_ok-text.ensures.fits;
+    }
