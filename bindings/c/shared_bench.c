@@ -190,6 +190,7 @@ int main(int count, char **words)
     row("pwrite, 4 threads", 4, file_write, file_write);
     row("one kernel, rwlock, write, 4 threads", 4, locked_write, locked_write);
     row("seat, write, 4 threads", 4, seat_write, seat_write);
+    seat_read(MANY - 1, zeros); /* so that the seat has seen the segment */
     for (int i = 0; i < MOST; i++) done(histar_reader_open(&readers[i], &seats[MANY - 1]));
     row("reader of a seat, read, 1 thread", 1, reader_read, reader_read);
     row("readers of one seat, read, 4 threads", 4, reader_read, reader_read);

@@ -1,5 +1,5 @@
 //! The program, over a reader, a sink and a writer.
-ghost use Rattle.std.specs.Prelude.{◌≡◌, ◌<◌, [], IfOk, IfSome, Some, None, false, is_some};
+ghost use Rattle.std.specs.Prelude.{◌≡◌, ◌<◌, ℕ, [], IfOk, IfSome, Some, None, false, is_some};
 ghost use Rattle.auditor.specs.Audited.{verdict_of, IsAudited};
 ghost use Rattle.histar_audit.specs.Told.{is_asked, told_text, verdict_status, IsFound, IsHiddenIn, IsMigration, IsReachedIn, IsTold};
 ghost use Rattle.histar_audit.specs.Told.{TellsVerdict};
@@ -195,6 +195,20 @@ fn unreadable(alloc: Global, line: u64) -> Result<Found, NoMemory>
     })
 }
 
+/// What is found of bytes that are read as no dump. The error is want of memory, also that of the reading.
+fn unread(alloc: Global, fault: DumpError) -> Result<Found, NoMemory>
+    ensures { IfOk result (λ found. (line : ℕ) × (fault ≡ DumpError.Line line) × (found.verdict ≡ Verdict.Unreadable line)
+        × (found.file.items ≡ []) × (found.text.items ≡ told_text (Verdict.Unreadable line) false [] false [])) }
+{
+    match fault {
+        DumpError::Line(line) => {
+            let none = unreadable(alloc, line)?;
+            Ok(none)
+        }
+        DumpError::Memory => Err(NoMemory),
+    }
+}
+
 /// What is found of bytes.
 fn find(
     alloc: Global,
@@ -206,11 +220,10 @@ fn find(
 {
     match read_audited(alloc, bytes) {
         Ok(audited) => found_in(alloc, &audited, options, hidden),
-        Err(DumpError::Line(line)) => {
-            let none = unreadable(alloc, line)?;
+        Err(fault) => {
+            let none = unread(alloc, fault)?;
             Ok(none)
         }
-        Err(DumpError::Memory) => Err(NoMemory),
     }
 }
 

@@ -206,7 +206,8 @@ fn put_empty(
     put_number(out, u64::from(slot))?;
     let words = either(against, " is not empty: it has ", " is empty: it has ");
     out.extend_from_slice(words.as_bytes())?;
-    put_mapping(out, mapping, names)
+    put_mapping(out, mapping, names)?;
+    Ok(())
 }
 
 /// Adds whether a mapping meets a page of a slot, and what that maps.

@@ -10,9 +10,10 @@ returns-in-Ok c =
     subst (λ (b : List ℕ). IfOk c.found_in.result (λ found.
     IsFound c.args.options.now c.args.hidden found.verdict found.file.items found.text.items b)) c.in-Ok.ensures.bytes c.found_in.ensures
 
-pub returns : goal.returns
-returns c =
-    none_found c.args.options.now c.args.hidden c.in_ok-none.none.verdict c.in_ok-none.none.file.items c.in_ok-none.none.text.items
-    c.args.bytes.now c.in-Err-Line.line
-    (subst (λ (f : DumpError). ReadsDump c.args.bytes.now (Err f)) c.in-Err-Line.field-0-is c.in-Err-Line.ensures.fault)
-    c.in_ok-none.ensures.verdict c.in_ok-none.ensures.file c.in_ok-none.ensures.text
+pub returns-in_ok-none-in-Err : goal.returns-in_ok-none-in-Err
+returns-in_ok-none-in-Err c =
+    let none = c.in_ok-none-in-Err.none in
+    let unread = c.in_ok-none-in-Err.ensures in
+    none_found c.args.options.now c.args.hidden none.verdict none.file.items none.text.items c.args.bytes.now unread.0
+    (subst (λ (fault : DumpError). ReadsDump c.args.bytes.now (Err fault)) unread.1 c.in-Err.ensures.fault)
+    unread.2 unread.3 unread.4
