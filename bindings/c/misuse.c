@@ -541,8 +541,9 @@ static uint32_t opened_after_a_seat(void)
 
 static uint32_t dump_since_of_another(void)
 {
-    histar_note none = {0, 0, 0};
-    return histar_dump_since(&seat, none, takes, empties(0, 0));
+    histar_note note = a_note();
+    note.since++;
+    return histar_dump_since(&seat, note, takes, empties(0, 0));
 }
 static uint32_t dump_since_what_was_seen(void)
 {
