@@ -42,7 +42,7 @@ def built():
 
 def bytes_of_entries(member):
     """Of each entry of one write the bytes of its key and its value. (One of two is longer.)"""
-    said = subprocess.run(["etcdctl", "--endpoints", member, "get", "/", "--prefix", "--limit", "20000", "-w", "json"], stdout=subprocess.PIPE, check=True).stdout
+    said = subprocess.run(["etcdctl", "--endpoints", member, "get", "/costs-", "--prefix", "--limit", "20000", "-w", "json"], stdout=subprocess.PIPE, check=True).stdout
     pairs = [(base64.b64decode(it["key"]), base64.b64decode(it.get("value", ""))) for it in json.loads(said).get("kvs", [])]
     return [len(key) + len(value) for key, value in pairs if b"/log/e/" in key and 64 < len(value) < 128]
 
