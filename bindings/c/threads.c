@@ -187,8 +187,10 @@ static void storm(long so_many, const char *folder)
     pthread_t threads[THREADS];
     rounds = so_many;
     opens(LOGS || folder != NULL);
+    pthread_barrier_init(&start, NULL, THREADS);
     for (size_t i = 0; i < THREADS; i++) must(!pthread_create(&threads[i], NULL, work, (void *)i), "no thread");
     for (size_t i = 0; i < THREADS; i++) pthread_join(threads[i], NULL);
+    pthread_barrier_destroy(&start);
     counts_ids();
     closes(folder);
 }
@@ -211,7 +213,6 @@ static void reads_one_seat(void)
 {
     pthread_t threads[READERS];
     opens(LOGS);
-    pthread_barrier_destroy(&start);
     pthread_barrier_init(&start, NULL, READERS + 1);
     writes(&seats[0], segments[0], 7);
     for (size_t i = 0; i < READERS; i++) done(histar_reader_open(&readers[i], &seats[0]));
@@ -219,6 +220,7 @@ static void reads_one_seat(void)
     pthread_barrier_wait(&start);
     for (uint64_t number = 8; number < READS; number++) writes(&seats[1], segments[0], number);
     for (size_t i = 0; i < READERS; i++) pthread_join(threads[i], NULL);
+    pthread_barrier_destroy(&start);
     for (size_t i = 0; i < READERS; i++) done(histar_close(&readers[i]));
     must(reads(&seats[0], segments[0]) == READS - 1, "a seat lacks what was written while it was read");
     closes(NULL);
@@ -277,7 +279,6 @@ int main(int count, char **words)
 {
     time_t until = time(NULL) + (count > 1 ? atoi(words[1]) : 2);
     long most = count > 2 ? atol(words[2]) : 3000, storms = 0;
-    pthread_barrier_init(&start, NULL, THREADS);
     do storm(MOST, NULL), storms++;
     while (time(NULL) < until);
     printf("%d threads: %ld histories of %d calls that write, each one list\n", THREADS, storms, (3 * MOST + 3 * MOST / BATCH_EACH + 3) * THREADS);
