@@ -310,6 +310,16 @@ impl Raw {
 
     /// Another seat beside one, or why there is none.
     pub fn seat_beside(&self) -> Result<Raw, Refusal> {
+        self.of_seat(histar_seat_beside, Holds::Seat)
+    }
+
+    /// A reader of a seat's kernel, or why there is none.
+    pub fn reader(&self) -> Result<Raw, Refusal> {
+        self.of_seat(histar_reader_of, Holds::Reader)
+    }
+
+    /// What the library makes of a seat in another room.
+    fn of_seat(&self, make: unsafe extern "C" fn(*mut Room, *mut Room), holds: Holds) -> Result<Raw, Refusal> {
         if self.holds != Holds::Seat {
             return Err(Refusal::BadBatch);
         }
@@ -318,24 +328,8 @@ impl Raw {
         // SAFETY: this room holds a seat, and keeps it. A `Raw` is not `Sync` and its records are taken, so nobody else is at this
         // room. The other room is as for a kernel.
         unsafe {
-            let from: *mut Room = &mut **self.room.get();
-            histar_seat_beside(from, &mut *room);
-            Raw::of(room, Holds::Seat)
-        }
-    }
-
-    /// A reader of a seat's kernel, or why there is none.
-    pub fn reader(&self) -> Result<Raw, Refusal> {
-        if self.holds != Holds::Seat {
-            return Err(Refusal::BadBatch);
-        }
-        let _taken = self.take(|_| ())?;
-        let mut room = Room::new();
-        // SAFETY: as for a seat beside one.
-        unsafe {
-            let from: *mut Room = &mut **self.room.get();
-            histar_reader_of(from, &mut *room);
-            Raw::of(room, Holds::Reader)
+            make(&mut **self.room.get(), &mut *room);
+            Raw::of(room, holds)
         }
     }
 
