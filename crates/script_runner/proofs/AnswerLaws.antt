@@ -1,15 +1,19 @@
 -- What is kept of replies.
-use Rattle.std.proofs.Common.{◌≡◌, ℕ, ◌<◌, List, [], ◌∷◌, ◌++◌, map, get_or, length, Result, Ok, refl, ap, sym, ◌∙◌, subst, arith}
-use Rattle.std.specs.List.{AllByRecursion}
+use Rattle.std.proofs.Common.{◌≡◌, ℕ, ◌+◌, ◌<◌, List, [], ◌∷◌, ◌++◌, map, take, get_or, length, slice_get, Some, Result, Ok, refl, ap, sym, ◌∙◌, subst, append_assoc, arith}
+use Rattle.std.specs.List.{AllByRecursion, AllZip}
 use Rattle.std.proofs.lemmas.List.{get_or_append_left, get_or_at, length-append, map-append}
+use Rattle.std.proofs.lemmas.Slice.Zip.{all_zipped_more}
 use Rattle.kernel_rules.specs.declared.replies.Reply.{Reply}
 use Rattle.kernel_rules.specs.declared.replies.Reply.TheVariants as replies
-use Rattle.script_rules.specs.Lines.{told, seen}
-use Rattle.script_runner.specs.Answers.{answer_of, reply_of, told_in, seen_in, AllStay, IsThere, Keeps}
+use Rattle.script_rules.specs.Lines.{Seen, told, seen}
+use Rattle.script_runner.specs.Answers.{answer_of, reply_of, told_in, seen_in, AllStay, IsReply, IsThere, Keeps}
+use Rattle.script_runner.specs.Reads.{AddsReads, IsReadOf}
+use Rattle.script_runner.specs.declared.reads.SeenRead.{SeenRead}
 use Rattle.script_runner.specs.declared.answers.KeptAnswer.{KeptAnswer}
 use Rattle.script_runner.specs.declared.answers.KeptAnswer.TheVariants as kept
 use Rattle.script_runner.specs.declared.answers.AskedQuery.{AskedQuery}
 use Rattle.script_runner.specs.declared.answers.ToldLine.{ToldLine}
+use Rattle.script_runner.proofs.NumberLaws.{take_next}
 
 last_is_there : {A : Type 0} (xs : List A) (x : A) (place : ℕ) → place < length xs → place < length (xs ++ x ∷ [])
 last_is_there xs x place there = omega (arith, there, length-append xs (x ∷ []))
@@ -100,6 +104,23 @@ module _ (bytes more : List (List ℕ)) (whole all : List Reply) (stay : AllStay
   asked_stay [] there = refl
   asked_stay (q ∷ qs) there = λ i. seen q.length q.query ((stay q.answer there.0).1 i) ∷ asked_stay qs there.1 i
 
+  -- with one line more, and one query more
+  pub lines_there_more : (lines after : List ToldLine) (line : ToldLine)
+      → AllByRecursion (λ (l : ToldLine). IsThere (length bytes) (length whole) l.answer) lines → after ≡ lines ++ line ∷ []
+      → IsThere (length more) (length all) line.answer
+      → AllByRecursion (λ (l : ToldLine). IsThere (length more) (length all) l.answer) after
+  lines_there_more lines after line there is here =
+      subst (AllByRecursion (λ (l : ToldLine). IsThere (length more) (length all) l.answer)) (sym is)
+      (all_last (λ (l : ToldLine). IsThere (length more) (length all) l.answer) lines line (lines_there lines there) here)
+
+  pub asked_there_more : (asked after : List AskedQuery) (q : AskedQuery)
+      → AllByRecursion (λ (a : AskedQuery). IsThere (length bytes) (length whole) a.answer) asked → after ≡ asked ++ q ∷ []
+      → IsThere (length more) (length all) q.answer
+      → AllByRecursion (λ (a : AskedQuery). IsThere (length more) (length all) a.answer) after
+  asked_there_more asked after q there is here =
+      subst (AllByRecursion (λ (a : AskedQuery). IsThere (length more) (length all) a.answer)) (sym is)
+      (all_last (λ (a : AskedQuery). IsThere (length more) (length all) a.answer) asked q (asked_there asked there) here)
+
   -- one line more was told this
   pub told_more : (lines after : List ToldLine) (line : ToldLine) (r : Result Reply (List ℕ))
       → AllByRecursion (λ (l : ToldLine). IsThere (length bytes) (length whole) l.answer) lines → after ≡ lines ++ line ∷ []
@@ -117,3 +138,36 @@ module _ (bytes more : List (List ℕ)) (whole all : List Reply) (stay : AllStay
   asked_more asked after q r there is same =
       ap (map (seen_in more all)) is ∙ map-append (seen_in more all) asked (q ∷ [])
       ∙ (λ i. asked_stay asked there i ++ seen q.length q.query (same i) ∷ [])
+
+-- one query more is added
+pub reads_more : (thread : ℕ) (bytes : List (List ℕ)) (whole : List Reply) (asked : List AskedQuery) (k : ℕ) (q : AskedQuery) (read : SeenRead)
+    (old now new : List SeenRead) → slice_get asked k ≡ Some q → AddsReads thread (map (seen_in bytes whole) (take k asked)) old now
+    → IsReadOf thread (seen_in bytes whole q) read → new ≡ now ++ read ∷ []
+    → AddsReads thread (map (seen_in bytes whole) (take (k + 1) asked)) old new
+reads_more thread bytes whole asked k q read old now new there (added, are, is) here pushed = (
+  added ++ read ∷ [],
+  subst (λ (ss : List Seen). AllZip (IsReadOf thread) ss (added ++ read ∷ []))
+      (sym (ap (map (seen_in bytes whole)) (take_next asked k q there) ∙ map-append (seen_in bytes whole) (take k asked) (q ∷ [])))
+      (all_zipped_more (IsReadOf thread) (map (seen_in bytes whole) (take k asked)) added (seen_in bytes whole q) read are here),
+  pushed ∙ ap (λ (rs : List SeenRead). rs ++ read ∷ []) is ∙ append_assoc old added (read ∷ []),
+)
+
+-- an answer that gives a reply is one
+is_reply : (bytes : List (List ℕ)) (whole : List Reply) (answer : KeptAnswer) (r : Reply) → answer_of bytes whole answer ≡ Ok r → IsReply answer
+is_reply bytes whole kept.Done r is = tt
+is_reply bytes whole (kept.Made value) r is = tt
+is_reply bytes whole (kept.Entered point closure) r is = tt
+is_reply bytes whole (kept.Quota quota used fixed immutable) r is = tt
+is_reply bytes whole (kept.Pages pages) r is = tt
+is_reply bytes whole (kept.Bytes place) r is = tt
+is_reply bytes whole (kept.Replied place) r is = tt
+is_reply bytes whole (kept.Refused refusal) r is = tt
+is_reply bytes whole (kept.Unbound name) r is = absurd (cc is)
+
+-- so one query more was answered by one
+pub replies_more : (bytes : List (List ℕ)) (whole : List Reply) (asked after : List AskedQuery) (q : AskedQuery) (r : Reply)
+    → AllByRecursion (λ (a : AskedQuery). IsReply a.answer) asked → after ≡ asked ++ q ∷ [] → answer_of bytes whole q.answer ≡ Ok r
+    → AllByRecursion (λ (a : AskedQuery). IsReply a.answer) after
+replies_more bytes whole asked after q r all is answered =
+    subst (AllByRecursion (λ (a : AskedQuery). IsReply a.answer)) (sym is)
+    (all_last (λ (a : AskedQuery). IsReply a.answer) asked q all (is_reply bytes whole q.answer r answered))

@@ -38,6 +38,11 @@ IsThere bytes whole (kept.Bytes place) = place < bytes
 IsThere bytes whole (kept.Replied place) = place < whole
 IsThere bytes whole answer = Unit {0}
 
+-- it is a reply
+abbrev pub IsReply : KeptAnswer → Type 0
+IsReply (kept.Unbound name) = ⊥
+IsReply answer = Unit {0}
+
 abbrev pub told_in : List (List ℕ) → List Reply → ToldLine → AnsweredLine
 told_in bytes whole line = told line.number (answer_of bytes whole line.answer)
 
@@ -48,10 +53,11 @@ abbrev pub kept_in : List (List ℕ) → List Reply → List ToldLine → List A
 kept_in bytes whole lines asked =
     record { told = map (told_in bytes whole) lines; reads = map (seen_in bytes whole) asked }
 
--- what is kept apart is there, for each line and each query
+-- what is kept apart is there, for each line and each query, and each query was answered by a reply
 pub record AreThere (bytes whole : ℕ) (lines : List ToldLine) (asked : List AskedQuery) : Type 0 where
   pub told : AllByRecursion (λ l. IsThere bytes whole l.answer) lines
   pub read : AllByRecursion (λ q. IsThere bytes whole q.answer) asked
+  pub replies : AllByRecursion (λ q. IsReply q.answer) asked
 
 -- an answer that is kept stays what it is, with these in place of those
 abbrev pub Stays : List (List ℕ) → List Reply → List (List ℕ) → List Reply → KeptAnswer → Type 0

@@ -1,6 +1,7 @@
 -- The reads of a run, as its dump tells them.
 use Rattle.std.specs.Prelude.{◌≡◌, ℕ, ◌-◌, ◌≤◌, ◌==◌, ◌||◌, ◌&&◌, not, nat_le, length, take}
 use Rattle.std.specs.Prelude.{Bool, if◌then◌else◌, List, [], ◌∷◌, ◌++◌, Option, Some, None}
+use Rattle.std.specs.List.{AllZip}
 use Rattle.std.specs.Str.{bytes_eq}
 use Rattle.base.specs.declared.ranges.Limits.{Limits}
 use Rattle.kernel_rules.specs.Events.{Event}
@@ -12,8 +13,20 @@ use Rattle.call_text.specs.Reply.{reply_text}
 use Rattle.dump_text.specs.Whole.{raw_reply}
 use Rattle.dump_text.specs.declared.read_replies.ReadReply.{ReadReply}
 use Rattle.dump_text.specs.declared.tables.PlacedRead.{PlacedRead}
+use Rattle.script_rules.specs.Lines.{Seen}
 use Rattle.script_runner.specs.declared.reads.SeenRead.{SeenRead}
 use Rattle.script_runner.specs.declared.replays.Replay.{Replay}
+
+-- the read is this query of the thread, with its reply as it is printed where no name is known
+pub record IsReadOf (thread : ℕ) (asked : Seen) (read : SeenRead) : Type 0 where
+  pub own : read.thread ≡ thread
+  pub length : read.length ≡ asked.length
+  pub query : read.query ≡ asked.query
+  pub text : read.text.items ≡ reply_text [] asked.reply
+
+-- queries that were answered are added, as reads of the thread
+abbrev pub AddsReads : ℕ → List Seen → List SeenRead → List SeenRead → Type 0
+AddsReads thread asked old new = (added : List SeenRead) × AllZip (IsReadOf thread) asked added × (new ≡ old ++ added)
 
 -- a reply as it stands in a dump, where it is printed so without names
 abbrev pub if_printed : List ℕ → Reply → Option ReadReply

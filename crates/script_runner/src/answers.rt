@@ -2,7 +2,8 @@
 //!
 //! A line is printed at the end of the run, with the names as they are bound then. A reply is large, and most of them say
 //! little: what such a reply says is kept in place of it.
-ghost use Rattle.std.specs.Prelude.{◌≡◌, ◌++◌, ◌∷◌, [], ℕ, true, Ok, Err, List, IfOk, IfSome, OnErr, OnOk, is_some, length, slice_get};
+ghost use Rattle.std.specs.Prelude.{◌≡◌, ◌++◌, ◌∷◌, [], ℕ, true, Ok, Err, List, IfOk, IfSome, OnErr, OnOk, is_some, length, map, slice_get};
+ghost use Rattle.std.specs.List.{AllByRecursion};
 ghost use Rattle.std.specs.Option.{option_map};
 ghost use Rattle.kernel_rules.specs.declared.replies.Reply.{Reply as ReplyValue};
 ghost use Rattle.kernel_rules.specs.declared.replies.Reply.TheVariants as replies;
@@ -10,7 +11,8 @@ ghost use Rattle.call_text.specs.Reply.{reply_text};
 ghost use Rattle.call_text.specs.declared.known_names.Named.{Named};
 ghost use Rattle.script_rules.specs.Lines.{seen, told};
 ghost use Rattle.script_rules.specs.Output.{answer_text};
-ghost use Rattle.script_runner.specs.Answers.{answer_of, AllStay, Keeps};
+ghost use Rattle.script_runner.specs.Answers.{answer_of, seen_in, AllStay, IsReply, Keeps};
+ghost use Rattle.script_runner.specs.Reads.{AddsReads, IsReadOf};
 
 use crate::faults::PlayFault;
 use crate::names::BoundNames;
@@ -335,6 +337,63 @@ fn put_answer(
     }
 }
 
+/// An answer as it is printed where no name is known. The error is want of memory, or that what is kept apart of it is not there.
+fn text_of(
+    alloc: Global,
+    answer: &KeptAnswer,
+    kept: &[Data],
+    whole: &[Reply],
+) -> Result<Vec<u8>, NoMemory>
+    ensures { IfOk result (λ text. text.items ≡ answer_text [] (answer_of kept.now whole.now answer.now)) }
+{
+    let names = BoundNames::none(alloc);
+    let mut text = Vec::new(alloc);
+    match put_answer(&mut text, answer, kept, whole, &names) {
+        Ok(()) => Ok(text),
+        Err(_) => Err(NoMemory),
+    }
+}
+
+/// A query that was answered by a reply, as a read of a thread.
+fn read_of(
+    alloc: Global,
+    thread: ObjectId,
+    asked: &AskedQuery,
+    kept: &[Data],
+    whole: &[Reply],
+) -> Result<SeenRead, NoMemory>
+    requires { IsReply asked.now.answer }
+    ensures { IfOk result (IsReadOf thread (seen_in kept.now whole.now asked.now)) }
+{
+    // For the proof alone: this names a type that a query holds.
+    let _mapping: Option<Mapping> = None;
+    let text = text_of(alloc, &asked.answer, kept, whole)?;
+    Ok(SeenRead {
+        thread,
+        length: asked.length,
+        query: asked.query,
+        text,
+    })
+}
+
+/// Adds queries that were answered by replies, as reads of a thread.
+fn add_asked(
+    alloc: Global,
+    thread: ObjectId,
+    asked: &[AskedQuery],
+    kept: &[Data],
+    whole: &[Reply],
+    all: &mut Vec<SeenRead>,
+) -> Result<(), NoMemory>
+    requires { AllByRecursion (λ q. IsReply q.answer) asked.now }
+    ensures { OnOk result (AddsReads thread (map (seen_in kept.now whole.now) asked.now) all.old.items all.new.items) }
+{
+    for query in asked {
+        all.push(read_of(alloc, thread, query, kept, whole)?)?;
+    }
+    Ok(())
+}
+
 impl Answers {
     /// No answers. It takes no memory before there is one.
     pub fn none(alloc: Global) -> Answers
@@ -403,10 +462,11 @@ impl Answers {
         }
     }
 
-    /// Adds what the line at a place was told.
+    /// Adds what the line at a place was told. Where there is none, that is an error.
     pub fn put(&self, out: &mut Vec<u8>, place: usize, names: &BoundNames) -> Result<(), PlayFault>
         ensures text { OnOk result (IfSome (slice_get self.now.told place)
             (λ t. out.new.items ≡ out.old.items ++ answer_text names.now t.answer)) }
+        ensures some { OnOk result (is_some (slice_get self.now.told place) ≡ true) }
     {
         let Some(line) = self.lines.get(place) else {
             return Err(PlayFault::Stopped);
@@ -426,23 +486,11 @@ impl Answers {
         alloc: Global,
         thread: ObjectId,
         all: &mut Vec<SeenRead>,
-    ) -> Result<(), NoMemory> {
-        let names = BoundNames::none(alloc);
-        let bytes = self.bytes.as_slice();
-        let replies = self.replies.as_slice();
-        for asked in &self.asked {
-            let mut text = Vec::new(alloc);
-            if put_answer(&mut text, &asked.answer, bytes, replies, &names).is_err() {
-                return Err(NoMemory);
-            }
-            all.push(SeenRead {
-                thread,
-                length: asked.length,
-                query: asked.query,
-                text,
-            })?;
-        }
-        Ok(())
+    ) -> Result<(), NoMemory>
+        ensures { OnOk result (AddsReads thread self.now.reads all.old.items all.new.items) }
+    {
+        let (bytes, replies) = (self.bytes.as_slice(), self.replies.as_slice());
+        add_asked(alloc, thread, self.asked.as_slice(), bytes, replies, all)
     }
 }
 

@@ -104,7 +104,8 @@ struct Texts {
     files: RunFiles,
 }
 
-/// The script that the exact form of bytes spells, with the path that they stand at.
+/// The script that the exact form of bytes spells, with the path that they stand at. The error is the first fault of the script, or
+/// want of memory.
 fn script_of(alloc: Global, path: &str, bytes: &[u8]) -> Result<Exact, RunFault>
     ensures script { IfOk result (λ exact. IsScript (plain_text bytes.now) exact.script) }
     ensures numbers { IfOk result (λ exact. exact.plain.numbers.items ≡ kept_numbers bytes.now) }

@@ -1,7 +1,10 @@
-use Rattle.std.proofs.Common.{rules, ◌≡◌, List, ℕ, ◌∙◌, ap}
+use Rattle.std.proofs.Common.{rules, ◌≡◌, List, ℕ, ◌∙◌, ap, subst}
 use Rattle.call_text.specs.Numbers.{renumbered}
-use Rattle.call_text.specs.Scripts.{kept_numbers}
-use Rattle.script_runner.proofs.RunLaws.{run_of}
+use Rattle.call_text.specs.Script.{IsScript}
+use Rattle.call_text.specs.Scripts.{kept_numbers, plain_text}
+use Rattle.script_runner.specs.Faults.{IsFaultOf, IsRefusedFor}
+use Rattle.script_runner.specs.declared.program.RunFault.TheVariants.{Other}
+use Rattle.script_runner.proofs.RunLaws.{ends_with, run_of, unplayed, unread, unwritten}
 use Rattle.script_runner.proofs.program.histar_on.Goals as goal
 
 pub returns-clause-run : goal.returns-clause-run
@@ -15,3 +18,26 @@ returns-clause-run g c =
     c.in_ok-output.field-0.files.dump.items c.in_ok-output.field-0.files.names.items
     c.in_ok-bytes.ensures.bytes c.as_slice.ensures.value c.in_ok-script.ensures.script c.in_ok-output.ensures.run told
     c.in_ok-deliver.ensures.whole
+
+pub returns-in_err-bytes-clause-fault : goal.returns-in_err-bytes-clause-fault
+returns-in_err-bytes-clause-fault g c =
+    ends_with c.from_residual.result (IsRefusedFor c.args.path.now (g.I.Read.remaining c.args.script.now)) (Other c.in_err-bytes.field-0.0)
+    c.from_residual.ensures.1
+    (unread c.args.path.now (g.I.Read.remaining c.args.script.now) c.in_err-bytes.field-0.0 c.in_err-bytes.ensures.fault)
+
+pub returns-in_err-script-clause-fault : goal.returns-in_err-script-clause-fault
+returns-in_err-script-clause-fault g c =
+    ends_with c.from_residual-in_err-script.result (IsRefusedFor c.args.path.now (g.I.Read.remaining c.args.script.now))
+    c.in_err-script.field-0.0 c.from_residual-in_err-script.ensures.1
+    (unplayed c.args.path.now (g.I.Read.remaining c.args.script.now) c.in_ok-bytes.bytes.items c.in_err-script.field-0.0
+    c.in_ok-bytes.ensures.bytes
+    (subst (λ (bs : List ℕ). IsFaultOf c.args.path.now bs c.in_err-script.field-0.0) c.as_slice.ensures.value c.in_err-script.ensures.fault))
+
+pub returns-in_err-deliver-clause-fault : goal.returns-in_err-deliver-clause-fault
+returns-in_err-deliver-clause-fault g c =
+    ends_with c.from_residual-in_err-deliver.result (IsRefusedFor c.args.path.now (g.I.Read.remaining c.args.script.now))
+    (Other c.in_err-deliver.field-0.0) c.from_residual-in_err-deliver.ensures.1
+    (unwritten c.args.path.now (g.I.Read.remaining c.args.script.now) c.in_ok-bytes.bytes.items c.in_ok-script.field-0.script
+    c.in_err-deliver.field-0.0 c.in_ok-bytes.ensures.bytes
+    (subst (λ (bs : List ℕ). IsScript (plain_text bs) c.in_ok-script.field-0.script) c.as_slice.ensures.value c.in_ok-script.ensures.script)
+    c.in_err-deliver.ensures.fault)
