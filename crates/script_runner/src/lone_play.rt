@@ -8,7 +8,7 @@ ghost use Rattle.call_text.specs.Known.{start_values};
 ghost use Rattle.script_rules.specs.Output.{text_of};
 ghost use Rattle.script_rules.specs.Run.{phase_after, refusal_by, run_from, seat_for, seated, start, unless_refused, Run};
 ghost use Rattle.script_runner.specs.Dumps.{IsPlayed};
-ghost use Rattle.script_runner.specs.Turns.{seated_after, thread_after, IsRun, IsUnplayed};
+ghost use Rattle.script_runner.specs.Turns.{seated_after, thread_after, AreOwn, IsRun, IsUnplayed};
 
 use crate::answers::{Answers, Left};
 use crate::batches::Batch;
@@ -131,6 +131,22 @@ fn play_phases<B: Naming>(
     Ok(played)
 }
 
+/// What is told of what workers leave, and the tables of the state in which they leave the kernel.
+fn told_with<B: Naming>(
+    alloc: Global,
+    player: &Player<B>,
+    workers: &IndexSet<Name>,
+    left: Vec<Left>,
+) -> Result<(Printed, Tables), PlayFault>
+    ensures text { IfOk result (λ told. (r : Run) → AreOwn workers.now.keys left.items r → player.now.names ≡ r.names
+        → told.0.output.items ≡ text_of r workers.now.keys) }
+    ensures tables { IfOk result (λ told. told.1 ≡ scratch (state_of B.boot.limits player.now.desk.journal)) }
+{
+    let told = told_of(alloc, workers, left, &player.names)?;
+    let tables = player.desk.tables(alloc)?;
+    Ok((told, tables))
+}
+
 /// What a script prints, what was read, and the tables of the state in which it leaves the kernel.
 fn told_in<B: Naming>(
     alloc: Global,
@@ -150,9 +166,7 @@ fn told_in<B: Naming>(
     ensures tables { IfOk result (λ told. told.1 ≡ scratch (state_of B.boot.limits player.new.desk.journal)) }
 {
     let left = play_phases(alloc, player, script, workers)?;
-    let told = told_of(alloc, workers, left, &player.names)?;
-    let tables = player.desk.tables(alloc)?;
-    Ok((told, tables))
+    Ok(told_with(alloc, player, workers, left)?)
 }
 
 /// Plays a script on a newly booted kernel for so many seats, and makes the output. No phase has lines of two

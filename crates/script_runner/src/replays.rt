@@ -3,7 +3,7 @@
 //!
 //! The journal begins with all that a seat had seen, but no contract of a seat says so, since threads share the journal.
 //! So each read is asked again, and left out where it would be answered otherwise: no read of a run is.
-ghost use Rattle.std.specs.Prelude.{◌≡◌, ◌≤◌, ◌∷◌, length, List, map, take, true, IfOk, OnOk};
+ghost use Rattle.std.specs.Prelude.{◌≡◌, ◌≤◌, [], ◌∷◌, length, List, map, take, true, IfOk, OnOk};
 ghost use Rattle.base.specs.Limits.{in_range};
 ghost use Rattle.base.specs.declared.ranges.Limits.{Limits as Booted};
 ghost use Rattle.kernel_rules.specs.Events.{by, calls_in};
@@ -190,6 +190,24 @@ impl Replay {
         }
         Ok(())
     }
+
+    /// Tells reads, one after another. The error is want of memory.
+    fn take_all(
+        &mut self,
+        alloc: Global,
+        events: &[KeptEvent],
+        first: usize,
+        reads: &[SeenRead],
+    ) -> Result<(), NoMemory>
+        ensures { OnOk result ((limits : Booted) → Stands limits events.now self.old
+            → Stands limits events.now self.new × (told_with limits first events.now self.new []
+            ≡ told_with limits first events.now self.old reads.now)) }
+    {
+        for read in reads {
+            self.take(alloc, events, first, read)?;
+        }
+        Ok(())
+    }
 }
 
 /// What a dump tells of the reads of a run, where its checkpoint tells the first events: those reads that had seen these
@@ -209,9 +227,7 @@ pub fn told_reads(
         return Ok(Vec::new(alloc));
     }
     let mut replay = Replay::begin(alloc, limits, events, first)?;
-    for read in reads {
-        replay.take(alloc, events, first, read)?;
-    }
+    replay.take_all(alloc, events, first, reads)?;
     let Replay {
         kernel: _,
         meter: _,

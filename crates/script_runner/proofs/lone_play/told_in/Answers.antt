@@ -3,7 +3,7 @@ use Rattle.script_runner.proofs.lone_play.told_in.Goals as goal
 
 pub returns-clause-text : goal.returns-clause-text
 returns-clause-text g c =
-    c.in_ok-told.ensures.text (run_from g.B.Naming.boot.limits g.B.Naming.boot.seats start c.args.script.now) c.in_ok-left.ensures.own
+    c.in_ok-told_with.ensures.text (run_from g.B.Naming.boot.limits g.B.Naming.boot.seats start c.args.script.now) c.in_ok-left.ensures.own
     c.in_ok-left.ensures.names
 
 pub returns-clause-events : goal.returns-clause-events
