@@ -1,12 +1,12 @@
 //! Playing a script whose workers share phases: each in a thread of its own, through a seat of one kernel in two copies.
-ghost use Rattle.std.specs.Prelude.{◌≡◌, ◌<◌, [], true, map, vec_len, IfOk, IfSome, IsTrue, OnOk};
+ghost use Rattle.std.specs.Prelude.{◌≡◌, ◌<◌, [], ◌∷◌, ◌++◌, List, true, map, vec_len, IfOk, IfSome, IsTrue, OnOk};
 ghost use Rattle.std.specs.List.{AllByRecursion, AllZip};
 ghost use Rattle.std.specs.Thread.{IsSend, IsSync};
 ghost use mathlib.Core.List.{IsPrefix};
 ghost use Rattle.call_text.specs.Known.{start_values};
 ghost use Rattle.script_runner.specs.Dumps.{IsClosing};
 ghost use Rattle.script_runner.specs.Shared as rules;
-ghost use Rattle.script_runner.specs.Shared.{all_known, posts_text, unplayed, ArePhases, AreLeft, AreSeen, HasSeen, IsPhase, Plays, Settles, Sits};
+ghost use Rattle.script_runner.specs.Shared.{Post, all_known, posts_text, unplayed, ArePhases, AreLeft, AreSeen, HasSeen, IsPhase, Plays, Settles, Sits};
 
 use crate::answers::Left;
 use crate::closings::{Closing, closing_of};
@@ -78,12 +78,11 @@ fn played_alone<'s, B: Naming, R: Wait>(
     requires { vec_len workers < 2 }
     ensures { IfOk result (λ played. AllZip (Plays B.boot.limits known.now phase.now) workers.entry.items played.items) }
 {
-    let mut all = Vec::new(alloc);
     let Some(worker) = workers.pop() else {
-        return Ok(all);
+        return Ok(workers);
     };
-    all.push(played(rt, phase, known, worker)?)?;
-    Ok(all)
+    workers.push(played(rt, phase, known, worker)?)?;
+    Ok(workers)
 }
 
 /// Workers after they all played at once, each in a thread of its own where one can be made. All threads are joined. Half of
@@ -210,28 +209,37 @@ fn play_phases<'s, B: Naming + Send, R: Threads + Wait + Sync>(
     Ok(played)
 }
 
+/// Adds what a worker leaves, and the pass of its seat.
+fn add_left<B: Naming>(
+    left: &mut Vec<Left>,
+    passes: &mut Vec<Option<Pass<B>>>,
+    worker: Worker<'_, B>,
+) -> Result<(), AllocError>
+    ensures left { OnOk result ((before : List Post) → AreLeft before left.old.items
+        → AreLeft (before ++ worker.entry ∷ []) left.new.items) }
+    ensures seen { OnOk result ((before : List Post) → AllZip (λ p pass. HasSeen pass p.events) before passes.old.items
+        → AllZip (λ p pass. HasSeen pass p.events) (before ++ worker.entry ∷ []) passes.new.items) }
+{
+    let (own, pass) = worker.leave();
+    left.push(own)?;
+    passes.push(pass)?;
+    Ok(())
+}
+
 /// What workers leave, and the passes of their seats.
 fn part<B: Naming>(
     alloc: Global,
     workers: Vec<Worker<'_, B>>,
-    names: BoundNames,
-) -> Result<Answered<B>, AllocError>
-    ensures left { IfOk result (λ answered. AreLeft workers.entry.items answered.left.items) }
-    ensures seen { IfOk result (λ answered. AllZip (λ p pass. HasSeen pass p.events) workers.entry.items answered.passes.items) }
-    ensures names { IfOk result (λ answered. answered.names ≡ names) }
+) -> Result<(Vec<Left>, Vec<Option<Pass<B>>>), AllocError>
+    ensures left { IfOk result (λ parted. AreLeft workers.entry.items parted.0.items) }
+    ensures seen { IfOk result (λ parted. AllZip (λ p pass. HasSeen pass p.events) workers.entry.items parted.1.items) }
 {
-    let mut left = Vec::with_capacity(alloc, workers.len())?;
-    let mut passes = Vec::with_capacity(alloc, workers.len())?;
+    let mut left = Vec::new(alloc);
+    let mut passes = Vec::new(alloc);
     for worker in workers {
-        let (own, pass) = worker.leave();
-        left.push(own)?;
-        passes.push(pass)?;
+        add_left(&mut left, &mut passes, worker)?;
     }
-    Ok(Answered {
-        left,
-        passes,
-        names,
-    })
+    Ok((left, passes))
 }
 
 /// Plays a script, and gives what its workers leave.
@@ -247,7 +255,12 @@ fn play_workers<B: Naming + Send, R: Threads + Wait + Sync>(
 {
     let mut names = BoundNames::start(alloc)?;
     let played = play_phases(rt, alloc, shared, script, workers, &mut names)?;
-    Ok(part(alloc, played, names)?)
+    let (left, passes) = part(alloc, played)?;
+    Ok(Answered {
+        left,
+        passes,
+        names,
+    })
 }
 
 /// Whether the journal has no fewer events than each pass has seen, which it has in every run.
