@@ -3,7 +3,8 @@ use mathlib.Core.List.{IsPrefix}
 use Rattle.std.proofs.Common.{◌≡◌, ℕ, zero, suc, ◌+◌, ◌<◌, ◌≤◌, ◌≢◌, ◌==◌, ◌⊎◌, inl, inr, eqb, true≢false, OnOk, ◌||◌, ◌&&◌, nat_le, if◌then◌else◌, arith, Bool, true, false, MatchBool, cond, List, [], ◌∷◌, ◌++◌, map, flat_map, drop, take, length, not, nat_lt, option_map, is_ok, slice_get, Option, Some, None, IfSome, Result, Ok, Err, refl, ap, sym, ◌∙◌, subst}
 use Rattle.std.specs.List.{list_all, AllByRecursion, AllZip}
 use Rattle.std.proofs.lemmas.Bool.Decides.{eqb_tells}
-use Rattle.std.proofs.lemmas.List.{map-append, take-append-drop}
+use Rattle.std.proofs.lemmas.Bool.{eq-eqb}
+use Rattle.std.proofs.lemmas.List.{length-append, map-append, take-append-drop}
 use Rattle.std.proofs.lemmas.Slice.Zip.{all_zipped_more}
 use Rattle.std.proofs.lemmas.Option.{none-some, same_Some}
 use Rattle.text_words.proofs.Split.{both_true}
@@ -39,14 +40,35 @@ use Rattle.script_rules.specs.Lines.{Stand, are_batch, asked, is_no_read, refuse
 use Rattle.script_rules.specs.Output.{told_text}
 use Rattle.script_rules.specs.Run.{refusal_by, seat_for, seated, unless_refused}
 use Rattle.script_runner.specs.Answers.{LineAnswers}
-use Rattle.script_runner.specs.Desks.{SeatPlace, events_in, place, seat_in, IsGiven, IsSubmitted}
-use Rattle.script_runner.specs.Shared.{Post, unplayed, seeing, with_waiting, wait_among, made_after, line_among, thread_in, takes_part, object_in, posts_text, left_text, IsAfter, IsPlayed, IsSeated, Seats, Sits, Plays, Settles, IsPhase, ArePhases, AreLeft, AreSeen, HasSeen, IsAnswered, IsSharedBy}
+use Rattle.script_runner.specs.Desks.{SeatPlace, events_in, noted_by, noted_in, seat_in, submitted, IsGiven, IsSubmitted}
+use Rattle.script_runner.specs.Shared.{NotedStand, Post, noted_at, noted_then, notes_of, unplayed, seeing, with_note, with_waiting, wait_among, made_after, line_among, thread_in, takes_part, object_in, posts_text, left_text, AreLearnt, IsAfter, IsPlayed, IsSeated, Seats, Sits, Plays, Settles, IsPhase, ArePhases, AreLeft, AreSeen, HasSeen, IsAnswered, IsSharedBy}
 use Rattle.script_runner.specs.Turns.{idle, stand, waiting_for, waiting_in}
 use Rattle.script_runner.specs.Workers.{lines_of}
 use Rattle.script_runner.specs.declared.answers.Left.{Left}
 use Rattle.script_runner.specs.declared.batches.Gathered.{Gathered}
 use Rattle.script_runner.proofs.NumberLaws.{take_next}
 use Rattle.script_runner.proofs.TurnLaws.{drop_next, not_one}
+
+-- a note tells the same where no event was made
+pub noted_still : (noted events : List Event) → noted ≡ noted_then noted events events
+noted_still noted events = ap (λ (b : Bool). if b then events else noted) (sym (at (eqb_tells (length events) (length events + 1))))
+  where
+    at : ((eqb (length events) (length events + 1) ≡ true) × (length events ≡ length events + 1))
+        ⊎ ((eqb (length events) (length events + 1) ≡ false) × (length events ≢ length events + 1))
+        → (length events == length events + 1) ≡ false
+    at (inl h) = absurd (omega (arith, h.1))
+    at (inr h) = h.0
+
+one_longer : (events : List Event) (e : Event) → (length (events ++ e ∷ []) == length events + 1) ≡ true
+one_longer events e = eq-eqb (length (events ++ e ∷ [])) (length events + 1) (omega (arith, length-append events (e ∷ [])))
+
+-- after calls it is what they make it
+pub noted_called : (limits : Limits) (thread : ℕ) (noted events : List Event) (calls : List Call)
+    → noted_by calls noted (with_calls limits thread events calls) ≡ noted_then noted events (with_calls limits thread events calls)
+noted_called limits thread noted events [] = noted_still noted events
+noted_called limits thread noted events (call ∷ calls) =
+    let after : List Event = with_calls limits thread events (call ∷ calls) in
+    ap (λ (b : Bool). if b then after else noted) (sym (one_longer events _))
 
 -- no events are legal
 pub none_legal : (limits : Limits) → IsLegal limits []
@@ -74,22 +96,22 @@ lines_other worker phase k line there other =
     ∙ ap (λ (b : Bool). cond b (line ∷ lines_of worker (drop (k + 1) phase)) (lines_of worker (drop (k + 1) phase))) other
 
 -- what the lines from a place on leave is what all leave
-abbrev pub SoFar : Limits → List Named → Result ℕ (Option Refusal) → List ℕ → List Line → Stand → ℕ → Stand → Type 0
+abbrev pub SoFar : Limits → List Named → Result ℕ (Option Refusal) → List ℕ → List Line → NotedStand → ℕ → NotedStand → Type 0
 SoFar limits known seat worker phase start k p =
-    (q : Stand) → IsPlayed limits known seat p (lines_of worker (drop k phase)) q
+    (q : NotedStand) → IsPlayed limits known seat p (lines_of worker (drop k phase)) q
     → IsPlayed limits known seat start (lines_of worker phase) q
 
 -- one line more
 pub played_more : (limits : Limits) (known : List Named) (seat : Result ℕ (Option Refusal)) (worker : List ℕ) (phase : List Line)
-    (start p q : Stand) (k : ℕ) (line : Line) → slice_get phase k ≡ Some line → bytes_eq line.worker worker ≡ true
-    → IsAfter (line_among limits known seat p line) p q → SoFar limits known seat worker phase start k p
+    (start p q : NotedStand) (k : ℕ) (line : Line) → slice_get phase k ≡ Some line → bytes_eq line.worker worker ≡ true
+    → IsAfter (line_among limits known seat p.stand line) p q → SoFar limits known seat worker phase start k p
     → SoFar limits known seat worker phase start (k + 1) q
 played_more limits known seat worker phase start p q k line there mine after so_far = λ r rest.
     so_far r (subst (λ (ls : List Line). IsPlayed limits known seat p ls r) (sym (lines_mine worker phase k line there mine)) (q, after, rest))
 
 -- and a line of another worker
 pub passed_over : (limits : Limits) (known : List Named) (seat : Result ℕ (Option Refusal)) (worker : List ℕ) (phase : List Line)
-    (start p : Stand) (k : ℕ) (line : Line) → slice_get phase k ≡ Some line → bytes_eq line.worker worker ≡ false
+    (start p : NotedStand) (k : ℕ) (line : Line) → slice_get phase k ≡ Some line → bytes_eq line.worker worker ≡ false
     → SoFar limits known seat worker phase start k p → SoFar limits known seat worker phase start (k + 1) p
 passed_over limits known seat worker phase start p k line there other so_far = λ r rest.
     so_far r (subst (λ (ls : List Line). IsPlayed limits known seat p ls r) (sym (lines_other worker phase k line there other)) rest)
@@ -108,17 +130,23 @@ sits_still limits room known phase p thread has = at (takes_part p.worker phase)
     }
 
     at : (b : Bool) → MatchBool b (Seats limits room known p p) (p ≡ p)
-    at true = record { seat = given; seen = prefix_self p.events; rest = refl }
+    at true = record {
+      seat = given;
+      seen = prefix_self p.events;
+      noted = ap (λ (s : Result ℕ (Option Refusal)). noted_at s p.noted p.events) (sym has);
+      rest = refl;
+    }
     at false = refl
 
 -- it sits as it is given a seat, or refused one
 pub sits_then : (limits : Limits) (room : ℕ) (known : List Named) (phase : List Line) (before after : Post)
     → IsSeated limits room (value_of before.worker known) before.seat after.seat → IsPrefix before.events after.events
-    → after ≡ record before { seat = after.seat; events = after.events } → takes_part before.worker phase ≡ true
+    → after.noted ≡ noted_at before.seat before.noted after.events
+    → after ≡ record before { seat = after.seat; events = after.events; noted = after.noted } → takes_part before.worker phase ≡ true
     → Sits limits room known phase before after
-sits_then limits room known phase before after seat seen rest takes =
+sits_then limits room known phase before after seat seen noted rest takes =
     subst (λ (b : Bool). MatchBool b (Seats limits room known before after) (after ≡ before)) (sym takes)
-    (record { seat = seat; seen = seen; rest = rest })
+    (record { seat = seat; seen = seen; noted = noted; rest = rest })
 
 pub sits_out : (limits : Limits) (room : ℕ) (known : List Named) (phase : List Line) (before after : Post) → after ≡ before
     → takes_part before.worker phase ≡ false → Sits limits room known phase before after
@@ -171,7 +199,7 @@ phase_same : (limits : Limits) (room : ℕ) (phase : List Line) (known names : L
     → IsPhase limits room phase known before names after
     → map (λ (p : Post). p.worker) after ≡ map (λ (p : Post). p.worker) before
 phase_same limits room phase known names before after is =
-    names_stay Settles (λ p q s. ap (λ (x : Post). x.worker) s.rest) is.played after is.settles
+    names_stay (Settles (notes_of is.played)) (λ p q s. ap (λ (x : Post). x.worker) s.rest) is.played after is.settles
     ∙ names_stay (Plays limits known phase) (λ p q s. ap (λ (x : Post). x.worker) s.2) is.seated is.played is.plays
     ∙ names_stay (Sits limits room known phase) (sits_same limits room known phase) before is.seated is.sits
 
@@ -229,7 +257,7 @@ pub none_submitted : (limits : Limits) (p : SeatPlace) (calls : List Call) (repl
 none_submitted limits p calls replies none told = (
   p.events,
   prefix_self p.events,
-  ap (λ (cs : List Call). place p.thread (with_calls limits p.thread p.events cs)) (sym none),
+  ap (submitted limits p p.events) (sym none),
   told ∙ ap (λ (cs : List Call). replies_to (state_of limits p.events) (by p.thread cs)) (sym none),
 )
 
@@ -237,52 +265,60 @@ none_submitted limits p calls replies none told = (
 pub asked_unbound : (limits : Limits) (thread : ℕ) (known : List Named) (events : List Event) (names : List Named) (k new : LineAnswers)
     (line : Line) (name : List ℕ) → resolved line.call (names ++ known) ≡ Err name
     → new.told ≡ k.told ++ told line.number (Err name) ∷ [] → new.reads ≡ k.reads
-    → IsAfter (made_after limits thread (wait_among known (stand events names [] k) line)) (stand events names [] k)
-    (stand events names [] new)
-asked_unbound limits thread known events names k new line name is told_is reads_is = (
+    → (noted : List Event)
+    → IsAfter (made_after limits thread (wait_among known (stand events names [] k) line)) (with_note noted (stand events names [] k))
+    (with_note noted (stand events names [] new))
+asked_unbound limits thread known events names k new line name is told_is reads_is noted = (
   events,
   prefix_self events,
   (λ i. record (stand events names [] k) { told = told_is i; reads = reads_is i })
       ∙ ap (λ (asks : Result Asked (List ℕ)). made_after limits thread
       (with_waiting (stand events names [] k) line.number line.binds asks) events) (sym is),
+  noted_still noted events,
 )
 
 -- a line asks what its call means
-pub asked_as : (limits : Limits) (thread : ℕ) (known : List Named) (p q : Stand) (line : Line) (asks : Result Asked (List ℕ))
-    → resolved line.call (p.names ++ known) ≡ asks
-    → IsAfter (made_after limits thread (with_waiting p line.number line.binds asks)) p q
-    → IsAfter (made_after limits thread (wait_among known p line)) p q
+pub asked_as : (limits : Limits) (thread : ℕ) (known : List Named) (p q : NotedStand) (line : Line) (asks : Result Asked (List ℕ))
+    → resolved line.call (p.stand.names ++ known) ≡ asks
+    → IsAfter (made_after limits thread (with_waiting p.stand line.number line.binds asks)) p q
+    → IsAfter (made_after limits thread (wait_among known p.stand line)) p q
 asked_as limits thread known p q line asks is after =
-    subst (λ (a : Result Asked (List ℕ)). IsAfter (made_after limits thread (with_waiting p line.number line.binds a)) p q) (sym is) after
+    subst (λ (a : Result Asked (List ℕ)). IsAfter (made_after limits thread (with_waiting p.stand line.number line.binds a)) p q)
+    (sym is) after
 
 -- several lines that are a batch ask no query
 no_query : (several : Bool) (few none : Bool) → several ≡ false → (several || (few && none)) ≡ true → none ≡ true
 no_query several few none not_one are = (both_true few none (ap (λ (b : Bool). b || (few && none)) (sym not_one) ∙ are)).1
 
 -- so they are asked at once
-pub batch_made : (limits : Limits) (thread : ℕ) (p q : Stand) → 2 ≤ length p.waiting → are_batch p.waiting ≡ true
-    → (list_all (λ w. is_no_read w.asks) p.waiting ≡ true → IsAfter (λ events. idle (asked limits thread (seeing events p))) p q)
-    → IsAfter (made_after limits thread p) p q
-batch_made limits thread p q several are made =
+pub batch_made : (limits : Limits) (thread : ℕ) (p : Stand) (noted : List Event) (q : NotedStand) → 2 ≤ length p.waiting
+    → are_batch p.waiting ≡ true
+    → (list_all (λ w. is_no_read w.asks) p.waiting ≡ true
+    → IsAfter (λ events. idle (asked limits thread (seeing events p))) (with_note noted p) q)
+    → IsAfter (made_after limits thread p) (with_note noted p) q
+batch_made limits thread p noted q several are made =
     let after = made (no_query (length p.waiting == 1) (nat_le (length p.waiting) 16) (list_all (λ w. is_no_read w.asks) p.waiting)
     (not_one (length p.waiting) several) are) in (
       after.0,
       after.1,
       after.2 ∙ ap (λ (b : Bool). idle (if b then asked limits thread (seeing after.0 p) else refuse_all BadBatch (seeing after.0 p) p.waiting))
           (sym are),
+      after.3,
     )
 
 -- a line waits
 pub line_waits : (limits : Limits) (thread : ℕ) (known : List Named) (events : List Event) (names : List Named) (g more : List Gathered)
     (k : LineAnswers) (line : Line) → line.more ≡ true
-    → map waiting_in more ≡ map waiting_in g ++ waiting_for line (names ++ known) ∷ []
-    → IsAfter (line_among limits known (Ok thread) (stand events names g k) line) (stand events names g k) (stand events names more k)
-line_waits limits thread known events names g more k line is waits = (
+    → map waiting_in more ≡ map waiting_in g ++ waiting_for line (names ++ known) ∷ [] → (noted : List Event)
+    → IsAfter (line_among limits known (Ok thread) (stand events names g k) line) (with_note noted (stand events names g k))
+    (with_note noted (stand events names more k))
+line_waits limits thread known events names g more k line is waits noted = (
   events,
   prefix_self events,
   (λ i. record (stand events names g k) { waiting = waits i })
       ∙ ap (λ (b : Bool). if b then wait_among known (stand events names g k) line
       else made_after limits thread (wait_among known (stand events names g k) line) events) (sym is),
+  noted_still noted events,
 )
 
 -- the line at a place is the worker's
@@ -294,7 +330,7 @@ mine_of worker phase k b line told there is =
 
 -- or another's
 pub passed_by : (limits : Limits) (known : List Named) (seat : Result ℕ (Option Refusal)) (worker : List ℕ) (phase : List Line)
-    (start p : Stand) (k : ℕ) (b : Bool) → k < length phase → IfSome (slice_get phase k) (λ l. b ≡ bytes_eq l.worker worker)
+    (start p : NotedStand) (k : ℕ) (b : Bool) → k < length phase → IfSome (slice_get phase k) (λ l. b ≡ bytes_eq l.worker worker)
     → b ≡ false → SoFar limits known seat worker phase start k p → SoFar limits known seat worker phase start (k + 1) p
 passed_by limits known seat worker phase start p k b within told is so_far = at (slice_get phase k) refl told
   where
@@ -324,6 +360,7 @@ post_of worker seating names kept = record {
   worker = worker;
   seat = seat_in seating;
   events = events_in seating;
+  noted = noted_in seating;
   names = names;
   told = kept.told;
   reads = kept.reads;
@@ -332,20 +369,31 @@ post_of worker seating names kept = record {
 -- the lines of a phase that were played are the worker's
 pub plays_ok : {T E : Type 0} (limits : Limits) (known : List Named) (phase : List Line) (r : Result T E) (worker : List ℕ)
     (seating then_seating : Result SeatPlace (Option Refusal)) (own then_own : List Named) (k new : LineAnswers) (g : List Gathered)
-    → OnOk r (IsPlayed limits known (seat_in seating) (stand (events_in seating) own [] k) (lines_of worker phase)
-    (stand (events_in then_seating) then_own g new))
+    → OnOk r (IsPlayed limits known (seat_in seating) (with_note (noted_in seating) (stand (events_in seating) own [] k))
+    (lines_of worker phase) (with_note (noted_in then_seating) (stand (events_in then_seating) then_own g new)))
     → OnOk r (seat_in then_seating ≡ seat_in seating)
     → OnOk r (Plays limits known phase (post_of worker seating own k) (post_of worker then_seating then_own new))
 plays_ok limits known phase (Ok x) worker seating then_seating own then_own k new g played seat =
-    (stand (events_in then_seating) then_own g new, played, λ i. record (post_of worker then_seating then_own new) { seat = seat i })
+    (with_note (noted_in then_seating) (stand (events_in then_seating) then_own g new), played, λ i. record (post_of worker then_seating then_own new) { seat = seat i })
 plays_ok limits known phase (Err e) worker seating then_seating own then_own k new g played seat = seat
 
--- what was seen begins what is seen later
-pub seen_same : (events : List Event) → IsPrefix events events
-seen_same events = prefix_self events
+-- what notes tell stays learnt
+still_learnt : (notes : List (List Event)) (events more : List Event) → IsPrefix events more → AreLearnt notes events
+    → AreLearnt notes more
+still_learnt [] events more later learnt = tt
+still_learnt (note ∷ notes) events more later learnt =
+    (prefix_trans note events more learnt.0 later, still_learnt notes events more later learnt.1)
 
-pub seen_later : (xs ys zs : List Event) → IsPrefix xs ys → IsPrefix ys zs → IsPrefix xs zs
-seen_later xs ys zs one two = prefix_trans xs ys zs one two
+all_after : {A : Type 0} (P : A → Type 0) (xs : List A) (x : A) → AllByRecursion P xs → P x → AllByRecursion P (xs ++ x ∷ [])
+all_after P [] x all here = (here, tt)
+all_after P (y ∷ ys) x all here = (all.0, all_after P ys x all.1 here)
+
+-- and one note more is learnt
+pub learnt_more : (notes : List (List Event)) (k : ℕ) (note events more : List Event) → slice_get notes k ≡ Some note
+    → IsPrefix events more → IsPrefix note more → AreLearnt (take k notes) events → AreLearnt (take (k + 1) notes) more
+learnt_more notes k note events more there later here learnt =
+    subst (λ (ns : List (List Event)). AreLearnt ns more) (sym (take_next notes k note there))
+    (all_after (λ (n : List Event). IsPrefix n more) (take k notes) note (still_learnt (take k notes) events more later learnt) here)
 
 -- one worker more
 pub idle_more : (workers : List (List ℕ)) (k : ℕ) (worker : List ℕ) (now new : List Post) → slice_get workers k ≡ Some worker
@@ -368,6 +416,11 @@ refused_as : (boot : Boot) (book : BookView) (thread : ℕ)
 refused_as boot book thread =
     refusals_same (has book.seated thread || nat_lt 0 (count thread book.journal))
     (not (is_live_kind (state_of boot.limits book.journal) kinds.Thread thread)) (length book.seated == boot.seats)
+
+-- its note tells all that it has seen
+pub opened_noted : (boot : Boot) (thread : ℕ) (opened : SeatView) → IsOpened boot thread opened → opened.told ≡ opened.pass.seen
+opened_noted boot thread opened (book, legal, within, none, live, first, is) =
+    ap (λ (s : SeatView). s.told) is ∙ ap (λ (s : SeatView). s.pass.seen) (sym is)
 
 -- a seat that is opened is given
 pub opened_given : (boot : Boot) (thread : ℕ) (opened : SeatView) → IsOpened boot thread opened
@@ -402,11 +455,12 @@ pub sits_new : (limits : Limits) (room : ℕ) (known : List Named) (phase : List
     (seating then_seating : Result SeatPlace (Option Refusal)) (own : List Named) (k : LineAnswers) → is_ok seating ≡ false
     → takes_part worker phase ≡ true
     → ((refusal : Option Refusal) → IsSeated limits room (value_of worker known) (Err refusal) (seat_in then_seating))
+    → noted_in then_seating ≡ events_in then_seating
     → Sits limits room known phase (post_of worker seating own k) (post_of worker then_seating own k)
-sits_new limits room known phase worker (Ok p) then_seating own k none takes given = absurd (true≢false none)
-sits_new limits room known phase worker (Err r) then_seating own k none takes given =
+sits_new limits room known phase worker (Ok p) then_seating own k none takes given noted = absurd (true≢false none)
+sits_new limits room known phase worker (Err r) then_seating own k none takes given noted =
     sits_then limits room known phase (post_of worker (Err r) own k) (post_of worker then_seating own k) (given r)
-    (events_in then_seating, refl) refl takes
+    (events_in then_seating, refl) noted refl takes
 
 -- what one worker more leaves
 pub left_more : (posts : List Post) (left new : List Left) (p : Post) (l : Left) → AreLeft posts left → l.answers.told ≡ p.told
@@ -436,3 +490,16 @@ all_of_halves R all ps qs k then_ps then_qs new front back is one two =
     subst (λ (xs : List Post). AllZip R xs new)
     (ap (λ (xs : List Post). xs ++ qs) front ∙ ap (λ (xs : List Post). take k all ++ xs) back ∙ take-append-drop k all)
     (subst (AllZip R (ps ++ qs)) (sym is) (all_of_both R ps qs then_ps then_qs one two))
+
+-- a worker that learnt notes has settled
+pub settles : (notes : List (List Event)) (worker : List ℕ) (seating then_seating : Result SeatPlace (Option Refusal))
+    (own names : List Named) (k : LineAnswers) → seat_in then_seating ≡ seat_in seating
+    → IsPrefix (events_in seating) (events_in then_seating) → IsPrefix (noted_in seating) (noted_in then_seating)
+    → OnOk (seat_in seating) (AreLearnt notes (noted_in then_seating) × IsPrefix (noted_in then_seating) (events_in then_seating))
+    → names ≡ [] → Settles notes (post_of worker seating own k) (post_of worker then_seating names k)
+settles notes worker seating then_seating own names k seat seen noted learnt none = record {
+  seen = seen;
+  noted = noted;
+  learnt = learnt;
+  rest = λ i. record (post_of worker then_seating names k) { seat = seat i; names = none i };
+}

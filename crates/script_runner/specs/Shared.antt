@@ -1,7 +1,7 @@
 -- A run whose workers share phases: what each line is told, and what the workers leave.
 use mathlib.Core.List.{IsPrefix}
-use Rattle.std.specs.Prelude.{◌≡◌, ℕ, Bool, MatchBool, List, [], ◌∷◌, ◌++◌, map, flat_map, Option, Some, None, Result, Ok, Err, if◌then◌else◌}
-use Rattle.std.specs.List.{list_any, AllByRecursion, AllZip}
+use Rattle.std.specs.Prelude.{◌≡◌, ℕ, Bool, MatchBool, List, [], ◌∷◌, ◌++◌, ◌+◌, ◌==◌, length, map, flat_map, Option, Some, None, Result, Ok, Err, OnOk, if◌then◌else◌}
+use Rattle.std.specs.List.{filter_map, list_any, AllByRecursion, AllZip}
 use Rattle.std.specs.Str.{bytes_eq}
 use Rattle.base.specs.declared.ranges.Limits.{Limits}
 use Rattle.base.specs.declared.refusals.Refusal.{Refusal}
@@ -47,29 +47,46 @@ line_among limits known (Ok thread) p l events =
     if l.more then wait_among known p l else made_after limits thread (wait_among known p l) events
 line_among limits known (Err refusal) p l events = tell p l.number l.binds (unseated refusal l.worker)
 
+-- a worker's stand, and what its note tells the others
+pub record NotedStand : Type 0 where
+  pub stand : Stand
+  pub noted : List Event
+
+abbrev pub with_note : List Event → Stand → NotedStand
+with_note noted p = record { stand = p; noted = noted }
+
+-- what a note tells then, of a worker that had seen some events: all that it has seen, if it made one more, and else what it told
+abbrev pub noted_then : List Event → List Event → List Event → List Event
+noted_then noted before after = if length after == length before + 1 then after else noted
+
 -- the stand is the first one's, with more events that others made since
-abbrev pub IsAfter : (List Event → Stand) → Stand → Stand → Type 0
-IsAfter make_after p q = (events : List Event) × IsPrefix p.events events × (q ≡ make_after events)
+abbrev pub IsAfter : (List Event → Stand) → NotedStand → NotedStand → Type 0
+IsAfter make_after p q =
+    (events : List Event) × IsPrefix p.stand.events events × (q.stand ≡ make_after events)
+    × (q.noted ≡ noted_then p.noted events q.stand.events)
 
 -- a worker's lines, one after another: as each is asked, it has seen what it had seen, and what others did since
-abbrev pub IsPlayed : Limits → List Named → Result ℕ (Option Refusal) → Stand → List Line → Stand → Type 0
+abbrev pub IsPlayed : Limits → List Named → Result ℕ (Option Refusal) → NotedStand → List Line → NotedStand → Type 0
 IsPlayed limits known seat p [] q = q ≡ p
 IsPlayed limits known seat p (l ∷ more) q =
-    (between : Stand) × IsAfter (line_among limits known seat p l) p between × IsPlayed limits known seat between more q
+    (between : NotedStand) × IsAfter (line_among limits known seat p.stand l) p between
+    × IsPlayed limits known seat between more q
 
--- a worker: the thread of its seat, or what refuses it one, the events that it has seen, the names that its lines bound in this
--- phase, what its lines were told, and what it read
+-- a worker: the thread of its seat, or what refuses it one, the events that it has seen, those that its note tells the others,
+-- the names that its lines bound in this phase, what its lines were told, and what it read
 pub record Post : Type 0 where
   pub worker : List ℕ
   pub seat : Result ℕ (Option Refusal)
   pub events : List Event
+  pub noted : List Event
   pub names : List Named
   pub told : List AnsweredLine
   pub reads : List Seen
 
 -- before the first phase
 abbrev pub unplayed : List ℕ → Post
-unplayed worker = record { worker = worker; seat = Err None; events = []; names = []; told = []; reads = [] }
+unplayed worker =
+    record { worker = worker; seat = Err None; events = []; noted = []; names = []; told = []; reads = [] }
 
 -- it has a line among these
 abbrev pub takes_part : List ℕ → List Line → Bool
@@ -94,11 +111,17 @@ pub record IsSeated (limits : Limits) (room : ℕ) (bound : Option Value) (befor
   pub legal : IsLegal limits events
   pub seat : after ≡ seated (thread_in before) (seat_for (refusal_by limits room events taken) bound)
 
+-- what its note tells once it sits, when it has seen these events: all of them, where it had no seat
+abbrev pub noted_at : Result ℕ (Option Refusal) → List Event → List Event → List Event
+noted_at (Ok thread) noted events = noted
+noted_at (Err refusal) noted events = events
+
 -- the worker takes its seat
 pub record Seats (limits : Limits) (room : ℕ) (known : List Named) (before after : Post) : Type 0 where
   pub seat : IsSeated limits room (value_of before.worker known) before.seat after.seat
   pub seen : IsPrefix before.events after.events
-  pub rest : after ≡ record before { seat = after.seat; events = after.events }
+  pub noted : after.noted ≡ noted_at before.seat before.noted after.events
+  pub rest : after ≡ record before { seat = after.seat; events = after.events; noted = after.noted }
 
 -- before a phase: it takes its seat, if it has lines there
 abbrev pub Sits : Limits → ℕ → List Named → List Line → Post → Post → Type 0
@@ -108,19 +131,44 @@ Sits limits room known phase before after =
 abbrev pub stand_of : Post → Stand
 stand_of p = record { events = p.events; names = p.names; waiting = []; told = p.told; reads = p.reads }
 
-abbrev pub left_at : Post → Stand → Post
-left_at b p = record b { events = p.events; names = p.names; told = p.told; reads = p.reads }
+abbrev pub left_at : Post → NotedStand → Post
+left_at b p = record b {
+  events = p.stand.events;
+  noted = p.noted;
+  names = p.stand.names;
+  told = p.stand.told;
+  reads = p.stand.reads;
+}
 
 -- it plays its lines of a phase
 abbrev pub Plays : Limits → List Named → List Line → Post → Post → Type 0
 Plays limits known phase before after =
-    (p : Stand) × IsPlayed limits known before.seat (stand_of before) (lines_of before.worker phase) p
+    (p : NotedStand)
+    × IsPlayed limits known before.seat (with_note before.noted (stand_of before)) (lines_of before.worker phase) p
     × (after ≡ left_at before p)
 
--- after a phase: it has seen what others tell it, and its names are all workers'
-pub record Settles (before after : Post) : Type 0 where
+-- the note of a worker that has a seat
+abbrev pub note_by : Result ℕ (Option Refusal) → List Event → Option (List Event)
+note_by (Ok thread) noted = Some noted
+note_by (Err refusal) noted = None
+
+abbrev pub note_of : Post → Option (List Event)
+note_of p = note_by p.seat p.noted
+
+-- the notes of workers
+abbrev pub notes_of : List Post → List (List Event)
+notes_of posts = filter_map note_of posts
+
+-- each note tells no more than these events
+abbrev pub AreLearnt : List (List Event) → List Event → Type 0
+AreLearnt notes events = AllByRecursion (λ note. IsPrefix note events) notes
+
+-- after a phase: where it has a seat, it has seen what the notes tell, and tells that itself; its names are all workers'
+pub record Settles (notes : List (List Event)) (before after : Post) : Type 0 where
   pub seen : IsPrefix before.events after.events
-  pub rest : after ≡ record before { events = after.events; names = [] }
+  pub noted : IsPrefix before.noted after.noted
+  pub learnt : OnOk before.seat (AreLearnt notes after.noted × IsPrefix after.noted after.events)
+  pub rest : after ≡ record before { events = after.events; noted = after.noted; names = [] }
 
 -- the names that are known once what workers bound in a phase is known to all
 abbrev pub all_known : List Post → List Named → List Named
@@ -135,7 +183,7 @@ pub record IsPhase (limits : Limits) (room : ℕ) (phase : List Line) (known : L
   pub sits : AllZip (Sits limits room known phase) before seated
   pub plays : AllZip (Plays limits known phase) seated played
   pub names : known' ≡ all_known played known
-  pub settles : AllZip Settles played after
+  pub settles : AllZip (Settles (notes_of played)) played after
 
 -- phases, one after another
 abbrev pub ArePhases : Limits → ℕ → List (List Line) → List Named → List Post → List Named → List Post → Type 0

@@ -5,7 +5,8 @@ ghost use Rattle.kernel_rules.specs.Events.{by};
 ghost use Rattle.kernel_rules.specs.History.{state_of};
 ghost use Rattle.kernel_rules.specs.Runs.{replies_to};
 ghost use Rattle.kernel_rules.specs.Step.{answer, query_answer};
-ghost use Rattle.script_runner.specs.Desks.{IsGiven, IsSubmitted, seat_in};
+ghost use Rattle.script_runner.specs.Desks.{IsGiven, IsSubmitted, events_in, noted_in, seat_in};
+ghost use Rattle.script_runner.specs.Shared.{AreLearnt};
 
 use crate::faults::PlayFault;
 use base::{ObjectId, Refusal};
@@ -15,7 +16,7 @@ use std::alloc::Global;
 use std::marker::Model;
 use std::sync::Wait;
 
-/// A worker's seat. A contract sees its thread, and the events that it has seen.
+/// A worker's seat. A contract sees its thread, the events that it has seen, and those that its note tells the others.
 #[derive(Drop)]
 pub struct SharedDesk<'s, B: Naming> {
     seat: Seat<'s, B>,
@@ -26,17 +27,18 @@ impl<'s, B: Naming> Model for SharedDesk<'s, B> {
 
     ghost Value = { SeatPlace };
 
-    ghost view = { λ d. place d.seat.pass.thread d.seat.pass.seen };
+    ghost view = { λ d. place d.seat.pass.thread d.seat.pass.seen d.seat.told };
 }
 
 impl<'s, B: Naming> SharedDesk<'s, B> {
-    /// A seat for a thread, or what refuses it one. It waits for the lock.
+    /// A seat for a thread, or what refuses it one. Its note tells all that it has then seen. It waits for the lock.
     pub fn open<R: Wait>(
         rt: &R,
         shared: &'s Shared<B>,
         thread: ObjectId,
     ) -> Result<SharedDesk<'s, B>, Option<Refusal>>
-        ensures { IsGiven B.boot.limits B.boot.seats thread (seat_in result) }
+        ensures given { IsGiven B.boot.limits B.boot.seats thread (seat_in result) }
+        ensures noted { noted_in result ≡ events_in result }
     {
         match shared.open_seat(rt, thread) {
             Ok(seat) => Ok(SharedDesk { seat }),
@@ -87,6 +89,7 @@ impl<B: Naming> SharedDesk<'_, B> {
     pub fn ask(&mut self, query: &Query) -> Result<ReadReceipt, PlayFault>
         ensures seen { OnOk result (IsPrefix self.old.events self.new.events) }
         ensures thread { OnOk result (self.new.thread ≡ self.old.thread) }
+        ensures noted { OnOk result (self.new.noted ≡ self.old.noted) }
         ensures length { IfOk result (λ receipt. receipt.length ≡ length self.new.events) }
         ensures reply { IfOk result (λ receipt. receipt.reply
             ≡ query_answer (state_of B.boot.limits self.new.events) self.old.thread query.now) }
@@ -97,20 +100,25 @@ impl<B: Naming> SharedDesk<'_, B> {
         }
     }
 
-    /// What it tells the others.
-    pub fn note(&self) -> Note<B> {
+    /// What it tells the others: all that it had seen by its opening, its calls and the notes that it learnt.
+    pub fn note(&self) -> Note<B>
+        ensures { result ≡ self.now.noted }
+    {
         self.seat.note()
     }
 
-    /// It has then seen what notes tell.
-    #[tactic(auto, using(crate::proofs::SharedLaws::seen_same, crate::proofs::SharedLaws::seen_later))]
+    /// It has then seen what notes tell, and tells that itself.
     pub fn learn(&mut self, notes: &[Note<B>])
         ensures thread { self.new.thread ≡ self.old.thread }
         ensures seen { IsPrefix self.old.events self.new.events }
+        ensures noted { IsPrefix self.old.noted self.new.noted }
+        ensures learnt { AreLearnt notes.now self.new.noted }
+        ensures begins { IsPrefix self.new.noted self.new.events }
     {
         for note in notes {
             self.seat.learn(note);
         }
+        self.seat.told_begins_seen();
     }
 
     /// The pass of the seat, which has seen the same.

@@ -6,7 +6,7 @@ ghost use mathlib.Core.List.{IsPrefix};
 ghost use Rattle.call_text.specs.Known.{start_values};
 ghost use Rattle.script_runner.specs.Dumps.{IsClosing};
 ghost use Rattle.script_runner.specs.Shared as rules;
-ghost use Rattle.script_runner.specs.Shared.{Post, all_known, posts_text, unplayed, ArePhases, AreLeft, AreSeen, HasSeen, IsPhase, Plays, Settles, Sits};
+ghost use Rattle.script_runner.specs.Shared.{Post, all_known, notes_of, posts_text, unplayed, ArePhases, AreLeft, AreSeen, HasSeen, IsPhase, Plays, Settles, Sits};
 
 use crate::answers::Left;
 use crate::closings::{Closing, closing_of};
@@ -127,10 +127,9 @@ fn bind_all<B: Naming>(workers: &[Worker<'_, B>], names: &mut BoundNames) -> Res
 }
 
 /// What each worker that has a seat tells the others.
-fn notes_of<B: Naming>(
-    alloc: Global,
-    workers: &[Worker<'_, B>],
-) -> Result<Vec<Note<B>>, AllocError> {
+fn notes_of<B: Naming>(alloc: Global, workers: &[Worker<'_, B>]) -> Result<Vec<Note<B>>, AllocError>
+    ensures { IfOk result (λ notes. notes.items ≡ notes_of workers.now) }
+{
     let mut notes = Vec::with_capacity(alloc, workers.len())?;
     for worker in workers {
         if let Some(note) = worker.note() {
@@ -140,20 +139,32 @@ fn notes_of<B: Naming>(
     Ok(notes)
 }
 
-/// The workers after a phase: each has seen what the others tell.
+/// The workers after they learnt notes.
+fn settled<'s, B: Naming>(
+    alloc: Global,
+    notes: &[Note<B>],
+    workers: Vec<Worker<'s, B>>,
+) -> Result<Vec<Worker<'s, B>>, AllocError>
+    ensures { IfOk result (λ settled. AllZip (Settles notes.now) workers.entry.items settled.items) }
+{
+    let mut settled = Vec::with_capacity(alloc, workers.len())?;
+    for mut worker in workers {
+        worker.settle(alloc, notes);
+        settled.push(worker)?;
+    }
+    Ok(settled)
+}
+
+/// The workers after a phase: each has seen what every other tells.
 fn settle_all<'s, B: Naming>(
     alloc: Global,
     workers: Vec<Worker<'s, B>>,
 ) -> Result<Vec<Worker<'s, B>>, AllocError>
-    ensures { IfOk result (λ settled. AllZip Settles workers.entry.items settled.items) }
+    ensures { IfOk result
+        (λ settled. AllZip (Settles (notes_of workers.entry.items)) workers.entry.items settled.items) }
 {
     let notes = notes_of(alloc, workers.as_slice())?;
-    let mut settled = Vec::with_capacity(alloc, workers.len())?;
-    for mut worker in workers {
-        worker.settle(alloc, notes.as_slice());
-        settled.push(worker)?;
-    }
-    Ok(settled)
+    settled(alloc, notes.as_slice(), workers)
 }
 
 /// Plays a phase.

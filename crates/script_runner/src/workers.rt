@@ -1,12 +1,13 @@
 //! A worker that plays its lines in order while others play theirs.
 ghost use Rattle.std.specs.Prelude.{◌≡◌, ◌≤◌, ℕ, [], true, false, List, Option, Ok, Err, length, map, OnOk};
 ghost use Rattle.std.specs.List.{list_all};
+ghost use mathlib.Core.List.{IsPrefix};
 ghost use Rattle.base.specs.declared.refusals.Refusal.{Refusal as RefusalValue};
 ghost use Rattle.call_text.specs.declared.asking.Asked.TheVariants.{Read, Write};
 ghost use Rattle.script_rules.specs.Lines as lines;
-ghost use Rattle.script_runner.specs.Desks.{events_in, seat_in};
+ghost use Rattle.script_runner.specs.Desks.{events_in, noted_in, seat_in};
 ghost use Rattle.script_runner.specs.Shared as shared;
-ghost use Rattle.script_runner.specs.Shared.{line_among, made_after, unplayed, wait_among, seeing, with_waiting, IsAfter, IsPlayed, IsSeated, Plays, Settles, Sits};
+ghost use Rattle.script_runner.specs.Shared.{line_among, made_after, note_of, unplayed, wait_among, seeing, with_note, with_waiting, AreLearnt, IsAfter, IsPlayed, IsSeated, Plays, Settles, Sits};
 ghost use Rattle.script_runner.specs.Turns.{idle, stand, waiting_in};
 ghost use Rattle.script_runner.specs.Workers.{lines_of};
 
@@ -34,11 +35,25 @@ fn seated<'s, B: Naming, R: Wait>(
     shared: &'s Shared<B>,
     bound: &Option<Value>,
 ) -> Seating<'s, B>
-    ensures { (refusal : Option RefusalValue) → IsSeated B.boot.limits B.boot.seats bound.now (Err refusal) (seat_in result) }
+    ensures given { (refusal : Option RefusalValue) → IsSeated B.boot.limits B.boot.seats bound.now (Err refusal) (seat_in result) }
+    ensures noted { noted_in result ≡ events_in result }
 {
     match object_in(bound) {
         Some(thread) => SharedDesk::open(rt, shared, thread),
         None => Err(None),
+    }
+}
+
+/// A worker that has a seat learns notes.
+fn learn_notes<B: Naming>(seating: &mut Seating<'_, B>, notes: &[Note<B>])
+    ensures seat { seat_in seating.new ≡ seat_in seating.old }
+    ensures seen { IsPrefix (events_in seating.old) (events_in seating.new) }
+    ensures noted { IsPrefix (noted_in seating.old) (noted_in seating.new) }
+    ensures learnt { OnOk (seat_in seating.old) (AreLearnt notes.now (noted_in seating.new)
+        × IsPrefix (noted_in seating.new) (events_in seating.new)) }
+{
+    if let Ok(desk) = seating {
+        desk.learn(notes);
     }
 }
 
@@ -69,8 +84,8 @@ impl Hand {
         ensures asked { OnOk result ((binds : Option (List ℕ)) → IsAfter
             (made_after B.boot.limits desk.old.thread
             (with_waiting (stand desk.old.events self.old.own [] self.old.answers) number binds (Ok (Read query.now))))
-            (stand desk.old.events self.old.own [] self.old.answers)
-            (stand desk.new.events self.new.own [] self.new.answers)) }
+            (with_note desk.old.noted (stand desk.old.events self.old.own [] self.old.answers))
+            (with_note desk.new.noted (stand desk.new.events self.new.own [] self.new.answers))) }
         ensures thread { OnOk result (desk.new.thread ≡ desk.old.thread) }
         ensures batch { self.new.batch ≡ self.old.batch }
     {
@@ -92,8 +107,8 @@ impl Hand {
         ensures asked { OnOk result (IsAfter
             (made_after B.boot.limits desk.old.thread
             (with_waiting (stand desk.old.events self.old.own [] self.old.answers) number binds (Ok (Write self.old.call))))
-            (stand desk.old.events self.old.own [] self.old.answers)
-            (stand desk.new.events self.new.own [] self.new.answers)) }
+            (with_note desk.old.noted (stand desk.old.events self.old.own [] self.old.answers))
+            (with_note desk.new.noted (stand desk.new.events self.new.own [] self.new.answers))) }
         ensures thread { OnOk result (desk.new.thread ≡ desk.old.thread) }
         ensures batch { self.new.batch ≡ self.old.batch }
     {
@@ -112,8 +127,8 @@ impl Hand {
         ensures asked { OnOk result (IsAfter
             (made_after B.boot.limits desk.old.thread
             (wait_among known.now (stand desk.old.events self.old.own [] self.old.answers) line.now))
-            (stand desk.old.events self.old.own [] self.old.answers)
-            (stand desk.new.events self.new.own [] self.new.answers)) }
+            (with_note desk.old.noted (stand desk.old.events self.old.own [] self.old.answers))
+            (with_note desk.new.noted (stand desk.new.events self.new.own [] self.new.answers))) }
         ensures thread { OnOk result (desk.new.thread ≡ desk.old.thread) }
         ensures batch { self.new.batch ≡ self.old.batch }
     {
@@ -137,8 +152,8 @@ impl Hand {
         ensures asked { OnOk result (list_all (λ w. lines.is_no_read w.asks) (map waiting_in self.old.batch.lines.items) ≡ true
             → IsAfter (λ events. idle (lines.asked B.boot.limits desk.old.thread
             (seeing events (stand desk.old.events self.old.own self.old.batch.lines.items self.old.answers))))
-            (stand desk.old.events self.old.own self.old.batch.lines.items self.old.answers)
-            (stand desk.new.events self.new.own [] self.new.answers)) }
+            (with_note desk.old.noted (stand desk.old.events self.old.own self.old.batch.lines.items self.old.answers))
+            (with_note desk.new.noted (stand desk.new.events self.new.own [] self.new.answers))) }
         ensures thread { OnOk result (desk.new.thread ≡ desk.old.thread) }
     {
         self.batch.put_calls()?;
@@ -156,8 +171,8 @@ impl Hand {
         ensures asked { OnOk result (IsAfter
             (made_after B.boot.limits desk.old.thread
             (stand desk.old.events self.old.own self.old.batch.lines.items self.old.answers))
-            (stand desk.old.events self.old.own self.old.batch.lines.items self.old.answers)
-            (stand desk.new.events self.new.own [] self.new.answers)) }
+            (with_note desk.old.noted (stand desk.old.events self.old.own self.old.batch.lines.items self.old.answers))
+            (with_note desk.new.noted (stand desk.new.events self.new.own [] self.new.answers))) }
         ensures thread { OnOk result (desk.new.thread ≡ desk.old.thread) }
     {
         if self.batch.is_batch() {
@@ -179,8 +194,8 @@ impl Hand {
         ensures line { OnOk result (IsAfter
             (line_among B.boot.limits known.now (Ok desk.old.thread)
             (stand desk.old.events self.old.own self.old.batch.lines.items self.old.answers) line.now)
-            (stand desk.old.events self.old.own self.old.batch.lines.items self.old.answers)
-            (stand desk.new.events self.new.own self.new.batch.lines.items self.new.answers)) }
+            (with_note desk.old.noted (stand desk.old.events self.old.own self.old.batch.lines.items self.old.answers))
+            (with_note desk.new.noted (stand desk.new.events self.new.own self.new.batch.lines.items self.new.answers))) }
         ensures thread { OnOk result (desk.new.thread ≡ desk.old.thread) }
     {
         let names = WorkerNames {
@@ -207,8 +222,8 @@ impl Hand {
         ensures line { OnOk result (IsAfter
             (line_among B.boot.limits known.now (Ok desk.old.thread)
             (stand desk.old.events self.old.own self.old.batch.lines.items self.old.answers) line.now)
-            (stand desk.old.events self.old.own self.old.batch.lines.items self.old.answers)
-            (stand desk.new.events self.new.own self.new.batch.lines.items self.new.answers)) }
+            (with_note desk.old.noted (stand desk.old.events self.old.own self.old.batch.lines.items self.old.answers))
+            (with_note desk.new.noted (stand desk.new.events self.new.own self.new.batch.lines.items self.new.answers))) }
         ensures thread { OnOk result (desk.new.thread ≡ desk.old.thread) }
     {
         if line.more || !self.batch.is_empty() {
@@ -229,8 +244,8 @@ impl Hand {
         ensures line { OnOk result (IsAfter
             (line_among B.boot.limits known.now (seat_in seating.old)
             (stand (events_in seating.old) self.old.own self.old.batch.lines.items self.old.answers) line.now)
-            (stand (events_in seating.old) self.old.own self.old.batch.lines.items self.old.answers)
-            (stand (events_in seating.new) self.new.own self.new.batch.lines.items self.new.answers)) }
+            (with_note (noted_in seating.old) (stand (events_in seating.old) self.old.own self.old.batch.lines.items self.old.answers))
+            (with_note (noted_in seating.new) (stand (events_in seating.new) self.new.own self.new.batch.lines.items self.new.answers))) }
         ensures seat { OnOk result (seat_in seating.new ≡ seat_in seating.old) }
     {
         match seating {
@@ -249,8 +264,8 @@ impl Hand {
         known: &BoundNames,
     ) -> Result<(), PlayFault>
         ensures played { OnOk result (IsPlayed B.boot.limits known.now (seat_in seating.old)
-            (stand (events_in seating.old) self.old.own [] self.old.answers) (lines_of worker.now phase.now)
-            (stand (events_in seating.new) self.new.own self.new.batch.lines.items self.new.answers)) }
+            (with_note (noted_in seating.old) (stand (events_in seating.old) self.old.own [] self.old.answers)) (lines_of worker.now phase.now)
+            (with_note (noted_in seating.new) (stand (events_in seating.new) self.new.own self.new.batch.lines.items self.new.answers))) }
         ensures seat { OnOk result (seat_in seating.new ≡ seat_in seating.old) }
     {
         self.batch.clear();
@@ -267,8 +282,8 @@ impl Hand {
     }
 }
 
-/// A worker. A contract sees its name, its seat or what refused it one, what it has seen, and what its lines bound, were told and
-/// read.
+/// A worker. A contract sees its name, its seat or what refused it one, what it has seen, what its note tells the others, and what
+/// its lines bound, were told and read.
 #[derive(Drop)]
 pub struct Worker<'s, B: Naming> {
     name: Name,
@@ -277,7 +292,7 @@ pub struct Worker<'s, B: Naming> {
 }
 
 impl<'s, B: Naming> Model for Worker<'s, B> {
-    ghost use Rattle.script_runner.specs.Desks.{events_in, seat_in};
+    ghost use Rattle.script_runner.specs.Desks.{events_in, noted_in, seat_in};
     ghost use Rattle.script_runner.specs.Shared.{Post};
 
     ghost Value = { Post };
@@ -286,6 +301,7 @@ impl<'s, B: Naming> Model for Worker<'s, B> {
       worker = w.name;
       seat = seat_in w.seating;
       events = events_in w.seating;
+      noted = noted_in w.seating;
       names = w.hand.own;
       told = w.hand.answers.told;
       reads = w.hand.answers.reads;
@@ -336,7 +352,9 @@ impl<'s, B: Naming> Worker<'s, B> {
     }
 
     /// What it tells the others, where it has a seat.
-    pub fn note(&self) -> Option<Note<B>> {
+    pub fn note(&self) -> Option<Note<B>>
+        ensures { result ≡ note_of self.now }
+    {
         match &self.seating {
             Ok(desk) => Some(desk.note()),
             Err(_) => None,
@@ -352,11 +370,9 @@ impl<'s, B: Naming> Worker<'s, B> {
 
     /// After a phase: it has seen what the notes tell, and what its lines bound is no longer its own.
     pub fn settle(&mut self, alloc: Global, notes: &[Note<B>])
-        ensures { Settles self.old self.new }
+        ensures { Settles notes.now self.old self.new }
     {
-        if let Ok(desk) = &mut self.seating {
-            desk.learn(notes);
-        }
+        learn_notes(&mut self.seating, notes);
         self.hand.own = BoundNames::none(alloc);
     }
 

@@ -2,9 +2,10 @@ use Rattle.std.proofs.Common.{◌≡◌, ◌∙◌, ◌≤◌, true, false, List
 use Rattle.std.proofs.lemmas.List.{length-map}
 use Rattle.published_copy.proofs.Prefixes.{prefix_self}
 use Rattle.script_rules.specs.Lines.{are_batch}
+use Rattle.script_runner.specs.Shared.{with_note}
 use Rattle.script_runner.specs.Turns.{stand, waiting_in}
 use Rattle.script_runner.specs.declared.batches.Gathered.{Gathered}
-use Rattle.script_runner.proofs.SharedLaws.{batch_made, if_ok}
+use Rattle.script_runner.proofs.SharedLaws.{batch_made, if_ok, noted_still}
 use Rattle.script_runner.proofs.TurnLaws.{made_refused}
 use Rattle.script_runner.proofs.workers.Hand.make.Goals as goal
 
@@ -15,8 +16,9 @@ returns-then-is_batch-clause-asked g c =
     let are : are_batch (map waiting_in lines) ≡ true = sym (c.is_batch.ensures c.requires) ∙ c.if-is_batch.true in
     if_ok c.submit_batch.result
     (batch_made g.B.Naming.boot.limits c.args.desk.now.thread
-    (stand c.args.desk.now.events c.args.self.now.own lines c.args.self.now.answers)
-    (stand c.submit_batch.new.desk.events c.submit_batch.new.self.own [] c.submit_batch.new.self.answers) several are)
+    (stand c.args.desk.now.events c.args.self.now.own lines c.args.self.now.answers) c.args.desk.now.noted
+    (with_note c.submit_batch.new.desk.noted
+    (stand c.submit_batch.new.desk.events c.submit_batch.new.self.own [] c.submit_batch.new.self.answers)) several are)
     c.submit_batch.ensures.asked
 
 pub returns-in_ok-refuse-clause-asked : goal.returns-in_ok-refuse-clause-asked
@@ -27,4 +29,5 @@ returns-in_ok-refuse-clause-asked g c =
       prefix_self c.args.desk.now.events,
       made_refused g.B.Naming.boot.limits c.args.desk.now.thread c.args.desk.now.events c.args.self.now.own lines c.args.self.now.answers _ are
           (c.in_ok-refuse.ensures c.args.desk.now.events c.args.self.now.own),
+      noted_still c.args.desk.now.noted c.args.desk.now.events,
     )

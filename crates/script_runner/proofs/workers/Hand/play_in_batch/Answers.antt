@@ -7,3 +7,4 @@ returns-then-line-clause-line g c =
     let more : c.args.line.now.more ≡ true = search rules in
     line_waits g.B.Naming.boot.limits c.args.desk.now.thread c.args.known.now c.args.desk.now.events c.args.self.now.own
     c.args.self.now.batch.lines.items c.gather.new.self.lines.items c.args.self.now.answers c.args.line.now more c.in_ok-gather.ensures.waits
+    c.args.desk.now.noted

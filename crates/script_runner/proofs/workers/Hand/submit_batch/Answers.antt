@@ -9,6 +9,7 @@ use Rattle.call_text.specs.declared.known_names.Named.{Named}
 use Rattle.script_rules.specs.Asking.{with_calls}
 use Rattle.script_runner.specs.Turns.{stand, tell_with, waiting_in}
 use Rattle.script_runner.specs.declared.batches.Gathered.{Gathered}
+use Rattle.script_runner.proofs.LineLaws.{noted_after}
 use Rattle.script_runner.proofs.TurnLaws.{asked_by}
 use Rattle.script_runner.proofs.workers.Hand.submit_batch.Goals as goal
 
@@ -31,4 +32,5 @@ returns-clause-asked g c no_read =
           (ap (λ p. p.events) made.2 ∙ ap (with_calls limits c.args.desk.now.thread events) same)
           (c.in_ok-tell.ensures events
           ∙ (λ i. tell_with (map waiting_in (kept i)) replies (stand events names [] c.args.self.now.answers))),
+      noted_after limits c.args.desk.now c.submit_all.new.self events c.as_slice.result.now made.2,
     )

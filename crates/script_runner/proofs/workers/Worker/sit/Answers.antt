@@ -25,4 +25,4 @@ returns g c =
     subst (λ (p : Post). Sits g.B.Naming.boot.limits g.B.Naming.boot.seats c.args.known.now c.args.phase.now p
     (post_of c.self.inside.name c.seated.result c.self.inside.hand.own c.self.inside.hand.answers)) c.self.view_is
     (sits_new g.B.Naming.boot.limits g.B.Naming.boot.seats c.args.known.now c.args.phase.now c.self.inside.name c.self.inside.seating
-    c.seated.result c.self.inside.hand.own c.self.inside.hand.answers none takes (search rules))
+    c.seated.result c.self.inside.hand.own c.self.inside.hand.answers none takes (search rules) (search rules))
