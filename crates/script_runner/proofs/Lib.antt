@@ -1,4 +1,5 @@
 pub mod AnswerLaws
+pub mod AskedLaws
 pub mod DumpLaws
 pub mod LineLaws
 pub mod NameLemmas

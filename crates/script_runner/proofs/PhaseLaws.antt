@@ -1,5 +1,5 @@
 -- A phase, for the worker of its first line, leaves what the rules say.
-use Rattle.std.proofs.Common.{◌≡◌, ◌≢◌, ℕ, zero, suc, ◌+◌, true, false, eqb, List, [], ◌∷◌, ◌++◌, ◌<◌, length, drop, get_or, map, slice_get, slice_set, Option, Some, None, IfSome, option_map, Result, refl, ap, sym, ◌∙◌, subst, ◌⊎◌, inl, inr, position, max, min}
+use Rattle.std.proofs.Common.{◌≡◌, ◌≢◌, ℕ, zero, suc, ◌+◌, true, false, eqb, List, [], ◌∷◌, ◌++◌, ◌<◌, length, drop, get_or, map, slice_get, slice_set, length-set, Option, Some, None, IfSome, option_map, Result, refl, ap, sym, ◌∙◌, subst, ◌⊎◌, inl, inr, position, max, min}
 use Rattle.std.specs.List.{IsDistinct}
 use Rattle.std.specs.Str.{bytes_eq}
 use Rattle.std.specs.Cmp.Lexicographic.{bytes_decides}
@@ -22,7 +22,8 @@ use Rattle.script_rules.specs.Workers.{lines_in, workers_of}
 use Rattle.script_rules.proofs.OwnLaws.{own_more, own_same}
 use Rattle.script_rules.proofs.StandLaws.{onto, lines_on}
 use Rattle.script_runner.specs.Answers.{LineAnswers}
-use Rattle.script_runner.specs.Turns.{seated_after, stand, thread_after, AreOwn, IsOwn, IsRun, IsTurns, IsUnplayed}
+use Rattle.script_runner.specs.Reads.{ThreadRead}
+use Rattle.script_runner.specs.Turns.{reads_in, seated_after, stand, thread_after, AreOwn, IsOwn, IsRun, IsTurns, IsUnplayed}
 use Rattle.script_runner.specs.declared.answers.Left.{Left}
 use Rattle.script_runner.specs.declared.batches.Gathered.{Gathered}
 use Rattle.script_runner.proofs.NumberLaws.{stands_at, stands_not}
@@ -166,6 +167,7 @@ phase_run limits room workers w i lines book between after names known left old 
       seated = sat ∙ seated_is ∙ (λ k. seated_after (was.seated k) (mine.thread k) seat)
           ∙ seats_then w r.seats (thread_of w r.seats) seat;
       names = ap (λ (p : Stand). p.names) stands;
+      count = length-set left i new ∙ was.count;
       own = each_then limits r w seat lines workers left i old new distinct place there was.own
           (own_then limits r w seat lines new old.thread after.journal known g same mine.thread thread_is stands);
     })
@@ -192,11 +194,13 @@ SoFar limits room workers book names left rest all =
 pub turns_are : (limits : Limits) (script : List (List Line)) (workers : List (List ℕ)) (seats n : ℕ) (text : List ℕ) (made : List Event) (known : List Named)
     → workers ≡ workers_of (lines_in script) → n ≡ length workers → seats ≡ max 1 (min 64 n)
     → text ≡ text_of (run_from limits seats start script) workers → made ≡ (run_from limits seats start script).events
-    → known ≡ (run_from limits seats start script).names → IsTurns limits script text made known
-turns_are limits script workers seats n text made known are n_is seats_are text_is made_is known_is = record {
+    → known ≡ (run_from limits seats start script).names → (asked : List ThreadRead)
+    → asked ≡ reads_in (run_from limits seats start script) workers → IsTurns limits script text made known asked
+turns_are limits script workers seats n text made known are n_is seats_are text_is made_is known_is asked asked_is = record {
   output = text_is ∙ (λ i. text_of (run_from limits (room i) start script) (are i));
   events = made_is ∙ ap (λ (k : ℕ). (run_from limits k start script).events) room;
   names = known_is ∙ ap (λ (k : ℕ). (run_from limits k start script).names) room;
+  reads = asked_is ∙ (λ i. reads_in (run_from limits (room i) start script) (are i));
 }
   where
     room : seats ≡ room_for (workers_of (lines_in script))

@@ -7,7 +7,8 @@ use Rattle.script_rules.specs.Output.{text_of}
 use Rattle.script_rules.specs.Run.{run_from, start}
 use Rattle.script_rules.specs.Workers.{lines_in, workers_of}
 use Rattle.script_runner.specs.Dumps.{IsClosing, IsPlayed}
-use Rattle.script_runner.specs.Turns.{IsTurns}
+use Rattle.script_runner.specs.Reads.{reads_kept}
+use Rattle.script_runner.specs.Turns.{reads_in, IsTurns}
 use Rattle.script_runner.specs.Workers.{take_turns}
 use Rattle.script_runner.proofs.PhaseLaws.{turns_are}
 use Rattle.script_runner.specs.declared.play.Played.{Played}
@@ -33,13 +34,15 @@ pub turns_ok : {E : Type 0} (limits : Limits) (script : List (List Line)) (worke
     → IfOk r (λ p. p.output.items ≡ text_of (run_from limits seats start script) workers)
     → IfOk r (λ p. p.events.items ≡ (run_from limits seats start script).events)
     → IfOk r (λ p. p.names ≡ (run_from limits seats start script).names)
-    → IfOk r (λ p. take_turns script ≡ true → IsTurns limits script p.output.items p.events.items p.names)
-turns_ok limits script workers seats n (Ok p) are n_is seats_are text events names =
+    → IfOk r (λ p. reads_kept p.reads.items ≡ reads_in (run_from limits seats start script) workers)
+    → IfOk r (λ p. take_turns script ≡ true → IsTurns limits script p.output.items p.events.items p.names (reads_kept p.reads.items))
+turns_ok limits script workers seats n (Ok p) are n_is seats_are text events names reads =
     λ turns. turns_are limits script workers seats n p.output.items p.events.items p.names are n_is seats_are text events names
-turns_ok limits script workers seats n (Err e) are n_is seats_are text events names = text
+    (reads_kept p.reads.items) reads
+turns_ok limits script workers seats n (Err e) are n_is seats_are text events names reads = text
 
 -- and where they do not, nothing is said
 pub no_turns : {E : Type 0} (limits : Limits) (script : List (List Line)) (r : Result Played E) → take_turns script ≡ false
-    → IfOk r (λ p. take_turns script ≡ true → IsTurns limits script p.output.items p.events.items p.names)
+    → IfOk r (λ p. take_turns script ≡ true → IsTurns limits script p.output.items p.events.items p.names (reads_kept p.reads.items))
 no_turns limits script (Ok p) none = λ turns. absurd (true≢false (sym turns ∙ none))
 no_turns limits script (Err e) none = tt

@@ -10,7 +10,7 @@ use Rattle.check_text.specs.Checks.{IsFaultyIn}
 use Rattle.program_io.specs.declared.faults.Fault.{Fault}
 use Rattle.program_io.specs.declared.faults.Fault.TheVariants.{Input, Output, Memory}
 use Rattle.program_io.specs.declared.options.Options.{Options}
-use Rattle.script_runner.specs.Faults.{IsFaultOf, IsOtherFault, IsRefusedFor, SpellScript}
+use Rattle.script_runner.specs.Faults.{IsFaultOf, IsOtherFault, IsQuiet, IsRefusedFor, SpellScript}
 use Rattle.script_runner.specs.Runs.{IsRunTold, Writes}
 use Rattle.script_runner.specs.declared.program.RunFault.{RunFault}
 use Rattle.script_runner.specs.declared.program.RunFault.TheVariants.{Script, Other}
@@ -56,3 +56,14 @@ pub ends_with : {T : Type 0} (ended : Result T RunFault) (P : RunFault → Type 
     → P fault → IfErr ended P
 ends_with (Ok x) P fault is holds = absurd is
 ends_with (Err e) P fault is holds = subst P (sym is) holds
+
+-- what was printed stays so
+pub quiet : (printed : Option (List ℕ)) (fault : RunFault) → IsQuiet printed printed fault
+quiet printed (Script faults) = refl
+quiet printed (Other Input) = refl
+quiet printed (Other Output) = tt
+quiet printed (Other Memory) = refl
+
+-- but where the output failed
+pub broken_off : (old new : Option (List ℕ)) (fault : Fault) → fault ≡ Output → IsQuiet old new (Other fault)
+broken_off old new fault is = subst (λ (f : Fault). IsQuiet old new (Other f)) (sym is) tt

@@ -41,7 +41,8 @@ use Rattle.script_rules.specs.Output.{told_text}
 use Rattle.script_rules.specs.Run.{refusal_by, seat_for, seated, unless_refused}
 use Rattle.script_runner.specs.Answers.{LineAnswers}
 use Rattle.script_runner.specs.Desks.{SeatPlace, events_in, noted_by, noted_in, seat_in, submitted, IsGiven, IsSubmitted}
-use Rattle.script_runner.specs.Shared.{NotedStand, Post, noted_at, noted_then, notes_of, unplayed, seeing, with_note, with_waiting, wait_among, made_after, line_among, thread_in, takes_part, object_in, posts_text, left_text, AreLearnt, IsAfter, IsPlayed, IsSeated, Seats, Sits, Plays, Settles, IsPhase, ArePhases, AreLeft, AreSeen, HasSeen, IsAnswered, IsSharedBy}
+use Rattle.script_runner.specs.Reads.{ThreadRead}
+use Rattle.script_runner.specs.Shared.{NotedStand, Post, noted_at, noted_then, notes_of, unplayed, seeing, with_note, with_waiting, wait_among, made_after, line_among, thread_in, takes_part, object_in, posts_reads, posts_text, left_text, AreLearnt, IsAfter, IsPlayed, IsSeated, Seats, Sits, Plays, Settles, IsPhase, ArePhases, AreLeft, AreSeen, HasSeen, IsAnswered, IsLeftBy, IsSharedBy}
 use Rattle.script_runner.specs.Turns.{idle, stand, waiting_for, waiting_in}
 use Rattle.script_runner.specs.Workers.{lines_of}
 use Rattle.script_runner.specs.declared.answers.Left.{Left}
@@ -221,7 +222,7 @@ left_lines known [] [] are = refl
 left_lines known [] (l ∷ left) are = absurd are
 left_lines known (p ∷ posts) [] are = absurd are
 left_lines known (p ∷ posts) (l ∷ left) are = λ i.
-    flat_map (told_text known p.worker) (are.0 i) ++ left_lines known posts left are.1 i
+    flat_map (told_text known p.worker) (are.0.told i) ++ left_lines known posts left are.1 i
 
 -- what each worker has seen begins the events
 all_seen : (events : List Event) (posts : List Post) (passes : List (Option Turn))
@@ -239,13 +240,15 @@ all_seen events (p ∷ posts) (Some pass ∷ passes) are begin =
 pub shared_by : (limits : Limits) (room : ℕ) (script : List (List Line)) (workers : List (List ℕ)) (known : List Named)
     (left : List Left) (passes : List (Option Turn)) (text : List ℕ) (journal events : List Event)
     → IsAnswered limits room script workers known left passes → AllByRecursion (AreSeen journal) passes → events ≡ journal
-    → text ≡ left_text known workers left → IsSharedBy limits room script workers text events known
-shared_by limits room script workers known left passes text journal events is begin events_are text_is = record {
+    → text ≡ left_text known workers left → (asked : List ThreadRead) → ((posts : List Post) → AreLeft posts left → asked ≡ posts_reads posts)
+    → IsSharedBy limits room script workers text events known asked
+shared_by limits room script workers known left passes text journal events is begin events_are text_is asked asked_are = record {
   posts = is.posts;
   phases = is.phases;
   seen = subst (λ (es : List Event). AllByRecursion (λ (p : Post). IsPrefix p.events es) is.posts) (sym events_are)
       (all_seen journal is.posts passes is.seen begin);
   output = text_is ∙ ap (λ (ws : List (List ℕ)). left_text known ws left) (sym names) ∙ left_lines known is.posts left is.left_is;
+  reads = asked_are is.posts is.left_is;
 }
   where
     names : map (λ (p : Post). p.worker) is.posts ≡ workers
@@ -463,10 +466,10 @@ sits_new limits room known phase worker (Err r) then_seating own k none takes gi
     (events_in then_seating, refl) noted refl takes
 
 -- what one worker more leaves
-pub left_more : (posts : List Post) (left new : List Left) (p : Post) (l : Left) → AreLeft posts left → l.answers.told ≡ p.told
+pub left_more : (posts : List Post) (left new : List Left) (p : Post) (l : Left) → AreLeft posts left → IsLeftBy p l
     → new ≡ left ++ l ∷ [] → AreLeft (posts ++ p ∷ []) new
-left_more posts left new p l are told is =
-    subst (AreLeft (posts ++ p ∷ [])) (sym is) (all_zipped_more (λ (q : Post) (m : Left). m.answers.told ≡ q.told) posts left p l are told)
+left_more posts left new p l are own is =
+    subst (AreLeft (posts ++ p ∷ [])) (sym is) (all_zipped_more IsLeftBy posts left p l are own)
 
 pub passes_more : (posts : List Post) (passes new : List (Option Turn)) (p : Post) (pass : Option Turn)
     → AllZip (λ (q : Post) (o : Option Turn). HasSeen o q.events) posts passes → HasSeen pass p.events → new ≡ passes ++ pass ∷ []
@@ -476,8 +479,8 @@ passes_more posts passes new p pass are seen is =
     (all_zipped_more (λ (q : Post) (o : Option Turn). HasSeen o q.events) posts passes p pass are seen)
 
 -- what holds of two lists holds of them put together
-all_of_both : (R : Post → Post → Type 0) (ps qs then_ps then_qs : List Post) → AllZip R ps then_ps → AllZip R qs then_qs
-    → AllZip R (ps ++ qs) (then_ps ++ then_qs)
+pub all_of_both : {A B : Type 0} (R : A → B → Type 0) (ps qs : List A) (then_ps then_qs : List B) → AllZip R ps then_ps
+    → AllZip R qs then_qs → AllZip R (ps ++ qs) (then_ps ++ then_qs)
 all_of_both R [] qs [] then_qs one two = two
 all_of_both R [] qs (p ∷ then_ps) then_qs one two = absurd one
 all_of_both R (p ∷ ps) qs [] then_qs one two = absurd one

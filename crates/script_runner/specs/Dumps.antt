@@ -12,7 +12,7 @@ use Rattle.kernel_rules.specs.Events.{Event}
 use Rattle.dump_text.specs.Dump.{IsDump}
 use Rattle.dump_text.specs.Line.{IsBootable}
 use Rattle.dump_text.specs.Whole.{IsLegalDump, whole_dump}
-use Rattle.script_runner.specs.Reads.{told_reads}
+use Rattle.script_runner.specs.Reads.{told_reads, AreInOrder, ThreadRead}
 use Rattle.script_runner.specs.declared.reads.SeenRead.{SeenRead}
 
 -- a legal journal after a boot with these limits, and the tables of the state that it leads to
@@ -46,12 +46,13 @@ pub record IsRunDump (limits : Limits) (n : ℕ) (events : List Event) (reads : 
       (told_reads limits (folded limits n events) events reads))
   pub dump : IsLegalDump limits (Some checkpoint) bytes
 
--- the bytes of a run's file: the dump of these events and of reads where one is asked for, with the
+-- the bytes of a run's file: the dump of these events and of these queries where one is asked for, with the
 -- checkpoint of its first n events, and else none
-abbrev pub IsFileOf : Bool → ℕ → Limits → List Event → List ℕ → Type 0
-IsFileOf true n limits events bytes = (reads : List SeenRead) × IsRunDump limits n events reads bytes
-IsFileOf false n limits events bytes = bytes ≡ []
+abbrev pub IsFileOf : Bool → ℕ → Limits → List Event → List ThreadRead → List ℕ → Type 0
+IsFileOf true n limits events asked bytes =
+    (reads : List SeenRead) × AreInOrder asked reads × IsRunDump limits n events reads bytes
+IsFileOf false n limits events asked bytes = bytes ≡ []
 
--- the same, of some events
+-- the same, of some events and queries
 abbrev pub IsFile : Bool → ℕ → Limits → List ℕ → Type 0
-IsFile dump n limits bytes = (events : List Event) × IsFileOf dump n limits events bytes
+IsFile dump n limits bytes = (events : List Event) × (asked : List ThreadRead) × IsFileOf dump n limits events asked bytes

@@ -39,3 +39,10 @@ IsEndOf path bytes (Other fault) = IsOtherFault bytes fault
 -- the same of the bytes that a reader gives, where they are known
 abbrev pub IsRefusedFor : List ℕ → Option (List ℕ) → RunFault → Type 0
 IsRefusedFor path given fault = IfSome given (λ bytes. IsEndOf path bytes fault)
+
+-- nothing was printed, but where the output failed
+abbrev pub IsQuiet : Option (List ℕ) → Option (List ℕ) → RunFault → Type 0
+IsQuiet old new (Script faults) = new ≡ old
+IsQuiet old new (Other Input) = new ≡ old
+IsQuiet old new (Other Output) = Unit {0}
+IsQuiet old new (Other Memory) = new ≡ old

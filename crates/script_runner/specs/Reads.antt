@@ -1,7 +1,10 @@
 -- The reads of a run, as its dump tells them.
 use Rattle.std.specs.Prelude.{◌≡◌, ℕ, ◌-◌, ◌≤◌, ◌==◌, ◌||◌, ◌&&◌, not, nat_le, length, take}
-use Rattle.std.specs.Prelude.{Bool, if◌then◌else◌, List, [], ◌∷◌, ◌++◌, Option, Some, None}
+use Rattle.std.specs.Prelude.{Bool, if◌then◌else◌, List, [], ◌∷◌, ◌++◌, map, flat_map, Option, Some, None}
 use Rattle.std.specs.List.{AllZip}
+use Rattle.std.specs.List.Sorted.{IsPermutation, IsSortedByKey, IsStableByKey}
+use Rattle.std.specs.Ordering.{nat_cmp, ordering_then}
+use Rattle.std.specs.declared.cmp.Ordering.{Ordering}
 use Rattle.std.specs.Str.{bytes_eq}
 use Rattle.base.specs.declared.ranges.Limits.{Limits}
 use Rattle.kernel_rules.specs.Events.{Event}
@@ -14,6 +17,9 @@ use Rattle.dump_text.specs.Whole.{raw_reply}
 use Rattle.dump_text.specs.declared.read_replies.ReadReply.{ReadReply}
 use Rattle.dump_text.specs.declared.tables.PlacedRead.{PlacedRead}
 use Rattle.script_rules.specs.Lines.{Seen}
+use Rattle.script_runner.specs.Answers.{LineAnswers}
+use Rattle.script_runner.specs.declared.answers.Left.{Left}
+use Rattle.script_runner.specs.declared.reads.Reads.{Reads}
 use Rattle.script_runner.specs.declared.reads.SeenRead.{SeenRead}
 use Rattle.script_runner.specs.declared.replays.Replay.{Replay}
 
@@ -27,6 +33,42 @@ pub record IsReadOf (thread : ℕ) (asked : Seen) (read : SeenRead) : Type 0 whe
 -- queries that were answered are added, as reads of the thread
 abbrev pub AddsReads : ℕ → List Seen → List SeenRead → List SeenRead → Type 0
 AddsReads thread asked old new = (added : List SeenRead) × AllZip (IsReadOf thread) asked added × (new ≡ old ++ added)
+
+-- a query that a thread was answered
+pub record ThreadRead : Type 0 where
+  pub thread : ℕ
+  pub asked : Seen
+
+-- those of a worker, where it was given a seat
+abbrev pub reads_by : Option ℕ → List Seen → List ThreadRead
+reads_by (Some thread) reads = map (λ s. record { thread = thread; asked = s }) reads
+reads_by None reads = []
+
+-- what a worker was answered, with its thread
+abbrev pub with_thread : LineAnswers → ℕ → Reads
+with_thread answers thread = record { thread = thread; answers = answers }
+
+-- the queries of workers, as they are kept, and as the workers leave them
+abbrev pub reads_kept : List Reads → List ThreadRead
+reads_kept workers = flat_map (λ r. reads_by (Some r.thread) r.answers.reads) workers
+
+abbrev pub reads_left : List Left → List ThreadRead
+reads_left left = flat_map (λ l. reads_by l.thread l.answers.reads) left
+
+-- reads stand by rising length, at each length by rising thread
+abbrev pub place_of : SeenRead → ℕ × ℕ
+place_of r = (r.length, r.thread)
+
+abbrev pub by_place : ℕ × ℕ → ℕ × ℕ → Ordering
+by_place x y = ordering_then (nat_cmp x.0 y.0) (nat_cmp x.1 y.1)
+
+-- the reads of these queries in that order, and those at one place in theirs
+pub record AreInOrder (asked : List ThreadRead) (reads : List SeenRead) : Type 0 where
+  pub all : List SeenRead
+  pub are : AllZip (λ a r. IsReadOf a.thread a.asked r) asked all
+  pub same : IsPermutation all reads
+  pub rising : IsSortedByKey place_of by_place reads
+  pub stable : IsStableByKey place_of by_place all reads
 
 -- a reply as it stands in a dump, where it is printed so without names
 abbrev pub if_printed : List ℕ → Reply → Option ReadReply

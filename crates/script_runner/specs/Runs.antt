@@ -11,21 +11,24 @@ use Rattle.call_text.specs.Scripts.{kept_numbers, plain_text}
 use Rattle.program_io.specs.declared.options.Options.{Options}
 use Rattle.script_runner.specs.Dumps.{IsFileOf}
 use Rattle.script_runner.specs.Names.{IsNamesFileOf}
+use Rattle.script_runner.specs.Reads.{ThreadRead}
 use Rattle.script_runner.specs.Shared.{IsShared}
 use Rattle.script_runner.specs.Turns.{IsTurns}
 use Rattle.script_runner.specs.Workers.{take_turns}
 
 -- what a script leaves: its run by the rules, if its workers take turns, and else what workers leave who share phases
-pub record Leaves (limits : Limits) (script : List (List Line)) (text : List ℕ) (events : List Event) (known : List Named) : Type 0 where
-  pub turns : take_turns script ≡ true → IsTurns limits script text events known
-  pub shared : take_turns script ≡ false → IsShared limits script text events known
+pub record Leaves (limits : Limits) (script : List (List Line)) (text : List ℕ) (events : List Event) (known : List Named)
+    (asked : List ThreadRead) : Type 0 where
+  pub turns : take_turns script ≡ true → IsTurns limits script text events known asked
+  pub shared : take_turns script ≡ false → IsShared limits script text events known asked
 
--- it leaves this text, and the files are of the events and the names that it leaves
+-- it leaves this text, and the files are of the events, the names and the queries that it leaves
 pub record Writes (options : Options) (script : List (List Line)) (text dump names : List ℕ) : Type 0 where
   pub events : List Event
   pub known : List Named
-  pub left : Leaves options.limits script text events known
-  pub dumped : IsFileOf options.dump options.checkpoint options.limits events dump
+  pub asked : List ThreadRead
+  pub left : Leaves options.limits script text events known asked
+  pub dumped : IsFileOf options.dump options.checkpoint options.limits events asked dump
   pub named : IsNamesFileOf options.names known names
 
 -- the script that the exact form of these bytes spells writes these files, and its text was added to what was printed, by the

@@ -20,6 +20,7 @@ use Rattle.script_rules.specs.Run.{refusal_by, room_for, seat_for, seated}
 use Rattle.script_rules.specs.Workers.{lines_in, workers_of}
 use Rattle.published_copy.specs.Turns.{Turn}
 use Rattle.script_runner.specs.Names.{all_bound}
+use Rattle.script_runner.specs.Reads.{reads_by, ThreadRead}
 use Rattle.script_runner.specs.Workers.{lines_of}
 use Rattle.script_runner.specs.declared.answers.Left.{Left}
 
@@ -196,28 +197,38 @@ ArePhases limits room (phase ∷ more) known before known' after =
 abbrev pub posts_text : List Named → List Post → List ℕ
 posts_text known posts = flat_map (λ p. flat_map (told_text known p.worker) p.told) posts
 
--- what a script of these workers, who share phases, leaves: what each saw begins the events, these names are known at the end, and
--- the text is of what each was told
+-- the queries that they were answered, one worker's after another's
+abbrev pub posts_reads : List Post → List ThreadRead
+posts_reads posts = flat_map (λ p. reads_by (thread_in p.seat) p.reads) posts
+
+-- what a script of these workers, who share phases, leaves: what each saw begins the events, these names are known at the end, the
+-- text is of what each was told, and these queries were answered
 pub record IsSharedBy (limits : Limits) (room : ℕ) (script : List (List Line)) (workers : List (List ℕ)) (text : List ℕ)
-    (events : List Event) (known : List Named) : Type 0 where
+    (events : List Event) (known : List Named) (asked : List ThreadRead) : Type 0 where
   pub posts : List Post
   pub phases : ArePhases limits room script start_values (map unplayed workers) known posts
   pub seen : AllByRecursion (λ p. IsPrefix p.events events) posts
   pub output : text ≡ posts_text known posts
+  pub reads : asked ≡ posts_reads posts
 
 -- the same of a script
-abbrev pub IsShared : Limits → List (List Line) → List ℕ → List Event → List Named → Type 0
-IsShared limits script text events known =
-    IsSharedBy limits (room_for (workers_of (lines_in script))) script (workers_of (lines_in script)) text events known
+abbrev pub IsShared : Limits → List (List Line) → List ℕ → List Event → List Named → List ThreadRead → Type 0
+IsShared limits script text events known asked =
+    IsSharedBy limits (room_for (workers_of (lines_in script))) script (workers_of (lines_in script)) text events known asked
 
 -- the pass, where there is one, has seen these events; else they are none
 abbrev pub HasSeen : Option Turn → List Event → Type 0
 HasSeen (Some pass) events = pass.seen ≡ events
 HasSeen None events = events ≡ []
 
--- what each worker leaves has what its lines were told
+-- what a worker leaves: its thread, what its lines were told and what it read
+pub record IsLeftBy (p : Post) (l : Left) : Type 0 where
+  pub thread : l.thread ≡ thread_in p.seat
+  pub told : l.answers.told ≡ p.told
+  pub reads : l.answers.reads ≡ p.reads
+
 abbrev pub AreLeft : List Post → List Left → Type 0
-AreLeft posts left = AllZip (λ p l. l.answers.told ≡ p.told) posts left
+AreLeft posts left = AllZip IsLeftBy posts left
 
 -- what the pass has seen, where there is one, begins the events
 abbrev pub AreSeen : List Event → Option Turn → Type 0

@@ -1,5 +1,5 @@
 -- A run whose workers take turns, as it stands in memory, and what it leaves.
-use Rattle.std.specs.Prelude.{◌≡◌, ℕ, List, [], ◌∷◌, ◌++◌, map, slice_get, Option, Some, None, IfSome, Result, Ok, Err}
+use Rattle.std.specs.Prelude.{◌≡◌, ℕ, List, [], ◌∷◌, ◌++◌, flat_map, length, map, slice_get, Option, Some, None, IfSome, Result, Ok, Err}
 use Rattle.base.specs.declared.ranges.Limits.{Limits}
 use Rattle.base.specs.declared.refusals.Refusal.{Refusal}
 use Rattle.kernel_rules.specs.Events.{Event}
@@ -13,7 +13,9 @@ use Rattle.published_copy.specs.Books.{BookView}
 use Rattle.script_rules.specs.Lines.{Stand, Waiting, tell_waiting}
 use Rattle.script_rules.specs.Output.{output_text, own}
 use Rattle.script_rules.specs.Run.{Run, run, thread_of}
+use Rattle.script_rules.specs.Workers.{lines_in, workers_of}
 use Rattle.script_runner.specs.Answers.{LineAnswers}
+use Rattle.script_runner.specs.Reads.{reads_by, ThreadRead}
 use Rattle.script_runner.specs.declared.answers.Left.{Left}
 use Rattle.script_runner.specs.declared.batches.Gathered.{Gathered}
 
@@ -83,10 +85,17 @@ pub record IsRun (workers : List (List ℕ)) (book : BookView) (known : List Nam
   pub journal : book.journal ≡ r.events
   pub seated : book.seated ≡ map (λ s. s.1) r.seats
   pub names : known ≡ r.names
+  pub count : length left ≡ length workers
   pub own : AreOwn workers left r
 
--- what a script leaves is that of its run, and so is what it prints, and which names are known at the end
-pub record IsTurns (limits : Limits) (script : List (List Line)) (text : List ℕ) (made : List Event) (known : List Named) : Type 0 where
+-- the queries that workers were answered in a run, one worker's after another's
+abbrev pub reads_in : Run → List (List ℕ) → List ThreadRead
+reads_in r workers = flat_map (λ w. reads_by (thread_of w r.seats) (own w r.reads)) workers
+
+-- what a script leaves is that of its run, and so is what it prints, which names are known at the end, and what was read
+pub record IsTurns (limits : Limits) (script : List (List Line)) (text : List ℕ) (made : List Event) (known : List Named)
+    (asked : List ThreadRead) : Type 0 where
   pub output : text ≡ output_text script (run limits script)
   pub events : made ≡ (run limits script).events
   pub names : known ≡ (run limits script).names
+  pub reads : asked ≡ reads_in (run limits script) (workers_of (lines_in script))

@@ -12,7 +12,7 @@ ghost use Rattle.call_text.specs.declared.known_names.Named.{Named};
 ghost use Rattle.script_rules.specs.Lines.{seen, told};
 ghost use Rattle.script_rules.specs.Output.{answer_text};
 ghost use Rattle.script_runner.specs.Answers.{answer_of, seen_in, AllStay, IsReply, Keeps};
-ghost use Rattle.script_runner.specs.Reads.{AddsReads, IsReadOf};
+ghost use Rattle.script_runner.specs.Reads.{with_thread, AddsReads, IsReadOf};
 
 use crate::faults::PlayFault;
 use crate::names::BoundNames;
@@ -505,7 +505,9 @@ pub struct Left {
 
 impl Left {
     /// The worker's reads, where its thread was given a seat.
-    pub fn into_reads(self) -> Option<Reads> {
+    pub fn into_reads(self) -> Option<Reads>
+        ensures { result ≡ option_map (with_thread self.answers) self.thread }
+    {
         let Left { thread, answers } = self;
         match thread {
             Some(thread) => Some(Reads { thread, answers }),

@@ -1,5 +1,5 @@
 //! Playing a script whose workers take turns: in one thread, on one kernel that has no copies.
-ghost use Rattle.std.specs.Prelude.{◌≡◌, [], ℕ, None, IfOk, IfSome, OnOk, slice_get};
+ghost use Rattle.std.specs.Prelude.{◌≡◌, [], ℕ, None, IfOk, IfSome, OnOk, length, slice_get};
 ghost use Rattle.std.specs.List.{IsDistinct};
 ghost use Rattle.std.specs.Str.{bytes_eq};
 ghost use Rattle.kernel_rules.specs.History.{state_of};
@@ -8,7 +8,8 @@ ghost use Rattle.call_text.specs.Known.{start_values};
 ghost use Rattle.script_rules.specs.Output.{text_of};
 ghost use Rattle.script_rules.specs.Run.{phase_after, refusal_by, run_from, seat_for, seated, start, unless_refused, Run};
 ghost use Rattle.script_runner.specs.Dumps.{IsPlayed};
-ghost use Rattle.script_runner.specs.Turns.{seated_after, thread_after, AreOwn, IsRun, IsUnplayed};
+ghost use Rattle.script_runner.specs.Reads.{reads_kept, reads_left};
+ghost use Rattle.script_runner.specs.Turns.{reads_in, seated_after, thread_after, AreOwn, IsRun, IsUnplayed};
 
 use crate::answers::{Answers, Left};
 use crate::batches::Batch;
@@ -99,7 +100,8 @@ fn play_phase<B: Naming>(
 
 /// The workers of a script, none with a seat.
 fn idle(alloc: Global, count: usize) -> Result<Vec<Left>, AllocError>
-    ensures { IfOk result (λ idle. (i : ℕ) → IfSome (slice_get idle.items i) IsUnplayed) }
+    ensures unplayed { IfOk result (λ idle. (i : ℕ) → IfSome (slice_get idle.items i) IsUnplayed) }
+    ensures count { IfOk result (λ idle. length idle.items ≡ count) }
 {
     let mut idle = Vec::new(alloc);
     for _ in 0..count {
@@ -140,6 +142,7 @@ fn told_with<B: Naming>(
 ) -> Result<(Printed, Tables), PlayFault>
     ensures text { IfOk result (λ told. (r : Run) → AreOwn workers.now.keys left.items r → player.now.names ≡ r.names
         → told.0.output.items ≡ text_of r workers.now.keys) }
+    ensures reads { IfOk result (λ told. reads_kept told.0.reads.items ≡ reads_left left.items) }
     ensures tables { IfOk result (λ told. told.1 ≡ scratch (state_of B.boot.limits player.now.desk.journal)) }
 {
     let told = told_of(alloc, workers, left, &player.names)?;
@@ -159,6 +162,8 @@ fn told_in<B: Naming>(
     requires names { player.old.names ≡ start_values }
     ensures text { IfOk result (λ told. told.0.output.items
         ≡ text_of (run_from B.boot.limits B.boot.seats start script.now) workers.now.keys) }
+    ensures reads { IfOk result (λ told. reads_kept told.0.reads.items
+        ≡ reads_in (run_from B.boot.limits B.boot.seats start script.now) workers.now.keys) }
     ensures events { OnOk result (player.new.desk.journal
         ≡ (run_from B.boot.limits B.boot.seats start script.now).events) }
     ensures names { OnOk result (player.new.names
@@ -187,6 +192,8 @@ pub fn play_alone<B: Naming>(
         ≡ (run_from limits.now seats start script.now).events) }
     ensures names { IfOk result (λ played. played.names
         ≡ (run_from limits.now seats start script.now).names) }
+    ensures reads { IfOk result (λ played. reads_kept played.reads.items
+        ≡ reads_in (run_from limits.now seats start script.now) workers.now.keys) }
 {
     let names = BoundNames::start(alloc)?;
     let mut player = Player::<B> {

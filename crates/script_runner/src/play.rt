@@ -3,6 +3,7 @@ ghost use Rattle.std.specs.Prelude.{◌≡◌, ◌<◌, ◌≤◌, true, false, 
 ghost use Rattle.script_runner.specs.Dumps.{IsPlayed};
 ghost use Rattle.script_rules.specs.Workers as rules;
 ghost use Rattle.script_rules.specs.Workers.{lines_in};
+ghost use Rattle.script_runner.specs.Reads.{reads_kept};
 ghost use Rattle.script_runner.specs.Shared.{IsShared};
 ghost use Rattle.script_runner.specs.Turns.{IsTurns};
 ghost use Rattle.script_runner.specs.Workers.{take_turns};
@@ -58,7 +59,8 @@ fn play_seated<R: Threads + Wait + Sync>(
     limits: &Limits,
 ) -> Result<Played, PlayFault>
     requires { workers.now.keys ≡ rules.workers_of (lines_in script.now) }
-    ensures shared { IfOk result (λ played. IsShared limits.now script.now played.output.items played.events.items played.names) }
+    ensures shared { IfOk result (λ played. IsShared limits.now script.now played.output.items played.events.items played.names
+        (reads_kept played.reads.items)) }
     ensures played { IfOk result (λ played. IsPlayed limits.now played.events.items played.tables) }
 {
     match Boot::with_seats(alloc, limits, seats_for(workers.len())) {
@@ -76,7 +78,8 @@ fn play_turns(
 ) -> Result<Played, PlayFault>
     requires { workers.now.keys ≡ rules.workers_of (lines_in script.now) }
     ensures turns { IfOk result (λ played. take_turns script.now ≡ true
-        → IsTurns limits.now script.now played.output.items played.events.items played.names) }
+        → IsTurns limits.now script.now played.output.items played.events.items played.names
+        (reads_kept played.reads.items)) }
     ensures played { IfOk result (λ played. IsPlayed limits.now played.events.items played.tables) }
 {
     let seats = seats_for(workers.len());
@@ -94,7 +97,7 @@ fn play_turns(
 /// of a name that is not known. Where the workers take turns, the output, the journal and the names are those of the script's run
 /// by the rules: each line has the reply of the rules in the state in which its turn came. Where they share phases, each line has
 /// the reply of the rules after the events that its worker had then seen: these begin the journal, and begin with those of the line
-/// before, and a call is the next event after them.
+/// before, and a call is the next event after them. Its reads are the queries that its workers were so answered.
 pub fn play_all<R: Threads + Wait + Sync>(
     rt: &R,
     alloc: Global,
@@ -102,9 +105,11 @@ pub fn play_all<R: Threads + Wait + Sync>(
     limits: &Limits,
 ) -> Result<Played, PlayFault>
     ensures shared { IfOk result (λ played. take_turns script.now ≡ false
-        → IsShared limits.now script.now played.output.items played.events.items played.names) }
+        → IsShared limits.now script.now played.output.items played.events.items played.names
+        (reads_kept played.reads.items)) }
     ensures turns { IfOk result (λ played. take_turns script.now ≡ true
-        → IsTurns limits.now script.now played.output.items played.events.items played.names) }
+        → IsTurns limits.now script.now played.output.items played.events.items played.names
+        (reads_kept played.reads.items)) }
     ensures played { IfOk result (λ played. IsPlayed limits.now played.events.items played.tables) }
 {
     let Workers {

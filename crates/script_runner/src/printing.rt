@@ -2,6 +2,7 @@
 ghost use Rattle.std.specs.Prelude.{◌≡◌, ◌++◌, IfOk, IfSome, OnOk, flat_map, slice_get};
 ghost use Rattle.script_rules.specs.Output.{text_of, told_text};
 ghost use Rattle.script_rules.specs.Run.{Run};
+ghost use Rattle.script_runner.specs.Reads.{reads_kept, reads_left};
 ghost use Rattle.script_runner.specs.Shared.{left_text};
 ghost use Rattle.script_runner.specs.Turns.{AreOwn};
 
@@ -82,7 +83,9 @@ fn output_of(
 }
 
 /// The reads of each worker that was given a seat.
-fn reads_of(alloc: Global, left: Vec<Left>) -> Result<Vec<Reads>, AllocError> {
+fn reads_of(alloc: Global, left: Vec<Left>) -> Result<Vec<Reads>, AllocError>
+    ensures { IfOk result (λ reads. reads_kept reads.items ≡ reads_left left.items) }
+{
     let mut reads = Vec::with_capacity(alloc, left.len())?;
     for own in left {
         if let Some(own) = own.into_reads() {
@@ -102,6 +105,7 @@ pub fn told_of(
     ensures text { IfOk result (λ told. (r : Run) → AreOwn workers.now.keys left.items r → names.now ≡ r.names
         → told.output.items ≡ text_of r workers.now.keys) }
     ensures lines { IfOk result (λ told. told.output.items ≡ left_text names.now workers.now.keys left.items) }
+    ensures reads { IfOk result (λ told. reads_kept told.reads.items ≡ reads_left left.items) }
 {
     let output = output_of(alloc, workers, left.as_slice(), names)?;
     let reads = reads_of(alloc, left)?;

@@ -2,9 +2,10 @@
 ghost use Rattle.std.specs.Prelude.{◌≡◌, IfErr, IfOk, IfSome};
 ghost use Rattle.call_text.specs.Script.{IsScript};
 ghost use Rattle.call_text.specs.Scripts.{kept_numbers, plain_text};
-ghost use Rattle.script_runner.specs.Faults.{IsFaultOf, IsRefusedFor, run_status};
+ghost use Rattle.script_runner.specs.Faults.{IsFaultOf, IsQuiet, IsRefusedFor, run_status};
 ghost use Rattle.script_runner.specs.Dumps.{IsFile, IsFileOf, IsPlayed};
 ghost use Rattle.script_runner.specs.Names.{IsNamesFileOf};
+ghost use Rattle.script_runner.specs.Reads.{reads_kept};
 ghost use Rattle.script_runner.specs.Runs.{IsRunTold, Writes};
 
 use crate::dumps::dump_of;
@@ -127,7 +128,7 @@ fn file_of(
 ) -> Result<Vec<u8>, NoMemory>
     requires { IsPlayed options.now.limits events.now tables }
     ensures { IfOk result
-        (λ file. IsFileOf options.now.dump options.now.checkpoint options.now.limits events.now file.items) }
+        (λ file. IsFileOf options.now.dump options.now.checkpoint options.now.limits events.now (reads_kept reads.now) file.items) }
 {
     if !options.dump {
         return Ok(Vec::new(alloc));
@@ -192,9 +193,9 @@ fn texts_of<R: Threads + Wait + Sync>(
 /// nothing. The faults are found in this order: reading, the script's, want of memory in playing and in making the texts,
 /// writing. No byte goes to `out` before the replies, the dump and the names are whole. Where the workers take turns, output,
 /// dump and names are those of the script's run by the rules. Where they share phases, each line that is printed is answered after
-/// events that its worker had then seen, which begin those of the dump, and the names are as they are known at the end. It waits for
-/// all threads that it starts. The lines of the script and the events are not given back: that would take as long as to read many of
-/// them, and the program ends then.
+/// events that its worker had then seen, which begin those of the dump, and the names are as they are known at the end. The dump
+/// tells the queries that the workers were answered. It waits for all threads that it starts. The lines of the script and the events
+/// are not given back: that would take as long as to read many of them, and the program ends then.
 pub fn histar_on<R: Threads + Wait + Sync, I: Read, S: Sink>(
     rt: &R,
     alloc: Global,
@@ -209,6 +210,7 @@ pub fn histar_on<R: Threads + Wait + Sync, I: Read, S: Sink>(
         (λ bytes. IsRunTold options.now bytes (S.contents out.old) (S.contents out.new)
         files.dump.items files.names.items)) }
     ensures fault { IfErr result (IsRefusedFor path.now (I.remaining script.old)) }
+    ensures quiet { IfErr result (IsQuiet (S.contents out.old) (S.contents out.new)) }
 {
     let bytes = bytes_of(alloc, script)?;
     let Exact { script, plain } = script_of(alloc, path, bytes.as_slice())?;

@@ -1,4 +1,7 @@
 //! What the workers of a run asked, and what they were answered.
+ghost use Rattle.std.specs.Prelude.{IfOk};
+ghost use Rattle.script_runner.specs.Reads.{reads_kept, AreInOrder};
+
 use crate::answers::Answers;
 use base::{NoMemory, ObjectId};
 use kernel_rules::Query;
@@ -28,7 +31,9 @@ pub struct SeenRead {
 
 /// The reads of all workers: by rising length, at each length by rising thread, and there in the thread's order. The
 /// error is want of memory.
-pub fn seen_reads(alloc: Global, workers: &[Reads]) -> Result<Vec<SeenRead>, NoMemory> {
+pub fn seen_reads(alloc: Global, workers: &[Reads]) -> Result<Vec<SeenRead>, NoMemory>
+    ensures { IfOk result (λ reads. AreInOrder (reads_kept workers.now) reads.items) }
+{
     let mut all = Vec::new(alloc);
     for reads in workers {
         reads.answers.add_reads(alloc, reads.thread, &mut all)?;

@@ -123,7 +123,8 @@ impl<B: Naming> SharedDesk<'_, B> {
 
     /// The pass of the seat, which has seen the same.
     pub fn into_pass(self) -> Pass<B>
-        ensures { result.seen ≡ self.entry.events }
+        ensures seen { result.seen ≡ self.entry.events }
+        ensures thread { result.thread ≡ self.entry.thread }
     {
         self.seat.into_pass()
     }

@@ -5,6 +5,7 @@ ghost use Rattle.std.specs.Thread.{IsSend, IsSync};
 ghost use mathlib.Core.List.{IsPrefix};
 ghost use Rattle.call_text.specs.Known.{start_values};
 ghost use Rattle.script_runner.specs.Dumps.{IsClosing};
+ghost use Rattle.script_runner.specs.Reads.{reads_kept};
 ghost use Rattle.script_runner.specs.Shared as rules;
 ghost use Rattle.script_runner.specs.Shared.{Post, all_known, notes_of, posts_text, unplayed, ArePhases, AreLeft, AreSeen, HasSeen, IsPhase, Plays, Settles, Sits};
 
@@ -310,7 +311,7 @@ pub fn play_shared<B: Naming + Send, R: Threads + Wait + Sync>(
     requires { boot ≡ B.boot }
     ensures closing { IfOk result (λ played. IsClosing B.boot.limits played.events.items played.tables) }
     ensures shared { IfOk result (λ played. rules.IsSharedBy B.boot.limits B.boot.seats script.now workers.now.keys
-        played.output.items played.events.items played.names) }
+        played.output.items played.events.items played.names (reads_kept played.reads.items)) }
 {
     let shared = boot.open::<B>();
     let answered = play_workers(rt, alloc, &shared, script, workers);

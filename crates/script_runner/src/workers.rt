@@ -378,7 +378,7 @@ impl<'s, B: Naming> Worker<'s, B> {
 
     /// What it leaves, and the pass of its seat, where it has one.
     pub fn leave(self) -> (Left, Option<Pass<B>>)
-        ensures told { result.0.answers.told ≡ self.entry.told }
+        ensures left { shared.IsLeftBy self.entry result.0 }
         ensures seen { shared.HasSeen result.1 self.entry.events }
     {
         let Worker {

@@ -5,6 +5,7 @@ use Rattle.kernel_rules.specs.History.{IsLegal, state_of}
 use Rattle.kernel_rules.specs.Scratch.{scratch}
 use Rattle.script_rules.specs.Output.{text_of}
 use Rattle.script_rules.specs.Run.{run_from, start}
+use Rattle.script_runner.specs.Turns.{reads_in}
 use Rattle.script_runner.proofs.lone_play.play_alone.Goals as goal
 
 pub returns-clause-played : goal.returns-clause-played
@@ -39,3 +40,8 @@ pub returns-clause-names : goal.returns-clause-names
 returns-clause-names g c =
     c.in_ok-told.ensures.names
     ∙ (λ i. (run_from (sym c.requires.limits i) (sym c.requires.seats i) start c.args.script.now).names)
+
+pub returns-clause-reads : goal.returns-clause-reads
+returns-clause-reads g c =
+    c.in_ok-told.ensures.reads
+    ∙ (λ i. reads_in (run_from (sym c.requires.limits i) (sym c.requires.seats i) start c.args.script.now) c.args.workers.now.keys)

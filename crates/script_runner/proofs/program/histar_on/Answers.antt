@@ -2,9 +2,9 @@ use Rattle.std.proofs.Common.{rules, ◌≡◌, List, ℕ, ◌∙◌, ap, subst}
 use Rattle.call_text.specs.Numbers.{renumbered}
 use Rattle.call_text.specs.Script.{IsScript}
 use Rattle.call_text.specs.Scripts.{kept_numbers, plain_text}
-use Rattle.script_runner.specs.Faults.{IsFaultOf, IsRefusedFor}
+use Rattle.script_runner.specs.Faults.{IsFaultOf, IsQuiet, IsRefusedFor}
 use Rattle.script_runner.specs.declared.program.RunFault.TheVariants.{Other}
-use Rattle.script_runner.proofs.RunLaws.{ends_with, run_of, unplayed, unread, unwritten}
+use Rattle.script_runner.proofs.RunLaws.{broken_off, ends_with, quiet, run_of, unplayed, unread, unwritten}
 use Rattle.script_runner.proofs.program.histar_on.Goals as goal
 
 pub returns-clause-run : goal.returns-clause-run
@@ -41,3 +41,19 @@ returns-in_err-deliver-clause-fault g c =
     c.in_err-deliver.field-0.0 c.in_ok-bytes.ensures.bytes
     (subst (λ (bs : List ℕ). IsScript (plain_text bs) c.in_ok-script.field-0.script) c.as_slice.ensures.value c.in_ok-script.ensures.script)
     c.in_err-deliver.ensures.fault)
+
+pub returns-in_err-bytes-clause-quiet : goal.returns-in_err-bytes-clause-quiet
+returns-in_err-bytes-clause-quiet g c =
+    ends_with c.from_residual.result (IsQuiet (g.S.Sink.contents c.args.out.now) (g.S.Sink.contents c.args.out.now)) (Other c.in_err-bytes.field-0.0)
+    c.from_residual.ensures.1 (quiet (g.S.Sink.contents c.args.out.now) (Other c.in_err-bytes.field-0.0))
+
+pub returns-in_err-script-clause-quiet : goal.returns-in_err-script-clause-quiet
+returns-in_err-script-clause-quiet g c =
+    ends_with c.from_residual-in_err-script.result (IsQuiet (g.S.Sink.contents c.args.out.now) (g.S.Sink.contents c.args.out.now))
+    c.in_err-script.field-0.0 c.from_residual-in_err-script.ensures.1 (quiet (g.S.Sink.contents c.args.out.now) c.in_err-script.field-0.0)
+
+pub returns-in_err-deliver-clause-quiet : goal.returns-in_err-deliver-clause-quiet
+returns-in_err-deliver-clause-quiet g c =
+    ends_with c.from_residual-in_err-deliver.result (IsQuiet (g.S.Sink.contents c.args.out.now) (g.S.Sink.contents c.deliver.new.sink))
+    (Other c.in_err-deliver.field-0.0) c.from_residual-in_err-deliver.ensures.1
+    (broken_off (g.S.Sink.contents c.args.out.now) (g.S.Sink.contents c.deliver.new.sink) c.in_err-deliver.field-0.0 c.in_err-deliver.ensures.fault)

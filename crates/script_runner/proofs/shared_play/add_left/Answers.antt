@@ -3,7 +3,7 @@ use Rattle.script_runner.proofs.shared_play.add_left.Goals as goal
 
 pub returns-clause-left : goal.returns-clause-left
 returns-clause-left g c before are =
-    left_more before c.args.left.now.items c.push.new.self.items c.args.worker c.leave-own.result.0 are c.leave-own.ensures.told
+    left_more before c.args.left.now.items c.push.new.self.items c.args.worker c.leave-own.result.0 are c.leave-own.ensures.left
     c.in_ok-push.ensures.items
 
 pub returns-clause-seen : goal.returns-clause-seen
