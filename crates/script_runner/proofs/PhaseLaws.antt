@@ -1,5 +1,5 @@
 -- A phase, for the worker of its first line, leaves what the rules say.
-use Rattle.std.proofs.Common.{◌≡◌, ◌≢◌, ℕ, zero, suc, ◌+◌, true, false, eqb, List, [], ◌∷◌, ◌++◌, ◌<◌, length, drop, get_or, map, slice_get, slice_set, length-set, Option, Some, None, IfSome, option_map, Result, refl, ap, sym, ◌∙◌, subst, ◌⊎◌, inl, inr, position, max, min}
+use Rattle.std.proofs.Common.{◌≡◌, ◌≢◌, ℕ, zero, suc, true, false, eqb, List, [], ◌∷◌, ◌<◌, length, get_or, map, slice_get, slice_set, length-set, Option, Some, None, IfSome, option_map, Result, refl, ap, sym, ◌∙◌, subst, ◌⊎◌, inl, inr, position, max, min}
 use Rattle.std.specs.List.{IsDistinct}
 use Rattle.std.specs.Str.{bytes_eq}
 use Rattle.std.specs.Cmp.Lexicographic.{bytes_decides}
@@ -23,12 +23,11 @@ use Rattle.script_rules.proofs.OwnLaws.{own_more, own_same}
 use Rattle.script_rules.proofs.StandLaws.{onto, lines_on}
 use Rattle.script_runner.specs.Answers.{LineAnswers}
 use Rattle.script_runner.specs.Reads.{ThreadRead}
-use Rattle.script_runner.specs.Turns.{reads_in, seated_after, stand, thread_after, AreOwn, IsOwn, IsRun, IsTurns, IsUnplayed}
+use Rattle.script_runner.specs.Turns.{reads_in, seated_after, stand, thread_after, AreOwn, IsOwn, IsRun, IsTurns}
 use Rattle.script_runner.specs.declared.answers.Left.{Left}
 use Rattle.script_runner.specs.declared.batches.Gathered.{Gathered}
 use Rattle.script_runner.proofs.NumberLaws.{stands_at, stands_not}
 use Rattle.script_runner.proofs.SeatLaws.{seat_other, seat_own, seats_then}
-use Rattle.script_runner.proofs.TurnLaws.{drop_next}
 
 -- what is written at a place, and what stands at others
 set_own : {A : Type 0} (xs : List A) (i : ℕ) (x y : A) → slice_get xs i ≡ Some y → slice_get (slice_set xs i x) i ≡ Some x

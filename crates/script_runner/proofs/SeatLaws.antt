@@ -1,22 +1,10 @@
 -- Which worker has which thread, and why a thread is given no seat.
-use Rattle.std.proofs.Common.{◌≡◌, ℕ, ◌==◌, ◌||◌, not, nat_lt, Bool, true, false, cond, List, [], ◌∷◌, ◌++◌, map, length, Option, Some, None, Result, Ok, Err, refl, ap, sym, ◌∙◌}
-use Rattle.std.specs.Option.{option_map}
+use Rattle.std.proofs.Common.{◌≡◌, ℕ, Bool, true, false, cond, List, [], ◌∷◌, ◌++◌, map, Option, Some, None, Result, Ok, Err, refl, ap, sym}
 use Rattle.std.specs.Str.{bytes_eq}
 use Rattle.std.proofs.lemmas.List.{map-append}
 use Rattle.std.proofs.lemmas.Option.{none-some}
-use Rattle.base.specs.Live.{has}
-use Rattle.base.specs.declared.kinds.Kind.TheVariants as kinds
 use Rattle.base.specs.declared.refusals.Refusal.{Refusal}
-use Rattle.base.specs.declared.refusals.Refusal.TheVariants.{SeatTaken, NoThread, SeatsSpent}
-use Rattle.kernel_rules.specs.History.{count, state_of}
-use Rattle.kernel_rules.specs.State.{is_live_kind}
-use Rattle.published_copy.specs.Books.{BookView}
-use Rattle.published_copy.specs.Boots.{Boot}
-use Rattle.published_copy.specs.Refusals.{seat_refusal}
-use Rattle.published_copy.specs.Seats.{seat_refused}
-use Rattle.published_copy.specs.declared.refusals.SeatRefusal.{SeatRefusal}
-use Rattle.published_copy.specs.declared.refusals.SeatRefusal.TheVariants as seat
-use Rattle.script_rules.specs.Run.{refusal_by, thread_of, unless_refused, with_seat}
+use Rattle.script_rules.specs.Run.{thread_of, with_seat}
 use Rattle.script_runner.specs.Turns.{seated_after, thread_after}
 
 -- a seat at the end is found by its worker, where it had none

@@ -1,4 +1,4 @@
-use Rattle.std.proofs.Common.{rules, ◌≡◌, ◌∙◌, true, List, Result, IfOk, subst}
+use Rattle.std.proofs.Common.{rules, ◌≡◌, ◌∙◌, true, IfOk, subst}
 use Rattle.std.specs.List.{AllByRecursion}
 use Rattle.script_runner.specs.Shared.{AreSeen, IsAnswered}
 use Rattle.script_runner.specs.Reads.{reads_kept}

@@ -1,4 +1,4 @@
-use Rattle.std.proofs.Common.{◌∙◌, ◌++◌, ◌∷◌, [], List, Ok, ap, length, sym, subst}
+use Rattle.std.proofs.Common.{◌∙◌, ◌++◌, ◌∷◌, [], Ok, ap, length, sym, subst}
 use Rattle.std.specs.List.{AllByRecursion}
 use Rattle.script_rules.specs.Lines.{seen, told}
 use Rattle.script_runner.specs.Answers.{IsThere, LineAnswers}

@@ -1,4 +1,4 @@
-use Rattle.std.proofs.Common.{◌≡◌, List, [], Ok, sym, subst}
+use Rattle.std.proofs.Common.{List, [], Ok, sym, subst}
 use Rattle.kernel_rules.specs.Events.{Event}
 use Rattle.call_text.specs.declared.asking.Asked.TheVariants.{Read}
 use Rattle.script_rules.specs.Lines.{Stand}

@@ -1,4 +1,4 @@
-use Rattle.std.proofs.Common.{rules, ◌≡◌, ◌∙◌, true, false, is_ok, refl, sym, subst}
+use Rattle.std.proofs.Common.{rules, ◌≡◌, true, false, is_ok, refl, subst}
 use Rattle.script_runner.specs.Shared.{takes_part, Post, Sits}
 use Rattle.script_runner.proofs.SharedLaws.{post_of, sits_new, sits_ok, sits_out}
 use Rattle.script_runner.proofs.workers.Worker.sit.Goals.{then-is_ok-via-then-is_ok, then-is_ok-via-else-is_ok+then-not-takes_part}
