@@ -53,13 +53,11 @@ def function_around(text, at):
     return heads[-1][2], text.count("\n", 0, heads[-1].start()) + 1, text.count("\n", 0, end.start()) + 1
 
 
-def names_in(folder):
-    """The names of all functions of the files in a folder, each as often as it stands there."""
-    found = []
-    for file in glob.glob(f"{folder}/**/*.rt", recursive=True):
-        with open(file, encoding="utf-8") as it:
-            found += [head[2] for head in HEAD.finditer(it.read())]
-    return found
+def proves(path, name, proof):
+    """Whether a file of proofs/ is of a function of this name in a source file: it stands below the file's module, or there below a type."""
+    module = path[len("src/") : -len(".rt")]
+    below = "proofs/" if module == "lib" else f"proofs/{module}/"
+    return bool(re.match(rf"{below}([A-Z]\w*/)?{name}/", proof))
 
 
 class Edit:
@@ -92,7 +90,7 @@ class Batch:
     """Edits of different functions, put into a copy of a crate's sources and checked at once."""
 
     def __init__(self, rt, crate, edits):
-        self.taken, self.texts, self.named = [], {}, names_in(f"{crate.folder}/src")
+        self.taken, self.texts = [], {}
         with tempfile.TemporaryDirectory(prefix="batch-") as room:
             shutil.copytree(f"{crate.folder}/src", f"{room}/src")
             for edit in edits:
@@ -129,7 +127,8 @@ class Batch:
         at = PLACE.match(message)
         if at[1] == path:
             return self.function_at(path, int(at[2])) == edit.place[1:]
-        return at[1].startswith("proofs/") and f"/{name}/" in at[1] and self.named.count(name) == 1
+        named = [it[2] for it in HEAD.finditer(self.texts[path])]
+        return proves(path, name, at[1]) and named.count(name) == 1
 
     def function_at(self, path, line):
         """The function around a line, or the one that an attribute there stands above. (An edit changes no count of lines.)"""
