@@ -84,13 +84,14 @@ PROGRAM_OF = {"./histar run": "histar", "./histar check": "histar", "./histar sh
 
 
 def shown():
-    """The commands of the documents that read one file and write none."""
+    """The commands of the documents that read one file, which stands in the tree, and write none."""
     for document in documents.FILES:
         for command, out in documents.commands_in(text(document)):
             program = next((made for words, made in PROGRAM_OF.items() if command.startswith(words)), None)
             words = shlex.split(command)[1:]
             files = [it for it in words if os.path.isfile(it)]
-            if program and len(files) == 1 and not re.search(r"[|;&>]", command) and "--out" not in words:
+            is_alone = len(files) == 1 and not any(it.startswith("out/") for it in words)
+            if program and is_alone and not re.search(r"[|;&>]", command) and "--out" not in words:
                 placed = ["case" if it in files else it for it in words]
                 yield Case(program, f"{document} {command}", placed, text(files[0]), None, renamed(out, files[0]))
 
