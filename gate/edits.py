@@ -54,7 +54,7 @@ def function_around(text, at):
 
 
 def proves(path, name, proof):
-    """Whether a file of proofs/ is of a function of this name in a source file: it stands below the file's module, or there below a type."""
+    """Whether a file of proofs/ is of this function of a source file: it stands below its module, or there below a type."""
     module = path[len("src/") : -len(".rt")]
     below = "proofs/" if module == "lib" else f"proofs/{module}/"
     return bool(re.match(rf"{below}([A-Z]\w*/)?{name}/", proof))
